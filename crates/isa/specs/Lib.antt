@@ -1,0 +1,5 @@
+pub mod Words
+pub mod Alu
+pub mod Swap
+pub mod Test
+pub mod Atomic
