@@ -1,7 +1,7 @@
 //! What an instruction may ask for: operations, tests, widths and registers, in RFC 9669's names.
 
 /// How much of its operands an arithmetic instruction, a jump or an atomic operation works on (the
-/// instruction classes ALU and JMP32, or ALU64 and JMP; RFC 9669, section 3.1).
+/// instruction classes ALU and JMP32, or ALU64 and JMP; RFC 9669, section 3.3).
 #[derive(Clone, Copy, Debug, PartialEq, Eq)]
 pub enum Width {
     /// The low halves; a result is zero-extended to 64 bits.
@@ -117,7 +117,7 @@ pub enum Size {
     U64,
 }
 
-/// One of the eleven registers (RFC 9669, section 2): R0 answers, R1 to R5 are arguments, R10 is the read-only frame pointer.
+/// One of the eleven registers (RFC 9669, section 3.1): R0 answers, R1 to R5 are arguments, R10 is the read-only frame pointer.
 #[derive(Clone, Copy, Debug, PartialEq, Eq)]
 pub enum Register {
     R0,

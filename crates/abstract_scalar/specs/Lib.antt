@@ -1,0 +1,3 @@
+pub mod Intervals
+pub mod Transfer
+pub mod Cuts

@@ -1,0 +1,13 @@
+//! What a verifier knows of a number: unsigned intervals, what operations make of them, and what tests tell of them.
+#![tactic(auto)]
+
+mod cuts;
+mod interval;
+mod rows;
+#[cfg(test)]
+mod table_tests;
+mod transfers;
+
+pub use cuts::refine;
+pub use interval::Interval;
+pub use transfers::{movsx32, movsx64, neg, swap, transfer};

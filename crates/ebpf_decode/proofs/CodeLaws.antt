@@ -1,0 +1,174 @@
+-- A program's slots and its instructions determine each other.
+use Rattle.std.proofs.Common.{◌≡◌, ℕ, suc, ◌+◌, ◌-◌, ◌/◌, ◌%◌, ◌^◌, ◌<◌, Bool, true, false, cond, List, [], ◌∷◌, ◌++◌, length, Option, Some, None, Result, Ok, Err, refl, sym, ap, subst, ◌∙◌, append_assoc, ℤ, pos, arith, w32, inl, inr, ⊎_elim}
+use Rattle.std.specs.Prelude.{◌⊎◌, eqb}
+use Rattle.std.specs.Int.{cast_signed}
+use Rattle.std.specs.List.{flat_map, AllByRecursion, sum_by}
+use Rattle.std.proofs.lemmas.Grind.{flat_map-append}
+use Rattle.std.proofs.lemmas.List.{length-append, append-nil}
+use Rattle.std.proofs.lemmas.List.Sums.{sum_by-cons}
+use Rattle.isa.specs.declared.operation.Source.TheVariants.{Imm, Reg}
+use Rattle.ebpf_decode.specs.declared.slot.Slot.{Slot}
+use Rattle.ebpf_decode.specs.declared.fault.SlotFault.{SlotFault}
+use Rattle.ebpf_decode.specs.declared.fault.DecodeFault.{DecodeFault}
+use Rattle.ebpf_decode.specs.declared.wide.WideHead.{WideHead}
+use Rattle.ebpf_decode.specs.declared.wide.WideHead.TheVariants.{Number, Map}
+use Rattle.ebpf_decode.specs.declared.wide.SlotReading.{SlotReading}
+use Rattle.ebpf_decode.specs.declared.wide.SlotReading.TheVariants.{Whole, Head}
+use Rattle.ebpf_decode.specs.declared.insn.Insn.{Insn}
+use Rattle.ebpf_decode.specs.declared.insn.Insn.TheVariants.{Alu, Neg, Movsx, Movsx32, End, Ja, Ja32, JumpIf, Ldx, Ldxs, St, Stx, AtomicUpdate, Lddw, Ldmap, CallHelper, Exit}
+use Rattle.ebpf_decode.specs.SlotForm.{slot_bytes, SlotFits}
+use Rattle.ebpf_decode.specs.InstructionCodes.{class_ld}
+use Rattle.ebpf_decode.specs.InstructionEncoding.{slot, slot_of, more_slots_of, slot_count, slots_of_instruction, slots_of, total_slots, instruction_bytes, FieldsFit}
+use Rattle.ebpf_decode.specs.InstructionReading.{◌>>=◌, class_of, instruction_at, head_slot, head_at, wide_insn, second_at, at_slot, step_at, pending_of, finished_by, code_from}
+use Rattle.ebpf_decode.proofs.InstructionLaws.{instruction_reads, whole_again, IsReadWhole}
+use Rattle.ebpf_decode.proofs.WideLaws.{head_reads, HeadFits, head_fits, second_found, wide_slots, wide_fits, number_head_again, map_head_again, number_again, map_again}
+
+-- ---- what is encoded is read
+
+code_whole : (insn : Insn) (code : List Insn) → more_slots_of insn ≡ [] → IsReadWhole insn → ((place : ℕ) → code_from place None (slots_of code) ≡ Ok code) → (place : ℕ) → code_from place None (slots_of (insn ∷ code)) ≡ Ok (insn ∷ code)
+unfolding code_from
+code_whole insn code none whole rest place = rw (none, whole place, rest (place + 1)) refl
+
+code_wide : (first second : Slot) (head : WideHead) (insn : Insn) (code : List Insn) → ((place : ℕ) → step_at place None first ≡ Ok (Head head)) → ((place : ℕ) → step_at place (Some head) second ≡ Ok (Whole insn)) → ((place : ℕ) → code_from place None (slots_of code) ≡ Ok code) → (place : ℕ) → code_from place None (first ∷ second ∷ slots_of code) ≡ Ok (insn ∷ code)
+unfolding code_from
+code_wide first second head insn code one two rest place = rw (one place, two (place + 1), rest (place + 1 + 1)) refl
+
+pub code_again : (code : List Insn) → AllByRecursion FieldsFit code → (place : ℕ) → code_from place None (slots_of code) ≡ Ok code
+unfolding code_from more_slots_of FieldsFit
+code_again [] fits place = refl
+code_again (Lddw dst value ∷ code) fits place = code_wide (slot_of (Lddw dst value)) (slot 0 0 0 (pos 0) (cast_signed w32 (value / 2 ^ 32))) (Number dst (cast_signed w32 (value % 2 ^ 32))) (Lddw dst value) code (λ p. number_head_again p dst value) (λ p. number_again p dst value fits.0) (code_again code fits.1) place
+code_again (Ldmap dst map ∷ code) fits place = code_wide (slot_of (Ldmap dst map)) (slot 0 0 0 (pos 0) (pos 0)) (Map dst map) (Ldmap dst map) code (λ p. map_head_again p dst map) (λ p. map_again p dst map) (code_again code fits.1) place
+code_again (insn ∷ code) fits place = code_whole insn code refl (whole_again insn refl) (code_again code fits.1) place
+
+-- ---- what is read is encoded so
+
+pub bind_ok : {A B E : Type 0} (r : Result A E) (f : A → Result B E) (y : B) → (r >>= f) ≡ Ok y → (x : A) × (r ≡ Ok x) × (f x ≡ Ok y)
+bind_ok (Ok x) f y e = (x, refl, e)
+bind_ok (Err d) f y e = absurd cc
+
+cond_either : {A : Type 0} (b : Bool) (x y z : A) → cond b x y ≡ z → (x ≡ z) ⊎ (y ≡ z)
+cond_either true x y z e = inl e
+cond_either false x y z e = inr e
+
+abbrev read : SlotReading → Result SlotReading DecodeFault
+read reading = Ok reading
+
+at_ok : {A : Type 0} (place : ℕ) (r : Result A SlotFault) (f : A → SlotReading) (reading : SlotReading) → (at_slot place r >>= λ x. read (f x)) ≡ Ok reading → (x : A) × (r ≡ Ok x) × (f x ≡ reading)
+at_ok place (Ok x) f reading e = (x, refl, cc)
+at_ok place (Err d) f reading e = absurd cc
+
+-- a first slot that waits for its second
+abbrev heads : Option WideHead → List Slot
+heads None = []
+heads (Some head) = head_slot head ∷ []
+
+abbrev pub PendingFits : Option WideHead → Type 0
+PendingFits None = Unit {0}
+PendingFits (Some head) = HeadFits head
+
+fits_of : (insn : Insn) → more_slots_of insn ≡ [] → SlotFits (slot_of insn) → FieldsFit insn
+unfolding slot_of more_slots_of FieldsFit
+fits_of (Alu width op dst (Imm value)) none fits = fits.immediate
+fits_of (Alu width op dst (Reg src)) none fits = tt
+fits_of (Neg width dst) none fits = tt
+fits_of (Movsx extension dst src) none fits = tt
+fits_of (Movsx32 extension dst src) none fits = tt
+fits_of (End order width dst) none fits = tt
+fits_of (Ja distance) none fits = fits.offset
+fits_of (Ja32 distance) none fits = fits.immediate
+fits_of (JumpIf width test dst (Imm value) distance) none fits = (fits.offset, fits.immediate)
+fits_of (JumpIf width test dst (Reg src) distance) none fits = (fits.offset, tt)
+fits_of (Ldx size dst src offset) none fits = fits.offset
+fits_of (Ldxs extension dst src offset) none fits = fits.offset
+fits_of (St size dst offset immediate) none fits = (fits.offset, fits.immediate)
+fits_of (Stx size dst src offset) none fits = fits.offset
+fits_of (AtomicUpdate width op dst src offset) none fits = fits.offset
+fits_of (Lddw dst value) none fits = absurd cc
+fits_of (Ldmap dst map) none fits = absurd cc
+fits_of (CallHelper helper) none fits = fits.immediate
+fits_of Exit none fits = tt
+
+-- what one slot, after those that wait, is the encoding of
+record IsStep (pending : Option WideHead) (s : Slot) (reading : SlotReading) : Type 0 where
+  slots : heads pending ++ s ∷ [] ≡ slots_of (finished_by reading) ++ heads (pending_of reading)
+  fits : AllByRecursion FieldsFit (finished_by reading)
+  pending_fits : PendingFits (pending_of reading)
+
+head_step : (s : Slot) (head : WideHead) → SlotFits s → head_at s ≡ Ok head → IsStep None s (Head head)
+head_step s head fits e =
+    let is : s ≡ head_slot head = (head_reads s).encoded head e in
+    record { slots = ap (λ (t : Slot). t ∷ []) is; fits = tt; pending_fits = head_fits head (subst SlotFits is fits) }
+
+whole_step : (s : Slot) (insn : Insn) → SlotFits s → instruction_at s ≡ Ok insn → IsStep None s (Whole insn)
+whole_step s insn fits e =
+    let is = (instruction_reads s).encoded insn e in
+    let none : more_slots_of insn ≡ [] = is.1 in
+    record { slots = rw none (ap (λ (t : Slot). t ∷ []) is.0); fits = (fits_of insn none (subst SlotFits is.0 fits), tt); pending_fits = tt }
+
+second_is_step : (head : WideHead) (s : Slot) (insn : Insn) → HeadFits head → SlotFits s → second_at head s ≡ Ok insn → IsStep (Some head) s (Whole insn)
+second_is_step head s insn head_ok fits e =
+    let is = second_found head s insn e in
+    let slots : head_slot head ∷ s ∷ [] ≡ slots_of_instruction (wide_insn head s) = wide_slots head s head_ok fits is.0 in
+    let made : head_slot head ∷ s ∷ [] ≡ slots_of_instruction insn = slots ∙ ap slots_of_instruction is.1 in
+    record { slots = made ∙ sym (append-nil (slots_of_instruction insn)) ∙ sym (append-nil (slots_of_instruction insn ++ [])); fits = (subst FieldsFit is.1 (wide_fits head s head_ok fits), tt); pending_fits = tt }
+
+step_found : (place : ℕ) (pending : Option WideHead) (s : Slot) (reading : SlotReading) → SlotFits s → PendingFits pending → step_at place pending s ≡ Ok reading → IsStep pending s reading
+unfolding step_at
+step_found place None s reading fits waiting e =
+    let P : SlotReading → Type 0 = λ r. IsStep None s r in
+    ⊎_elim
+    (λ h. let a = at_ok place (head_at s) (λ head. Head head) reading h in subst P a.2 (head_step s a.0 fits a.1))
+    (λ h. let a = at_ok place (instruction_at s) (λ insn. Whole insn) reading h in subst P a.2 (whole_step s a.0 fits a.1))
+    (cond_either (eqb (class_of s) class_ld) (at_slot place (head_at s) >>= λ head. Ok (Head head)) (at_slot place (instruction_at s) >>= λ insn. Ok (Whole insn)) (Ok reading) e)
+step_found place (Some head) s reading fits waiting e =
+    let P : SlotReading → Type 0 = λ r. IsStep (Some head) s r in
+    let a = at_ok (place - 1) (second_at head s) (λ insn. Whole insn) reading e in
+    subst P a.2 (second_is_step head s a.0 waiting fits a.1)
+
+code_one : (place : ℕ) (pending : Option WideHead) (s : Slot) (rest : List Slot) → code_from place pending (s ∷ rest) ≡ (step_at place pending s >>= λ reading. code_from (place + 1) (pending_of reading) rest >>= λ others. Ok (finished_by reading ++ others))
+unfolding code_from
+code_one place None s rest = refl
+code_one place (Some head) s rest = refl
+
+all_append : (xs ys : List Insn) → AllByRecursion FieldsFit xs → AllByRecursion FieldsFit ys → AllByRecursion FieldsFit (xs ++ ys)
+all_append [] ys fx fy = fy
+all_append (x ∷ xs) ys fx fy = (fx.0, all_append xs ys fx.1 fy)
+
+abbrev IsCode : List Slot → List Insn → Type 0
+IsCode slots code = (slots ≡ slots_of code) × AllByRecursion FieldsFit code
+
+abbrev program : List Insn → Result (List Insn) DecodeFault
+program code = Ok code
+
+same_program : (a b : List Insn) → program a ≡ program b → a ≡ b
+same_program a b e = cc
+
+pub code_found : (place : ℕ) (pending : Option WideHead) (slots : List Slot) (code : List Insn) → AllByRecursion SlotFits slots → PendingFits pending → code_from place pending slots ≡ Ok code → IsCode (heads pending ++ slots) code
+code_found place None [] code fits waiting e = let P : List Insn → Type 0 = λ c. IsCode [] c in subst P (same_program [] code (unfold code_from in e)) (refl, tt)
+code_found place (Some head) [] code fits waiting e = absurd (unfold code_from in cc)
+code_found place pending (s ∷ rest) code fits waiting e =
+    let b = bind_ok (step_at place pending s) (λ reading. code_from (place + 1) (pending_of reading) rest >>= λ others. Ok (finished_by reading ++ others)) code (sym (code_one place pending s rest) ∙ e) in
+    let c = bind_ok (code_from (place + 1) (pending_of b.0) rest) (λ others. Ok (finished_by b.0 ++ others)) code b.2 in
+    let step = step_found place pending s b.0 fits.0 waiting b.1 in
+    let others = code_found (place + 1) (pending_of b.0) rest c.0 fits.1 step.pending_fits c.1 in
+    let whole = finished_by b.0 in
+    let slots : heads pending ++ s ∷ rest ≡ slots_of (whole ++ c.0) =
+    sym (append_assoc (heads pending) (s ∷ []) rest) ∙ ap (λ (x : List Slot). x ++ rest) step.slots ∙ append_assoc (slots_of whole) (heads (pending_of b.0)) rest ∙ ap (λ (x : List Slot). slots_of whole ++ x) others.0 ∙ sym (flat_map-append slots_of_instruction whole c.0) in
+    let P : List Insn → Type 0 = λ x. IsCode (heads pending ++ s ∷ rest) x in
+    subst P (same_program (whole ++ c.0) code c.2) (slots, all_append whole c.0 step.fits others.1)
+
+-- ---- how many slots, and which bytes
+
+count_is : (insn : Insn) → length (slots_of_instruction insn) ≡ slot_count insn
+unfolding more_slots_of slot_count
+count_is (Lddw dst value) = refl
+count_is (Ldmap dst map) = refl
+count_is insn = refl
+
+pub length_slots : (code : List Insn) → length (slots_of code) ≡ total_slots code
+length_slots [] = refl
+length_slots (insn ∷ code) = omega (arith, length-append (slots_of_instruction insn) (slots_of code), count_is insn, length_slots code, sum_by-cons slot_count insn code)
+
+pub bytes_of_slots : (code : List Insn) → flat_map slot_bytes (slots_of code) ≡ flat_map instruction_bytes code
+bytes_of_slots [] = refl
+bytes_of_slots (insn ∷ code) = flat_map-append slot_bytes (slots_of_instruction insn) (slots_of code) ∙ ap (λ (x : List ℕ). instruction_bytes insn ++ x) (bytes_of_slots code)

@@ -1,0 +1,10 @@
+pub mod SlotFacts
+pub mod FieldFacts
+pub mod Loops
+pub mod SlotLaws
+pub mod InstructionLaws
+pub mod WideLaws
+pub mod CodeLaws
+pub mod MapLaws
+pub mod ImageLaws
+pub mod PartLaws

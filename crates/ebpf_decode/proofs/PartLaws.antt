@@ -1,0 +1,68 @@
+-- What has no fault of its parts is encodable.
+use Rattle.std.proofs.Common.{◌≡◌, ℕ, zero, suc, ◌+◌, ◌≤◌, ◌<◌, Bool, true, false, cond, ltb, eqb, List, [], ◌∷◌, length, get_or, drop, Option, Some, None, refl, sym, ap, subst, ◌∙◌, arith}
+use Rattle.std.specs.List.{AllByRecursion}
+use Rattle.std.proofs.lemmas.Bool.{ltb-false, lt-ltb, eqb-false, ne_eqb}
+use Rattle.std.proofs.lemmas.List.Sums.{sum_by-cons}
+use Rattle.ebpf_decode.specs.declared.fault.DecodeFault.{DecodeFault}
+use Rattle.ebpf_decode.specs.declared.fault.DecodeFault.TheVariants.{BadHead, BadMap, Empty, TooLong}
+use Rattle.ebpf_decode.specs.declared.insn.Insn.{Insn}
+use Rattle.ebpf_decode.specs.declared.insn.Insn.TheVariants.{Lddw, Ldmap}
+use Rattle.ebpf_decode.specs.declared.map.MapDef.{MapDef}
+use Rattle.ebpf_decode.specs.InstructionEncoding.{FieldsFit, slot_count, total_slots}
+use Rattle.ebpf_decode.specs.MapForm.{is_allowed_map}
+use Rattle.ebpf_decode.specs.ImageContents.{IsEncodable, IsAllowedMap}
+use Rattle.ebpf_decode.specs.ImageFormat.{first_bad_map, code_fault, or_else, first_part_fault}
+
+-- a test that showed no fault
+no_fault : (b : Bool) (fault : DecodeFault) (x : Option DecodeFault) → cond b (Some fault) x ≡ None → (b ≡ false) × (x ≡ None)
+no_fault true fault x e = absurd cc
+no_fault false fault x e = (refl, e)
+
+neither : (a b : Option DecodeFault) → or_else a b ≡ None → (a ≡ None) × (b ≡ None)
+neither None b e = (refl, e)
+neither (Some fault) b e = absurd cc
+
+allowed_test : (b : Bool) (x : Option DecodeFault) (fault : DecodeFault) → cond b x (Some fault) ≡ None → (b ≡ true) × (x ≡ None)
+allowed_test true x fault e = (refl, e)
+allowed_test false x fault e = absurd cc
+
+all_allowed : (place : ℕ) (maps : List MapDef) → first_bad_map place maps ≡ None → AllByRecursion IsAllowedMap maps
+all_allowed place [] e = tt
+all_allowed place (m ∷ maps) e =
+    let test = allowed_test (is_allowed_map m) (first_bad_map (place + 1) maps) (BadMap place) e in
+    (test.0, all_allowed (place + 1) maps test.1)
+
+not_empty : (code : List Insn) → (length code ≡ 0 → ⊥) → 1 ≤ length code
+not_empty [] h = absurd (h refl)
+not_empty (insn ∷ code) h = omega arith
+
+pub encodable_parts : (maps : List MapDef) (code : List Insn) → first_part_fault maps code ≡ None → AllByRecursion FieldsFit code → IsEncodable maps code
+unfolding first_part_fault
+encodable_parts maps code e fits =
+    let few = no_fault (ltb 16 (length maps)) BadHead (or_else (first_bad_map 0 maps) (code_fault code)) e in
+    let parts = neither (first_bad_map 0 maps) (code_fault code) few.1 in
+    let some = no_fault (eqb (length code) 0) Empty (cond (ltb 4096 (total_slots code)) (Some TooLong) None) parts.1 in
+    let short = no_fault (ltb 4096 (total_slots code)) TooLong None some.1 in
+    record {
+      few_maps = ltb-false 16 (length maps) few.0;
+      maps_allowed = all_allowed 0 maps parts.0;
+      some_code = not_empty code (eqb-false (length code) 0 some.0);
+      few_slots = ltb-false 4096 (total_slots code) short.0;
+      fields_fit = fits;
+    }
+
+one_at_least : (insn : Insn) → 1 ≤ slot_count insn
+unfolding slot_count
+one_at_least (Lddw dst value) = omega arith
+one_at_least (Ldmap dst map) = omega arith
+one_at_least insn = omega arith
+
+pub length_at_most : (code : List Insn) → length code ≤ total_slots code
+length_at_most [] = omega arith
+length_at_most (insn ∷ code) = omega (arith, one_at_least insn, length_at_most code, sum_by-cons slot_count insn code)
+
+pub too_long : (code : List Insn) → 4096 < length code → code_fault code ≡ Some TooLong
+too_long code long =
+    let some : eqb (length code) 0 ≡ false = ne_eqb (length code) 0 (λ e. omega arith) in
+    let total : ltb 4096 (total_slots code) ≡ true = lt-ltb 4096 (total_slots code) (omega (arith, length_at_most code)) in
+    rw (some, total) refl

@@ -1,0 +1,101 @@
+-- The image format, version 1: the bytes 58 4c 42 50, the version, the number of maps, two zero bytes; sixteen bytes for each
+-- map; then the slots to the end. Reading gives the image or the first fault, in the order of the numbers.
+use Rattle.std.specs.Prelude.{◌≡◌, ◌≢◌, ℕ, zero, suc, ◌+◌, ◌*◌, ◌/◌, ◌%◌, Bool, nat_le, nat_lt, ◌==◌, ◌&&◌, not, List, [], ◌∷◌, ◌++◌, length, drop, slice_index, Option, Some, None, Result, Ok, Err, if◌then◌else◌}
+use Rattle.std.specs.List.{flat_map}
+use Rattle.std.specs.Option.{ok_or}
+use Rattle.ebpf_decode.specs.declared.insn.Insn.{Insn}
+use Rattle.ebpf_decode.specs.declared.map.MapDef.{MapDef}
+use Rattle.ebpf_decode.specs.declared.fault.DecodeFault.{DecodeFault}
+use Rattle.ebpf_decode.specs.declared.fault.DecodeFault.TheVariants.{BadHead, BadMap, Empty, NotWhole, TooLong, UnknownOpcode, NotInProfile, BadRegister, FieldNotZero, WideCut, Memory}
+use Rattle.ebpf_decode.specs.SlotForm.{slots_at}
+use Rattle.ebpf_decode.specs.InstructionEncoding.{instruction_bytes, total_slots}
+use Rattle.ebpf_decode.specs.InstructionReading.{◌>>=◌, code_from}
+use Rattle.ebpf_decode.specs.MapForm.{map_bytes, map_at, is_allowed_map}
+use Rattle.ebpf_decode.specs.ImageContents.{Contents, IsEncodable}
+
+-- the first eight bytes
+abbrev pub head_bytes : ℕ → List ℕ
+head_bytes map_count = 0x58 ∷ 0x4c ∷ 0x42 ∷ 0x50 ∷ 1 ∷ map_count ∷ 0 ∷ 0 ∷ []
+
+abbrev pub image_bytes : Contents → List ℕ
+image_bytes image = head_bytes (length image.maps) ++ flat_map map_bytes image.maps ++ flat_map instruction_bytes image.code
+
+-- the bytes are the encoding of the image
+pub record IsImageEncoding (bytes : List ℕ) (image : Contents) : Type 0 where
+  pub encodable : IsEncodable image.maps image.code
+  pub encoded : bytes ≡ image_bytes image
+
+-- ---- reading
+
+abbrev pub map_count : List ℕ → ℕ
+map_count bytes = slice_index bytes 5
+
+-- a whole head and list of maps: magic, version, at most 16 maps, two zeros, and sixteen bytes for each map
+abbrev pub has_head : List ℕ → Bool
+has_head bytes = nat_le 8 (length bytes) && (slice_index bytes 0 == 0x58) && (slice_index bytes 1 == 0x4c) && (slice_index bytes 2 == 0x42) && (slice_index bytes 3 == 0x50) && (slice_index bytes 4 == 1) && nat_le (map_count bytes) 16 && (slice_index bytes 6 == 0) && (slice_index bytes 7 == 0) && nat_le (8 + 16 * map_count bytes) (length bytes)
+
+-- so many maps, the first of this number, and the bytes after them
+unfoldable pub maps_at : ℕ → ℕ → List ℕ → Result (List MapDef × List ℕ) DecodeFault
+maps_at place zero bytes = Ok ([], bytes)
+maps_at place (suc n) bytes = do
+  first ← ok_or (map_at bytes) (BadMap place)
+  others ← maps_at (place + 1) n (drop 16 bytes)
+  Ok (first ∷ others.0, others.1)
+
+-- the program, of all the bytes after the maps
+unfoldable pub code_at : List ℕ → Result (List Insn) DecodeFault
+code_at bytes =
+    if length bytes == 0 then Err Empty else
+    if not (length bytes % 8 == 0) then Err NotWhole else
+    if nat_lt 4096 (length bytes / 8) then Err TooLong else code_from 0 None (slots_at (length bytes / 8) bytes)
+
+unfoldable pub image_at : List ℕ → Result Contents DecodeFault
+image_at bytes =
+    if has_head bytes then (do
+      found ← maps_at 0 (map_count bytes) (drop 8 bytes)
+      code ← code_at found.1
+      Ok (record { maps = found.0; code = code })) else Err BadHead
+
+-- What a function returned, seen by view, is what reading gives, unless memory was refused.
+abbrev pub Gives : {X Y : Type 0} → (X → Y) → Result X DecodeFault → Result Y DecodeFault → Type 0
+Gives view (Ok x) read = read ≡ Ok (view x)
+Gives view (Err fault) read = fault ≢ Memory → read ≡ Err fault
+
+abbrev pub fault_of : {A : Type 0} → Result A DecodeFault → Option DecodeFault
+fault_of (Ok image) = None
+fault_of (Err fault) = Some fault
+
+-- the first fault of bytes that encode no image
+abbrev pub first_decode_fault : List ℕ → Option DecodeFault
+first_decode_fault bytes = fault_of (image_at bytes)
+
+-- ---- the first fault of an image that is made of its parts
+
+abbrev pub first_bad_map : ℕ → List MapDef → Option DecodeFault
+first_bad_map place [] = None
+first_bad_map place (m ∷ maps) = if is_allowed_map m then first_bad_map (place + 1) maps else Some (BadMap place)
+
+abbrev pub code_fault : List Insn → Option DecodeFault
+code_fault code = if length code == 0 then Some Empty else (if nat_lt 4096 (total_slots code) then Some TooLong else None)
+
+abbrev pub or_else : Option DecodeFault → Option DecodeFault → Option DecodeFault
+or_else None second = second
+or_else (Some fault) second = Some fault
+
+-- the fault that the encoding of these maps and instructions has
+unfoldable pub first_part_fault : List MapDef → List Insn → Option DecodeFault
+first_part_fault maps code = if nat_lt 16 (length maps) then Some BadHead else or_else (first_bad_map 0 maps) (code_fault code)
+
+-- the number that a fault is printed with
+abbrev pub fault_number : DecodeFault → ℕ
+fault_number BadHead = 10
+fault_number (BadMap map) = 11
+fault_number Empty = 12
+fault_number NotWhole = 13
+fault_number TooLong = 14
+fault_number (UnknownOpcode slot) = 15
+fault_number (NotInProfile slot) = 16
+fault_number (BadRegister slot) = 17
+fault_number (FieldNotZero slot) = 18
+fault_number (WideCut slot) = 19
+fault_number Memory = 20

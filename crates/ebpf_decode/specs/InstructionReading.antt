@@ -1,0 +1,327 @@
+-- What one slot is read as, or its first fault. Within a slot the lower fault comes first: the opcode and the fields that select
+-- are tested before the registers, and these before the unused fields.
+use Rattle.std.specs.Prelude.{ℕ, zero, suc, ◌+◌, ◌-◌, ◌*◌, ◌^◌, ◌/◌, ◌%◌, Option, Some, None, Result, Ok, Err, Bool, ℤ, pos, List, [], ◌∷◌, ◌++◌, ◌==◌, nat_le, nat_lt, ◌&&◌, ◌||◌, not, if◌then◌else◌}
+use Rattle.std.specs.List.{find}
+use Rattle.std.specs.Int.{w32, cast_unsigned}
+use Rattle.std.specs.Option.{ok_or}
+use Rattle.std.specs.Ordering.{int_eq}
+use Rattle.isa.specs.declared.operation.Width.{Width}
+use Rattle.isa.specs.declared.operation.Width.TheVariants.{Bits32, Bits64}
+use Rattle.isa.specs.declared.operation.AluOp.{AluOp}
+use Rattle.isa.specs.declared.operation.AluOp.TheVariants.{Div, Mod}
+use Rattle.isa.specs.declared.operation.Extension.{Extension}
+use Rattle.isa.specs.declared.operation.ShortExtension.{ShortExtension}
+use Rattle.isa.specs.declared.operation.ByteOrder.{ByteOrder}
+use Rattle.isa.specs.declared.operation.SwapWidth.{SwapWidth}
+use Rattle.isa.specs.declared.operation.Test.{Test}
+use Rattle.isa.specs.declared.operation.AtomicOp.{AtomicOp}
+use Rattle.isa.specs.declared.operation.Size.{Size}
+use Rattle.isa.specs.declared.operation.Source.{Source}
+use Rattle.isa.specs.declared.operation.Source.TheVariants.{Imm, Reg}
+use Rattle.isa.specs.declared.operation.Register.{Register}
+use Rattle.ebpf_decode.specs.declared.slot.Slot.{Slot}
+use Rattle.ebpf_decode.specs.declared.fault.SlotFault.{SlotFault}
+use Rattle.ebpf_decode.specs.declared.fault.SlotFault.TheVariants.{UnknownOpcode, NotInProfile, BadRegister, FieldNotZero, WideCut}
+use Rattle.ebpf_decode.specs.declared.fault.DecodeFault.{DecodeFault}
+use Rattle.ebpf_decode.specs.declared.fault.DecodeFault.TheVariants as faults
+use Rattle.ebpf_decode.specs.declared.wide.WideHead.{WideHead}
+use Rattle.ebpf_decode.specs.declared.wide.WideHead.TheVariants.{Number, Map}
+use Rattle.ebpf_decode.specs.declared.wide.SlotReading.{SlotReading}
+use Rattle.ebpf_decode.specs.declared.wide.SlotReading.TheVariants.{Whole, Head}
+use Rattle.ebpf_decode.specs.declared.insn.Insn.{Insn}
+use Rattle.ebpf_decode.specs.declared.insn.Insn.TheVariants.{Alu, Neg, Movsx, Movsx32, End, Ja, Ja32, JumpIf, Ldx, Ldxs, St, Stx, AtomicUpdate, Lddw, Ldmap, CallHelper, Exit}
+use Rattle.ebpf_decode.specs.SlotForm.{same_slot}
+use Rattle.ebpf_decode.specs.InstructionCodes.{register_number, registers, class_ld, class_ldx, class_st, class_stx, alu_class, jump_class, alu_code, alu_offset, alu_ops, mov_code, end_code, extension_bits, extensions, short_bits, short_extensions, orders, swap_bits, swap_widths, test_code, tests, mode_abs, mode_ind, mode_mem, mode_memsx, mode_atomic, size_code, sizes, extension_size, width_size, widths, atomic_code, atomic_ops}
+use Rattle.ebpf_decode.specs.InstructionEncoding.{slot, slot_of, more_slots_of, wide_opcode, neg_opcode, movsx_opcode, order_opcode, ja_opcode, ja32_opcode, call_opcode, exit_opcode}
+
+infixl 10 ◌>>=◌
+abbrev pub ◌>>=◌ : {A B E : Type 0} → Result A E → (A → Result B E) → Result B E
+(Ok x) >>= f = f x
+(Err e) >>= f = Err e
+
+-- ---- the parts of an opcode
+
+abbrev pub class_of : Slot → ℕ
+class_of s = s.opcode % 8
+
+abbrev pub source_bit_of : Slot → ℕ
+source_bit_of s = s.opcode / 8 % 2
+
+abbrev pub code_of : Slot → ℕ
+code_of s = s.opcode / 16
+
+abbrev pub size_of : Slot → ℕ
+size_of s = s.opcode / 8 % 4
+
+abbrev pub mode_of : Slot → ℕ
+mode_of s = s.opcode / 32
+
+-- ---- what a number names
+
+unfoldable pub register_at : ℕ → Result Register SlotFault
+register_at number = ok_or (find (λ r. register_number r == number) registers) BadRegister
+
+-- division and remainder, which are told from their signed forms by the offset
+abbrev pub is_division : ℕ → Bool
+is_division code = (code == alu_code Div) || (code == alu_code Mod)
+
+abbrev pub is_alu_op : AluOp → ℕ → ℤ → Bool
+is_alu_op op code offset = (alu_code op == code) && (not (is_division code) || int_eq (pos (alu_offset op)) offset)
+
+unfoldable pub alu_op_at : ℕ → ℤ → Result AluOp SlotFault
+alu_op_at code offset = ok_or (find (λ op. is_alu_op op code offset) alu_ops) UnknownOpcode
+
+unfoldable pub extension_at : ℤ → Result Extension SlotFault
+extension_at offset = ok_or (find (λ e. int_eq (pos (extension_bits e)) offset) extensions) UnknownOpcode
+
+unfoldable pub short_extension_at : ℤ → Result ShortExtension SlotFault
+short_extension_at offset = ok_or (find (λ e. int_eq (pos (short_bits e)) offset) short_extensions) UnknownOpcode
+
+unfoldable pub order_at : ℕ → Result ByteOrder SlotFault
+order_at opcode = ok_or (find (λ o. order_opcode o == opcode) orders) UnknownOpcode
+
+unfoldable pub swap_width_at : ℤ → Result SwapWidth SlotFault
+swap_width_at immediate = ok_or (find (λ w. int_eq (pos (swap_bits w)) immediate) swap_widths) UnknownOpcode
+
+unfoldable pub test_at : ℕ → Result Test SlotFault
+test_at code = ok_or (find (λ t. test_code t == code) tests) UnknownOpcode
+
+unfoldable pub size_at : ℕ → Result Size SlotFault
+size_at code = ok_or (find (λ z. size_code z == code) sizes) UnknownOpcode
+
+unfoldable pub extension_size_at : ℕ → Result Extension SlotFault
+extension_size_at code = ok_or (find (λ e. size_code (extension_size e) == code) extensions) UnknownOpcode
+
+unfoldable pub width_at : ℕ → Result Width SlotFault
+width_at code = ok_or (find (λ w. size_code (width_size w) == code) widths) UnknownOpcode
+
+abbrev pub is_atomic_op : AtomicOp → ℤ → Bool
+is_atomic_op op immediate = int_eq (pos (atomic_code op)) immediate
+
+unfoldable pub atomic_op_at : ℤ → Result AtomicOp SlotFault
+atomic_op_at immediate = ok_or (find (λ op. is_atomic_op op immediate) atomic_ops) UnknownOpcode
+
+unfoldable pub source_at : Slot → Result Source SlotFault
+source_at s =
+    if source_bit_of s == 0 then Ok (Imm s.immediate) else do
+      src ← register_at s.src
+      Ok (Reg src)
+
+-- The instruction, where the slot is its encoding. It differs at most in fields that the instruction does not use.
+unfoldable pub exactly : Slot → Insn → Result Insn SlotFault
+exactly s insn = if same_slot s (slot_of insn) then Ok insn else Err FieldNotZero
+
+-- ---- arithmetic
+
+unfoldable pub binary_at : Width → Slot → Result Insn SlotFault
+binary_at width s = do
+  op ← alu_op_at (code_of s) s.offset
+  dst ← register_at s.dst
+  source ← source_at s
+  exactly s (Alu width op dst source)
+
+unfoldable pub neg_at : Width → Slot → Result Insn SlotFault
+neg_at width s = do
+  dst ← register_at s.dst
+  exactly s (Neg width dst)
+
+unfoldable pub movsx_at : Width → Slot → Result Insn SlotFault
+movsx_at Bits64 s = do
+  extension ← extension_at s.offset
+  dst ← register_at s.dst
+  src ← register_at s.src
+  exactly s (Movsx extension dst src)
+movsx_at Bits32 s = do
+  extension ← short_extension_at s.offset
+  dst ← register_at s.dst
+  src ← register_at s.src
+  exactly s (Movsx32 extension dst src)
+
+unfoldable pub end_at : Slot → Result Insn SlotFault
+end_at s = do
+  order ← order_at s.opcode
+  width ← swap_width_at s.immediate
+  dst ← register_at s.dst
+  exactly s (End order width dst)
+
+-- classes ALU and ALU64: a move between registers with an offset is a sign-extending one
+unfoldable pub arithmetic_at : Width → Slot → Result Insn SlotFault
+arithmetic_at width s =
+    if s.opcode == neg_opcode width then neg_at width s else
+    if code_of s == end_code then end_at s else
+    if (s.opcode == movsx_opcode width) && not (int_eq s.offset (pos 0)) then movsx_at width s else binary_at width s
+
+-- ---- jumps
+
+unfoldable pub conditional_at : Width → Slot → Result Insn SlotFault
+conditional_at width s = do
+  test ← test_at (code_of s)
+  dst ← register_at s.dst
+  source ← source_at s
+  exactly s (JumpIf width test dst source s.offset)
+
+-- source 0 is a helper; 1 and 2 are program-local and kernel functions, which images may not call
+unfoldable pub call_at : Slot → Result Insn SlotFault
+call_at s =
+    if s.src == 0 then exactly s (CallHelper s.immediate) else
+    if nat_le s.src 2 then Err NotInProfile else Err UnknownOpcode
+
+-- classes JMP and JMP32
+unfoldable pub jump_at : Width → Slot → Result Insn SlotFault
+jump_at width s =
+    if s.opcode == ja_opcode then exactly s (Ja s.offset) else
+    if s.opcode == ja32_opcode then exactly s (Ja32 s.immediate) else
+    if s.opcode == call_opcode then call_at s else
+    if s.opcode == exit_opcode then exactly s Exit else conditional_at width s
+
+-- ---- memory
+
+unfoldable pub ldx_at : Slot → Result Insn SlotFault
+ldx_at s = do
+  size ← size_at (size_of s)
+  dst ← register_at s.dst
+  src ← register_at s.src
+  exactly s (Ldx size dst src s.offset)
+
+unfoldable pub ldxs_at : Slot → Result Insn SlotFault
+ldxs_at s = do
+  extension ← extension_size_at (size_of s)
+  dst ← register_at s.dst
+  src ← register_at s.src
+  exactly s (Ldxs extension dst src s.offset)
+
+unfoldable pub st_at : Slot → Result Insn SlotFault
+st_at s = do
+  size ← size_at (size_of s)
+  dst ← register_at s.dst
+  exactly s (St size dst s.offset s.immediate)
+
+unfoldable pub stx_at : Slot → Result Insn SlotFault
+stx_at s = do
+  size ← size_at (size_of s)
+  dst ← register_at s.dst
+  src ← register_at s.src
+  exactly s (Stx size dst src s.offset)
+
+unfoldable pub atomic_at : Slot → Result Insn SlotFault
+atomic_at s = do
+  width ← width_at (size_of s)
+  op ← atomic_op_at s.immediate
+  dst ← register_at s.dst
+  src ← register_at s.src
+  exactly s (AtomicUpdate width op dst src s.offset)
+
+-- classes LDX, ST and STX
+unfoldable pub load_at : Slot → Result Insn SlotFault
+load_at s =
+    if mode_of s == mode_mem then ldx_at s else
+    if mode_of s == mode_memsx then ldxs_at s else Err UnknownOpcode
+
+unfoldable pub store_immediate_at : Slot → Result Insn SlotFault
+store_immediate_at s = if mode_of s == mode_mem then st_at s else Err UnknownOpcode
+
+unfoldable pub store_at : Slot → Result Insn SlotFault
+store_at s =
+    if mode_of s == mode_mem then stx_at s else
+    if mode_of s == mode_atomic then atomic_at s else Err UnknownOpcode
+
+-- ---- one slot
+
+-- an instruction that takes one slot
+unfoldable pub instruction_at : Slot → Result Insn SlotFault
+instruction_at s =
+    if class_of s == alu_class Bits64 then arithmetic_at Bits64 s else
+    if class_of s == alu_class Bits32 then arithmetic_at Bits32 s else
+    if class_of s == jump_class Bits64 then jump_at Bits64 s else
+    if class_of s == jump_class Bits32 then jump_at Bits32 s else
+    if class_of s == class_ldx then load_at s else
+    if class_of s == class_st then store_immediate_at s else store_at s
+
+-- ---- wide instructions, of two slots
+
+-- the first slot of a wide instruction: what is known before the second
+unfoldable pub head_slot : WideHead → Slot
+head_slot (Number dst low) = slot wide_opcode (register_number dst) 0 (pos 0) low
+head_slot (Map dst map) = slot wide_opcode (register_number dst) 1 (pos 0) map
+
+unfoldable pub exact_head : Slot → WideHead → Result WideHead SlotFault
+exact_head s head = if same_slot s (head_slot head) then Ok head else Err FieldNotZero
+
+-- legacy loads from packets (RFC 9669, section 5.5), in words, half words and bytes
+abbrev pub is_legacy : Slot → Bool
+is_legacy s = ((mode_of s == mode_abs) || (mode_of s == mode_ind)) && not (size_of s == 3)
+
+unfoldable pub number_head_at : Slot → Result WideHead SlotFault
+number_head_at s = do
+  dst ← register_at s.dst
+  exact_head s (Number dst s.immediate)
+
+unfoldable pub map_head_at : Slot → Result WideHead SlotFault
+map_head_at s = do
+  dst ← register_at s.dst
+  exact_head s (Map dst s.immediate)
+
+-- class LD: source 0 is a number, 1 a map of the image; 2 to 6 are forms that images may not have
+unfoldable pub head_at : Slot → Result WideHead SlotFault
+head_at s =
+    if s.opcode == wide_opcode then
+    (if s.src == 0 then number_head_at s else
+    if s.src == 1 then map_head_at s else
+    if nat_le s.src 6 then Err NotInProfile else Err UnknownOpcode) else
+    if is_legacy s then Err NotInProfile else Err UnknownOpcode
+
+-- the instruction of a first and a second slot
+unfoldable pub wide_insn : WideHead → Slot → Insn
+wide_insn (Number dst low) s = Lddw dst (cast_unsigned w32 s.immediate * 2 ^ 32 + cast_unsigned w32 low)
+wide_insn (Map dst map) s = Ldmap dst map
+
+-- the second slot has zeros, but for the upper half of a number
+unfoldable pub second_slot : WideHead → Slot → Slot
+second_slot (Number dst low) s = slot 0 0 0 (pos 0) s.immediate
+second_slot (Map dst map) s = slot 0 0 0 (pos 0) (pos 0)
+
+unfoldable pub second_at : WideHead → Slot → Result Insn SlotFault
+second_at head s = if same_slot s (second_slot head s) then Ok (wide_insn head s) else Err FieldNotZero
+
+-- ---- all slots
+
+abbrev pub fault_at : ℕ → SlotFault → DecodeFault
+fault_at place UnknownOpcode = faults.UnknownOpcode place
+fault_at place NotInProfile = faults.NotInProfile place
+fault_at place BadRegister = faults.BadRegister place
+fault_at place FieldNotZero = faults.FieldNotZero place
+fault_at place WideCut = faults.WideCut place
+
+-- a slot's outcome, with its place in the fault
+abbrev pub at_slot : {A : Type 0} → ℕ → Result A SlotFault → Result A DecodeFault
+at_slot place (Ok x) = Ok x
+at_slot place (Err fault) = Err (fault_at place fault)
+
+-- what one slot gives, after the head of a wide instruction or nothing; a fault of a wide instruction names its first slot
+unfoldable pub step_at : ℕ → Option WideHead → Slot → Result SlotReading DecodeFault
+step_at place None s =
+    if class_of s == class_ld then (do
+      head ← at_slot place (head_at s)
+      Ok (Head head)) else (do
+        insn ← at_slot place (instruction_at s)
+        Ok (Whole insn))
+step_at place (Some head) s = do
+  insn ← at_slot (place - 1) (second_at head s)
+  Ok (Whole insn)
+
+abbrev pub pending_of : SlotReading → Option WideHead
+pending_of (Whole insn) = None
+pending_of (Head head) = Some head
+
+abbrev pub finished_by : SlotReading → List Insn
+finished_by (Whole insn) = insn ∷ []
+finished_by (Head head) = []
+
+-- the instructions of the slots from a place on
+unfoldable pub code_from : ℕ → Option WideHead → List Slot → Result (List Insn) DecodeFault
+code_from place None [] = Ok []
+code_from place (Some head) [] = Err (faults.WideCut (place - 1))
+code_from place pending (s ∷ rest) = do
+  reading ← step_at place pending s
+  others ← code_from (place + 1) (pending_of reading) rest
+  Ok (finished_by reading ++ others)

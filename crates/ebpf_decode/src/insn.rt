@@ -1,0 +1,110 @@
+//! An instruction with its fields, for the whole of RFC 9669's table that images may use.
+
+use isa::{
+    AluOp, AtomicOp, ByteOrder, Extension, Register, ShortExtension, Size, Source, SwapWidth, Test,
+    Width,
+};
+
+/// An instruction (RFC 9669, sections 3 to 5). A wide instruction is one, though it takes two slots; distances count slots
+/// from the slot after the jump.
+#[derive(Clone, Copy, Debug, PartialEq, Eq)]
+pub enum Insn {
+    /// `dst = dst op source` (classes ALU and ALU64).
+    Alu {
+        width: Width,
+        op: AluOp,
+        dst: Register,
+        source: Source,
+    },
+    /// `dst = -dst`.
+    Neg {
+        width: Width,
+        dst: Register,
+    },
+    /// `dst` is the low part of `src`, sign-extended to 64 bits.
+    Movsx {
+        extension: Extension,
+        dst: Register,
+        src: Register,
+    },
+    /// `dst` is the low part of `src`, sign-extended to 32 bits and then zero-extended.
+    Movsx32 {
+        extension: ShortExtension,
+        dst: Register,
+        src: Register,
+    },
+    /// The low bytes of `dst` in an order, zero-extended.
+    End {
+        order: ByteOrder,
+        swap_width: SwapWidth,
+        dst: Register,
+    },
+    /// Jumps by the offset.
+    Ja {
+        distance: i16,
+    },
+    /// Jumps by the immediate.
+    Ja32 {
+        distance: i32,
+    },
+    /// Jumps where the test of `dst` against the source holds.
+    JumpIf {
+        width: Width,
+        test: Test,
+        dst: Register,
+        source: Source,
+        distance: i16,
+    },
+    /// `dst` is the value at `[src + offset]`, zero-extended.
+    Ldx {
+        size: Size,
+        dst: Register,
+        src: Register,
+        offset: i16,
+    },
+    /// `dst` is the value at `[src + offset]`, sign-extended.
+    Ldxs {
+        extension: Extension,
+        dst: Register,
+        src: Register,
+        offset: i16,
+    },
+    /// The value at `[dst + offset]` becomes the immediate, sign-extended and then cut.
+    St {
+        size: Size,
+        dst: Register,
+        offset: i16,
+        immediate: i32,
+    },
+    /// The value at `[dst + offset]` becomes the low part of `src`.
+    Stx {
+        size: Size,
+        dst: Register,
+        src: Register,
+        offset: i16,
+    },
+    /// The value at `[dst + offset]` is changed in one step.
+    AtomicUpdate {
+        width: Width,
+        op: AtomicOp,
+        dst: Register,
+        src: Register,
+        offset: i16,
+    },
+    /// `dst` is a number of 64 bits (wide, source 0).
+    Lddw {
+        dst: Register,
+        value: u64,
+    },
+    /// `dst` is the map at a place of the image's list (wide, source 1).
+    Ldmap {
+        dst: Register,
+        map: i32,
+    },
+    /// Calls the helper of this number.
+    CallHelper {
+        helper: i32,
+    },
+    /// Ends the run.
+    Exit,
+}

@@ -1,0 +1,167 @@
+//! The image format read.
+
+ghost use Rattle.std.specs.Prelude.{◌≡◌, ◌≢◌, ◌++◌, ◌*◌, ◌≤◌, length, OnOk, IfOk, IfErr, None, Some, Ok, Err};
+ghost use Rattle.ebpf_decode.specs.SlotForm.{slots_at};
+ghost use Rattle.ebpf_decode.specs.InstructionReading.{at_slot, step_at, pending_of, finished_by, code_from};
+ghost use Rattle.ebpf_decode.specs.ImageContents.{Contents};
+ghost use Rattle.ebpf_decode.specs.ImageFormat.{Gives, map_count, has_head, maps_at, code_at, image_at, first_decode_fault, IsImageEncoding};
+
+use crate::codes;
+use crate::fault::{DecodeFault, SlotFault};
+use crate::image::{Image, MAX_SLOTS};
+use crate::insn::Insn;
+use crate::map::MapDef;
+use crate::slot::Slot;
+use crate::wide::{SlotReading, WideHead};
+use std::alloc::{AllocError, Global};
+
+/// Whether the bytes begin with a whole head and as many maps as it says.
+fn has_head(bytes: &[u8]) -> bool
+    ensures { result ≡ has_head bytes.now }
+{
+    8 <= bytes.len()
+        && bytes[0] == 0x58
+        && bytes[1] == 0x4c
+        && bytes[2] == 0x42
+        && bytes[3] == 0x50
+        && bytes[4] == 1
+        && bytes[5] <= 16
+        && bytes[6] == 0
+        && bytes[7] == 0
+        && 8 + 16 * bytes[5] as usize <= bytes.len()
+}
+
+/// So many maps from the front of the bytes, and the bytes after them.
+fn maps_of(alloc: Global, count: u32, bytes: &[u8]) -> Result<(Vec<MapDef>, &[u8]), DecodeFault>
+    requires { 16 * count ≤ length bytes.now }
+    ensures { Gives (λ x. (x.0.items, x.1.now)) result (maps_at 0 count bytes.now) }
+{
+    let mut maps = Vec::new(alloc);
+    let mut rest = bytes;
+    for place in 0..count {
+        let (_, after) = rest.split_at(16);
+        match MapDef::of(rest) {
+            None => return Err(DecodeFault::BadMap { map: place }),
+            Some(map) => maps.push(map)?,
+        }
+        rest = after;
+    }
+    Ok((maps, rest))
+}
+
+/// An instruction that ends with the slot at this place, or a wide instruction's head, after a head or nothing.
+#[tactic(auto, unfolding(crate::specs::InstructionReading::step_at))]
+fn step(place: u32, pending: Option<WideHead>, slot: Slot) -> Result<SlotReading, DecodeFault>
+    ensures { result ≡ step_at place pending slot }
+{
+    match pending {
+        None => first_step(place, slot),
+        Some(head) => match head.with_second(slot) {
+            Ok(insn) => Ok(SlotReading::Whole(insn)),
+            Err(fault) => Err(fault.at(place.saturating_sub(1))),
+        },
+    }
+}
+
+#[tactic(auto, unfolding(crate::specs::InstructionReading::step_at))]
+fn first_step(place: u32, slot: Slot) -> Result<SlotReading, DecodeFault>
+    ensures { result ≡ step_at place None slot }
+{
+    if slot.class() == codes::LD {
+        match slot.head() {
+            Ok(head) => Ok(SlotReading::Head(head)),
+            Err(fault) => Err(fault.at(place)),
+        }
+    } else {
+        match slot.instruction() {
+            Ok(insn) => Ok(SlotReading::Whole(insn)),
+            Err(fault) => Err(fault.at(place)),
+        }
+    }
+}
+
+/// The head that waits for its second slot.
+fn pending_of(reading: SlotReading) -> Option<WideHead>
+    ensures { result ≡ pending_of reading }
+{
+    match reading {
+        SlotReading::Whole(_) => None,
+        SlotReading::Head(head) => Some(head),
+    }
+}
+
+/// Puts the instruction that ends with a slot after the others.
+fn keep(code: &mut Vec<Insn>, reading: SlotReading) -> Result<(), AllocError>
+    ensures { OnOk result (code.new.items ≡ code.old.items ++ finished_by reading) }
+{
+    if let SlotReading::Whole(insn) = reading {
+        code.push(insn)?;
+    }
+    Ok(())
+}
+
+/// The instructions of so many slots, from the front of the bytes.
+fn slots_code(alloc: Global, count: u32, bytes: &[u8]) -> Result<Vec<Insn>, DecodeFault>
+    requires { 8 * count ≤ length bytes.now }
+    ensures { Gives (λ code. code.items) result (code_from 0 None (slots_at count bytes.now)) }
+{
+    let mut code = Vec::new(alloc);
+    let mut pending = None;
+    let mut rest = bytes;
+    for place in 0..count {
+        let (_, after) = rest.split_at(8);
+        let reading = step(place, pending, Slot::of(rest))?;
+        pending = pending_of(reading);
+        keep(&mut code, reading)?;
+        rest = after;
+    }
+    match pending {
+        None => Ok(code),
+        Some(_) => Err(SlotFault::WideCut.at(count.saturating_sub(1))),
+    }
+}
+
+/// The program, of all the bytes after the maps.
+#[tactic(auto, unfolding(crate::specs::ImageFormat::code_at))]
+fn code_of(alloc: Global, bytes: &[u8]) -> Result<Vec<Insn>, DecodeFault>
+    ensures { Gives (λ code. code.items) result (code_at bytes.now) }
+{
+    if bytes.is_empty() {
+        return Err(DecodeFault::Empty);
+    }
+    if bytes.len() % 8 != 0 {
+        return Err(DecodeFault::NotWhole);
+    }
+    let count = bytes.len() / 8;
+    if count > MAX_SLOTS {
+        return Err(DecodeFault::TooLong);
+    }
+    slots_code(alloc, count as u32, bytes)
+}
+
+/// The maps and the program of the bytes.
+#[tactic(auto, unfolding(crate::specs::ImageFormat::image_at))]
+fn parts(alloc: Global, bytes: &[u8]) -> Result<(Vec<MapDef>, Vec<Insn>), DecodeFault>
+    ensures { Gives (λ x. record { maps = x.0.items; code = x.1.items }) result (image_at bytes.now) }
+{
+    if !has_head(bytes) {
+        return Err(DecodeFault::BadHead);
+    }
+    let (maps, rest) = maps_of(alloc, bytes[5] as u32, &bytes[8..])?;
+    let code = code_of(alloc, rest)?;
+    Ok((maps, code))
+}
+
+/// The image that the bytes encode, or their first fault: 10 to 14, then 15 to 19 by rising slot, and within a slot the lower
+/// number. Fault 20 may come in place of any other. After a fault nothing is kept.
+pub fn decode(alloc: Global, bytes: &[u8]) -> Result<Image, DecodeFault>
+    // The bytes are the encoding of the image.
+    ensures found { IfOk result (λ image. IsImageEncoding bytes.now image) }
+    // Whatever image the bytes encode is the one, unless memory is refused.
+    ensures only { (image : Contents) → IsImageEncoding bytes.now image → result ≢ Err DecodeFault.Memory → result ≡ Ok image }
+    // It is the first fault.
+    ensures fault { IfErr result (λ fault. fault ≢ DecodeFault.Memory → first_decode_fault bytes.now ≡ Some fault) }
+{
+    let (maps, code) = parts(alloc, bytes)?;
+    Ok(Image::new(maps, code))
+}

@@ -1,0 +1,39 @@
+//! Moving a frame's start.
+
+ghost use Rattle.std.specs.Prelude.{◌≡◌};
+ghost use Rattle.semantics.specs.HeadAdjustment.{adjusted_head, adjust_answer};
+
+use wire::Frame;
+
+/// The fewest bytes of a frame: an Ethernet header.
+const MIN_FRAME: usize = 14;
+
+/// Linux's EINVAL, negated: the frame's start cannot move so.
+const INVALID: i32 = -22;
+
+/// Moves a frame's start by a signed number of bytes: forward where it is positive, so that its first
+/// bytes become headroom, and back where it is negative, into the headroom (Linux's
+/// `bpf_xdp_adjust_head`).
+///
+/// Answers 0. Answers -22, and changes nothing, where the headroom would fall below 0 or the frame
+/// below 14 bytes. Newly opened bytes are zero. Takes no memory.
+#[tactic(auto, using(crate::proofs::ReachLemmas::reaches_within, crate::proofs::ReachLemmas::reaches_past))]
+pub fn adjust_head(frame: &mut Frame, distance: i32) -> i32
+    ensures moved { frame.new ≡ adjusted_head distance frame.old }
+    ensures answer { result ≡ adjust_answer distance frame.old }
+{
+    if distance < 0 {
+        let back = distance.unsigned_abs() as usize;
+        if back > frame.room() {
+            return INVALID;
+        }
+        frame.grow_front(back);
+    } else {
+        let forward = distance as usize;
+        if frame.len() < forward + MIN_FRAME {
+            return INVALID;
+        }
+        frame.shrink_front(forward);
+    }
+    0
+}

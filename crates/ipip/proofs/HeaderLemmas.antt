@@ -1,0 +1,34 @@
+-- What the outer header has in its fields, and that its checksum verifies.
+use Rattle.std.proofs.Common.{◌≡◌, ℕ, ◌+◌, ◌*◌, ◌/◌, ◌%◌, List, [], ◌∷◌, ◌++◌, length, get_or, refl, arith}
+use Rattle.std.proofs.lemmas.Grind.{common_steps}
+use Rattle.wire.specs.FlowForm.{be_word_at}
+use Rattle.wire.specs.Checksum.{ones_sum_of, ComplementInPlace}
+use Rattle.ipip.specs.declared.ends.Tunnel.{Tunnel}
+use Rattle.ipip.specs.Encapsulation.{header_with, outer_header}
+
+-- the sum over the header is all ones
+pub outer_header-verifies : (service total : ℕ) (tunnel : Tunnel) → ComplementInPlace (header_with 0 service total tunnel) → ones_sum_of (outer_header service total tunnel) ≡ 65535
+unfolding outer_header
+outer_header-verifies service total tunnel law =
+    law (0x45 ∷ service ∷ total / 256 ∷ total % 256 ∷ 0 ∷ 0 ∷ 0x40 ∷ 0 ∷ 64 ∷ 4 ∷ []) (tunnel.source.0 ++ tunnel.target.0) refl refl
+
+pub outer_header-length : (service total : ℕ) (tunnel : Tunnel) → length tunnel.source.0 ≡ 4 → length tunnel.target.0 ≡ 4 → length (outer_header service total tunnel) ≡ 20
+unfolding outer_header
+outer_header-length service total tunnel four four' = grind (arith, common_steps)
+
+pub outer_header-version : (service total : ℕ) (tunnel : Tunnel) → get_or (outer_header service total tunnel) 0 0 ≡ 0x45
+unfolding outer_header
+outer_header-version service total tunnel = refl
+
+pub outer_header-total : (service total : ℕ) (tunnel : Tunnel) → be_word_at 2 (outer_header service total tunnel) ≡ total
+unfolding outer_header
+outer_header-total service total tunnel = let whole : total / 256 * 256 + total % 256 ≡ total = omega arith in whole
+
+pub outer_header-time_to_live : (service total : ℕ) (tunnel : Tunnel) → get_or (outer_header service total tunnel) 8 0 ≡ 64
+unfolding outer_header
+outer_header-time_to_live service total tunnel = refl
+
+-- the items of two lists of six, and two more
+pub two_addresses : (xs ys : List ℕ) → length xs ≡ 6 → length ys ≡ 6 → get_or xs 0 0 ∷ get_or xs 1 0 ∷ get_or xs 2 0 ∷ get_or xs 3 0 ∷ get_or xs 4 0 ∷ get_or xs 5 0 ∷ get_or ys 0 0 ∷ get_or ys 1 0 ∷ get_or ys 2 0 ∷ get_or ys 3 0 ∷ get_or ys 4 0 ∷ get_or ys 5 0 ∷ 8 ∷ 0 ∷ [] ≡ xs ++ ys ++ 8 ∷ 0 ∷ []
+two_addresses (x0 ∷ x1 ∷ x2 ∷ x3 ∷ x4 ∷ x5 ∷ []) (y0 ∷ y1 ∷ y2 ∷ y3 ∷ y4 ∷ y5 ∷ []) six six' = refl
+two_addresses _ _ six six' = absurd (omega arith)

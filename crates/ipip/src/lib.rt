@@ -1,0 +1,14 @@
+//! IPv4 packets in an IPv4 tunnel (RFC 2003): an outer header before the packet in an Ethernet frame.
+#![tactic(auto)]
+
+mod encapsulation;
+mod ends;
+mod fault;
+mod header;
+mod packet;
+#[cfg(test)]
+mod table_tests;
+
+pub use encapsulation::encapsulate;
+pub use ends::{Ipv4Address, MacAddress, Tunnel};
+pub use fault::IpipFault;

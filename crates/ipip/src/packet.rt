@@ -1,0 +1,42 @@
+//! The IPv4 packet in an Ethernet frame.
+
+ghost use Rattle.std.specs.Prelude.{◌≡◌, ◌+◌, ◌<◌, ◌↔◌, length, IsSome, IfSome};
+ghost use Rattle.wire.specs.FlowForm.{be_word_at};
+ghost use Rattle.ipip.specs.PlainIpv4.{type_of_service, total_length, time_to_live, IsPlainIpv4};
+
+/// What the encapsulation reads of a packet's header.
+#[derive(Clone, Copy, Debug, PartialEq, Eq)]
+pub(crate) struct Packet {
+    pub(crate) type_of_service: u8,
+    pub(crate) total_length: u16,
+    pub(crate) time_to_live: u8,
+}
+
+/// The 16-bit number at an index, high byte first.
+fn word_at(bytes: &[u8], at: usize) -> u16
+    requires { at + 1 < length bytes.now }
+    ensures { result ≡ be_word_at at bytes.now }
+{
+    u16::from(bytes[at]) * 256 + u16::from(bytes[at + 1])
+}
+
+/// The packet of a frame, where the frame holds a whole IPv4 packet without options.
+pub(crate) fn packet_of(frame: &[u8]) -> Option<Packet>
+    ensures plain { IsSome result ↔ IsPlainIpv4 frame.now }
+    ensures type_of_service { IfSome result (λ packet. packet.type_of_service ≡ type_of_service frame.now) }
+    ensures total_length { IfSome result (λ packet. packet.total_length ≡ total_length frame.now) }
+    ensures time_to_live { IfSome result (λ packet. packet.time_to_live ≡ time_to_live frame.now) }
+{
+    if frame.len() < 34 || frame[12] != 0x08 || frame[13] != 0x00 || frame[14] != 0x45 {
+        return None;
+    }
+    let total_length = word_at(frame, 16);
+    if total_length < 20 || frame.len() < 14 + usize::from(total_length) {
+        return None;
+    }
+    Some(Packet {
+        type_of_service: frame[15],
+        total_length,
+        time_to_live: frame[22],
+    })
+}

@@ -1,0 +1,11 @@
+pub mod Residues
+pub mod Sizes
+pub mod Preferences
+pub mod Searching
+pub mod Naming
+pub mod Shares
+pub mod Taking
+pub mod Laws
+pub mod Uniqueness
+pub mod RepeatLemmas
+pub mod Rings

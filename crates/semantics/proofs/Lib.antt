@@ -1,0 +1,5 @@
+pub mod LittleEndianLemmas
+pub mod BytesLemmas
+pub mod ConditionLemmas
+pub mod LawLemmas
+pub mod HoldingLemmas

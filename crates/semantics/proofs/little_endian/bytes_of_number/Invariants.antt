@@ -1,0 +1,12 @@
+use Rattle.std.proofs.Common.{◌≡◌, ◌+◌, ◌++◌, length}
+use Rattle.semantics.specs.LittleEndian.{bytes_of_number}
+use Rattle.semantics.proofs.little_endian.bytes_of_number.Given as goal
+
+abbrev pub invariant-higher : goal.invariant-higher
+invariant-higher l = record {
+  room : length l.bytes + l.left ≡ l.width;
+  so_far : l.bytes ++ bytes_of_number l.left l.rest ≡ bytes_of_number l.width l.number;
+}
+
+abbrev pub decreases-higher : goal.decreases-higher
+decreases-higher l = l.left

@@ -1,0 +1,133 @@
+-- Which calls a shard serves, when its journal is full, and which histories are legal. A journal lists its entries in order,
+-- the oldest first; a history has the newest first.
+use Rattle.std.specs.Prelude.{◌≡◌, ℕ, ◌+◌, ◌%◌, ◌^◌, ◌==◌, Bool, true, false, ◌&&◌, ◌||◌, nat_lt, nat_le, List, [], ◌∷◌, length, reverse, is_some, if◌then◌else◌, IsTrue, IsFalse}
+use Rattle.semantics.specs.declared.call.Caller.{Caller}
+use Rattle.semantics.specs.declared.call.Caller.TheVariants.{Worker, Controller, Reclaimer}
+use Rattle.semantics.specs.declared.call.Call.{Call}
+use Rattle.semantics.specs.declared.call.Call.TheVariants.{Enter, Leave, Lookup, Load, Store, Atomic, Update, Delete, Reclaim}
+use Rattle.semantics.specs.declared.call.Entry.{Entry}
+use Rattle.semantics.specs.Program.{part_of_key}
+use Rattle.semantics.specs.ShardPlan.{ShardPlan}
+use Rattle.semantics.specs.Reclamation.{is_inside, holds, inside_count}
+use Rattle.semantics.specs.SequentialShard.{atomic_op_at, reply_of, shard_after}
+
+-- ---- the caller's condition
+
+-- the shard that a call names
+abbrev pub shard_of_call : Call → ℕ
+shard_of_call (Enter shard) = shard
+shard_of_call (Leave shard) = shard
+shard_of_call (Lookup shard key) = shard
+shard_of_call (Load cell offset width) = cell.shard
+shard_of_call (Store cell offset width value) = cell.shard
+shard_of_call (Atomic cell offset width op value expected) = cell.shard
+shard_of_call (Update shard key value flags) = shard
+shard_of_call (Delete shard key) = shard
+shard_of_call (Reclaim shard) = shard
+
+-- a worker of the plan that is not inside
+abbrev pub is_outside_worker : ShardPlan → List Entry → Caller → Bool
+is_outside_worker plan history (Worker number) = nat_lt number plan.workers && (if is_inside number history then false else true)
+is_outside_worker plan history who = false
+
+-- a worker of the plan that is inside
+abbrev pub is_inside_worker : ShardPlan → List Entry → Caller → Bool
+is_inside_worker plan history (Worker number) = nat_lt number plan.workers && is_inside number history
+is_inside_worker plan history who = false
+
+-- a worker of the plan that holds the cell
+abbrev pub is_holder : ShardPlan → List Entry → Caller → ℕ → Bool
+is_holder plan history (Worker number) cell = nat_lt number plan.workers && holds number cell history
+is_holder plan history who cell = false
+
+-- who may change keys: a worker inside, and the controller always
+abbrev pub may_change_keys : ShardPlan → List Entry → Caller → Bool
+may_change_keys plan history Controller = true
+may_change_keys plan history who = is_inside_worker plan history who
+
+abbrev pub is_reclaimer : Caller → Bool
+is_reclaimer Reclaimer = true
+is_reclaimer who = false
+
+-- the key has the map's length and belongs to the shard
+abbrev pub is_own_key : ShardPlan → List ℕ → Bool
+is_own_key plan key = length key == plan.definition.key_size && part_of_key plan.definition.kind plan.parts key == plan.part
+
+abbrev pub is_load_width : ℕ → Bool
+is_load_width width = width == 1 || width == 2 || width == 4 || width == 8
+
+abbrev pub is_atomic_width : ℕ → Bool
+is_atomic_width width = width == 4 || width == 8
+
+-- inside the value, at a multiple of the width
+abbrev pub is_in_cell : ShardPlan → ℕ → ℕ → Bool
+is_in_cell plan offset width = nat_le (offset + width) plan.definition.value_size && offset % width == 0
+
+abbrev pub fits_width : ℕ → ℕ → Bool
+fits_width value width = nat_lt value (256 ^ width)
+
+-- only compare-and-exchange has a number to compare with
+abbrev pub is_expected : ℕ → ℕ → Bool
+is_expected op expected = expected == 0 || op == 0xf1
+
+abbrev pub meets_part : ShardPlan → List Entry → Caller → Call → Bool
+meets_part plan history who (Enter shard) = is_outside_worker plan history who
+meets_part plan history who (Leave shard) = is_inside_worker plan history who
+meets_part plan history who (Lookup shard key) = is_inside_worker plan history who && is_own_key plan key
+meets_part plan history who (Load cell offset width) =
+    is_holder plan history who cell.id && is_load_width width && is_in_cell plan offset width
+meets_part plan history who (Store cell offset width value) =
+    is_holder plan history who cell.id && is_load_width width && is_in_cell plan offset width && fits_width value width
+meets_part plan history who (Atomic cell offset width op value expected) =
+    is_holder plan history who cell.id && is_atomic_width width && is_in_cell plan offset width &&
+    is_some (atomic_op_at op) && fits_width value width && fits_width expected width && is_expected op expected
+meets_part plan history who (Update shard key value flags) =
+    may_change_keys plan history who && is_own_key plan key && length value == plan.definition.value_size
+meets_part plan history who (Delete shard key) = may_change_keys plan history who && is_own_key plan key
+meets_part plan history who (Reclaim shard) = is_reclaimer who
+
+-- the caller may make this call on this shard now
+abbrev pub meets : ShardPlan → List Entry → Caller → Call → Bool
+meets plan history who call = shard_of_call call == plan.number && meets_part plan history who call
+
+-- ---- the journal's room
+
+-- a run that enters will need room for its Leave
+abbrev pub room_for_leave : Call → ℕ
+room_for_leave (Enter shard) = 1
+room_for_leave call = 0
+
+-- the entries, one more for each run inside, counting one that would enter, and one for the call itself
+abbrev pub room_needed : List Entry → Call → ℕ
+room_needed history call = length history + inside_count history + room_for_leave call + 1
+
+-- a Leave always has room, which its Enter left
+abbrev pub journal_is_full : ShardPlan → List Entry → Call → Bool
+journal_is_full plan history (Leave shard) = false
+journal_is_full plan history call = nat_lt plan.reserve (room_needed history call)
+
+-- ---- legal histories
+
+-- the entry is one step of the one-thread shard: a call that its caller may make, with the reply
+pub record IsSequentialStep (plan : ShardPlan) (history : List Entry) (entry : Entry) : Type 0 where
+  pub met : IsTrue (meets plan history entry.who entry.call)
+  pub replied : entry.reply ≡ reply_of plan history (shard_after plan history) entry.call
+
+pub record IsLegalStep (plan : ShardPlan) (history : List Entry) (entry : Entry) : Type 0 where
+  pub step : IsSequentialStep plan history entry
+  pub room : IsFalse (journal_is_full plan history entry.call)
+
+-- each entry is a step from what the older ones lead to, and none came past a full journal
+abbrev pub IsLegalHistory : ShardPlan → List Entry → Type 0
+IsLegalHistory plan [] = Unit {0}
+IsLegalHistory plan (entry ∷ older) = IsLegalStep plan older entry × IsLegalHistory plan older
+
+-- a journal, whose oldest entry stands first
+abbrev pub IsLegalJournal : ShardPlan → List Entry → Type 0
+IsLegalJournal plan journal = IsLegalHistory plan (reverse journal)
+
+abbrev pub Meets : ShardPlan → List Entry → Caller → Call → Type 0
+Meets plan history who call = IsTrue (meets plan history who call)
+
+abbrev pub IsJournalFull : ShardPlan → List Entry → Call → Type 0
+IsJournalFull plan history call = IsTrue (journal_is_full plan history call)

@@ -1,0 +1,46 @@
+-- What follows from the definitions of a shard, whatever is called on it.
+use Rattle.std.specs.Prelude.{◌≡◌, ℕ, ◌<◌, ◌≤◌, List, ◌∷◌, ◌++◌, length, All, IsTrue, IsFalse}
+use Rattle.semantics.specs.declared.call.Entry.{Entry}
+use Rattle.semantics.specs.declared.plan.RetiredCell.{RetiredCell}
+use Rattle.semantics.specs.Reclamation.{holds, is_reclaimable}
+use Rattle.semantics.specs.ShardPlan.{ShardPlan}
+use Rattle.semantics.specs.SequentialShard.{SequentialShard, shard_after, with_new_key}
+use Rattle.semantics.specs.History.{journal_is_full, IsSequentialStep, IsLegalHistory}
+
+-- two steps of one call from one history have one reply, and leave one state
+abbrev pub HasOneReply : Type 0
+HasOneReply =
+    (plan : ShardPlan) (history : List Entry) (entry other : Entry) → entry.call ≡ other.call →
+    IsSequentialStep plan history entry → IsSequentialStep plan history other → entry.reply ≡ other.reply
+
+abbrev pub LeavesOneState : Type 0
+LeavesOneState =
+    (plan : ShardPlan) (history : List Entry) (entry other : Entry) → entry.call ≡ other.call →
+    shard_after plan (entry ∷ history) ≡ shard_after plan (other ∷ history)
+
+-- a step that meets no full journal keeps a legal history legal
+abbrev pub KeepsLegal : Type 0
+KeepsLegal =
+    (plan : ShardPlan) (history : List Entry) (entry : Entry) → IsLegalHistory plan history →
+    IsSequentialStep plan history entry → IsFalse (journal_is_full plan history entry.call) →
+    IsLegalHistory plan (entry ∷ history)
+
+-- a shard never has fewer cells than before
+abbrev pub CellsStay : Type 0
+CellsStay =
+    (plan : ShardPlan) (newer older : List Entry) →
+    length (shard_after plan older).cells ≤ length (shard_after plan (newer ++ older)).cells
+
+-- a new key's cell is the first that the shard did not have, and there is one more then
+abbrev pub NewKeyHasNextCell : Type 0
+NewKeyHasNextCell =
+    (shard : SequentialShard) (key value : List ℕ) →
+    ((with_new_key shard key value).present ≡ (record { key = key; cell = length shard.cells }) ∷ shard.present)
+    × (length shard.cells < length (with_new_key shard key value).cells)
+
+-- a cell that a worker holds is not freed: none of that id is reclaimable
+abbrev pub HeldCellStays : Type 0
+HeldCellStays =
+    (plan : ShardPlan) (history : List Entry) (worker cell : ℕ) → worker < 8 → IsLegalHistory plan history →
+    IsTrue (holds worker cell history) →
+    All (λ (retired : RetiredCell). retired.cell ≡ cell → IsFalse (is_reclaimable history retired)) (shard_after plan history).retired

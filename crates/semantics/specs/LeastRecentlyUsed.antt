@@ -1,0 +1,44 @@
+-- When a key was last used, and which key a full LRU map evicts. The history's newest entry stands first.
+use Rattle.std.specs.Prelude.{ℕ, suc, ◌==◌, Bool, true, false, ◌&&◌, nat_le, ℤ, pos, negsuc, List, [], ◌∷◌, length, Option, find, if◌then◌else◌, bytes_eq}
+use Rattle.std.specs.List.{list_all}
+use Rattle.semantics.specs.declared.call.Call.{Call}
+use Rattle.semantics.specs.declared.call.Call.TheVariants.{Lookup, Update}
+use Rattle.semantics.specs.declared.call.Reply.{Reply}
+use Rattle.semantics.specs.declared.call.Reply.TheVariants.{Cell, Answer}
+use Rattle.semantics.specs.declared.call.Entry.{Entry}
+pub use Rattle.semantics.specs.declared.plan.PresentKey.{PresentKey}
+
+abbrev pub is_zero : ℤ → Bool
+is_zero (pos n) = n == 0
+is_zero (negsuc n) = false
+
+abbrev pub is_found : Reply → Bool
+is_found (Cell cell) = true
+is_found reply = false
+
+abbrev pub is_done : Reply → Bool
+is_done (Answer code) = is_zero code
+is_done reply = false
+
+abbrev pub call_uses : List ℕ → Call → Reply → Bool
+call_uses key (Lookup shard asked) reply = bytes_eq asked key && is_found reply
+call_uses key (Update shard asked value flags) reply = bytes_eq asked key && is_done reply
+call_uses key call reply = false
+
+-- the entry is a use of the key: a Lookup that found it, or an Update that answered 0
+abbrev pub uses : List ℕ → Entry → Bool
+uses key entry = call_uses key entry.call entry.reply
+
+-- one more than the place of the key's last use; 0 where there is none
+abbrev pub last_use : List ℕ → List Entry → ℕ
+last_use key [] = 0
+last_use key (entry ∷ older) = if uses key entry then suc (length older) else last_use key older
+
+-- no present key was last used earlier
+abbrev pub is_least_recently_used : List Entry → List PresentKey → PresentKey → Bool
+is_least_recently_used history present candidate =
+    list_all (λ (other : PresentKey). nat_le (last_use candidate.key history) (last_use other.key history)) present
+
+-- the present key whose last use is earliest
+abbrev pub least_recently_used : List Entry → List PresentKey → Option PresentKey
+least_recently_used history present = find (is_least_recently_used history present) present

@@ -1,0 +1,209 @@
+-- The one-thread specification of a map's shard: what each call replies, and what it leaves (bpf(2); the answers are Linux's
+-- error numbers). A shard's state is a function of its history, whose newest entry stands first.
+use Rattle.std.specs.Prelude.{ℕ, ◌+◌, ◌*◌, ◌/◌, ◌==◌, Bool, true, false, not, ◌&&◌, ◌||◌, nat_lt, nat_le, ℤ, pos, negsuc, List, [], ◌∷◌, ◌++◌, length, take, drop, replicate, filter, find, Option, Some, None, option_map, slice_index_or, slice_set, if◌then◌else◌, bytes_eq}
+use Rattle.std.specs.List.{list_any}
+use Rattle.isa.specs.declared.operation.AtomicOp.{AtomicOp}
+use Rattle.isa.specs.Atomic.{atomic_result}
+use Rattle.ebpf_decode.specs.declared.map.MapKind.{MapKind}
+use Rattle.ebpf_decode.specs.declared.map.MapKind.TheVariants.{Array, Hash}
+use Rattle.ebpf_decode.specs.InstructionCodes.{atomic_code, atomic_ops}
+use Rattle.wire.specs.FrameView.{overwritten_at}
+use Rattle.semantics.specs.declared.call.Call.{Call}
+use Rattle.semantics.specs.declared.call.Call.TheVariants.{Enter, Leave, Lookup, Load, Store, Atomic, Update, Delete, Reclaim}
+use Rattle.semantics.specs.declared.call.Reply.{Reply}
+use Rattle.semantics.specs.declared.call.Reply.TheVariants.{Entered, Left, Cell, Null, Word, Done, Answer, Freed}
+use Rattle.semantics.specs.declared.call.Entry.{Entry}
+use Rattle.semantics.specs.LittleEndian.{number_of_bytes, bytes_of_number}
+use Rattle.semantics.specs.ShardPlan.{ShardPlan, capacity}
+use Rattle.semantics.specs.Reclamation.{RetiredCell, is_reclaimable}
+use Rattle.semantics.specs.LeastRecentlyUsed.{PresentKey, least_recently_used}
+
+pub record SequentialShard : Type 0 where
+  -- the keys that are there; of an array none, since all its indices are
+  pub present : List PresentKey
+  -- the bytes of each cell that was ever created, by its id
+  pub cells : List (List ℕ)
+  -- the cells that were retired and are not freed
+  pub retired : List RetiredCell
+
+-- ---- the opening state: an array has a cell of zeros for each of its indices
+
+abbrev pub opening_cells : MapKind → ShardPlan → List (List ℕ)
+opening_cells Array plan = replicate (capacity plan) (replicate plan.definition.value_size 0)
+opening_cells kind plan = []
+
+abbrev pub opening_shard : ShardPlan → SequentialShard
+opening_shard plan = record { present = []; cells = opening_cells plan.definition.kind plan; retired = [] }
+
+-- ---- keys
+
+-- the cell of an array's index
+abbrev pub cell_of_index : ShardPlan → ℕ → Option ℕ
+cell_of_index plan index = if nat_lt index plan.definition.max_entries then Some (index / plan.parts) else None
+
+abbrev pub cell_of_present : List PresentKey → List ℕ → Option ℕ
+cell_of_present present key = option_map (λ (found : PresentKey). found.cell) (find (λ (one : PresentKey). bytes_eq one.key key) present)
+
+abbrev pub cell_of_kind : MapKind → ShardPlan → SequentialShard → List ℕ → Option ℕ
+cell_of_kind Array plan shard key = cell_of_index plan (number_of_bytes key)
+cell_of_kind kind plan shard key = cell_of_present shard.present key
+
+-- the cell that has a key's value
+abbrev pub cell_of_key : ShardPlan → SequentialShard → List ℕ → Option ℕ
+cell_of_key plan shard key = cell_of_kind plan.definition.kind plan shard key
+
+-- ---- cells
+
+abbrev pub cell_bytes : SequentialShard → ℕ → List ℕ
+cell_bytes shard cell = slice_index_or shard.cells cell []
+
+abbrev pub number_in_cell : SequentialShard → ℕ → ℕ → ℕ → ℕ
+number_in_cell shard cell offset width = number_of_bytes (take width (drop offset (cell_bytes shard cell)))
+
+abbrev pub with_cell : SequentialShard → ℕ → List ℕ → SequentialShard
+with_cell shard cell bytes = record shard { cells = slice_set shard.cells cell bytes }
+
+abbrev pub with_number_in_cell : SequentialShard → ℕ → ℕ → ℕ → ℕ → SequentialShard
+with_number_in_cell shard cell offset width value =
+    with_cell shard cell (overwritten_at offset (bytes_of_number width value) (cell_bytes shard cell))
+
+-- the atomic operation of an immediate
+abbrev pub atomic_op_at : ℕ → Option AtomicOp
+atomic_op_at code = find (λ op. atomic_code op == code) atomic_ops
+
+abbrev pub changed_by : Option AtomicOp → ℕ → ℕ → ℕ → ℕ → ℕ
+changed_by (Some op) width old value expected = atomic_result (8 * width) op old value expected
+changed_by None width old value expected = old
+
+-- ---- Update and Delete
+
+-- each key has two cells, so that a retired one may wait for its readers
+abbrev pub has_free_cell : ShardPlan → SequentialShard → Bool
+has_free_cell plan shard = nat_lt (length shard.present + length shard.retired) (2 * capacity plan)
+
+abbrev pub is_full_of_keys : ShardPlan → SequentialShard → Bool
+is_full_of_keys plan shard = nat_le (capacity plan) (length shard.present)
+
+abbrev pub is_hash : MapKind → Bool
+is_hash Hash = true
+is_hash kind = false
+
+abbrev pub array_update_answer : ℕ → Option ℕ → ℤ
+array_update_answer flags None = negsuc 6
+array_update_answer flags (Some cell) = if flags == 1 then negsuc 16 else pos 0
+
+abbrev pub keyed_update_answer : ShardPlan → SequentialShard → ℕ → Option ℕ → ℤ
+keyed_update_answer plan shard flags (Some cell) = if flags == 1 then negsuc 16 else pos 0
+keyed_update_answer plan shard flags None =
+    if flags == 2 then negsuc 1
+    else (if is_hash plan.definition.kind && is_full_of_keys plan shard then negsuc 6
+    else (if has_free_cell plan shard then pos 0 else negsuc 11))
+
+abbrev pub update_answer_of_kind : MapKind → ShardPlan → SequentialShard → ℕ → Option ℕ → ℤ
+update_answer_of_kind Array plan shard flags cell = array_update_answer flags cell
+update_answer_of_kind kind plan shard flags cell = keyed_update_answer plan shard flags cell
+
+-- in this order: unknown flags -22; an array's index out of range -7, an index that is always there under NOEXIST -17;
+-- a present key under NOEXIST -17, an absent one under EXIST -2; a new key in a full hash shard -7, with no free cell -12
+abbrev pub update_answer : ShardPlan → SequentialShard → List ℕ → ℕ → ℤ
+update_answer plan shard key flags =
+    if nat_lt 2 flags then negsuc 21
+    else update_answer_of_kind plan.definition.kind plan shard flags (cell_of_key plan shard key)
+
+-- the shard without a key, whose cell is retired at this place of the history
+abbrev pub without_key : SequentialShard → ℕ → PresentKey → SequentialShard
+without_key shard place gone = record {
+  present = filter (λ (one : PresentKey). not (one.cell == gone.cell)) shard.present;
+  cells = shard.cells;
+  retired = (record { cell = gone.cell; since = place }) ∷ shard.retired;
+}
+
+abbrev pub without_found : SequentialShard → ℕ → Option PresentKey → SequentialShard
+without_found shard place (Some gone) = without_key shard place gone
+without_found shard place None = shard
+
+-- a full LRU shard evicts the key that was used longest ago
+abbrev pub after_eviction : ShardPlan → List Entry → SequentialShard → SequentialShard
+after_eviction plan history shard =
+    if is_full_of_keys plan shard then without_found shard (length history) (least_recently_used history shard.present) else shard
+
+-- a new key gets the next cell
+abbrev pub with_new_key : SequentialShard → List ℕ → List ℕ → SequentialShard
+with_new_key shard key value = record {
+  present = (record { key = key; cell = length shard.cells }) ∷ shard.present;
+  cells = shard.cells ++ value ∷ [];
+  retired = shard.retired;
+}
+
+abbrev pub with_value : ShardPlan → List Entry → SequentialShard → List ℕ → List ℕ → Option ℕ → SequentialShard
+with_value plan history shard key value (Some cell) = with_cell shard cell value
+with_value plan history shard key value None = with_new_key (after_eviction plan history shard) key value
+
+abbrev pub updated_where : ℤ → SequentialShard → SequentialShard → SequentialShard
+updated_where (pos answer) updated shard = if answer == 0 then updated else shard
+updated_where (negsuc answer) updated shard = shard
+
+abbrev pub delete_answer_of_kind : MapKind → Option ℕ → ℤ
+delete_answer_of_kind Array cell = negsuc 21
+delete_answer_of_kind kind (Some cell) = pos 0
+delete_answer_of_kind kind None = negsuc 1
+
+-- of an array nothing can be deleted: -22; an absent key: -2
+abbrev pub delete_answer : ShardPlan → SequentialShard → List ℕ → ℤ
+delete_answer plan shard key = delete_answer_of_kind plan.definition.kind (cell_of_key plan shard key)
+
+abbrev pub present_key : SequentialShard → List ℕ → Option PresentKey
+present_key shard key = find (λ (one : PresentKey). bytes_eq one.key key) shard.present
+
+-- ---- Reclaim
+
+abbrev pub reclaimable_cells : List Entry → SequentialShard → List RetiredCell
+reclaimable_cells history shard = filter (is_reclaimable history) shard.retired
+
+-- ---- kept cells
+
+-- the cell was created and is not freed: it has a present key, or waits for its readers
+abbrev pub is_kept_of_kind : MapKind → SequentialShard → ℕ → Bool
+is_kept_of_kind Array shard cell = nat_lt cell (length shard.cells)
+is_kept_of_kind kind shard cell =
+    list_any (λ (one : PresentKey). one.cell == cell) shard.present || list_any (λ (one : RetiredCell). one.cell == cell) shard.retired
+
+abbrev pub is_kept : ShardPlan → SequentialShard → ℕ → Bool
+is_kept plan shard cell = is_kept_of_kind plan.definition.kind shard cell
+
+-- ---- replies and states
+
+abbrev pub lookup_reply : ShardPlan → Option ℕ → Reply
+lookup_reply plan (Some cell) = Cell (record { shard = plan.number; id = cell })
+lookup_reply plan None = Null
+
+-- what the call replies
+abbrev pub reply_of : ShardPlan → List Entry → SequentialShard → Call → Reply
+reply_of plan history shard (Enter number) = Entered
+reply_of plan history shard (Leave number) = Left
+reply_of plan history shard (Lookup number key) = lookup_reply plan (cell_of_key plan shard key)
+reply_of plan history shard (Load cell offset width) = Word (number_in_cell shard cell.id offset width)
+reply_of plan history shard (Store cell offset width value) = Done
+reply_of plan history shard (Atomic cell offset width op value expected) = Word (number_in_cell shard cell.id offset width)
+reply_of plan history shard (Update number key value flags) = Answer (update_answer plan shard key flags)
+reply_of plan history shard (Delete number key) = Answer (delete_answer plan shard key)
+reply_of plan history shard (Reclaim number) = Freed (length (reclaimable_cells history shard))
+
+-- what the call leaves
+abbrev pub shard_after_call : ShardPlan → List Entry → SequentialShard → Call → SequentialShard
+shard_after_call plan history shard (Store cell offset width value) = with_number_in_cell shard cell.id offset width value
+shard_after_call plan history shard (Atomic cell offset width op value expected) =
+    with_number_in_cell shard cell.id offset width
+    (changed_by (atomic_op_at op) width (number_in_cell shard cell.id offset width) value expected)
+shard_after_call plan history shard (Update number key value flags) =
+    updated_where (update_answer plan shard key flags) (with_value plan history shard key value (cell_of_key plan shard key)) shard
+shard_after_call plan history shard (Delete number key) =
+    updated_where (delete_answer plan shard key) (without_found shard (length history) (present_key shard key)) shard
+shard_after_call plan history shard (Reclaim number) =
+    record shard { retired = filter (λ retired. not (is_reclaimable history retired)) shard.retired }
+shard_after_call plan history shard call = shard
+
+-- the state that a history leads to
+abbrev pub shard_after : ShardPlan → List Entry → SequentialShard
+shard_after plan [] = opening_shard plan
+shard_after plan (entry ∷ older) = shard_after_call plan older (shard_after plan older) entry.call

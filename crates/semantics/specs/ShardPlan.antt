@@ -1,0 +1,33 @@
+-- What a shard is opened with: its place among the shards, its map, and the room of its journal.
+use Rattle.std.specs.Prelude.{ℕ, ◌/◌, ◌%◌, ◌≤◌, ◌≡◌, ◌⊎◌, List, Option, Some, None, All, slice_get}
+use Rattle.ebpf_decode.specs.declared.map.MapDef.{MapDef}
+use Rattle.semantics.specs.declared.options.Options.{Options}
+pub use Rattle.semantics.specs.declared.plan.ShardPlan.{ShardPlan}
+
+-- how many keys the shard may have
+abbrev pub capacity : ShardPlan → ℕ
+capacity plan = plan.definition.max_entries / plan.parts
+
+abbrev pub plan_for_map : Options → ℕ → Option MapDef → Option ShardPlan
+plan_for_map options number (Some definition) = Some (record {
+  number = number;
+  part = number % options.shards;
+  parts = options.shards;
+  definition = definition;
+  workers = options.workers;
+  reserve = options.journal;
+})
+plan_for_map options number None = None
+
+-- the plan of the shard of a number: shards stand map after map
+abbrev pub plan_at : List MapDef → Options → ℕ → Option ShardPlan
+plan_at maps options number = plan_for_map options number (slice_get maps (number / options.shards))
+
+-- the options with which the shards of these maps can be opened
+pub record AreOptions (maps : List MapDef) (options : Options) : Type 0 where
+  pub some_worker : 1 ≤ options.workers
+  pub at_most_eight : options.workers ≤ 8
+  pub power_of_two : (options.shards ≡ 1) ⊎ (options.shards ≡ 2) ⊎ (options.shards ≡ 4) ⊎ (options.shards ≡ 8)
+  pub in_equal_parts : All (λ (definition : MapDef). definition.max_entries % options.shards ≡ 0) maps
+  pub least_journal : 16 ≤ options.journal
+  pub greatest_journal : options.journal ≤ 1048576

@@ -1,0 +1,108 @@
+//! The calls on a map shard, their callers and their replies.
+
+use crate::bytes::{Key, Value};
+
+/// Who makes a call.
+#[derive(Clone, Copy, Debug, PartialEq, Eq)]
+pub enum Caller {
+    /// A worker, by its number from 0 to 7.
+    Worker { number: u8 },
+    /// The controller, which takes backends up and down.
+    Controller,
+    /// The reclaimer, which frees retired cells.
+    Reclaimer,
+}
+
+/// A cell of a shard, by the id that it got at its creation. An id is never given again.
+#[derive(Clone, Copy, Debug, PartialEq, Eq)]
+pub struct CellRef {
+    /// The shard's number.
+    pub shard: u32,
+    /// How many cells the shard had created before this one.
+    pub id: u64,
+}
+
+/// A call on one shard. Numbers are as a journal has them, so a call may be one that no map serves.
+#[derive(Clone, Copy, Debug, PartialEq, Eq)]
+pub enum Call {
+    /// A worker begins a read-side section of the shard.
+    Enter {
+        shard: u32,
+    },
+    /// The worker ends it, and lets its cells go.
+    Leave {
+        shard: u32,
+    },
+    /// Asks for the cell of a key.
+    Lookup {
+        shard: u32,
+        key: Key,
+    },
+    /// Reads some bytes of a cell, little-endian.
+    Load {
+        cell: CellRef,
+        offset: u64,
+        width: u64,
+    },
+    /// Writes some bytes of a cell, little-endian.
+    Store {
+        cell: CellRef,
+        offset: u64,
+        width: u64,
+        value: u64,
+    },
+    /// Changes some bytes of a cell in one step, by the operation whose immediate is `op` (RFC 9669, section 5.3).
+    Atomic {
+        cell: CellRef,
+        offset: u64,
+        width: u64,
+        op: u64,
+        value: u64,
+        expected: u64,
+    },
+    /// Sets the value of a key, as bpf(2) has it: `flags` is ANY 0, NOEXIST 1 or EXIST 2.
+    Update {
+        shard: u32,
+        key: Key,
+        value: Value,
+        flags: u64,
+    },
+    /// Removes a key.
+    Delete {
+        shard: u32,
+        key: Key,
+    },
+    /// Frees the retired cells that no reader can still hold.
+    Reclaim {
+        shard: u32,
+    },
+}
+
+/// The reply to a call.
+#[derive(Clone, Copy, Debug, PartialEq, Eq)]
+pub enum Reply {
+    /// To Enter.
+    Entered,
+    /// To Leave.
+    Left,
+    /// To a Lookup that found its key.
+    Cell { cell: CellRef },
+    /// To a Lookup of a key that is absent.
+    Null,
+    /// To Load, what it read; to Atomic, what was there before. Zero-extended.
+    Word { value: u64 },
+    /// To Store.
+    Done,
+    /// To Update and Delete: 0, or Linux's error number, negated.
+    Answer { code: i32 },
+    /// To Reclaim: how many cells it freed.
+    Freed { count: u64 },
+}
+
+/// One step of a shard: who called, what was asked, what was replied.
+#[derive(Clone, Copy, Debug, PartialEq, Eq)]
+pub struct Entry {
+    pub who: Caller,
+    pub call: Call,
+    pub reply: Reply,
+}

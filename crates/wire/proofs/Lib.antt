@@ -1,0 +1,7 @@
+-- The lemmas that proofs of this crate share.
+pub mod FrameLemmas
+pub mod FlowLemmas
+pub mod ChecksumLemmas
+pub mod DeviceLemmas
+pub mod CaptureLemmas
+pub mod CaptureWriting

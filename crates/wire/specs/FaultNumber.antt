@@ -1,0 +1,21 @@
+-- The number of each fault, as its text prints it.
+use Rattle.std.specs.Prelude.{ℕ}
+use Rattle.wire.specs.declared.frame_buffer.FrameFault.{FrameFault}
+use Rattle.wire.specs.declared.frame_buffer.FrameFault.TheVariants as frame
+use Rattle.wire.specs.declared.capture_fault.CaptureFault.{CaptureFault}
+use Rattle.wire.specs.declared.capture_fault.CaptureFault.TheVariants as capture
+
+abbrev pub frame_fault_number : FrameFault → ℕ
+frame_fault_number frame.FrameTooLong = 6
+frame_fault_number frame.Memory = 8
+frame_fault_number frame.ShortFrame = 9
+
+abbrev pub capture_fault_number : CaptureFault → ℕ
+capture_fault_number capture.BadMagic = 1
+capture_fault_number capture.BadVersion = 2
+capture_fault_number capture.BadLink = 3
+capture_fault_number (capture.CutHead record_number) = 4
+capture_fault_number (capture.CutFrame record_number) = 5
+capture_fault_number (capture.FrameTooLong record_number) = 6
+capture_fault_number capture.Device = 7
+capture_fault_number capture.Memory = 8

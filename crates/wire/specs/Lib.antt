@@ -1,0 +1,9 @@
+-- The definitions that the contracts of this crate cite, in reading order.
+pub mod FrameView
+pub mod FlowForm
+pub mod FlowBytes
+pub mod Checksum
+pub mod Fnv
+pub mod Device
+pub mod CaptureFormat
+pub mod FaultNumber

@@ -1,0 +1,95 @@
+//! The flow of a frame: who talks to whom, by which transport protocol.
+
+ghost use Rattle.std.specs.Prelude.{◌≡◌, ℕ, ◌+◌, ◌/◌, ◌%◌, ◌<◌, ◌↔◌, length, slice_index, IsSome, IfSome};
+ghost use Rattle.wire.specs.FlowForm.{be_word_at, flow_bytes_of, HasFlow};
+ghost use Rattle.wire.specs.FlowBytes.{protocol_number, be_bytes, flow_key_bytes};
+
+/// The transport protocols that a flow may have.
+#[derive(Clone, Copy, Debug, PartialEq, Eq)]
+pub enum Transport {
+    Tcp,
+    Udp,
+}
+
+impl Transport {
+    /// The protocol number in the IPv4 header.
+    pub fn number(self) -> u8
+        ensures { result ≡ protocol_number self }
+    {
+        match self {
+            Transport::Tcp => 6,
+            Transport::Udp => 17,
+        }
+    }
+}
+
+/// A flow: addresses and ports as they stand in the frame.
+#[derive(Clone, Copy, Debug, PartialEq, Eq)]
+pub struct FlowKey {
+    pub source: [u8; 4],
+    pub destination: [u8; 4],
+    pub source_port: u16,
+    pub destination_port: u16,
+    pub transport: Transport,
+}
+
+impl FlowKey {
+    /// The sixteen bytes of the key: source 4, destination 4, source port 2,
+    /// destination port 2 (high byte first), protocol 1, zeros 3.
+    pub fn bytes(&self) -> [u8; 16]
+        ensures { result ≡ flow_key_bytes self.now }
+    {
+        let [s0, s1, s2, s3] = self.source;
+        let [d0, d1, d2, d3] = self.destination;
+        let [p0, p1] = be_bytes(self.source_port);
+        let [q0, q1] = be_bytes(self.destination_port);
+        let protocol = self.transport.number();
+        [
+            s0, s1, s2, s3, d0, d1, d2, d3, p0, p1, q0, q1, protocol, 0, 0, 0,
+        ]
+    }
+}
+
+/// The two bytes of a number, high byte first.
+fn be_bytes(word: u16) -> [u8; 2]
+    ensures { result ≡ be_bytes word }
+{
+    [(word / 256) as u8, (word % 256) as u8]
+}
+
+/// The 16-bit number at an index, high byte first.
+fn word_at(bytes: &[u8], at: usize) -> u16
+    requires { at + 1 < length bytes.now }
+    ensures word { result ≡ be_word_at at bytes.now }
+    ensures high { result / 256 ≡ slice_index bytes.now at }
+    ensures low { result % 256 ≡ slice_index bytes.now (at + 1) }
+{
+    u16::from(bytes[at]) * 256 + u16::from(bytes[at + 1])
+}
+
+/// The flow of an Ethernet frame, where it holds a whole IPv4 datagram without
+/// options (RFC 791), no fragment, of TCP or UDP.
+pub fn flow_of(frame: &[u8]) -> Option<FlowKey>
+    ensures form { IsSome result ↔ HasFlow frame.now }
+    ensures key { IfSome result (λ key. flow_key_bytes key ≡ flow_bytes_of frame.now) }
+{
+    if frame.len() < 42 || frame[12] != 0x08 || frame[13] != 0x00 || frame[14] != 0x45 {
+        return None;
+    }
+    let total = usize::from(word_at(frame, 16));
+    if total < 28 || frame.len() < 14 + total || word_at(frame, 20) & 0x3fff != 0 {
+        return None;
+    }
+    let transport = match frame[23] {
+        6 => Transport::Tcp,
+        17 => Transport::Udp,
+        _ => return None,
+    };
+    Some(FlowKey {
+        source: [frame[26], frame[27], frame[28], frame[29]],
+        destination: [frame[30], frame[31], frame[32], frame[33]],
+        source_port: word_at(frame, 34),
+        destination_port: word_at(frame, 36),
+        transport,
+    })
+}

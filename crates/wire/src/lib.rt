@@ -1,0 +1,32 @@
+//! Ethernet frames with their headroom, flow keys, checksums, hashes and devices.
+#![tactic(auto)]
+
+mod capture_fault;
+mod capture_reader;
+#[cfg(test)]
+mod capture_tests;
+mod capture_writer;
+mod checksum;
+mod device;
+mod flow;
+mod frame_buffer;
+mod hash;
+mod memory;
+mod records;
+mod stream;
+#[cfg(test)]
+mod table_tests;
+mod transfer;
+
+pub use capture_fault::CaptureFault;
+pub use capture_reader::read_capture;
+pub use capture_writer::write_capture;
+pub use checksum::ones_sum;
+pub use device::{Failed, Sink, Source};
+pub use flow::{FlowKey, Transport, flow_of};
+pub use frame_buffer::{Frame, FrameFault};
+pub use hash::fnv1a64;
+pub use memory::{MemorySink, MemorySource};
+pub use records::{Capture, Sent};
+pub use stream::{StreamSink, StreamSource};
+pub use transfer::{ReadFault, read_all, write_all};

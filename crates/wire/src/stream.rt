@@ -1,0 +1,101 @@
+//! Files and the standard streams as devices, which do not tell their bytes.
+
+ghost use Rattle.std.specs.Prelude.{◌≡◌, ◌-◌, ◌^◌, ◌≤◌, None};
+
+use crate::device::{Failed, Sink, Source};
+use std::io::{Read, Write};
+
+/// The most bytes that a source gives.
+const MOST_GIVEN: u64 = 1 << 40;
+
+/// The failures of a new device.
+const NO_FAILURES: u64 = 0;
+
+/// A source of what a reader gives: a file or the standard input.
+///
+/// A call fails where the reader does, and once 2^40 bytes were given.
+#[derive(Drop)]
+pub struct StreamSource<R> {
+    reader: R,
+    given: u64,
+    failures: u64,
+    ghost bounded: { given ≤ 2 ^ 40 },
+}
+
+impl<R: Read> StreamSource<R> {
+    /// A source over a reader, with no failures.
+    pub fn new(reader: R) -> StreamSource<R>
+        ensures { result.failures ≡ 0 }
+    {
+        StreamSource {
+            reader,
+            given: 0,
+            failures: NO_FAILURES,
+        }
+    }
+}
+
+impl<R: Read> Source for StreamSource<R> {
+    ghost left = { λ _. None };
+
+    ghost most_left = { λ source. 2 ^ 40 - source.given };
+
+    ghost failure_count = { λ source. source.failures };
+
+    fn read(&mut self, buffer: &mut [u8]) -> Result<usize, Failed> {
+        let most = MOST_GIVEN - self.given;
+        if most >= buffer.len() as u64 {
+            if let Ok(count) = self.reader.read(buffer) {
+                self.given += count as u64;
+                return Ok(count);
+            }
+        }
+        self.failures += 1;
+        Err(Failed)
+    }
+
+    fn failures(&self) -> u64 {
+        self.failures
+    }
+}
+
+/// A sink into a writer: a file, the standard output or the standard error.
+///
+/// A call fails where the writer does, and where it takes none of the bytes given.
+#[derive(Drop)]
+pub struct StreamSink<W> {
+    writer: W,
+    failures: u64,
+}
+
+impl<W: Write> StreamSink<W> {
+    /// A sink over a writer, with no failures.
+    pub fn new(writer: W) -> StreamSink<W>
+        ensures { result.failures ≡ 0 }
+    {
+        StreamSink {
+            writer,
+            failures: NO_FAILURES,
+        }
+    }
+}
+
+impl<W: Write> Sink for StreamSink<W> {
+    ghost held = { λ _. None };
+
+    ghost failure_count = { λ sink. sink.failures };
+
+    fn write(&mut self, bytes: &[u8]) -> Result<usize, Failed> {
+        if let Ok(count) = self.writer.write(bytes) {
+            if count > 0 || bytes.is_empty() {
+                return Ok(count);
+            }
+        }
+        self.failures += 1;
+        Err(Failed)
+    }
+
+    fn failures(&self) -> u64 {
+        self.failures
+    }
+}
