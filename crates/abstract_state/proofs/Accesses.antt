@@ -1,0 +1,109 @@
+-- An access that breaks no rule lies inside what it goes to.
+use Rattle.std.proofs.Common.{◌≡◌, ℕ, ◌+◌, ◌-◌, ◌%◌, ◌^◌, ◌<◌, ◌≤◌, true, ◌==◌, nat_le, ℤ, pos, negsuc, List, length, take, drop, refl, sym, ◌∙◌, ap, arith, subst}
+use Rattle.std.specs.Prelude.{Ok, All, Option, Some, None, ◌+ℤ◌, slice_get}
+use Rattle.std.specs.List.{AllByRecursion}
+use Rattle.std.proofs.Math.IntN.{+ℤ_assoc}
+use Rattle.std.proofs.lemmas.Bool.{leb-true, eqb-true}
+use Rattle.std.proofs.lemmas.Bool.Decides.{nat_tests}
+use Rattle.std.proofs.lemmas.List.{length-take-le, length-drop}
+use Rattle.std.proofs.lemmas.List.Elements.{All-take, All-drop, recursion_from_All}
+use Rattle.ebpf_decode.specs.declared.map.MapDef.{MapDef}
+use Rattle.semantics.specs.LittleEndian.{number_of_bytes}
+use Rattle.semantics.specs.MachineState.{MachineState, StackByte}
+use Rattle.semantics.specs.Memory.{stack_range, stack_place, packet_range, cell_range, value_size_of_map}
+use Rattle.semantics.specs.Program.{Program}
+use Rattle.abstract_state.specs.declared.refusal.Refusal.{Refusal}
+use Rattle.abstract_state.specs.States.{◌>>=◌, value_size_of}
+use Rattle.abstract_state.specs.Places.{range_within, aligned, stack_access, value_access}
+use Rattle.abstract_state.proofs.Checking.{ok_then, ok_if}
+use Rattle.abstract_state.proofs.ByteNumbers.{reaches_within, bytes_below}
+
+pub range_found : (place : ℤ) (count limit : ℕ) (why : Refusal) (from : ℕ) → range_within place count limit why ≡ Ok from →
+    (place ≡ pos from) × (from + count ≤ limit)
+range_found (pos place) count limit why from e =
+    let test = ok_if (nat_le (place + count) limit) place from why e
+    in let same : place ≡ from = test.1
+    in let inside : place + count ≤ limit = leb-true (place + count) limit test.0
+    in (ap pos same, omega arith)
+range_found (negsuc below) count limit why from e = cc
+
+pub aligned_found : (place count from : ℕ) → aligned place count ≡ Ok from → (place ≡ from) × (place % count ≡ 0)
+aligned_found place count from e =
+    let test = ok_if (place % count == 0) place from _ e
+    in (test.1, eqb-true (place % count) 0 test.0)
+
+pub record IsAligned (place : ℤ) (count limit from : ℕ) : Type 0 where
+  pub at : place ≡ pos from
+  pub inside : from + count ≤ limit
+  pub multiple : from % count ≡ 0
+
+both_found : (place : ℤ) (count limit : ℕ) (why : Refusal) (from : ℕ) → (range_within place count limit why >>= (λ at. aligned at count)) ≡ Ok from →
+    IsAligned place count limit from
+both_found place count limit why from e =
+    let parts = ok_then (range_within place count limit why) (λ at. aligned at count) from e
+    in let range = range_found place count limit why parts.0 parts.1.0
+    in let multiple = aligned_found parts.0 count from parts.1.1
+    in let same : parts.0 ≡ from = multiple.0
+    in record {
+      at = range.0 ∙ ap pos same;
+      inside = subst (λ at. at + count ≤ limit) same range.1;
+      multiple = subst (λ at. at % count ≡ 0) same multiple.1;
+    }
+
+pub stack_found : (place : ℕ) (distance : ℤ) (count from : ℕ) → stack_access place distance count ≡ Ok from → IsAligned (pos place +ℤ distance) count 512 from
+stack_found place distance count from e = both_found (pos place +ℤ distance) count 512 _ from e
+
+pub value_found : (maps : List MapDef) (map off : ℕ) (distance : ℤ) (count from : ℕ) → value_access maps map off distance count ≡ Ok from →
+    IsAligned (pos off +ℤ distance) count (value_size_of (slice_get maps map)) from
+value_found maps map off distance count from e = both_found (pos off +ℤ distance) count (value_size_of (slice_get maps map)) _ from e
+
+-- ---- the same places, as a run counts them
+
+pub stack_reached : (stack : List StackByte) (place : ℤ) (from count : ℕ) → length stack ≡ 512 → place ≡ pos from → from + count ≤ 512 →
+    stack_range stack place count ≡ Ok from
+stack_reached stack place from count long at inside = rw (at, reaches_within (from + count) stack (omega arith)) refl
+
+-- a distance from a pointer
+pub stack_moved : (at distance : ℤ) (place : ℕ) → stack_place at ≡ pos place → stack_place (at +ℤ distance) ≡ pos place +ℤ distance
+stack_moved at distance place counted = sym (+ℤ_assoc (pos 512) at distance) ∙ ap (λ z. z +ℤ distance) counted
+
+pub packet_moved : (base off from : ℕ) (distance : ℤ) → pos off +ℤ distance ≡ pos from → pos (base + off) +ℤ distance ≡ pos (base + from)
+packet_moved base off from distance at = +ℤ_assoc (pos base) (pos off) distance ∙ ap (λ z. pos base +ℤ z) at
+
+itself : (n : ℕ) → (n == n) ≡ true
+itself n = grind (arith, nat_tests)
+
+pub packet_reached : (machine : MachineState) (place : ℤ) (from count : ℕ) → place ≡ pos from → from + count ≤ length machine.frame.bytes →
+    packet_range machine machine.generation place count ≡ Ok from
+packet_reached machine place from count at inside =
+    rw (at, itself machine.generation, reaches_within (from + count) machine.frame.bytes inside) refl
+
+pub frame_number : (bytes : List ℕ) (from count : ℕ) → All (λ byte. byte < 256) bytes → from + count ≤ length bytes →
+    number_of_bytes (take count (drop from bytes)) < 256 ^ count
+frame_number bytes from count small inside =
+    let long : length (drop from bytes) ≡ length bytes - from = length-drop from bytes
+    in let taken : length (take count (drop from bytes)) ≡ count = length-take-le count (drop from bytes) (omega arith)
+    in let each : AllByRecursion (λ byte. byte < 256) (take count (drop from bytes)) =
+    recursion_from_All (λ byte. byte < 256) (take count (drop from bytes)) (All-take (λ byte. byte < 256) count (drop from bytes) (All-drop (λ byte. byte < 256) from bytes small))
+    in subst (λ n. number_of_bytes (take count (drop from bytes)) < 256 ^ n) taken (bytes_below (take count (drop from bytes)) each)
+
+-- ---- values of maps
+
+same_size : (program : Program) (map : ℕ) (found : Option MapDef) → slice_get program.maps map ≡ found → value_size_of_map program map ≡ value_size_of found
+same_size program map (Some definition) e = rw e refl
+same_size program map None e = rw e refl
+
+pub map_value_size : (program : Program) (map : ℕ) → value_size_of_map program map ≡ value_size_of (slice_get program.maps map)
+map_value_size program map = same_size program map (slice_get program.maps map) refl
+
+within_true : (a b : ℕ) → a ≤ b → nat_le a b ≡ true
+within_true a b h = grind (arith, nat_tests)
+
+zero_true : (a : ℕ) → a ≡ 0 → (a == 0) ≡ true
+zero_true a h = grind (arith, nat_tests)
+
+pub cell_reached : (program : Program) (map : ℕ) (place : ℤ) (from count : ℕ) → IsAligned place count (value_size_of (slice_get program.maps map)) from →
+    cell_range program map place count ≡ Ok from
+cell_reached program map place from count found =
+    let inside : from + count ≤ value_size_of_map program map = rw (map_value_size program map) found.inside
+    in rw (found.at, within_true (from + count) (value_size_of_map program map) inside, zero_true (from % count) found.multiple) refl

@@ -1,0 +1,5 @@
+use Rattle.abstract_state.proofs.JoinStates.{join_sound}
+use Rattle.abstract_state.proofs.laws.join_is_sound.Goals as goal
+
+pub returns : goal.returns
+returns c = join_sound

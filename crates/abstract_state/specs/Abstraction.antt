@@ -1,0 +1,158 @@
+-- What a state says of a run: what the kinds of its registers and the words of its stack stand for (abstract interpretation:
+-- the run's state lies in the concretization).
+use Rattle.std.specs.Prelude.{◌≡◌, ◌⊎◌, ℕ, ◌+◌, ◌*◌, ◌<◌, ◌≤◌, ◌^◌, Bool, true, false, ℤ, pos, List, length, take, drop, All, IsTrue, Option, Some, None, Ok, slice_get, slice_index_or}
+use Rattle.isa.specs.declared.operation.Register.{Register}
+use Rattle.isa.specs.declared.operation.Size.TheVariants.{U64}
+use Rattle.ebpf_decode.specs.declared.map.MapDef.{MapDef}
+use Rattle.semantics.specs.declared.call.CellRef.{CellRef}
+use Rattle.semantics.specs.RegisterValue.{RegisterValue, Number, ContextPointer, StackPointer, PacketPointer, MapPointer, CellPointer}
+use Rattle.semantics.specs.RegisterValue as meaning
+use Rattle.semantics.specs.MachineState.{StackByte, Unwritten, Written, MachineState, register_value}
+use Rattle.semantics.specs.Memory.{stack_place}
+use Rattle.semantics.specs.Semantics.{stored_places}
+use Rattle.abstract_scalar.specs.declared.interval.Interval.{Interval}
+use Rattle.abstract_scalar.specs.Intervals.{Covers}
+use Rattle.abstract_state.specs.declared.kind.Kind.{Kind}
+use Rattle.abstract_state.specs.declared.kind.Kind.TheVariants.{Unset, Scalar, Ctx, Stack, Packet, PacketEnd, Map, ValueOrNull, Value}
+use Rattle.abstract_state.specs.declared.kind.StackWord.{StackWord}
+use Rattle.abstract_state.specs.declared.kind.StackWord.TheVariants.{Spilled, Bytes}
+use Rattle.abstract_state.specs.declared.state.State.{State}
+use Rattle.abstract_state.specs.States.{kind_of, word_of}
+
+-- ---- what the ids of a state stand for
+
+pub record Ids : Type 0 where
+  -- the place of the packet that an id counts from
+  pub base : ℕ → ℕ
+  -- what the lookup of an id found
+  pub found : ℕ → Option CellRef
+
+-- which cells are held, by map, shard and cell id
+abbrev pub Held : Type 0
+Held = ℕ → ℕ → ℕ → Bool
+
+-- what a kind may speak of: the maps, what is held, the ids, the slot of the next instruction, and the packet as it now is
+pub record Setting : Type 0 where
+  pub maps : List MapDef
+  pub held : Held
+  pub ids : Ids
+  pub slot : ℕ
+  pub generation : ℕ
+  pub size : ℕ
+
+-- ---- values
+
+-- a number of the interval
+pub record IsNumberIn (i : Interval) (value : RegisterValue) : Type 0 where
+  pub number : ℕ
+  pub is : value ≡ Number number
+  pub within : Covers i number
+  pub word : number < 2 ^ 64
+
+-- a place of the stack, counted from the lowest
+pub record IsStackPlace (place : ℕ) (value : RegisterValue) : Type 0 where
+  pub at : ℤ
+  pub is : value ≡ StackPointer at
+  pub counted : stack_place at ≡ pos place
+
+-- a place past the base of an id of an earlier slot; the range from there lies in the packet
+pub record IsPacketPlace (setting : Setting) (id off range : ℕ) (value : RegisterValue) : Type 0 where
+  pub is : value ≡ PacketPointer setting.generation (pos (setting.ids.base id + off))
+  pub reached : 0 < range → setting.ids.base id + range ≤ setting.size
+  pub earlier : id < setting.slot
+  -- an offset past a base has 16 bits
+  pub near : off ≤ 65535
+
+pub record IsKnownMap (setting : Setting) (map : ℕ) (value : RegisterValue) : Type 0 where
+  pub is : value ≡ MapPointer map
+  pub definition : MapDef
+  pub known : slice_get setting.maps map ≡ Some definition
+
+-- a byte of a cell that the lookup of an earlier slot found, and that is held
+pub record IsLiveCell (setting : Setting) (map id off : ℕ) (value : RegisterValue) : Type 0 where
+  pub cell : CellRef
+  pub found : setting.ids.found id ≡ Some cell
+  pub is : value ≡ CellPointer map cell.shard cell.id (pos off)
+  pub held : IsTrue (setting.held map cell.shard cell.id)
+  pub earlier : id < setting.slot
+
+-- what a lookup of an earlier slot found: 0, or a cell that is held
+pub record IsNoCell (setting : Setting) (id : ℕ) (value : RegisterValue) : Type 0 where
+  pub found : setting.ids.found id ≡ None
+  pub is : value ≡ Number 0
+  pub earlier : id < setting.slot
+
+abbrev pub IsLookedUp : Setting → ℕ → ℕ → RegisterValue → Type 0
+IsLookedUp setting map id value = IsNoCell setting id value ⊎ IsLiveCell setting map id 0 value
+
+-- the value is one that the kind stands for
+abbrev pub KindCovers : Setting → Kind → RegisterValue → Type 0
+KindCovers setting Unset value = Unit {0}
+KindCovers setting (Scalar i) value = IsNumberIn i value
+KindCovers setting Ctx value = value ≡ ContextPointer
+KindCovers setting (Stack place) value = IsStackPlace place value
+KindCovers setting (Packet id off range) value = IsPacketPlace setting id off range value
+KindCovers setting PacketEnd value = value ≡ meaning.PacketEnd setting.generation
+KindCovers setting (Map map) value = IsKnownMap setting map value
+KindCovers setting (ValueOrNull map id) value = IsLookedUp setting map id value
+KindCovers setting (Value map id off) value = IsLiveCell setting map id off value
+
+-- ---- the stack
+
+-- a place that holds a byte
+pub record IsByte (place : StackByte) : Type 0 where
+  pub byte : ℕ
+  pub is : place ≡ Written byte
+  pub small : byte < 256
+
+-- eight places hold what a store of a value of this kind leaves
+pub record IsSpilled (setting : Setting) (kind : Kind) (places : List StackByte) : Type 0 where
+  pub value : RegisterValue
+  pub covered : KindCovers setting kind value
+  pub stored : stored_places value U64 ≡ Ok places
+
+-- the bytes that are set were written
+abbrev pub AreWritten : List Bool → List StackByte → Type 0
+AreWritten set places = (k : ℕ) → slice_index_or set k false ≡ true → IsByte (slice_index_or places k Unwritten)
+
+abbrev pub WordCovers : Setting → StackWord → List StackByte → Type 0
+WordCovers setting (Spilled kind) places = IsSpilled setting kind places
+WordCovers setting (Bytes set) places = AreWritten set places
+
+-- the eight places of a word
+abbrev pub places_of : ℕ → List StackByte → List StackByte
+places_of word stack = take 8 (drop (8 * word) stack)
+
+-- ---- states
+
+abbrev pub setting_of : List MapDef → Held → Ids → MachineState → Setting
+setting_of maps held ids machine = record {
+  maps = maps;
+  held = held;
+  ids = ids;
+  slot = machine.slot;
+  generation = machine.generation;
+  size = length machine.frame.bytes;
+}
+
+-- the lists have their lengths, and numbers their ranges, whatever is known
+pub record IsMachine (state : State) (machine : MachineState) : Type 0 where
+  pub eleven : length machine.registers ≡ 11
+  pub eleven_kinds : length state.registers ≡ 11
+  pub stack_size : length machine.stack ≡ 512
+  pub word_count : length state.stack ≡ 64
+  pub worker : machine.worker < 8
+  pub time : machine.now < 2 ^ 64
+  pub frame : All (λ byte. byte < 256) machine.frame.bytes
+
+-- the state is sound for the run's state
+pub record Abstracts (maps : List MapDef) (held : Held) (state : State) (machine : MachineState) : Type 0 where
+  pub ids : Ids
+  pub registers : (register : Register) →
+      KindCovers (setting_of maps held ids machine) (kind_of state register) (register_value machine register)
+  pub stack : (word : ℕ) → word < 64 →
+      WordCovers (setting_of maps held ids machine) (word_of state word) (places_of word machine.stack)
+  pub start : 0 < state.start_range → state.start_range ≤ length machine.frame.bytes
+  -- each addition moves a base by less than twice 2 ^ 16
+  pub bases : (id : ℕ) → ids.base id ≤ 131070 * id
+  pub is_machine : IsMachine state machine

@@ -1,0 +1,110 @@
+-- Calls of helpers on kinds (RFC 9669, section 4.3.1; numbers as in bpf(2)).
+use Rattle.std.specs.Prelude.{ℕ, ◌+◌, ◌==◌, Bool, true, false, ◌&&◌, ℤ, pos, negsuc, nat_le, List, ◌∷◌, Ok, Err, drop, slice_get, if◌then◌else◌}
+use Rattle.isa.specs.declared.operation.Register.{Register}
+use Rattle.isa.specs.declared.operation.Register.TheVariants.{R1, R2, R3, R4}
+use Rattle.ebpf_decode.specs.declared.map.MapDef.{MapDef}
+use Rattle.abstract_scalar.specs.Intervals.{interval_of, full_of}
+use Rattle.abstract_state.specs.declared.kind.Kind.{Kind}
+use Rattle.abstract_state.specs.declared.kind.Kind.TheVariants.{Unset, Scalar, Ctx, Stack, Map, ValueOrNull}
+use Rattle.abstract_state.specs.declared.helper.Helper.{Helper}
+use Rattle.abstract_state.specs.declared.helper.Helper.TheVariants.{LookupElem, UpdateElem, DeleteElem, KtimeGetNs, GetSmpProcessorId, AdjustHead}
+use Rattle.abstract_state.specs.declared.fact.Fact.TheVariants.{HeadMoved}
+use Rattle.abstract_state.specs.declared.refusal.Refusal.{Refusal}
+use Rattle.abstract_state.specs.declared.refusal.Refusal.TheVariants.{BadArgument, UnknownHelper, StackBounds, StackUnset}
+use Rattle.abstract_state.specs.declared.state.State.{State}
+use Rattle.abstract_state.specs.States.{Checked, ◌>>=◌, kind_of, stack_bytes, value_size_of, key_size_of}
+use Rattle.abstract_state.specs.Words.{are_bytes_set}
+use Rattle.abstract_state.specs.Facts.{told}
+
+-- ---- which helpers there are
+
+-- Linux's numbers
+abbrev pub helper_at : ℤ → Checked Helper
+helper_at (pos number) =
+    if number == 1 then Ok LookupElem
+    else (if number == 2 then Ok UpdateElem
+    else (if number == 3 then Ok DeleteElem
+    else (if number == 5 then Ok KtimeGetNs
+    else (if number == 8 then Ok GetSmpProcessorId
+    else (if number == 44 then Ok AdjustHead
+    else Err UnknownHelper)))))
+helper_at (negsuc below) = Err UnknownHelper
+
+-- the helpers that programs may call as yet
+abbrev pub is_served : Helper → Bool
+is_served LookupElem = true
+is_served UpdateElem = false
+is_served DeleteElem = false
+is_served KtimeGetNs = true
+is_served GetSmpProcessorId = true
+is_served AdjustHead = false
+
+abbrev pub served_helper : ℤ → Checked Helper
+served_helper number = helper_at number >>= (λ helper. if is_served helper then Ok helper else Err UnknownHelper)
+
+-- ---- arguments, of which R1 is the first
+
+abbrev pub map_argument : Kind → Register → Checked ℕ
+map_argument (Map map) register = Ok map
+map_argument other register = Err (BadArgument register)
+
+abbrev pub stack_argument : Kind → Register → Checked ℕ
+stack_argument (Stack place) register = Ok place
+stack_argument other register = Err (BadArgument register)
+
+abbrev pub number_argument : Kind → Register → Checked (Unit {0})
+number_argument (Scalar i) register = Ok tt
+number_argument other register = Err (BadArgument register)
+
+abbrev pub context_argument : Kind → Register → Checked (Unit {0})
+context_argument Ctx register = Ok tt
+context_argument other register = Err (BadArgument register)
+
+-- so many bytes of the stack lie inside it
+abbrev pub is_inside_stack : ℕ → ℕ → Bool
+is_inside_stack place count = nat_le (place + count) stack_bytes
+
+abbrev pub when_all : Bool → Refusal → Checked (Unit {0})
+when_all holds why = if holds then Ok tt else Err why
+
+-- a key alone, as a lookup or a deletion takes it
+abbrev pub key_arguments : List MapDef → State → Checked ℕ
+key_arguments maps state =
+    map_argument (kind_of state R1) R1 >>= (λ map.
+    stack_argument (kind_of state R2) R2 >>= (λ key.
+    when_all (is_inside_stack key (key_size_of (slice_get maps map))) StackBounds >>= (λ _.
+    when_all (are_bytes_set state key (key_size_of (slice_get maps map))) StackUnset >>= (λ _.
+    Ok map))))
+
+-- a key and a value, as an update takes them: both are inside the stack before the bytes of either are looked at
+abbrev pub update_arguments : List MapDef → State → Checked ℕ
+update_arguments maps state =
+    map_argument (kind_of state R1) R1 >>= (λ map.
+    stack_argument (kind_of state R2) R2 >>= (λ key.
+    stack_argument (kind_of state R3) R3 >>= (λ value.
+    number_argument (kind_of state R4) R4 >>= (λ _.
+    when_all (is_inside_stack key (key_size_of (slice_get maps map)) && is_inside_stack value (value_size_of (slice_get maps map)))
+    StackBounds >>= (λ _.
+    when_all (are_bytes_set state key (key_size_of (slice_get maps map)) && are_bytes_set state value (value_size_of (slice_get maps map)))
+    StackUnset >>= (λ _.
+    Ok map))))))
+
+abbrev pub head_arguments : State → Checked (Unit {0})
+head_arguments state = context_argument (kind_of state R1) R1 >>= (λ _. number_argument (kind_of state R2) R2)
+
+-- ---- what a call leaves
+
+-- R0 has the answer, and R1 to R5 nothing
+abbrev pub returned : Kind → State → State
+returned answer state = record state { registers = answer ∷ Unset ∷ Unset ∷ Unset ∷ Unset ∷ Unset ∷ drop 6 state.registers }
+
+abbrev pub any_number : Kind
+any_number = Scalar (full_of 64)
+
+abbrev pub call_of : List MapDef → State → ℕ → Helper → Checked State
+call_of maps state slot LookupElem = key_arguments maps state >>= (λ map. Ok (returned (ValueOrNull map slot) state))
+call_of maps state slot UpdateElem = update_arguments maps state >>= (λ _. Ok (returned any_number state))
+call_of maps state slot DeleteElem = key_arguments maps state >>= (λ _. Ok (returned any_number state))
+call_of maps state slot KtimeGetNs = Ok (returned any_number state)
+call_of maps state slot GetSmpProcessorId = Ok (returned (Scalar (interval_of 0 7)) state)
+call_of maps state slot AdjustHead = head_arguments state >>= (λ _. Ok (returned any_number (told HeadMoved state)))

@@ -1,0 +1,13 @@
+pub mod States
+pub mod Join
+pub mod Places
+pub mod Arithmetic
+pub mod Facts
+pub mod Refinement
+pub mod Words
+pub mod Access
+pub mod Calls
+pub mod Unary
+pub mod Flow
+pub mod Abstraction
+pub mod Soundness

@@ -1,0 +1,249 @@
+//! Loads, stores and atomic operations.
+
+ghost use Rattle.std.specs.Prelude.{◌≡◌, ◌<◌, ◌≤◌, ◌+◌, ◌%◌};
+ghost use Rattle.ebpf_decode.specs.InstructionCodes.{extension_size};
+ghost use Rattle.abstract_scalar.specs.Intervals.{full_of};
+ghost use Rattle.semantics.specs.Memory.{size_bytes};
+ghost use Rattle.abstract_state.specs.Words.{loaded_number, is_byte_set, are_bytes_set, bytes_loaded, narrow_loaded, spilled_loaded, word_loaded, narrow_storable, storable};
+ghost use Rattle.abstract_state.specs.Access.{are_value_writes_served, context_kind, context_loaded, loaded_kind, signed_loaded, stack_stored, stored};
+
+use crate::kind::{Kind, StackWord};
+use crate::places::{packet_access, stack_access, value_access};
+use crate::refusal::Refusal;
+use crate::stack::size_bytes;
+use crate::state::State;
+use abstract_scalar::Interval;
+use ebpf_decode::MapDef;
+use isa::{Extension, Register, Size, Width};
+
+/// Whether programs may store to values of maps as yet.
+pub(crate) fn are_value_writes_served() -> bool
+    ensures { result ≡ are_value_writes_served }
+{
+    false
+}
+
+/// Every number that a zero-extending load gives.
+fn loaded_number(size: Size) -> Kind
+    ensures { result ≡ loaded_number size }
+{
+    Kind::Scalar(Interval::loaded(size))
+}
+
+/// What a narrower load of a spilled register gives.
+fn narrow_loaded(size: Size, kind: Kind) -> Result<Kind, Refusal>
+    ensures { result ≡ narrow_loaded size kind }
+{
+    match kind {
+        Kind::Scalar(_) => Ok(loaded_number(size)),
+        _ => Err(Refusal::PointerLeak),
+    }
+}
+
+/// What a load of a spilled register gives.
+fn spilled_loaded(size: Size, kind: Kind) -> Result<Kind, Refusal>
+    ensures { result ≡ spilled_loaded size kind }
+{
+    match size {
+        Size::U64 => Ok(kind),
+        _ => narrow_loaded(size, kind),
+    }
+}
+
+/// Whether what is stored is a number.
+pub(crate) fn narrow_storable(kind: Kind) -> Result<(), Refusal>
+    ensures { result ≡ narrow_storable kind }
+{
+    match kind {
+        Kind::Scalar(_) => Ok(()),
+        _ => Err(Refusal::PointerLeak),
+    }
+}
+
+/// Whether a store of the size may put this on the stack: any register whole, and a part of a number.
+fn storable(size: Size, kind: Kind) -> Result<(), Refusal>
+    ensures { result ≡ storable size kind }
+{
+    match size {
+        Size::U64 => Ok(()),
+        _ => narrow_storable(kind),
+    }
+}
+
+/// How many bytes a sign-extending load reads.
+fn extension_size(extension: Extension) -> Size
+    ensures { result ≡ extension_size extension }
+{
+    match extension {
+        Extension::I8 => Size::U8,
+        Extension::I16 => Size::U16,
+        Extension::I32 => Size::U32,
+    }
+}
+
+impl State {
+    /// Whether a byte of the stack was written, and is no part of a pointer.
+    fn is_byte_set(&self, place: usize) -> bool
+        requires { place < 512 }
+        ensures { result ≡ is_byte_set self.now place }
+    {
+        let set = self.stack[place / 8].bytes();
+        set[place % 8]
+    }
+
+    /// Whether so many bytes of the stack were written, from a place on.
+    #[tactic(auto, using(crate::proofs::BytesLemmas::after_set_byte, crate::proofs::BytesLemmas::unset_byte, crate::proofs::BytesLemmas::no_byte_left))]
+    pub(crate) fn are_bytes_set(&self, place: usize, count: usize) -> bool
+        requires { place + count ≤ 512 }
+        ensures { result ≡ are_bytes_set self.now place count }
+    {
+        'bytes: for i in 0..count {
+            if !self.is_byte_set(place + i) {
+                return false;
+            }
+        }
+        true
+    }
+
+    /// A field of the context.
+    fn context_kind(&self, place: i16) -> Result<Kind, Refusal>
+        ensures { result ≡ context_kind self.now place }
+    {
+        match place {
+            0 => Ok(Kind::Packet {
+                id: 0,
+                off: 0,
+                range: self.start_range,
+            }),
+            4 => Ok(Kind::PacketEnd),
+            12 => Ok(Kind::Scalar(Interval::constant(1))),
+            16 => Ok(Kind::Scalar(Interval::up_to(7))),
+            _ => Err(Refusal::ContextAccess),
+        }
+    }
+
+    /// What a load from the context gives: only words of four bytes can be read.
+    fn context_loaded(&self, size: Size, place: i16) -> Result<Kind, Refusal>
+        ensures { result ≡ context_loaded self.now size place }
+    {
+        match size {
+            Size::U32 => self.context_kind(place),
+            _ => Err(Refusal::ContextAccess),
+        }
+    }
+
+    /// What a load from a word of the stack gives.
+    fn word_loaded(&self, size: Size, from: usize, word: StackWord) -> Result<Kind, Refusal>
+        requires { from + size_bytes size ≤ 512 }
+        ensures { result ≡ word_loaded self.now size from word }
+    {
+        match word {
+            StackWord::Spilled(kind) => spilled_loaded(size, kind),
+            StackWord::Bytes(_) => {
+                if self.are_bytes_set(from, size_bytes(size) as usize) {
+                    Ok(loaded_number(size))
+                } else {
+                    Err(Refusal::StackUnset)
+                }
+            }
+        }
+    }
+
+    /// What a zero-extending load gives (RFC 9669, section 5.1), at a distance from what a register holds.
+    pub(crate) fn loaded(
+        &self,
+        maps: &[MapDef],
+        size: Size,
+        kind: Kind,
+        distance: i16,
+        source: Register,
+    ) -> Result<Kind, Refusal>
+        ensures { result ≡ loaded_kind maps.now self.now size kind distance source }
+    {
+        let count = size_bytes(size);
+        match kind {
+            Kind::Ctx => self.context_loaded(size, distance),
+            Kind::Stack(place) => {
+                let from = stack_access(place, distance, count)? as usize;
+                self.word_loaded(size, from, self.stack[from / 8])
+            }
+            Kind::Packet { off, range, .. } => {
+                packet_access(off, range, distance, count)?;
+                Ok(loaded_number(size))
+            }
+            Kind::Value { map, off, .. } => {
+                value_access(maps, map, off, distance, count)?;
+                Ok(loaded_number(size))
+            }
+            _ => Err(Refusal::WrongKind(source)),
+        }
+    }
+
+    /// What a sign-extending load gives (RFC 9669, section 5.2).
+    pub(crate) fn signed_loaded(
+        &self,
+        maps: &[MapDef],
+        extension: Extension,
+        kind: Kind,
+        distance: i16,
+        source: Register,
+    ) -> Result<Kind, Refusal>
+        ensures { result ≡ signed_loaded maps.now self.now extension kind distance source }
+    {
+        match kind {
+            Kind::Ctx => Err(Refusal::ContextAccess),
+            _ => {
+                self.loaded(maps, extension_size(extension), kind, distance, source)?;
+                Ok(Kind::Scalar(Interval::full(Width::Bits64)))
+            }
+        }
+    }
+
+    /// The state after a store to the stack.
+    fn stack_stored(mut self, size: Size, from: usize, kind: Kind) -> State
+        requires within { (from % 8) + size_bytes size ≤ 8 }
+        requires inside { from < 512 }
+        ensures { result ≡ stack_stored self size from kind }
+    {
+        self.stack[from / 8] = self.stack[from / 8].stored(size, from % 8, kind);
+        self
+    }
+
+    /// The state after a store at a distance from what a register holds (RFC 9669, section 5.1): the place is tested first, and
+    /// then what is stored.
+    pub(crate) fn stored(
+        self,
+        maps: &[MapDef],
+        size: Size,
+        address: Kind,
+        distance: i16,
+        dst: Register,
+        kind: Kind,
+    ) -> Result<State, Refusal>
+        ensures { result ≡ stored maps.now self size address distance dst kind }
+    {
+        let count = size_bytes(size);
+        match address {
+            Kind::Ctx => Err(Refusal::ContextAccess),
+            Kind::Stack(place) => {
+                let from = stack_access(place, distance, count)? as usize;
+                storable(size, kind)?;
+                Ok(self.stack_stored(size, from, kind))
+            }
+            Kind::Packet { off, range, .. } => {
+                packet_access(off, range, distance, count)?;
+                narrow_storable(kind)?;
+                Ok(self)
+            }
+            Kind::Value { map, off, .. } => {
+                if !are_value_writes_served() {
+                    return Err(Refusal::WrongKind(dst));
+                }
+                value_access(maps, map, off, distance, count)?;
+                narrow_storable(kind)?;
+                Ok(self)
+            }
+            _ => Err(Refusal::WrongKind(dst)),
+        }
+    }
+}

@@ -1,0 +1,262 @@
+//! What arithmetic makes of kinds.
+
+ghost use Rattle.std.specs.Prelude.{◌≡◌, ◌^◌, pos, neg_ℤ, true};
+ghost use Rattle.std.specs.Int.RustNames.{int_le};
+ghost use Rattle.isa.specs.Words.{signed_value};
+ghost use Rattle.abstract_scalar.specs.Transfer.{transfer_of};
+ghost use Rattle.abstract_state.specs.Arithmetic.{source_kind, blamed, number_kind, moved_kind, distance_of, moves_pointers, moved_pointer, moved_far, pointer_sum, is_movable, combined_pointer, combined_kind, alu_kind, after_alu_of};
+
+use crate::kind::Kind;
+use crate::places::{STACK_BYTES, place_within, value_size};
+use crate::refusal::Refusal;
+use crate::state::State;
+use abstract_scalar::Interval;
+use ebpf_decode::MapDef;
+use isa::{AluOp, Register, Source, Width};
+
+/// The register that a source of a wrong kind is blamed on; with an immediate that is the destination.
+pub(crate) fn blamed(dst: Register, source: Source) -> Register
+    ensures { result ≡ blamed dst source }
+{
+    match source {
+        Source::Imm(_) => dst,
+        Source::Reg(register) => register,
+    }
+}
+
+/// A move of 64 bits copies any kind, one of 32 bits a number.
+fn moved(width: Width, kind: Kind, source: Register) -> Result<Kind, Refusal>
+    ensures { result ≡ moved_kind width kind source }
+{
+    match (kind, width) {
+        (Kind::Scalar(i), _) => Ok(Kind::Scalar(abstract_scalar::transfer(
+            width,
+            AluOp::Mov,
+            i,
+            i,
+        ))),
+        (_, Width::Bits64) => Ok(kind),
+        (_, Width::Bits32) => Err(Refusal::WrongKind(source)),
+    }
+}
+
+/// How far a number moves a pointer: read as signed.
+fn distance(op: AluOp, n: u64) -> i128
+    ensures { result ≡ distance_of op n }
+{
+    match op {
+        AluOp::Sub => -i128::from(n.cast_signed()),
+        _ => i128::from(n.cast_signed()),
+    }
+}
+
+/// Whether the operation moves pointers.
+fn moves_pointers(width: Width, op: AluOp) -> bool
+    ensures { result ≡ moves_pointers width op }
+{
+    matches!(
+        (width, op),
+        (Width::Bits64, AluOp::Add) | (Width::Bits64, AluOp::Sub)
+    )
+}
+
+/// A pointer moved by a single number.
+fn moved_pointer(
+    maps: &[MapDef],
+    pointer: Kind,
+    distance: i128,
+    dst: Register,
+) -> Result<Kind, Refusal>
+    requires { (int_le (neg_ℤ (pos (2 ^ 64))) distance ≡ true) × (int_le distance (pos (2 ^ 64)) ≡ true) }
+    ensures { result ≡ moved_pointer maps.now pointer distance dst }
+{
+    match pointer {
+        Kind::Stack(place) => {
+            let to = place_within(
+                i128::from(place) + distance,
+                STACK_BYTES,
+                Refusal::StackBounds,
+            )?;
+            Ok(Kind::Stack(to as u16))
+        }
+        Kind::Packet { id, off, range } => {
+            let to = place_within(i128::from(off) + distance, 65535, Refusal::PacketBounds)?;
+            Ok(Kind::Packet {
+                id,
+                off: to as u16,
+                range,
+            })
+        }
+        Kind::Value { map, id, off } => {
+            let size = value_size(maps, map);
+            let off = place_within(i128::from(off) + distance, size, Refusal::ValueBounds)?;
+            Ok(Kind::Value { map, id, off })
+        }
+        _ => Err(Refusal::WrongKind(dst)),
+    }
+}
+
+/// A pointer moved by a number of which only an interval is known: a packet pointer gets a base of its own, of which no range
+/// is known.
+fn moved_far(
+    slot: u16,
+    op: AluOp,
+    pointer: Kind,
+    i: Interval,
+    source: Register,
+) -> Result<Kind, Refusal>
+    ensures { result ≡ moved_far slot op pointer i source }
+{
+    match (op, pointer) {
+        (AluOp::Add, Kind::Packet { .. }) => {
+            if i.high <= 65535 {
+                Ok(Kind::Packet {
+                    id: slot,
+                    off: 0,
+                    range: 0,
+                })
+            } else {
+                Err(Refusal::PacketBounds)
+            }
+        }
+        _ => Err(Refusal::WrongKind(source)),
+    }
+}
+
+/// A pointer moved by what another register holds.
+fn pointer_sum(
+    maps: &[MapDef],
+    slot: u16,
+    op: AluOp,
+    pointer: Kind,
+    other: Kind,
+    dst: Register,
+    source: Register,
+) -> Result<Kind, Refusal>
+    ensures { result ≡ pointer_sum maps.now slot op pointer other dst source }
+{
+    match other {
+        Kind::Scalar(i) => {
+            if i.is_constant() {
+                moved_pointer(maps, pointer, distance(op, i.low), dst)
+            } else {
+                moved_far(slot, op, pointer, i, source)
+            }
+        }
+        _ => Err(Refusal::WrongKind(source)),
+    }
+}
+
+/// Whether a pointer of the kind can be moved.
+fn is_movable(kind: Kind) -> bool
+    ensures { result ≡ is_movable kind }
+{
+    matches!(
+        kind,
+        Kind::Stack(_) | Kind::Packet { .. } | Kind::Value { .. }
+    )
+}
+
+/// An operation whose first operand is a pointer.
+fn combined_pointer(
+    maps: &[MapDef],
+    slot: u16,
+    width: Width,
+    op: AluOp,
+    pointer: Kind,
+    other: Kind,
+    dst: Register,
+    source: Register,
+) -> Result<Kind, Refusal>
+    ensures { result ≡ combined_pointer maps.now slot width op pointer other dst source }
+{
+    if moves_pointers(width, op) && is_movable(pointer) {
+        pointer_sum(maps, slot, op, pointer, other, dst, source)
+    } else {
+        Err(Refusal::WrongKind(dst))
+    }
+}
+
+/// An operation that reads its destination.
+fn combined(
+    maps: &[MapDef],
+    slot: u16,
+    width: Width,
+    op: AluOp,
+    first: Kind,
+    second: Kind,
+    dst: Register,
+    source: Register,
+) -> Result<Kind, Refusal>
+    ensures { result ≡ combined_kind maps.now slot width op first second dst source }
+{
+    match first {
+        Kind::Scalar(i) => match second {
+            Kind::Scalar(j) => Ok(Kind::Scalar(abstract_scalar::transfer(width, op, i, j))),
+            _ => Err(Refusal::WrongKind(source)),
+        },
+        _ => combined_pointer(maps, slot, width, op, first, second, dst, source),
+    }
+}
+
+/// The kind of what an arithmetic operation leaves in its destination.
+fn alu_kind(
+    maps: &[MapDef],
+    slot: u16,
+    width: Width,
+    op: AluOp,
+    first: Kind,
+    second: Kind,
+    dst: Register,
+    source: Register,
+) -> Result<Kind, Refusal>
+    ensures { result ≡ alu_kind maps.now slot width op first second dst source }
+{
+    match op {
+        AluOp::Mov => moved(width, second, source),
+        _ => combined(maps, slot, width, op, first, second, dst, source),
+    }
+}
+
+impl State {
+    /// What is known of a second operand: an immediate is a single number, sign-extended to 64 bits.
+    pub(crate) fn source(&self, source: Source) -> Kind
+        ensures { result ≡ source_kind self.now source }
+    {
+        match source {
+            Source::Imm(immediate) => Kind::Scalar(Interval::constant(i64::from(
+                immediate,
+            ).cast_unsigned())),
+            Source::Reg(register) => self.kind(register),
+        }
+    }
+
+    /// The state after an arithmetic instruction in a slot whose operands are set (RFC 9669, section 4.1). A pointer to the
+    /// stack, the packet or a value moves by a single number, and one to the packet also by an interval; otherwise 36, and 37,
+    /// 38 or 40 where the pointer would leave what it points to.
+    pub fn after_alu(
+        self,
+        maps: &[MapDef],
+        slot: u16,
+        width: Width,
+        op: AluOp,
+        dst: Register,
+        source: Source,
+    ) -> Result<State, Refusal>
+        ensures { result ≡ after_alu_of maps.now self slot width op dst source }
+    {
+        let first = self.kind(dst);
+        let second = self.source(source);
+        let kind = alu_kind(
+            maps,
+            slot,
+            width,
+            op,
+            first,
+            second,
+            dst,
+            blamed(dst, source),
+        )?;
+        Ok(self.with(dst, kind))
+    }
+}

@@ -1,0 +1,203 @@
+//! Calls of helpers.
+
+ghost use Rattle.std.specs.Prelude.{◌≡◌};
+ghost use Rattle.abstract_state.specs.Calls.{helper_at, is_served, served_helper, map_argument, stack_argument, number_argument, context_argument, is_inside_stack, key_arguments, update_arguments, head_arguments, returned, any_number, call_of};
+
+use crate::fact::Fact;
+use crate::helper::Helper;
+use crate::kind::Kind;
+use crate::places::{STACK_BYTES, key_size, value_size};
+use crate::refusal::Refusal;
+use crate::state::State;
+use abstract_scalar::Interval;
+use ebpf_decode::MapDef;
+use isa::{Register, Width};
+
+impl Helper {
+    /// The helper of a number.
+    fn at(number: i32) -> Result<Helper, Refusal>
+        ensures { result ≡ helper_at number }
+    {
+        match number {
+            1 => Ok(Helper::LookupElem),
+            2 => Ok(Helper::UpdateElem),
+            3 => Ok(Helper::DeleteElem),
+            5 => Ok(Helper::KtimeGetNs),
+            8 => Ok(Helper::GetSmpProcessorId),
+            44 => Ok(Helper::AdjustHead),
+            _ => Err(Refusal::UnknownHelper),
+        }
+    }
+
+    /// Whether programs may call it as yet.
+    fn is_served(self) -> bool
+        ensures { result ≡ is_served self }
+    {
+        match self {
+            Helper::LookupElem => true,
+            Helper::UpdateElem => false,
+            Helper::DeleteElem => false,
+            Helper::KtimeGetNs => true,
+            Helper::GetSmpProcessorId => true,
+            Helper::AdjustHead => false,
+        }
+    }
+
+    /// The helper of a number that programs may call: else 44.
+    pub fn served(number: i32) -> Result<Helper, Refusal>
+        ensures { result ≡ served_helper number }
+    {
+        let helper = Helper::at(number)?;
+        if helper.is_served() {
+            Ok(helper)
+        } else {
+            Err(Refusal::UnknownHelper)
+        }
+    }
+}
+
+/// The map that an argument names.
+fn map_argument(kind: Kind, register: Register) -> Result<u32, Refusal>
+    ensures { result ≡ map_argument kind register }
+{
+    match kind {
+        Kind::Map(map) => Ok(map),
+        _ => Err(Refusal::BadArgument(register)),
+    }
+}
+
+/// The place of the stack that an argument points to.
+fn stack_argument(kind: Kind, register: Register) -> Result<u16, Refusal>
+    ensures { result ≡ stack_argument kind register }
+{
+    match kind {
+        Kind::Stack(place) => Ok(place),
+        _ => Err(Refusal::BadArgument(register)),
+    }
+}
+
+/// An argument that is a number.
+fn number_argument(kind: Kind, register: Register) -> Result<(), Refusal>
+    ensures { result ≡ number_argument kind register }
+{
+    match kind {
+        Kind::Scalar(_) => Ok(()),
+        _ => Err(Refusal::BadArgument(register)),
+    }
+}
+
+/// An argument that is the context.
+fn context_argument(kind: Kind, register: Register) -> Result<(), Refusal>
+    ensures { result ≡ context_argument kind register }
+{
+    match kind {
+        Kind::Ctx => Ok(()),
+        _ => Err(Refusal::BadArgument(register)),
+    }
+}
+
+/// Whether so many bytes of the stack lie inside it.
+fn is_inside_stack(place: u16, count: u32) -> bool
+    ensures { result ≡ is_inside_stack place count }
+{
+    u64::from(place) + u64::from(count) <= u64::from(STACK_BYTES)
+}
+
+impl State {
+    /// The arguments of a lookup or a deletion: a map, and a key on the stack.
+    fn key_arguments(&self, maps: &[MapDef]) -> Result<u32, Refusal>
+        ensures { result ≡ key_arguments maps.now self.now }
+    {
+        let map = map_argument(self.kind(Register::R1), Register::R1)?;
+        let key = stack_argument(self.kind(Register::R2), Register::R2)?;
+        let count = key_size(maps, map);
+        if !is_inside_stack(key, count) {
+            return Err(Refusal::StackBounds);
+        }
+        if !self.are_bytes_set(key as usize, count as usize) {
+            return Err(Refusal::StackUnset);
+        }
+        Ok(map)
+    }
+
+    /// The arguments of an update: a map, a key and a value on the stack, and flags. Both lie inside the stack before the
+    /// bytes of either are looked at.
+    fn update_arguments(&self, maps: &[MapDef]) -> Result<u32, Refusal>
+        ensures { result ≡ update_arguments maps.now self.now }
+    {
+        let map = map_argument(self.kind(Register::R1), Register::R1)?;
+        let key = stack_argument(self.kind(Register::R2), Register::R2)?;
+        let value = stack_argument(self.kind(Register::R3), Register::R3)?;
+        number_argument(self.kind(Register::R4), Register::R4)?;
+        let key_count = key_size(maps, map);
+        let value_count = value_size(maps, map);
+        if !(is_inside_stack(key, key_count) && is_inside_stack(value, value_count)) {
+            return Err(Refusal::StackBounds);
+        }
+        if !(self.are_bytes_set(key as usize, key_count as usize)
+            && self.are_bytes_set(value as usize, value_count as usize))
+        {
+            return Err(Refusal::StackUnset);
+        }
+        Ok(map)
+    }
+
+    /// The arguments of a move of the packet's start: the context, and a number.
+    fn head_arguments(&self) -> Result<(), Refusal>
+        ensures { result ≡ head_arguments self.now }
+    {
+        context_argument(self.kind(Register::R1), Register::R1)?;
+        number_argument(self.kind(Register::R2), Register::R2)
+    }
+
+    /// The state after a call: R0 has the answer, and R1 to R5 nothing.
+    fn returned(self, answer: Kind) -> State
+        ensures { result ≡ returned answer self }
+    {
+        let unset = Kind::Unset;
+        State {
+            registers: [
+                answer,
+                unset,
+                unset,
+                unset,
+                unset,
+                unset,
+                self.registers[6],
+                self.registers[7],
+                self.registers[8],
+                self.registers[9],
+                self.registers[10],
+            ],
+            stack: self.stack,
+            start_range: self.start_range,
+        }
+    }
+
+    /// The state after the call of a helper in a slot, whose arguments are set (RFC 9669, section 4.3.1).
+    pub(crate) fn called(self, maps: &[MapDef], slot: u16, helper: Helper) -> Result<State, Refusal>
+        ensures { result ≡ call_of maps.now self slot helper }
+    {
+        let any_number = Kind::Scalar(Interval::full(Width::Bits64));
+        match helper {
+            Helper::LookupElem => {
+                let map = self.key_arguments(maps)?;
+                Ok(self.returned(Kind::ValueOrNull { map, id: slot }))
+            }
+            Helper::UpdateElem => {
+                self.update_arguments(maps)?;
+                Ok(self.returned(any_number))
+            }
+            Helper::DeleteElem => {
+                self.key_arguments(maps)?;
+                Ok(self.returned(any_number))
+            }
+            Helper::KtimeGetNs => Ok(self.returned(any_number)),
+            Helper::GetSmpProcessorId => Ok(self.returned(Kind::Scalar(Interval::up_to(7)))),
+            Helper::AdjustHead => {
+                self.head_arguments()?;
+                Ok(self.told(Fact::HeadMoved).returned(any_number))
+            }
+        }
+    }
+}

@@ -1,0 +1,30 @@
+//! What a verifier knows of a run at a slot: kinds of registers and of the stack, what instructions make of them, and what is
+//! known where paths meet.
+#![tactic(auto)]
+
+mod access;
+mod arithmetic;
+mod calls;
+mod fact;
+mod flow;
+mod helper;
+mod join;
+mod kind;
+pub mod laws;
+mod paths;
+mod places;
+mod refinement;
+mod refusal;
+mod stack;
+mod state;
+#[cfg(test)]
+mod table_tests;
+mod tell;
+mod transfer;
+
+pub use fact::Fact;
+pub use flow::Flow;
+pub use helper::Helper;
+pub use kind::{Kind, StackWord};
+pub use refusal::Refusal;
+pub use state::State;

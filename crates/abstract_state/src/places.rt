@@ -1,0 +1,111 @@
+//! Where an access may go.
+
+ghost use Rattle.std.specs.Prelude.{◌≡◌, ◌≤◌, slice_get};
+ghost use Rattle.abstract_state.specs.States.{value_size_of, key_size_of};
+ghost use Rattle.abstract_state.specs.Places.{place_within, range_within, aligned, stack_access, packet_access, value_access};
+
+use crate::refusal::Refusal;
+use ebpf_decode::MapDef;
+
+/// How many bytes the stack has.
+pub(crate) const STACK_BYTES: u32 = 512;
+
+/// A place from 0 to a limit.
+pub(crate) fn place_within(place: i128, limit: u32, why: Refusal) -> Result<u32, Refusal>
+    ensures { result ≡ place_within place limit why }
+{
+    if 0 <= place && place <= i128::from(limit) {
+        Ok(place as u32)
+    } else {
+        Err(why)
+    }
+}
+
+/// Where so many bytes begin that end at a limit or before.
+pub(crate) fn range_within(place: i64, count: u32, limit: u32, why: Refusal) -> Result<u32, Refusal>
+    ensures { result ≡ range_within place count limit why }
+{
+    if 0 <= place && i128::from(place) + i128::from(count) <= i128::from(limit) {
+        Ok(place as u32)
+    } else {
+        Err(why)
+    }
+}
+
+/// A place at a multiple of the width.
+fn aligned(place: u32, count: u32) -> Result<u32, Refusal>
+    requires { 1 ≤ count }
+    ensures { result ≡ aligned place count }
+{
+    if place % count == 0 {
+        Ok(place)
+    } else {
+        Err(Refusal::Misaligned)
+    }
+}
+
+/// Where an access of the stack begins.
+pub(crate) fn stack_access(place: u16, distance: i16, count: u32) -> Result<u32, Refusal>
+    requires { 1 ≤ count }
+    ensures { result ≡ stack_access place distance count }
+{
+    let from = range_within(
+        i64::from(place) + i64::from(distance),
+        count,
+        STACK_BYTES,
+        Refusal::StackBounds,
+    )?;
+    aligned(from, count)
+}
+
+/// Where an access of the packet begins, counted from its id's base.
+pub(crate) fn packet_access(off: u16, range: u32, distance: i16, count: u32) -> Result<u32, Refusal>
+    ensures { result ≡ packet_access off range distance count }
+{
+    range_within(
+        i64::from(off) + i64::from(distance),
+        count,
+        range,
+        Refusal::PacketBounds,
+    )
+}
+
+/// Where an access of a map's value begins.
+pub(crate) fn value_access(
+    maps: &[MapDef],
+    map: u32,
+    off: u32,
+    distance: i16,
+    count: u32,
+) -> Result<u32, Refusal>
+    requires { 1 ≤ count }
+    ensures { result ≡ value_access maps.now map off distance count }
+{
+    let from = range_within(
+        i64::from(off) + i64::from(distance),
+        count,
+        value_size(maps, map),
+        Refusal::ValueBounds,
+    )?;
+    aligned(from, count)
+}
+
+/// How many bytes the values of a map have.
+pub(crate) fn value_size(maps: &[MapDef], map: u32) -> u32
+    ensures { result ≡ value_size_of (slice_get maps.now map) }
+{
+    match maps.get(map as usize) {
+        Some(definition) => definition.value_size,
+        None => 0,
+    }
+}
+
+/// How many bytes the keys of a map have.
+pub(crate) fn key_size(maps: &[MapDef], map: u32) -> u32
+    ensures { result ≡ key_size_of (slice_get maps.now map) }
+{
+    match maps.get(map as usize) {
+        Some(definition) => definition.key_size,
+        None => 0,
+    }
+}

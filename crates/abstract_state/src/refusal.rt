@@ -1,0 +1,34 @@
+//! Why an instruction may not run in a state.
+
+use isa::Register;
+
+/// The first rule that an instruction breaks; the verifier adds the slot. A register is named where the rule is about one.
+#[derive(Clone, Copy, Debug, PartialEq, Eq)]
+pub enum Refusal {
+    /// 35: an instruction reads a register that is unset.
+    UnsetRegister(Register),
+    /// 36: a kind that the instruction can't take.
+    WrongKind(Register),
+    /// 37: outside what is known to lie in the packet.
+    PacketBounds,
+    /// 38: outside the 512 bytes of the stack.
+    StackBounds,
+    /// 39: a byte of the stack that was not written.
+    StackUnset,
+    /// 40: outside a map's value.
+    ValueBounds,
+    /// 41: no multiple of the access's width.
+    Misaligned,
+    /// 42: no field of the context.
+    ContextAccess,
+    /// 43: R10 would be written.
+    ReadOnlyFp,
+    /// 44: no helper of this number.
+    UnknownHelper,
+    /// 45: an argument of a call is of the wrong kind.
+    BadArgument(Register),
+    /// 46: a pointer would become readable as a number.
+    PointerLeak,
+    /// 47: no map at this place of the image's list.
+    UnknownMap,
+}

@@ -1,0 +1,114 @@
+//! Words of the stack.
+
+ghost use Rattle.std.specs.Prelude.{◌≡◌, ◌&&◌, ◌≤◌, ◌+◌};
+ghost use Rattle.semantics.specs.Memory.{size_bytes};
+ghost use Rattle.abstract_state.specs.Join.{zip_with, spilled, bytes_of_kind, bytes_of_word, join_bytes, join_spilled, join_word};
+ghost use Rattle.abstract_state.specs.Words.{with_set, word_stored};
+
+use crate::kind::{Kind, StackWord};
+use isa::Size;
+
+/// How many bytes a load or a store moves.
+pub(crate) fn size_bytes(size: Size) -> u32
+    ensures count { result ≡ size_bytes size }
+    ensures some { 1 ≤ result }
+    ensures most { result ≤ 8 }
+{
+    match size {
+        Size::U8 => 1,
+        Size::U16 => 2,
+        Size::U32 => 4,
+        Size::U64 => 8,
+    }
+}
+
+/// Whether a byte is set on both paths.
+fn is_both(first: bool, second: bool) -> bool
+    ensures { result ≡ (first && second) }
+{
+    if first { second } else { false }
+}
+
+/// The bytes that are set on both paths.
+fn set_on_both(first: [bool; 8], second: [bool; 8]) -> [bool; 8]
+    ensures { result ≡ zip_with (λ a b. a && b) first second }
+{
+    let mut both = first;
+    'bytes: for i in 0..8 {
+        both[i] = is_both(both[i], second[i]);
+    }
+    both
+}
+
+/// The bytes with so many of them set from a place on.
+fn with_set(set: [bool; 8], from: usize, count: usize) -> [bool; 8]
+    requires { from + count ≤ 8 }
+    ensures { result ≡ with_set set from count }
+{
+    let mut more = set;
+    more[from..from + count].fill(true);
+    more
+}
+
+impl StackWord {
+    /// A spilled register, unless nothing is known of it.
+    pub(crate) fn of_kind(kind: Kind) -> StackWord
+        ensures { result ≡ spilled kind }
+    {
+        match kind {
+            Kind::Unset => StackWord::Bytes([false; 8]),
+            _ => StackWord::Spilled(kind),
+        }
+    }
+
+    /// The bytes that can be read as bytes: all of a spilled number, none of a spilled pointer.
+    pub fn bytes(self) -> [bool; 8]
+        ensures { result ≡ bytes_of_word self }
+    {
+        match self {
+            StackWord::Spilled(kind) => bytes_of_kind(kind),
+            StackWord::Bytes(set) => set,
+        }
+    }
+
+    /// What both words know: of two spilled registers what both kinds know; else the bytes that are set in both.
+    pub fn join(self, other: StackWord) -> StackWord
+        ensures { result ≡ join_word self other }
+    {
+        match self {
+            StackWord::Spilled(kind) => join_spilled(kind, other),
+            StackWord::Bytes(set) => StackWord::Bytes(set_on_both(set, other.bytes())),
+        }
+    }
+
+    /// The word after a store of the size, from a place in it on.
+    pub(crate) fn stored(self, size: Size, from: usize, kind: Kind) -> StackWord
+        requires { from + size_bytes size ≤ 8 }
+        ensures { result ≡ word_stored size from kind self }
+    {
+        match size {
+            Size::U64 => StackWord::Spilled(kind),
+            _ => StackWord::Bytes(with_set(self.bytes(), from, size_bytes(size) as usize)),
+        }
+    }
+}
+
+/// The bytes of a spilled register that can be read as bytes.
+fn bytes_of_kind(kind: Kind) -> [bool; 8]
+    ensures { result ≡ bytes_of_kind kind }
+{
+    match kind {
+        Kind::Scalar(_) => [true; 8],
+        _ => [false; 8],
+    }
+}
+
+/// What a spilled register and another word both know.
+fn join_spilled(kind: Kind, other: StackWord) -> StackWord
+    ensures { result ≡ join_spilled kind other }
+{
+    match other {
+        StackWord::Spilled(same) => StackWord::of_kind(kind.join(same)),
+        StackWord::Bytes(set) => StackWord::Bytes(set_on_both(bytes_of_kind(kind), set)),
+    }
+}

@@ -1,0 +1,107 @@
+-- Which bytes stand in the words of a line.
+use Rattle.std.proofs.Common.{◌≡◌, ℕ, zero, suc, ◌+◌, ◌≤◌, ◌<◌, ◌^◌, ◌/◌, ◌%◌, Bool, true, false, ◌&&◌, not, leb, ltb, eqb, List, [], ◌∷◌, ◌++◌, length, get_or, refl, ap, arith}
+use Rattle.std.specs.Prelude.{◌≢◌, ℤ, pos, negsuc, FitsSigned}
+use Rattle.std.specs.Int.{w16, w32}
+use Rattle.std.specs.Fmt.{decimal, signed_decimal}
+use Rattle.std.proofs.lemmas.Fmt.{decimal_by_steps}
+use Rattle.std.proofs.lemmas.Bool.Decides.{nat_tests}
+use Rattle.isa.specs.declared.operation.Register.{Register}
+use Rattle.isa.specs.declared.operation.Register.TheVariants.{R0, R1, R2, R3, R4, R5, R6, R7, R8, R9, R10}
+use Rattle.disasm.specs.AssemblyText.{register_text, with_sign, hex_digit, hex_digits}
+
+abbrev pub all_bytes : (ℕ → Bool) → List ℕ → Bool
+all_bytes p [] = true
+all_bytes p (b ∷ bs) = p b && all_bytes p bs
+
+-- no space, comma or line feed, and below a limit
+abbrev pub word_byte : ℕ → ℕ → Bool
+word_byte top b = leb 43 b && (not (eqb b 44) && ltb b top)
+
+both : (a b : Bool) → (a && b) ≡ true → (a ≡ true) × (b ≡ true)
+both true b e = (refl, e)
+both false b e = absurd cc
+
+joined : (a b : Bool) → a ≡ true → b ≡ true → (a && b) ≡ true
+joined a b e f = rw (e, f) refl
+
+pub all_append : (p : ℕ → Bool) (xs ys : List ℕ) → all_bytes p xs ≡ true → all_bytes p ys ≡ true → all_bytes p (xs ++ ys) ≡ true
+all_append p [] ys a b = b
+all_append p (x ∷ xs) ys a b =
+    let s = both (p x) (all_bytes p xs) a in
+    joined (p x) (all_bytes p (xs ++ ys)) s.0 (all_append p xs ys s.1 b)
+
+pub lacks_from : (p : ℕ → Bool) (c : ℕ) (xs : List ℕ) → all_bytes p xs ≡ true → p c ≡ false → (i : ℕ) → i < length xs → get_or xs i 0 ≢ c
+lacks_from p c [] a f i lt = absurd (omega arith)
+lacks_from p c (x ∷ xs) a f zero lt = λ is.
+    let s = both (p x) (all_bytes p xs) a in
+    let same : p x ≡ p c = ap p is in
+    absurd cc
+lacks_from p c (x ∷ xs) a f (suc i) lt = lacks_from p c xs (both (p x) (all_bytes p xs) a).1 f i (omega arith)
+
+pub mid_passes : (p : ℕ → Bool) (xs : List ℕ) (c : ℕ) (ys : List ℕ) → all_bytes p (xs ++ c ∷ ys) ≡ true → p c ≡ true
+mid_passes p [] c ys a = (both (p c) (all_bytes p ys) a).0
+mid_passes p (x ∷ xs) c ys a = mid_passes p xs c ys (both (p x) (all_bytes p (xs ++ c ∷ ys)) a).1
+
+pub weaken : (p q : ℕ → Bool) → ((b : ℕ) → p b ≡ true → q b ≡ true) → (xs : List ℕ) → all_bytes p xs ≡ true → all_bytes q xs ≡ true
+weaken p q h [] a = refl
+weaken p q h (x ∷ xs) a =
+    let s = both (p x) (all_bytes p xs) a in
+    joined (q x) (all_bytes q xs) (h x s.0) (weaken p q h xs s.1)
+
+wider : (s t b : ℕ) → s ≤ t → word_byte s b ≡ true → word_byte t b ≡ true
+wider s t b le a = grind (arith, nat_tests)
+
+pub widen : (s t : ℕ) (xs : List ℕ) → s ≤ t → all_bytes (word_byte s) xs ≡ true → all_bytes (word_byte t) xs ≡ true
+widen s t xs le a = weaken (word_byte s) (word_byte t) (λ b h. wider s t b le h) xs a
+
+digit_word : (m : ℕ) → m < 10 → all_bytes (word_byte 58) ((48 + m) ∷ []) ≡ true
+digit_word m lt = grind (arith, nat_tests)
+
+pub decimal_word : (n : ℕ) → n < 2 ^ 64 → all_bytes (word_byte 58) (decimal n) ≡ true
+decimal_word n small = decimal_by_steps (λ m ds. all_bytes (word_byte 58) ds ≡ true) (λ m lt. digit_word m lt) (λ m ds le a. all_append (word_byte 58) ds ((48 + m % 10) ∷ []) a (digit_word (m % 10) (omega arith))) n small
+
+pub signed_word : (z : ℤ) → FitsSigned w32 z → all_bytes (word_byte 58) (signed_decimal z) ≡ true
+signed_word (pos n) fits = decimal_word n (omega arith)
+signed_word (negsuc n) fits = decimal_word (suc n) (omega arith)
+
+pub sign_word : (z : ℤ) → FitsSigned w32 z → all_bytes (word_byte 58) (with_sign z) ≡ true
+sign_word (pos n) fits = decimal_word n (omega arith)
+sign_word (negsuc n) fits = decimal_word (suc n) (omega arith)
+
+pub wider_fits : (z : ℤ) → FitsSigned w16 z → FitsSigned w32 z
+wider_fits (pos n) fits = omega arith
+wider_fits (negsuc n) fits = omega arith
+
+hex_word_digit : (d : ℕ) → d < 16 → all_bytes (word_byte 128) (hex_digit d ∷ []) ≡ true
+hex_word_digit d lt = grind (arith, nat_tests)
+
+pub hex_word : (k n : ℕ) → all_bytes (word_byte 128) (hex_digits k n) ≡ true
+unfolding hex_digits
+hex_word zero n = refl
+hex_word (suc k) n = all_append (word_byte 128) (hex_digits k (n / 16)) (hex_digit (n % 16) ∷ []) (hex_word k (n / 16)) (hex_word_digit (n % 16) (omega arith))
+
+pub register_word : (r : Register) → all_bytes (word_byte 120) (register_text r) ≡ true
+register_word R0 = refl
+register_word R1 = refl
+register_word R2 = refl
+register_word R3 = refl
+register_word R4 = refl
+register_word R5 = refl
+register_word R6 = refl
+register_word R7 = refl
+register_word R8 = refl
+register_word R9 = refl
+register_word R10 = refl
+
+pub register_tail : (r : Register) → (rest : List ℕ) × (register_text r ≡ 114 ∷ rest)
+register_tail R0 = (_, refl)
+register_tail R1 = (_, refl)
+register_tail R2 = (_, refl)
+register_tail R3 = (_, refl)
+register_tail R4 = (_, refl)
+register_tail R5 = (_, refl)
+register_tail R6 = (_, refl)
+register_tail R7 = (_, refl)
+register_tail R8 = (_, refl)
+register_tail R9 = (_, refl)
+register_tail R10 = (_, refl)

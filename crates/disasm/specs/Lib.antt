@@ -1,0 +1,4 @@
+pub mod Names
+pub mod AssemblyText
+pub mod LineReading
+pub mod TextReading

@@ -1,0 +1,20 @@
+//! The text form of eBPF images: printed, and read.
+#![tactic(auto)]
+
+mod assembling;
+pub mod fault;
+mod head;
+mod instruction_reading;
+mod map_line;
+mod operand;
+mod printing;
+mod reading;
+mod spelling;
+
+pub use assembling::{assemble, round_trip};
+pub use fault::AsmFault;
+pub use printing::text;
+pub use spelling::line;
+
+#[cfg(test)]
+mod tests;

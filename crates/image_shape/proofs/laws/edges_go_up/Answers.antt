@@ -1,0 +1,5 @@
+use Rattle.image_shape.proofs.LawLemmas as laws
+use Rattle.image_shape.proofs.laws.edges_go_up.Goals as goal
+
+pub returns : goal.returns
+returns c = laws.edges_go_up

@@ -1,0 +1,5 @@
+use Rattle.image_shape.proofs.RunLemmas as runs
+use Rattle.image_shape.proofs.laws.runs_follow_edges.Goals as goal
+
+pub returns : goal.returns
+returns c = runs.runs_follow_edges

@@ -1,0 +1,3 @@
+mod FlagLemmas
+mod RoomLemmas
+mod StepLemmas

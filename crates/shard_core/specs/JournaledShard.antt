@@ -1,0 +1,24 @@
+-- What contracts see of a shard: what it was opened with, and the journal of its calls, whose oldest entry stands first.
+-- Definitions speak of the history, which is the journal read from its newest entry on.
+use Rattle.std.specs.Prelude.{List, [], ◌∷◌, ◌++◌, reverse}
+use Rattle.semantics.specs.declared.call.Call.{Call}
+use Rattle.semantics.specs.declared.call.Reply.{Reply}
+use Rattle.semantics.specs.declared.call.Entry.{Entry}
+use Rattle.semantics.specs.declared.plan.ShardPlan.{ShardPlan}
+use Rattle.semantics.specs.SequentialShard.{reply_of, shard_after}
+
+pub record JournaledShard : Type 0 where
+  pub plan : ShardPlan
+  pub journal : List Entry
+
+-- a shard in which nothing has happened
+abbrev pub opened_shard : ShardPlan → JournaledShard
+opened_shard plan = record { plan = plan; journal = [] }
+
+-- what the one-thread shard replies to the call, in the state that the journal leads to
+abbrev pub sequential_reply : JournaledShard → Call → Reply
+sequential_reply shard call = reply_of shard.plan (reverse shard.journal) (shard_after shard.plan (reverse shard.journal)) call
+
+-- the shard with one entry more
+abbrev pub with_entry : JournaledShard → Entry → JournaledShard
+with_entry shard entry = record { plan = shard.plan; journal = shard.journal ++ entry ∷ [] }

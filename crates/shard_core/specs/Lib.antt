@@ -1,0 +1,4 @@
+pub mod JournaledShard
+pub mod ArrayShard
+pub mod Laws
+pub mod FaultText

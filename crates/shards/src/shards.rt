@@ -1,0 +1,64 @@
+//! The shards of all maps.
+
+ghost use Rattle.std.specs.Prelude.{◌≡◌, ◌<◌, ◌↔◌, Some, IfOk, OnOk, IsErrOf, IsFalse, length, slice_get};
+ghost use Rattle.std.specs.Borrow.{sem};
+ghost use Rattle.semantics.specs.ShardPlan.{AreOptions};
+ghost use Rattle.shards.specs.Opening.{are_served_options, AreOpened};
+ghost use Rattle.shards.specs.declared.fault.OpenFault.TheVariants.{BadOptions};
+
+use crate::fault::OpenFault;
+use crate::opening::{are_served, open_each};
+use ebpf_decode::Image;
+use shard_core::{Options, Shard};
+use std::alloc::Global;
+use std::marker::Model;
+
+/// The shards of an image's maps, by their numbers: map after map. Contracts see the list of them.
+#[derive(Drop)]
+pub struct Shards {
+    shards: Vec<Shard>,
+}
+
+impl Model for Shards {
+    ghost use Rattle.std.specs.Prelude.{List};
+    ghost use Rattle.shard_core.specs.JournaledShard.{JournaledShard};
+
+    ghost Value = { List JournaledShard };
+
+    ghost view = { λ all. all.shards.items };
+}
+
+impl Shards {
+    ghost use Rattle.shards.specs.Lending.{LendsShard};
+
+    /// The shards of the image's maps, in which nothing has happened. Takes all memory that they will ever need. Refused with
+    /// 51 where the options are none that are served, and with 52 without memory.
+    pub fn open(alloc: Global, image: &Image, options: Options) -> Result<Self, OpenFault>
+        ensures opened { IfOk result (λ shards. AreOpened image.now.maps options shards) }
+        ensures options { OnOk result (AreOptions image.now.maps options) }
+        ensures bad_options { IsErrOf result BadOptions ↔ IsFalse (are_served_options image.now.maps options) }
+    {
+        let maps = image.maps();
+        if !are_served(maps, &options) {
+            return Err(OpenFault::BadOptions);
+        }
+        let shards = open_each(alloc, maps, &options)?;
+        Ok(Shards { shards })
+    }
+
+    /// How many shards there are.
+    pub fn count(&self) -> usize
+        ensures { result ≡ length self.now }
+    {
+        self.shards.len()
+    }
+
+    /// The shard of a number, to be called.
+    pub fn shard(&mut self, number: u32) -> &mut Shard
+        requires { number < length self.old }
+        ensures value { slice_get self.old number ≡ Some result.now }
+        ensures* writes_back { sem 𝓛 (LendsShard self.entry number result) }
+    {
+        &mut self.shards[number as usize]
+    }
+}

@@ -1,0 +1,108 @@
+-- Entry states: what is known before an instruction is what flows along the edges that lead to it, joined.
+use Rattle.std.specs.Prelude.{◌≡◌, ℕ, zero, suc, ◌+◌, ◌<◌, ◌==◌, Bool, true, false, ℤ, pos, negsuc, ◌+ℤ◌, List, length, Option, Some, None, Ok, Err, IsOk, slice_index_or, if◌then◌else◌}
+use Rattle.ebpf_decode.specs.declared.insn.Insn.{Insn}
+use Rattle.ebpf_decode.specs.declared.map.MapDef.{MapDef}
+use Rattle.ebpf_decode.specs.InstructionEncoding.{slot_count, total_slots}
+use Rattle.semantics.specs.Program.{instruction_at}
+use Rattle.image_shape.specs.declared.fault.ShapeFault.{ShapeFault}
+use Rattle.image_shape.specs.Structure.{HasShape, IsFirstFault}
+use Rattle.abstract_state.specs.declared.flow.Flow.{Flow}
+use Rattle.abstract_state.specs.declared.flow.Flow.TheVariants.{Ends, Falls, Jumps, Splits}
+use Rattle.abstract_state.specs.declared.refusal.Refusal.{Refusal}
+use Rattle.abstract_state.specs.declared.state.State.{State}
+use Rattle.abstract_state.specs.States.{Checked, opening_state}
+use Rattle.abstract_state.specs.Join.{join_of}
+use Rattle.abstract_state.specs.Flow.{flow_of}
+use Rattle.abstract_state.specs.Soundness.{distance_of_jump}
+use Rattle.verifier.specs.declared.reject.Reject.{Reject}
+use Rattle.verifier.specs.declared.reject.Reject.TheVariants.{Memory}
+use Rattle.verifier.specs.Rejects.{reject_of_shape, reject_of_refusal}
+
+-- ---- what flows along edges
+
+-- what is known at a slot; of one to which no edge leads, nothing
+abbrev pub known_at : List (Option State) → ℕ → Option State
+known_at states slot = slice_index_or states slot None
+
+abbrev pub join_known : Option State → State → Option State
+join_known None state = Some state
+join_known (Some known) state = Some (join_of known state)
+
+-- one more edge leads here, or doesn't
+abbrev pub joined_where : Bool → State → Option State → Option State
+joined_where true state known = join_known known state
+joined_where false state known = known
+
+-- whether a jump goes there: its distance counts from the slot after it
+abbrev pub is_at : ℤ → ℕ → Bool
+is_at (pos place) slot = slot == place
+is_at (negsuc below) slot = false
+
+abbrev pub is_target : ℕ → Insn → ℕ → Bool
+is_target slot insn target = is_at (pos (slot + 1) +ℤ distance_of_jump insn) target
+
+abbrev pub is_next : ℕ → Insn → ℕ → Bool
+is_next slot insn target = target == slot + slot_count insn
+
+-- the edges of one instruction
+abbrev pub arriving : ℕ → Insn → ℕ → Flow → Option State → Option State
+arriving slot insn target Ends known = known
+arriving slot insn target (Falls state) known = joined_where (is_next slot insn target) state known
+arriving slot insn target (Jumps state) known = joined_where (is_target slot insn target) state known
+arriving slot insn target (Splits taken fallen) known =
+    joined_where (is_next slot insn target) fallen (joined_where (is_target slot insn target) taken known)
+
+abbrev pub arriving_if : ℕ → Insn → ℕ → Checked Flow → Option State → Option State
+arriving_if slot insn target (Ok flow) known = arriving slot insn target flow known
+arriving_if slot insn target (Err why) known = known
+
+abbrev pub arriving_from : List MapDef → ℕ → Option Insn → Option State → ℕ → Option State → Option State
+arriving_from maps slot (Some insn) (Some state) target known = arriving_if slot insn target (flow_of maps state slot insn) known
+arriving_from maps slot insn state target known = known
+
+-- what the edges from the first so many slots bring to a slot; a run begins at slot 0
+abbrev pub arrived : List MapDef → List Insn → List (Option State) → ℕ → ℕ → Option State
+arrived maps code states target zero = if target == 0 then Some opening_state else None
+arrived maps code states target (suc slot) =
+    arriving_from maps slot (instruction_at code slot) (known_at states slot) target (arrived maps code states target slot)
+
+-- before the pass a state stands at slot 0 alone
+abbrev pub IsOpening : List (Option State) → Type 0
+IsOpening states = (slot : ℕ) → slot < length states → known_at states slot ≡ (if slot == 0 then Some opening_state else None)
+
+-- ---- what is accepted
+
+-- at the slots before this one stands what flows along the edges that lead there
+abbrev pub AreEntryStates : List MapDef → List Insn → List (Option State) → ℕ → Type 0
+AreEntryStates maps code states end = (slot : ℕ) → slot < end → known_at states slot ≡ arrived maps code states slot slot
+
+-- the instruction at the slot breaks no rule in what is known there
+abbrev pub PassesChecks : List MapDef → List Insn → List (Option State) → ℕ → Type 0
+PassesChecks maps code states slot =
+    (insn : Insn) (state : State) → instruction_at code slot ≡ Some insn → known_at states slot ≡ Some state →
+    IsOk (flow_of maps state slot insn)
+
+-- the program has structure, and no instruction breaks a rule
+pub record Accepts (maps : List MapDef) (code : List Insn) (states : List (Option State)) : Type 0 where
+  pub shape : HasShape code
+  pub entry : AreEntryStates maps code states (total_slots code)
+  pub passes : (slot : ℕ) → PassesChecks maps code states slot
+
+-- the program has structure, and the instruction at this slot is the first that breaks a rule
+pub record IsFirstBroken (maps : List MapDef) (code : List Insn) (slot : ℕ) (why : Refusal) : Type 0 where
+  pub shape : HasShape code
+  pub states : List (Option State)
+  pub entry : AreEntryStates maps code states (slot + 1)
+  pub earlier : (before : ℕ) → before < slot → PassesChecks maps code states before
+  pub insn : Insn
+  pub state : State
+  pub here : instruction_at code slot ≡ Some insn
+  pub known : known_at states slot ≡ Some state
+  pub breaks : flow_of maps state slot insn ≡ Err why
+
+-- the first rule that a program breaks: those of structure first, and then those of kinds by rising slot. A want of memory may be
+-- answered in place of any of the latter.
+pub data IsFirstReject (maps : List MapDef) (code : List Insn) (reject : Reject) : Type 0 where
+  has_no_shape : (fault : ShapeFault) → IsFirstFault code fault → reject ≡ reject_of_shape fault → IsFirstReject maps code reject
+  breaks_rule : (slot : ℕ) (why : Refusal) → IsFirstBroken maps code slot why → reject ≡ reject_of_refusal slot why → IsFirstReject maps code reject
+  wants_memory : reject ≡ Memory → IsFirstReject maps code reject

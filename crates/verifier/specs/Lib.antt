@@ -1,0 +1,4 @@
+pub mod Rejects
+pub mod Dataflow
+pub mod Readers
+pub mod Verified

@@ -1,0 +1,52 @@
+-- Which reject tells of which fault, and the numbers that rejects are printed with.
+use Rattle.std.specs.Prelude.{ℕ}
+use Rattle.ebpf_decode.specs.InstructionCodes.{register_number}
+use Rattle.image_shape.specs.declared.fault.ShapeFault.{ShapeFault}
+use Rattle.image_shape.specs.declared.fault.ShapeFault.TheVariants as shape
+use Rattle.abstract_state.specs.declared.refusal.Refusal.{Refusal}
+use Rattle.abstract_state.specs.declared.refusal.Refusal.TheVariants as rule
+use Rattle.verifier.specs.declared.reject.Reject.{Reject}
+use Rattle.verifier.specs.declared.reject.Reject.TheVariants.{JumpBackward, JumpOutside, JumpIntoWide, FallsOff, Unreachable, UnsetRegister, WrongKind, PacketBounds, StackBounds, StackUnset, ValueBounds, Misaligned, ContextAccess, ReadOnlyFp, UnknownHelper, BadArgument, PointerLeak, UnknownMap, Memory}
+
+abbrev pub reject_of_shape : ShapeFault → Reject
+reject_of_shape (shape.JumpBackward slot) = JumpBackward slot
+reject_of_shape (shape.JumpOutside slot) = JumpOutside slot
+reject_of_shape (shape.JumpIntoWide slot) = JumpIntoWide slot
+reject_of_shape (shape.FallsOff slot) = FallsOff slot
+reject_of_shape (shape.Unreachable slot) = Unreachable slot
+
+abbrev pub reject_of_refusal : ℕ → Refusal → Reject
+reject_of_refusal slot (rule.UnsetRegister register) = UnsetRegister slot (register_number register)
+reject_of_refusal slot (rule.WrongKind register) = WrongKind slot (register_number register)
+reject_of_refusal slot rule.PacketBounds = PacketBounds slot
+reject_of_refusal slot rule.StackBounds = StackBounds slot
+reject_of_refusal slot rule.StackUnset = StackUnset slot
+reject_of_refusal slot rule.ValueBounds = ValueBounds slot
+reject_of_refusal slot rule.Misaligned = Misaligned slot
+reject_of_refusal slot rule.ContextAccess = ContextAccess slot
+reject_of_refusal slot rule.ReadOnlyFp = ReadOnlyFp slot
+reject_of_refusal slot rule.UnknownHelper = UnknownHelper slot
+reject_of_refusal slot (rule.BadArgument register) = BadArgument slot (register_number register)
+reject_of_refusal slot rule.PointerLeak = PointerLeak slot
+reject_of_refusal slot rule.UnknownMap = UnknownMap slot
+
+abbrev pub reject_number : Reject → ℕ
+reject_number (JumpBackward slot) = 30
+reject_number (JumpOutside slot) = 31
+reject_number (JumpIntoWide slot) = 32
+reject_number (FallsOff slot) = 33
+reject_number (Unreachable slot) = 34
+reject_number (UnsetRegister slot register) = 35
+reject_number (WrongKind slot register) = 36
+reject_number (PacketBounds slot) = 37
+reject_number (StackBounds slot) = 38
+reject_number (StackUnset slot) = 39
+reject_number (ValueBounds slot) = 40
+reject_number (Misaligned slot) = 41
+reject_number (ContextAccess slot) = 42
+reject_number (ReadOnlyFp slot) = 43
+reject_number (UnknownHelper slot) = 44
+reject_number (BadArgument slot register) = 45
+reject_number (PointerLeak slot) = 46
+reject_number (UnknownMap slot) = 47
+reject_number Memory = 48

@@ -1,0 +1,164 @@
+//! Why a program is rejected.
+
+ghost use Rattle.std.specs.Prelude.{◌≡◌};
+ghost use Rattle.ebpf_decode.specs.InstructionCodes.{register_number};
+ghost use Rattle.verifier.specs.Rejects.{reject_of_shape, reject_of_refusal, reject_number};
+
+use abstract_state::Refusal;
+use image_shape::ShapeFault;
+use isa::Register;
+use thiserror::Error;
+
+/// The first rule that a program breaks, with the slot of the instruction and, where the rule is about one, the register's number.
+/// The rules of structure (30 to 34) come before those of kinds, which come by rising slot.
+#[derive(Clone, Copy, Debug, Error, PartialEq, Eq)]
+pub enum Reject {
+    /// 30: a jump's distance is below 0.
+    #[error("fault 30 JumpBackward slot {slot}")]
+    JumpBackward { slot: u32 },
+    /// 31: a jump's target lies past the last slot.
+    #[error("fault 31 JumpOutside slot {slot}")]
+    JumpOutside { slot: u32 },
+    /// 32: a jump's target is the second slot of a wide instruction.
+    #[error("fault 32 JumpIntoWide slot {slot}")]
+    JumpIntoWide { slot: u32 },
+    /// 33: the next slot of an instruction at which a run may go on is past the end.
+    #[error("fault 33 FallsOff slot {slot}")]
+    FallsOff { slot: u32 },
+    /// 34: no path leads from slot 0 to the instruction.
+    #[error("fault 34 Unreachable slot {slot}")]
+    Unreachable { slot: u32 },
+    /// 35: an unset register is read.
+    #[error("fault 35 UnsetRegister slot {slot} register {register}")]
+    UnsetRegister { slot: u32, register: u32 },
+    /// 36: a register's kind is none that the instruction takes.
+    #[error("fault 36 WrongKind slot {slot} register {register}")]
+    WrongKind { slot: u32, register: u32 },
+    /// 37: outside what is known to lie in the packet.
+    #[error("fault 37 PacketBounds slot {slot}")]
+    PacketBounds { slot: u32 },
+    /// 38: outside the stack.
+    #[error("fault 38 StackBounds slot {slot}")]
+    StackBounds { slot: u32 },
+    /// 39: a byte of the stack that was not written.
+    #[error("fault 39 StackUnset slot {slot}")]
+    StackUnset { slot: u32 },
+    /// 40: outside a map's value.
+    #[error("fault 40 ValueBounds slot {slot}")]
+    ValueBounds { slot: u32 },
+    /// 41: no multiple of the access's width.
+    #[error("fault 41 Misaligned slot {slot}")]
+    Misaligned { slot: u32 },
+    /// 42: no field of the context.
+    #[error("fault 42 ContextAccess slot {slot}")]
+    ContextAccess { slot: u32 },
+    /// 43: R10 would be written.
+    #[error("fault 43 ReadOnlyFp slot {slot}")]
+    ReadOnlyFp { slot: u32 },
+    /// 44: no helper of this number.
+    #[error("fault 44 UnknownHelper slot {slot}")]
+    UnknownHelper { slot: u32 },
+    /// 45: an argument of a call is of the wrong kind.
+    #[error("fault 45 BadArgument slot {slot} register {register}")]
+    BadArgument { slot: u32, register: u32 },
+    /// 46: a pointer would become readable as a number.
+    #[error("fault 46 PointerLeak slot {slot}")]
+    PointerLeak { slot: u32 },
+    /// 47: no map at this place of the image's list.
+    #[error("fault 47 UnknownMap slot {slot}")]
+    UnknownMap { slot: u32 },
+    /// 48: memory was refused.
+    #[error("fault 48 Memory")]
+    Memory,
+}
+
+impl Reject {
+    /// The reject of a fault of structure.
+    pub(crate) fn of_shape(fault: ShapeFault) -> Reject
+        ensures { result ≡ reject_of_shape fault }
+    {
+        match fault {
+            ShapeFault::JumpBackward { slot } => Reject::JumpBackward { slot },
+            ShapeFault::JumpOutside { slot } => Reject::JumpOutside { slot },
+            ShapeFault::JumpIntoWide { slot } => Reject::JumpIntoWide { slot },
+            ShapeFault::FallsOff { slot } => Reject::FallsOff { slot },
+            ShapeFault::Unreachable { slot } => Reject::Unreachable { slot },
+        }
+    }
+
+    /// The reject of a broken rule of kinds.
+    pub(crate) fn of_refusal(slot: u32, why: Refusal) -> Reject
+        ensures { result ≡ reject_of_refusal slot why }
+    {
+        match why {
+            Refusal::UnsetRegister(register) => Reject::UnsetRegister {
+                slot,
+                register: number_of(register),
+            },
+            Refusal::WrongKind(register) => Reject::WrongKind {
+                slot,
+                register: number_of(register),
+            },
+            Refusal::PacketBounds => Reject::PacketBounds { slot },
+            Refusal::StackBounds => Reject::StackBounds { slot },
+            Refusal::StackUnset => Reject::StackUnset { slot },
+            Refusal::ValueBounds => Reject::ValueBounds { slot },
+            Refusal::Misaligned => Reject::Misaligned { slot },
+            Refusal::ContextAccess => Reject::ContextAccess { slot },
+            Refusal::ReadOnlyFp => Reject::ReadOnlyFp { slot },
+            Refusal::UnknownHelper => Reject::UnknownHelper { slot },
+            Refusal::BadArgument(register) => Reject::BadArgument {
+                slot,
+                register: number_of(register),
+            },
+            Refusal::PointerLeak => Reject::PointerLeak { slot },
+            Refusal::UnknownMap => Reject::UnknownMap { slot },
+        }
+    }
+
+    /// The number that it is printed with.
+    pub fn number(self) -> u8
+        ensures { result ≡ reject_number self }
+    {
+        match self {
+            Reject::JumpBackward { .. } => 30,
+            Reject::JumpOutside { .. } => 31,
+            Reject::JumpIntoWide { .. } => 32,
+            Reject::FallsOff { .. } => 33,
+            Reject::Unreachable { .. } => 34,
+            Reject::UnsetRegister { .. } => 35,
+            Reject::WrongKind { .. } => 36,
+            Reject::PacketBounds { .. } => 37,
+            Reject::StackBounds { .. } => 38,
+            Reject::StackUnset { .. } => 39,
+            Reject::ValueBounds { .. } => 40,
+            Reject::Misaligned { .. } => 41,
+            Reject::ContextAccess { .. } => 42,
+            Reject::ReadOnlyFp { .. } => 43,
+            Reject::UnknownHelper { .. } => 44,
+            Reject::BadArgument { .. } => 45,
+            Reject::PointerLeak { .. } => 46,
+            Reject::UnknownMap { .. } => 47,
+            Reject::Memory => 48,
+        }
+    }
+}
+
+/// A register's number, as it is printed.
+fn number_of(register: Register) -> u32
+    ensures { result ≡ register_number register }
+{
+    match register {
+        Register::R0 => 0,
+        Register::R1 => 1,
+        Register::R2 => 2,
+        Register::R3 => 3,
+        Register::R4 => 4,
+        Register::R5 => 5,
+        Register::R6 => 6,
+        Register::R7 => 7,
+        Register::R8 => 8,
+        Register::R9 => 9,
+        Register::R10 => 10,
+    }
+}
