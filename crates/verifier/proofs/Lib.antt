@@ -1,2 +1,15 @@
 pub mod PassLemmas
 pub mod ReaderLemmas
+pub mod SystemInvariant
+pub mod ArrivalLemmas
+pub mod HistoryLemmas
+pub mod ReplyLemmas
+pub mod PlanLemmas
+pub mod ShardLemmas
+pub mod SettingLemmas
+pub mod EntryLemmas
+pub mod EventLemmas
+pub mod AskingLemmas
+pub mod RunLemmas
+pub mod LocalLemmas
+pub mod SafetyLemmas

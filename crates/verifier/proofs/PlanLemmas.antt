@@ -1,0 +1,206 @@
+-- What the plan of a shard's number is, and which calls its workers may make.
+use Rattle.std.proofs.Common.{◌≡◌, ℕ, ◌+◌, ◌*◌, ◌/◌, ◌%◌, ◌<◌, ◌≤◌, ◌==◌, ◌&&◌, Bool, true, false, nat_lt, nat_le, List, length, Option, Some, None, slice_get, All, IsTrue, refl, sym, ◌∙◌, ap, subst, ⊎_elim, div-lt_iff_lt-mul, arith}
+use Rattle.std.proofs.lemmas.Bool.Decides.{nat_tests}
+use Rattle.std.proofs.lemmas.Nat.{div_below, mod_below, mod-mul-add, div-mul-add}
+use Rattle.std.proofs.lemmas.Option.{slice_get_cases, slice_get_within, get_or_from_slice_get}
+use Rattle.std.proofs.lemmas.List.Elements.{All-get_or}
+use Rattle.ebpf_decode.specs.declared.map.MapKind.{MapKind}
+use Rattle.ebpf_decode.specs.declared.map.MapKind.TheVariants.{Array, Hash, LruHash}
+use Rattle.ebpf_decode.specs.MapForm.{is_served, is_allowed_map}
+use Rattle.semantics.proofs.ConditionLemmas.{first_true}
+use Rattle.ebpf_decode.specs.declared.map.MapDef.{MapDef}
+use Rattle.ebpf_decode.specs.declared.insn.Insn.{Insn}
+use Rattle.semantics.specs.declared.options.Options.{Options}
+use Rattle.semantics.specs.declared.plan.ShardPlan.{ShardPlan}
+use Rattle.semantics.specs.declared.call.CellRef.{CellRef}
+use Rattle.semantics.specs.declared.call.Caller.TheVariants.{Worker}
+use Rattle.semantics.specs.declared.call.Call.TheVariants.{Enter, Leave, Lookup, Load}
+use Rattle.semantics.specs.declared.call.Entry.{Entry}
+use Rattle.semantics.specs.Program.{shard_number_of_key}
+use Rattle.semantics.specs.Reclamation.{is_inside, holds}
+use Rattle.semantics.specs.ShardPlan.{plan_for_map, plan_at, AreOptions}
+use Rattle.semantics.specs.History.{is_load_width, Meets}
+use Rattle.abstract_state.specs.States.{value_size_of}
+use Rattle.abstract_state.specs.Abstraction.{Held}
+use Rattle.abstract_state.specs.Soundness.{IsServedLookup, IsServedLoad}
+
+-- ---- the plan of a number
+
+abbrev pub plan_of : Options → ℕ → MapDef → ShardPlan
+plan_of options shard definition = record {
+  number = shard;
+  part = shard % options.shards;
+  parts = options.shards;
+  definition = definition;
+  workers = options.workers;
+  reserve = options.journal;
+}
+
+pub record IsPlanOf (maps : List MapDef) (options : Options) (shard : ℕ) (plan : ShardPlan) : Type 0 where
+  pub number : plan.number ≡ shard
+  pub part : plan.part ≡ shard % options.shards
+  pub parts : plan.parts ≡ options.shards
+  pub workers : plan.workers ≡ options.workers
+  pub reserve : plan.reserve ≡ options.journal
+  pub definition : slice_get maps (shard / options.shards) ≡ Some plan.definition
+  pub within : shard / options.shards < length maps
+
+known_plan : (maps : List MapDef) (options : Options) (shard : ℕ) (found : Option MapDef) (plan : ShardPlan) → slice_get maps (shard / options.shards) ≡ found →
+    plan_for_map options shard found ≡ Some plan → IsPlanOf maps options shard plan
+known_plan maps options shard None plan is planned = absurd cc
+known_plan maps options shard (Some definition) plan is planned =
+    let same : plan_of options shard definition ≡ plan = cc
+    in subst (λ one. IsPlanOf maps options shard one) same (record {
+      number = refl;
+      part = refl;
+      parts = refl;
+      workers = refl;
+      reserve = refl;
+      definition = is;
+      within = slice_get_within maps (shard / options.shards) definition is;
+    })
+
+-- what the plan of a number is
+pub plan_facts : (maps : List MapDef) (options : Options) (shard : ℕ) (plan : ShardPlan) → plan_at maps options shard ≡ Some plan → IsPlanOf maps options shard plan
+plan_facts maps options shard plan planned = known_plan maps options shard (slice_get maps (shard / options.shards)) plan refl planned
+
+pub plan_from : (maps : List MapDef) (options : Options) (shard : ℕ) (definition : MapDef) → slice_get maps (shard / options.shards) ≡ Some definition →
+    plan_at maps options shard ≡ Some (plan_of options shard definition)
+plan_from maps options shard definition known = ap (plan_for_map options shard) known
+
+-- each number below the number of shards has a plan
+pub plan_exists : (maps : List MapDef) (options : Options) (shard : ℕ) → shard < length maps * options.shards → 0 < options.shards →
+    (plan : ShardPlan) × (plan_at maps options shard ≡ Some plan)
+plan_exists maps options shard below some =
+    let found = slice_get_at maps (shard / options.shards) (div_below shard options.shards (length maps) some below)
+    in (plan_of options shard found.0, plan_from maps options shard found.0 found.1)
+  where
+    slice_get_at : (xs : List MapDef) (i : ℕ) → i < length xs → (x : MapDef) × (slice_get xs i ≡ Some x)
+    slice_get_at xs i within = ⊎_elim
+        (λ is. (is.0, is.2))
+        (λ past. absurd (omega (arith, past.0)))
+        (slice_get_cases xs i).1
+
+-- and no other number
+pub plan_within : (maps : List MapDef) (options : Options) (shard : ℕ) (plan : ShardPlan) → 0 < options.shards → plan_at maps options shard ≡ Some plan →
+    shard < length maps * options.shards
+plan_within maps options shard plan some planned =
+    (div-lt_iff_lt-mul some).0 (plan_facts maps options shard plan planned).within
+
+-- ---- calls that a worker may make
+
+below_true : (a b : ℕ) → a < b → nat_lt a b ≡ true
+below_true a b h = grind (arith, nat_tests)
+
+same_true : (a b : ℕ) → a ≡ b → (a == b) ≡ true
+same_true a b h = grind (arith, nat_tests)
+
+at_most_true : (a b : ℕ) → a ≤ b → nat_le a b ≡ true
+at_most_true a b h = grind (arith, nat_tests)
+
+pub both : (a b : Bool) → a ≡ true → b ≡ true → (a && b) ≡ true
+both true b p q = q
+both false b p q = absurd cc
+
+pub enter_meets : (plan : ShardPlan) (h : List Entry) (worker : ℕ) → worker < plan.workers → is_inside worker h ≡ false →
+    Meets plan h (Worker worker) (Enter plan.number)
+enter_meets plan h worker few outside =
+    both (plan.number == plan.number) _ (same_true plan.number plan.number refl)
+    (both (nat_lt worker plan.workers) _ (below_true worker plan.workers few) (rw outside refl))
+
+pub leave_meets : (plan : ShardPlan) (h : List Entry) (worker : ℕ) → worker < plan.workers → is_inside worker h ≡ true →
+    Meets plan h (Worker worker) (Leave plan.number)
+leave_meets plan h worker few inside =
+    both (plan.number == plan.number) _ (same_true plan.number plan.number refl)
+    (both (nat_lt worker plan.workers) _ (below_true worker plan.workers few) inside)
+
+-- the number of a map's shard, taken apart
+shard_map : (map shards part : ℕ) → part < shards → (map * shards + part) / shards ≡ map
+shard_map map shards part below = div-mul-add map shards part below
+
+pub record IsPlannedLookup (maps : List MapDef) (options : Options) (shard : ℕ) (key : List ℕ) (map : ℕ) : Type 0 where
+  pub plan : ShardPlan
+  pub planned : plan_at maps options shard ≡ Some plan
+  pub of_map : map ≡ shard / options.shards
+  pub below : shard < length maps * options.shards
+  pub meets : (h : List Entry) (worker : ℕ) → worker < options.workers → is_inside worker h ≡ true → Meets plan h (Worker worker) (Lookup shard key)
+
+-- a lookup of a key in its shard is one that the shard serves
+pub lookup_plan : (maps : List MapDef) (code : List Insn) (options : Options) (shard : ℕ) (key : List ℕ) → 0 < options.shards →
+    (served : IsServedLookup (record { code = code; maps = maps; shards = options.shards }) shard key) → IsPlannedLookup maps options shard key served.map
+lookup_plan maps code options shard key some served =
+    let part : ℕ = shard_number_of_key served.definition.kind key % options.shards
+    in let small : part < options.shards = mod_below (shard_number_of_key served.definition.kind key) options.shards some
+    in let own : shard ≡ served.map * options.shards + part = served.own
+    in let of_map : shard / options.shards ≡ served.map = ap (λ n. n / options.shards) own ∙ shard_map served.map options.shards part small
+    in let of_part : shard % options.shards ≡ part = ap (λ n. n % options.shards) own ∙ mod-mul-add served.map options.shards part small
+    in let planned : plan_at maps options shard ≡ Some (plan_of options shard served.definition) =
+    plan_from maps options shard served.definition (ap (slice_get maps) of_map ∙ served.known)
+    in record {
+      plan = plan_of options shard served.definition;
+      planned = planned;
+      of_map = sym of_map;
+      below = plan_within maps options shard (plan_of options shard served.definition) some planned;
+      meets = λ h worker few inside.
+          both (shard == shard) _ (same_true shard shard refl)
+          (both (nat_lt worker options.workers && is_inside worker h) _ (both (nat_lt worker options.workers) _ (below_true worker options.workers few) inside)
+          (both (length key == served.definition.key_size) _ (same_true (length key) served.definition.key_size served.key_size)
+          (same_true part (shard % options.shards) (sym of_part))));
+    }
+
+-- a load from a held cell is one that the cell's shard serves
+pub load_meets : (maps : List MapDef) (code : List Insn) (options : Options) (held : Held) (cell : CellRef) (offset width : ℕ) (plan : ShardPlan) (h : List Entry) (worker : ℕ) →
+    ((map : ℕ) → IsTrue (held map cell.shard cell.id) → (cell.shard / options.shards ≡ map) × (holds worker cell.id h ≡ true)) →
+    IsServedLoad (record { code = code; maps = maps; shards = options.shards }) held cell offset width →
+    plan_at maps options cell.shard ≡ Some plan → worker < options.workers → Meets plan h (Worker worker) (Load cell offset width)
+load_meets maps code options held cell offset width plan h worker of_held served planned few =
+    let facts = plan_facts maps options cell.shard plan planned
+    in let of_map = of_held served.map served.holds
+    in let definition : slice_get maps served.map ≡ Some plan.definition = ap (slice_get maps) (sym of_map.0) ∙ facts.definition
+    in let size : value_size_of (slice_get maps served.map) ≡ plan.definition.value_size = ap value_size_of definition
+    in let inside : offset + width ≤ plan.definition.value_size = omega (arith, size, served.inside)
+    in let known : worker < plan.workers = omega (arith, facts.workers, few)
+    in both (cell.shard == plan.number) _ (same_true cell.shard plan.number (sym facts.number))
+    (both (nat_lt worker plan.workers && holds worker cell.id h && is_load_width width) _
+    (both (nat_lt worker plan.workers && holds worker cell.id h) _ (both (nat_lt worker plan.workers) _ (below_true worker plan.workers known) of_map.1) served.is_width)
+    (both (nat_le (offset + width) plan.definition.value_size) _ (at_most_true (offset + width) plan.definition.value_size inside)
+    (same_true (offset % width) 0 served.aligned)))
+
+-- ---- plans of images that may be opened with the options
+
+pub some_shards : (maps : List MapDef) (options : Options) → AreOptions maps options → 0 < options.shards
+some_shards maps options fits = ⊎_elim
+    (λ one. omega (arith, one))
+    (λ more. ⊎_elim (λ two. omega (arith, two)) (λ many. ⊎_elim (λ four. omega (arith, four)) (λ eight. omega (arith, eight)) many) more)
+    fits.power_of_two
+
+array_served : (kind : MapKind) → is_served kind ≡ true → kind ≡ Array
+array_served Array served = refl
+array_served Hash served = absurd cc
+array_served LruHash served = absurd cc
+
+array_allowed : (definition : MapDef) → is_allowed_map definition ≡ true → definition.kind ≡ Array
+array_allowed definition allowed = array_served definition.kind (first_true _ _ (first_true _ _ (first_true _ _ allowed)))
+
+at_plan : (maps : List MapDef) (options : Options) (shard : ℕ) (plan : ShardPlan) (P : MapDef → Type 0) → plan_at maps options shard ≡ Some plan → All P maps → P plan.definition
+at_plan maps options shard plan P planned all =
+    let facts = plan_facts maps options shard plan planned
+    in subst P (get_or_from_slice_get maps (shard / options.shards) plan.definition plan.definition facts.definition)
+    (All-get_or P maps (shard / options.shards) plan.definition facts.within all)
+
+-- the plan of an allowed map is an array's
+pub plan_of_array : (maps : List MapDef) (options : Options) (shard : ℕ) (plan : ShardPlan) → All (λ map. is_allowed_map map ≡ true) maps →
+    plan_at maps options shard ≡ Some plan → plan.definition.kind ≡ Array
+plan_of_array maps options shard plan allowed planned =
+    array_allowed plan.definition (at_plan maps options shard plan (λ map. is_allowed_map map ≡ true) planned allowed)
+
+pub plan_in_equal_parts : (maps : List MapDef) (options : Options) (shard : ℕ) (plan : ShardPlan) → AreOptions maps options →
+    plan_at maps options shard ≡ Some plan → plan.definition.max_entries % plan.parts ≡ 0
+plan_in_equal_parts maps options shard plan fits planned =
+    let facts = plan_facts maps options shard plan planned
+    in ap (λ parts. plan.definition.max_entries % parts) facts.parts
+    ∙ at_plan maps options shard plan (λ definition. definition.max_entries % options.shards ≡ 0) planned fits.in_equal_parts
+
+pub plan_has_parts : (maps : List MapDef) (options : Options) (shard : ℕ) (plan : ShardPlan) → AreOptions maps options →
+    plan_at maps options shard ≡ Some plan → 0 < plan.parts
+plan_has_parts maps options shard plan fits planned = omega (arith, some_shards maps options fits, (plan_facts maps options shard plan planned).parts)

@@ -1,0 +1,209 @@
+-- Whatever happens, the system stays sound; so no run of an accepted program traps or runs on.
+use Rattle.std.proofs.Common.{rules, ◌≡◌, ℕ, zero, suc, ◌<◌, ◌≤◌, ◌*◌, Bool, true, false, List, [], ◌∷◌, length, replicate, Option, Some, None, refl, sym, ap, subst, ◌∙◌, arith}
+use Rattle.std.specs.Prelude.{All, IsTrue, slice_index_or, if◌then◌else◌}
+use Rattle.std.specs.List.{AllByRecursion}
+use Rattle.std.proofs.lemmas.List.{length-replicate}
+use Rattle.std.proofs.lemmas.List.Sums.{sum_by-cons}
+use Rattle.ebpf_decode.specs.declared.insn.Insn.{Insn}
+use Rattle.ebpf_decode.specs.declared.map.MapDef.{MapDef}
+use Rattle.ebpf_decode.specs.ImageContents.{IsAllowedMap, IsEncodable}
+use Rattle.ebpf_decode.specs.InstructionEncoding.{slot_count, total_slots}
+use Rattle.ebpf_decode.specs.MapForm.{is_allowed_map}
+use Rattle.image_shape.proofs.SlotLemmas.{some_slots}
+use Rattle.semantics.specs.declared.plan.ShardPlan.{ShardPlan}
+use Rattle.semantics.specs.declared.call.Caller.TheVariants.{Worker, Controller, Reclaimer}
+use Rattle.semantics.specs.declared.call.Call.{Call}
+use Rattle.semantics.specs.declared.call.Call.TheVariants.{Enter, Leave, Lookup, Load, Store, Atomic, Update, Delete, Reclaim}
+use Rattle.semantics.specs.declared.call.Reply.{Reply}
+use Rattle.semantics.specs.MachineState.{MachineState, initial_state}
+use Rattle.semantics.specs.Step.{Step, Continues, CallsMap, Exits, Traps}
+use Rattle.semantics.specs.Semantics.{next_step}
+use Rattle.semantics.specs.ShardPlan.{plan_at}
+use Rattle.semantics.specs.History.{shard_of_call}
+use Rattle.semantics.specs.Safety.{IsSafeImage}
+use Rattle.semantics.specs.System.{Setting, program_of, SystemState, SystemEvent, BeginsRun, DoesInstruction, CallsShard, LeavesShard, Controls, Reclaims, WorkerState, Idle, Runs, Leaves, worker_state, history_of, with_worker, is_entered, entry_for, input_frame, opening_system, is_local, DoesNext, CanHappen, CanAllHappen, after_local, after_instruction, after_run_call, after_asking, after_shard_call, after_leaving, after_event, system_after}
+use Rattle.abstract_state.specs.declared.flow.Flow.{Flow}
+use Rattle.abstract_state.specs.declared.flow.Flow.TheVariants.{Ends, Falls, Jumps, Splits}
+use Rattle.abstract_state.specs.declared.state.State.{State}
+use Rattle.abstract_state.specs.Abstraction.{Held}
+use Rattle.abstract_state.specs.Soundness.{IsServed, Follows}
+use Rattle.verifier.specs.Dataflow.{Accepts}
+use Rattle.verifier.proofs.SystemInvariant.{entered_of, held_by, IsSoundRun, IsSoundWorker, IsSoundShard, IsSetting, IsSoundSystem}
+use Rattle.verifier.proofs.ReplyLemmas.{lookup_answer, load_answer}
+use Rattle.verifier.proofs.PlanLemmas.{plan_facts}
+use Rattle.verifier.proofs.SettingLemmas.{opening_sound, change_is_plain}
+use Rattle.verifier.proofs.EntryLemmas.{local_change}
+use Rattle.verifier.proofs.EventLemmas.{call_sound, leave_sound, is_counted}
+use Rattle.verifier.proofs.AskingLemmas.{stopped, enter_sound, ask_sound, quiet_lookup, quiet_load, lookup_holds, load_holds}
+use Rattle.verifier.proofs.RunLemmas.{Next, next_of, safe_worker}
+use Rattle.verifier.proofs.LocalLemmas.{sound_run, continues_soundly, called_soundly, begins_soundly}
+
+-- ---- a run's call
+
+served_call : (setting : Setting) (held : Held) (state : MachineState) (insn : Insn) (flow : Flow) (call : Call) (go : Reply → MachineState) →
+    Follows (program_of setting) held flow state insn (CallsMap call go) → IsServed (program_of setting) held call
+served_call setting held state insn Ends call go follows = absurd follows
+served_call setting held state insn (Falls known) call go follows = follows.0
+served_call setting held state insn (Jumps known) call go follows = absurd follows
+served_call setting held state insn (Splits taken fallen) call go follows = absurd follows
+
+asked : (setting : Setting) (states : List (Option State)) (system : SystemState) (worker : ℕ) (state : MachineState) (entered : List ℕ) (call : Call) (go : Reply → MachineState) → IsSetting setting states →
+    IsSoundSystem setting states system → worker_state system worker ≡ Runs state entered → next_step (program_of setting) state ≡ CallsMap call go →
+    IsServed (program_of setting) (held_by setting system worker entered) call
+asked setting states system worker state entered call go good sound is steps =
+    let run : IsSoundRun setting states system worker state entered = subst (IsSoundWorker setting states system worker) is (sound.workers worker)
+    in let here : Next setting system worker state entered run.known = next_of setting states system worker state entered good run
+    in served_call setting (held_by setting system worker entered) state here.insn here.flow call go
+    (subst (Follows (program_of setting) (held_by setting system worker entered) here.flow state here.insn) steps here.follows)
+
+asks : (setting : Setting) (states : List (Option State)) (system : SystemState) (worker : ℕ) (state : MachineState) (entered : List ℕ) (call : Call) (go : Reply → MachineState) → IsSetting setting states →
+    IsSoundSystem setting states system → worker_state system worker ≡ Runs state entered → next_step (program_of setting) state ≡ CallsMap call go →
+    IsServed (program_of setting) (held_by setting system worker entered) call → is_entered (shard_of_call call) entered ≡ true →
+    (found : Option ShardPlan) → plan_at setting.maps setting.options (shard_of_call call) ≡ found →
+    IsSoundSystem setting states (after_run_call found system worker call entered (λ reply. Runs (go reply) entered))
+asks setting states system worker state entered call go good sound is steps served into None planned = sound
+asks setting states system worker state entered (Lookup shard key) go good sound is steps served into (Some plan) planned =
+    let fits = lookup_answer (program_of setting) plan (history_of system plan.number) shard key (plan_facts setting.maps setting.options shard plan planned).number
+    in ask_sound setting states system worker shard (Lookup shard key) state entered plan go good sound is planned (quiet_lookup plan system worker shard key)
+    (sound_run setting states _ worker (go (entry_for plan system (Worker worker) (Lookup shard key)).reply) entered
+    (called_soundly setting states system worker state entered (Lookup shard key) go good sound is steps (entry_for plan system (Worker worker) (Lookup shard key)).reply fits _
+    (lookup_holds setting states system worker shard key entered plan good sound planned into fits)))
+asks setting states system worker state entered (Load cell offset width) go good sound is steps served into (Some plan) planned =
+    let at : plan.number ≡ cell.shard = (plan_facts setting.maps setting.options cell.shard plan planned).number
+    in let shard_sound : IsSoundShard plan (history_of system plan.number) = subst (λ n. IsSoundShard plan (history_of system n)) (sym at) (sound.each_shard cell.shard plan planned)
+    in let fits = load_answer (program_of setting) plan (history_of system plan.number) cell offset width shard_sound
+    in ask_sound setting states system worker cell.shard (Load cell offset width) state entered plan go good sound is planned (quiet_load plan system worker cell offset width)
+    (sound_run setting states _ worker (go (entry_for plan system (Worker worker) (Load cell offset width)).reply) entered
+    (called_soundly setting states system worker state entered (Load cell offset width) go good sound is steps (entry_for plan system (Worker worker) (Load cell offset width)).reply fits _
+    (load_holds setting states system worker cell offset width entered plan good sound planned)))
+asks setting states system worker state entered (Enter shard) go good sound is steps served into (Some plan) planned = absurd served
+asks setting states system worker state entered (Leave shard) go good sound is steps served into (Some plan) planned = absurd served
+asks setting states system worker state entered (Store cell offset width value) go good sound is steps served into (Some plan) planned = absurd served
+asks setting states system worker state entered (Atomic cell offset width op value expected) go good sound is steps served into (Some plan) planned = absurd served
+asks setting states system worker state entered (Update shard key value flags) go good sound is steps served into (Some plan) planned = absurd served
+asks setting states system worker state entered (Delete shard key) go good sound is steps served into (Some plan) planned = absurd served
+asks setting states system worker state entered (Reclaim shard) go good sound is steps served into (Some plan) planned = absurd served
+
+by_entered : (setting : Setting) (states : List (Option State)) (system : SystemState) (worker : ℕ) (state : MachineState) (entered : List ℕ) (call : Call) (go : Reply → MachineState) → IsSetting setting states →
+    IsSoundSystem setting states system → worker_state system worker ≡ Runs state entered → next_step (program_of setting) state ≡ CallsMap call go →
+    (into : Bool) → is_entered (shard_of_call call) entered ≡ into →
+    IsSoundSystem setting states (if into
+    then after_run_call (plan_at setting.maps setting.options (shard_of_call call)) system worker call entered (λ reply. Runs (go reply) entered)
+    else after_run_call (plan_at setting.maps setting.options (shard_of_call call)) system worker (Enter (shard_of_call call)) entered (λ reply. Runs state (shard_of_call call ∷ entered)))
+by_entered setting states system worker state entered call go good sound is steps true into =
+    asks setting states system worker state entered call go good sound is steps (asked setting states system worker state entered call go good sound is steps) into
+    (plan_at setting.maps setting.options (shard_of_call call)) refl
+by_entered setting states system worker state entered call go good sound is steps false outside =
+    enter_sound setting states system worker (shard_of_call call) state entered (plan_at setting.maps setting.options (shard_of_call call)) good sound is outside refl
+
+-- ---- what a worker does
+
+does : (setting : Setting) (states : List (Option State)) (system : SystemState) (worker : ℕ) (state : MachineState) (entered : List ℕ) (step : Step) → IsSetting setting states →
+    IsSoundSystem setting states system → worker_state system worker ≡ Runs state entered → next_step (program_of setting) state ≡ step → IsTrue (is_local step) →
+    IsSoundSystem setting states (with_worker system worker (after_local step entered (Runs state entered)))
+does setting states system worker state entered (Continues next) good sound is steps local =
+    local_change setting states system worker (Runs next entered) good sound
+    (is_counted setting states system worker sound (λ idle. let e : Idle ≡ Runs state entered = sym idle ∙ is in absurd cc))
+    (sym (ap entered_of is)) (continues_soundly setting states system worker state entered next good sound is steps)
+does setting states system worker state entered (Exits verdict last) good sound is steps local = stopped setting states system worker state entered good sound is
+does setting states system worker state entered (CallsMap call go) good sound is steps local = absurd cc
+does setting states system worker state entered (Traps cause) good sound is steps local = absurd cc
+
+calls : (setting : Setting) (states : List (Option State)) (system : SystemState) (worker : ℕ) (state : MachineState) (entered : List ℕ) (step : Step) → IsSetting setting states →
+    IsSoundSystem setting states system → worker_state system worker ≡ Runs state entered → next_step (program_of setting) state ≡ step →
+    IsSoundSystem setting states (after_asking setting system worker state entered step)
+calls setting states system worker state entered (CallsMap call go) good sound is steps =
+    by_entered setting states system worker state entered call go good sound is steps (is_entered (shard_of_call call) entered) refl
+calls setting states system worker state entered (Continues next) good sound is steps = sound
+calls setting states system worker state entered (Exits verdict last) good sound is steps = sound
+calls setting states system worker state entered (Traps cause) good sound is steps = sound
+
+instruction_sound : (setting : Setting) (states : List (Option State)) (system : SystemState) (worker : ℕ) (now : WorkerState) → IsSetting setting states →
+    IsSoundSystem setting states system → worker_state system worker ≡ now → DoesNext setting now is_local → IsSoundSystem setting states (with_worker system worker (after_instruction setting now))
+instruction_sound setting states system worker Idle good sound is can = absurd can
+instruction_sound setting states system worker (Leaves entered) good sound is can = absurd can
+instruction_sound setting states system worker (Runs state entered) good sound is can =
+    does setting states system worker state entered (next_step (program_of setting) state) good sound is refl can
+
+shard_call_sound : (setting : Setting) (states : List (Option State)) (system : SystemState) (worker : ℕ) (now : WorkerState) → IsSetting setting states →
+    IsSoundSystem setting states system → worker_state system worker ≡ now → IsSoundSystem setting states (after_shard_call setting system worker now)
+shard_call_sound setting states system worker Idle good sound is = sound
+shard_call_sound setting states system worker (Leaves entered) good sound is = sound
+shard_call_sound setting states system worker (Runs state entered) good sound is =
+    calls setting states system worker state entered (next_step (program_of setting) state) good sound is refl
+
+leaving_sound : (setting : Setting) (states : List (Option State)) (system : SystemState) (worker shard : ℕ) (now : WorkerState) → IsSetting setting states →
+    IsSoundSystem setting states system → worker_state system worker ≡ now → IsSoundSystem setting states (after_leaving setting system worker shard now)
+leaving_sound setting states system worker shard Idle good sound is = sound
+leaving_sound setting states system worker shard (Runs state entered) good sound is = sound
+leaving_sound setting states system worker shard (Leaves entered) good sound is =
+    leave_sound setting states system worker shard entered (plan_at setting.maps setting.options shard) good sound is refl
+
+-- ---- events
+
+event_sound : (setting : Setting) (states : List (Option State)) (system : SystemState) (event : SystemEvent) → IsSetting setting states → CanHappen setting system event →
+    IsSoundSystem setting states system → IsSoundSystem setting states (after_event setting system event)
+event_sound setting states system (BeginsRun worker frame now) good can sound =
+    let few : worker < setting.options.workers = can.0
+    in let most : setting.options.workers ≤ 8 = good.options.at_most_eight
+    in local_change setting states system worker (Runs (initial_state (input_frame frame) worker now) []) good sound can.0 (sym (ap entered_of can.1))
+    (begins_soundly setting states system worker frame now good can.2 (omega arith) can.3)
+event_sound setting states system (DoesInstruction worker) good can sound =
+    instruction_sound setting states system worker (worker_state system worker) good sound refl can
+event_sound setting states system (CallsShard worker) good can sound = shard_call_sound setting states system worker (worker_state system worker) good sound refl
+event_sound setting states system (LeavesShard worker shard) good can sound = leaving_sound setting states system worker shard (worker_state system worker) good sound refl
+event_sound setting states system (Controls call) good can sound =
+    call_sound setting states system (shard_of_call call) (plan_at setting.maps setting.options (shard_of_call call)) Controller call good sound refl
+    (change_is_plain call can.0 can.1) (λ worker. refl)
+event_sound setting states system (Reclaims shard) good can sound =
+    call_sound setting states system shard (plan_at setting.maps setting.options shard) Reclaimer (Reclaim shard) good sound refl tt (λ worker. refl)
+
+-- ---- where nothing has happened
+
+same_everywhere : {A : Type 0} → (n k : ℕ) (d : A) → slice_index_or (replicate n d) k d ≡ d
+same_everywhere zero k d = refl
+same_everywhere (suc n) zero d = refl
+same_everywhere (suc n) (suc k) d = same_everywhere n k d
+
+opening_is_sound : (setting : Setting) (states : List (Option State)) → IsSetting setting states → IsSoundSystem setting states (opening_system setting)
+opening_is_sound setting states good =
+    let idle : (worker : ℕ) → worker_state (opening_system setting) worker ≡ Idle = (λ worker. same_everywhere 8 worker Idle)
+    in let empty : (shard : ℕ) → history_of (opening_system setting) shard ≡ [] = (λ shard. same_everywhere (length setting.maps * setting.options.shards) shard [])
+    in record {
+      eight = length-replicate 8 Idle;
+      shards = length-replicate (length setting.maps * setting.options.shards) [];
+      inside = λ worker shard. rw (empty shard, idle worker) refl;
+      entered = λ worker shard is_in. let none : false ≡ true = sym (ap (λ st. is_entered shard (entered_of st)) (idle worker)) ∙ is_in in absurd cc;
+      numbers = λ worker h. idle worker;
+      workers = λ worker. subst (IsSoundWorker setting states (opening_system setting) worker) (sym (idle worker)) tt;
+      each_shard = λ number plan planned. subst (IsSoundShard plan) (sym (empty number)) (opening_sound setting states number plan good planned);
+    }
+
+system_sound : (setting : Setting) (states : List (Option State)) (events : List SystemEvent) → IsSetting setting states → CanAllHappen setting events →
+    IsSoundSystem setting states (system_after setting events)
+system_sound setting states [] good can = opening_is_sound setting states good
+system_sound setting states (event ∷ earlier) good can =
+    event_sound setting states (system_after setting earlier) event good can.0 (system_sound setting states earlier good can.1)
+
+-- ---- an accepted image
+
+all_allowed : (maps : List MapDef) → AllByRecursion IsAllowedMap maps → All (λ map. is_allowed_map map ≡ true) maps
+all_allowed [] h = search rules
+all_allowed (map ∷ maps) h = search (rules, h.0, all_allowed maps h.1)
+
+some_slot : (code : List Insn) → 1 ≤ length code → 0 < total_slots code
+some_slot [] h = absurd (omega arith)
+some_slot (insn ∷ code) h = omega (arith, sum_by-cons slot_count insn code, some_slots insn)
+
+pub safe_image : (maps : List MapDef) (code : List Insn) (states : List (Option State)) → IsEncodable maps code → Accepts maps code states → IsSafeImage maps code
+safe_image maps code states encodable accepted options fit events can worker =
+    let setting : Setting = record { maps = maps; code = code; options = options }
+    in let good : IsSetting (record { maps = maps; code = code; options = options }) states = record {
+      options = fit;
+      allowed = all_allowed maps encodable.maps_allowed;
+      accepted = accepted;
+      some_code = some_slot code encodable.some_code;
+      fits = encodable.fields_fit;
+    }
+    in safe_worker (record { maps = maps; code = code; options = options }) states (system_after (record { maps = maps; code = code; options = options }) events) worker good
+    (system_sound (record { maps = maps; code = code; options = options }) states events good can)

@@ -1,0 +1,64 @@
+-- What holds of the system after every list of events, where the program was accepted: each run's state is one that what is known at
+-- its slot is sound for, and a worker is inside exactly the shards that its run has entered.
+use Rattle.std.proofs.Common.{◌≡◌, ℕ, ◌*◌, ◌/◌, ◌<◌, ◌≤◌, ◌==◌, ◌&&◌, true, List, [], length, Option, Some}
+use Rattle.std.specs.Prelude.{All, IsTrue}
+use Rattle.std.specs.List.{AllByRecursion}
+use Rattle.ebpf_decode.specs.MapForm.{is_allowed_map}
+use Rattle.ebpf_decode.specs.InstructionEncoding.{total_slots, FieldsFit}
+use Rattle.semantics.specs.declared.call.Entry.{Entry}
+use Rattle.semantics.specs.MachineState.{MachineState}
+use Rattle.semantics.specs.Reclamation.{is_inside, holds}
+use Rattle.semantics.specs.declared.plan.ShardPlan.{ShardPlan}
+use Rattle.semantics.specs.ShardPlan.{plan_at, AreOptions}
+use Rattle.semantics.specs.SequentialShard.{shard_after}
+use Rattle.semantics.specs.System.{Setting, SystemState, WorkerState, Idle, Runs, Leaves, worker_state, history_of, is_entered}
+use Rattle.abstract_state.specs.declared.state.State.{State}
+use Rattle.abstract_state.specs.Abstraction.{Held, Abstracts}
+use Rattle.image_shape.specs.Edges.{is_begin}
+use Rattle.verifier.specs.Dataflow.{known_at, Accepts}
+
+-- the shards that a worker's run has entered
+abbrev pub entered_of : WorkerState → List ℕ
+entered_of Idle = []
+entered_of (Runs state entered) = entered
+entered_of (Leaves entered) = entered
+
+-- the cells that a worker holds: of the shards that its run has entered, by its own entries
+abbrev pub held_by : Setting → SystemState → ℕ → List ℕ → Held
+held_by setting system worker entered map shard cell =
+    (shard / setting.options.shards == map) && (is_entered shard entered && holds worker cell (history_of system shard))
+
+pub record IsSoundRun (setting : Setting) (states : List (Option State)) (system : SystemState) (worker : ℕ) (state : MachineState) (entered : List ℕ) : Type 0 where
+  pub known : State
+  pub at : known_at states state.slot ≡ Some known
+  pub begins : IsTrue (is_begin setting.code state.slot)
+  pub sound : Abstracts setting.maps (held_by setting system worker entered) known state
+  pub few : state.steps ≤ state.slot
+
+abbrev pub IsSoundWorker : Setting → List (Option State) → SystemState → ℕ → WorkerState → Type 0
+IsSoundWorker setting states system worker Idle = Unit {0}
+IsSoundWorker setting states system worker (Runs state entered) = IsSoundRun setting states system worker state entered
+IsSoundWorker setting states system worker (Leaves entered) = Unit {0}
+
+-- a shard of an array: its cells are as many as at first, their bytes are bytes, and what a worker holds is one of them
+pub record IsSoundShard (plan : ShardPlan) (history : List Entry) : Type 0 where
+  pub bytes : All (All (λ byte. byte < 256)) (shard_after plan history).cells
+  pub held : (worker cell : ℕ) → holds worker cell history ≡ true → cell < length (shard_after plan history).cells
+  pub count : length (shard_after plan history).cells ≡ length (shard_after plan []).cells
+
+-- what a setting is: an accepted program over maps that images may have, and options that fit them
+pub record IsSetting (setting : Setting) (states : List (Option State)) : Type 0 where
+  pub options : AreOptions setting.maps setting.options
+  pub allowed : All (λ map. is_allowed_map map ≡ true) setting.maps
+  pub accepted : Accepts setting.maps setting.code states
+  pub some_code : 0 < total_slots setting.code
+  pub fits : AllByRecursion FieldsFit setting.code
+
+pub record IsSoundSystem (setting : Setting) (states : List (Option State)) (system : SystemState) : Type 0 where
+  pub eight : length system.workers ≡ 8
+  pub shards : length system.histories ≡ length setting.maps * setting.options.shards
+  pub inside : (worker shard : ℕ) → is_inside worker (history_of system shard) ≡ is_entered shard (entered_of (worker_state system worker))
+  pub entered : (worker shard : ℕ) → is_entered shard (entered_of (worker_state system worker)) ≡ true → shard < length setting.maps * setting.options.shards
+  pub numbers : (worker : ℕ) → setting.options.workers ≤ worker → worker_state system worker ≡ Idle
+  pub workers : (worker : ℕ) → IsSoundWorker setting states system worker (worker_state system worker)
+  pub each_shard : (number : ℕ) (plan : ShardPlan) → plan_at setting.maps setting.options number ≡ Some plan → IsSoundShard plan (history_of system number)
