@@ -13,3 +13,4 @@ pub mod AskingLemmas
 pub mod RunLemmas
 pub mod LocalLemmas
 pub mod SafetyLemmas
+pub mod ResolvingLemmas

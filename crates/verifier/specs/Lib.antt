@@ -2,3 +2,4 @@ pub mod Rejects
 pub mod Dataflow
 pub mod Readers
 pub mod Verified
+pub mod Resolving

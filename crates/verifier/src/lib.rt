@@ -5,9 +5,11 @@ mod edges;
 mod pass;
 mod reader;
 mod reject;
+pub mod resolved;
 mod verified;
 
 pub use reject::Reject;
+pub use resolved::{Memory, Resolved};
 pub use verified::{Verified, verify};
 
 #[cfg(test)]

@@ -394,6 +394,34 @@ fn no_map_in_the_list(rt: HostRuntime) -> Result<(), Fail> {
 }
 
 #[test]
+fn resolved_instructions(rt: HostRuntime) -> Result<(), Fail> {
+    #[rattlefmt::skip]
+    const ROWS: [(&str, &[Insn], usize, Option<Memory>); 8] = [
+        ("a spill goes to the stack",            &[SPILL, FILL, FIELD_12, EXIT], 0, Some(Memory::Stack)),
+        ("a fill comes from there",              &[SPILL, FILL, FIELD_12, EXIT], 1, Some(Memory::Stack)),
+        ("a field of the filled context",        &[SPILL, FILL, FIELD_12, EXIT], 2, Some(Memory::Context)),
+        ("an exit touches nothing",              &[SPILL, FILL, FIELD_12, EXIT], 3, Some(Memory::Nowhere)),
+        ("nothing past the end",                 &[SPILL, FILL, FIELD_12, EXIT], 4, None),
+        ("nothing inside a wide instruction",    &[NUMBER, EXIT], 1, None),
+        ("a byte of the packet",                 &[START, END, PLACE, ADD_14, PASS, JGT_1, BYTE_13, EXIT], 6, Some(Memory::Packet)),
+        ("a value of a map, behind a wide one",  &[KEY, KEY_AT, KEY_DOWN, MAP, LOOKUP, JEQ_NULL, VALUE, PASS, EXIT], 7, Some(Memory::Value)),
+    ];
+    for (name, code, slot, wanted) in ROWS {
+        match verify(rt.alloc(), image_of(rt.alloc(), code)?) {
+            Ok(verified) => {
+                let memory = match verified.resolved(slot) {
+                    Some(resolved) => Some(resolved.memory),
+                    None => None,
+                };
+                assert_eq!(rt; memory, wanted, "{name}");
+            }
+            Err(reject) => assert!(rt; false, "{name}: {reject}"),
+        }
+    }
+    Ok(())
+}
+
+#[test]
 fn the_longest_program(rt: HostRuntime) -> Result<(), Fail> {
     let mut code = Vec::new(rt.alloc());
     for _ in 0..4095 {
