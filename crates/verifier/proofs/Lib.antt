@@ -14,3 +14,4 @@ pub mod RunLemmas
 pub mod LocalLemmas
 pub mod SafetyLemmas
 pub mod ResolvingLemmas
+pub mod AnswerLemmas

@@ -63,7 +63,7 @@ arriving_below slot insn k (Splits taken fallen) known up h =
 
 -- ---- what is known below a slot decides what arrives from below it
 
-agree : (maps : List MapDef) (code : List Insn) (one two : List (Option State)) (target end : ℕ) →
+pub agree : (maps : List MapDef) (code : List Insn) (one two : List (Option State)) (target end : ℕ) →
     ((k : ℕ) → k < end → known_at one k ≡ known_at two k) → arrived maps code one target end ≡ arrived maps code two target end
 agree maps code one two target zero same = refl
 agree maps code one two target (suc end) same =

@@ -3,3 +3,4 @@ pub mod Dataflow
 pub mod Readers
 pub mod Verified
 pub mod Resolving
+pub mod Answers

@@ -2,6 +2,7 @@
 #![tactic(auto)]
 
 mod edges;
+pub mod laws;
 mod pass;
 mod reader;
 mod reject;
