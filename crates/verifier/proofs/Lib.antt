@@ -11,6 +11,7 @@ pub mod EntryLemmas
 pub mod EventLemmas
 pub mod AskingLemmas
 pub mod RunLemmas
+pub mod PlaceLemmas
 pub mod LocalLemmas
 pub mod SafetyLemmas
 pub mod ResolvingLemmas

@@ -51,11 +51,11 @@ fields_here (first ∷ code) (suc slot) insn fits found =
 pub begins_within : (code : List Insn) (slot : ℕ) → IsTrue (is_begin code slot) → slot < total_slots code
 begins_within code slot begins = ⊎_elim (λ within. within) (λ past. absurd (let none : instruction_at code slot ≡ None = past_end code slot past in cc)) (cases_lt slot (total_slots code))
 
-begun : (found : Option Insn) → IsTrue (is_some found) → (insn : Insn) × (found ≡ Some insn)
+pub begun : (found : Option Insn) → IsTrue (is_some found) → (insn : Insn) × (found ≡ Some insn)
 begun (Some insn) begins = (insn, refl)
 begun None begins = absurd cc
 
-let_through : (after : Checked Flow) → IsOk after → (flow : Flow) × (after ≡ Ok flow)
+pub let_through : (after : Checked Flow) → IsOk after → (flow : Flow) × (after ≡ Ok flow)
 let_through (Ok flow) passes = (flow, refl)
 let_through (Err why) passes = absurd cc
 

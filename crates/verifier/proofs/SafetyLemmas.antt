@@ -191,7 +191,7 @@ all_allowed : (maps : List MapDef) → AllByRecursion IsAllowedMap maps → All 
 all_allowed [] h = search rules
 all_allowed (map ∷ maps) h = search (rules, h.0, all_allowed maps h.1)
 
-some_slot : (code : List Insn) → 1 ≤ length code → 0 < total_slots code
+pub some_slot : (code : List Insn) → 1 ≤ length code → 0 < total_slots code
 some_slot [] h = absurd (omega arith)
 some_slot (insn ∷ code) h = omega (arith, sum_by-cons slot_count insn code, some_slots insn)
 

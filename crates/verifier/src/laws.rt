@@ -1,9 +1,14 @@
 //! Laws of the definitions: each is the contract of a function that does nothing.
 
-ghost use Rattle.verifier.specs.Answers.{HasOneAnswer};
+ghost use Rattle.verifier.specs.Answers.{HasOneAnswer, AcceptedIsSafe};
 
 /// A program that some entry states let through has no reject but a want of memory: so `verify` answers `Ok` exactly for these, where
 /// there is memory.
 pub fn one_answer()
     ensures { HasOneAnswer }
+{}
+
+/// A program that some entry states let through is safe, whoever holds them: so a `Verified` stands for a safe image.
+pub fn accepted_is_safe()
+    ensures { AcceptedIsSafe }
 {}

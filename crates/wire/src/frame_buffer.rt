@@ -60,7 +60,7 @@ impl Model for Frame {
 
     ghost view = { λ frame. record { bytes = drop frame.start frame.buffer.items; headroom = frame.start } };
 
-    ghost invariant = { λ frame. (frame.start ≤ length frame.buffer.items) × (length frame.buffer.items ≤ 2304) };
+    ghost invariant = { λ frame. (frame.start ≤ length frame.buffer.items) × (length frame.buffer.items ≤ 2304) × (270 ≤ length frame.buffer.items) };
 }
 
 /// The same bytes, with what their type says of each.
@@ -111,10 +111,11 @@ impl Frame {
         with_byte_range(&self.buffer[self.start..])
     }
 
-    /// How many bytes the frame has.
+    /// How many bytes the frame has: with all its headroom free, 14 to 2048.
     pub fn len(&self) -> usize
         ensures length { result ≡ length self.now.bytes }
         ensures fits { self.now.headroom + length self.now.bytes ≤ 2304 }
+        ensures least { 270 ≤ self.now.headroom + length self.now.bytes }
     {
         self.buffer.len() - self.start
     }

@@ -1,0 +1,10 @@
+//! When and where a run happens.
+
+/// When a run happens, and on which worker.
+#[derive(Clone, Copy, Debug, PartialEq, Eq)]
+pub struct Moment {
+    /// The time in nanoseconds, as helper 5 tells it.
+    pub now_ns: u64,
+    /// The worker's number, 0 to 7, as helper 8 and the receive queue's number tell it.
+    pub worker: u8,
+}

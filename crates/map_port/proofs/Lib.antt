@@ -1,0 +1,8 @@
+pub mod LeavingLemmas
+pub mod ByteLemmas
+pub mod ReadyLemmas
+pub mod MayAskLemmas
+pub mod GivenLemmas
+pub mod SessionLemmas
+pub mod PlainLaws
+pub mod TestLemmas

@@ -1,0 +1,97 @@
+-- What a port serves: the calls that a run may make of it, and the words that stand for cells.
+use Rattle.std.specs.Prelude.{◌≡◌, ℕ, zero, suc, ◌<◌, ◌^◌, List, [], length, All, IsTrue, Option, Some, None, slice_get, is_some}
+use Rattle.isa.specs.declared.operation.AtomicOp.{AtomicOp}
+use Rattle.ebpf_decode.specs.declared.map.MapDef.{MapDef}
+use Rattle.ebpf_decode.specs.InstructionCodes.{atomic_code}
+use Rattle.semantics.specs.declared.call.CellRef.{CellRef}
+use Rattle.semantics.specs.declared.call.Call.{Call}
+use Rattle.semantics.specs.declared.call.Call.TheVariants.{Lookup, Load, Store, Atomic, Update, Delete}
+use Rattle.semantics.specs.declared.call.Reply.{Reply}
+use Rattle.semantics.specs.declared.call.Reply.TheVariants.{Cell, Null}
+use Rattle.semantics.specs.Program.{Program, shard_of_key}
+use Rattle.semantics.specs.SequentialShard.{atomic_op_at}
+use Rattle.semantics.specs.History.{is_atomic_width, is_expected}
+use Rattle.abstract_state.specs.Abstraction.{Held}
+use Rattle.abstract_state.specs.Soundness.{IsServedLookup, IsServedLoad, IsHandedOut}
+
+-- ---- maps and shards
+
+-- the maps that a port has, and how many shards each of them has
+pub record Maps : Type 0 where
+  pub maps : List MapDef
+  pub shards : ℕ
+
+-- as a program without instructions: calls see no more of it
+abbrev pub program_over : Maps → Program
+program_over served = record { code = []; maps = served.maps; shards = served.shards }
+
+-- the shard of a key
+abbrev pub shard_of : Maps → ℕ → List ℕ → ℕ
+shard_of served map key = shard_in (slice_get served.maps map) where
+  shard_in : Option MapDef → ℕ
+  shard_in (Some definition) = shard_of_key map definition.kind served.shards key
+  shard_in None = 0
+
+-- ---- the calls
+
+abbrev pub lookup_call : Maps → ℕ → List ℕ → Call
+lookup_call served map key = Lookup (shard_of served map key) key
+
+abbrev pub update_call : Maps → ℕ → List ℕ → List ℕ → ℕ → Call
+update_call served map key value flags = Update (shard_of served map key) key value flags
+
+abbrev pub delete_call : Maps → ℕ → List ℕ → Call
+delete_call served map key = Delete (shard_of served map key) key
+
+abbrev pub atomic_call : CellRef → ℕ → ℕ → AtomicOp → ℕ → ℕ → Call
+atomic_call cell offset width op value expected = Atomic cell offset width (atomic_code op) value expected
+
+-- a key of a map that there is
+pub record IsKeyOf (served : Maps) (map : ℕ) (key : List ℕ) : Type 0 where
+  pub definition : MapDef
+  pub known : slice_get served.maps map ≡ Some definition
+  pub key_size : length key ≡ definition.key_size
+  pub bytes : All (λ byte. byte < 256) key
+
+-- with a value of that map
+pub record IsPairOf (served : Maps) (map : ℕ) (key value : List ℕ) : Type 0 where
+  pub definition : MapDef
+  pub known : slice_get served.maps map ≡ Some definition
+  pub key_size : length key ≡ definition.key_size
+  pub value_size : length value ≡ definition.value_size
+  pub bytes : All (λ byte. byte < 256) key
+  pub value_bytes : All (λ byte. byte < 256) value
+
+-- some bytes of a cell that was handed out: inside its value, at a multiple of their number
+abbrev pub IsReadable : Maps → Held → CellRef → ℕ → ℕ → Type 0
+IsReadable served held cell offset width = IsServedLoad (program_over served) held cell offset width
+
+-- a number that is stored there
+pub record IsStorable (served : Maps) (held : Held) (cell : CellRef) (offset width value : ℕ) : Type 0 where
+  pub place : IsReadable served held cell offset width
+  pub fits : value < 256 ^ width
+
+-- an atomic operation there; only compare-and-exchange has a number to compare with
+pub record IsAtomic (served : Maps) (held : Held) (cell : CellRef) (offset width : ℕ) (op : AtomicOp) (value expected : ℕ) : Type 0 where
+  pub place : IsReadable served held cell offset width
+  pub atomic_width : IsTrue (is_atomic_width width)
+  pub fits : value < 256 ^ width
+  pub expected_fits : expected < 256 ^ width
+  pub expected_if : IsTrue (is_expected (atomic_code op) expected)
+
+-- ---- handles: the numbers by which a port names the cells that it handed out
+
+-- more than this never stand for a cell: a handle leaves nine bits of a word for an offset
+abbrev pub handle_limit : ℕ
+handle_limit = 2 ^ 55
+
+-- the reply that a handle tells: 0 is no cell
+abbrev pub found_reply : (ℕ → CellRef) → ℕ → Reply
+found_reply cell_of zero = Null
+found_reply cell_of (suc handle) = Cell (cell_of (suc handle))
+
+-- what a call leaves to the port: its maps, and all that it handed out under the same handles
+pub record Keeps (before after : Maps) (held held' : Held) (cell_of cell_of' : ℕ → CellRef) : Type 0 where
+  pub same : after ≡ before
+  pub kept : (map shard cell : ℕ) → IsTrue (held map shard cell) → IsTrue (held' map shard cell)
+  pub named : (map handle : ℕ) → IsTrue (held map (cell_of handle).shard (cell_of handle).id) → cell_of' handle ≡ cell_of handle

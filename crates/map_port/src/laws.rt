@@ -1,0 +1,35 @@
+//! Laws of plain ports: each is the contract of a function that does nothing.
+
+ghost use Rattle.map_port.specs.Sessions.{WritesSessions, WritesRefusedSessions, StaysOnePort, IsOutsideAll, OpenedServe, CallsKeepServing};
+
+/// What a port was asked and what it answered is, shard by shard, what the journals then have more, between one Enter and one
+/// Leave.
+pub fn journals_have_the_calls()
+    ensures { WritesSessions }
+{}
+
+/// Where the run ended because a call was refused, the refused call's shard may have an Enter and a Leave more, with no call
+/// between.
+pub fn journals_after_a_refusal()
+    ensures { WritesRefusedSessions }
+{}
+
+/// Calls leave the port over the same shards, maps and options, for the same worker.
+pub fn stays_one_port()
+    ensures { StaysOnePort }
+{}
+
+/// A port that is finished has left every shard.
+pub fn finish_leaves()
+    ensures { IsOutsideAll }
+{}
+
+/// Shards that were opened are those of the maps.
+pub fn opened_serve()
+    ensures { OpenedServe }
+{}
+
+/// They stay that by every call that sets bytes, whoever makes it.
+pub fn calls_keep_serving()
+    ensures { CallsKeepServing }
+{}

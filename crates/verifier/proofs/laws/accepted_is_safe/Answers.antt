@@ -1,0 +1,5 @@
+use Rattle.verifier.proofs.SafetyLemmas.{safe_image}
+use Rattle.verifier.proofs.laws.accepted_is_safe.Goals as goal
+
+pub returns : goal.returns
+returns c = λ maps code states encodable accepted. safe_image maps code states encodable accepted
