@@ -1,5 +1,5 @@
 -- Cells hold bytes, whatever is called on them.
-use Rattle.std.proofs.Common.{◌≡◌, ℕ, zero, suc, ◌+◌, ◌*◌, ◌/◌, ◌%◌, ◌^◌, ◌<◌, ◌≤◌, List, [], ◌∷◌, ◌++◌, length, take, drop, get_or, set, reverse, Option, Some, None, arith, refl, sym, ◌∙◌, ap, subst, lit<}
+use Rattle.std.proofs.Common.{ℕ, zero, suc, ◌+◌, ◌/◌, ◌^◌, ◌<◌, ◌≤◌, List, [], ◌∷◌, ◌++◌, length, take, drop, Option, Some, None, arith, lit<}
 use Rattle.std.specs.Prelude.{slice_set, slice_index_or}
 use Rattle.std.specs.List.{AllByRecursion}
 use Rattle.std.proofs.Math.Nat.{mod-lt, pow-le-pow_right}
@@ -10,7 +10,7 @@ use Rattle.semantics.specs.declared.call.Entry.{Entry}
 use Rattle.semantics.specs.declared.plan.ShardPlan.{ShardPlan}
 use Rattle.semantics.specs.declared.plan.PresentKey.{PresentKey}
 use Rattle.semantics.specs.LittleEndian.{number_of_bytes, bytes_of_number}
-use Rattle.semantics.specs.SequentialShard.{SequentialShard, cell_bytes, cell_of_key, number_in_cell, with_number_in_cell, with_value, with_new_key, after_eviction, without_found, update_answer, delete_answer, present_key, shard_after_call}
+use Rattle.semantics.specs.SequentialShard.{SequentialShard, cell_bytes, cell_of_key, number_in_cell, with_number_in_cell, with_value, after_eviction, without_found, update_answer, delete_answer, present_key, shard_after_call}
 use Rattle.semantics.proofs.LittleEndianLemmas.{below-more, number_of_bytes-cons}
 use Rattle.semantics.proofs.LawLemmas.{updated_where-keeps, after_eviction-keeps}
 use Rattle.map_port.specs.PortView.{AreBytes, SetsBytes}

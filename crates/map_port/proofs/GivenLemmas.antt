@@ -1,19 +1,16 @@
 -- What the calls of each kind give.
 use Rattle.std.proofs.Common.{◌≡◌, ℕ, zero, suc, ◌+◌, ◌-◌, ◌*◌, ◌/◌, ◌%◌, ◌^◌, ◌<◌, ◌≤◌, Bool, true, false, ◌&&◌, nat_lt, ℤ, List, [], ◌∷◌, length, reverse, Option, Some, None, arith, refl, sym, ◌∙◌, ap, subst, add-one}
-use Rattle.std.specs.Prelude.{◌==◌, IsTrue, slice_get, if◌then◌else◌, FitsSigned}
+use Rattle.std.specs.Prelude.{◌==◌, IsTrue, slice_get, if◌then◌else◌}
 use Rattle.std.specs.List.{AllByRecursion}
-use Rattle.std.specs.Int.{w32}
 use Rattle.std.proofs.lemmas.Option.{slice_get_within}
 use Rattle.std.proofs.lemmas.Nat.{div-mul-add, mod-mul-add}
 use Rattle.std.proofs.Math.Nat.{mul-le-mul_right, div-le_self}
 use Rattle.std.proofs.lemmas.Bool.Decides.{nat_tests}
-use Rattle.isa.specs.declared.operation.AtomicOp.{AtomicOp}
 use Rattle.ebpf_decode.specs.declared.map.MapDef.{MapDef}
 use Rattle.ebpf_decode.specs.declared.map.MapKind.{MapKind}
 use Rattle.ebpf_decode.specs.declared.map.MapKind.TheVariants.{Hash, Array, LruHash}
 use Rattle.ebpf_decode.specs.MapForm.{is_served, is_key_size, is_value_size, is_entry_count}
 use Rattle.ebpf_decode.specs.ImageContents.{IsAllowedMap}
-use Rattle.ebpf_decode.specs.InstructionCodes.{atomic_code}
 use Rattle.semantics.specs.declared.options.Options.{Options}
 use Rattle.semantics.specs.declared.plan.ShardPlan.{ShardPlan}
 use Rattle.semantics.specs.declared.call.Caller.TheVariants.{Worker}
@@ -21,7 +18,7 @@ use Rattle.semantics.specs.declared.call.CellRef.{CellRef}
 use Rattle.semantics.specs.declared.call.Call.{Call}
 use Rattle.semantics.specs.declared.call.Call.TheVariants.{Lookup, Load, Store, Atomic, Update, Delete}
 use Rattle.semantics.specs.declared.call.Reply.{Reply}
-use Rattle.semantics.specs.declared.call.Reply.TheVariants.{Cell, Null, Word, Done, Answer}
+use Rattle.semantics.specs.declared.call.Reply.TheVariants.{Cell, Word, Done, Answer}
 use Rattle.semantics.specs.LittleEndian.{number_of_bytes}
 use Rattle.semantics.specs.SequentialShard.{SequentialShard, shard_after, cell_of_kind, cell_of_index, cell_of_key, lookup_reply}
 use Rattle.semantics.specs.History.{meets_part}
@@ -29,12 +26,12 @@ use Rattle.semantics.specs.RunTrace.{IsReplyTo}
 use Rattle.semantics.proofs.ConditionLemmas.{first_true, second_true}
 use Rattle.shard_core.specs.JournaledShard.{JournaledShard}
 use Rattle.map_port.specs.Served.{Maps, program_over, shard_of, IsKeyOf, found_reply}
-use Rattle.map_port.specs.Asking.{entered, IsAnswered, IsAnsweredAmong}
-use Rattle.map_port.specs.PortView.{PortView, IsShardOf, AreShardsOf, IsReady, IsRunCall, SetsBytes, IsGivenBy, cell_of_handle, handle_of, word_in, answer_in, has_small_cell}
+use Rattle.map_port.specs.Asking.{entered, IsAnsweredAmong}
+use Rattle.map_port.specs.PortView.{IsShardOf, IsReady, IsRunCall, SetsBytes, IsGivenBy, cell_of_handle, handle_of, word_in, answer_in, has_small_cell}
 use Rattle.map_port.specs.PortLaws.{both_true}
 use Rattle.map_port.proofs.ByteLemmas.{number_in_cell-below}
 use Rattle.map_port.proofs.ReadyLemmas.{plan_number, bytes_entered}
-use Rattle.map_port.proofs.MayAskLemmas.{served_by, shard_of_known, some_part, few_parts}
+use Rattle.map_port.proofs.MayAskLemmas.{served_by, shard_of_known, few_parts}
 
 -- ---- arrays
 

@@ -1,5 +1,5 @@
 -- A call that the port takes is one that its shard serves.
-use Rattle.std.proofs.Common.{◌≡◌, ℕ, zero, suc, ◌+◌, ◌*◌, ◌/◌, ◌%◌, ◌^◌, ◌<◌, ◌≤◌, Bool, true, false, ◌&&◌, nat_lt, nat_le, List, [], ◌∷◌, ◌++◌, length, reverse, Option, Some, None, arith, refl, sym, ◌∙◌, ap, subst}
+use Rattle.std.proofs.Common.{◌≡◌, ℕ, zero, suc, ◌+◌, ◌*◌, ◌/◌, ◌%◌, ◌^◌, ◌<◌, ◌≤◌, Bool, true, false, nat_lt, nat_le, List, [], ◌∷◌, ◌++◌, length, reverse, Option, Some, None, arith, refl, sym, ◌∙◌, ap, subst}
 use Rattle.std.specs.Prelude.{◌==◌, IsTrue, is_some, slice_get, if◌then◌else◌}
 use Rattle.std.proofs.lemmas.Option.{slice_get_within}
 use Rattle.std.proofs.lemmas.Nat.{div-mul-add, mod-mul-add}
@@ -11,20 +11,19 @@ use Rattle.ebpf_decode.specs.declared.map.MapDef.{MapDef}
 use Rattle.ebpf_decode.specs.InstructionCodes.{atomic_code}
 use Rattle.semantics.specs.declared.options.Options.{Options}
 use Rattle.semantics.specs.declared.plan.ShardPlan.{ShardPlan}
-use Rattle.semantics.specs.declared.call.Caller.TheVariants.{Worker}
 use Rattle.semantics.specs.declared.call.CellRef.{CellRef}
-use Rattle.semantics.specs.declared.call.Call.TheVariants.{Enter, Leave, Lookup, Load, Store, Atomic, Update, Delete}
+use Rattle.semantics.specs.declared.call.Call.TheVariants.{Load, Store}
 use Rattle.semantics.specs.Program.{part_of_key, shard_number_of_key}
-use Rattle.semantics.specs.ShardPlan.{plan_at, AreOptions}
+use Rattle.semantics.specs.ShardPlan.{AreOptions}
 use Rattle.semantics.specs.Reclamation.{is_inside, holds}
 use Rattle.semantics.specs.SequentialShard.{atomic_op_at}
-use Rattle.semantics.specs.History.{is_own_key, is_load_width, is_atomic_width, is_in_cell, fits_width, is_expected}
+use Rattle.semantics.specs.History.{is_own_key, is_load_width, is_in_cell, fits_width}
 use Rattle.semantics.proofs.ConditionLemmas.{first_true, second_true}
 use Rattle.abstract_state.specs.States.{value_size_of}
 use Rattle.shard_core.specs.JournaledShard.{JournaledShard}
 use Rattle.map_port.specs.Served.{Maps, shard_of, IsKeyOf, IsPairOf, IsReadable, IsStorable, IsAtomic, lookup_call, update_call, delete_call, atomic_call}
 use Rattle.map_port.specs.Asking.{is_in, enter_entry, entered, may_ask_at}
-use Rattle.map_port.specs.PortView.{PortView, holds_at, is_handed_out, IsShardOf, AreShardsOf, IsReady}
+use Rattle.map_port.specs.PortView.{holds_at, is_handed_out, IsShardOf, IsReady}
 use Rattle.map_port.specs.PortLaws.{same_worker, append_none, newest_first, stays_entered, held_is_inside, both_true}
 use Rattle.map_port.proofs.ReadyLemmas.{plan_number, is_worker_of}
 

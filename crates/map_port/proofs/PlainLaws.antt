@@ -1,5 +1,5 @@
 -- The laws of plain ports.
-use Rattle.std.proofs.Common.{◌≡◌, ◌⊎◌, inl, inr, ⊎_elim, Bool, true, false, ℕ, zero, suc, ◌<◌, List, [], ◌∷◌, ◌++◌, length, replicate, Option, Some, None, arith, refl, sym, ◌∙◌, ap, subst}
+use Rattle.std.proofs.Common.{◌≡◌, ◌⊎◌, inl, inr, ⊎_elim, Bool, true, false, ℕ, zero, suc, List, [], ◌∷◌, replicate, Option, Some, None, arith, refl, sym, ◌∙◌, ap, subst}
 use Rattle.std.specs.Prelude.{◌==◌, IsFalse, slice_get, slice_set, option_map}
 use Rattle.std.specs.List.{AllByRecursion}
 use Rattle.std.proofs.lemmas.Option.{slice_get_within}
@@ -18,8 +18,8 @@ use Rattle.semantics.specs.History.{shard_of_call, IsLegalJournal}
 use Rattle.shard_core.specs.JournaledShard.{JournaledShard, with_entry, opened_shard}
 use Rattle.shards.specs.Opening.{AreOpened}
 use Rattle.map_port.specs.Exchanges.{Exchange, IsChain}
-use Rattle.map_port.specs.Asking.{is_in, left, entered, enter_entry, leave_entry, all_left, CannotEnter, CannotCall, IsTurnedAwayAmong}
-use Rattle.map_port.specs.PortView.{PortView, AreBytes, HasByteCells, SetsBytes, IsShardOf, AreShardsOf, ServesMaps, IsGivenBy}
+use Rattle.map_port.specs.Asking.{is_in, left, entered, all_left, CannotEnter, CannotCall, IsTurnedAwayAmong}
+use Rattle.map_port.specs.PortView.{PortView, AreBytes, SetsBytes, IsShardOf, AreShardsOf, ServesMaps, IsGivenBy}
 use Rattle.map_port.specs.declared.plain.PlainPort.{PlainPort}
 use Rattle.map_port.specs.PlainPorts.{view_of, IsSamePort, PortGives, PortRefuses}
 use Rattle.map_port.specs.Sessions.{with_entries, begun, session, entries_at, IsVisited}
@@ -35,10 +35,11 @@ pub writes_sessions : (before after : PlainPort) (exchanges : List Exchange) →
 writes_sessions before after exchanges chain number shard known outside =
     let views : IsChain IsGivenBy (view_of before) exchanges (view_of after) = chain_of_views before after exchanges chain in
     let written = after_outside (view_of before) (view_of after) exchanges views number shard known outside in
-    let worker : after.worker ≡ before.worker = chain_worker (view_of before) (view_of after) exchanges views in
-    (written.there,
-    rw worker (left_at before.worker after.shards.now number (with_entries shard (begun before.worker shard.plan.number (entries_at before.worker number exchanges))) written.there
-    ∙ ap Some written.finished))
+    let worker : after.worker ≡ before.worker = chain_worker (view_of before) (view_of after) exchanges views in (
+      written.there,
+      rw worker (left_at before.worker after.shards.now number (with_entries shard (begun before.worker shard.plan.number (entries_at before.worker number exchanges))) written.there
+          ∙ ap Some written.finished),
+    )
 
 -- ---- a refusal at the end
 

@@ -1,7 +1,7 @@
 -- The shards of an image's maps stay that, whatever is called on them.
-use Rattle.std.proofs.Common.{◌≡◌, ◌⊎◌, ⊎_elim, ℕ, zero, suc, ◌<◌, ◌*◌, ◌%◌, Bool, true, false, ◌&&◌, nat_lt, List, [], ◌∷◌, ◌++◌, length, map, reverse, Option, Some, None, arith, refl, sym, ◌∙◌, ap, subst}
+use Rattle.std.proofs.Common.{◌≡◌, ⊎_elim, ℕ, zero, suc, ◌<◌, ◌%◌, Bool, true, false, List, [], ◌∷◌, ◌++◌, length, reverse, Option, Some, None, arith, refl, sym, ◌∙◌, ap, subst}
 use Rattle.std.specs.Prelude.{Result, Ok, Err}
-use Rattle.std.specs.Prelude.{◌==◌, IsTrue, IfOk, OnErr, slice_get, slice_set, if◌then◌else◌}
+use Rattle.std.specs.Prelude.{◌==◌, IfOk, OnErr, slice_get, slice_set, if◌then◌else◌}
 use Rattle.std.specs.List.{AllByRecursion}
 use Rattle.std.proofs.lemmas.List.{length-set}
 use Rattle.std.proofs.lemmas.Bool.Decides.{nat_tests}
@@ -11,14 +11,14 @@ use Rattle.semantics.specs.declared.plan.ShardPlan.{ShardPlan}
 use Rattle.semantics.specs.declared.call.Call.{Call}
 use Rattle.semantics.specs.declared.call.Reply.{Reply}
 use Rattle.semantics.specs.declared.call.Entry.{Entry}
-use Rattle.semantics.specs.ShardPlan.{plan_at, plan_for_map}
+use Rattle.semantics.specs.ShardPlan.{plan_for_map}
 use Rattle.semantics.specs.SequentialShard.{shard_after}
-use Rattle.semantics.specs.History.{shard_of_call, IsLegalJournal, IsLegalHistory}
+use Rattle.semantics.specs.History.{shard_of_call, IsLegalJournal}
 use Rattle.shard_core.specs.JournaledShard.{JournaledShard, with_entry}
 use Rattle.shard_core.specs.declared.full.JournalFull.{JournalFull}
-use Rattle.map_port.specs.Asking.{is_in, entering, enter_entry, leaving, leave_entry, entered, left, asked_entry, all_left, IsWorkerOf, IsAnswered, CannotEnter, CannotCall, IsTurnedAway, IsAnsweredAmong, IsTurnedAwayAmong}
-use Rattle.map_port.specs.PortView.{AreBytes, HasByteCells, SetsBytes, IsShardOf, AreShardsOf, IsReady}
-use Rattle.map_port.specs.PortLaws.{newest_first, stays_entered, append_none}
+use Rattle.map_port.specs.Asking.{is_in, enter_entry, leave_entry, entered, left, asked_entry, all_left, IsWorkerOf, IsAnswered, CannotEnter, CannotCall, IsTurnedAway, IsAnsweredAmong, IsTurnedAwayAmong}
+use Rattle.map_port.specs.PortView.{HasByteCells, SetsBytes, IsShardOf, AreShardsOf, IsReady}
+use Rattle.map_port.specs.PortLaws.{newest_first, append_none}
 use Rattle.map_port.proofs.ByteLemmas.{cells_after_call}
 
 -- ---- plans

@@ -1,22 +1,17 @@
 -- What a chain of calls writes.
-use Rattle.std.proofs.Common.{◌≡◌, ℕ, zero, suc, ◌<◌, Bool, true, false, cond, List, [], ◌∷◌, ◌++◌, length, map, reverse, Option, Some, None, arith, refl, sym, ◌∙◌, ap, subst, append_assoc}
-use Rattle.std.specs.Prelude.{◌==◌, IsFalse, is_some, slice_get, slice_set, if◌then◌else◌, option_map}
-use Rattle.std.specs.List.{filter, AllByRecursion}
-use Rattle.std.proofs.lemmas.Option.{slice_get_within}
+use Rattle.std.proofs.Common.{◌≡◌, ℕ, zero, suc, Bool, true, false, cond, List, [], ◌∷◌, ◌++◌, map, reverse, Some, arith, refl, sym, ◌∙◌, ap, subst, append_assoc}
+use Rattle.std.specs.Prelude.{◌==◌, IsFalse, slice_get, slice_set, if◌then◌else◌}
+use Rattle.std.specs.List.{filter}
 use Rattle.std.proofs.lemmas.Bool.Decides.{nat_tests}
-use Rattle.std.proofs.Math.Logic.{∥∥₁_map}
-use Rattle.ebpf_decode.specs.declared.map.MapDef.{MapDef}
-use Rattle.semantics.specs.declared.options.Options.{Options}
-use Rattle.semantics.specs.declared.plan.ShardPlan.{ShardPlan}
 use Rattle.semantics.specs.declared.call.Call.{Call}
 use Rattle.semantics.specs.declared.call.Call.TheVariants.{Enter, Leave, Lookup, Load, Store, Atomic, Update, Delete, Reclaim}
 use Rattle.semantics.specs.declared.call.Reply.{Reply}
 use Rattle.semantics.specs.declared.call.Entry.{Entry}
 use Rattle.semantics.specs.Reclamation.{is_inside}
 use Rattle.semantics.specs.History.{shard_of_call}
-use Rattle.shard_core.specs.JournaledShard.{JournaledShard, with_entry, opened_shard}
+use Rattle.shard_core.specs.JournaledShard.{JournaledShard, with_entry}
 use Rattle.map_port.specs.Exchanges.{Exchange, IsChain}
-use Rattle.map_port.specs.Asking.{is_in, enter_entry, leave_entry, entering, leaving, entered, left, asked_entry, all_left, IsAnswered}
+use Rattle.map_port.specs.Asking.{is_in, enter_entry, leave_entry, entered, left, asked_entry, all_left}
 use Rattle.map_port.specs.PortView.{PortView, IsRunCall, IsGivenBy}
 use Rattle.map_port.specs.PortLaws.{same_worker, append_none, newest_first, stays_entered, set_here}
 use Rattle.map_port.specs.Sessions.{entry_of, is_at, entries_at, begun, session, with_entries}

@@ -1,13 +1,12 @@
 -- What the calls of the tests require.
-use Rattle.std.proofs.Common.{◌≡◌, ℕ, zero, suc, ◌<◌, ◌≤◌, ◌+◌, List, [], ◌∷◌, length, arith, refl, sym, ◌∙◌, ap}
-use Rattle.std.specs.Prelude.{All, IsTrue, Some, slice_get}
+use Rattle.std.proofs.Common.{◌≡◌, ℕ, zero, suc, ◌<◌, List, length, arith, refl, ◌∙◌, ap}
+use Rattle.std.specs.Prelude.{All, Some, slice_get}
 use Rattle.ebpf_decode.specs.declared.map.MapDef.{MapDef}
 use Rattle.semantics.specs.declared.call.CellRef.{CellRef}
-use Rattle.semantics.specs.declared.call.Call.TheVariants.{Lookup}
 use Rattle.abstract_state.specs.Abstraction.{Held}
 use Rattle.abstract_state.specs.Soundness.{IsHandedOut}
 use Rattle.abstract_state.specs.States.{value_size_of}
-use Rattle.map_port.specs.Served.{Maps, program_over, shard_of, lookup_call, found_reply, IsKeyOf, IsPairOf, IsReadable}
+use Rattle.map_port.specs.Served.{Maps, program_over, lookup_call, found_reply, IsKeyOf, IsPairOf, IsReadable}
 use Rattle.map_port.specs.ExampleMaps.{array_of, example_maps}
 use Rattle.map_port.proofs.MayAskLemmas.{shard_of_known}
 

@@ -1,5 +1,5 @@
 -- What a port's calls keep and hand out.
-use Rattle.std.proofs.Common.{◌≡◌, ℕ, zero, suc, ◌+◌, ◌*◌, ◌/◌, ◌%◌, ◌<◌, Bool, true, false, ◌&&◌, ◌||◌, List, [], ◌∷◌, ◌++◌, reverse, Option, Some, None, arith, refl, sym, ◌∙◌, ap, subst}
+use Rattle.std.proofs.Common.{◌≡◌, ℕ, zero, suc, ◌+◌, ◌*◌, ◌/◌, ◌<◌, Bool, true, false, ◌&&◌, ◌||◌, List, [], ◌∷◌, ◌++◌, reverse, Some, arith, refl, sym, ◌∙◌, ap, subst}
 use Rattle.std.specs.Prelude.{◌==◌, IsTrue, is_some, slice_get, slice_set, if◌then◌else◌}
 use Rattle.std.proofs.lemmas.List.{reverse-append}
 use Rattle.std.proofs.lemmas.Bool.Decides.{nat_tests}
@@ -20,7 +20,7 @@ use Rattle.semantics.proofs.HoldingLemmas.{guarded}
 use Rattle.abstract_state.specs.Soundness.{IsHandedOut}
 use Rattle.shard_core.specs.JournaledShard.{JournaledShard, with_entry}
 use Rattle.map_port.specs.Served.{Keeps, program_over}
-use Rattle.map_port.specs.Asking.{is_in, entering, entered, asked_entry, enter_entry, IsAnswered}
+use Rattle.map_port.specs.Asking.{is_in, entered, asked_entry, enter_entry, IsAnswered}
 use Rattle.map_port.specs.PortView.{PortView, IsGivenBy, IsRunCall, cell_of_handle, holds_at, is_handed_out}
 
 -- ---- one shard

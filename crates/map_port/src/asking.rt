@@ -1,4 +1,4 @@
-//! What a worker asks of a shard.
+//! What a worker asks of a shard: to enter, a call, to leave.
 
 ghost use Rattle.std.specs.Prelude.{◌≡◌, ◌≤◌, nat_lt, IsTrue, IsFalse, IfOk, IfErr, OnOk, OnErr, length, slice_get};
 ghost use Rattle.std.specs.List.{AllByRecursion};
@@ -10,7 +10,7 @@ use semantics::{Call, Caller, Reply};
 use shard_core::{JournalFull, Shard};
 use shards::Shards;
 
-/// Enters the shard, if the worker is not inside.
+/// Enters the shard, if the worker is not inside. Refused where the journal is full for the Enter; then nothing is changed.
 fn enter(shard: &mut Shard, worker: u8) -> Result<(), JournalFull>
     requires { IsTrue (nat_lt worker shard.old.plan.workers) }
     ensures enters { OnOk result (IsTrue (can_enter worker shard.old)) }
@@ -25,13 +25,17 @@ fn enter(shard: &mut Shard, worker: u8) -> Result<(), JournalFull>
     if shard.is_inside(worker) {
         return Ok(());
     }
-    match shard.apply(Caller::Worker { number: worker }, &Call::Enter { shard: number }) {
+    match shard.apply(
+        Caller::Worker { number: worker },
+        &Call::Enter { shard: number },
+    ) {
         Ok(_) => Ok(()),
         Err(full) => Err(full),
     }
 }
 
-/// Makes the call for the worker, which enters first if it is not inside.
+/// Makes the call for the worker, which enters first if it is not inside. Refused where the journal is full for the Enter or
+/// for the call; it may have entered then.
 fn ask(shard: &mut Shard, worker: u8, call: &Call) -> Result<Reply, JournalFull>
     requires { IsTrue (may_ask worker shard.old call.now) }
     ensures answered { IfOk result (λ reply. IsAnswered worker shard.old call.now reply shard.new) }
@@ -45,7 +49,7 @@ fn ask(shard: &mut Shard, worker: u8, call: &Call) -> Result<Reply, JournalFull>
     }
 }
 
-/// Makes the call for the worker at the shard that the call names.
+/// Makes the call for the worker at the shard that the call names. Refused as at one shard, with the shard's number.
 pub fn ask_at(shards: &mut Shards, worker: u8, call: &Call) -> Result<Reply, JournalFull>
     requires { IsTrue (may_ask_at worker (slice_get shards.old (shard_of_call call.now)) call.now) }
     ensures answered { IfOk result (λ reply. IsAnsweredAmong worker shards.old call.now reply shards.new) }
@@ -63,7 +67,10 @@ fn leave(shard: &mut Shard, worker: u8)
 {
     let number = shard.plan().number;
     if shard.is_inside(worker) {
-        let _ = shard.apply(Caller::Worker { number: worker }, &Call::Leave { shard: number });
+        let _ = shard.apply(
+            Caller::Worker { number: worker },
+            &Call::Leave { shard: number },
+        );
     }
 }
 

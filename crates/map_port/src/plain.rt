@@ -1,4 +1,4 @@
-//! The port of a single caller.
+//! The port of a single caller: one worker, one run at a time, no lock.
 
 ghost use Rattle.std.specs.Prelude.{◌≡◌, ◌<◌, ◌≤◌, ◌+◌, ◌*◌, ◌%◌, ◌^◌, ℕ, pos, IsTrue, IfOk, IfErr, OnErr, length, slice_get};
 ghost use Rattle.semantics.specs.ShardPlan.{AreOptions};
@@ -18,11 +18,15 @@ use semantics::{Call, CellRef, Key, Options, Reply, Value};
 use shard_core::JournalFull;
 use shards::Shards;
 
-/// The port of a single caller.
+/// A worker's port over the shards of an image's maps. It enters a shard before its first call there, and has to be finished,
+/// which leaves the shards that it entered. No call takes memory.
+///
+/// A cell's handle is `shard * 2^32 + id + 1`: its shard's number above its id.
 pub struct PlainPort<'a> {
     shards: &'a mut Shards,
     image: &'a Image,
     options: Options,
+    /// Its number.
     worker: u8,
     ghost ready: { ∥ IsReady image.now.maps options worker shards.now ∥₁ },
 }
@@ -31,7 +35,7 @@ impl<'a> PlainPort<'a> {
     ghost use Rattle.map_port.specs.Served.{shard_of, IsKeyOf};
     ghost use Rattle.map_port.specs.PlainPorts.{maps_of};
 
-    /// The worker's port over the shards of the image's maps.
+    /// The worker's port over the shards of the image's maps, which were opened with these options. It enters none yet.
     pub fn over(
         image: &'a Image,
         options: Options,
@@ -64,7 +68,8 @@ impl<'a> PlainPort<'a> {
         shard_of_index(map, self.options.shards, key)
     }
 
-    /// Makes a run's call.
+    /// Makes a run's call, at the shard that the call names: entered before, if the worker is not inside. Refused where the
+    /// shard's journal is full for the Enter or for the call.
     fn ask(&mut self, call: &Call) -> Result<Reply, JournalFull>
         requires may { IsTrue (may_ask_at self.old.worker (slice_get self.old.shards.now (shard_of_call call.now)) call.now) }
         requires sets_bytes { SetsBytes call.now }
@@ -79,7 +84,7 @@ impl<'a> PlainPort<'a> {
         ask_at(self.shards, self.worker, call)
     }
 
-    /// The worker leaves all shards that it is inside of, the lowest number first.
+    /// The worker leaves all shards that it is inside of, the lowest number first. A Leave is never refused.
     pub fn finish(self)
         ensures left { self.exit.0.now ≡ all_left self.entry.worker self.entry.shards.now }
         ensures shards { ServesMaps self.entry.image.now.maps self.entry.options self.exit.0.now }
@@ -211,7 +216,7 @@ impl<'a> MapPort for PlainPort<'a> {
     }
 }
 
-/// The shard of an array's index.
+/// The number of the shard of an array's index, in a map of so many shards.
 fn shard_of_index(map: u32, parts: u32, key: &Key) -> u32
     requires map { map ≤ 16 }
     requires parts { 0 < parts }

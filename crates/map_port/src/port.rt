@@ -73,13 +73,7 @@ pub trait MapPort {
         ensures names_the_shard { IfErr result (λ fault. fault.shard ≡ (cell_of self.old handle).shard) };
 
     /// Sets the value of a key, as bpf(2) has it: 0, or Linux's error number, negated. Refused as `lookup` is.
-    fn update(
-        &mut self,
-        map: u32,
-        key: &Key,
-        value: &Value,
-        flags: u64,
-    ) -> Result<i32, JournalFull>
+    fn update(&mut self, map: u32, key: &Key, value: &Value, flags: u64) -> Result<i32, JournalFull>
         requires { IsPairOf (serves self.old) map key.now value.now }
         ensures gives { IfOk result (λ code. gives self.old (update_call (serves self.old) map key.now value.now flags) (Answer code) self.new) }
         ensures refuses { OnErr result (refuses self.old (update_call (serves self.old) map key.now value.now flags) self.new) }

@@ -191,9 +191,7 @@ fn answer<P: MapPort>(port: &mut P, ask: Ask) -> Result<Got, JournalFull>
         Ask::Load(map, index) => load(port, map.min(1), index),
         Ask::Store(map, index, value) => store(port, map.min(1), index, value),
         Ask::Add(map, index, value) => add(port, map.min(1), index, value),
-        Ask::Swap(map, index, value, expected) => {
-            swap(port, map.min(1), index, value, expected)
-        }
+        Ask::Swap(map, index, value, expected) => { swap(port, map.min(1), index, value, expected) }
         Ask::Put(map, index, byte, flags) => put(port, map.min(1), index, byte, flags),
         Ask::Remove(map, index) => remove(port, map.min(1), index),
     }

@@ -1,6 +1,6 @@
 use Rattle.std.proofs.Common.{◌≡◌, ◌++◌, take, drop, add-one, ap, ◌∙◌, sym}
-use Rattle.std.specs.Prelude.{Some, slice_get, slice_set}
-use Rattle.map_port.specs.Asking.{left, all_left}
+use Rattle.std.specs.Prelude.{Some, slice_get}
+use Rattle.map_port.specs.Asking.{all_left}
 use Rattle.map_port.proofs.LeavingLemmas.{left_one_more}
 use Rattle.map_port.proofs.asking.leave_all.Goals as goal
 

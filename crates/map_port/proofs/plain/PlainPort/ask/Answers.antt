@@ -1,4 +1,3 @@
-use Rattle.std.proofs.Common.{◌≡◌}
 use Rattle.std.proofs.Math.Logic.{∥∥₁_map}
 use Rattle.map_port.specs.PortView.{IsReady}
 use Rattle.map_port.proofs.ReadyLemmas.{shards_asked, ready_with}

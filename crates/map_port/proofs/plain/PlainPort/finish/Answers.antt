@@ -1,9 +1,8 @@
-use Rattle.std.proofs.Common.{◌≡◌}
 use Rattle.std.specs.Coded.{Coded-set, coded_bool}
 use Rattle.std.specs.List.{AllByRecursion-prop}
 use Rattle.std.proofs.Math.Logic.{∥∥₁_map, ∥∥₁_elim}
 use Rattle.map_port.specs.Asking.{IsWorkerOf}
-use Rattle.map_port.specs.PortView.{AreShardsOf, IsReady}
+use Rattle.map_port.specs.PortView.{IsReady}
 use Rattle.map_port.proofs.ReadyLemmas.{shards_left, ready_workers, ready_with}
 use Rattle.map_port.proofs.plain.PlainPort.finish.Goals as goal
 

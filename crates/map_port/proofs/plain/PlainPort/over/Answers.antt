@@ -1,7 +1,4 @@
-use Rattle.std.proofs.Common.{◌≡◌, ◌≤◌, length}
-use Rattle.std.specs.List.{AllByRecursion}
 use Rattle.std.proofs.Math.Logic.{∥∥₁_map}
-use Rattle.ebpf_decode.specs.ImageContents.{IsAllowedMap}
 use Rattle.map_port.specs.PortView.{AreShardsOf}
 use Rattle.map_port.proofs.plain.PlainPort.over.Goals as goal
 

@@ -1,9 +1,9 @@
-use Rattle.std.proofs.Common.{◌≡◌, ◌<◌, ◌≤◌, length, ap, sym, ◌∙◌}
+use Rattle.std.proofs.Common.{sym, ◌∙◌}
 use Rattle.std.specs.Coded.{Coded-set, coded_ℕ, le_prop}
 use Rattle.std.proofs.Math.Logic.{∥∥₁_elim}
 use Rattle.map_port.specs.PortView.{IsReady}
 use Rattle.map_port.proofs.MayAskLemmas.{some_part, few_parts}
-use Rattle.map_port.proofs.GivenLemmas.{array_shard_of, allowed_at, key_bytes, map_within, short_key}
+use Rattle.map_port.proofs.GivenLemmas.{array_shard_of, map_within, short_key}
 use Rattle.map_port.proofs.plain.PlainPort.shard_of.Goals as goal
 
 pub shard_of_index-requires-clause-map : goal.shard_of_index-requires-clause-map

@@ -1,20 +1,15 @@
-use Rattle.std.proofs.Common.{◌≡◌, ◌<◌, ◌^◌, ap, sym, ◌∙◌, subst, rules, to_z, of_z, w32}
-use Rattle.std.specs.Prelude.{IsTrue, slice_get, FitsSigned}
+use Rattle.std.proofs.Common.{◌≡◌, ap, sym, ◌∙◌, subst, rules, to_z, of_z, w32}
+use Rattle.std.specs.Prelude.{FitsSigned}
 use Rattle.std.proofs.lemmas.Int.{to_z-of_z}
 use Rattle.std.specs.Coded.{Coded-set, coded_bool, le_prop}
-use Rattle.std.specs.List.{AllByRecursion}
-use Rattle.std.proofs.lemmas.List.Elements.{recursion_from_All}
 use Rattle.std.proofs.Math.Logic.{∥∥₁_elim}
-use Rattle.semantics.specs.declared.call.Call.TheVariants.{Lookup, Load, Store, Atomic, Update, Delete}
-use Rattle.semantics.specs.declared.call.Reply.TheVariants.{Word, Done, Answer}
-use Rattle.ebpf_decode.specs.InstructionCodes.{atomic_code}
-use Rattle.map_port.specs.Served.{lookup_call, update_call, delete_call, atomic_call, found_reply, shard_of, program_over}
-use Rattle.semantics.specs.RunTrace.{IsReplyTo}
-use Rattle.map_port.specs.Asking.{may_ask_at, IsAnsweredAmong}
-use Rattle.map_port.specs.PortView.{IsReady, AreBytes, cell_of_handle, handle_of, word_in, answer_in, has_small_cell}
+use Rattle.semantics.specs.declared.call.Reply.TheVariants.{Answer}
+use Rattle.map_port.specs.Served.{delete_call, shard_of}
+use Rattle.map_port.specs.Asking.{IsAnsweredAmong}
+use Rattle.map_port.specs.PortView.{IsReady}
 use Rattle.map_port.specs.PlainPorts.{maps_of}
-use Rattle.map_port.proofs.MayAskLemmas.{may_lookup, may_load, may_store, may_change, may_update, may_delete, some_part}
-use Rattle.map_port.proofs.GivenLemmas.{given_by, small_lookup, found_told, lookup_formed, load_told, load_below, change_told, change_below, store_told, update_told, delete_told}
+use Rattle.map_port.proofs.MayAskLemmas.{may_delete, some_part}
+use Rattle.map_port.proofs.GivenLemmas.{given_by, delete_told}
 use Rattle.map_port.proofs.plain.PlainPortMapPort.delete.Goals as goal
 
 pub ask-requires-clause-may : goal.ask-requires-clause-may
@@ -26,13 +21,13 @@ returns-in-Ok-clause-gives c =
     let fits : FitsSigned w32 c.answer_in.result = search rules in
     let same : to_z w32 (of_z w32 c.answer_in.result) ≡ c.answer_in.result = to_z-of_z w32 c.answer_in.result fits in
     record {
-    same_port = record {
-      same_shards = c.ask.ensures.same_shards;
-      same_maps = ap (λ image. image.now.maps) c.ask.ensures.same_image;
-      same_options = c.ask.ensures.same_options;
-      same_worker = c.ask.ensures.same_worker;
-    };
-    given = given_by c.args.self.now.image.now.maps _ c.args.self.now.options _ c.args.self.now.worker _ c.args.self.now.shards.now _ (delete_call (maps_of c.args.self.now) c.args.map c.args.key.now) c.in-Ok.reply (Answer (to_z w32 (of_z w32 c.answer_in.result)))
-        (ap (λ image. image.now.maps) c.ask.ensures.same_image) c.ask.ensures.same_options c.ask.ensures.same_worker
-        (∥∥₁_elim c.args.self.now.ready le_prop (λ (ready : IsReady c.args.self.now.image.now.maps c.args.self.now.options c.args.self.now.worker c.args.self.now.shards.now). some_part _ c.args.self.now.options ready.are_options)) tt tt (subst (FitsSigned w32) (sym same) fits) (delete_told c.args.self.now.worker c.args.self.now.shards.now (shard_of (maps_of c.args.self.now) c.args.map c.args.key.now) c.args.key.now c.in-Ok.reply c.ask.new.self.shards.now among ∙ ap Answer (sym c.answer_in.ensures ∙ sym same)) among;
+      same_port = record {
+        same_shards = c.ask.ensures.same_shards;
+        same_maps = ap (λ image. image.now.maps) c.ask.ensures.same_image;
+        same_options = c.ask.ensures.same_options;
+        same_worker = c.ask.ensures.same_worker;
+      };
+      given = given_by c.args.self.now.image.now.maps _ c.args.self.now.options _ c.args.self.now.worker _ c.args.self.now.shards.now _ (delete_call (maps_of c.args.self.now) c.args.map c.args.key.now) c.in-Ok.reply (Answer (to_z w32 (of_z w32 c.answer_in.result)))
+          (ap (λ image. image.now.maps) c.ask.ensures.same_image) c.ask.ensures.same_options c.ask.ensures.same_worker
+          (∥∥₁_elim c.args.self.now.ready le_prop (λ (ready : IsReady c.args.self.now.image.now.maps c.args.self.now.options c.args.self.now.worker c.args.self.now.shards.now). some_part _ c.args.self.now.options ready.are_options)) tt tt (subst (FitsSigned w32) (sym same) fits) (delete_told c.args.self.now.worker c.args.self.now.shards.now (shard_of (maps_of c.args.self.now) c.args.map c.args.key.now) c.args.key.now c.in-Ok.reply c.ask.new.self.shards.now among ∙ ap Answer (sym c.answer_in.ensures ∙ sym same)) among;
     }
