@@ -18,8 +18,8 @@ pub struct Exit {
 /// Why a run stopped before its end.
 #[derive(Clone, Copy, Debug, PartialEq, Eq, Error)]
 pub enum Stop {
-    /// The journal of the shard that the run called has no room for the call. The calls before it stand, and the frame is not to
-    /// be sent.
+    /// The port refused the run's next call, of this shard: over shards, its journal has no room. The calls before it stand, and the
+    /// frame is not to be sent.
     #[error("fault 60 JournalFull shard {shard}")]
     JournalFull { shard: u32 },
 }

@@ -1,6 +1,6 @@
 //! When and where a run happens.
 
-/// When a run happens, and on which worker.
+/// When a run happens, and on which worker. This is what the program reads; in whose name maps are called is the port's to say.
 #[derive(Clone, Copy, Debug, PartialEq, Eq)]
 pub struct Moment {
     /// The time in nanoseconds, as helper 5 tells it.

@@ -2,14 +2,14 @@
 
 ghost use Rattle.map_port.specs.Sessions.{WritesSessions, WritesRefusedSessions, StaysOnePort, IsOutsideAll, OpenedServe, CallsKeepServing};
 
-/// What a port was asked and what it answered is, shard by shard, what the journals then have more, between one Enter and one
-/// Leave.
+/// From a port whose worker is outside a shard: what the shard was asked and what it answered is what its journal then has more,
+/// between one Enter and one Leave.
 pub fn journals_have_the_calls()
     ensures { WritesSessions }
 {}
 
-/// Where the run ended because a call was refused, the refused call's shard may have an Enter and a Leave more, with no call
-/// between.
+/// The same where the run ended because a call was refused: then the refused call's shard may have an Enter and a Leave more, with
+/// no call between.
 pub fn journals_after_a_refusal()
     ensures { WritesRefusedSessions }
 {}

@@ -17,7 +17,8 @@ use shard_core::JournalFull;
 
 /// The maps that a run calls. What a call gives is a relation of the port before, the call, its reply and the port after.
 ///
-/// A cell that a lookup found goes by a handle: a number of the port's own, which is never 0 and below 2^55.
+/// A cell that a lookup found goes by a handle: a number of the port's own, which is never 0 and below 2^55. What replies mean beyond
+/// their form is the port's to say, by `gives`.
 pub trait MapPort {
     /// The maps that it has, and how many shards each of them has.
     ghost serves: { Self → Maps };
@@ -34,8 +35,8 @@ pub trait MapPort {
     /// The cell that a handle stands for.
     ghost cell_of: { Self → ℕ → CellRef };
 
-    /// Looks a key up: the handle of its cell, or 0 where the key is absent. Refused where the shard's journal is full, with
-    /// the shard's number.
+    /// Looks a key up: the handle of its cell, or 0 where the key is absent. A refusal names the shard; what it leaves is
+    /// `refuses`, which for a port over shards is that the journal has no room.
     fn lookup(&mut self, map: u32, key: &Key) -> Result<u64, JournalFull>
         requires { IsKeyOf (serves self.old) map key.now }
         ensures gives { IfOk result (λ handle. gives self.old (lookup_call (serves self.old) map key.now) (found_reply (cell_of self.new) handle) self.new) }
@@ -43,21 +44,22 @@ pub trait MapPort {
         ensures refuses { OnErr result (refuses self.old (lookup_call (serves self.old) map key.now) self.new) }
         ensures names_the_shard { IfErr result (λ fault. fault.shard ≡ shard_of_call (lookup_call (serves self.old) map key.now)) };
 
-    /// Reads a number from a cell that this port handed out: little-endian, zero-extended. Refused as `lookup` is.
+    /// Reads a number of so many bytes from a cell that this port handed out. Refused as `lookup` is.
     fn load(&mut self, handle: u64, offset: u64, width: u64) -> Result<u64, JournalFull>
         requires { IsReadable (serves self.old) (has_handed_out self.old) (cell_of self.old handle) offset width }
         ensures gives { IfOk result (λ number. gives self.old (Load (cell_of self.old handle) offset width) (Word number) self.new) }
         ensures refuses { OnErr result (refuses self.old (Load (cell_of self.old handle) offset width) self.new) }
         ensures names_the_shard { IfErr result (λ fault. fault.shard ≡ (cell_of self.old handle).shard) };
 
-    /// Writes a number into a cell that this port handed out, little-endian. Refused as `lookup` is.
+    /// Writes a number of so many bytes into a cell that this port handed out. Refused as `lookup` is.
     fn store(&mut self, handle: u64, offset: u64, width: u64, value: u64) -> Result<(), JournalFull>
         requires { IsStorable (serves self.old) (has_handed_out self.old) (cell_of self.old handle) offset width value }
         ensures gives { OnOk result (gives self.old (Store (cell_of self.old handle) offset width value) Done self.new) }
         ensures refuses { OnErr result (refuses self.old (Store (cell_of self.old handle) offset width value) self.new) }
         ensures names_the_shard { IfErr result (λ fault. fault.shard ≡ (cell_of self.old handle).shard) };
 
-    /// Changes a number in a cell that this port handed out, in one step, and gives what was there before. Refused as `lookup` is.
+    /// Asks for an atomic operation on a number in a cell that this port handed out, and gives the number before. Refused as
+    /// `lookup` is.
     fn atomic(
         &mut self,
         handle: u64,
@@ -72,14 +74,14 @@ pub trait MapPort {
         ensures refuses { OnErr result (refuses self.old (atomic_call (cell_of self.old handle) offset width op value expected) self.new) }
         ensures names_the_shard { IfErr result (λ fault. fault.shard ≡ (cell_of self.old handle).shard) };
 
-    /// Sets the value of a key, as bpf(2) has it: 0, or Linux's error number, negated. Refused as `lookup` is.
+    /// Asks for the value of a key to be set, and gives the answer. Refused as `lookup` is.
     fn update(&mut self, map: u32, key: &Key, value: &Value, flags: u64) -> Result<i32, JournalFull>
         requires { IsPairOf (serves self.old) map key.now value.now }
         ensures gives { IfOk result (λ code. gives self.old (update_call (serves self.old) map key.now value.now flags) (Answer code) self.new) }
         ensures refuses { OnErr result (refuses self.old (update_call (serves self.old) map key.now value.now flags) self.new) }
         ensures names_the_shard { IfErr result (λ fault. fault.shard ≡ shard_of_call (update_call (serves self.old) map key.now value.now flags)) };
 
-    /// Removes a key: 0, or Linux's error number, negated. Refused as `lookup` is.
+    /// Asks for a key to be removed, and gives the answer. Refused as `lookup` is.
     fn delete(&mut self, map: u32, key: &Key) -> Result<i32, JournalFull>
         requires { IsKeyOf (serves self.old) map key.now }
         ensures gives { IfOk result (λ code. gives self.old (delete_call (serves self.old) map key.now) (Answer code) self.new) }

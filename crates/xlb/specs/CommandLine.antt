@@ -1,0 +1,48 @@
+-- The commands of the program and their words, as the parser of command lines sees them.
+use Rattle.std.specs.Prelude.{ℕ, List, [], ◌∷◌, Some, true, codes}
+use Rattle.clap.specs.Walk.{Rule, Text}
+use Rattle.clap.specs.Simple.{App, new_app, new_rule, on_top, with_rule, with_subcommand}
+use Rattle.clap.specs.declared.builder.action.ArgAction.TheVariants.{Set}
+use Rattle.clap.specs.declared.builder.value_parser.ValueParser.TheVariants.{Unsigned}
+
+-- a file that has to be named
+abbrev pub file_rule : Text → Rule
+file_rule id = record (new_rule id) { required = true; action = Some Set }
+
+-- an option `--id N`, a number of at most `most`, which is 0 where it is not given
+abbrev pub number_rule : Text → ℕ → Rule
+number_rule id most = record (new_rule id) {
+  long = Some id;
+  action = Some Set;
+  value_names = 1;
+  parser = Some (Unsigned 0 most);
+  defaults = codes "0" ∷ [];
+}
+
+abbrev pub check_command : App
+check_command = with_rule (new_app (codes "check")) (file_rule (codes "IMAGE"))
+
+abbrev pub run_command : App
+run_command =
+    with_rule
+    (with_rule
+    (with_rule (with_rule (new_app (codes "run")) (file_rule (codes "IMAGE"))) (file_rule (codes "FRAME")))
+    (number_rule (codes "now") 18446744073709551615))
+    (number_rule (codes "worker") 4294967295)
+
+abbrev pub disasm_command : App
+disasm_command = with_rule (new_app (codes "disasm")) (file_rule (codes "IMAGE"))
+
+abbrev pub asm_command : App
+asm_command = with_rule (with_rule (new_app (codes "asm")) (file_rule (codes "TEXT"))) (file_rule (codes "OUT"))
+
+-- the name, with `--version`; a command has to be given, and `help` is none
+abbrev pub program_name : App
+program_name =
+    on_top (λ s. record s { has_version = true; subcommand_required = true; disable_help_subcommand = true }) (new_app (codes "xlb"))
+
+abbrev pub program : App
+program =
+    with_subcommand
+    (with_subcommand (with_subcommand (with_subcommand program_name check_command.top) run_command.top) disasm_command.top)
+    asm_command.top

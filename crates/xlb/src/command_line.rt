@@ -1,0 +1,26 @@
+//! What a command line says.
+
+/// A command with its words: names of files as they were given, and numbers.
+#[derive(Clone, Copy, Debug, PartialEq, Eq)]
+pub enum Settings<'a> {
+    /// Judges an image.
+    Check {
+        image: &'a str,
+    },
+    /// Runs an image on one frame, at a time in nanoseconds, as the worker of a number.
+    Run {
+        image: &'a str,
+        frame: &'a str,
+        now: u64,
+        worker: u32,
+    },
+    /// Prints an image as text.
+    Disasm {
+        image: &'a str,
+    },
+    /// Writes the image of a text.
+    Asm {
+        text: &'a str,
+        out: &'a str,
+    },
+}

@@ -1,0 +1,198 @@
+//! What each command does with its files.
+
+ghost use Rattle.std.specs.Prelude.{◌≡◌, ◌==◌, ◌↔◌, ◌+◌, ◌-◌, ◌<◌, ◌≤◌, ◌^◌, ℕ, [], List, IfOk, OnOk, length, take, count_by, string_bytes};
+ghost use Rattle.semantics.specs.Safety.{IsSafeImage};
+ghost use Rattle.disasm.specs.AssemblyText.{IsAssemblyText};
+ghost use Rattle.xlb.specs.Results.{IsImageFile, IsChecked, IsRun, IsDisassembled, IsAssembled};
+
+use crate::fault::Fault;
+use crate::folder::Folder;
+use crate::report::{accepted, outcome};
+use disasm::{AsmFault, assemble, text};
+use ebpf_decode::{Image, decode, encode};
+use machine::{Moment, run};
+use map_port::PlainPort;
+use map_port::laws::opened_serve;
+use shards::{OpenFault, Options, Shards};
+use std::alloc::Global;
+use verifier::{Verified, verify};
+use wire::Frame;
+
+/// How many workers a run is opened with.
+const WORKERS: u32 = 8;
+
+/// How the maps of a run are opened.
+const OPTIONS: Options = Options {
+    workers: WORKERS,
+    shards: 1,
+    journal: 65_536,
+};
+
+/// The bytes of a file.
+fn bytes_of<D: Folder>(alloc: Global, folder: &mut D, name: &str) -> Result<Vec<u8>, Fault>
+    requires { D.failure_count folder.old < 2 ^ 64 - 1 }
+    ensures bytes { IfOk result (λ bytes. D.holds folder.old name.now bytes.items) }
+    ensures kept { OnOk result ((other bytes : List ℕ) → (D.holds folder.old other bytes ↔ D.holds folder.new other bytes)) }
+    ensures steady { OnOk result (D.failure_count folder.new ≡ D.failure_count folder.old) }
+{
+    match folder.read(alloc, name) {
+        Ok(bytes) => Ok(bytes),
+        Err(fault) => Err(Fault::Folder(fault)),
+    }
+}
+
+/// The image of a file.
+fn image_of<D: Folder>(alloc: Global, folder: &mut D, name: &str) -> Result<Image, Fault>
+    requires { D.failure_count folder.old < 2 ^ 64 - 1 }
+    ensures file { IfOk result (λ image. IsImageFile (D.holds folder.old) name.now image) }
+    ensures kept { OnOk result ((other bytes : List ℕ) → (D.holds folder.old other bytes ↔ D.holds folder.new other bytes)) }
+    ensures steady { OnOk result (D.failure_count folder.new ≡ D.failure_count folder.old) }
+{
+    let bytes = bytes_of(alloc, folder, name)?;
+    match decode(alloc, &bytes) {
+        Ok(image) => Ok(image),
+        Err(fault) => Err(Fault::Decode(fault)),
+    }
+}
+
+/// The image of a file, if it may run.
+fn verified_of<D: Folder>(alloc: Global, folder: &mut D, name: &str) -> Result<Verified, Fault>
+    requires { D.failure_count folder.old < 2 ^ 64 - 1 }
+    ensures file { IfOk result (λ verified. IsImageFile (D.holds folder.old) name.now (record { maps = verified.maps; code = verified.code })) }
+    ensures safe { IfOk result (λ verified. IsSafeImage verified.maps verified.code) }
+    ensures kept { OnOk result ((other bytes : List ℕ) → (D.holds folder.old other bytes ↔ D.holds folder.new other bytes)) }
+    ensures steady { OnOk result (D.failure_count folder.new ≡ D.failure_count folder.old) }
+{
+    let image = image_of(alloc, folder, name)?;
+    match verify(alloc, image) {
+        Ok(verified) => Ok(verified),
+        Err(reject) => Err(Fault::Program(reject)),
+    }
+}
+
+/// The frame of a file.
+fn frame_of<D: Folder>(alloc: Global, folder: &mut D, name: &str) -> Result<Frame, Fault>
+    requires { D.failure_count folder.old < 2 ^ 64 - 1 }
+    ensures read { IfOk result (λ frame. D.holds folder.old name.now frame.bytes) }
+    ensures size { IfOk result (λ frame. (14 ≤ length frame.bytes) × (length frame.bytes ≤ 2048) × (frame.headroom ≡ 256)) }
+    ensures kept { OnOk result ((other bytes : List ℕ) → (D.holds folder.old other bytes ↔ D.holds folder.new other bytes)) }
+    ensures steady { OnOk result (D.failure_count folder.new ≡ D.failure_count folder.old) }
+{
+    let bytes = bytes_of(alloc, folder, name)?;
+    match Frame::of(alloc, &bytes) {
+        Ok(frame) => Ok(frame),
+        Err(fault) => Err(Fault::Frame(fault)),
+    }
+}
+
+/// When and where a run happens, if there is such a worker.
+fn moment_of(now: u64, worker: u32) -> Result<Moment, Fault>
+    ensures { IfOk result (λ moment. moment.worker < 8) }
+{
+    if worker >= WORKERS {
+        return Err(Fault::Options(OpenFault::BadOptions));
+    }
+    Ok(Moment {
+        now_ns: now,
+        worker: worker as u8,
+    })
+}
+
+/// Judges an image.
+pub fn check<D: Folder>(alloc: Global, folder: &mut D, image: &str) -> Result<String, Fault>
+    requires { D.failure_count folder.old < 2 ^ 64 - 1 }
+    ensures { IfOk result (λ text. IsChecked (D.holds folder.old) image.now (string_bytes text)) }
+{
+    let verified = verified_of(alloc, folder, image)?;
+    Ok(accepted(alloc, &verified)?)
+}
+
+/// Runs an image on one frame, with maps in which nothing has happened.
+pub fn run_once<D: Folder>(
+    alloc: Global,
+    folder: &mut D,
+    image: &str,
+    frame: &str,
+    now: u64,
+    worker: u32,
+) -> Result<String, Fault>
+    requires { D.failure_count folder.old < 2 ^ 64 - 1 }
+    ensures { OnOk result (IsRun (D.holds folder.old) image.now frame.now) }
+{
+    let verified = verified_of(alloc, folder, image)?;
+    let mut frame = frame_of(alloc, folder, frame)?;
+    let moment = moment_of(now, worker)?;
+    let mut shards = match Shards::open(alloc, verified.image(), OPTIONS) {
+        Ok(shards) => shards,
+        Err(fault) => return Err(Fault::Options(fault)),
+    };
+    opened_serve();
+    let mut port = PlainPort::over(verified.image(), OPTIONS, &mut shards, moment.worker);
+    let stopped = run(&verified, &mut frame, &moment, &mut port);
+    port.finish();
+    match stopped {
+        Ok(exit) => Ok(outcome(alloc, exit, &frame)?),
+        Err(stop) => Err(Fault::Run(stop)),
+    }
+}
+
+/// The text of an image.
+pub fn disassemble<D: Folder>(alloc: Global, folder: &mut D, image: &str) -> Result<String, Fault>
+    requires { D.failure_count folder.old < 2 ^ 64 - 1 }
+    ensures { IfOk result (λ text. IsDisassembled (D.holds folder.old) image.now (string_bytes text)) }
+{
+    let image = image_of(alloc, folder, image)?;
+    Ok(text(alloc, &image)?)
+}
+
+/// The line, counted from 1, in which the byte at an index stands.
+fn line_at(bytes: &[u8], index: usize) -> usize
+    requires { index < length bytes.now }
+    ensures { result ≡ 1 + count_by (λ byte. byte == 10) (take index bytes.now) }
+{
+    let before = &bytes[..index];
+    1 + before.iter().filter(|byte| **byte == b'\n').count()
+}
+
+/// The text of a file, if all of it is UTF-8; else 21 with the line of the first byte that is not.
+fn utf8(bytes: &[u8]) -> Result<&str, AsmFault>
+    ensures { IfOk result (λ text. text.now ≡ bytes.now) }
+{
+    match str::from_utf8(bytes) {
+        Ok(text) => Ok(text),
+        Err(error) => Err(AsmFault::BadLine {
+            line: line_at(bytes, error.valid_up_to()),
+        }),
+    }
+}
+
+/// The image of a text.
+fn assembled(alloc: Global, bytes: &[u8]) -> Result<Image, AsmFault>
+    ensures { IfOk result (λ image. IsAssemblyText bytes.now image) }
+{
+    let text = utf8(bytes)?;
+    assemble(alloc, text)
+}
+
+/// Writes the image of a text.
+pub fn assemble_file<D: Folder>(
+    alloc: Global,
+    folder: &mut D,
+    text: &str,
+    out: &str,
+) -> Result<String, Fault>
+    requires { D.failure_count folder.old < 2 ^ 64 - 1 }
+    ensures done { OnOk result (IsAssembled (D.holds folder.old) (D.holds folder.new) text.now out.now) }
+    ensures silent { IfOk result (λ printed. string_bytes printed ≡ []) }
+{
+    let bytes = bytes_of(alloc, folder, text)?;
+    let image = match assembled(alloc, &bytes) {
+        Ok(image) => image,
+        Err(fault) => return Err(Fault::Text(fault)),
+    };
+    let bytes = encode(alloc, &image)?;
+    match folder.write(alloc, out, &bytes) {
+        Ok(()) => Ok(String::new(alloc)),
+        Err(fault) => Err(Fault::Folder(fault)),
+    }
+}

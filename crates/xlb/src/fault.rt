@@ -1,0 +1,49 @@
+//! Why a command was refused.
+
+use crate::folder::FolderFault;
+use disasm::AsmFault;
+use ebpf_decode::DecodeFault;
+use machine::Stop;
+use shards::OpenFault;
+use std::alloc::AllocError;
+use thiserror::Error;
+use verifier::Reject;
+use wire::FrameFault;
+
+/// Why a command was refused: the fault of the crate that found it, which is printed by its own text.
+#[derive(Clone, Copy, Debug, Error, PartialEq, Eq)]
+pub enum Fault {
+    /// 7 or 8: a file was not read or written.
+    #[error(transparent)]
+    Folder(FolderFault),
+    /// 10 to 20: bytes that are no image.
+    #[error(transparent)]
+    Decode(DecodeFault),
+    /// 21 to 23: a text that spells no image.
+    #[error(transparent)]
+    Text(AsmFault),
+    /// 30 to 48: a program that may not run.
+    #[error(transparent)]
+    Program(Reject),
+    /// 6, 8 or 9: bytes that are no frame.
+    #[error(transparent)]
+    Frame(FrameFault),
+    /// 51 or 52: options that no run is opened with, or no memory for its maps.
+    #[error(transparent)]
+    Options(OpenFault),
+    /// 60: a run was stopped.
+    #[error(transparent)]
+    Run(Stop),
+    /// 7: what was to be printed could not be.
+    #[error("fault 7 Device")]
+    Output,
+    /// 8: memory was refused.
+    #[error("fault 8 Memory")]
+    Memory,
+}
+
+impl From<AllocError> for Fault {
+    fn from(_error: AllocError) -> Fault {
+        Fault::Memory
+    }
+}

@@ -1,0 +1,165 @@
+//! The commands, their words and their help.
+
+ghost use Rattle.std.specs.Prelude.{◌≡◌, IfOk, false};
+ghost use Rattle.clap.specs.Words.{app_of, new_app, rule_of};
+ghost use Rattle.clap.specs.declared.builder.command.Command.TheViews.{out-Command};
+ghost use Rattle.xlb.specs.CommandLine as line;
+
+use clap::builder::ValueParser;
+use clap::{Arg, ArgAction, Command};
+use std::alloc::{AllocError, Global};
+
+/// The file of an image.
+pub const IMAGE: &str = "IMAGE";
+
+/// The file of a frame's bytes.
+pub const FRAME: &str = "FRAME";
+
+/// The file of an image's text.
+pub const TEXT: &str = "TEXT";
+
+/// The file that is written.
+pub const OUT: &str = "OUT";
+
+/// The time of a run.
+pub const NOW: &str = "now";
+
+/// The worker of a run.
+pub const WORKER: &str = "worker";
+
+const ABOUT: &str = "Checks, runs, prints and assembles images of eBPF programs";
+
+const VERSION: &str = "0.1.0";
+
+const AFTER: &str = "\
+A file that cannot be read, or that is refused, is told on the standard error
+as `fault <number> <name>`, with what it is about, and the status is 1. The
+status is 2 where the command line is wrong, and 0 where the command is done.
+'xlb <COMMAND> --help' tells more of a command.";
+
+const AFTER_CHECK: &str = "\
+Prints one line:
+  accepted slots <slots> maps <maps> reader <yes or no>
+A slot has eight bytes; an instruction takes one or two. A reader changes no
+map and does the same on each worker. A program that may not run is refused
+with the first rule that it breaks and the slot of the instruction, counted
+from 0.";
+
+const AFTER_RUN: &str = "\
+Prints three lines:
+  verdict <aborted, drop, pass or tx>
+  instructions <how many were run>
+  frame <the frame afterwards, in hexadecimal>
+A dropped frame is thrown away, a passed one goes to the host, and tx sends it
+out; aborted: the program's answer is none of these. The maps are new: the
+elements of an array are zeros.";
+
+const AFTER_DISASM: &str = "\
+Prints `version 1`, a line for each map and a line for each instruction: what
+asm reads. The program is not judged.";
+
+const AFTER_ASM: &str = "\
+Prints nothing. An image has one text: another spelling is refused with its
+line, counted from 1.";
+
+/// A file that has to be named.
+fn file<'a>(alloc: Global, id: &'a str, help: &'a str) -> Arg<'a>
+    ensures rule { rule_of result ≡ line.file_rule id.entry.now }
+    ensures local { result.global ≡ false }
+{
+    Arg::new(alloc, id)
+        .required(true)
+        .action(ArgAction::Set)
+        .help(help)
+}
+
+/// A number that may be given, at most `most`.
+fn number<'a>(alloc: Global, id: &'a str, most: u64, help: &'a str) -> Arg<'a>
+    ensures rule { rule_of result ≡ line.number_rule id.entry.now most }
+    ensures local { result.global ≡ false }
+{
+    Arg::new(alloc, id)
+        .long(id)
+        .action(ArgAction::Set)
+        .value_name("N")
+        .value_parser(ValueParser::unsigned(0, most))
+        .default_value("0")
+        .help(help)
+}
+
+/// A command of a name, with its help, and as yet no words.
+fn command<'a>(alloc: Global, name: &'a str, about: &'a str, after: &'a str) -> Command<'a>
+    ensures app { app_of result ≡ new_app name.entry.now }
+    ensures local { (out-Command result).has_globals ≡ false }
+{
+    Command::new(alloc, name).about(about).after_help(after)
+}
+
+fn check<'a>(alloc: Global) -> Result<Command<'a>, AllocError>
+    ensures app { IfOk result (λ command. app_of command ≡ line.check_command) }
+    ensures local { IfOk result (λ command. (out-Command command).has_globals ≡ false) }
+{
+    let image = file(alloc, IMAGE, "The image's file");
+    command(alloc, "check", "Judges an image", AFTER_CHECK).arg(image)
+}
+
+fn run<'a>(alloc: Global) -> Result<Command<'a>, AllocError>
+    ensures app { IfOk result (λ command. app_of command ≡ line.run_command) }
+    ensures local { IfOk result (λ command. (out-Command command).has_globals ≡ false) }
+{
+    let image = file(alloc, IMAGE, "The image's file");
+    let frame = file(
+        alloc,
+        FRAME,
+        "The file of the frame's bytes, 14 to 2048 of them",
+    );
+    let now = number(alloc, NOW, u64::MAX, "The time in nanoseconds");
+    let worker = number(
+        alloc,
+        WORKER,
+        u32::MAX as u64,
+        "The worker's number, 0 to 7",
+    );
+    command(alloc, "run", "Runs an image on one frame", AFTER_RUN)
+        .arg(image)?
+        .arg(frame)?
+        .arg(now)?
+        .arg(worker)
+}
+
+fn disasm<'a>(alloc: Global) -> Result<Command<'a>, AllocError>
+    ensures app { IfOk result (λ command. app_of command ≡ line.disasm_command) }
+    ensures local { IfOk result (λ command. (out-Command command).has_globals ≡ false) }
+{
+    let image = file(alloc, IMAGE, "The image's file");
+    command(alloc, "disasm", "Prints an image as text", AFTER_DISASM).arg(image)
+}
+
+fn asm<'a>(alloc: Global) -> Result<Command<'a>, AllocError>
+    ensures app { IfOk result (λ command. app_of command ≡ line.asm_command) }
+    ensures local { IfOk result (λ command. (out-Command command).has_globals ≡ false) }
+{
+    let text = file(alloc, TEXT, "The text's file");
+    let out = file(alloc, OUT, "The file to write the image to");
+    command(alloc, "asm", "Writes the image of a text", AFTER_ASM)
+        .arg(text)?
+        .arg(out)
+}
+
+/// The program's commands.
+pub fn program<'a>(alloc: Global) -> Result<Command<'a>, AllocError>
+    ensures app { IfOk result (λ command. app_of command ≡ line.program) }
+    ensures local { IfOk result (λ command. (out-Command command).has_globals ≡ false) }
+{
+    let top = Command::new(alloc, "xlb")
+        .bin_name("xlb")?
+        .about(ABOUT)
+        .version(VERSION)
+        .after_help(AFTER)
+        .subcommand_required(true)
+        .disable_help_subcommand(true);
+    top.subcommand(check(alloc)?)?
+        .subcommand(run(alloc)?)?
+        .subcommand(disasm(alloc)?)?
+        .subcommand(asm(alloc)?)
+}

@@ -1,0 +1,58 @@
+//! The first image, from its bytes to a verdict.
+
+use super::{folder_of, serve_line};
+use std::test::Fail;
+
+/// The image that checks 14 bytes, reads byte 13, looks element 0 up and exits with the sum.
+pub const IMAGE: &str =
+    "584c4250010100000200000004000000080000000100000061120000000000006113040000000000bf24000000000000070400000e000000b7000000020000002d340b000000000071260d0000000000620afcff00000000bfa200000000000007020000fcffffff181100000000000000000000000000008500000001000000150003000000000079070000000000000f76000000000000bf600000000000009500000000000000";
+
+/// Its text.
+pub const TEXT: &str =
+    "version 1\nmap array 4 8 1\nldxw r2, [r1+0]\nldxw r3, [r1+4]\nmov r4, r2\nadd r4, 14\nmov r0, 2\njgt r4, r3, +11\nldxb r6, [r2+13]\nstw [r10-4], 0\nmov r2, r10\nadd r2, -4\nldmap r1, 0\ncall 1\njeq r0, 0, +3\nldxdw r7, [r0+0]\nadd r6, r7\nmov r0, r6\nexit\n";
+
+/// A name, the frame's file, the command line, the status, and what is printed on the output and on the error stream.
+type Row = (
+    &'static str,
+    &'static str,
+    &'static str,
+    u8,
+    &'static str,
+    &'static str,
+);
+
+#[rattlefmt::skip]
+const ROWS: [Row; 19] = [
+    ("checked",                   "", "xlb check image", 0, "accepted slots 18 maps 1 reader yes\n", ""),
+    ("printed",                   "", "xlb disasm image", 0, TEXT, ""),
+    ("last byte 3 is tx",         "0000000000000000000000000003", "xlb run image frame", 0, "verdict tx\ninstructions 17\nframe 0000000000000000000000000003\n", ""),
+    ("last byte 1 is drop",       "0000000000000000000000000001", "xlb run image frame", 0, "verdict drop\ninstructions 17\nframe 0000000000000000000000000001\n", ""),
+    ("last byte 0 is aborted",    "0000000000000000000000000000", "xlb run image frame", 0, "verdict aborted\ninstructions 17\nframe 0000000000000000000000000000\n", ""),
+    ("at a time, on a worker",    "0000000000000000000000000003", "xlb run image frame --now 18446744073709551615 --worker 7", 0, "verdict tx\ninstructions 17\nframe 0000000000000000000000000003\n", ""),
+    ("13 bytes are no frame",     "00000000000000000000000003", "xlb run image frame", 1, "", "fault 9 ShortFrame\n"),
+    ("an empty frame",            "", "xlb run image frame", 1, "", "fault 9 ShortFrame\n"),
+    ("worker 8",                  "0000000000000000000000000003", "xlb run image frame --worker 8", 1, "", "fault 51 BadOptions\n"),
+    ("worker 9",                  "0000000000000000000000000003", "xlb run image frame --worker 9", 1, "", "fault 51 BadOptions\n"),
+    ("the frame before worker 9", "00000000000000000000000003", "xlb run image frame --worker 9", 1, "", "fault 9 ShortFrame\n"),
+    ("no frame before worker 9",  "0000000000000000000000000003", "xlb run image nosuch --worker 9", 1, "", "fault 7 Device\n"),
+    ("the image before worker 9", "0000000000000000000000000003", "xlb run nosuch frame --worker 9", 1, "", "fault 7 Device\n"),
+    ("an image of a frame",       "0000000000000000000000000003", "xlb run frame frame", 1, "", "fault 10 BadHead\n"),
+    ("no frame",                  "0000000000000000000000000003", "xlb run image nosuch", 1, "", "fault 7 Device\n"),
+    ("no image",                  "0000000000000000000000000003", "xlb run nosuch frame", 1, "", "fault 7 Device\n"),
+    ("no image to check",         "", "xlb check nosuch", 1, "", "fault 7 Device\n"),
+    ("no image to print",         "", "xlb disasm nosuch", 1, "", "fault 7 Device\n"),
+    ("no text to assemble",       "", "xlb asm nosuch made", 1, "", "fault 7 Device\n"),
+];
+
+#[test]
+fn first_path(rt: HostRuntime) -> Result<(), Fail> {
+    let alloc = rt.alloc();
+    for (name, frame, line, status, out, err) in ROWS {
+        let folder = folder_of(alloc, ("image", IMAGE), ("frame", frame))?;
+        let found = serve_line(alloc, folder, line)?;
+        assert!(rt; found.out.bytes() == out.as_bytes(), "output of {name}");
+        assert!(rt; found.err.bytes() == err.as_bytes(), "error of {name}");
+        assert_eq!(rt; found.status, status, "status of {name}");
+    }
+    Ok(())
+}

@@ -1,0 +1,40 @@
+//! Images that are refused for their bytes.
+
+use super::{folder_of, serve_line};
+use std::test::Fail;
+
+#[rattlefmt::skip]
+const ROWS: [(&str, &str, &str); 19] = [
+    ("no bytes",                    "",                                                                       "fault 10 BadHead\n"),
+    ("a cut head",                  "584c4250010000",                                                         "fault 10 BadHead\n"),
+    ("another magic",               "584c425101000000b7000000020000009500000000000000",                       "fault 10 BadHead\n"),
+    ("another version",             "584c425003000000b7000000020000009500000000000000",                       "fault 10 BadHead\n"),
+    ("17 maps",                     "584c425001110000b7000000020000009500000000000000",                       "fault 10 BadHead\n"),
+    ("a cut map list",              "584c425001010000020000000400000008000000",                               "fault 10 BadHead\n"),
+    ("a map of keys of five bytes", "584c42500101000002000000050000000800000001000000b7000000020000009500000000000000", "fault 11 BadMap map 0\n"),
+    ("no slots",                    "584c425001000000",                                                       "fault 12 Empty\n"),
+    ("half a slot",                 "584c425001000000b7000000",                                               "fault 13 NotWhole\n"),
+    ("div with offset 2",           "584c4250010000003700020001000000",                                       "fault 15 UnknownOpcode slot 0\n"),
+    ("at its slot",                 "584c425001000000b7000000020000003700020001000000",                       "fault 15 UnknownOpcode slot 1\n"),
+    ("a legacy load",               "584c4250010000002000000000000000",                                       "fault 16 NotInProfile slot 0\n"),
+    ("register 11",                 "584c425001000000b70b000000000000",                                       "fault 17 BadRegister slot 0\n"),
+    ("an unused field",             "584c425001000000bf01000005000000",                                       "fault 18 FieldNotZero slot 0\n"),
+    ("half a wide instruction",     "584c4250010000001801000000000000",                                       "fault 19 WideCut slot 0\n"),
+    ("exit alone",                  "584c4250010000009500000000000000",                                       "fault 35 UnsetRegister slot 0 register 0\n"),
+    ("one slot of the first image", "584c425001010000020000000400000008000000010000006112000000000000",       "fault 33 FallsOff slot 0\n"),
+    ("six slots of it",             "584c4250010100000200000004000000080000000100000061120000000000006113040000000000bf24000000000000070400000e000000b7000000020000002d340b0000000000", "fault 31 JumpOutside slot 5\n"),
+    ("eleven slots of it",          "584c4250010100000200000004000000080000000100000061120000000000006113040000000000bf24000000000000070400000e000000b7000000020000002d340b000000000071260d0000000000620afcff00000000bfa200000000000007020000fcffffff1811000000000000", "fault 19 WideCut slot 10\n"),
+];
+
+#[test]
+fn refuses_images(rt: HostRuntime) -> Result<(), Fail> {
+    let alloc = rt.alloc();
+    for (name, image, err) in ROWS {
+        let folder = folder_of(alloc, ("image", image), ("frame", ""))?;
+        let found = serve_line(alloc, folder, "xlb check image")?;
+        assert!(rt; found.err.bytes() == err.as_bytes(), "error of {name}");
+        assert!(rt; found.out.bytes().is_empty(), "output of {name}");
+        assert_eq!(rt; found.status, 1, "status of {name}");
+    }
+    Ok(())
+}

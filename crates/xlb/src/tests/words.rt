@@ -1,0 +1,95 @@
+//! Command lines.
+
+use crate::{Settings, WordsFault, settings};
+use std::alloc::{AllocError, Global};
+use std::test::Fail;
+
+/// The settings' words and numbers in one line.
+fn shown(alloc: Global, settings: Settings<'_>) -> Result<String, AllocError> {
+    match settings {
+        Settings::Check { image } => format!(in alloc; "check {image}"),
+        Settings::Run {
+            image,
+            frame,
+            now,
+            worker,
+        } => format!(in alloc; "run {image} {frame} {now} {worker}"),
+        Settings::Disasm { image } => format!(in alloc; "disasm {image}"),
+        Settings::Asm { text, out } => format!(in alloc; "asm {text} {out}"),
+    }
+}
+
+#[rattlefmt::skip]
+const READ: [(&str, &str); 10] = [
+    ("xlb check a",                             "check a"),
+    ("xlb disasm a",                            "disasm a"),
+    ("xlb asm a b",                             "asm a b"),
+    ("xlb run a b",                             "run a b 0 0"),
+    ("xlb run a b --now 5",                     "run a b 5 0"),
+    ("xlb run --worker=9 a b --now=7",          "run a b 7 9"),
+    ("xlb run a b --now 18446744073709551615",  "run a b 18446744073709551615 0"),
+    ("xlb run a b --worker 4294967295",         "run a b 0 4294967295"),
+    ("xlb check -- -a",                         "check -a"),
+    ("another check check",                     "check check"),
+];
+
+#[test]
+fn reads_commands(rt: HostRuntime) -> Result<(), Fail> {
+    let alloc = rt.alloc();
+    for (line, want) in READ {
+        let words: Vec<&str> = line.split(' ').collect(alloc)?;
+        let found = settings(alloc, words.as_slice())?;
+        let found = shown(alloc, found)?;
+        assert!(rt; found.as_str() == want, "{line}");
+    }
+    Ok(())
+}
+
+/// A command line, the status, and what its text begins with.
+#[rattlefmt::skip]
+const REFUSED: [(&str, u8, &str); 20] = [
+    ("xlb",                                     2, "error: 'xlb' requires a subcommand but one was not provided"),
+    ("xlb replay a b",                          2, "error: unrecognized subcommand 'replay'"),
+    ("xlb help",                                2, "error: unrecognized subcommand 'help'"),
+    ("xlb check",                               2, "error: the following required arguments were not provided:\n  <IMAGE>"),
+    ("xlb check a b",                           2, "error: unexpected argument 'b' found"),
+    ("xlb check a --now 1",                     2, "error: unexpected argument '--now' found"),
+    ("xlb run a",                               2, "error: the following required arguments were not provided:\n  <FRAME>"),
+    ("xlb run a b c",                           2, "error: unexpected argument 'c' found"),
+    ("xlb run a b --now",                       2, "error: a value is required for '--now <N>' but none was supplied"),
+    ("xlb run a b --now x",                     2, "error: invalid value 'x' for '--now <N>'"),
+    ("xlb run a b --now 18446744073709551616",  2, "error: invalid value '18446744073709551616' for '--now <N>'"),
+    ("xlb run a b --worker 4294967296",         2, "error: invalid value '4294967296' for '--worker <N>'"),
+    ("xlb run a b --worker=-1",                 2, "error: invalid value '-1' for '--worker <N>'"),
+    ("xlb run a b --worker 1 --worker 2",       2, "error: the argument '--worker <N>' cannot be used multiple times"),
+    ("xlb run a b --workers 1",                 2, "error: unexpected argument '--workers' found"),
+    ("xlb disasm",                              2, "error: the following required arguments were not provided:\n  <IMAGE>"),
+    ("xlb asm a",                               2, "error: the following required arguments were not provided:\n  <OUT>"),
+    ("xlb --help",                              0, "Checks, runs, prints and assembles images of eBPF programs"),
+    ("xlb run --help",                          0, "Runs an image on one frame"),
+    ("xlb --version",                           0, "xlb 0.1.0\n"),
+];
+
+/// The text of a fault, and the status of it.
+fn told(alloc: Global, line: &str) -> Result<(u8, String), Fail> {
+    let words: Vec<&str> = line.split(' ').collect(alloc)?;
+    match settings(alloc, words.as_slice()) {
+        Ok(_) => Err(Fail::from("settings")),
+        Err(fault) => Ok((fault.status(), text_of(alloc, &fault)?)),
+    }
+}
+
+fn text_of(alloc: Global, fault: &WordsFault) -> Result<String, Fail> {
+    Ok(format!(in alloc; "{fault}")?)
+}
+
+#[test]
+fn refuses_wrong_words(rt: HostRuntime) -> Result<(), Fail> {
+    let alloc = rt.alloc();
+    for (line, status, text) in REFUSED {
+        let found = told(alloc, line)?;
+        assert_eq!(rt; found.0, status, "status of {line}");
+        assert!(rt; found.1.as_str().starts_with(text), "text of {line}");
+    }
+    Ok(())
+}

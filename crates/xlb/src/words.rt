@@ -1,0 +1,122 @@
+//! The command line, read.
+
+ghost use Rattle.std.specs.Prelude.{◌≡◌, ◌≢◌, ◌⊎◌, List, [], Some, IfOk, IfErr, map, codes};
+ghost use Rattle.clap.specs.Kinds.{FailsBy, IsAmong};
+ghost use Rattle.clap.specs.Words.{Row, Text, fault_of, found_of, rows_of, subcommand_of};
+ghost use Rattle.xlb.specs.CommandLine.{program};
+ghost use Rattle.xlb.specs.Reading.{IsReadFrom, kind_in, word_of};
+ghost use Rattle.clap.specs.declared.error.kind.ErrorKind.TheVariants.{DisplayHelp, DisplayVersion, OutOfMemory};
+
+use crate::command_line::Settings;
+use crate::grammar::{FRAME, IMAGE, NOW, OUT, TEXT, WORKER, program};
+use clap::{ArgMatches, Error};
+use std::alloc::Global;
+use std::convert::AsStr;
+use std::{fmt, io};
+
+/// Why words are no command, or which text they ask for: help or the version.
+#[derive(Debug, Drop)]
+pub enum WordsFault {
+    /// The parser's own answer, whose text is for the user.
+    Parser(Error),
+}
+
+impl WordsFault {
+    /// The status that the program ends with: 0 where help or the version was asked for, 2 for a mistake.
+    pub fn status(&self) -> u8
+        ensures shown { (kind_in self.now ≡ DisplayHelp) ⊎ (kind_in self.now ≡ DisplayVersion) → result ≡ 0 }
+        ensures mistake { (kind_in self.now ≢ DisplayHelp) → (kind_in self.now ≢ DisplayVersion) → result ≡ 2 }
+    {
+        match self {
+            WordsFault::Parser(error) => { if error.use_stderr() { 2 } else { 0 } }
+        }
+    }
+
+    /// Prints the text: help and the version on the standard output, a mistake on the standard error.
+    pub fn print<R: Print + Eprint>(&self, rt: &R) -> io::Result<()> {
+        match self {
+            WordsFault::Parser(error) => error.print(rt),
+        }
+    }
+}
+
+impl fmt::Display for WordsFault {
+    fn fmt<W: fmt::Write>(&self, f: &mut fmt::Formatter<W>) -> fmt::Result {
+        match self {
+            WordsFault::Parser(error) => write!(f, "{error}"),
+        }
+    }
+}
+
+/// The command that the words say; the first word is the program's name.
+///
+/// There is one exactly where the parser finds no fault in the words. A fault is of the first kind that the parser finds, or
+/// memory was refused.
+pub fn settings<'a, S: AsStr>(alloc: Global, words: &'a [S]) -> Result<Settings<'a>, WordsFault>
+    ensures found { IfOk result (λ settings. (name : Text) × (rows : List Row)
+        × (subcommand_of program (map S.text words.entry.now) ≡ Some (name, rows)) × IsReadFrom name rows settings) }
+    ensures faultless { IfOk result (λ _. fault_of program (map S.text words.entry.now) ≡ []) }
+    ensures faulty { IfErr result (λ fault. (kind_in fault ≡ OutOfMemory)
+        ⊎ IsAmong (kind_in fault) (fault_of program (map S.text words.entry.now))) }
+{
+    match parsed(alloc, words) {
+        Ok(settings) => Ok(settings),
+        Err(error) => Err(WordsFault::Parser(error)),
+    }
+}
+
+/// What the parser makes of the words.
+fn parsed<'a, S: AsStr>(alloc: Global, words: &'a [S]) -> Result<Settings<'a>, Error>
+    ensures found { IfOk result (λ settings. (name : Text) × (rows : List Row)
+        × (subcommand_of program (map S.text words.entry.now) ≡ Some (name, rows)) × IsReadFrom name rows settings) }
+    ensures kinds { FailsBy (fault_of program (map S.text words.entry.now)) result }
+{
+    let command = program(alloc)?;
+    let matches = command.try_get_matches_from(words)?;
+    match matches.subcommand() {
+        Some((name, found)) => Ok(command_of(name, found)),
+        None => unreachable!(),
+    }
+}
+
+/// The command of a name, with its words.
+fn command_of<'a>(name: &str, found: &ArgMatches<'a>) -> Settings<'a>
+    ensures { IsReadFrom name.now (rows_of (found_of found.now)) result }
+{
+    if name == "check" {
+        return Settings::Check {
+            image: word(found, IMAGE),
+        };
+    }
+    if name == "run" {
+        return run_of(found);
+    }
+    if name == "disasm" {
+        return Settings::Disasm {
+            image: word(found, IMAGE),
+        };
+    }
+    Settings::Asm {
+        text: word(found, TEXT),
+        out: word(found, OUT),
+    }
+}
+
+/// The settings of a run.
+fn run_of<'a>(found: &ArgMatches<'a>) -> Settings<'a>
+    ensures { IsReadFrom (codes "run") (rows_of (found_of found.now)) result }
+{
+    Settings::Run {
+        image: word(found, IMAGE),
+        frame: word(found, FRAME),
+        now: found.get_one::<u64>(NOW).unwrap_or(0),
+        worker: found.get_one::<u32>(WORKER).unwrap_or(0),
+    }
+}
+
+/// The word of a required argument.
+fn word<'a>(found: &ArgMatches<'a>, id: &str) -> &'a str
+    ensures { result.now ≡ word_of id.now (rows_of (found_of found.now)) }
+{
+    found.get_str(id).unwrap_or("")
+}
