@@ -39,4 +39,4 @@ not_broken maps code states slot why accepted broken =
 pub one_answer : HasOneAnswer
 one_answer maps code states reject accepted (has_no_shape fault is e) = absurd (no_fault code fault accepted.shape is)
 one_answer maps code states reject accepted (breaks_rule slot why broken e) = absurd (not_broken maps code states slot why accepted broken)
-one_answer maps code states reject accepted (wants_memory e) = e
+one_answer maps code states reject accepted (wants_memory shape e) = e

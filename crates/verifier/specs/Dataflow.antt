@@ -101,8 +101,8 @@ pub record IsFirstBroken (maps : List MapDef) (code : List Insn) (slot : ℕ) (w
   pub breaks : flow_of maps state slot insn ≡ Err why
 
 -- the first rule that a program breaks: those of structure first, and then those of kinds by rising slot. A want of memory may be
--- answered in place of any of them.
+-- answered in place of a rule of kinds, since the tests of structure take none.
 pub data IsFirstReject (maps : List MapDef) (code : List Insn) (reject : Reject) : Type 0 where
   has_no_shape : (fault : ShapeFault) → IsFirstFault code fault → reject ≡ reject_of_shape fault → IsFirstReject maps code reject
   breaks_rule : (slot : ℕ) (why : Refusal) → IsFirstBroken maps code slot why → reject ≡ reject_of_refusal slot why → IsFirstReject maps code reject
-  wants_memory : reject ≡ Memory → IsFirstReject maps code reject
+  wants_memory : HasShape code → reject ≡ Memory → IsFirstReject maps code reject

@@ -436,10 +436,25 @@ fn the_longest_program(rt: HostRuntime) -> Result<(), Fail> {
 #[test]
 fn printed_rejects(rt: HostRuntime) -> Result<(), Fail> {
     #[rattlefmt::skip]
-    const TEXTS: [(Reject, &str); 4] = [
-        (Reject::UnsetRegister { slot: 0, register: 0 }, "fault 35 UnsetRegister slot 0 register 0"),
-        (Reject::PacketBounds { slot: 6 },               "fault 37 PacketBounds slot 6"),
+    const TEXTS: [(Reject, &str); 19] = [
+        (Reject::JumpBackward { slot: 1 },               "fault 30 JumpBackward slot 1"),
+        (Reject::JumpOutside { slot: 5 },                "fault 31 JumpOutside slot 5"),
+        (Reject::JumpIntoWide { slot: 0 },               "fault 32 JumpIntoWide slot 0"),
+        (Reject::FallsOff { slot: 4095 },                "fault 33 FallsOff slot 4095"),
         (Reject::Unreachable { slot: 2 },                "fault 34 Unreachable slot 2"),
+        (Reject::UnsetRegister { slot: 0, register: 0 }, "fault 35 UnsetRegister slot 0 register 0"),
+        (Reject::WrongKind { slot: 3, register: 10 },    "fault 36 WrongKind slot 3 register 10"),
+        (Reject::PacketBounds { slot: 6 },               "fault 37 PacketBounds slot 6"),
+        (Reject::StackBounds { slot: 7 },                "fault 38 StackBounds slot 7"),
+        (Reject::StackUnset { slot: 8 },                 "fault 39 StackUnset slot 8"),
+        (Reject::ValueBounds { slot: 9 },                "fault 40 ValueBounds slot 9"),
+        (Reject::Misaligned { slot: 10 },                "fault 41 Misaligned slot 10"),
+        (Reject::ContextAccess { slot: 11 },             "fault 42 ContextAccess slot 11"),
+        (Reject::ReadOnlyFp { slot: 12 },                "fault 43 ReadOnlyFp slot 12"),
+        (Reject::UnknownHelper { slot: 13 },             "fault 44 UnknownHelper slot 13"),
+        (Reject::BadArgument { slot: 14, register: 2 },  "fault 45 BadArgument slot 14 register 2"),
+        (Reject::PointerLeak { slot: 15 },               "fault 46 PointerLeak slot 15"),
+        (Reject::UnknownMap { slot: 16 },                "fault 47 UnknownMap slot 16"),
         (Reject::Memory,                                 "fault 48 Memory"),
     ];
     for (reject, wanted) in TEXTS {

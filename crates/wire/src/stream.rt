@@ -1,6 +1,7 @@
 //! Files and the standard streams as devices, which do not tell their bytes.
 
-ghost use Rattle.std.specs.Prelude.{◌≡◌, ◌-◌, ◌^◌, ◌≤◌, None};
+ghost use Rattle.std.specs.Prelude.{◌≡◌, ◌+◌, ◌-◌, ◌^◌, ◌<◌, ◌≤◌, None, length, IfOk, OnOk, OnErr};
+ghost use Rattle.std.specs.Io.KnownBytes.{ReadConsumes, WriteAppends};
 
 use crate::device::{Failed, Sink, Source};
 use std::io::{Read, Write};
@@ -42,7 +43,14 @@ impl<R: Read> Source for StreamSource<R> {
 
     ghost failure_count = { λ source. source.failures };
 
-    fn read(&mut self, buffer: &mut [u8]) -> Result<usize, Failed> {
+    fn read(&mut self, buffer: &mut [u8]) -> Result<usize, Failed>
+        requires { self.old.failures < 2 ^ 64 - 1 }
+        ensures within { IfOk result (λ count. count ≤ length buffer.new) }
+        ensures given { IfOk result (λ count. self.new.given ≡ self.old.given + count) }
+        ensures passed_on { ReadConsumes (R.remaining self.old.reader) (R.remaining self.new.reader) result buffer.new }
+        ensures steady { OnOk result (self.new.failures ≡ self.old.failures) }
+        ensures counted { OnErr result ((self.new.failures ≡ self.old.failures + 1) × (self.new.given ≡ self.old.given)) }
+    {
         let most = MOST_GIVEN - self.given;
         if most >= buffer.len() as u64 {
             if let Ok(count) = self.reader.read(buffer) {
@@ -85,7 +93,14 @@ impl<W: Write> Sink for StreamSink<W> {
 
     ghost failure_count = { λ sink. sink.failures };
 
-    fn write(&mut self, bytes: &[u8]) -> Result<usize, Failed> {
+    fn write(&mut self, bytes: &[u8]) -> Result<usize, Failed>
+        requires { self.old.failures < 2 ^ 64 - 1 }
+        ensures within { IfOk result (λ count. count ≤ length bytes.now) }
+        ensures progress { IfOk result (λ count. 0 < length bytes.now → 0 < count) }
+        ensures passed_on { WriteAppends (W.contents self.old.writer) (W.contents self.new.writer) result bytes.now }
+        ensures steady { OnOk result (self.new.failures ≡ self.old.failures) }
+        ensures counted { OnErr result (self.new.failures ≡ self.old.failures + 1) }
+    {
         if let Ok(count) = self.writer.write(bytes) {
             if count > 0 || bytes.is_empty() {
                 return Ok(count);

@@ -8,6 +8,16 @@ use Rattle.disasm.specs.AssemblyText.{IsAssemblyText}
 use Rattle.semantics.specs.Safety.{IsSafeImage}
 use Rattle.verifier.specs.Dataflow.{Accepts}
 use Rattle.verifier.specs.Readers.{IsReader}
+use Rattle.hex.specs.Hex.{encode_lower}
+use Rattle.wire.specs.FrameView.{FrameView}
+use Rattle.semantics.specs.declared.options.Options.{Options}
+use Rattle.semantics.specs.declared.verdict.Verdict.{Verdict}
+use Rattle.semantics.specs.declared.verdict.Verdict.TheVariants.{Aborted, Drop, Pass, Tx}
+use Rattle.semantics.specs.MachineState.{initial_state}
+use Rattle.shards.specs.Opening.{AreOpened}
+use Rattle.map_port.specs.PlainPorts.{PortGives}
+use Rattle.map_port.specs.declared.plain.PlainPort.{PlainPort}
+use Rattle.machine.specs.Running.{Ends}
 use Rattle.xlb.specs.declared.command_line.Settings.{Settings}
 use Rattle.xlb.specs.declared.command_line.Settings.TheVariants.{Check, Run, Disasm, Asm}
 
@@ -44,15 +54,47 @@ pub record IsChecked (files : FileBytes) (name : List ℕ) (printed : List ℕ) 
   pub reads : IsTrue reader ↔ IsReader image.code states
   pub line : printed ≡ accepted_line image reader
 
--- the image may run, and the frame is one; what the run gives is the machine's to say
-pub record IsRun (files : FileBytes) (image frame : List ℕ) : Type 0 where
+abbrev pub verdict_name : Verdict → List ℕ
+verdict_name Aborted = codes "aborted"
+verdict_name Drop = codes "drop"
+verdict_name Pass = codes "pass"
+verdict_name Tx = codes "tx"
+
+-- the lines of a run, from its words
+abbrev pub run_lines : List ℕ → ℕ → List ℕ → List ℕ
+run_lines verdict steps frame =
+    codes "verdict " ++ (verdict ++ (codes "\ninstructions " ++ (decimal steps ++ (codes "\nframe " ++ (frame ++ codes "\n")))))
+
+abbrev pub run_text : Verdict → ℕ → List ℕ → List ℕ
+run_text verdict steps frame = run_lines (verdict_name verdict) steps (encode_lower frame)
+
+-- how the maps of a run are opened
+abbrev pub run_options : Options
+run_options = record { workers = 8; shards = 1; journal = 65536 }
+
+-- the program on the frame, at this time and on this worker, over maps in which nothing has happened, ended so: it made calls, a
+-- one-thread map gave the replies, and on these replies its run trace has this verdict, so many instructions and this frame
+pub record HasRun (program : Contents) (bytes : List ℕ) (now worker : ℕ) (verdict : Verdict) (steps : ℕ) (left : FrameView) : Type 0 where
+  pub before : PlainPort
+  pub opened : AreOpened program.maps run_options before.shards.now
+  pub maps : before.image.now.maps ≡ program.maps
+  pub caller : before.worker ≡ worker
+  pub after : PlainPort
+  pub ends : Ends PortGives (record { code = program.code; maps = program.maps; shards = 1 })
+      (initial_state (record { bytes = bytes; headroom = 256 }) worker now) before after verdict steps left
+
+-- the image may run, the file of the frame is one, and what is printed is what the run came to
+pub record IsRun (files : FileBytes) (image frame : List ℕ) (now worker : ℕ) (printed : List ℕ) : Type 0 where
   pub program : Contents
   pub file : IsImageFile files image program
   pub safe : IsSafeImage program.maps program.code
   pub bytes : List ℕ
   pub read : files frame bytes
-  pub least : 14 ≤ length bytes
-  pub most : length bytes ≤ 2048
+  pub verdict : Verdict
+  pub steps : ℕ
+  pub left : FrameView
+  pub run : HasRun program bytes now worker verdict steps left
+  pub lines : printed ≡ run_text verdict steps left.bytes
 
 -- what is printed is the image's text
 pub record IsDisassembled (files : FileBytes) (name : List ℕ) (printed : List ℕ) : Type 0 where
@@ -71,6 +113,6 @@ pub record IsAssembled (before after : FileBytes) (source target : List ℕ) : T
 -- the command is done over these files, before and after, with this print
 abbrev pub IsDone : FileBytes → FileBytes → Settings → List ℕ → Type 0
 IsDone before after (Check image) printed = IsChecked before image.now printed
-IsDone before after (Run image frame now worker) printed = IsRun before image.now frame.now
+IsDone before after (Run image frame now worker) printed = IsRun before image.now frame.now now worker printed
 IsDone before after (Disasm image) printed = IsDisassembled before image.now printed
 IsDone before after (Asm text out) printed = IsAssembled before after text.now out.now × (printed ≡ [])

@@ -2,15 +2,18 @@
 
 ghost use Rattle.std.specs.Prelude.{◌≡◌, ◌==◌, ◌↔◌, ◌+◌, ◌-◌, ◌<◌, ◌≤◌, ◌^◌, ℕ, [], List, IfOk, OnOk, length, take, count_by, string_bytes};
 ghost use Rattle.semantics.specs.Safety.{IsSafeImage};
+ghost use Rattle.semantics.specs.ShardPlan.{AreOptions};
+ghost use Rattle.semantics.specs.System.{IsInputFrame};
+ghost use Rattle.shards.specs.Opening.{AreOpened};
 ghost use Rattle.disasm.specs.AssemblyText.{IsAssemblyText};
-ghost use Rattle.xlb.specs.Results.{IsImageFile, IsChecked, IsRun, IsDisassembled, IsAssembled};
+ghost use Rattle.xlb.specs.Results.{IsImageFile, IsChecked, HasRun, IsRun, run_options, IsDisassembled, IsAssembled};
 
 use crate::fault::Fault;
 use crate::folder::Folder;
 use crate::report::{accepted, outcome};
 use disasm::{AsmFault, assemble, text};
 use ebpf_decode::{Image, decode, encode};
-use machine::{Moment, run};
+use machine::{Exit, Moment, Stop, run};
 use map_port::PlainPort;
 use map_port::laws::opened_serve;
 use shards::{OpenFault, Options, Shards};
@@ -74,20 +77,33 @@ fn verified_of<D: Folder>(alloc: Global, folder: &mut D, name: &str) -> Result<V
 fn frame_of<D: Folder>(alloc: Global, folder: &mut D, name: &str) -> Result<Frame, Fault>
     requires { D.failure_count folder.old < 2 ^ 64 - 1 }
     ensures read { IfOk result (λ frame. D.holds folder.old name.now frame.bytes) }
-    ensures size { IfOk result (λ frame. (14 ≤ length frame.bytes) × (length frame.bytes ≤ 2048) × (frame.headroom ≡ 256)) }
+    ensures size { IfOk result (λ frame. IsInputFrame frame.bytes) }
+    ensures headroom { IfOk result (λ frame. frame.headroom ≡ 256) }
     ensures kept { OnOk result ((other bytes : List ℕ) → (D.holds folder.old other bytes ↔ D.holds folder.new other bytes)) }
     ensures steady { OnOk result (D.failure_count folder.new ≡ D.failure_count folder.old) }
 {
     let bytes = bytes_of(alloc, folder, name)?;
     match Frame::of(alloc, &bytes) {
-        Ok(frame) => Ok(frame),
+        Ok(frame) => {
+            known(&frame);
+            Ok(frame)
+        }
         Err(fault) => Err(Fault::Frame(fault)),
     }
 }
 
+/// What every frame's bytes are.
+fn known(frame: &Frame)
+    requires { (14 ≤ length frame.now.bytes) × (length frame.now.bytes ≤ 2048) }
+    ensures { IsInputFrame frame.now.bytes }
+{
+    let _ = frame.bytes();
+}
+
 /// When and where a run happens, if there is such a worker.
 fn moment_of(now: u64, worker: u32) -> Result<Moment, Fault>
-    ensures { IfOk result (λ moment. moment.worker < 8) }
+    ensures below { IfOk result (λ moment. moment.worker < 8) }
+    ensures given { IfOk result (λ moment. (moment.now_ns ≡ now) × (moment.worker ≡ worker)) }
 {
     if worker >= WORKERS {
         return Err(Fault::Options(OpenFault::BadOptions));
@@ -107,6 +123,27 @@ pub fn check<D: Folder>(alloc: Global, folder: &mut D, image: &str) -> Result<St
     Ok(accepted(alloc, &verified)?)
 }
 
+/// The run of an image over new shards.
+fn run_over(
+    verified: &Verified,
+    shards: &mut Shards,
+    frame: &mut Frame,
+    moment: &Moment,
+) -> Result<Exit, Stop>
+    requires opened { AreOpened verified.now.maps run_options shards.old }
+    requires options { AreOptions verified.now.maps run_options }
+    requires headroom { frame.old.headroom ≡ 256 }
+    requires worker { moment.now.worker < 8 }
+    ensures { IfOk result (λ exit. HasRun (record { maps = verified.now.maps; code = verified.now.code }) frame.old.bytes moment.now.now_ns moment.now.worker
+        exit.verdict exit.steps frame.new) }
+{
+    opened_serve();
+    let mut port = PlainPort::over(verified.image(), OPTIONS, shards, moment.worker);
+    let stopped = run(verified, frame, moment, &mut port);
+    port.finish();
+    stopped
+}
+
 /// Runs an image on one frame, with maps in which nothing has happened.
 pub fn run_once<D: Folder>(
     alloc: Global,
@@ -117,7 +154,7 @@ pub fn run_once<D: Folder>(
     worker: u32,
 ) -> Result<String, Fault>
     requires { D.failure_count folder.old < 2 ^ 64 - 1 }
-    ensures { OnOk result (IsRun (D.holds folder.old) image.now frame.now) }
+    ensures { IfOk result (λ text. IsRun (D.holds folder.old) image.now frame.now now worker (string_bytes text)) }
 {
     let verified = verified_of(alloc, folder, image)?;
     let mut frame = frame_of(alloc, folder, frame)?;
@@ -126,10 +163,7 @@ pub fn run_once<D: Folder>(
         Ok(shards) => shards,
         Err(fault) => return Err(Fault::Options(fault)),
     };
-    opened_serve();
-    let mut port = PlainPort::over(verified.image(), OPTIONS, &mut shards, moment.worker);
-    let stopped = run(&verified, &mut frame, &moment, &mut port);
-    port.finish();
+    let stopped = run_over(&verified, &mut shards, &mut frame, &moment);
     match stopped {
         Ok(exit) => Ok(outcome(alloc, exit, &frame)?),
         Err(stop) => Err(Fault::Run(stop)),

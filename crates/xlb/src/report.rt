@@ -3,7 +3,7 @@
 ghost use Rattle.std.specs.Prelude.{◌≡◌, ◌↔◌, ◌≤◌, IfOk, Bool, IsTrue, string_bytes};
 ghost use Rattle.ebpf_decode.specs.InstructionEncoding.{total_slots};
 ghost use Rattle.verifier.specs.Readers.{IsReader};
-ghost use Rattle.xlb.specs.Results.{accepted_line, accepted_text, yes_or_no};
+ghost use Rattle.xlb.specs.Results.{accepted_line, accepted_text, yes_or_no, verdict_name, run_lines, run_text};
 
 use ebpf_decode::Insn;
 use machine::Exit;
@@ -50,7 +50,9 @@ pub fn accepted(alloc: Global, verified: &Verified) -> Result<String, AllocError
 }
 
 /// A verdict's name, as it is printed.
-fn name_of(verdict: Verdict) -> &'static str {
+fn verdict_name(verdict: Verdict) -> &'static str
+    ensures { result.now ≡ verdict_name verdict }
+{
     match verdict {
         Verdict::Aborted => "aborted",
         Verdict::Drop => "drop",
@@ -60,9 +62,21 @@ fn name_of(verdict: Verdict) -> &'static str {
 }
 
 /// What a run came to: its verdict, how many instructions it ran, and the frame that it left.
-pub fn outcome(alloc: Global, exit: Exit, frame: &Frame) -> Result<String, AllocError> {
-    let verdict = name_of(exit.verdict);
-    let steps = exit.steps;
+pub fn outcome(alloc: Global, exit: Exit, frame: &Frame) -> Result<String, AllocError>
+    ensures { IfOk result (λ text. string_bytes text ≡ run_text exit.verdict exit.steps frame.now.bytes) }
+{
     let bytes = hex::encode(alloc, frame.bytes())?;
-    format!(in alloc; "verdict {verdict}\ninstructions {steps}\nframe {bytes}\n")
+    run_lines(
+        alloc,
+        verdict_name(exit.verdict),
+        exit.steps,
+        bytes.as_str(),
+    )
+}
+
+/// The lines of a run.
+fn run_lines(alloc: Global, verdict: &str, steps: u64, frame: &str) -> Result<String, AllocError>
+    ensures { IfOk result (λ text. string_bytes text ≡ run_lines verdict.now steps frame.now) }
+{
+    format!(in alloc; "verdict {verdict}\ninstructions {steps}\nframe {frame}\n")
 }

@@ -7,6 +7,7 @@ mod devices;
 mod first_path;
 mod images;
 mod programs;
+mod runs;
 mod words;
 
 use crate::{Folder, FolderFault, MemoryFolder, serve, settings};

@@ -1,0 +1,119 @@
+//! Programs run, each from its text.
+
+use super::{file, serve_line};
+use crate::{Folder, MemoryFolder};
+use std::alloc::{AllocError, Global};
+use std::test::Fail;
+
+/// What a row shows, the text, the frame, the command line, and what is printed.
+type Row = (
+    &'static str,
+    &'static str,
+    &'static str,
+    &'static str,
+    &'static str,
+);
+
+#[rattlefmt::skip]
+const ROWS: [Row; 21] = [
+    ("two instructions", "version 1\nmov r0, 2\nexit\n", "0000000000000000000000000000", "xlb run image frame", "verdict pass\ninstructions 2\nframe 0000000000000000000000000000\n"),
+    ("byte 13 of 14", "version 1\nldxw r2, [r1+0]\nldxw r3, [r1+4]\nmov r4, r2\nadd r4, 14\nmov r0, 2\njgt r4, r3, +1\nldxb r0, [r2+13]\nexit\n", "0000000000000000000000000001", "xlb run image frame", "verdict drop\ninstructions 8\nframe 0000000000000000000000000001\n"),
+    ("byte 13 of 15", "version 1\nldxw r2, [r1+0]\nldxw r3, [r1+4]\nmov r4, r2\nadd r4, 14\nmov r0, 2\njgt r4, r3, +1\nldxb r0, [r2+13]\nexit\n", "000000000000000000000000000100", "xlb run image frame", "verdict drop\ninstructions 8\nframe 000000000000000000000000000100\n"),
+    ("no byte 14", "version 1\nldxw r2, [r1+0]\nldxw r3, [r1+4]\nmov r4, r2\nadd r4, 14\nmov r0, 2\njge r4, r3, +1\nldxb r0, [r2+14]\nexit\n", "0000000000000000000000000000", "xlb run image frame", "verdict pass\ninstructions 7\nframe 0000000000000000000000000000\n"),
+    ("byte 14 of 15", "version 1\nldxw r2, [r1+0]\nldxw r3, [r1+4]\nmov r4, r2\nadd r4, 14\nmov r0, 2\njge r4, r3, +1\nldxb r0, [r2+14]\nexit\n", "000000000000000000000000000001", "xlb run image frame", "verdict drop\ninstructions 8\nframe 000000000000000000000000000001\n"),
+    ("an element is looked up", "version 1\nmap array 4 8 1\nstw [r10-4], 0\nmov r2, r10\nadd r2, -4\nldmap r1, 0\ncall 1\njeq r0, 0, +1\nldxdw r3, [r0+0]\nmov r0, 2\nexit\n", "0000000000000000000000000000", "xlb run image frame", "verdict pass\ninstructions 9\nframe 0000000000000000000000000000\n"),
+    ("the context kept on the stack", "version 1\nstxdw [r10-8], r1\nldxdw r2, [r10-8]\nldxw r0, [r2+12]\nexit\n", "0000000000000000000000000000", "xlb run image frame", "verdict drop\ninstructions 4\nframe 0000000000000000000000000000\n"),
+    ("the time", "version 1\ncall 5\nexit\n", "0000000000000000000000000000", "xlb run image frame --now 3", "verdict tx\ninstructions 2\nframe 0000000000000000000000000000\n"),
+    ("no time is time 0", "version 1\ncall 5\nexit\n", "0000000000000000000000000000", "xlb run image frame", "verdict aborted\ninstructions 2\nframe 0000000000000000000000000000\n"),
+    ("the worker", "version 1\ncall 8\nexit\n", "0000000000000000000000000000", "xlb run image frame --worker 2", "verdict pass\ninstructions 2\nframe 0000000000000000000000000000\n"),
+    ("the receive queue is the worker", "version 1\nldxw r0, [r1+16]\nexit\n", "0000000000000000000000000000", "xlb run image frame --worker 3", "verdict tx\ninstructions 2\nframe 0000000000000000000000000000\n"),
+    ("a place that the packet tells", "version 1\nldxw r2, [r1+0]\nldxw r3, [r1+4]\nmov r4, r2\nadd r4, 14\nmov r0, 2\njgt r4, r3, +6\nldxb r5, [r2+13]\nadd r2, r5\nmov r4, r2\nadd r4, 1\njgt r4, r3, +1\nldxb r0, [r2+0]\nexit\n", "0000000100000000000000000003", "xlb run image frame", "verdict drop\ninstructions 13\nframe 0000000100000000000000000003\n"),
+    ("a place past the packet", "version 1\nldxw r2, [r1+0]\nldxw r3, [r1+4]\nmov r4, r2\nadd r4, 14\nmov r0, 2\njgt r4, r3, +6\nldxb r5, [r2+13]\nadd r2, r5\nmov r4, r2\nadd r4, 1\njgt r4, r3, +1\nldxb r0, [r2+0]\nexit\n", "000000000000000000000000000e", "xlb run image frame", "verdict pass\ninstructions 12\nframe 000000000000000000000000000e\n"),
+    ("0 is aborted", "version 1\nmov r0, 0\nexit\n", "0000000000000000000000000000", "xlb run image frame", "verdict aborted\ninstructions 2\nframe 0000000000000000000000000000\n"),
+    ("4 is aborted", "version 1\nmov r0, 4\nexit\n", "0000000000000000000000000000", "xlb run image frame", "verdict aborted\ninstructions 2\nframe 0000000000000000000000000000\n"),
+    ("-1 is aborted", "version 1\nmov r0, -1\nexit\n", "0000000000000000000000000000", "xlb run image frame", "verdict aborted\ninstructions 2\nframe 0000000000000000000000000000\n"),
+    ("low 32 bits, a wide instruction once", "version 1\nlddw r0, 0x0000000100000001\nexit\n", "0000000000000000000000000000", "xlb run image frame", "verdict drop\ninstructions 2\nframe 0000000000000000000000000000\n"),
+    ("7 by 0 is 0", "version 1\nmov r0, 7\nmov r1, 0\ndiv r0, r1\nadd r0, 2\nexit\n", "0000000000000000000000000000", "xlb run image frame", "verdict pass\ninstructions 5\nframe 0000000000000000000000000000\n"),
+    ("big endian", "version 1\nmov r0, 768\nbe16 r0\nexit\n", "0000000000000000000000000000", "xlb run image frame", "verdict tx\ninstructions 3\nframe 0000000000000000000000000000\n"),
+    ("a 32-bit shift", "version 1\nmov32 r0, -1\nrsh32 r0, 30\nexit\n", "0000000000000000000000000000", "xlb run image frame", "verdict tx\ninstructions 3\nframe 0000000000000000000000000000\n"),
+    ("the stack", "version 1\nstdw [r10-8], 3\nldxdw r0, [r10-8]\nexit\n", "0000000000000000000000000000", "xlb run image frame", "verdict tx\ninstructions 3\nframe 0000000000000000000000000000\n"),
+];
+
+#[test]
+fn runs_programs(rt: HostRuntime) -> Result<(), Fail> {
+    let alloc = rt.alloc();
+    for (name, text, frame, line, want) in ROWS {
+        let mut folder = MemoryFolder::new(alloc);
+        folder.write(alloc, "text", text.as_bytes())?;
+        let mut made = serve_line(alloc, folder, "xlb asm text image")?;
+        assert_eq!(rt; made.status, 0, "assembling {name}");
+        assert!(rt; made.folder.failures() == 0, "device of {name}");
+        let image = file(alloc, &mut made.folder, "image")?;
+        let frame = hex::decode(alloc, frame)?;
+        let mut folder = MemoryFolder::new(alloc);
+        folder.write(alloc, "image", &image)?;
+        folder.write(alloc, "frame", &frame)?;
+        let found = serve_line(alloc, folder, line)?;
+        assert!(rt; found.err.bytes().is_empty(), "error of {name}");
+        assert!(rt; found.out.bytes() == want.as_bytes(), "output of {name}");
+        assert_eq!(rt; found.status, 0, "status of {name}");
+    }
+    Ok(())
+}
+
+/// So many times `mov r0, 1`, and the end.
+fn long_text(alloc: Global, count: u32) -> Result<String, AllocError> {
+    let mut text = String::from_str(alloc, "version 1\n")?;
+    for _ in 0..count {
+        text.push_str("mov r0, 1\n")?;
+    }
+    text.push_str("exit\n")?;
+    Ok(text)
+}
+
+#[test]
+fn runs_4096_instructions(rt: HostRuntime) -> Result<(), Fail> {
+    let alloc = rt.alloc();
+    let text = long_text(alloc, 4095)?;
+    let mut folder = MemoryFolder::new(alloc);
+    folder.write(alloc, "text", text.as_bytes())?;
+    let mut made = serve_line(alloc, folder, "xlb asm text image")?;
+    assert!(rt; made.folder.failures() == 0);
+    let image = file(alloc, &mut made.folder, "image")?;
+    let mut folder = MemoryFolder::new(alloc);
+    folder.write(alloc, "image", &image)?;
+    folder.write(alloc, "frame", &[0; 14])?;
+    let found = serve_line(alloc, folder, "xlb run image frame")?;
+    let want = "verdict drop\ninstructions 4096\nframe 0000000000000000000000000000\n";
+    assert!(rt; found.out.bytes() == want.as_bytes());
+    Ok(())
+}
+
+#[test]
+fn refuses_4097_instructions(rt: HostRuntime) -> Result<(), Fail> {
+    let alloc = rt.alloc();
+    let text = long_text(alloc, 4096)?;
+    let mut folder = MemoryFolder::new(alloc);
+    folder.write(alloc, "text", text.as_bytes())?;
+    let found = serve_line(alloc, folder, "xlb asm text image")?;
+    assert!(rt; found.err.bytes() == b"fault 22 Image decode 14\n".as_slice());
+    Ok(())
+}
+
+/// How many bytes a frame has, and what is said of it.
+const SIZES: [(usize, &str); 2] = [(2048, ""), (2049, "fault 6 FrameTooLong\n")];
+
+#[test]
+fn takes_2048_bytes(rt: HostRuntime) -> Result<(), Fail> {
+    let alloc = rt.alloc();
+    for (size, err) in SIZES {
+        let image = hex::decode(alloc, super::first_path::IMAGE)?;
+        let frame: Vec<u8> = vec![in alloc; 0; size]?;
+        let mut folder = MemoryFolder::new(alloc);
+        folder.write(alloc, "image", &image)?;
+        folder.write(alloc, "frame", &frame)?;
+        let found = serve_line(alloc, folder, "xlb run image frame")?;
+        assert!(rt; found.err.bytes() == err.as_bytes(), "{size} bytes");
+    }
+    Ok(())
+}
