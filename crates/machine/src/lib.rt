@@ -12,3 +12,6 @@ pub use exit::{Exit, Stop};
 pub use map_port::MapPort;
 pub use moment::Moment;
 pub use runner::run;
+
+#[cfg(test)]
+mod tests;

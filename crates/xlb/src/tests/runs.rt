@@ -1,8 +1,9 @@
 //! Programs run, each from its text.
 
-use super::{file, serve_line};
+use super::{Given, file, serve_line};
 use crate::{Folder, MemoryFolder};
 use std::alloc::{AllocError, Global};
+use std::process::Abort;
 use std::test::Fail;
 
 /// What a row shows, the text, the frame, the command line, and what is printed.
@@ -39,21 +40,31 @@ const ROWS: [Row; 21] = [
     ("the stack", "version 1\nstdw [r10-8], 3\nldxdw r0, [r10-8]\nexit\n", "0000000000000000000000000000", "xlb run image frame", "verdict tx\ninstructions 3\nframe 0000000000000000000000000000\n"),
 ];
 
+/// The image of a text.
+fn image_of(rt: &impl Abort, alloc: Global, name: &str, text: &str) -> Result<Vec<u8>, Fail> {
+    let mut folder = MemoryFolder::new(alloc);
+    folder.write(alloc, "text", text.as_bytes())?;
+    let mut made = serve_line(alloc, folder, "xlb asm text image")?;
+    assert_eq!(rt; made.status, 0, "assembling {name}");
+    assert!(rt; made.folder.failures() == 0, "device of {name}");
+    Ok(file(alloc, &mut made.folder, "image")?)
+}
+
+/// A command line over an image and a frame.
+fn given(alloc: Global, image: &[u8], frame: &[u8], line: &str) -> Result<Given, Fail> {
+    let mut folder = MemoryFolder::new(alloc);
+    folder.write(alloc, "image", image)?;
+    folder.write(alloc, "frame", frame)?;
+    serve_line(alloc, folder, line)
+}
+
 #[test]
 fn runs_programs(rt: HostRuntime) -> Result<(), Fail> {
     let alloc = rt.alloc();
     for (name, text, frame, line, want) in ROWS {
-        let mut folder = MemoryFolder::new(alloc);
-        folder.write(alloc, "text", text.as_bytes())?;
-        let mut made = serve_line(alloc, folder, "xlb asm text image")?;
-        assert_eq!(rt; made.status, 0, "assembling {name}");
-        assert!(rt; made.folder.failures() == 0, "device of {name}");
-        let image = file(alloc, &mut made.folder, "image")?;
+        let image = image_of(&rt, alloc, name, text)?;
         let frame = hex::decode(alloc, frame)?;
-        let mut folder = MemoryFolder::new(alloc);
-        folder.write(alloc, "image", &image)?;
-        folder.write(alloc, "frame", &frame)?;
-        let found = serve_line(alloc, folder, line)?;
+        let found = given(alloc, &image, &frame, line)?;
         assert!(rt; found.err.bytes().is_empty(), "error of {name}");
         assert!(rt; found.out.bytes() == want.as_bytes(), "output of {name}");
         assert_eq!(rt; found.status, 0, "status of {name}");
