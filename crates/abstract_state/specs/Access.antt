@@ -22,7 +22,7 @@ use Rattle.abstract_state.specs.States.{Checked, ◌>>=◌, unless, kind_of, wit
 use Rattle.abstract_state.specs.Places.{stack_access, packet_access, value_access}
 use Rattle.abstract_state.specs.Words.{loaded_number, word_loaded, storable, narrow_storable, word_stored}
 
--- stores and atomic operations on values of maps are served from a later stage on
+-- no store and no atomic operation on a value of a map is served as yet
 abbrev pub are_value_writes_served : Bool
 are_value_writes_served = false
 

@@ -165,6 +165,7 @@ impl State {
         }
     }
 
+    #[inline(never)]
     fn alu(
         self,
         maps: &[MapDef],
@@ -190,6 +191,7 @@ impl State {
         number_of(self.kind(operand), operand)
     }
 
+    #[inline(never)]
     fn load(
         self,
         maps: &[MapDef],
@@ -206,6 +208,7 @@ impl State {
         Ok(self.with(dst, kind))
     }
 
+    #[inline(never)]
     fn signed_load(
         self,
         maps: &[MapDef],
@@ -222,6 +225,7 @@ impl State {
         Ok(self.with(dst, kind))
     }
 
+    #[inline(never)]
     fn store(
         self,
         maps: &[MapDef],
@@ -243,6 +247,7 @@ impl State {
         )
     }
 
+    #[inline(never)]
     fn store_register(
         self,
         maps: &[MapDef],
@@ -267,6 +272,7 @@ impl State {
         }
     }
 
+    #[inline(never)]
     fn atomic_on(
         self,
         maps: &[MapDef],
@@ -293,6 +299,7 @@ impl State {
         }
     }
 
+    #[inline(never)]
     fn atomic(
         self,
         maps: &[MapDef],
@@ -309,6 +316,7 @@ impl State {
         self.atomic_on(maps, width, op, self.kind(dst), offset, dst, src)
     }
 
+    #[inline(never)]
     fn load_map(self, maps: &[MapDef], dst: Register, map: i32) -> Result<State, Refusal>
         ensures { result ≡ map_flow maps.now self dst map }
     {
@@ -317,6 +325,7 @@ impl State {
         Ok(self.with(dst, kind))
     }
 
+    #[inline(never)]
     fn call(self, maps: &[MapDef], slot: u16, number: i32) -> Result<State, Refusal>
         ensures { result ≡ call_flow maps.now self slot number }
     {
@@ -325,6 +334,7 @@ impl State {
         self.called(maps, slot, helper)
     }
 
+    #[inline(never)]
     fn test(self, width: Width, test: Test, dst: Register, source: Source) -> Result<Flow, Refusal>
         ensures { result ≡ test_flow self width test dst source }
     {
@@ -351,6 +361,7 @@ impl State {
     }
 
     /// What flows out of a jump, a call or an exit.
+    #[inline(never)]
     fn control_flow(self, maps: &[MapDef], slot: u16, insn: Insn) -> Result<Flow, Refusal>
         ensures { result ≡ control_flow maps.now self slot insn }
     {
@@ -370,6 +381,7 @@ impl State {
     }
 
     /// What flows out of an instruction that works on memory, or out of the others.
+    #[inline(never)]
     fn memory_flow(self, maps: &[MapDef], slot: u16, insn: Insn) -> Result<Flow, Refusal>
         ensures { result ≡ memory_flow maps.now self slot insn }
     {
@@ -411,6 +423,7 @@ impl State {
     }
 
     /// The state after an operation with one operand.
+    #[inline(never)]
     fn unary(self, dst: Register, operand: Register, change: Unary) -> Result<State, Refusal>
         ensures { result ≡ unary_flow self dst operand (unary_change change) }
     {
@@ -419,6 +432,7 @@ impl State {
     }
 
     /// The state after a wide load of a number.
+    #[inline(never)]
     fn load_number(self, dst: Register, value: u64) -> Result<State, Refusal>
         ensures { result ≡ number_flow self dst value }
     {
