@@ -1,8 +1,8 @@
 //! The image of a text.
 
-ghost use Rattle.std.specs.Prelude.{◌≡◌, ◌+◌, length, IfOk, IfErr};
+ghost use Rattle.std.specs.Prelude.{◌≡◌, ◌≢◌, ◌+◌, ◌++◌, ℕ, List, length, IfOk, IfErr, Err};
 ghost use Rattle.ebpf_decode.specs.ImageContents.{Contents};
-ghost use Rattle.disasm.specs.AssemblyText.{IsAssemblyText};
+ghost use Rattle.disasm.specs.AssemblyText.{version_text, IsAssemblyText};
 ghost use Rattle.disasm.specs.TextReading.{IsCodeRead, AreMapsRead, Explains};
 ghost use Rattle.disasm.specs.declared.fault.AsmFault.TheVariants.{BadLine, Memory};
 
@@ -53,6 +53,8 @@ fn bad_line_after(maps: &[MapDef], code: &[Insn]) -> AsmFault
 pub fn assemble(alloc: Global, text: &str) -> Result<Image, AsmFault>
     ensures found { IfOk result (λ image. IsAssemblyText text.now image) }
     ensures refused { IfErr result (Explains text.now) }
+    // Another first line is answered before any memory is asked for.
+    ensures version { ((body : List ℕ) → text.now ≢ version_text ++ body) → result ≡ Err (BadLine 1) }
     ensures only { (image : Contents) → IsAssemblyText text.now image → IfOk result (λ made. made ≡ image) }
     ensures accepts { (image : Contents) → IsAssemblyText text.now image → IfErr result (λ fault. fault ≡ Memory) }
 {

@@ -15,88 +15,29 @@ use ebpf_decode::Insn;
 use std::alloc::{AllocError, Global};
 
 /// The instruction of this first word and these operands.
+#[rattlefmt::skip]
 #[tactic(auto, unfolding(crate::specs::LineReading::insn_made))]
 fn insn_of(head: Head, x: Operand, y: Operand, z: Operand) -> Insn
     ensures { result ≡ insn_made head x y z }
 {
     match head {
-        Head::Alu(width, op) => Insn::Alu {
-            width,
-            op,
-            dst: x.register(),
-            source: y.source(),
-        },
-        Head::Neg(width) => Insn::Neg {
-            width,
-            dst: x.register(),
-        },
-        Head::Movsx(extension) => Insn::Movsx {
-            extension,
-            dst: x.register(),
-            src: y.register(),
-        },
-        Head::Movsx32(extension) => Insn::Movsx32 {
-            extension,
-            dst: x.register(),
-            src: y.register(),
-        },
-        Head::End(order, swap_width) => Insn::End {
-            order,
-            swap_width,
-            dst: x.register(),
-        },
-        Head::Ja => Insn::Ja {
-            distance: short(x.number()),
-        },
-        Head::Ja32 => Insn::Ja32 {
-            distance: x.number(),
-        },
+        Head::Alu(width, op) => Insn::Alu { width, op, dst: x.register(), source: y.source() },
+        Head::Neg(width) => Insn::Neg { width, dst: x.register() },
+        Head::Movsx(extension) => Insn::Movsx { extension, dst: x.register(), src: y.register() },
+        Head::Movsx32(extension) => Insn::Movsx32 { extension, dst: x.register(), src: y.register() },
+        Head::End(order, swap_width) => Insn::End { order, swap_width, dst: x.register() },
+        Head::Ja => Insn::Ja { distance: short(x.number()) },
+        Head::Ja32 => Insn::Ja32 { distance: x.number() },
         Head::JumpIf(width, test) => Insn::JumpIf {
-            width,
-            test,
-            dst: x.register(),
-            source: y.source(),
-            distance: short(z.number()),
+            width, test, dst: x.register(), source: y.source(), distance: short(z.number()),
         },
-        Head::Ldx(size) => Insn::Ldx {
-            size,
-            dst: x.register(),
-            src: y.register(),
-            offset: y.offset(),
-        },
-        Head::Ldxs(extension) => Insn::Ldxs {
-            extension,
-            dst: x.register(),
-            src: y.register(),
-            offset: y.offset(),
-        },
-        Head::St(size) => Insn::St {
-            size,
-            dst: x.register(),
-            offset: x.offset(),
-            immediate: y.number(),
-        },
-        Head::Stx(size) => Insn::Stx {
-            size,
-            dst: x.register(),
-            src: y.register(),
-            offset: x.offset(),
-        },
-        Head::Atomic(width, op) => Insn::AtomicUpdate {
-            width,
-            op,
-            dst: x.register(),
-            src: y.register(),
-            offset: x.offset(),
-        },
-        Head::Lddw => Insn::Lddw {
-            dst: x.register(),
-            value: y.wide(),
-        },
-        Head::Ldmap => Insn::Ldmap {
-            dst: x.register(),
-            map: y.number(),
-        },
+        Head::Ldx(size) => Insn::Ldx { size, dst: x.register(), src: y.register(), offset: y.offset() },
+        Head::Ldxs(extension) => Insn::Ldxs { extension, dst: x.register(), src: y.register(), offset: y.offset() },
+        Head::St(size) => Insn::St { size, dst: x.register(), offset: x.offset(), immediate: y.number() },
+        Head::Stx(size) => Insn::Stx { size, dst: x.register(), src: y.register(), offset: x.offset() },
+        Head::Atomic(width, op) => Insn::AtomicUpdate { width, op, dst: x.register(), src: y.register(), offset: x.offset() },
+        Head::Lddw => Insn::Lddw { dst: x.register(), value: y.wide() },
+        Head::Ldmap => Insn::Ldmap { dst: x.register(), map: y.number() },
         Head::Call => Insn::CallHelper { helper: x.number() },
         Head::Exit => Insn::Exit,
     }

@@ -50,64 +50,27 @@ fn source_operand(source: Source) -> Operand
 }
 
 /// What stands after the first word.
+#[rattlefmt::skip]
 #[tactic(auto, unfolding(crate::specs::AssemblyText::operands_of))]
 fn operands_of(insn: Insn) -> Operands
     ensures { result ≡ operands_of insn }
 {
     match insn {
-        Insn::Alu { dst, source, .. } => {
-            Operands::Two(Operand::Register(dst), source_operand(source))
-        }
+        Insn::Alu { dst, source, .. } => Operands::Two(Operand::Register(dst), source_operand(source)),
         Insn::Neg { dst, .. } => Operands::One(Operand::Register(dst)),
-        Insn::Movsx { dst, src, .. } => {
-            Operands::Two(Operand::Register(dst), Operand::Register(src))
-        }
-        Insn::Movsx32 { dst, src, .. } => {
-            Operands::Two(Operand::Register(dst), Operand::Register(src))
-        }
+        Insn::Movsx { dst, src, .. } => Operands::Two(Operand::Register(dst), Operand::Register(src)),
+        Insn::Movsx32 { dst, src, .. } => Operands::Two(Operand::Register(dst), Operand::Register(src)),
         Insn::End { dst, .. } => Operands::One(Operand::Register(dst)),
         Insn::Ja { distance } => Operands::One(Operand::Distance(i32::from(distance))),
         Insn::Ja32 { distance } => Operands::One(Operand::Distance(distance)),
-        Insn::JumpIf {
-            dst,
-            source,
-            distance,
-            ..
-        } => Operands::Three(
-            Operand::Register(dst),
-            source_operand(source),
-            Operand::Distance(i32::from(distance)),
-        ),
-        Insn::Ldx {
-            dst,
-            src,
-            offset,
-            ..
-        } => Operands::Two(Operand::Register(dst), Operand::Place(src, offset)),
-        Insn::Ldxs {
-            dst,
-            src,
-            offset,
-            ..
-        } => Operands::Two(Operand::Register(dst), Operand::Place(src, offset)),
-        Insn::St {
-            dst,
-            offset,
-            immediate,
-            ..
-        } => Operands::Two(Operand::Place(dst, offset), Operand::Number(immediate)),
-        Insn::Stx {
-            dst,
-            src,
-            offset,
-            ..
-        } => Operands::Two(Operand::Place(dst, offset), Operand::Register(src)),
-        Insn::AtomicUpdate {
-            dst,
-            src,
-            offset,
-            ..
-        } => Operands::Two(Operand::Place(dst, offset), Operand::Register(src)),
+        Insn::JumpIf { dst, source, distance, .. } => {
+            Operands::Three(Operand::Register(dst), source_operand(source), Operand::Distance(i32::from(distance)))
+        }
+        Insn::Ldx { dst, src, offset, .. } => Operands::Two(Operand::Register(dst), Operand::Place(src, offset)),
+        Insn::Ldxs { dst, src, offset, .. } => Operands::Two(Operand::Register(dst), Operand::Place(src, offset)),
+        Insn::St { dst, offset, immediate, .. } => Operands::Two(Operand::Place(dst, offset), Operand::Number(immediate)),
+        Insn::Stx { dst, src, offset, .. } => Operands::Two(Operand::Place(dst, offset), Operand::Register(src)),
+        Insn::AtomicUpdate { dst, src, offset, .. } => Operands::Two(Operand::Place(dst, offset), Operand::Register(src)),
         Insn::Lddw { dst, value } => Operands::Two(Operand::Register(dst), Operand::Wide(value)),
         Insn::Ldmap { dst, map } => Operands::Two(Operand::Register(dst), Operand::Number(map)),
         Insn::CallHelper { helper } => Operands::One(Operand::Number(helper)),

@@ -1,5 +1,5 @@
 -- The slots of an instruction whose numbers are in range have bytes.
-use Rattle.std.proofs.Common.{◌≡◌, ℕ, ◌+◌, ◌*◌, ◌/◌, ◌%◌, ◌^◌, ◌<◌, List, [], ◌∷◌, ◌++◌, ℤ, pos, refl, arith, lit<, w32}
+use Rattle.std.proofs.Common.{ℕ, ◌^◌, ◌<◌, List, [], ◌∷◌, ◌++◌, pos, arith, lit<, w32}
 use Rattle.std.specs.Prelude.{FitsSigned}
 use Rattle.std.specs.Int.{w16}
 use Rattle.std.specs.List.{AllByRecursion}
@@ -30,7 +30,7 @@ use Rattle.ebpf_decode.specs.declared.insn.Insn.{Insn}
 use Rattle.ebpf_decode.specs.declared.insn.Insn.TheVariants.{Alu, Neg, Movsx, Movsx32, End, Ja, Ja32, JumpIf, Ldx, Ldxs, St, Stx, AtomicUpdate, Lddw, Ldmap, CallHelper, Exit}
 use Rattle.ebpf_decode.specs.SlotForm.{SlotFits}
 use Rattle.ebpf_decode.specs.InstructionCodes.{alu_class, jump_class, alu_code, alu_offset, extension_bits, short_bits, swap_bits, test_code, size_code, extension_size, width_size, atomic_code}
-use Rattle.ebpf_decode.specs.InstructionEncoding.{operation_opcode, memory_opcode, neg_opcode, movsx_opcode, order_opcode, source_bit, slot_of, more_slots_of, slots_of_instruction, slots_of, FieldsFit}
+use Rattle.ebpf_decode.specs.InstructionEncoding.{operation_opcode, memory_opcode, neg_opcode, order_opcode, source_bit, slot_of, more_slots_of, slots_of_instruction, slots_of, FieldsFit}
 use Rattle.ebpf_decode.proofs.SlotFacts.{slot_small}
 
 -- ---- opcodes

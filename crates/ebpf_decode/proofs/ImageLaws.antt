@@ -1,8 +1,8 @@
 -- What is read is encoded so, and what is encoded is read: whole images.
-use Rattle.std.proofs.Common.{◌≡◌, ℕ, zero, suc, ◌+◌, ◌-◌, ◌*◌, ◌/◌, ◌%◌, ◌^◌, ◌<◌, ◌≤◌, Bool, true, false, cond, ◌&&◌, eqb, ltb, List, [], ◌∷◌, ◌++◌, length, get_or, drop, Option, Some, None, Result, Ok, Err, refl, sym, ap, subst, ◌∙◌, append_assoc, arith, lit<, lit≤}
-use Rattle.std.specs.Prelude.{nat_le, nat_lt, not, ◌≢◌}
+use Rattle.std.proofs.Common.{◌≡◌, ℕ, zero, suc, ◌+◌, ◌*◌, ◌/◌, ◌%◌, ◌≤◌, Bool, true, false, cond, ◌&&◌, eqb, ltb, List, [], ◌∷◌, ◌++◌, length, get_or, drop, None, Result, Ok, Err, refl, sym, ap, subst, ◌∙◌, append_assoc, arith, lit≤}
+use Rattle.std.specs.Prelude.{nat_le, nat_lt, not, ◌||◌, IsTrue, ◌≢◌}
 use Rattle.std.specs.List.{flat_map, AllByRecursion}
-use Rattle.std.proofs.lemmas.Bool.{eqb-true, eqb-false, ne_eqb, eq-eqb, leb-true, le-leb, ltb-false, le-ltb}
+use Rattle.std.proofs.lemmas.Bool.{eqb-true, eqb-false, ne_eqb, eq-eqb, leb-true, le-leb, ltb-false, le-ltb, lt-ltb}
 use Rattle.std.proofs.lemmas.List.{length-append, length-drop}
 use Rattle.ebpf_decode.specs.declared.fault.DecodeFault.{DecodeFault}
 use Rattle.ebpf_decode.specs.declared.fault.DecodeFault.TheVariants.{BadHead, Empty, NotWhole, TooLong, Memory}
@@ -10,15 +10,15 @@ use Rattle.ebpf_decode.specs.declared.slot.Slot.{Slot}
 use Rattle.ebpf_decode.specs.declared.insn.Insn.{Insn}
 use Rattle.ebpf_decode.specs.declared.insn.Insn.TheVariants.{Lddw, Ldmap}
 use Rattle.ebpf_decode.specs.declared.map.MapDef.{MapDef}
-use Rattle.ebpf_decode.specs.SlotForm.{slot_bytes, slots_at, SlotFits}
+use Rattle.ebpf_decode.specs.SlotForm.{slot_bytes, slots_at}
 use Rattle.ebpf_decode.specs.InstructionEncoding.{slots_of, total_slots, slot_count, instruction_bytes, FieldsFit, IsInstructionEncoding}
 use Rattle.ebpf_decode.specs.InstructionReading.{◌>>=◌, code_from}
 use Rattle.ebpf_decode.specs.MapForm.{map_bytes}
-use Rattle.ebpf_decode.specs.ImageContents.{Contents, IsEncodable, IsAllowedMap}
-use Rattle.ebpf_decode.specs.ImageFormat.{head_bytes, image_bytes, IsImageEncoding, map_count, has_head, maps_at, code_at, image_at}
+use Rattle.ebpf_decode.specs.ImageContents.{Contents, IsEncodable}
+use Rattle.ebpf_decode.specs.ImageFormat.{head_bytes, image_bytes, IsImageEncoding, map_count, has_head, maps_at, code_at, image_at, has_code_size, asks_memory}
 use Rattle.ebpf_decode.proofs.SlotLaws.{IsBytes, IsBytes-drop, both, slots_take, slots_fit, slots_again}
 use Rattle.ebpf_decode.proofs.CodeLaws.{bind_ok, code_found, code_again, length_slots, bytes_of_slots}
-use Rattle.ebpf_decode.proofs.MapLaws.{TakesMaps, maps_take, maps_again}
+use Rattle.ebpf_decode.proofs.MapLaws.{maps_take, maps_again}
 use Rattle.ebpf_decode.proofs.FieldFacts.{slots_of_fit}
 
 -- ---- programs
@@ -232,3 +232,22 @@ one_instruction bytes a b is_a is_b =
     let read_a : code_at (flat_map instruction_bytes (a ∷ [])) ≡ Ok (a ∷ []) = program_again (a ∷ []) (lit≤ tt) (few_of_one a) (is_a.fields_fit, tt) in
     let read_b : code_at (flat_map instruction_bytes (b ∷ [])) ≡ Ok (b ∷ []) = program_again (b ∷ []) (lit≤ tt) (few_of_one b) (is_b.fields_fit, tt) in
     same_first a b (sym read_a ∙ ap code_at same ∙ read_b)
+
+-- ---- where memory is asked for
+
+abbrev bytes_after : Result (List MapDef × List ℕ) DecodeFault → List ℕ
+bytes_after (Ok read) = read.1
+bytes_after (Err fault) = []
+
+maps_or_size : (n : ℕ) (bytes rest : List ℕ) (maps : List MapDef) → maps_at 0 n bytes ≡ Ok (maps, rest) → IsTrue (has_code_size rest) → IsTrue (nat_lt 0 n || has_code_size bytes)
+unfolding maps_at
+maps_or_size zero bytes rest maps read size =
+    let same : bytes ≡ rest = ap (λ (r : Result (List MapDef × List ℕ) DecodeFault). bytes_after r) read in
+    rw same size
+maps_or_size (suc n) bytes rest maps read size =
+    let some : nat_lt 0 (suc n) ≡ true = lt-ltb 0 (suc n) (omega arith) in
+    rw some refl
+
+-- a program of a right size comes after the maps
+pub asks_for_code : (bytes rest : List ℕ) (maps : List MapDef) → has_head bytes ≡ true → maps_at 0 (map_count bytes) (drop 8 bytes) ≡ Ok (maps, rest) → IsTrue (has_code_size rest) → IsTrue (asks_memory bytes)
+asks_for_code bytes rest maps head read size = rw head (maps_or_size (map_count bytes) (drop 8 bytes) rest maps read size)

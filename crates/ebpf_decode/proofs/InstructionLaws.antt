@@ -1,5 +1,5 @@
 -- What one slot is read as is encoded so, and what is encoded so is read.
-use Rattle.std.proofs.Common.{◌≡◌, ℕ, ◌+◌, ◌*◌, ◌/◌, ◌%◌, ◌^◌, Bool, true, false, cond, List, [], ◌∷◌, Result, Ok, Err, None, refl, sym, ap, ◌∙◌, ℤ, pos, arith}
+use Rattle.std.proofs.Common.{◌≡◌, ℕ, Bool, true, false, cond, [], Result, Ok, Err, None, refl, ℤ}
 use Rattle.isa.specs.declared.operation.Width.{Width}
 use Rattle.isa.specs.declared.operation.Width.TheVariants.{Bits32, Bits64}
 use Rattle.isa.specs.declared.operation.AluOp.{AluOp}
@@ -18,22 +18,19 @@ use Rattle.isa.specs.declared.operation.AtomicOp.{AtomicOp}
 use Rattle.isa.specs.declared.operation.AtomicOp.TheVariants.{AtomicAdd}
 use Rattle.isa.specs.declared.operation.Size.{Size}
 use Rattle.isa.specs.declared.operation.Size.TheVariants.{U8}
-use Rattle.isa.specs.declared.operation.Source.{Source}
 use Rattle.isa.specs.declared.operation.Source.TheVariants.{Imm, Reg}
 use Rattle.isa.specs.declared.operation.Register.{Register}
 use Rattle.isa.specs.declared.operation.Register.TheVariants.{R0}
 use Rattle.ebpf_decode.specs.declared.slot.Slot.{Slot}
 use Rattle.ebpf_decode.specs.declared.fault.SlotFault.{SlotFault}
 use Rattle.ebpf_decode.specs.declared.fault.SlotFault.TheVariants.{FieldNotZero}
-use Rattle.ebpf_decode.specs.declared.wide.WideHead.{WideHead}
-use Rattle.ebpf_decode.specs.declared.wide.WideHead.TheVariants.{Number, Map}
-use Rattle.ebpf_decode.specs.declared.wide.SlotReading.TheVariants.{Whole, Head}
+use Rattle.ebpf_decode.specs.declared.wide.SlotReading.TheVariants.{Whole}
 use Rattle.ebpf_decode.specs.declared.insn.Insn.{Insn}
 use Rattle.ebpf_decode.specs.declared.insn.Insn.TheVariants.{Alu, Neg, Movsx, Movsx32, End, Ja, Ja32, JumpIf, Ldx, Ldxs, St, Stx, AtomicUpdate, Lddw, Ldmap, CallHelper, Exit}
 use Rattle.ebpf_decode.specs.SlotForm.{same_slot}
 use Rattle.ebpf_decode.specs.InstructionCodes.{register_number}
 use Rattle.ebpf_decode.specs.InstructionEncoding.{slot_of, more_slots_of}
-use Rattle.ebpf_decode.specs.InstructionReading.{◌>>=◌, register_at, alu_op_at, extension_at, short_extension_at, order_at, swap_width_at, test_at, size_at, extension_size_at, width_at, atomic_op_at, source_at, exactly, binary_at, neg_at, movsx_at, end_at, arithmetic_at, conditional_at, call_at, jump_at, ldx_at, ldxs_at, st_at, stx_at, atomic_at, load_at, store_immediate_at, store_at, instruction_at, head_slot, exact_head, number_head_at, map_head_at, head_at, wide_insn, second_slot, second_at, step_at}
+use Rattle.ebpf_decode.specs.InstructionReading.{◌>>=◌, register_at, alu_op_at, extension_at, short_extension_at, order_at, swap_width_at, test_at, size_at, extension_size_at, width_at, atomic_op_at, source_at, exactly, binary_at, neg_at, movsx_at, end_at, arithmetic_at, conditional_at, call_at, jump_at, ldx_at, ldxs_at, st_at, stx_at, atomic_at, load_at, store_immediate_at, store_at, instruction_at, step_at}
 use Rattle.ebpf_decode.proofs.SlotLaws.{equal_from_same, same_itself}
 
 -- ---- what is read is encoded so

@@ -1,5 +1,5 @@
 -- The register fields of an encoding fit four bits.
-use Rattle.std.proofs.Common.{◌≡◌, ℕ, ◌<◌, List, [], ◌∷◌, ℤ, pos, refl, subst, arith, lit<}
+use Rattle.std.proofs.Common.{◌≡◌, ◌<◌, [], ◌∷◌, subst, lit<}
 use Rattle.isa.specs.declared.operation.Register.{Register}
 use Rattle.isa.specs.declared.operation.Register.TheVariants.{R0}
 use Rattle.isa.specs.declared.operation.Source.{Source}

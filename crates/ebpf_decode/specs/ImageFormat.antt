@@ -1,6 +1,6 @@
 -- The image format, version 1: the bytes 58 4c 42 50, the version, the number of maps, two zero bytes; sixteen bytes for each
 -- map; then the slots to the end. Reading gives the image or the first fault, in the order of the numbers.
-use Rattle.std.specs.Prelude.{◌≡◌, ◌≢◌, ℕ, zero, suc, ◌+◌, ◌*◌, ◌/◌, ◌%◌, Bool, nat_le, nat_lt, ◌==◌, ◌&&◌, not, List, [], ◌∷◌, ◌++◌, length, drop, slice_index, Option, Some, None, Result, Ok, Err, if◌then◌else◌}
+use Rattle.std.specs.Prelude.{◌≡◌, ◌≢◌, ℕ, zero, suc, ◌+◌, ◌*◌, ◌/◌, ◌%◌, Bool, nat_le, nat_lt, ◌==◌, ◌&&◌, ◌||◌, not, List, [], ◌∷◌, ◌++◌, length, drop, slice_index, Option, Some, None, Result, Ok, Err, if◌then◌else◌}
 use Rattle.std.specs.List.{flat_map}
 use Rattle.std.specs.Option.{ok_or}
 use Rattle.ebpf_decode.specs.declared.insn.Insn.{Insn}
@@ -55,6 +55,14 @@ image_at bytes =
       found ← maps_at 0 (map_count bytes) (drop 8 bytes)
       code ← code_at found.1
       Ok (record { maps = found.0; code = code })) else Err BadHead
+
+-- a program's size: whole slots, 1 to 4096 of them
+abbrev pub has_code_size : List ℕ → Bool
+has_code_size bytes = not (length bytes == 0) && (length bytes % 8 == 0) && nat_le (length bytes / 8) 4096
+
+-- reading asks for memory: after a whole head, for the maps, or for a program of a right size
+abbrev pub asks_memory : List ℕ → Bool
+asks_memory bytes = has_head bytes && (nat_lt 0 (map_count bytes) || has_code_size (drop 8 bytes))
 
 -- What a function returned, seen by view, is what reading gives, unless memory was refused.
 abbrev pub Gives : {X Y : Type 0} → (X → Y) → Result X DecodeFault → Result Y DecodeFault → Type 0

@@ -1,6 +1,6 @@
 -- What one slot is read as, or its first fault. Within a slot the lower fault comes first: the opcode and the fields that select
 -- are tested before the registers, and these before the unused fields.
-use Rattle.std.specs.Prelude.{ℕ, zero, suc, ◌+◌, ◌-◌, ◌*◌, ◌^◌, ◌/◌, ◌%◌, Option, Some, None, Result, Ok, Err, Bool, ℤ, pos, List, [], ◌∷◌, ◌++◌, ◌==◌, nat_le, nat_lt, ◌&&◌, ◌||◌, not, if◌then◌else◌}
+use Rattle.std.specs.Prelude.{ℕ, ◌+◌, ◌-◌, ◌*◌, ◌^◌, ◌/◌, ◌%◌, Option, Some, None, Result, Ok, Err, Bool, ℤ, pos, List, [], ◌∷◌, ◌++◌, ◌==◌, nat_le, ◌&&◌, ◌||◌, not, if◌then◌else◌}
 use Rattle.std.specs.List.{find}
 use Rattle.std.specs.Int.{w32, cast_unsigned}
 use Rattle.std.specs.Option.{ok_or}
@@ -31,8 +31,8 @@ use Rattle.ebpf_decode.specs.declared.wide.SlotReading.TheVariants.{Whole, Head}
 use Rattle.ebpf_decode.specs.declared.insn.Insn.{Insn}
 use Rattle.ebpf_decode.specs.declared.insn.Insn.TheVariants.{Alu, Neg, Movsx, Movsx32, End, Ja, Ja32, JumpIf, Ldx, Ldxs, St, Stx, AtomicUpdate, Lddw, Ldmap, CallHelper, Exit}
 use Rattle.ebpf_decode.specs.SlotForm.{same_slot}
-use Rattle.ebpf_decode.specs.InstructionCodes.{register_number, registers, class_ld, class_ldx, class_st, class_stx, alu_class, jump_class, alu_code, alu_offset, alu_ops, mov_code, end_code, extension_bits, extensions, short_bits, short_extensions, orders, swap_bits, swap_widths, test_code, tests, mode_abs, mode_ind, mode_mem, mode_memsx, mode_atomic, size_code, sizes, extension_size, width_size, widths, atomic_code, atomic_ops}
-use Rattle.ebpf_decode.specs.InstructionEncoding.{slot, slot_of, more_slots_of, wide_opcode, neg_opcode, movsx_opcode, order_opcode, ja_opcode, ja32_opcode, call_opcode, exit_opcode}
+use Rattle.ebpf_decode.specs.InstructionCodes.{register_number, registers, class_ld, class_ldx, class_st, alu_class, jump_class, alu_code, alu_offset, alu_ops, end_code, extension_bits, extensions, short_bits, short_extensions, orders, swap_bits, swap_widths, test_code, tests, mode_abs, mode_ind, mode_mem, mode_memsx, mode_atomic, size_code, sizes, extension_size, width_size, widths, atomic_code, atomic_ops}
+use Rattle.ebpf_decode.specs.InstructionEncoding.{slot, slot_of, wide_opcode, neg_opcode, movsx_opcode, order_opcode, ja_opcode, ja32_opcode, call_opcode, exit_opcode}
 
 infixl 10 ◌>>=◌
 abbrev pub ◌>>=◌ : {A B E : Type 0} → Result A E → (A → Result B E) → Result B E

@@ -1,6 +1,6 @@
 -- A slot's eight bytes as fields (RFC 9669, section 3): opcode, destination in the low four bits of the second byte and source
 -- in the high four, a signed 16-bit offset, a signed 32-bit immediate, all little-endian.
-use Rattle.std.specs.Prelude.{ℕ, zero, suc, ◌+◌, ◌*◌, ◌/◌, ◌%◌, ◌<◌, ◌^◌, Bool, ◌&&◌, ◌==◌, List, [], ◌∷◌, ◌++◌, drop, slice_index, FitsSigned}
+use Rattle.std.specs.Prelude.{ℕ, zero, suc, ◌+◌, ◌*◌, ◌/◌, ◌%◌, ◌<◌, Bool, ◌&&◌, ◌==◌, List, [], ◌∷◌, ◌++◌, drop, slice_index, FitsSigned}
 use Rattle.std.specs.Int.{w16, w32, to_le_bytes, from_le_bytes, cast_signed, cast_unsigned}
 use Rattle.std.specs.Ordering.{int_eq}
 use Rattle.ebpf_decode.specs.declared.slot.Slot.{Slot}

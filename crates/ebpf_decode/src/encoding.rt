@@ -272,77 +272,26 @@ fn high_half(value: u64) -> i32
 }
 
 /// The first slot of an instruction, with zero in each field that it does not use.
+#[rattlefmt::skip]
 #[tactic(auto, unfolding(crate::specs::InstructionEncoding::slot_of, crate::specs::InstructionReading::head_slot))]
 pub fn slot_of(insn: Insn) -> Slot
     ensures { result ≡ slot_of insn }
 {
     match insn {
-        Insn::Alu {
-            width,
-            op,
-            dst,
-            source,
-        } => binary_slot(width, op, dst, source),
+        Insn::Alu { width, op, dst, source } => binary_slot(width, op, dst, source),
         Insn::Neg { width, dst } => neg_slot(width, dst),
-        Insn::Movsx {
-            extension,
-            dst,
-            src,
-        } => { movsx_slot(Width::Bits64, codes::extension_bits(extension), dst, src) }
-        Insn::Movsx32 {
-            extension,
-            dst,
-            src,
-        } => { movsx_slot(Width::Bits32, codes::short_bits(extension), dst, src) }
-        Insn::End {
-            order,
-            swap_width,
-            dst,
-        } => end_slot(order, swap_width, dst),
+        Insn::Movsx { extension, dst, src } => movsx_slot(Width::Bits64, codes::extension_bits(extension), dst, src),
+        Insn::Movsx32 { extension, dst, src } => movsx_slot(Width::Bits32, codes::short_bits(extension), dst, src),
+        Insn::End { order, swap_width, dst } => end_slot(order, swap_width, dst),
         Insn::Ja { distance } => bare_slot(ja_opcode(), distance, 0),
         Insn::Ja32 { distance } => bare_slot(ja32_opcode(), 0, distance),
-        Insn::JumpIf {
-            width,
-            test,
-            dst,
-            source,
-            distance,
-        } => { conditional_slot(width, test, dst, source, distance) }
-        Insn::Ldx {
-            size,
-            dst,
-            src,
-            offset,
-        } => ldx_slot(size, dst, src, offset),
-        Insn::Ldxs {
-            extension,
-            dst,
-            src,
-            offset,
-        } => ldxs_slot(extension, dst, src, offset),
-        Insn::St {
-            size,
-            dst,
-            offset,
-            immediate,
-        } => st_slot(size, dst, offset, immediate),
-        Insn::Stx {
-            size,
-            dst,
-            src,
-            offset,
-        } => stx_slot(size, dst, src, offset),
-        Insn::AtomicUpdate {
-            width,
-            op,
-            dst,
-            src,
-            offset,
-        } => { atomic_slot(width, op, dst, src, offset) }
-        Insn::Lddw { dst, value } => head_slot(WideHead::Number {
-            dst,
-            low: low_half(value),
-        }),
+        Insn::JumpIf { width, test, dst, source, distance } => conditional_slot(width, test, dst, source, distance),
+        Insn::Ldx { size, dst, src, offset } => ldx_slot(size, dst, src, offset),
+        Insn::Ldxs { extension, dst, src, offset } => ldxs_slot(extension, dst, src, offset),
+        Insn::St { size, dst, offset, immediate } => st_slot(size, dst, offset, immediate),
+        Insn::Stx { size, dst, src, offset } => stx_slot(size, dst, src, offset),
+        Insn::AtomicUpdate { width, op, dst, src, offset } => atomic_slot(width, op, dst, src, offset),
+        Insn::Lddw { dst, value } => head_slot(WideHead::Number { dst, low: low_half(value) }),
         Insn::Ldmap { dst, map } => head_slot(WideHead::Map { dst, map }),
         Insn::CallHelper { helper } => bare_slot(call_opcode(), 0, helper),
         Insn::Exit => bare_slot(exit_opcode(), 0, 0),

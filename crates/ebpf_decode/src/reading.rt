@@ -1,10 +1,10 @@
 //! The image format read.
 
-ghost use Rattle.std.specs.Prelude.{◌≡◌, ◌≢◌, ◌++◌, ◌*◌, ◌≤◌, length, OnOk, IfOk, IfErr, None, Some, Ok, Err};
+ghost use Rattle.std.specs.Prelude.{◌≡◌, ◌≢◌, ◌++◌, ◌*◌, ◌≤◌, ◌<◌, length, OnOk, IfOk, IfErr, IsTrue, None, Some, Ok, Err};
 ghost use Rattle.ebpf_decode.specs.SlotForm.{slots_at};
 ghost use Rattle.ebpf_decode.specs.InstructionReading.{at_slot, step_at, pending_of, finished_by, code_from};
 ghost use Rattle.ebpf_decode.specs.ImageContents.{Contents};
-ghost use Rattle.ebpf_decode.specs.ImageFormat.{Gives, map_count, has_head, maps_at, code_at, image_at, first_decode_fault, IsImageEncoding};
+ghost use Rattle.ebpf_decode.specs.ImageFormat.{Gives, map_count, has_head, maps_at, code_at, image_at, has_code_size, asks_memory, first_decode_fault, IsImageEncoding};
 
 use crate::codes;
 use crate::fault::{DecodeFault, SlotFault};
@@ -34,7 +34,8 @@ fn has_head(bytes: &[u8]) -> bool
 /// So many maps from the front of the bytes, and the bytes after them.
 fn maps_of(alloc: Global, count: u32, bytes: &[u8]) -> Result<(Vec<MapDef>, &[u8]), DecodeFault>
     requires { 16 * count ≤ length bytes.now }
-    ensures { Gives (λ x. (x.0.items, x.1.now)) result (maps_at 0 count bytes.now) }
+    ensures given { Gives (λ x. (x.0.items, x.1.now)) result (maps_at 0 count bytes.now) }
+    ensures asked { IfErr result (λ fault. fault ≡ DecodeFault.Memory → 0 < count) }
 {
     let mut maps = Vec::new(alloc);
     let mut rest = bytes;
@@ -124,7 +125,8 @@ fn slots_code(alloc: Global, count: u32, bytes: &[u8]) -> Result<Vec<Insn>, Deco
 /// The program, of all the bytes after the maps.
 #[tactic(auto, unfolding(crate::specs::ImageFormat::code_at))]
 fn code_of(alloc: Global, bytes: &[u8]) -> Result<Vec<Insn>, DecodeFault>
-    ensures { Gives (λ code. code.items) result (code_at bytes.now) }
+    ensures given { Gives (λ code. code.items) result (code_at bytes.now) }
+    ensures asked { IfErr result (λ fault. fault ≡ DecodeFault.Memory → IsTrue (has_code_size bytes.now)) }
 {
     if bytes.is_empty() {
         return Err(DecodeFault::Empty);
@@ -142,7 +144,8 @@ fn code_of(alloc: Global, bytes: &[u8]) -> Result<Vec<Insn>, DecodeFault>
 /// The maps and the program of the bytes.
 #[tactic(auto, unfolding(crate::specs::ImageFormat::image_at))]
 fn parts(alloc: Global, bytes: &[u8]) -> Result<(Vec<MapDef>, Vec<Insn>), DecodeFault>
-    ensures { Gives (λ x. record { maps = x.0.items; code = x.1.items }) result (image_at bytes.now) }
+    ensures given { Gives (λ x. record { maps = x.0.items; code = x.1.items }) result (image_at bytes.now) }
+    ensures asked { IfErr result (λ fault. fault ≡ DecodeFault.Memory → IsTrue (asks_memory bytes.now)) }
 {
     if !has_head(bytes) {
         return Err(DecodeFault::BadHead);
@@ -161,6 +164,8 @@ pub fn decode(alloc: Global, bytes: &[u8]) -> Result<Image, DecodeFault>
     ensures only { (image : Contents) → IsImageEncoding bytes.now image → result ≢ Err DecodeFault.Memory → result ≡ Ok image }
     // It is the first fault.
     ensures fault { IfErr result (λ fault. fault ≢ DecodeFault.Memory → first_decode_fault bytes.now ≡ Some fault) }
+    // 20 comes only where memory is asked for.
+    ensures asked { IfErr result (λ fault. fault ≡ DecodeFault.Memory → IsTrue (asks_memory bytes.now)) }
 {
     let (maps, code) = parts(alloc, bytes)?;
     Ok(Image::new(maps, code))

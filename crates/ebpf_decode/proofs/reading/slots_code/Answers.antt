@@ -1,11 +1,11 @@
-use Rattle.std.proofs.Common.{◌≡◌, ℕ, ◌-◌, List, Result, ap, ◌∙◌, sym, arith, Ok, Err, None, Some}
+use Rattle.std.proofs.Common.{◌≡◌, ℕ, ◌-◌, List, Result, ap, ◌∙◌, sym, arith, Ok, Err, None}
 use Rattle.std.proofs.lemmas.Result.{err_from_is_err_and}
 use Rattle.ebpf_decode.specs.declared.insn.Insn.{Insn}
 use Rattle.ebpf_decode.specs.declared.fault.DecodeFault.{DecodeFault}
 use Rattle.ebpf_decode.specs.declared.fault.DecodeFault.TheVariants.{WideCut}
 use Rattle.ebpf_decode.specs.SlotForm.{slot_at, slots_at}
 use Rattle.ebpf_decode.specs.InstructionReading.{step_at, code_from}
-use Rattle.ebpf_decode.proofs.Loops.{in_front, slot_more, slot_refused, slots_done, slots_cut}
+use Rattle.ebpf_decode.proofs.Loops.{slot_more, slot_refused, slots_done, slots_cut}
 use Rattle.ebpf_decode.proofs.reading.slots_code.Goals as goal
 
 pub returns-in_err-reading : goal.returns-in_err-reading

@@ -1,4 +1,3 @@
-use Rattle.std.proofs.Common.{sym, subst, ap, ◌∙◌}
 use Rattle.ebpf_decode.proofs.SlotFacts.{slot_small, more_small}
 use Rattle.ebpf_decode.proofs.writing.put_instruction.Goals as goal
 
