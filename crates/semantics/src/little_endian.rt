@@ -1,4 +1,4 @@
-//! Numbers as bytes, the lowest first, and parts of lists of bytes.
+//! Numbers as bytes, the lowest first, and parts of lists of bytes. The widths of loads and stores have a straight way.
 
 ghost use Rattle.std.specs.Prelude.{◌≡◌, ◌+◌, ◌≤◌, ◌<◌, ◌^◌, length, take, drop};
 ghost use Rattle.semantics.specs.LittleEndian.{number_of_bytes, bytes_of_number};
@@ -7,6 +7,21 @@ use crate::bytes::{Bytes, back, front};
 
 /// The number of at most eight bytes.
 pub fn number_of_bytes(bytes: &[u8]) -> u64
+    requires { length bytes.now ≤ 8 }
+    ensures number { result ≡ number_of_bytes bytes.now }
+    ensures below { result < 256 ^ length bytes.now }
+{
+    match bytes {
+        [a] => u64::from(*a),
+        [a, b] => u64::from(u16::from_le_bytes([*a, *b])),
+        [a, b, c, d] => u64::from(u32::from_le_bytes([*a, *b, *c, *d])),
+        [a, b, c, d, e, f, g, h] => u64::from_le_bytes([*a, *b, *c, *d, *e, *f, *g, *h]),
+        _ => number_by_byte(bytes),
+    }
+}
+
+/// The same, by a turn for each byte.
+fn number_by_byte(bytes: &[u8]) -> u64
     requires { length bytes.now ≤ 8 }
     ensures number { result ≡ number_of_bytes bytes.now }
     ensures below { result < 256 ^ length bytes.now }
@@ -30,6 +45,30 @@ pub fn part_at(bytes: &[u8], offset: usize, width: usize) -> &[u8]
 
 /// The lowest `width` bytes of a number, which are at most eight.
 pub fn bytes_of_number(width: u64, number: u64) -> Bytes<8>
+    requires { width ≤ 8 }
+    ensures bytes { result ≡ bytes_of_number width number }
+    ensures count { length result ≡ width }
+{
+    match width {
+        1 => holding(&[(number % 0x100) as u8]),
+        2 => holding(&((number % 0x1_0000) as u16).to_le_bytes()),
+        4 => holding(&((number % 0x1_0000_0000) as u32).to_le_bytes()),
+        8 => holding(&number.to_le_bytes()),
+        _ => bytes_by_byte(width, number),
+    }
+}
+
+fn holding(items: &[u8]) -> Bytes<8>
+    requires { length items.now ≤ 8 }
+    ensures { result ≡ items.now }
+{
+    let mut bytes = Bytes::empty();
+    bytes.append(items);
+    bytes
+}
+
+/// The same as `bytes_of_number`, by a turn for each byte.
+fn bytes_by_byte(width: u64, number: u64) -> Bytes<8>
     requires { width ≤ 8 }
     ensures bytes { result ≡ bytes_of_number width number }
     ensures count { length result ≡ width }

@@ -1,7 +1,10 @@
 pub mod PassLemmas
 pub mod ReaderLemmas
-pub mod SystemInvariant
 pub mod ArrivalLemmas
+pub mod InstructionLemmas
+pub mod PlaceLemmas
+pub mod ReachLemmas
+pub mod SystemInvariant
 pub mod HistoryLemmas
 pub mod ReplyLemmas
 pub mod PlanLemmas
@@ -11,7 +14,6 @@ pub mod EntryLemmas
 pub mod EventLemmas
 pub mod AskingLemmas
 pub mod RunLemmas
-pub mod PlaceLemmas
 pub mod LocalLemmas
 pub mod SafetyLemmas
 pub mod ResolvingLemmas

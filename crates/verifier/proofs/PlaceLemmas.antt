@@ -30,7 +30,7 @@ use Rattle.image_shape.proofs.RunLemmas.{runs_follow_edges}
 use Rattle.verifier.specs.Dataflow.{known_at, is_at, is_target, is_next, Accepts}
 use Rattle.verifier.proofs.PassLemmas.{forward}
 use Rattle.verifier.proofs.ArrivalLemmas.{IsWhole, whole_below, IsSoundAt, IsTaken, by_fall, by_jump, by_test, by_no_test, sound_there}
-use Rattle.verifier.proofs.RunLemmas.{fields_here, begins_within, begun, let_through}
+use Rattle.verifier.proofs.InstructionLemmas.{fields_here, begins_within, begun, let_through}
 
 -- what is known at the run's slot is sound for it, for the cells that are held
 pub record IsSoundPlace (maps : List MapDef) (code : List Insn) (states : List (Option State)) (held : Held) (machine : MachineState) : Type 0 where
@@ -118,10 +118,10 @@ lands_soundly maps code states held' state insn here flow st next accepted found
 same_true : (a b : ℕ) → a ≡ b → (a == b) ≡ true
 same_true a b h = grind (arith, nat_tests)
 
-falls_there : (slot : ℕ) (insn : Insn) (target : ℕ) → target ≡ slot + slot_count insn → is_next slot insn target ≡ true
+pub falls_there : (slot : ℕ) (insn : Insn) (target : ℕ) → target ≡ slot + slot_count insn → is_next slot insn target ≡ true
 falls_there slot insn target e = same_true target (slot + slot_count insn) e
 
-jumps_there : (slot : ℕ) (insn : Insn) (target : ℕ) → pos target ≡ pos (slot + 1) +ℤ distance_of_jump insn → is_target slot insn target ≡ true
+pub jumps_there : (slot : ℕ) (insn : Insn) (target : ℕ) → pos target ≡ pos (slot + 1) +ℤ distance_of_jump insn → is_target slot insn target ≡ true
 jumps_there slot insn target e = subst (λ place. is_at place target ≡ true) e (same_true target target refl)
 
 -- only a conditional jump splits, and it takes one slot

@@ -1,14 +1,10 @@
 -- A sound run's next instruction is one that its entry state lets through, so it does not trap.
-use Rattle.std.proofs.Common.{◌≡◌, ℕ, zero, suc, ◌-◌, ◌<◌, true, List, [], ◌∷◌, Option, Some, None, Ok, Err, IsTrue, refl, ◌∙◌, ap, subst, ⊎_elim, arith}
-use Rattle.std.specs.Prelude.{IsOk, is_some}
-use Rattle.std.specs.List.{AllByRecursion}
+use Rattle.std.proofs.Common.{◌≡◌, ℕ, ◌<◌, true, List, Option, refl, ◌∙◌, ap, subst, ⊎_elim, arith}
 use Rattle.std.proofs.lemmas.Bool.{cases_lt}
 use Rattle.ebpf_decode.specs.declared.insn.Insn.{Insn}
-use Rattle.ebpf_decode.specs.InstructionEncoding.{slot_count, total_slots, FieldsFit}
 use Rattle.semantics.specs.declared.call.Call.{Call}
 use Rattle.semantics.specs.declared.call.Call.TheVariants.{Enter, Leave, Lookup, Load, Store, Atomic, Update, Delete, Reclaim}
 use Rattle.semantics.specs.MachineState.{MachineState}
-use Rattle.semantics.specs.Program.{past_instruction, instruction_at}
 use Rattle.semantics.specs.Step.{Step, Continues, CallsMap, Exits, Traps}
 use Rattle.semantics.specs.Semantics.{next_step}
 use Rattle.semantics.specs.ShardPlan.{plan_at}
@@ -18,83 +14,12 @@ use Rattle.semantics.specs.Safety.{IsServedCall, DoesNotTrap, IsSafeRun, IsSafeW
 use Rattle.abstract_state.specs.declared.flow.Flow.{Flow}
 use Rattle.abstract_state.specs.declared.flow.Flow.TheVariants.{Ends, Falls, Jumps, Splits}
 use Rattle.abstract_state.specs.declared.state.State.{State}
-use Rattle.abstract_state.specs.States.{Checked}
-use Rattle.abstract_state.specs.Flow.{flow_of}
-use Rattle.abstract_state.specs.Abstraction.{Held, Abstracts}
-use Rattle.abstract_state.specs.Soundness.{IsShaped, IsServed, Follows}
-use Rattle.abstract_state.proofs.FlowLaw.{flow_sound}
-use Rattle.image_shape.specs.Edges.{is_begin}
-use Rattle.image_shape.specs.Structure.{HasShape}
-use Rattle.image_shape.proofs.SlotLemmas.{past_end}
-use Rattle.verifier.specs.Dataflow.{known_at}
+use Rattle.abstract_state.specs.Soundness.{IsServed, Follows}
 use Rattle.verifier.proofs.SystemInvariant.{entered_of, held_by, IsSoundRun, IsSoundWorker, IsSetting, IsSoundSystem}
-use Rattle.verifier.proofs.PassLemmas.{forward}
-use Rattle.verifier.proofs.ArrivalLemmas.{IsWhole, whole_below}
 use Rattle.verifier.proofs.PlanLemmas.{some_shards, plan_exists}
+pub use Rattle.verifier.proofs.InstructionLemmas.{begins_within}
+use Rattle.verifier.proofs.PlaceLemmas.{Here, here_of}
 use Rattle.verifier.proofs.SettingLemmas.{held_facts, lookup_served, load_served}
-
--- ---- an instruction of the program
-
--- what begins past an instruction begins in the rest
-past_some : (width k : ℕ) (rest : ℕ → Option Insn) (insn : Insn) → past_instruction width k rest ≡ Some insn → (n : ℕ) × (rest n ≡ Some insn)
-past_some zero k rest insn e = (k, e)
-past_some (suc width) zero rest insn e = absurd cc
-past_some (suc width) (suc k) rest insn e = past_some width k rest insn e
-
--- each instruction of a program has fields that hold its numbers
-pub fields_here : (code : List Insn) (slot : ℕ) (insn : Insn) → AllByRecursion FieldsFit code → instruction_at code slot ≡ Some insn → FieldsFit insn
-fields_here [] slot insn fits found = absurd cc
-fields_here (first ∷ code) zero insn fits found = let same : first ≡ insn = cc in subst FieldsFit same fits.0
-fields_here (first ∷ code) (suc slot) insn fits found =
-    let past = past_some (slot_count first - 1) slot (instruction_at code) insn found in fields_here code past.0 insn fits.1 past.1
-
-pub begins_within : (code : List Insn) (slot : ℕ) → IsTrue (is_begin code slot) → slot < total_slots code
-begins_within code slot begins = ⊎_elim (λ within. within) (λ past. absurd (let none : instruction_at code slot ≡ None = past_end code slot past in cc)) (cases_lt slot (total_slots code))
-
-pub begun : (found : Option Insn) → IsTrue (is_some found) → (insn : Insn) × (found ≡ Some insn)
-begun (Some insn) begins = (insn, refl)
-begun None begins = absurd cc
-
-pub let_through : (after : Checked Flow) → IsOk after → (flow : Flow) × (after ≡ Ok flow)
-let_through (Ok flow) passes = (flow, refl)
-let_through (Err why) passes = absurd cc
-
--- ---- the next instruction of a sound run
-
--- what is known of it, by what is known of the run's state
-pub record Next (setting : Setting) (system : SystemState) (worker : ℕ) (state : MachineState) (entered : List ℕ) (known : State) : Type 0 where
-  pub insn : Insn
-  pub found : instruction_at setting.code state.slot ≡ Some insn
-  pub within : state.slot < total_slots setting.code
-  pub flow : Flow
-  pub flows : flow_of setting.maps known state.slot insn ≡ Ok flow
-  pub follows : Follows (program_of setting) (held_by setting system worker entered) flow state insn (next_step (program_of setting) state)
-
--- where the instruction that stands there leads
-leads : (setting : Setting) (held : Held) (state : MachineState) (known : State) (insn : Insn) (flow : Flow) → IsShaped known → Abstracts setting.maps held known state →
-    AllByRecursion FieldsFit setting.code → HasShape setting.code → instruction_at setting.code state.slot ≡ Some insn → flow_of setting.maps known state.slot insn ≡ Ok flow →
-    Follows (program_of setting) held flow state insn (next_step (program_of setting) state)
-leads setting held state known insn flow shaped sound fits shape found flows =
-    rw found (flow_sound (program_of setting) held known state insn flow shaped sound (fields_here setting.code state.slot insn fits found)
-    (forward setting.code state.slot insn shape found) flows)
-
-pub next_of : (setting : Setting) (states : List (Option State)) (system : SystemState) (worker : ℕ) (state : MachineState) (entered : List ℕ) → IsSetting setting states →
-    (run : IsSoundRun setting states system worker state entered) → Next setting system worker state entered run.known
-next_of setting states system worker state entered good run =
-    let here = begun (instruction_at setting.code state.slot) run.begins
-    in let within : state.slot < total_slots setting.code = begins_within setting.code state.slot run.begins
-    in let through = let_through (flow_of setting.maps run.known state.slot here.0) (good.accepted.passes state.slot here.0 run.known here.1 run.at)
-    in let whole : IsWhole (known_at states state.slot) =
-    whole_below setting.maps setting.code states (total_slots setting.code) (total_slots setting.code) good.accepted.entry (omega arith) state.slot within
-    in record {
-      insn = here.0;
-      found = here.1;
-      within = within;
-      flow = through.0;
-      flows = through.1;
-      follows = leads setting (held_by setting system worker entered) state run.known here.0 through.0 (subst IsWhole run.at whole) run.sound
-          good.fits good.accepted.shape here.1 through.1;
-    }
 
 -- ---- its calls are served
 
@@ -147,7 +72,8 @@ pub safe_run : (setting : Setting) (states : List (Option State)) (system : Syst
     IsSoundSystem setting states system → worker_state system worker ≡ Runs state entered → IsSafeRun setting system worker entered state
 safe_run setting states system worker state entered good sound runs =
     let run : IsSoundRun setting states system worker state entered = subst (IsSoundWorker setting states system worker) runs (sound.workers worker)
-    in let next = next_of setting states system worker state entered good run
+    in let next : Here (program_of setting) (held_by setting system worker entered) state run.known =
+    here_of (program_of setting) states (held_by setting system worker entered) state good.accepted good.fits run
     in record {
       goes_on = no_trap setting system worker state entered next.insn next.flow (next_step (program_of setting) state)
           (call_served setting states system worker state entered good sound runs) next.follows;

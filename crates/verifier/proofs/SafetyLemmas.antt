@@ -35,8 +35,9 @@ use Rattle.verifier.proofs.SettingLemmas.{opening_sound, change_is_plain}
 use Rattle.verifier.proofs.EntryLemmas.{local_change}
 use Rattle.verifier.proofs.EventLemmas.{call_sound, leave_sound, is_counted}
 use Rattle.verifier.proofs.AskingLemmas.{stopped, enter_sound, ask_sound, quiet_lookup, quiet_load, lookup_holds, load_holds}
-use Rattle.verifier.proofs.RunLemmas.{Next, next_of, safe_worker}
-use Rattle.verifier.proofs.LocalLemmas.{sound_run, continues_soundly, called_soundly, begins_soundly}
+use Rattle.verifier.proofs.PlaceLemmas.{Here, here_of}
+use Rattle.verifier.proofs.RunLemmas.{safe_worker}
+use Rattle.verifier.proofs.LocalLemmas.{continues_soundly, called_soundly, begins_soundly}
 
 -- ---- a run's call
 
@@ -52,7 +53,8 @@ asked : (setting : Setting) (states : List (Option State)) (system : SystemState
     IsServed (program_of setting) (held_by setting system worker entered) call
 asked setting states system worker state entered call go good sound is steps =
     let run : IsSoundRun setting states system worker state entered = subst (IsSoundWorker setting states system worker) is (sound.workers worker)
-    in let here : Next setting system worker state entered run.known = next_of setting states system worker state entered good run
+    in let here : Here (program_of setting) (held_by setting system worker entered) state run.known =
+    here_of (program_of setting) states (held_by setting system worker entered) state good.accepted good.fits run
     in served_call setting (held_by setting system worker entered) state here.insn here.flow call go
     (subst (Follows (program_of setting) (held_by setting system worker entered) here.flow state here.insn) steps here.follows)
 
@@ -65,17 +67,15 @@ asks setting states system worker state entered call go good sound is steps serv
 asks setting states system worker state entered (Lookup shard key) go good sound is steps served into (Some plan) planned =
     let fits = lookup_answer (program_of setting) plan (history_of system plan.number) shard key (plan_facts setting.maps setting.options shard plan planned).number
     in ask_sound setting states system worker shard (Lookup shard key) state entered plan go good sound is planned (quiet_lookup plan system worker shard key)
-    (sound_run setting states _ worker (go (entry_for plan system (Worker worker) (Lookup shard key)).reply) entered
     (called_soundly setting states system worker state entered (Lookup shard key) go good sound is steps (entry_for plan system (Worker worker) (Lookup shard key)).reply fits _
-    (lookup_holds setting states system worker shard key entered plan good sound planned into fits)))
+    (lookup_holds setting states system worker shard key entered plan good sound planned into fits))
 asks setting states system worker state entered (Load cell offset width) go good sound is steps served into (Some plan) planned =
     let at : plan.number ≡ cell.shard = (plan_facts setting.maps setting.options cell.shard plan planned).number
     in let shard_sound : IsSoundShard plan (history_of system plan.number) = subst (λ n. IsSoundShard plan (history_of system n)) (sym at) (sound.each_shard cell.shard plan planned)
     in let fits = load_answer (program_of setting) plan (history_of system plan.number) cell offset width shard_sound
     in ask_sound setting states system worker cell.shard (Load cell offset width) state entered plan go good sound is planned (quiet_load plan system worker cell offset width)
-    (sound_run setting states _ worker (go (entry_for plan system (Worker worker) (Load cell offset width)).reply) entered
     (called_soundly setting states system worker state entered (Load cell offset width) go good sound is steps (entry_for plan system (Worker worker) (Load cell offset width)).reply fits _
-    (load_holds setting states system worker cell offset width entered plan good sound planned)))
+    (load_holds setting states system worker cell offset width entered plan good sound planned))
 asks setting states system worker state entered (Enter shard) go good sound is steps served into (Some plan) planned = absurd served
 asks setting states system worker state entered (Leave shard) go good sound is steps served into (Some plan) planned = absurd served
 asks setting states system worker state entered (Store cell offset width value) go good sound is steps served into (Some plan) planned = absurd served

@@ -1,7 +1,7 @@
 -- What holds of the system after every list of events, where the program was accepted: each run's state is one that what is known at
 -- its slot is sound for, and a worker is inside exactly the shards that its run has entered.
 use Rattle.std.proofs.Common.{◌≡◌, ℕ, ◌*◌, ◌/◌, ◌<◌, ◌≤◌, ◌==◌, ◌&&◌, true, List, [], length, Option, Some}
-use Rattle.std.specs.Prelude.{All, IsTrue}
+use Rattle.std.specs.Prelude.{All}
 use Rattle.std.specs.List.{AllByRecursion}
 use Rattle.ebpf_decode.specs.MapForm.{is_allowed_map}
 use Rattle.ebpf_decode.specs.InstructionEncoding.{total_slots, FieldsFit}
@@ -13,9 +13,9 @@ use Rattle.semantics.specs.ShardPlan.{plan_at, AreOptions}
 use Rattle.semantics.specs.SequentialShard.{shard_after}
 use Rattle.semantics.specs.System.{Setting, SystemState, WorkerState, Idle, Runs, Leaves, worker_state, history_of, is_entered}
 use Rattle.abstract_state.specs.declared.state.State.{State}
-use Rattle.abstract_state.specs.Abstraction.{Held, Abstracts}
-use Rattle.image_shape.specs.Edges.{is_begin}
-use Rattle.verifier.specs.Dataflow.{known_at, Accepts}
+use Rattle.abstract_state.specs.Abstraction.{Held}
+use Rattle.verifier.specs.Dataflow.{Accepts}
+use Rattle.verifier.proofs.PlaceLemmas.{IsSoundPlace}
 
 -- the shards that a worker's run has entered
 abbrev pub entered_of : WorkerState → List ℕ
@@ -28,12 +28,9 @@ abbrev pub held_by : Setting → SystemState → ℕ → List ℕ → Held
 held_by setting system worker entered map shard cell =
     (shard / setting.options.shards == map) && (is_entered shard entered && holds worker cell (history_of system shard))
 
-pub record IsSoundRun (setting : Setting) (states : List (Option State)) (system : SystemState) (worker : ℕ) (state : MachineState) (entered : List ℕ) : Type 0 where
-  pub known : State
-  pub at : known_at states state.slot ≡ Some known
-  pub begins : IsTrue (is_begin setting.code state.slot)
-  pub sound : Abstracts setting.maps (held_by setting system worker entered) known state
-  pub few : state.steps ≤ state.slot
+-- the run is at a place at which what is known is sound, for the cells that its worker holds
+abbrev pub IsSoundRun : Setting → List (Option State) → SystemState → ℕ → MachineState → List ℕ → Type 0
+IsSoundRun setting states system worker state entered = IsSoundPlace setting.maps setting.code states (held_by setting system worker entered) state
 
 abbrev pub IsSoundWorker : Setting → List (Option State) → SystemState → ℕ → WorkerState → Type 0
 IsSoundWorker setting states system worker Idle = Unit {0}

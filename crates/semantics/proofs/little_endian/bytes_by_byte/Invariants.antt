@@ -1,6 +1,6 @@
 use Rattle.std.proofs.Common.{◌≡◌, ◌+◌, ◌++◌, length}
 use Rattle.semantics.specs.LittleEndian.{bytes_of_number}
-use Rattle.semantics.proofs.little_endian.bytes_of_number.Given as goal
+use Rattle.semantics.proofs.little_endian.bytes_by_byte.Given as goal
 
 abbrev pub invariant-higher : goal.invariant-higher
 invariant-higher l = record {

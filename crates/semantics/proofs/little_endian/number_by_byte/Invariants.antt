@@ -1,6 +1,6 @@
 use Rattle.std.proofs.Common.{◌≡◌, ◌≤◌, ◌<◌, ◌^◌, ◌-◌, length, drop}
 use Rattle.semantics.specs.LittleEndian.{number_of_bytes}
-use Rattle.semantics.proofs.little_endian.number_of_bytes.Given as goal
+use Rattle.semantics.proofs.little_endian.number_by_byte.Given as goal
 
 abbrev pub invariant-higher : goal.invariant-higher
 invariant-higher l = record {
