@@ -1,23 +1,38 @@
 //! Loads and stores of each size, on the packet and on the stack.
 
-use super::programs::{
-    EXIT, MOMENT, accepted, begins_with, checked, lddw, load, mov, put, ran, store,
-};
+use super::programs::{EXIT, MOMENT, accepted, checked, lddw, load, mov, put, ran, store};
 use crate::Exit;
 use ebpf_decode::Insn;
 use isa::Register::{R0, R1, R2, R5, R10};
 use isa::{Extension, Register, Size};
 use semantics::Verdict;
+use std::alloc::Global;
+use std::process::Abort;
 use std::test::Fail;
 
 const NUMBER: u64 = 0x1122334455667788;
 
-/// A pass after so many instructions.
-fn pass(steps: u64) -> Exit {
-    Exit {
+/// A run passes after so many instructions, and the frame then begins with these bytes.
+fn passes(
+    rt: &impl Abort,
+    alloc: Global,
+    head: &[Insn],
+    tail: &[Insn],
+    bytes: &[u8],
+    steps: u64,
+    want: &[u8],
+    name: &str,
+) -> Result<(), Fail> {
+    let verified = accepted(alloc, &[], head, tail)?;
+    let ran = ran(alloc, &verified, &MOMENT, bytes)?;
+    let exit = Exit {
         verdict: Verdict::Pass,
         steps,
-    }
+    };
+    assert_eq!(rt; ran.exit, exit, "{name}");
+    assert!(rt; ran.frame.len() >= want.len(), "{name}");
+    assert_eq!(rt; &ran.frame.bytes()[..want.len()], want, "{name}");
+    Ok(())
 }
 
 #[rattlefmt::skip]
@@ -34,10 +49,8 @@ const STORES: [(&str, Size, i16, [u8; 16]); 5] = [
 fn stores_of_a_register(rt: HostRuntime) -> Result<(), Fail> {
     for (name, size, offset, want) in STORES {
         let tail = [lddw(R5, NUMBER), store(size, R2, offset, R5), EXIT];
-        let verified = accepted(rt.alloc(), &[], &checked(16, 3), &tail)?;
-        let ran = ran(rt.alloc(), &verified, &MOMENT, &[0xaa; 16])?;
-        assert_eq!(rt; ran.exit, pass(9), "{name}");
-        assert_eq!(rt; ran.frame.bytes(), want.as_slice(), "{name}");
+        let head = checked(16, 3);
+        passes(&rt, rt.alloc(), &head, &tail, &[0xaa; 16], 9, &want, name)?;
     }
     Ok(())
 }
@@ -56,10 +69,9 @@ const IMMEDIATES: [(&str, Size, i32, u64); 6] = [
 fn stores_of_an_immediate(rt: HostRuntime) -> Result<(), Fail> {
     for (name, size, immediate, want) in IMMEDIATES {
         let tail = [put(size, R2, 0, immediate), EXIT];
-        let verified = accepted(rt.alloc(), &[], &checked(16, 1), &tail)?;
-        let ran = ran(rt.alloc(), &verified, &MOMENT, &[0xaa; 16])?;
-        assert_eq!(rt; ran.exit, pass(8), "{name}");
-        begins_with(&rt, &ran.frame, want, name);
+        let head = checked(16, 1);
+        let bytes = want.to_le_bytes();
+        passes(&rt, rt.alloc(), &head, &tail, &[0xaa; 16], 8, &bytes, name)?;
     }
     Ok(())
 }
@@ -87,10 +99,9 @@ const LOADS: [(&str, Insn, u64); 11] = [
 fn loads_from_the_packet(rt: HostRuntime) -> Result<(), Fail> {
     for (name, insn, want) in LOADS {
         let tail = [insn, store(Size::U64, R2, 0, R5), EXIT];
-        let verified = accepted(rt.alloc(), &[], &checked(16, 2), &tail)?;
-        let ran = ran(rt.alloc(), &verified, &MOMENT, &BYTES)?;
-        assert_eq!(rt; ran.exit, pass(9), "{name}");
-        begins_with(&rt, &ran.frame, want, name);
+        let head = checked(16, 2);
+        let bytes = want.to_le_bytes();
+        passes(&rt, rt.alloc(), &head, &tail, &BYTES, 9, &bytes, name)?;
     }
     Ok(())
 }
@@ -118,10 +129,9 @@ fn loads_from_the_stack(rt: HostRuntime) -> Result<(), Fail> {
             store(Size::U64, R2, 0, R5),
             EXIT,
         ];
-        let verified = accepted(rt.alloc(), &[], &checked(14, 5), &tail)?;
-        let ran = ran(rt.alloc(), &verified, &MOMENT, &[0; 14])?;
-        assert_eq!(rt; ran.exit, pass(11), "{name}");
-        begins_with(&rt, &ran.frame, want, name);
+        let head = checked(14, 5);
+        let bytes = want.to_le_bytes();
+        passes(&rt, rt.alloc(), &head, &tail, &[0; 14], 11, &bytes, name)?;
     }
     Ok(())
 }
@@ -136,11 +146,18 @@ fn a_word_of_two_halves(rt: HostRuntime) -> Result<(), Fail> {
         store(Size::U64, R2, 0, R5),
         EXIT,
     ];
-    let verified = accepted(rt.alloc(), &[], &checked(14, 4), &tail)?;
-    let ran = ran(rt.alloc(), &verified, &MOMENT, &[0; 14])?;
-    assert_eq!(rt; ran.exit, pass(11));
-    begins_with(&rt, &ran.frame, 0xfffffffe00000001, "two halves");
-    Ok(())
+    let head = checked(14, 4);
+    let bytes = 0xfffffffe00000001u64.to_le_bytes();
+    passes(
+        &rt,
+        rt.alloc(),
+        &head,
+        &tail,
+        &[0; 14],
+        11,
+        &bytes,
+        "two halves",
+    )
 }
 
 /// A number over a spilled pointer is a number again.
@@ -152,8 +169,14 @@ fn a_number_over_a_spilled_pointer(rt: HostRuntime) -> Result<(), Fail> {
         put(Size::U64, R10, -8, 2),
         load(Size::U64, R0, R10, -8),
     ];
-    let verified = accepted(rt.alloc(), &[], &head, &[EXIT])?;
-    let ran = ran(rt.alloc(), &verified, &MOMENT, &[0; 14])?;
-    assert_eq!(rt; ran.exit, pass(5));
-    Ok(())
+    passes(
+        &rt,
+        rt.alloc(),
+        &head,
+        &[EXIT],
+        &[0; 14],
+        5,
+        &[],
+        "2 passes",
+    )
 }
