@@ -1,5 +1,6 @@
 -- What it means that a command is done: the files that it read and wrote, and what it printed.
-use Rattle.std.specs.Prelude.{◌≡◌, ◌↔◌, ◌≤◌, ◌++◌, ℕ, List, [], Bool, true, false, Option, IsTrue, codes, decimal, length}
+use Rattle.std.specs.Prelude.{◌≡◌, ◌≢◌, ◌↔◌, ◌≤◌, ◌++◌, ℕ, List, [], Bool, true, false, Option, IsTrue, codes, decimal, length}
+use Rattle.std.specs.Io.KnownBytes.{append_known}
 use Rattle.abstract_state.specs.declared.state.State.{State}
 use Rattle.ebpf_decode.specs.ImageContents.{Contents}
 use Rattle.ebpf_decode.specs.ImageFormat.{IsImageEncoding}
@@ -24,6 +25,14 @@ use Rattle.xlb.specs.declared.command_line.Settings.TheVariants.{Check, Run, Dis
 -- which bytes the file of a name has
 abbrev pub FileBytes : Type 1
 FileBytes = List ℕ → List ℕ → Type 0
+
+-- each file has the bytes that it had
+abbrev pub AreKept : FileBytes → FileBytes → Type 0
+AreKept before after = (name bytes : List ℕ) → (before name bytes ↔ after name bytes)
+
+-- each file but the one of this name has the bytes that it had
+abbrev pub AreOthersKept : FileBytes → FileBytes → List ℕ → Type 0
+AreOthersKept before after written = (name bytes : List ℕ) → name ≢ written → before name bytes → after name bytes
 
 -- the file of this name is the encoding of the image
 pub record IsImageFile (files : FileBytes) (name : List ℕ) (image : Contents) : Type 0 where
@@ -116,3 +125,21 @@ IsDone before after (Check image) printed = IsChecked before image.now printed
 IsDone before after (Run image frame now worker) printed = IsRun before image.now frame.now now worker printed
 IsDone before after (Disasm image) printed = IsDisassembled before image.now printed
 IsDone before after (Asm text out) printed = IsAssembled before after text.now out.now × (printed ≡ [])
+
+-- no file changes but the one that the command is to write, whether it is done or refused
+abbrev pub KeepsFiles : FileBytes → FileBytes → Settings → Type 0
+KeepsFiles before after (Check image) = AreKept before after
+KeepsFiles before after (Run image frame now worker) = AreKept before after
+KeepsFiles before after (Disasm image) = AreKept before after
+KeepsFiles before after (Asm text out) = AreOthersKept before after out.now
+
+-- a text that ends its line
+pub record IsLine (text : List ℕ) : Type 0 where
+  pub front : List ℕ
+  pub ended : text ≡ front ++ codes "\n"
+
+-- a stream that held `before` was given one text more, which ends its line
+pub record PrintsLine (before after : Option (List ℕ)) : Type 0 where
+  pub line : List ℕ
+  pub ends : IsLine line
+  pub printed : after ≡ append_known before line

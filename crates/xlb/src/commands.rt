@@ -6,7 +6,7 @@ ghost use Rattle.semantics.specs.ShardPlan.{AreOptions};
 ghost use Rattle.semantics.specs.System.{IsInputFrame};
 ghost use Rattle.shards.specs.Opening.{AreOpened};
 ghost use Rattle.disasm.specs.AssemblyText.{IsAssemblyText};
-ghost use Rattle.xlb.specs.Results.{IsImageFile, IsChecked, HasRun, IsRun, run_options, IsDisassembled, IsAssembled};
+ghost use Rattle.xlb.specs.Results.{AreKept, AreOthersKept, IsImageFile, IsChecked, HasRun, IsRun, run_options, IsDisassembled, IsAssembled};
 
 use crate::fault::Fault;
 use crate::folder::Folder;
@@ -35,7 +35,7 @@ const OPTIONS: Options = Options {
 fn bytes_of<D: Folder>(alloc: Global, folder: &mut D, name: &str) -> Result<Vec<u8>, Fault>
     requires { D.failure_count folder.old < 2 ^ 64 - 1 }
     ensures bytes { IfOk result (λ bytes. D.holds folder.old name.now bytes.items) }
-    ensures kept { OnOk result ((other bytes : List ℕ) → (D.holds folder.old other bytes ↔ D.holds folder.new other bytes)) }
+    ensures kept { AreKept (D.holds folder.old) (D.holds folder.new) }
     ensures steady { OnOk result (D.failure_count folder.new ≡ D.failure_count folder.old) }
 {
     match folder.read(alloc, name) {
@@ -48,7 +48,7 @@ fn bytes_of<D: Folder>(alloc: Global, folder: &mut D, name: &str) -> Result<Vec<
 fn image_of<D: Folder>(alloc: Global, folder: &mut D, name: &str) -> Result<Image, Fault>
     requires { D.failure_count folder.old < 2 ^ 64 - 1 }
     ensures file { IfOk result (λ image. IsImageFile (D.holds folder.old) name.now image) }
-    ensures kept { OnOk result ((other bytes : List ℕ) → (D.holds folder.old other bytes ↔ D.holds folder.new other bytes)) }
+    ensures kept { AreKept (D.holds folder.old) (D.holds folder.new) }
     ensures steady { OnOk result (D.failure_count folder.new ≡ D.failure_count folder.old) }
 {
     let bytes = bytes_of(alloc, folder, name)?;
@@ -63,7 +63,7 @@ fn verified_of<D: Folder>(alloc: Global, folder: &mut D, name: &str) -> Result<V
     requires { D.failure_count folder.old < 2 ^ 64 - 1 }
     ensures file { IfOk result (λ verified. IsImageFile (D.holds folder.old) name.now (record { maps = verified.maps; code = verified.code })) }
     ensures safe { IfOk result (λ verified. IsSafeImage verified.maps verified.code) }
-    ensures kept { OnOk result ((other bytes : List ℕ) → (D.holds folder.old other bytes ↔ D.holds folder.new other bytes)) }
+    ensures kept { AreKept (D.holds folder.old) (D.holds folder.new) }
     ensures steady { OnOk result (D.failure_count folder.new ≡ D.failure_count folder.old) }
 {
     let image = image_of(alloc, folder, name)?;
@@ -79,7 +79,7 @@ fn frame_of<D: Folder>(alloc: Global, folder: &mut D, name: &str) -> Result<Fram
     ensures read { IfOk result (λ frame. D.holds folder.old name.now frame.bytes) }
     ensures size { IfOk result (λ frame. IsInputFrame frame.bytes) }
     ensures headroom { IfOk result (λ frame. frame.headroom ≡ 256) }
-    ensures kept { OnOk result ((other bytes : List ℕ) → (D.holds folder.old other bytes ↔ D.holds folder.new other bytes)) }
+    ensures kept { AreKept (D.holds folder.old) (D.holds folder.new) }
     ensures steady { OnOk result (D.failure_count folder.new ≡ D.failure_count folder.old) }
 {
     let bytes = bytes_of(alloc, folder, name)?;
@@ -117,7 +117,8 @@ fn moment_of(now: u64, worker: u32) -> Result<Moment, Fault>
 /// Judges an image.
 pub fn check<D: Folder>(alloc: Global, folder: &mut D, image: &str) -> Result<String, Fault>
     requires { D.failure_count folder.old < 2 ^ 64 - 1 }
-    ensures { IfOk result (λ text. IsChecked (D.holds folder.old) image.now (string_bytes text)) }
+    ensures done { IfOk result (λ text. IsChecked (D.holds folder.old) image.now (string_bytes text)) }
+    ensures kept { AreKept (D.holds folder.old) (D.holds folder.new) }
 {
     let verified = verified_of(alloc, folder, image)?;
     Ok(accepted(alloc, &verified)?)
@@ -154,7 +155,8 @@ pub fn run_once<D: Folder>(
     worker: u32,
 ) -> Result<String, Fault>
     requires { D.failure_count folder.old < 2 ^ 64 - 1 }
-    ensures { IfOk result (λ text. IsRun (D.holds folder.old) image.now frame.now now worker (string_bytes text)) }
+    ensures done { IfOk result (λ text. IsRun (D.holds folder.old) image.now frame.now now worker (string_bytes text)) }
+    ensures kept { AreKept (D.holds folder.old) (D.holds folder.new) }
 {
     let verified = verified_of(alloc, folder, image)?;
     let mut frame = frame_of(alloc, folder, frame)?;
@@ -173,7 +175,8 @@ pub fn run_once<D: Folder>(
 /// The text of an image.
 pub fn disassemble<D: Folder>(alloc: Global, folder: &mut D, image: &str) -> Result<String, Fault>
     requires { D.failure_count folder.old < 2 ^ 64 - 1 }
-    ensures { IfOk result (λ text. IsDisassembled (D.holds folder.old) image.now (string_bytes text)) }
+    ensures done { IfOk result (λ text. IsDisassembled (D.holds folder.old) image.now (string_bytes text)) }
+    ensures kept { AreKept (D.holds folder.old) (D.holds folder.new) }
 {
     let image = image_of(alloc, folder, image)?;
     Ok(text(alloc, &image)?)
@@ -218,6 +221,7 @@ pub fn assemble_file<D: Folder>(
     requires { D.failure_count folder.old < 2 ^ 64 - 1 }
     ensures done { OnOk result (IsAssembled (D.holds folder.old) (D.holds folder.new) text.now out.now) }
     ensures silent { IfOk result (λ printed. string_bytes printed ≡ []) }
+    ensures others { AreOthersKept (D.holds folder.old) (D.holds folder.new) out.now }
 {
     let bytes = bytes_of(alloc, folder, text)?;
     let image = match assembled(alloc, &bytes) {

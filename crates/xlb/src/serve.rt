@@ -2,7 +2,7 @@
 
 ghost use Rattle.std.specs.Prelude.{◌≡◌, ◌+◌, ◌-◌, ◌<◌, ◌^◌, ℕ, List, IfOk, OnOk, string_bytes};
 ghost use Rattle.std.specs.Io.KnownBytes.{append_known};
-ghost use Rattle.xlb.specs.Results.{IsDone};
+ghost use Rattle.xlb.specs.Results.{IsDone, IsLine, KeepsFiles, PrintsLine};
 
 use crate::command_line::Settings;
 use crate::commands::{assemble_file, check, disassemble, run_once};
@@ -24,7 +24,8 @@ fn answer<D: Folder>(
     folder: &mut D,
 ) -> Result<String, Fault>
     requires { D.failure_count folder.old < 2 ^ 64 - 1 }
-    ensures { IfOk result (λ text. IsDone (D.holds folder.old) (D.holds folder.new) settings.now (string_bytes text)) }
+    ensures done { IfOk result (λ text. IsDone (D.holds folder.old) (D.holds folder.new) settings.now (string_bytes text)) }
+    ensures kept { KeepsFiles (D.holds folder.old) (D.holds folder.new) settings.now }
 {
     match *settings {
         Settings::Check { image } => check(alloc, folder, image),
@@ -40,19 +41,32 @@ fn answer<D: Folder>(
 }
 
 /// A fault's line.
-fn line_of(alloc: Global, fault: Fault) -> Result<String, AllocError> {
-    format!(in alloc; "{fault}\n")
+fn line_of(alloc: Global, fault: Fault) -> Result<String, AllocError>
+    ensures { IfOk result (λ line. IsLine (string_bytes line)) }
+{
+    let mut line = format!(in alloc; "{fault}")?;
+    line.push_str("\n")?;
+    Ok(line)
+}
+
+/// Prints a text, as far as the stream takes it.
+fn print<E: Sink>(err: &mut E, text: &[u8])
+    requires { E.failure_count err.old < 2 ^ 64 - 1 }
+    ensures { E.failure_count err.new ≡ E.failure_count err.old → E.held err.new ≡ append_known (E.held err.old) text.now }
+{
+    let _ = write_all(err, text);
 }
 
 /// Prints a fault. Where memory is refused, 8 is printed in its place.
 fn refuse<E: Sink>(alloc: Global, fault: Fault, err: &mut E) -> u8
     requires { E.failure_count err.old < 2 ^ 64 - 1 }
-    ensures { result ≡ 1 }
+    ensures status { result ≡ 1 }
+    ensures told { E.failure_count err.new ≡ E.failure_count err.old → PrintsLine (E.held err.old) (E.held err.new) }
 {
-    let _ = match line_of(alloc, fault) {
-        Ok(line) => write_all(err, line.as_bytes()),
-        Err(_) => write_all(err, b"fault 8 Memory\n"),
-    };
+    match line_of(alloc, fault) {
+        Ok(line) => print(err, line.as_bytes()),
+        Err(_) => print(err, b"fault 8 Memory\n"),
+    }
     REFUSED
 }
 
@@ -72,6 +86,8 @@ pub fn serve<D: Folder, O: Sink, E: Sink>(
     ensures done { result ≡ 0 → (text : List ℕ) × IsDone (D.holds folder.old) (D.holds folder.new) settings.now text
         × (O.held out.new ≡ append_known (O.held out.old) text) }
     ensures quiet { result ≡ 0 → E.held err.new ≡ E.held err.old }
+    ensures kept { KeepsFiles (D.holds folder.old) (D.holds folder.new) settings.now }
+    ensures told { result ≡ 1 → E.failure_count err.new ≡ E.failure_count err.old → PrintsLine (E.held err.old) (E.held err.new) }
     ensures unprinted { result ≡ 1 → O.failure_count out.new ≡ O.failure_count out.old → O.held out.new ≡ O.held out.old }
 {
     match answer(alloc, settings, folder) {

@@ -3,8 +3,8 @@ use Rattle.semantics.specs.declared.verdict.Verdict.{Verdict}
 use Rattle.xlb.specs.Results.{HasRun}
 use Rattle.xlb.proofs.commands.run_once.Goals as goal
 
-pub returns-in-Ok-stopped : goal.returns-in-Ok-stopped
-returns-in-Ok-stopped g c =
+pub returns-in-Ok-stopped-clause-done : goal.returns-in-Ok-stopped-clause-done
+returns-in-Ok-stopped-clause-done g c =
     let verified = c.in_ok-verified.verified in
     let frame = c.in_ok-frame.frame in
     let given = c.in_ok-moment.ensures.given in
