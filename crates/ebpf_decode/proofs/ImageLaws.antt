@@ -15,7 +15,7 @@ use Rattle.ebpf_decode.specs.InstructionEncoding.{slots_of, total_slots, slot_co
 use Rattle.ebpf_decode.specs.InstructionReading.{◌>>=◌, code_from}
 use Rattle.ebpf_decode.specs.MapForm.{map_bytes}
 use Rattle.ebpf_decode.specs.ImageContents.{Contents, IsEncodable}
-use Rattle.ebpf_decode.specs.ImageFormat.{head_bytes, image_bytes, IsImageEncoding, map_count, has_head, maps_at, code_at, image_at, has_code_size, asks_memory}
+use Rattle.ebpf_decode.specs.ImageFormat.{head_bytes, image_bytes, IsImageEncoding, map_count, has_head, maps_at, code_at, image_at, has_code_size, may_ask_memory}
 use Rattle.ebpf_decode.proofs.SlotLaws.{IsBytes, IsBytes-drop, both, slots_take, slots_fit, slots_again}
 use Rattle.ebpf_decode.proofs.CodeLaws.{bind_ok, code_found, code_again, length_slots, bytes_of_slots}
 use Rattle.ebpf_decode.proofs.MapLaws.{maps_take, maps_again}
@@ -233,7 +233,7 @@ one_instruction bytes a b is_a is_b =
     let read_b : code_at (flat_map instruction_bytes (b ∷ [])) ≡ Ok (b ∷ []) = program_again (b ∷ []) (lit≤ tt) (few_of_one b) (is_b.fields_fit, tt) in
     same_first a b (sym read_a ∙ ap code_at same ∙ read_b)
 
--- ---- where memory is asked for
+-- ---- where memory may be asked for
 
 abbrev bytes_after : Result (List MapDef × List ℕ) DecodeFault → List ℕ
 bytes_after (Ok read) = read.1
@@ -249,5 +249,5 @@ maps_or_size (suc n) bytes rest maps read size =
     rw some refl
 
 -- a program of a right size comes after the maps
-pub asks_for_code : (bytes rest : List ℕ) (maps : List MapDef) → has_head bytes ≡ true → maps_at 0 (map_count bytes) (drop 8 bytes) ≡ Ok (maps, rest) → IsTrue (has_code_size rest) → IsTrue (asks_memory bytes)
+pub asks_for_code : (bytes rest : List ℕ) (maps : List MapDef) → has_head bytes ≡ true → maps_at 0 (map_count bytes) (drop 8 bytes) ≡ Ok (maps, rest) → IsTrue (has_code_size rest) → IsTrue (may_ask_memory bytes)
 asks_for_code bytes rest maps head read size = rw head (maps_or_size (map_count bytes) (drop 8 bytes) rest maps read size)

@@ -60,9 +60,9 @@ image_at bytes =
 abbrev pub has_code_size : List ℕ → Bool
 has_code_size bytes = not (length bytes == 0) && (length bytes % 8 == 0) && nat_le (length bytes / 8) 4096
 
--- reading asks for memory: after a whole head, for the maps, or for a program of a right size
-abbrev pub asks_memory : List ℕ → Bool
-asks_memory bytes = has_head bytes && (nat_lt 0 (map_count bytes) || has_code_size (drop 8 bytes))
+-- reading may ask for memory: after a whole head, for maps, or for a program of a right size
+abbrev pub may_ask_memory : List ℕ → Bool
+may_ask_memory bytes = has_head bytes && (nat_lt 0 (map_count bytes) || has_code_size (drop 8 bytes))
 
 -- What a function returned, seen by view, is what reading gives, unless memory was refused.
 abbrev pub Gives : {X Y : Type 0} → (X → Y) → Result X DecodeFault → Result Y DecodeFault → Type 0

@@ -4,7 +4,7 @@ ghost use Rattle.std.specs.Prelude.{◌≡◌, ◌≢◌, ◌++◌, ◌*◌, ◌
 ghost use Rattle.ebpf_decode.specs.SlotForm.{slots_at};
 ghost use Rattle.ebpf_decode.specs.InstructionReading.{at_slot, step_at, pending_of, finished_by, code_from};
 ghost use Rattle.ebpf_decode.specs.ImageContents.{Contents};
-ghost use Rattle.ebpf_decode.specs.ImageFormat.{Gives, map_count, has_head, maps_at, code_at, image_at, has_code_size, asks_memory, first_decode_fault, IsImageEncoding};
+ghost use Rattle.ebpf_decode.specs.ImageFormat.{Gives, map_count, has_head, maps_at, code_at, image_at, has_code_size, may_ask_memory, first_decode_fault, IsImageEncoding};
 
 use crate::codes;
 use crate::fault::{DecodeFault, SlotFault};
@@ -145,7 +145,7 @@ fn code_of(alloc: Global, bytes: &[u8]) -> Result<Vec<Insn>, DecodeFault>
 #[tactic(auto, unfolding(crate::specs::ImageFormat::image_at))]
 fn parts(alloc: Global, bytes: &[u8]) -> Result<(Vec<MapDef>, Vec<Insn>), DecodeFault>
     ensures given { Gives (λ x. record { maps = x.0.items; code = x.1.items }) result (image_at bytes.now) }
-    ensures asked { IfErr result (λ fault. fault ≡ DecodeFault.Memory → IsTrue (asks_memory bytes.now)) }
+    ensures asked { IfErr result (λ fault. fault ≡ DecodeFault.Memory → IsTrue (may_ask_memory bytes.now)) }
 {
     if !has_head(bytes) {
         return Err(DecodeFault::BadHead);
@@ -164,8 +164,8 @@ pub fn decode(alloc: Global, bytes: &[u8]) -> Result<Image, DecodeFault>
     ensures only { (image : Contents) → IsImageEncoding bytes.now image → result ≢ Err DecodeFault.Memory → result ≡ Ok image }
     // It is the first fault.
     ensures fault { IfErr result (λ fault. fault ≢ DecodeFault.Memory → first_decode_fault bytes.now ≡ Some fault) }
-    // 20 comes only where memory is asked for.
-    ensures asked { IfErr result (λ fault. fault ≡ DecodeFault.Memory → IsTrue (asks_memory bytes.now)) }
+    // 20 comes only where memory may have been asked for.
+    ensures asked { IfErr result (λ fault. fault ≡ DecodeFault.Memory → IsTrue (may_ask_memory bytes.now)) }
 {
     let (maps, code) = parts(alloc, bytes)?;
     Ok(Image::new(maps, code))
