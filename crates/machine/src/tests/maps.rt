@@ -7,7 +7,7 @@ use super::programs::{
     run_over, store,
 };
 use crate::{Exit, Stop};
-use ebpf_decode::{Insn, MapDef, MapKind, decode};
+use ebpf_decode::{Insn, decode};
 use isa::Register::{R0, R1, R2, R3, R6, R10};
 use isa::{Size, Source, Test};
 use map_port::laws::opened_serve;
