@@ -1,5 +1,7 @@
 //! Programs on frames, worked out by hand.
 
+ghost use Rattle.std.specs.Prelude.{◌<◌};
+
 mod arithmetic;
 mod maps;
 mod memory;
@@ -8,46 +10,65 @@ mod programs;
 use crate::{Exit, Moment, Stop};
 use ebpf_decode::Insn;
 use isa::Register::{R0, R1, R2, R3, R4, R5, R10};
-use isa::{AluOp, Register, Size, Source, Test};
+use isa::{AluOp, Register, Size, Source, Test, Width};
 use programs::{
-    EXIT, MOMENT, accepted, add, alu, call, checked, copy, jump_if, lddw, load, mov, ran, store,
+    EXIT, MOMENT, accepted, add, alu, call, checked, copy, jump_if, load, mov, ran, store,
 };
 use semantics::Verdict;
 use std::alloc::Global;
 use std::process::Abort;
 use std::test::Fail;
-use verifier::Verified;
 
 fn exit(verdict: Verdict, steps: u64) -> Exit {
     Exit { verdict, steps }
 }
 
-/// A run on a frame of zeros but for the last byte, which leaves it as it was.
+/// A run of the program ends so, and leaves the frame as it was.
 fn ends(
     rt: &impl Abort,
     alloc: Global,
-    verified: &Verified,
+    moment: &Moment,
+    head: &[Insn],
+    tail: &[Insn],
     bytes: &[u8],
     want: Exit,
     name: &str,
-) -> Result<(), Fail> {
-    let ran = ran(alloc, verified, &MOMENT, bytes)?;
+) -> Result<(), Fail>
+    requires { moment.now.worker < 8 }
+{
+    let verified = accepted(alloc, &[], head, tail)?;
+    let ran = ran(alloc, &verified, moment, bytes)?;
     assert_eq!(rt; ran.exit, want, "{name}");
     assert_eq!(rt; ran.frame.bytes(), bytes, "{name}");
     Ok(())
 }
 
+#[rattlefmt::skip]
+const HEADS: [(&str, &[Insn], Exit); 6] = [
+    ("a verdict alone",                 &[Insn::Alu { width: Width::Bits64, op: AluOp::Mov, dst: Register::R0, source: Source::Imm(2) }], Exit { verdict: Verdict::Pass, steps: 2 }),
+    ("a number above 32 bits",          &[Insn::Lddw { dst: Register::R0, value: 0x1_0000_0001 }],                                        Exit { verdict: Verdict::Drop, steps: 2 }),
+    ("helper 5 is the time",            &[Insn::CallHelper { helper: 5 }],                                                                Exit { verdict: Verdict::Tx,   steps: 2 }),
+    ("helper 8 is the worker",          &[Insn::CallHelper { helper: 8 }],                                                                Exit { verdict: Verdict::Pass, steps: 2 }),
+    ("so is the receive queue",         &[Insn::Ldx { size: Size::U32, dst: Register::R0, src: Register::R1, offset: 16 }],               Exit { verdict: Verdict::Pass, steps: 2 }),
+    ("the frame came from interface 1", &[Insn::Ldx { size: Size::U32, dst: Register::R0, src: Register::R1, offset: 12 }],               Exit { verdict: Verdict::Drop, steps: 2 }),
+];
+
+/// The low 32 bits of R0 are the verdict, and a wide instruction is one step.
 #[test]
-fn a_verdict_alone(rt: HostRuntime) -> Result<(), Fail> {
-    let verified = accepted(rt.alloc(), &[], &[mov(R0, 2)], &[EXIT])?;
-    ends(
-        &rt,
-        rt.alloc(),
-        &verified,
-        &[0; 14],
-        exit(Verdict::Pass, 2),
-        "pass",
-    )
+fn one_instruction_and_an_exit(rt: HostRuntime) -> Result<(), Fail> {
+    for (name, head, want) in HEADS {
+        ends(
+            &rt,
+            rt.alloc(),
+            &MOMENT,
+            head,
+            &[EXIT],
+            &[0; 14],
+            want,
+            name,
+        )?;
+    }
+    Ok(())
 }
 
 #[test]
@@ -56,13 +77,15 @@ fn the_longest_run(rt: HostRuntime) -> Result<(), Fail> {
     for _ in 0..4095 {
         code.push(mov(R0, 1))?;
     }
-    let verified = accepted(rt.alloc(), &[], &code, &[EXIT])?;
+    let want = exit(Verdict::Drop, 4096);
     ends(
         &rt,
         rt.alloc(),
-        &verified,
+        &MOMENT,
+        &code,
+        &[EXIT],
         &[0; 14],
-        exit(Verdict::Drop, 4096),
+        want,
         "4096 slots",
     )
 }
@@ -79,54 +102,55 @@ const LAST_BYTES: [(&str, u8, Verdict); 5] = [
 /// Byte 13 is the verdict, where the packet has 14 bytes.
 #[test]
 fn a_byte_that_a_test_covers(rt: HostRuntime) -> Result<(), Fail> {
-    let byte = [load(Size::U8, R0, R2, 13), EXIT];
-    let verified = accepted(rt.alloc(), &[], &checked(14, 1), &byte)?;
+    let head = checked(14, 1);
+    let tail = [load(Size::U8, R0, R2, 13), EXIT];
     for (name, last, verdict) in LAST_BYTES {
+        let want = exit(verdict, 8);
         let mut bytes = [0; 15];
         bytes[13] = last;
         ends(
             &rt,
             rt.alloc(),
-            &verified,
+            &MOMENT,
+            &head,
+            &tail,
             &bytes[..14],
-            exit(verdict, 8),
+            want,
             name,
         )?;
-        ends(&rt, rt.alloc(), &verified, &bytes, exit(verdict, 8), name)?;
+        ends(&rt, rt.alloc(), &MOMENT, &head, &tail, &bytes, want, name)?;
     }
     Ok(())
 }
+
+#[rattlefmt::skip]
+const STRICT_ROWS: [(&str, &[u8], Exit); 2] = [
+    ("14 bytes", &[0, 0, 0, 0, 0, 0, 0, 0, 0, 0, 0, 0, 0, 0],    Exit { verdict: Verdict::Pass, steps: 7 }),
+    ("15 bytes", &[0, 0, 0, 0, 0, 0, 0, 0, 0, 0, 0, 0, 0, 0, 1], Exit { verdict: Verdict::Drop, steps: 8 }),
+];
 
 /// Byte 14 is the verdict, where the packet has more than 14 bytes.
 #[test]
 fn a_byte_that_a_strict_test_covers(rt: HostRuntime) -> Result<(), Fail> {
     let mut head = checked(14, 1);
     head[5] = jump_if(Test::Ge, R4, Source::Reg(R3), 1);
-    let byte = [load(Size::U8, R0, R2, 14), EXIT];
-    let verified = accepted(rt.alloc(), &[], &head, &byte)?;
-    let mut bytes = [0; 15];
-    bytes[14] = 1;
-    ends(
-        &rt,
-        rt.alloc(),
-        &verified,
-        &bytes[..14],
-        exit(Verdict::Pass, 7),
-        "14 bytes",
-    )?;
-    ends(
-        &rt,
-        rt.alloc(),
-        &verified,
-        &bytes,
-        exit(Verdict::Drop, 8),
-        "15 bytes",
-    )
+    let tail = [load(Size::U8, R0, R2, 14), EXIT];
+    for (name, bytes, want) in STRICT_ROWS {
+        ends(&rt, rt.alloc(), &MOMENT, &head, &tail, bytes, want, name)?;
+    }
+    Ok(())
 }
+
+#[rattlefmt::skip]
+const PLACES: [(&str, u8, Exit); 2] = [
+    ("byte 3",       3,  Exit { verdict: Verdict::Drop, steps: 13 }),
+    ("past the end", 14, Exit { verdict: Verdict::Pass, steps: 12 }),
+];
 
 /// Byte 13 tells where the byte is that is the verdict.
 #[test]
 fn a_place_that_the_packet_tells(rt: HostRuntime) -> Result<(), Fail> {
+    let head = checked(14, 6);
     let tail = [
         load(Size::U8, R5, R2, 13),
         alu(AluOp::Add, R2, Source::Reg(R5)),
@@ -136,77 +160,42 @@ fn a_place_that_the_packet_tells(rt: HostRuntime) -> Result<(), Fail> {
         load(Size::U8, R0, R2, 0),
         EXIT,
     ];
-    let verified = accepted(rt.alloc(), &[], &checked(14, 6), &tail)?;
-    let mut bytes = [0; 14];
-    bytes[3] = 1;
-    bytes[13] = 3;
-    ends(
-        &rt,
-        rt.alloc(),
-        &verified,
-        &bytes,
-        exit(Verdict::Drop, 13),
-        "byte 3",
-    )?;
-    bytes[13] = 14;
-    ends(
-        &rt,
-        rt.alloc(),
-        &verified,
-        &bytes,
-        exit(Verdict::Pass, 12),
-        "past the end",
-    )
-}
-
-/// The low 32 bits of R0 are the verdict, and a wide instruction is one step.
-#[test]
-fn a_number_above_32_bits(rt: HostRuntime) -> Result<(), Fail> {
-    let verified = accepted(rt.alloc(), &[], &[lddw(R0, 0x1_0000_0001)], &[EXIT])?;
-    ends(
-        &rt,
-        rt.alloc(),
-        &verified,
-        &[0; 14],
-        exit(Verdict::Drop, 2),
-        "drop",
-    )
-}
-
-#[rattlefmt::skip]
-const CONTEXT: [(&str, &[Insn], Verdict); 4] = [
-    ("helper 5 is the time",            &[Insn::CallHelper { helper: 5 }],                                                              Verdict::Tx),
-    ("helper 8 is the worker",          &[Insn::CallHelper { helper: 8 }],                                                              Verdict::Pass),
-    ("so is the receive queue",         &[Insn::Ldx { size: Size::U32, dst: Register::R0, src: Register::R1, offset: 16 }],             Verdict::Pass),
-    ("the frame came from interface 1", &[Insn::Ldx { size: Size::U32, dst: Register::R0, src: Register::R1, offset: 12 }],             Verdict::Drop),
-];
-
-#[test]
-fn time_worker_and_interface(rt: HostRuntime) -> Result<(), Fail> {
-    for (name, head, verdict) in CONTEXT {
-        let verified = accepted(rt.alloc(), &[], head, &[EXIT])?;
-        ends(&rt, rt.alloc(), &verified, &[0; 14], exit(verdict, 2), name)?;
+    for (name, place, want) in PLACES {
+        let mut bytes = [0; 14];
+        bytes[3] = 1;
+        bytes[13] = place;
+        ends(&rt, rt.alloc(), &MOMENT, &head, &tail, &bytes, want, name)?;
     }
     Ok(())
 }
 
+#[rattlefmt::skip]
+const MOMENTS: [(&str, i32, Verdict); 2] = [
+    ("the worker's number is 3",                8, Verdict::Tx),
+    ("the low 32 bits of the time are 1",       5, Verdict::Drop),
+];
+
 /// Each worker is told its own number, and each run its own time.
 #[test]
 fn each_run_has_its_moment(rt: HostRuntime) -> Result<(), Fail> {
-    let worker = accepted(rt.alloc(), &[], &[call(8)], &[EXIT])?;
-    let time = accepted(rt.alloc(), &[], &[call(5)], &[EXIT])?;
     let moment = Moment {
         now_ns: 0xffff_ffff_0000_0001,
         worker: 3,
     };
-    assert_eq!(rt;
-        ran(rt.alloc(), &worker, &moment, &[0; 14])?.exit,
-        exit(Verdict::Tx, 2)
-    );
-    assert_eq!(rt;
-        ran(rt.alloc(), &time, &moment, &[0; 14])?.exit,
-        exit(Verdict::Drop, 2)
-    );
+    for (name, helper, verdict) in MOMENTS {
+        let head = [call(helper)];
+        let want = exit(verdict, 2);
+        ends(
+            &rt,
+            rt.alloc(),
+            &moment,
+            &head,
+            &[EXIT],
+            &[0; 14],
+            want,
+            name,
+        )?;
+    }
     Ok(())
 }
 
@@ -217,13 +206,15 @@ fn a_spilled_context(rt: HostRuntime) -> Result<(), Fail> {
         load(Size::U64, R2, R10, -8),
         load(Size::U32, R0, R2, 12),
     ];
-    let verified = accepted(rt.alloc(), &[], &head, &[EXIT])?;
+    let want = exit(Verdict::Drop, 4);
     ends(
         &rt,
         rt.alloc(),
-        &verified,
+        &MOMENT,
+        &head,
+        &[EXIT],
         &[0; 14],
-        exit(Verdict::Drop, 4),
+        want,
         "drop",
     )
 }
@@ -236,15 +227,17 @@ fn a_spilled_packet_pointer(rt: HostRuntime) -> Result<(), Fail> {
         load(Size::U8, R0, R5, 13),
         EXIT,
     ];
-    let verified = accepted(rt.alloc(), &[], &checked(14, 3), &tail)?;
     let mut bytes = [0; 14];
     bytes[13] = 3;
+    let want = exit(Verdict::Tx, 10);
     ends(
         &rt,
         rt.alloc(),
-        &verified,
+        &MOMENT,
+        &checked(14, 3),
+        &tail,
         &bytes,
-        exit(Verdict::Tx, 10),
+        want,
         "byte 13",
     )
 }
@@ -262,8 +255,7 @@ fn jumps_over_slots(rt: HostRuntime) -> Result<(), Fail> {
     for (name, number, jump, want) in JUMPS {
         let head = [mov(R0, number), jump_if(Test::Eq, R0, Source::Imm(2), 2)];
         let tail = [mov(R0, 1), jump, mov(R0, 3), EXIT];
-        let verified = accepted(rt.alloc(), &[], &head, &tail)?;
-        ends(&rt, rt.alloc(), &verified, &[0; 14], want, name)?;
+        ends(&rt, rt.alloc(), &MOMENT, &head, &tail, &[0; 14], want, name)?;
     }
     Ok(())
 }

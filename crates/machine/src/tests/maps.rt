@@ -1,15 +1,17 @@
 //! Programs that look keys up, and what they leave in the journals.
 
+ghost use Rattle.std.specs.Prelude.{◌<◌};
+
 use super::programs::{
     ARRAY, EXIT, MOMENT, OPTIONS, SMALL, accepted, add, copy, jump_if, load, look_up, mov, put,
     run_over, store,
 };
 use crate::{Exit, Stop};
-use ebpf_decode::{Insn, MapDef, MapKind, decode};
+use ebpf_decode::{Insn, decode};
 use isa::Register::{R0, R1, R2, R3, R6, R10};
 use isa::{Size, Source, Test};
 use map_port::laws::opened_serve;
-use semantics::{Call, Caller, CellRef, Entry, Key, Reply, Verdict};
+use semantics::{Call, Caller, CellRef, Entry, Key, Options, Reply, Verdict};
 use shards::Shards;
 use std::alloc::Global;
 use std::process::Abort;
@@ -69,26 +71,68 @@ fn zeros(shard: u32, offset: u64, width: u64) -> (Call, Reply) {
     (call, Reply::Word { value: 0 })
 }
 
-/// A run over shards of its own leaves the frame, and these entries in the journal of a shard.
+/// What index 0 of the array leaves in the journal, where so many of its bytes are read.
+fn found_and_read(offset: u64, width: u64) -> [(Call, Reply); 4] {
+    [
+        enter(0),
+        lookup(0, 0, found(0, 0)),
+        zeros(0, offset, width),
+        leave(0),
+    ]
+}
+
+/// What an index that the array doesn't have leaves there.
+fn not_found(index: u8) -> [(Call, Reply); 3] {
+    [enter(0), lookup(0, index, Reply::Null), leave(0)]
+}
+
+/// A run over shards of its own comes to this, and leaves the frame as it was, and these entries in the journal of a shard.
 fn leaves(
     rt: &impl Abort,
     alloc: Global,
     verified: &Verified,
+    options: Options,
     bytes: &[u8],
-    want: Exit,
+    want: Result<Exit, Stop>,
     number: u32,
     entries: &[(Call, Reply)],
     name: &str,
-) -> Result<(), Fail> {
+) -> Result<(), Fail>
+    requires { MOMENT.worker < options.workers }
+{
     let image = verified.image();
-    let mut shards = Shards::open(alloc, image, OPTIONS)?;
+    let mut shards = Shards::open(alloc, image, options)?;
     opened_serve();
     let mut frame = Frame::of(alloc, bytes)?;
-    let exit = run_over(verified, OPTIONS, &mut shards, &MOMENT, &mut frame)?;
-    assert_eq!(rt; exit, want, "{name}");
+    let result = run_over(verified, options, &mut shards, &MOMENT, &mut frame);
+    assert_eq!(rt; result, want, "{name}");
     assert_eq!(rt; frame.bytes(), bytes, "{name}");
     says(rt, &mut shards, number, entries, name);
     Ok(())
+}
+
+/// A run that looks a key up in the array, and then does this, ends so and leaves these entries.
+fn looks(
+    rt: &impl Abort,
+    alloc: Global,
+    key: i32,
+    tail: &[Insn],
+    want: Exit,
+    entries: &[(Call, Reply)],
+    name: &str,
+) -> Result<(), Fail> {
+    let verified = accepted(alloc, &ARRAY, &look_up(key), tail)?;
+    leaves(
+        rt,
+        alloc,
+        &verified,
+        OPTIONS,
+        &[0; 14],
+        Ok(want),
+        0,
+        entries,
+        name,
+    )
 }
 
 #[test]
@@ -99,33 +143,24 @@ fn a_value_past_its_null_test(rt: HostRuntime) -> Result<(), Fail> {
         mov(R0, 2),
         EXIT,
     ];
-    let first = accepted(rt.alloc(), &ARRAY, &look_up(0), &tail)?;
-    let want = [
-        enter(0),
-        lookup(0, 0, found(0, 0)),
-        zeros(0, 0, 8),
-        leave(0),
-    ];
-    leaves(
+    let want = exit(Verdict::Pass, 9);
+    looks(
         &rt,
         rt.alloc(),
-        &first,
-        &[0; 14],
-        exit(Verdict::Pass, 9),
         0,
-        &want,
+        &tail,
+        want,
+        &found_and_read(0, 8),
         "index 0",
     )?;
-    let second = accepted(rt.alloc(), &ARRAY, &look_up(1), &tail)?;
-    let want = [enter(0), lookup(0, 1, Reply::Null), leave(0)];
-    leaves(
+    let want = exit(Verdict::Pass, 8);
+    looks(
         &rt,
         rt.alloc(),
-        &second,
-        &[0; 14],
-        exit(Verdict::Pass, 8),
-        0,
-        &want,
+        1,
+        &tail,
+        want,
+        &not_found(1),
         "index 1 of one",
     )
 }
@@ -133,46 +168,17 @@ fn a_value_past_its_null_test(rt: HostRuntime) -> Result<(), Fail> {
 /// A part of a value, by the load's offset or by the pointer's.
 #[test]
 fn a_part_of_a_value(rt: HostRuntime) -> Result<(), Fail> {
-    let null = jump_if(Test::Eq, R0, Source::Imm(0), 2);
-    let want = [
-        enter(0),
-        lookup(0, 0, found(0, 0)),
-        zeros(0, 4, 2),
-        leave(0),
-    ];
-    let far = [
-        null,
-        add(R0, 0),
-        load(Size::U16, R3, R0, 4),
-        mov(R0, 2),
-        EXIT,
-    ];
-    let near = [
-        null,
-        add(R0, 4),
-        load(Size::U16, R3, R0, 0),
-        mov(R0, 2),
-        EXIT,
-    ];
-    let back = [
-        null,
-        add(R0, 6),
-        load(Size::U16, R3, R0, -2),
-        mov(R0, 2),
-        EXIT,
-    ];
-    for (name, tail) in [("far", far), ("near", near), ("back", back)] {
-        let verified = accepted(rt.alloc(), &ARRAY, &look_up(0), &tail)?;
-        leaves(
-            &rt,
-            rt.alloc(),
-            &verified,
-            &[0; 14],
-            exit(Verdict::Pass, 10),
-            0,
-            &want,
-            name,
-        )?;
+    let places = [("far", 0, 4), ("near", 4, 0), ("back", 6, -2)];
+    let want = exit(Verdict::Pass, 10);
+    for (name, further, offset) in places {
+        let tail = [
+            jump_if(Test::Eq, R0, Source::Imm(0), 2),
+            add(R0, further),
+            load(Size::U16, R3, R0, offset),
+            mov(R0, 2),
+            EXIT,
+        ];
+        looks(&rt, rt.alloc(), 0, &tail, want, &found_and_read(4, 2), name)?;
     }
     Ok(())
 }
@@ -191,35 +197,18 @@ fn a_spilled_value_and_a_spilled_null(rt: HostRuntime) -> Result<(), Fail> {
         copy(R0, R6),
         EXIT,
     ];
-    let value = accepted(rt.alloc(), &ARRAY, &look_up(0), &tail)?;
-    let want = [
-        enter(0),
-        lookup(0, 0, found(0, 0)),
-        zeros(0, 0, 8),
-        leave(0),
-    ];
-    leaves(
+    let want = exit(Verdict::Drop, 11);
+    looks(
         &rt,
         rt.alloc(),
-        &value,
-        &[0; 14],
-        exit(Verdict::Drop, 11),
         0,
-        &want,
+        &tail,
+        want,
+        &found_and_read(0, 8),
         "a value",
     )?;
-    let null = accepted(rt.alloc(), &ARRAY, &look_up(5), &tail)?;
-    let want = [enter(0), lookup(0, 5, Reply::Null), leave(0)];
-    leaves(
-        &rt,
-        rt.alloc(),
-        &null,
-        &[0; 14],
-        exit(Verdict::Tx, 11),
-        0,
-        &want,
-        "null",
-    )
+    let want = exit(Verdict::Tx, 11);
+    looks(&rt, rt.alloc(), 5, &tail, want, &not_found(5), "null")
 }
 
 /// A value that was tested is spilled, and read when it is back.
@@ -233,21 +222,15 @@ fn a_spilled_tested_value(rt: HostRuntime) -> Result<(), Fail> {
         add(R0, 3),
         EXIT,
     ];
-    let verified = accepted(rt.alloc(), &ARRAY, &look_up(0), &tail)?;
-    let want = [
-        enter(0),
-        lookup(0, 0, found(0, 0)),
-        zeros(0, 0, 8),
-        leave(0),
-    ];
-    leaves(
+    let want = exit(Verdict::Tx, 11);
+    let entries = found_and_read(0, 8);
+    looks(
         &rt,
         rt.alloc(),
-        &verified,
-        &[0; 14],
-        exit(Verdict::Tx, 11),
         0,
-        &want,
+        &tail,
+        want,
+        &entries,
         "3 more than zero",
     )
 }
@@ -261,27 +244,26 @@ fn the_second_of_two_maps(rt: HostRuntime) -> Result<(), Fail> {
     head[3] = Insn::Ldmap { dst: R1, map: 1 };
     let tail = [mov(R0, 2), EXIT];
     let verified = accepted(rt.alloc(), &maps, &head, &tail)?;
-    let want = [enter(1), lookup(1, 2, found(1, 2)), leave(1)];
-    leaves(
-        &rt,
-        rt.alloc(),
-        &verified,
-        &[0; 14],
-        exit(Verdict::Pass, 7),
-        1,
-        &want,
-        "the second",
-    )?;
-    leaves(
-        &rt,
-        rt.alloc(),
-        &verified,
-        &[0; 14],
-        exit(Verdict::Pass, 7),
-        0,
-        &[],
-        "the first",
-    )
+    let asked = [enter(1), lookup(1, 2, found(1, 2)), leave(1)];
+    let journals: [(&str, u32, &[(Call, Reply)]); 2] = [
+        ("the second", 1, &asked),
+        ("the first", 0, &[]),
+    ];
+    for (name, number, want) in journals {
+        let ended = Ok(exit(Verdict::Pass, 7));
+        leaves(
+            &rt,
+            rt.alloc(),
+            &verified,
+            OPTIONS,
+            &[0; 14],
+            ended,
+            number,
+            want,
+            name,
+        )?;
+    }
+    Ok(())
 }
 
 /// The bytes of an image: one array, and a program that looks index 0 up and adds its number to byte 13.
@@ -319,21 +301,18 @@ const FIRST_ROWS: [(&str, u8, Verdict); 3] = [
 #[test]
 fn the_first_image(rt: HostRuntime) -> Result<(), Fail> {
     let verified = verify(rt.alloc(), decode(rt.alloc(), &FIRST_IMAGE)?)?;
-    let want = [
-        enter(0),
-        lookup(0, 0, found(0, 0)),
-        zeros(0, 0, 8),
-        leave(0),
-    ];
+    let want = found_and_read(0, 8);
     for (name, last, verdict) in FIRST_ROWS {
         let mut bytes = [0; 14];
         bytes[13] = last;
+        let ended = Ok(exit(verdict, 17));
         leaves(
             &rt,
             rt.alloc(),
             &verified,
+            OPTIONS,
             &bytes,
-            exit(verdict, 17),
+            ended,
             0,
             &want,
             name,
@@ -350,16 +329,21 @@ fn a_full_journal(rt: HostRuntime) -> Result<(), Fail> {
         code.extend_from_slice(&look_up(0))?;
     }
     let verified = accepted(rt.alloc(), &ARRAY, &code, &[mov(R0, 3), EXIT])?;
-    let image = verified.image();
-    let mut shards = Shards::open(rt.alloc(), image, SMALL)?;
-    opened_serve();
-    let mut frame = Frame::of(rt.alloc(), &[0; 14])?;
-    let result = run_over(&verified, SMALL, &mut shards, &MOMENT, &mut frame);
-    assert_eq!(rt; result, Err(Stop::JournalFull { shard: 0 }));
-    assert_eq!(rt; result.err().map(|stop| stop.number()), Some(60));
     let mut want = [lookup(0, 0, found(0, 0)); 16];
     want[0] = enter(0);
     want[15] = leave(0);
-    says(&rt, &mut shards, 0, &want, "sixteen entries");
-    Ok(())
+    let full = Stop::JournalFull { shard: 0 };
+    assert_eq!(rt; full.number(), 60);
+    let name = "sixteen entries";
+    leaves(
+        &rt,
+        rt.alloc(),
+        &verified,
+        SMALL,
+        &[0; 14],
+        Err(full),
+        0,
+        &want,
+        name,
+    )
 }

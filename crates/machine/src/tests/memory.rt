@@ -1,5 +1,7 @@
 //! Loads and stores of each size, on the packet and on the stack.
 
+ghost use Rattle.std.specs.Prelude.{◌≤◌, length};
+
 use super::programs::{EXIT, MOMENT, accepted, checked, lddw, load, mov, put, ran, store};
 use crate::Exit;
 use ebpf_decode::Insn;
@@ -12,7 +14,7 @@ use std::test::Fail;
 
 const NUMBER: u64 = 0x1122334455667788;
 
-/// A run passes after so many instructions, and the frame then begins with these bytes.
+/// A run passes after so many instructions, and the frame, as long as before, begins with these bytes.
 fn passes(
     rt: &impl Abort,
     alloc: Global,
@@ -22,7 +24,9 @@ fn passes(
     steps: u64,
     want: &[u8],
     name: &str,
-) -> Result<(), Fail> {
+) -> Result<(), Fail>
+    requires { length want.now ≤ length bytes.now }
+{
     let verified = accepted(alloc, &[], head, tail)?;
     let ran = ran(alloc, &verified, &MOMENT, bytes)?;
     let exit = Exit {
@@ -30,7 +34,7 @@ fn passes(
         steps,
     };
     assert_eq!(rt; ran.exit, exit, "{name}");
-    assert!(rt; ran.frame.len() >= want.len(), "{name}");
+    assert!(rt; ran.frame.len() == bytes.len(), "{name}");
     assert_eq!(rt; &ran.frame.bytes()[..want.len()], want, "{name}");
     Ok(())
 }
