@@ -1,18 +1,17 @@
 -- What a port serves: the calls that a run may make of it, and the words that stand for cells.
-use Rattle.std.specs.Prelude.{◌≡◌, ℕ, zero, suc, ◌<◌, ◌^◌, List, [], length, All, IsTrue, Option, Some, None, slice_get, is_some}
+use Rattle.std.specs.Prelude.{◌≡◌, ℕ, zero, suc, ◌<◌, ◌^◌, List, [], length, All, IsTrue, Option, Some, None, slice_get}
 use Rattle.isa.specs.declared.operation.AtomicOp.{AtomicOp}
 use Rattle.ebpf_decode.specs.declared.map.MapDef.{MapDef}
 use Rattle.ebpf_decode.specs.InstructionCodes.{atomic_code}
 use Rattle.semantics.specs.declared.call.CellRef.{CellRef}
 use Rattle.semantics.specs.declared.call.Call.{Call}
-use Rattle.semantics.specs.declared.call.Call.TheVariants.{Lookup, Load, Store, Atomic, Update, Delete}
+use Rattle.semantics.specs.declared.call.Call.TheVariants.{Lookup, Atomic, Update, Delete}
 use Rattle.semantics.specs.declared.call.Reply.{Reply}
 use Rattle.semantics.specs.declared.call.Reply.TheVariants.{Cell, Null}
 use Rattle.semantics.specs.Program.{Program, shard_of_key}
-use Rattle.semantics.specs.SequentialShard.{atomic_op_at}
 use Rattle.semantics.specs.History.{is_atomic_width, is_expected}
 use Rattle.abstract_state.specs.Abstraction.{Held}
-use Rattle.abstract_state.specs.Soundness.{IsServedLookup, IsServedLoad, IsHandedOut}
+use Rattle.abstract_state.specs.Soundness.{IsServedLoad}
 
 -- ---- maps and shards
 
