@@ -1,5 +1,5 @@
 -- What it means that a command is done: the files that it read and wrote, and what it printed.
-use Rattle.std.specs.Prelude.{◌≡◌, ◌≢◌, ◌↔◌, ◌≤◌, ◌++◌, ℕ, List, [], Bool, true, false, Option, IsTrue, codes, decimal, length}
+use Rattle.std.specs.Prelude.{◌≡◌, ◌≢◌, ◌↔◌, ◌++◌, ℕ, List, [], Bool, true, false, Option, IsTrue, codes, decimal, length}
 use Rattle.std.specs.Io.KnownBytes.{append_known}
 use Rattle.abstract_state.specs.declared.state.State.{State}
 use Rattle.ebpf_decode.specs.ImageContents.{Contents}

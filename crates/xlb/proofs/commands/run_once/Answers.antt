@@ -1,5 +1,4 @@
-use Rattle.std.proofs.Common.{◌≡◌, subst, sym, ℕ}
-use Rattle.semantics.specs.declared.verdict.Verdict.{Verdict}
+use Rattle.std.proofs.Common.{subst, ℕ}
 use Rattle.xlb.specs.Results.{HasRun}
 use Rattle.xlb.proofs.commands.run_once.Goals as goal
 

@@ -1,9 +1,8 @@
-use Rattle.std.proofs.Common.{◌≡◌, ◌∙◌, ap, subst, sym, ℕ, List}
+use Rattle.std.proofs.Common.{◌≡◌, ◌∙◌, ap, subst, sym, ℕ}
 use Rattle.std.proofs.lemmas.Result.{IfOk-weaker}
 use Rattle.wire.specs.FrameView.{FrameView}
 use Rattle.semantics.specs.MachineState.{initial_state}
 use Rattle.semantics.specs.declared.options.Options.{Options}
-use Rattle.shard_core.specs.JournaledShard.{JournaledShard}
 use Rattle.shards.specs.Opening.{AreOpened}
 use Rattle.map_port.specs.PlainPorts.{PortGives}
 use Rattle.machine.specs.Running.{Ends}

@@ -4,7 +4,7 @@ use Rattle.clap.specs.Simple.{App, Shape, app_of, app_of_fields, on_top, with_su
 use Rattle.clap.specs.declared.builder.command.Command.{Command}
 use Rattle.clap.specs.declared.builder.command.Command.TheOpen.{Command-F}
 use Rattle.clap.specs.declared.builder.command.Command.TheViews.{out-Command}
-use Rattle.xlb.specs.CommandLine.{program_name, check_command, run_command, disasm_command, asm_command}
+use Rattle.xlb.specs.CommandLine.{program_name}
 use Rattle.xlb.proofs.grammar.program.Goals as goal
 
 abbrev with_a_version : App → App
