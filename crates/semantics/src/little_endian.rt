@@ -1,4 +1,4 @@
-//! Numbers as bytes, the lowest first, and parts of lists of bytes. The widths of loads and stores have a straight way.
+//! Numbers as bytes, the lowest first, and parts of lists of bytes.
 
 ghost use Rattle.std.specs.Prelude.{◌≡◌, ◌+◌, ◌≤◌, ◌<◌, ◌^◌, length, take, drop};
 ghost use Rattle.semantics.specs.LittleEndian.{number_of_bytes, bytes_of_number};
@@ -11,16 +11,14 @@ pub fn number_of_bytes(bytes: &[u8]) -> u64
     ensures number { result ≡ number_of_bytes bytes.now }
     ensures below { result < 256 ^ length bytes.now }
 {
+    // A case for each width would make the callers too large to be inlined, which costs more than it gains.
     match bytes {
-        [a] => u64::from(*a),
-        [a, b] => u64::from(u16::from_le_bytes([*a, *b])),
-        [a, b, c, d] => u64::from(u32::from_le_bytes([*a, *b, *c, *d])),
         [a, b, c, d, e, f, g, h] => u64::from_le_bytes([*a, *b, *c, *d, *e, *f, *g, *h]),
         _ => number_by_byte(bytes),
     }
 }
 
-/// The same, by a turn for each byte.
+/// The same as `number_of_bytes`, by a turn for each byte.
 fn number_by_byte(bytes: &[u8]) -> u64
     requires { length bytes.now ≤ 8 }
     ensures number { result ≡ number_of_bytes bytes.now }
@@ -67,7 +65,8 @@ fn holding(items: &[u8]) -> Bytes<8>
     bytes
 }
 
-/// The same as `bytes_of_number`, by a turn for each byte.
+/// The same as `bytes_of_number`, by a turn for each byte. No store has such a width, so it stays out of its callers.
+#[inline(never)]
 fn bytes_by_byte(width: u64, number: u64) -> Bytes<8>
     requires { width ≤ 8 }
     ensures bytes { result ≡ bytes_of_number width number }
