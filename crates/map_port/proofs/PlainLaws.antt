@@ -1,6 +1,11 @@
 -- The laws of plain ports.
 use Rattle.std.proofs.Common.{◌≡◌, ◌⊎◌, inl, inr, ⊎_elim, Bool, true, false, ℕ, zero, suc, List, [], ◌∷◌, replicate, Option, Some, None, arith, refl, sym, ◌∙◌, ap, subst}
-use Rattle.std.specs.Prelude.{◌==◌, IsFalse, slice_get, slice_set, option_map}
+use Rattle.std.specs.Prelude.{◌==◌, ◌++◌, IsFalse, is_some, map, reverse, slice_get, slice_set, option_map}
+use Rattle.std.specs.List.{filter}
+use Rattle.std.proofs.lemmas.List.{append_assoc, reverse-append}
+use Rattle.semantics.specs.Reclamation.{is_worker, entered_at}
+use Rattle.semantics.specs.declared.call.Caller.TheVariants.{Worker}
+use Rattle.map_port.specs.PortLaws.{append_none}
 use Rattle.std.specs.List.{AllByRecursion}
 use Rattle.std.proofs.lemmas.Option.{slice_get_within}
 use Rattle.std.proofs.Math.Logic.{∥∥₁_map}
@@ -18,11 +23,11 @@ use Rattle.semantics.specs.History.{shard_of_call, IsLegalJournal}
 use Rattle.shard_core.specs.JournaledShard.{JournaledShard, with_entry, opened_shard}
 use Rattle.shards.specs.Opening.{AreOpened}
 use Rattle.map_port.specs.Exchanges.{Exchange, IsChain}
-use Rattle.map_port.specs.Asking.{is_in, left, entered, all_left, CannotEnter, CannotCall, IsTurnedAwayAmong}
+use Rattle.map_port.specs.Asking.{is_in, left, entered, all_left, leave_entry, CannotEnter, CannotCall, IsTurnedAwayAmong}
 use Rattle.map_port.specs.PortView.{PortView, AreBytes, SetsBytes, IsShardOf, AreShardsOf, ServesMaps, IsGivenBy}
 use Rattle.map_port.specs.declared.plain.PlainPort.{PlainPort}
 use Rattle.map_port.specs.PlainPorts.{view_of, IsSamePort, PortGives, PortRefuses}
-use Rattle.map_port.specs.Sessions.{with_entries, begun, session, entries_at, IsVisited}
+use Rattle.map_port.specs.Sessions.{entry_of, is_at, with_entries, begun, session, entries_at, IsVisited}
 use Rattle.map_port.proofs.ReadyLemmas.{shards_with, bytes_with_entry}
 use Rattle.map_port.specs.PortLaws.{set_here}
 use Rattle.map_port.proofs.SessionLemmas.{after_outside, chain_worker, left_at, set_other, IsWritten, IsAdded, added_nothing, added_enter, entered_added}
@@ -122,7 +127,52 @@ opened_serve maps options shards opened = ∣ record {
   each = λ number shard known. shard_opened maps options number (plan_at maps options number) shard refl (sym (opened.each number (slice_get_within shards number shard known)) ∙ known);
 } ∣₁
 
+outside_opened : (worker : ℕ) (planned : Option ShardPlan) (shard : JournaledShard) → option_map opened_shard planned ≡ Some shard → IsFalse (is_in worker shard)
+outside_opened worker None shard is = absurd cc
+outside_opened worker (Some plan) shard is =
+    let same : opened_shard plan ≡ shard = cc in
+    subst (λ (opened : JournaledShard). IsFalse (is_in worker opened)) same refl
+
+pub opened_outside : (maps : List MapDef) (options : Options) (shards : List JournaledShard) (worker number : ℕ) (shard : JournaledShard) → AreOpened maps options shards → slice_get shards number ≡ Some shard → IsFalse (is_in worker shard)
+opened_outside maps options shards worker number shard opened known =
+    outside_opened worker (plan_at maps options number) shard (sym (opened.each number (slice_get_within shards number shard known)) ∙ known)
+
 pub calls_keep_serving : (maps : List MapDef) (options : Options) (shards : List JournaledShard) (number : ℕ) (shard : JournaledShard) (entry : Entry) → ServesMaps maps options shards → slice_get shards number ≡ Some shard → SetsBytes entry.call → IsLegalJournal shard.plan (with_entry shard entry).journal → ServesMaps maps options (slice_set shards number (with_entry shard entry))
 calls_keep_serving maps options shards number shard entry serve known sets legal =
     ∥∥₁_map serve (λ (are : AreShardsOf maps options shards). shards_with maps options shards number shard (with_entry shard entry) are known refl legal
     (bytes_with_entry shard entry sets (are.each number shard known).bytes))
+
+-- ---- the sessions of another worker
+
+abbrev IsOwn : ℕ → Entry → Type 0
+IsOwn worker entry = entry.who ≡ Worker worker
+
+own_entries : (worker : ℕ) (exchanges : List Exchange) → AllByRecursion (IsOwn worker) (map (entry_of worker) exchanges)
+own_entries worker [] = tt
+own_entries worker (exchange ∷ later) = (refl, own_entries worker later)
+
+own_and_last : (worker : ℕ) (entries : List Entry) (last : Entry) → AllByRecursion (IsOwn worker) entries → IsOwn worker last → AllByRecursion (IsOwn worker) (entries ++ last ∷ [])
+own_and_last worker [] last own is = (is, tt)
+own_and_last worker (entry ∷ later) last own is = (own.0, own_and_last worker later last own.1 is)
+
+own_session : (worker number : ℕ) (entries : List Entry) → AllByRecursion (IsOwn worker) entries → AllByRecursion (IsOwn worker) (session worker number entries)
+own_session worker number [] own = tt
+own_session worker number (first ∷ later) own = (refl, (own.0, own_and_last worker later (leave_entry worker number) own.1 refl))
+
+passed_over : (worker other : ℕ) (entry : Entry) (older : List Entry) → IsFalse (worker == other) → entry.who ≡ Worker worker → entered_at other (entry ∷ older) ≡ entered_at other older
+passed_over worker other entry older differ own =
+    let skipped : is_worker other entry.who ≡ false = ap (is_worker other) own ∙ differ in
+    rw skipped refl
+
+still_entered : (worker other : ℕ) (entries journal : List Entry) → IsFalse (worker == other) → AllByRecursion (IsOwn worker) entries → entered_at other (reverse (journal ++ entries)) ≡ entered_at other (reverse journal)
+still_entered worker other [] journal differ own = ap (λ list. entered_at other (reverse list)) (append_none journal)
+still_entered worker other (entry ∷ later) journal differ own =
+    ap (λ list. entered_at other (reverse list)) (sym (append_assoc journal (entry ∷ []) later))
+    ∙ still_entered worker other later (journal ++ entry ∷ []) differ own.1
+    ∙ ap (entered_at other) (reverse-append journal (entry ∷ []))
+    ∙ passed_over worker other entry (reverse journal) differ own.0
+
+pub leaves_others : (worker other number : ℕ) (shard : JournaledShard) (exchanges : List Exchange) → IsFalse (worker == other) → is_in other (with_entries shard (session worker shard.plan.number (entries_at worker number exchanges))) ≡ is_in other shard
+leaves_others worker other number shard exchanges differ =
+    ap is_some (still_entered worker other (session worker shard.plan.number (entries_at worker number exchanges)) shard.journal differ
+    (own_session worker shard.plan.number (entries_at worker number exchanges) (own_entries worker (filter (is_at number) exchanges))))

@@ -73,9 +73,21 @@ abbrev pub IsOutsideAll : Type 0
 IsOutsideAll = (worker : ℕ) (shards : List JournaledShard) (number : ℕ) (shard : JournaledShard) →
     slice_get (all_left worker shards) number ≡ Some shard → IsFalse (is_in worker shard)
 
+-- a worker's session leaves every other worker inside or outside, as it was
+abbrev pub LeavesOthersAlone : Type 0
+LeavesOthersAlone =
+    (worker other number : ℕ) (shard : JournaledShard) (exchanges : List Exchange) → IsFalse (worker == other) →
+    is_in other (with_entries shard (session worker shard.plan.number (entries_at worker number exchanges))) ≡ is_in other shard
+
 -- shards that were opened are those of the maps, and stay that by every call that sets bytes, whoever makes it
 abbrev pub OpenedServe : Type 0
 OpenedServe = (maps : List MapDef) (options : Options) (shards : List JournaledShard) → AreOpened maps options shards → ServesMaps maps options shards
+
+-- and nobody is inside one that was opened
+abbrev pub OpenedAreOutside : Type 0
+OpenedAreOutside =
+    (maps : List MapDef) (options : Options) (shards : List JournaledShard) (worker number : ℕ) (shard : JournaledShard) → AreOpened maps options shards →
+    slice_get shards number ≡ Some shard → IsFalse (is_in worker shard)
 
 abbrev pub CallsKeepServing : Type 0
 CallsKeepServing =

@@ -1,6 +1,6 @@
 //! Laws of plain ports: each is the contract of a function that does nothing.
 
-ghost use Rattle.map_port.specs.Sessions.{WritesSessions, WritesRefusedSessions, StaysOnePort, IsOutsideAll, OpenedServe, CallsKeepServing};
+ghost use Rattle.map_port.specs.Sessions.{WritesSessions, WritesRefusedSessions, StaysOnePort, IsOutsideAll, LeavesOthersAlone, OpenedServe, OpenedAreOutside, CallsKeepServing};
 
 /// From a port whose worker is outside a shard: what the shard was asked and what it answered is what its journal then has more,
 /// between one Enter and one Leave.
@@ -24,12 +24,23 @@ pub fn finish_leaves()
     ensures { IsOutsideAll }
 {}
 
+/// A worker's session leaves every other worker inside or outside a shard, as it was: so runs of several workers, one after the
+/// other, each write their sessions.
+pub fn leaves_others_alone()
+    ensures { LeavesOthersAlone }
+{}
+
 /// Shards that were opened are those of the maps.
 pub fn opened_serve()
     ensures { OpenedServe }
 {}
 
-/// They stay that by every call that sets bytes, whoever makes it.
+/// And nobody is inside one of them: so what is said of a worker's sessions holds of the first run over them.
+pub fn opened_are_outside()
+    ensures { OpenedAreOutside }
+{}
+
+/// Shards of the maps stay that by every call that sets bytes, whoever makes it.
 pub fn calls_keep_serving()
     ensures { CallsKeepServing }
 {}

@@ -114,6 +114,8 @@ impl<'a> MapPort for PlainPort<'a> {
 
     ghost cell_of = { λ port. cell_of_handle };
 
+    ghost stays = { λ before after call refused. refused.refused.same_maps };
+
     ghost keeps = { λ before after call reply given. keeps_by (view_of before) (view_of after) call reply given.given };
 
     ghost hands_out = { λ before after call reply given. hands_out_by (view_of before) (view_of after) call reply given.given };

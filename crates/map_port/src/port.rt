@@ -88,6 +88,9 @@ pub trait MapPort {
         ensures refuses { OnErr result (refuses self.old (delete_call (serves self.old) map key.now) self.new) }
         ensures names_the_shard { IfErr result (λ fault. fault.shard ≡ shard_of_call (delete_call (serves self.old) map key.now)) };
 
+    /// A refusal leaves the maps as they are, so that the next run can be made of the same port.
+    ghost stays: { (before after : Self) (call : Call) → refuses before call after → serves after ≡ serves before };
+
     /// A call leaves the maps as they are, and what was handed out stays so, under the same handle.
     ghost keeps: { (before after : Self) (call : Call) (reply : Reply) → gives before call reply after → Keeps (serves before) (serves after) (has_handed_out before) (has_handed_out after) (cell_of before) (cell_of after) };
 
