@@ -32,7 +32,7 @@ AreKept before after = (name bytes : List ℕ) → (before name bytes ↔ after 
 
 -- each file but the one of this name has the bytes that it had
 abbrev pub AreOthersKept : FileBytes → FileBytes → List ℕ → Type 0
-AreOthersKept before after written = (name bytes : List ℕ) → name ≢ written → before name bytes → after name bytes
+AreOthersKept before after written = (name bytes : List ℕ) → name ≢ written → (before name bytes ↔ after name bytes)
 
 -- the file of this name is the encoding of the image
 pub record IsImageFile (files : FileBytes) (name : List ℕ) (image : Contents) : Type 0 where

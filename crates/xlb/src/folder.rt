@@ -37,7 +37,7 @@ pub trait Folder {
     fn write(&mut self, alloc: Global, name: &str, bytes: &[u8]) -> Result<(), FolderFault>
         requires { failure_count self.old < 2 ^ 64 - 1 }
         ensures written { OnOk result (holds self.new name.now bytes.now) }
-        ensures others { (other bytes : List ℕ) → other ≢ name.now → holds self.old other bytes → holds self.new other bytes }
+        ensures others { (other bytes : List ℕ) → other ≢ name.now → (holds self.old other bytes ↔ holds self.new other bytes) }
         ensures steady { OnOk result (failure_count self.new ≡ failure_count self.old) }
         ensures device { IsErrOf result FolderFault.Device ↔ (failure_count self.new ≡ failure_count self.old + 1) }
         ensures no_device { IsErrOf result FolderFault.Memory → failure_count self.new ≡ failure_count self.old };

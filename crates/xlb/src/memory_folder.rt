@@ -1,6 +1,6 @@
 //! Files in memory, which tell their bytes.
 
-ghost use Rattle.std.specs.Prelude.{◌≡◌, Some, option_map};
+ghost use Rattle.std.specs.Prelude.{◌≡◌, ℕ, List, Some, None, option_map};
 ghost use Rattle.std.specs.BTreeMap.{get_by_text};
 
 use crate::folder::{Folder, FolderFault};
@@ -17,7 +17,8 @@ pub struct MemoryFolder {
 impl MemoryFolder {
     /// A folder with no files.
     pub fn new(alloc: Global) -> MemoryFolder
-        ensures { result.failures ≡ 0 }
+        ensures empty { (name : List ℕ) → get_by_text result.files name ≡ None }
+        ensures no_failures { result.failures ≡ 0 }
     {
         MemoryFolder {
             files: BTreeMap::new(alloc),
