@@ -9,6 +9,7 @@ use Rattle.semantics.specs.RegisterValue.{RegisterValue, Number, ContextPointer,
 use Rattle.semantics.specs.RegisterValue as meaning
 use Rattle.semantics.specs.MachineState.{StackByte, Unwritten, Written, MachineState, register_value}
 use Rattle.semantics.specs.Memory.{stack_place}
+pub use Rattle.semantics.specs.ServedCalls.{Held}
 use Rattle.semantics.specs.Semantics.{stored_places}
 use Rattle.abstract_scalar.specs.declared.interval.Interval.{Interval}
 use Rattle.abstract_scalar.specs.Intervals.{Covers}
@@ -26,10 +27,6 @@ pub record Ids : Type 0 where
   pub base : ℕ → ℕ
   -- what the lookup of an id found
   pub found : ℕ → Option CellRef
-
--- which cells are held, by map, shard and cell id
-abbrev pub Held : Type 0
-Held = ℕ → ℕ → ℕ → Bool
 
 -- what a kind may speak of: the maps, what is held, the ids, the slot of the next instruction, and the packet as it now is
 pub record Setting : Type 0 where

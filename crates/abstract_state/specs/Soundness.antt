@@ -1,63 +1,24 @@
 -- Where an instruction leads a run, by what flows out of it: it does not trap, and what is known there is sound.
-use Rattle.std.specs.Prelude.{◌≡◌, ◌⊎◌, ℕ, ◌+◌, ◌%◌, ◌<◌, ◌≤◌, ◌^◌, ℤ, pos, ◌+ℤ◌, List, length, All, IsTrue, Some, Ok, slice_get}
+use Rattle.std.specs.Prelude.{◌≡◌, ◌⊎◌, ℕ, ◌+◌, ◌<◌, ◌^◌, ℤ, pos, ◌+ℤ◌, List, length, IsTrue, Ok}
 use Rattle.ebpf_decode.specs.declared.insn.Insn.{Insn}
 use Rattle.ebpf_decode.specs.declared.insn.Insn.TheVariants.{Ja, Ja32, JumpIf}
 use Rattle.ebpf_decode.specs.declared.map.MapDef.{MapDef}
 use Rattle.ebpf_decode.specs.InstructionEncoding.{slot_count, FieldsFit}
-use Rattle.semantics.specs.declared.call.CellRef.{CellRef}
-use Rattle.semantics.specs.declared.call.Call.{Call}
-use Rattle.semantics.specs.declared.call.Call.TheVariants.{Lookup, Load}
 use Rattle.semantics.specs.declared.call.Reply.{Reply}
-use Rattle.semantics.specs.declared.call.Reply.TheVariants.{Cell}
 use Rattle.semantics.specs.MachineState.{MachineState, initial_state}
-use Rattle.semantics.specs.Program.{Program, shard_of_key}
+use Rattle.semantics.specs.Program.{Program}
 use Rattle.semantics.specs.Step.{Step, Continues, CallsMap, Exits}
-use Rattle.semantics.specs.History.{is_load_width}
+pub use Rattle.semantics.specs.ServedCalls.{IsServedLookup, IsServedLoad, IsServed, IsHandedOut, HoldsAfter}
 use Rattle.semantics.specs.System.{IsInputFrame, input_frame}
 use Rattle.semantics.specs.RunTrace.{IsReplyTo}
 use Rattle.semantics.specs.Semantics.{instruction_step}
 use Rattle.abstract_state.specs.declared.flow.Flow.{Flow}
 use Rattle.abstract_state.specs.declared.flow.Flow.TheVariants.{Ends, Falls, Jumps, Splits}
 use Rattle.abstract_state.specs.declared.state.State.{State}
-use Rattle.abstract_state.specs.States.{value_size_of, opening_state, word_of}
+use Rattle.abstract_state.specs.States.{opening_state, word_of}
 use Rattle.abstract_state.specs.Join.{bytes_of_word, join_of}
 use Rattle.abstract_state.specs.Flow.{flow_of}
 use Rattle.abstract_state.specs.Abstraction.{Held, Abstracts}
-
--- ---- calls
-
--- a lookup of a key of a map that the program has, in the key's shard
-pub record IsServedLookup (program : Program) (shard : ℕ) (key : List ℕ) : Type 0 where
-  pub map : ℕ
-  pub definition : MapDef
-  pub known : slice_get program.maps map ≡ Some definition
-  pub key_size : length key ≡ definition.key_size
-  pub bytes : All (λ byte. byte < 256) key
-  pub own : shard ≡ shard_of_key map definition.kind program.shards key
-
--- a load from a cell that is held, inside its value and at a multiple of its width
-pub record IsServedLoad (program : Program) (held : Held) (cell : CellRef) (offset width : ℕ) : Type 0 where
-  pub map : ℕ
-  pub holds : IsTrue (held map cell.shard cell.id)
-  pub is_width : IsTrue (is_load_width width)
-  pub inside : offset + width ≤ value_size_of (slice_get program.maps map)
-  pub aligned : offset % width ≡ 0
-
-abbrev pub IsServed : Program → Held → Call → Type 0
-IsServed program held (Lookup shard key) = IsServedLookup program shard key
-IsServed program held (Load cell offset width) = IsServedLoad program held cell offset width
-IsServed program held call = ⊥
-
--- a lookup gives the worker the cell that it found, and nothing that was held is let go
-abbrev pub IsHandedOut : Program → Held → Call → Reply → Type 0
-IsHandedOut program held (Lookup shard key) (Cell cell) =
-    (map : ℕ) (definition : MapDef) → slice_get program.maps map ≡ Some definition →
-    shard ≡ shard_of_key map definition.kind program.shards key → IsTrue (held map cell.shard cell.id)
-IsHandedOut program held call reply = Unit {0}
-
-pub record HoldsAfter (program : Program) (held held' : Held) (call : Call) (reply : Reply) : Type 0 where
-  pub kept : (map shard cell : ℕ) → IsTrue (held map shard cell) → IsTrue (held' map shard cell)
-  pub handed_out : IsHandedOut program held' call reply
 
 -- ---- where a run goes on
 

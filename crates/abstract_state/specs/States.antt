@@ -1,8 +1,8 @@
 -- What is known of a run: the kinds of its registers and the words of its stack, and where a run begins.
-use Rattle.std.specs.Prelude.{ℕ, Bool, true, false, List, [], ◌∷◌, Option, Some, None, Result, Ok, Err, replicate, slice_index_or, slice_set, if◌then◌else◌}
+use Rattle.std.specs.Prelude.{ℕ, Bool, true, false, List, [], ◌∷◌, Result, Ok, Err, replicate, slice_index_or, slice_set, if◌then◌else◌}
 use Rattle.isa.specs.declared.operation.Register.{Register}
 use Rattle.ebpf_decode.specs.InstructionCodes.{register_number}
-use Rattle.ebpf_decode.specs.declared.map.MapDef.{MapDef}
+pub use Rattle.semantics.specs.Program.{value_size_of, key_size_of}
 use Rattle.abstract_state.specs.declared.kind.Kind.{Kind}
 use Rattle.abstract_state.specs.declared.kind.Kind.TheVariants.{Unset, Ctx, Stack}
 use Rattle.abstract_state.specs.declared.kind.StackWord.{StackWord}
@@ -46,16 +46,6 @@ no_bytes = replicate 8 false
 
 abbrev pub all_bytes : List Bool
 all_bytes = replicate 8 true
-
--- ---- maps
-
-abbrev pub value_size_of : Option MapDef → ℕ
-value_size_of (Some definition) = definition.value_size
-value_size_of None = 0
-
-abbrev pub key_size_of : Option MapDef → ℕ
-key_size_of (Some definition) = definition.key_size
-key_size_of None = 0
 
 -- ---- where a run begins: R1 is the context, R10 the frame pointer
 

@@ -1,12 +1,12 @@
 //! Runs of an accepted image, each over shards of its own.
 
 ghost use Rattle.std.specs.Prelude.{◌≡◌, ◌≤◌, IfOk, length};
-ghost use Rattle.map_port.specs.Sessions.{OpenedServe};
+ghost use Rattle.shard_port.specs.Sessions.{OpenedServe};
 
 use machine::{Exit, Moment, run};
-use map_port::PlainPort;
-use map_port::laws::opened_serve;
 use semantics::{Options, Verdict};
+use shard_port::PlainPort;
+use shard_port::laws::opened_serve;
 use shards::Shards;
 use std::alloc::Global;
 use verifier::Verified;

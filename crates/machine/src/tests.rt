@@ -3,8 +3,8 @@
 ghost use Rattle.std.specs.Prelude.{◌<◌};
 
 mod arithmetic;
-mod maps;
 mod memory;
+mod nothing;
 mod programs;
 
 use crate::{Exit, Moment, Stop};

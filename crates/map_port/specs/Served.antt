@@ -10,8 +10,8 @@ use Rattle.semantics.specs.declared.call.Reply.{Reply}
 use Rattle.semantics.specs.declared.call.Reply.TheVariants.{Cell, Null}
 use Rattle.semantics.specs.Program.{Program, shard_of_key}
 use Rattle.semantics.specs.History.{is_atomic_width, is_expected}
-use Rattle.abstract_state.specs.Abstraction.{Held}
-use Rattle.abstract_state.specs.Soundness.{IsServedLoad}
+use Rattle.semantics.specs.ServedCalls.{Held}
+use Rattle.semantics.specs.ServedCalls.{IsServedLoad}
 
 -- ---- maps and shards
 

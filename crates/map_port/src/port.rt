@@ -8,12 +8,11 @@ ghost use Rattle.semantics.specs.declared.call.Reply.{Reply};
 ghost use Rattle.semantics.specs.declared.call.Reply.TheVariants.{Word, Done, Answer};
 ghost use Rattle.semantics.specs.History.{shard_of_call};
 ghost use Rattle.semantics.specs.RunTrace.{IsReplyTo};
-ghost use Rattle.abstract_state.specs.Soundness.{IsHandedOut};
+ghost use Rattle.semantics.specs.ServedCalls.{IsHandedOut};
 ghost use Rattle.map_port.specs.Served.{Maps, program_over, lookup_call, update_call, delete_call, atomic_call, IsKeyOf, IsPairOf, IsReadable, IsStorable, IsAtomic, handle_limit, found_reply, Keeps};
 
 use isa::AtomicOp;
-use semantics::{Key, Value};
-use shard_core::JournalFull;
+use semantics::{JournalFull, Key, Value};
 
 /// The maps that a run calls. What a call gives is a relation of the port before, the call, its reply and the port after.
 ///

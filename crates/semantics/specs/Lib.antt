@@ -1,3 +1,4 @@
+pub mod FaultText
 pub mod Padding
 pub mod LittleEndian
 pub mod RegisterValue
@@ -17,6 +18,7 @@ pub mod Reclamation
 pub mod LeastRecentlyUsed
 pub mod SequentialShard
 pub mod History
+pub mod ServedCalls
 pub mod Laws
 pub mod OneThread
 pub mod System

@@ -6,6 +6,7 @@ pub mod bytes;
 pub mod call;
 mod changes;
 pub mod conditions;
+mod full;
 pub mod history;
 pub mod laws;
 pub mod little_endian;
@@ -17,6 +18,7 @@ pub mod verdict;
 
 pub use bytes::{Key, Value};
 pub use call::{Call, Caller, CellRef, Entry, Reply};
+pub use full::JournalFull;
 pub use one_thread::OneThreadShard;
 pub use options::Options;
 pub use plan::{PresentKey, RetiredCell, ShardPlan};

@@ -1,4 +1,3 @@
 pub mod JournaledShard
 pub mod ArrayShard
 pub mod Laws
-pub mod FaultText

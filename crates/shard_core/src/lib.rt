@@ -2,13 +2,13 @@
 #![tactic(auto)]
 
 mod array;
-mod full;
 mod inside;
 pub mod laws;
 pub mod shard;
 
-pub use full::JournalFull;
-pub use semantics::{Call, Caller, CellRef, Entry, Key, Options, Reply, ShardPlan, Value};
+pub use semantics::{
+    Call, Caller, CellRef, Entry, JournalFull, Key, Options, Reply, ShardPlan, Value,
+};
 pub use shard::Shard;
 
 #[cfg(test)]

@@ -7,9 +7,8 @@ ghost use Rattle.shard_core.specs.ArrayShard.{IsArrayPlan};
 ghost use Rattle.shard_core.specs.JournaledShard.{opened_shard, sequential_reply, with_entry};
 
 use crate::array::{change, opening_cells, reply_of};
-use crate::full::JournalFull;
 use crate::inside::{Flags, count, note};
-use semantics::{Call, Caller, Entry, Reply, ShardPlan, Value};
+use semantics::{Call, Caller, Entry, JournalFull, Reply, ShardPlan, Value};
 use std::alloc::{AllocError, Global};
 use std::marker::Model;
 

@@ -2,10 +2,9 @@
 
 ghost use Rattle.shard_core.specs.ArrayShard.{IsArrayPlan};
 
-use crate::full::JournalFull;
 use crate::shard::Shard;
 use ebpf_decode::{MapDef, MapKind};
-use semantics::{Call, Caller, CellRef, Key, Reply, ShardPlan, Value};
+use semantics::{Call, Caller, CellRef, JournalFull, Key, Reply, ShardPlan, Value};
 use std::process::Abort;
 use std::test::Fail;
 

@@ -16,8 +16,8 @@ use Rattle.semantics.specs.declared.verdict.Verdict.{Verdict}
 use Rattle.semantics.specs.declared.verdict.Verdict.TheVariants.{Aborted, Drop, Pass, Tx}
 use Rattle.semantics.specs.MachineState.{initial_state}
 use Rattle.shards.specs.Opening.{AreOpened}
-use Rattle.map_port.specs.PlainPorts.{PortGives}
-use Rattle.map_port.specs.declared.plain.PlainPort.{PlainPort}
+use Rattle.shard_port.specs.PlainPorts.{PortGives}
+use Rattle.shard_port.specs.declared.plain.PlainPort.{PlainPort}
 use Rattle.machine.specs.Running.{Ends}
 use Rattle.xlb.specs.declared.command_line.Settings.{Settings}
 use Rattle.xlb.specs.declared.command_line.Settings.TheVariants.{Check, Run, Disasm, Asm}

@@ -1,34 +1,17 @@
 //! Instructions and programs, by the words of a listing, and the runs of them.
 
-ghost use Rattle.std.specs.Prelude.{◌≡◌, ◌<◌};
-ghost use Rattle.semantics.specs.ShardPlan.{AreOptions};
-ghost use Rattle.map_port.specs.PortView.{ServesMaps};
+ghost use Rattle.std.specs.Prelude.{◌<◌};
 
-use crate::{Exit, Moment, Stop, run};
+use super::nothing::NothingPort;
+use crate::{Exit, Moment, run};
 use ebpf_decode::{Image, Insn, MapDef, MapKind};
 use isa::Register::{R0, R1, R2, R3, R4, R10};
 use isa::{AluOp, Register, Size, Source, Test, Width};
-use map_port::PlainPort;
-use map_port::laws::opened_serve;
-use semantics::Options;
-use shards::Shards;
 use std::alloc::Global;
 use std::process::Abort;
 use std::test::Fail;
 use verifier::{Verified, verify};
 use wire::Frame;
-
-pub(super) const OPTIONS: Options = Options {
-    workers: 8,
-    shards: 1,
-    journal: 65_536,
-};
-
-pub(super) const SMALL: Options = Options {
-    workers: 8,
-    shards: 1,
-    journal: 16,
-};
 
 /// A run of worker 2 at the time 3.
 pub(super) const MOMENT: Moment = Moment {
@@ -150,26 +133,6 @@ pub(super) fn accepted(
     Ok(verify(alloc, Image::of(all_maps, code)?)?)
 }
 
-/// One run over the shards of the image's maps.
-pub(super) fn run_over(
-    verified: &Verified,
-    options: Options,
-    shards: &mut Shards,
-    moment: &Moment,
-    frame: &mut Frame,
-) -> Result<Exit, Stop>
-    requires options { AreOptions verified.now.maps options }
-    requires shards { ServesMaps verified.now.maps options shards.old }
-    requires worker { moment.now.worker < 8 }
-    requires among { moment.now.worker < options.workers }
-    requires headroom { frame.old.headroom ≡ 256 }
-{
-    let mut port = PlainPort::over(verified.image(), options, shards, moment.worker);
-    let result = run(verified, frame, moment, &mut port);
-    port.finish();
-    result
-}
-
 /// How a run ended, and the frame that it left.
 #[derive(Drop)]
 pub(super) struct Outcome {
@@ -177,7 +140,7 @@ pub(super) struct Outcome {
     pub(super) frame: Frame,
 }
 
-/// A run over shards of its own, on a frame of these bytes.
+/// A run over a port of the image's maps in which no key is found, on a frame of these bytes.
 pub(super) fn ran(
     alloc: Global,
     verified: &Verified,
@@ -186,11 +149,9 @@ pub(super) fn ran(
 ) -> Result<Outcome, Fail>
     requires { moment.now.worker < 8 }
 {
-    let image = verified.image();
-    let mut shards = Shards::open(alloc, image, OPTIONS)?;
-    opened_serve();
+    let mut port = NothingPort::over(verified.image());
     let mut frame = Frame::of(alloc, bytes)?;
-    let exit = run_over(verified, OPTIONS, &mut shards, moment, &mut frame)?;
+    let exit = run(verified, &mut frame, moment, &mut port)?;
     Ok(Outcome { exit, frame })
 }
 

@@ -4,7 +4,7 @@ use Rattle.wire.specs.FrameView.{FrameView}
 use Rattle.semantics.specs.MachineState.{initial_state}
 use Rattle.semantics.specs.declared.options.Options.{Options}
 use Rattle.shards.specs.Opening.{AreOpened}
-use Rattle.map_port.specs.PlainPorts.{PortGives}
+use Rattle.shard_port.specs.PlainPorts.{PortGives}
 use Rattle.machine.specs.Running.{Ends}
 use Rattle.xlb.specs.Results.{run_options}
 use Rattle.xlb.proofs.commands.run_over.Goals as goal

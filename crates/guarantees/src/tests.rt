@@ -1,0 +1,4 @@
+//! Programs that call maps, run over shards.
+
+mod programs;
+mod runs;

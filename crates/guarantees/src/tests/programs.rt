@@ -1,0 +1,153 @@
+//! Instructions and programs, by the words of a listing, and the runs of them.
+
+ghost use Rattle.std.specs.Prelude.{◌≡◌, ◌<◌};
+ghost use Rattle.semantics.specs.ShardPlan.{AreOptions};
+ghost use Rattle.shard_port.specs.PortView.{ServesMaps};
+
+use ebpf_decode::{Image, Insn, MapDef, MapKind};
+use isa::Register::{R1, R2, R10};
+use isa::{AluOp, Register, Size, Source, Test, Width};
+use machine::{Exit, Moment, Stop, run};
+use semantics::Options;
+use shard_port::PlainPort;
+use shards::Shards;
+use std::alloc::Global;
+use std::test::Fail;
+use verifier::{Verified, verify};
+use wire::Frame;
+
+pub(super) const OPTIONS: Options = Options {
+    workers: 8,
+    shards: 1,
+    journal: 65_536,
+};
+
+pub(super) const SMALL: Options = Options {
+    workers: 8,
+    shards: 1,
+    journal: 16,
+};
+
+/// A run of worker 2 at the time 3.
+pub(super) const MOMENT: Moment = Moment {
+    now_ns: 3,
+    worker: 2,
+};
+
+/// One array of one entry of eight bytes.
+pub(super) const ARRAY: [MapDef; 1] = [MapDef {
+    kind: MapKind::Array,
+    key_size: 4,
+    value_size: 8,
+    max_entries: 1,
+}];
+
+pub(super) const EXIT: Insn = Insn::Exit;
+
+pub(super) fn alu(op: AluOp, dst: Register, source: Source) -> Insn {
+    Insn::Alu {
+        width: Width::Bits64,
+        op,
+        dst,
+        source,
+    }
+}
+
+pub(super) fn mov(dst: Register, number: i32) -> Insn {
+    alu(AluOp::Mov, dst, Source::Imm(number))
+}
+
+pub(super) fn copy(dst: Register, src: Register) -> Insn {
+    alu(AluOp::Mov, dst, Source::Reg(src))
+}
+
+pub(super) fn add(dst: Register, number: i32) -> Insn {
+    alu(AluOp::Add, dst, Source::Imm(number))
+}
+
+pub(super) fn load(size: Size, dst: Register, src: Register, offset: i16) -> Insn {
+    Insn::Ldx {
+        size,
+        dst,
+        src,
+        offset,
+    }
+}
+
+pub(super) fn store(size: Size, dst: Register, offset: i16, src: Register) -> Insn {
+    Insn::Stx {
+        size,
+        dst,
+        src,
+        offset,
+    }
+}
+
+pub(super) fn put(size: Size, dst: Register, offset: i16, immediate: i32) -> Insn {
+    Insn::St {
+        size,
+        dst,
+        offset,
+        immediate,
+    }
+}
+
+pub(super) fn jump_if(test: Test, dst: Register, source: Source, distance: i16) -> Insn {
+    Insn::JumpIf {
+        width: Width::Bits64,
+        test,
+        dst,
+        source,
+        distance,
+    }
+}
+
+pub(super) fn call(helper: i32) -> Insn {
+    Insn::CallHelper { helper }
+}
+
+/// The value of a key of map 0, or null, in R0: five instructions.
+pub(super) fn look_up(key: i32) -> [Insn; 5] {
+    [
+        put(Size::U32, R10, -4, key),
+        copy(R2, R10),
+        add(R2, -4),
+        Insn::Ldmap { dst: R1, map: 0 },
+        call(1),
+    ]
+}
+
+/// An accepted image of the maps and a program in two parts.
+pub(super) fn accepted(
+    alloc: Global,
+    maps: &[MapDef],
+    head: &[Insn],
+    tail: &[Insn],
+) -> Result<Verified, Fail> {
+    let mut all_maps = Vec::new(alloc);
+    all_maps.extend_from_slice(maps)?;
+    let mut code = Vec::new(alloc);
+    code.extend_from_slice(head)?;
+    code.extend_from_slice(tail)?;
+    Ok(verify(alloc, Image::of(all_maps, code)?)?)
+}
+
+/// One run over the shards of the image's maps.
+pub(super) fn run_over(
+    verified: &Verified,
+    options: Options,
+    shards: &mut Shards,
+    moment: &Moment,
+    frame: &mut Frame,
+) -> Result<Exit, Stop>
+    requires options { AreOptions verified.now.maps options }
+    requires shards { ServesMaps verified.now.maps options shards.old }
+    requires worker { moment.now.worker < 8 }
+    requires among { moment.now.worker < options.workers }
+    requires headroom { frame.old.headroom ≡ 256 }
+{
+    let mut port = PlainPort::over(verified.image(), options, shards, moment.worker);
+    let result = run(verified, frame, moment, &mut port);
+    port.finish();
+    result
+}

@@ -1,5 +1,0 @@
-use Rattle.map_port.proofs.SessionLemmas as lemmas
-use Rattle.map_port.proofs.laws.finish_leaves.Goals as goal
-
-pub returns : goal.returns
-returns c = lemmas.outside_all

@@ -1,5 +1,0 @@
-use Rattle.map_port.proofs.PlainLaws as lemmas
-use Rattle.map_port.proofs.laws.opened_are_outside.Goals as goal
-
-pub returns : goal.returns
-returns c = lemmas.opened_outside

@@ -1,5 +1,0 @@
-use Rattle.map_port.proofs.PlainLaws as lemmas
-use Rattle.map_port.proofs.laws.stays_one_port.Goals as goal
-
-pub returns : goal.returns
-returns c = lemmas.stays_one_port

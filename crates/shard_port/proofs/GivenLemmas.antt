@@ -1,0 +1,189 @@
+-- What the calls of each kind give.
+use Rattle.std.proofs.Common.{◌≡◌, ℕ, zero, suc, ◌+◌, ◌-◌, ◌*◌, ◌/◌, ◌%◌, ◌^◌, ◌<◌, ◌≤◌, Bool, true, false, ◌&&◌, nat_lt, ℤ, List, [], ◌∷◌, length, reverse, Option, Some, None, arith, refl, sym, ◌∙◌, ap, subst, add-one}
+use Rattle.std.specs.Prelude.{◌==◌, IsTrue, slice_get, if◌then◌else◌}
+use Rattle.std.specs.List.{AllByRecursion}
+use Rattle.std.proofs.lemmas.Option.{slice_get_within}
+use Rattle.std.proofs.lemmas.Nat.{div-mul-add, mod-mul-add}
+use Rattle.std.proofs.Math.Nat.{mul-le-mul_right, div-le_self}
+use Rattle.std.proofs.lemmas.Bool.Decides.{nat_tests}
+use Rattle.ebpf_decode.specs.declared.map.MapDef.{MapDef}
+use Rattle.ebpf_decode.specs.declared.map.MapKind.{MapKind}
+use Rattle.ebpf_decode.specs.declared.map.MapKind.TheVariants.{Hash, Array, LruHash}
+use Rattle.ebpf_decode.specs.MapForm.{is_served, is_key_size, is_value_size, is_entry_count}
+use Rattle.ebpf_decode.specs.ImageContents.{IsAllowedMap}
+use Rattle.semantics.specs.declared.options.Options.{Options}
+use Rattle.semantics.specs.declared.plan.ShardPlan.{ShardPlan}
+use Rattle.semantics.specs.declared.call.Caller.TheVariants.{Worker}
+use Rattle.semantics.specs.declared.call.CellRef.{CellRef}
+use Rattle.semantics.specs.declared.call.Call.{Call}
+use Rattle.semantics.specs.declared.call.Call.TheVariants.{Lookup, Load, Store, Atomic, Update, Delete}
+use Rattle.semantics.specs.declared.call.Reply.{Reply}
+use Rattle.semantics.specs.declared.call.Reply.TheVariants.{Cell, Word, Done, Answer}
+use Rattle.semantics.specs.LittleEndian.{number_of_bytes}
+use Rattle.semantics.specs.SequentialShard.{SequentialShard, shard_after, cell_of_kind, cell_of_index, cell_of_key, lookup_reply}
+use Rattle.semantics.specs.History.{meets_part}
+use Rattle.semantics.specs.RunTrace.{IsReplyTo}
+use Rattle.semantics.proofs.ConditionLemmas.{first_true, second_true}
+use Rattle.shard_core.specs.JournaledShard.{JournaledShard}
+use Rattle.map_port.specs.Served.{Maps, program_over, shard_of, IsKeyOf, found_reply}
+use Rattle.shard_port.specs.Asking.{entered, IsAnsweredAmong}
+use Rattle.shard_port.specs.PortView.{IsShardOf, IsReady, IsRunCall, SetsBytes, IsGivenBy, cell_of_handle, handle_of, word_in, answer_in, has_small_cell}
+use Rattle.shard_port.specs.PortLaws.{both_true}
+use Rattle.shard_port.proofs.ByteLemmas.{number_in_cell-below}
+use Rattle.shard_port.proofs.ReadyLemmas.{plan_number, bytes_entered}
+use Rattle.shard_port.proofs.MayAskLemmas.{served_by, shard_of_known, few_parts}
+
+-- ---- arrays
+
+pub allowed_at : (maps : List MapDef) (map : ℕ) (definition : MapDef) → AllByRecursion IsAllowedMap maps → slice_get maps map ≡ Some definition → IsAllowedMap definition
+allowed_at [] map definition each known = cc
+allowed_at (first ∷ rest) zero definition each known = let same : first ≡ definition = cc in subst IsAllowedMap same each.0
+allowed_at (first ∷ rest) (suc map) definition each known = allowed_at rest map definition each.1 known
+
+served_kind : (kind : MapKind) → IsTrue (is_served kind) → kind ≡ Array
+served_kind Hash served = cc
+served_kind Array served = refl
+served_kind LruHash served = cc
+
+pub array_of : (definition : MapDef) → IsAllowedMap definition → definition.kind ≡ Array
+array_of definition allowed = served_kind definition.kind (first_true _ _ (first_true _ _ (first_true _ _ allowed)))
+
+four_bytes : (kind : MapKind) (size : ℕ) → kind ≡ Array → IsTrue (is_key_size kind size) → size ≡ 4
+four_bytes Hash size is sized = cc
+four_bytes Array size is sized = grind (arith, nat_tests)
+four_bytes LruHash size is sized = cc
+
+pub key_bytes : (definition : MapDef) → IsAllowedMap definition → definition.key_size ≡ 4
+key_bytes definition allowed = four_bytes definition.kind definition.key_size (array_of definition allowed) (second_true _ _ (first_true _ _ (first_true _ _ allowed)))
+
+pub few_entries : (definition : MapDef) → IsAllowedMap definition → definition.max_entries ≤ 131072
+few_entries definition allowed =
+    let counted : IsTrue (is_entry_count definition.max_entries) = second_true (is_served definition.kind && is_key_size definition.kind definition.key_size && is_value_size definition.value_size) (is_entry_count definition.max_entries) allowed in
+    grind (arith, nat_tests)
+
+pub array_shard_of : (maps : List MapDef) (options : Options) (worker : ℕ) (shards : List JournaledShard) (map : ℕ) (key : List ℕ) → IsReady maps options worker shards → IsKeyOf (served_by maps options) map key → shard_of (served_by maps options) map key ≡ map * options.shards + number_of_bytes key % options.shards
+array_shard_of maps options worker shards map key ready of_map =
+    let kind : of_map.definition.kind ≡ Array = array_of of_map.definition (allowed_at maps map of_map.definition ready.allowed of_map.known) in
+    shard_of_known (served_by maps options) map key of_map.definition of_map.known ∙ rw kind refl
+
+pub map_within : (maps : List MapDef) (options : Options) (worker : ℕ) (shards : List JournaledShard) (map : ℕ) (key : List ℕ) → IsReady maps options worker shards → IsKeyOf (served_by maps options) map key → map ≤ 16
+map_within maps options worker shards map key ready of_map =
+    let within : map < length maps = slice_get_within maps map of_map.definition of_map.known in
+    omega (arith, within, ready.few)
+
+pub short_key : (maps : List MapDef) (options : Options) (worker : ℕ) (shards : List JournaledShard) (map : ℕ) (key : List ℕ) → IsReady maps options worker shards → IsKeyOf (served_by maps options) map key → length key ≤ 8
+short_key maps options worker shards map key ready of_map =
+    let four : of_map.definition.key_size ≡ 4 = key_bytes of_map.definition (allowed_at maps map of_map.definition ready.allowed of_map.known) in
+    omega (arith, four, of_map.key_size)
+
+-- ---- small cells
+
+small_found : (plan : ShardPlan) (index : ℕ) → plan.number < 128 → plan.definition.max_entries ≤ 131072 → has_small_cell (lookup_reply plan (cell_of_index plan index)) ≡ true
+small_found plan index few entries = by_test (nat_lt index plan.definition.max_entries) refl
+  where
+    by_test : (known : Bool) → nat_lt index plan.definition.max_entries ≡ known → has_small_cell (lookup_reply plan (if known then Some (index / plan.parts) else None)) ≡ true
+    by_test true is =
+        let within : index < plan.definition.max_entries = grind (arith, nat_tests) in
+        let less : index / plan.parts ≤ index = div-le_self index plan.parts in
+        both_true (nat_lt plan.number 128) (nat_lt (index / plan.parts) (2 ^ 32)) (grind (arith, nat_tests)) (grind (arith, nat_tests))
+    by_test false is = refl
+
+few_shards : (maps : List MapDef) (options : Options) (worker : ℕ) (shards : List JournaledShard) → IsReady maps options worker shards → length shards ≤ 128
+few_shards maps options worker shards ready =
+    let counted : length shards ≡ length maps * options.shards = ready.are_shards.count in
+    let at_most : length maps * options.shards ≤ 16 * options.shards = mul-le-mul_right options.shards ready.few in
+    let parts : options.shards ≤ 8 = few_parts maps options ready.are_options in
+    omega (arith, counted, at_most, parts)
+
+pub small_lookup : (maps : List MapDef) (options : Options) (worker : ℕ) (before : List JournaledShard) (number : ℕ) (key : List ℕ) (reply : Reply) (after : List JournaledShard) → IsReady maps options worker before → IsAnsweredAmong worker before (Lookup number key) reply after → IsTrue (has_small_cell reply)
+small_lookup maps options worker before number key reply after ready among =
+    let plan : ShardPlan = among.shard.plan in
+    let is : IsShardOf maps options number among.shard = ready.are_shards.each number among.shard among.known in
+    let planned = plan_number options number (slice_get maps (number / options.shards)) plan is.planned in
+    let allowed : IsAllowedMap plan.definition = allowed_at maps (number / options.shards) plan.definition ready.allowed planned.4 in
+    let within : number < length before = slice_get_within before number among.shard among.known in
+    let few : length before ≤ 128 = few_shards maps options worker before ready in
+    let numbered : plan.number ≡ number = planned.0 in
+    let below : plan.number < 128 = omega (arith, within, few, numbered) in
+    let state : SequentialShard = shard_after plan (reverse (entered worker among.shard).journal) in
+    let at_kind : MapKind → Type 0 = λ kind. has_small_cell (lookup_reply plan (cell_of_kind kind plan state key)) ≡ true in
+    let small : has_small_cell (lookup_reply plan (cell_of_key plan state key)) ≡ true = subst at_kind (sym (array_of plan.definition allowed)) (small_found plan (number_of_bytes key) below (few_entries plan.definition allowed)) in
+    subst (λ (one : Reply). has_small_cell one ≡ true) (sym among.answered.replied) small
+
+-- ---- lookups
+
+found_again : (plan : ShardPlan) (found : Option ℕ) → has_small_cell (lookup_reply plan found) ≡ true → lookup_reply plan found ≡ found_reply cell_of_handle (handle_of (lookup_reply plan found))
+found_again plan None small = refl
+found_again plan (Some id) small =
+    let low : IsTrue (nat_lt id (2 ^ 32)) = second_true (nat_lt plan.number 128) (nat_lt id (2 ^ 32)) small in
+    let below : id < 2 ^ 32 = grind (arith, nat_tests) in
+    let place : suc (plan.number * 2 ^ 32 + id) - 1 ≡ plan.number * 2 ^ 32 + id = omega arith in
+    let shard : plan.number ≡ (suc (plan.number * 2 ^ 32 + id) - 1) / 2 ^ 32 = sym (div-mul-add plan.number (2 ^ 32) id below) ∙ ap (λ n. n / 2 ^ 32) (sym place) in
+    let cell : id ≡ (suc (plan.number * 2 ^ 32 + id) - 1) % 2 ^ 32 = sym (mod-mul-add plan.number (2 ^ 32) id below) ∙ ap (λ n. n % 2 ^ 32) (sym place) in
+    rw add-one (ap (λ n. Cell (record { shard = n; id = id })) shard ∙ ap (λ n. Cell (record { shard = (suc (plan.number * 2 ^ 32 + id) - 1) / 2 ^ 32; id = n })) cell)
+
+pub found_told : (worker : ℕ) (before : List JournaledShard) (number : ℕ) (key : List ℕ) (reply : Reply) (after : List JournaledShard) → IsTrue (has_small_cell reply) → IsAnsweredAmong worker before (Lookup number key) reply after → reply ≡ found_reply cell_of_handle (handle_of reply)
+found_told worker before number key reply after small among =
+    let is : reply ≡ lookup_reply among.shard.plan (cell_of_key among.shard.plan (shard_after among.shard.plan (reverse (entered worker among.shard).journal)) key) = among.answered.replied in
+    subst (λ (one : Reply). one ≡ found_reply cell_of_handle (handle_of one)) (sym is)
+    (found_again among.shard.plan (cell_of_key among.shard.plan (shard_after among.shard.plan (reverse (entered worker among.shard).journal)) key) (subst (λ (one : Reply). has_small_cell one ≡ true) is small))
+
+found_formed : (served : Maps) (plan : ShardPlan) (number : ℕ) (key : List ℕ) (found : Option ℕ) → plan.number ≡ number → IsReplyTo (program_over served) (Lookup number key) (lookup_reply plan found)
+found_formed served plan number key None same = tt
+found_formed served plan number key (Some id) same = same
+
+pub lookup_formed : (served : Maps) (worker : ℕ) (before : List JournaledShard) (number : ℕ) (key : List ℕ) (reply : Reply) (after : List JournaledShard) → IsAnsweredAmong worker before (Lookup number key) reply after → IsReplyTo (program_over served) (Lookup number key) reply
+lookup_formed served worker before number key reply after among =
+    let named : IsTrue (number == among.shard.plan.number) = first_true (number == among.shard.plan.number) (meets_part among.shard.plan (reverse (entered worker among.shard).journal) (Worker worker) (Lookup number key)) among.answered.met in
+    let same : among.shard.plan.number ≡ number = grind (arith, nat_tests) in
+    subst (IsReplyTo (program_over served) (Lookup number key)) (sym among.answered.replied) (found_formed served among.shard.plan number key _ same)
+
+-- ---- words
+
+word_again : (reply : Reply) (value : ℕ) → reply ≡ Word value → reply ≡ Word (word_in reply)
+word_again reply value is = is ∙ ap (λ (one : Reply). Word (word_in one)) (sym is)
+
+pub load_told : (worker : ℕ) (before : List JournaledShard) (cell : CellRef) (offset width : ℕ) (reply : Reply) (after : List JournaledShard) → IsAnsweredAmong worker before (Load cell offset width) reply after → reply ≡ Word (word_in reply)
+load_told worker before cell offset width reply after among = word_again reply _ among.answered.replied
+
+pub change_told : (worker : ℕ) (before : List JournaledShard) (cell : CellRef) (offset width op value expected : ℕ) (reply : Reply) (after : List JournaledShard) → IsAnsweredAmong worker before (Atomic cell offset width op value expected) reply after → reply ≡ Word (word_in reply)
+change_told worker before cell offset width op value expected reply after among = word_again reply _ among.answered.replied
+
+pub load_below : (maps : List MapDef) (options : Options) (worker : ℕ) (before : List JournaledShard) (cell : CellRef) (offset width : ℕ) (reply : Reply) (after : List JournaledShard) → IsReady maps options worker before → IsAnsweredAmong worker before (Load cell offset width) reply after → word_in reply < 256 ^ width
+load_below maps options worker before cell offset width reply after ready among =
+    let is : IsShardOf maps options cell.shard among.shard = ready.are_shards.each cell.shard among.shard among.known in
+    subst (λ (one : Reply). word_in one < 256 ^ width) (sym among.answered.replied)
+    (number_in_cell-below (shard_after among.shard.plan (reverse (entered worker among.shard).journal)) cell.id offset width (bytes_entered worker among.shard is.bytes))
+
+pub change_below : (maps : List MapDef) (options : Options) (worker : ℕ) (before : List JournaledShard) (cell : CellRef) (offset width op value expected : ℕ) (reply : Reply) (after : List JournaledShard) → IsReady maps options worker before → IsAnsweredAmong worker before (Atomic cell offset width op value expected) reply after → word_in reply < 256 ^ width
+change_below maps options worker before cell offset width op value expected reply after ready among =
+    let is : IsShardOf maps options cell.shard among.shard = ready.are_shards.each cell.shard among.shard among.known in
+    subst (λ (one : Reply). word_in one < 256 ^ width) (sym among.answered.replied)
+    (number_in_cell-below (shard_after among.shard.plan (reverse (entered worker among.shard).journal)) cell.id offset width (bytes_entered worker among.shard is.bytes))
+
+-- ---- stores and answers
+
+pub store_told : (worker : ℕ) (before : List JournaledShard) (cell : CellRef) (offset width value : ℕ) (reply : Reply) (after : List JournaledShard) → IsAnsweredAmong worker before (Store cell offset width value) reply after → reply ≡ Done
+store_told worker before cell offset width value reply after among = among.answered.replied
+
+answer_again : (reply : Reply) (code : ℤ) → reply ≡ Answer code → reply ≡ Answer (answer_in reply)
+answer_again reply code is = is ∙ ap (λ (one : Reply). Answer (answer_in one)) (sym is)
+
+pub update_told : (worker : ℕ) (before : List JournaledShard) (number : ℕ) (key value : List ℕ) (flags : ℕ) (reply : Reply) (after : List JournaledShard) → IsAnsweredAmong worker before (Update number key value flags) reply after → reply ≡ Answer (answer_in reply)
+update_told worker before number key value flags reply after among = answer_again reply _ among.answered.replied
+
+pub delete_told : (worker : ℕ) (before : List JournaledShard) (number : ℕ) (key : List ℕ) (reply : Reply) (after : List JournaledShard) → IsAnsweredAmong worker before (Delete number key) reply after → reply ≡ Answer (answer_in reply)
+delete_told worker before number key reply after among = answer_again reply _ among.answered.replied
+
+-- ---- together
+
+pub given_by : (maps maps' : List MapDef) (options options' : Options) (worker worker' : ℕ) (before after : List JournaledShard) (call : Call) (reply told : Reply) → maps' ≡ maps → options' ≡ options → worker' ≡ worker → 0 < options.shards → IsRunCall call → SetsBytes call → IsReplyTo (program_over (served_by maps options)) call told → reply ≡ told → IsAnsweredAmong worker before call reply after → IsGivenBy (record { served = served_by maps options; worker = worker; shards = before }) call told (record { served = served_by maps' options'; worker = worker'; shards = after })
+given_by maps maps' options options' worker worker' before after call reply told same_maps same_options same_worker some run sets formed is among = record {
+  same_maps = ap (λ ms. served_by ms options') same_maps ∙ ap (λ os. served_by maps os) same_options;
+  same_worker = same_worker;
+  some_shard = some;
+  run_call = run;
+  sets_bytes = sets;
+  formed = formed;
+  answered = subst (λ (one : Reply). IsAnsweredAmong worker before call one after) is among;
+}

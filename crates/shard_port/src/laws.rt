@@ -1,0 +1,46 @@
+//! Laws of plain ports: each is the contract of a function that does nothing.
+
+ghost use Rattle.shard_port.specs.Sessions.{WritesSessions, WritesRefusedSessions, StaysOnePort, IsOutsideAll, LeavesOthersAlone, OpenedServe, OpenedAreOutside, CallsKeepServing};
+
+/// From a port whose worker is outside a shard: what the shard was asked and what it answered is what its journal then has more,
+/// between one Enter and one Leave.
+pub fn journals_have_the_calls()
+    ensures { WritesSessions }
+{}
+
+/// The same where the run ended because a call was refused: then the refused call's shard may have an Enter and a Leave more, with
+/// no call between.
+pub fn journals_after_a_refusal()
+    ensures { WritesRefusedSessions }
+{}
+
+/// Calls leave the port over the same shards, maps and options, for the same worker.
+pub fn stays_one_port()
+    ensures { StaysOnePort }
+{}
+
+/// A port that is finished has left every shard.
+pub fn finish_leaves()
+    ensures { IsOutsideAll }
+{}
+
+/// A worker's session leaves every other worker inside or outside a shard, as it was: so runs of several workers, one after the
+/// other, each write their sessions.
+pub fn leaves_others_alone()
+    ensures { LeavesOthersAlone }
+{}
+
+/// Shards that were opened are those of the maps.
+pub fn opened_serve()
+    ensures { OpenedServe }
+{}
+
+/// And nobody is inside one of them: so what is said of a worker's sessions holds of the first run over them.
+pub fn opened_are_outside()
+    ensures { OpenedAreOutside }
+{}
+
+/// Shards of the maps stay that by every call that sets bytes, whoever makes it.
+pub fn calls_keep_serving()
+    ensures { CallsKeepServing }
+{}

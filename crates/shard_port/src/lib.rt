@@ -1,0 +1,11 @@
+//! The port of a single caller over the shards of an image's maps.
+#![tactic(auto)]
+
+mod asking;
+pub mod laws;
+pub mod plain;
+#[cfg(test)]
+mod tests;
+
+pub use map_port::MapPort;
+pub use plain::PlainPort;

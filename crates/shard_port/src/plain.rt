@@ -1,0 +1,309 @@
+//! The port of a single caller: one worker, one run at a time, no lock.
+
+ghost use Rattle.std.specs.Prelude.{◌≡◌, ◌<◌, ◌≤◌, ◌+◌, ◌*◌, ◌%◌, ◌^◌, ℕ, pos, IsTrue, IfOk, IfErr, OnErr, length, slice_get};
+ghost use Rattle.semantics.specs.ShardPlan.{AreOptions};
+ghost use Rattle.semantics.specs.History.{shard_of_call};
+ghost use Rattle.shard_port.specs.Asking.{may_ask_at, all_left, IsAnsweredAmong, IsTurnedAwayAmong};
+ghost use Rattle.shard_port.specs.PortView.{ServesMaps, IsReady, IsRunCall, SetsBytes, cell_of_handle, handle_of, word_in, answer_in, has_small_cell};
+ghost use Rattle.map_port.specs.Served.{handle_limit};
+ghost use Rattle.semantics.specs.LittleEndian.{number_of_bytes};
+ghost use Rattle.ebpf_decode.specs.InstructionCodes.{atomic_code};
+
+use crate::asking::{ask_at, leave_all};
+use ebpf_decode::Image;
+use isa::AtomicOp;
+use map_port::MapPort;
+use semantics::little_endian::number_of_bytes;
+use semantics::{Call, CellRef, JournalFull, Key, Options, Reply, Value};
+use shards::Shards;
+
+/// A worker's port over the shards of an image's maps. It enters a shard before its first call there, and has to be finished,
+/// which leaves the shards that it entered. No call takes memory.
+///
+/// A cell's handle is `shard * 2^32 + id + 1`: its shard's number above its id.
+pub struct PlainPort<'a> {
+    shards: &'a mut Shards,
+    image: &'a Image,
+    options: Options,
+    /// Its number.
+    worker: u8,
+    ghost ready: { ∥ IsReady image.now.maps options worker shards.now ∥₁ },
+}
+
+impl<'a> PlainPort<'a> {
+    ghost use Rattle.map_port.specs.Served.{shard_of, IsKeyOf};
+    ghost use Rattle.shard_port.specs.PlainPorts.{maps_of};
+
+    /// The worker's port over the shards of the image's maps, which were opened with these options. It enters none yet.
+    pub fn over(
+        image: &'a Image,
+        options: Options,
+        shards: &'a mut Shards,
+        worker: u8,
+    ) -> PlainPort<'a>
+        requires options { AreOptions image.now.maps options }
+        requires shards { ServesMaps image.now.maps options shards.old }
+        requires worker { worker < options.workers }
+        ensures same_shards { result.shards.ghost_name ≡ shards.entry.ghost_name }
+        ensures shards { result.shards.now ≡ shards.old }
+        ensures maps { result.image.now.maps ≡ image.now.maps }
+        ensures options { result.options ≡ options }
+        ensures worker { result.worker ≡ worker }
+    {
+        let _ = image.maps();
+        PlainPort {
+            shards,
+            image,
+            options,
+            worker,
+        }
+    }
+
+    /// The shard of a map's key.
+    fn shard_of(&self, map: u32, key: &Key) -> u32
+        requires { IsKeyOf (maps_of self.now) map key.now }
+        ensures { result ≡ shard_of (maps_of self.now) map key.now }
+    {
+        shard_of_index(map, self.options.shards, key)
+    }
+
+    /// Makes a run's call, at the shard that the call names: entered before, if the worker is not inside. Refused where the
+    /// shard's journal is full for the Enter or for the call.
+    fn ask(&mut self, call: &Call) -> Result<Reply, JournalFull>
+        requires may { IsTrue (may_ask_at self.old.worker (slice_get self.old.shards.now (shard_of_call call.now)) call.now) }
+        requires sets_bytes { SetsBytes call.now }
+        ensures same_shards { self.new.shards.ghost_name ≡ self.old.shards.ghost_name }
+        ensures same_image { self.new.image ≡ self.old.image }
+        ensures same_options { self.new.options ≡ self.old.options }
+        ensures same_worker { self.new.worker ≡ self.old.worker }
+        ensures answered { IfOk result (λ reply. IsAnsweredAmong self.old.worker self.old.shards.now call.now reply self.new.shards.now) }
+        ensures turned_away { OnErr result (IsTurnedAwayAmong self.old.worker self.old.shards.now call.now self.new.shards.now) }
+        ensures names_the_shard { IfErr result (λ fault. fault.shard ≡ shard_of_call call.now) }
+    {
+        ask_at(self.shards, self.worker, call)
+    }
+
+    /// The worker leaves all shards that it is inside of, the lowest number first. A Leave is never refused.
+    pub fn finish(self)
+        ensures left { self.exit.0.now ≡ all_left self.entry.worker self.entry.shards.now }
+        ensures shards { ServesMaps self.entry.image.now.maps self.entry.options self.exit.0.now }
+    {
+        let PlainPort {
+            shards,
+            image,
+            options,
+            worker,
+        } = self;
+        leave_all(shards, worker);
+    }
+}
+
+impl<'a> MapPort for PlainPort<'a> {
+    ghost use Rattle.shard_port.specs.PortView.{cell_of_handle, is_handed_out};
+    ghost use Rattle.shard_port.specs.PlainPorts.{maps_of, view_of, PortGives, PortRefuses};
+    ghost use Rattle.shard_port.specs.PortLaws.{keeps_by, hands_out_by};
+
+    ghost serves = { maps_of };
+
+    ghost gives = { PortGives };
+
+    ghost refuses = { PortRefuses };
+
+    ghost has_handed_out = { λ port. is_handed_out (view_of port) };
+
+    ghost cell_of = { λ port. cell_of_handle };
+
+    ghost stays = { λ before after call refused. refused.refused.same_maps };
+
+    ghost keeps = { λ before after call reply given. keeps_by (view_of before) (view_of after) call reply given.given };
+
+    ghost hands_out = { λ before after call reply given. hands_out_by (view_of before) (view_of after) call reply given.given };
+
+    ghost replies = { λ before after call reply given. given.given.formed };
+
+    fn lookup(&mut self, map: u32, key: &Key) -> Result<u64, JournalFull> {
+        let call = Call::Lookup {
+            shard: self.shard_of(map, key),
+            key: *key,
+        };
+        match self.ask(&call) {
+            Ok(reply) => Ok(handle_of(&reply)),
+            Err(full) => Err(full),
+        }
+    }
+
+    fn load(&mut self, handle: u64, offset: u64, width: u64) -> Result<u64, JournalFull> {
+        let call = Call::Load {
+            cell: cell_of_handle(handle),
+            offset,
+            width,
+        };
+        match self.ask(&call) {
+            Ok(reply) => Ok(word_in(&reply)),
+            Err(full) => Err(full),
+        }
+    }
+
+    fn store(
+        &mut self,
+        handle: u64,
+        offset: u64,
+        width: u64,
+        value: u64,
+    ) -> Result<(), JournalFull> {
+        let call = Call::Store {
+            cell: cell_of_handle(handle),
+            offset,
+            width,
+            value,
+        };
+        match self.ask(&call) {
+            Ok(_) => Ok(()),
+            Err(full) => Err(full),
+        }
+    }
+
+    fn atomic(
+        &mut self,
+        handle: u64,
+        offset: u64,
+        width: u64,
+        op: AtomicOp,
+        value: u64,
+        expected: u64,
+    ) -> Result<u64, JournalFull> {
+        let call = Call::Atomic {
+            cell: cell_of_handle(handle),
+            offset,
+            width,
+            op: atomic_code(op),
+            value,
+            expected,
+        };
+        match self.ask(&call) {
+            Ok(reply) => Ok(word_in(&reply)),
+            Err(full) => Err(full),
+        }
+    }
+
+    fn update(
+        &mut self,
+        map: u32,
+        key: &Key,
+        value: &Value,
+        flags: u64,
+    ) -> Result<i32, JournalFull> {
+        let call = Call::Update {
+            shard: self.shard_of(map, key),
+            key: *key,
+            value: *value,
+            flags,
+        };
+        match self.ask(&call) {
+            Ok(reply) => Ok(answer_in(&reply)),
+            Err(full) => Err(full),
+        }
+    }
+
+    fn delete(&mut self, map: u32, key: &Key) -> Result<i32, JournalFull> {
+        let call = Call::Delete {
+            shard: self.shard_of(map, key),
+            key: *key,
+        };
+        match self.ask(&call) {
+            Ok(reply) => Ok(answer_in(&reply)),
+            Err(full) => Err(full),
+        }
+    }
+}
+
+/// The number of the shard of an array's index, in a map of so many shards.
+fn shard_of_index(map: u32, parts: u32, key: &Key) -> u32
+    requires map { map ≤ 16 }
+    requires parts { 0 < parts }
+    requires few { parts ≤ 8 }
+    requires size { length key.now ≤ 8 }
+    ensures { result ≡ map * parts + number_of_bytes key.now % parts }
+{
+    let index = number_of_bytes(key.as_slice());
+    map * parts + (index % u64::from(parts)) as u32
+}
+
+/// The cell that a handle stands for.
+fn cell_of_handle(handle: u64) -> CellRef
+    ensures { result ≡ cell_of_handle handle }
+{
+    let place = handle.saturating_sub(1);
+    CellRef {
+        shard: (place / 0x1_0000_0000) as u32,
+        id: place % 0x1_0000_0000,
+    }
+}
+
+/// The handle of the cell that a lookup found, or 0.
+fn handle_of(reply: &Reply) -> u64
+    requires { IsTrue (has_small_cell reply.now) }
+    ensures handle { result ≡ handle_of reply.now }
+    ensures limit { result < handle_limit }
+{
+    match reply {
+        Reply::Cell { cell } => u64::from(cell.shard) * 0x1_0000_0000 + cell.id + 1,
+        Reply::Entered => 0,
+        Reply::Left => 0,
+        Reply::Null => 0,
+        Reply::Word { .. } => 0,
+        Reply::Done => 0,
+        Reply::Answer { .. } => 0,
+        Reply::Freed { .. } => 0,
+    }
+}
+
+/// The number that a Load or an atomic operation told.
+fn word_in(reply: &Reply) -> u64
+    ensures { result ≡ word_in reply.now }
+{
+    match reply {
+        Reply::Word { value } => *value,
+        Reply::Entered => 0,
+        Reply::Left => 0,
+        Reply::Cell { .. } => 0,
+        Reply::Null => 0,
+        Reply::Done => 0,
+        Reply::Answer { .. } => 0,
+        Reply::Freed { .. } => 0,
+    }
+}
+
+/// What an Update or a Delete answered.
+fn answer_in(reply: &Reply) -> i32
+    ensures { result ≡ answer_in reply.now }
+{
+    match reply {
+        Reply::Answer { code } => *code,
+        Reply::Entered => 0,
+        Reply::Left => 0,
+        Reply::Cell { .. } => 0,
+        Reply::Null => 0,
+        Reply::Word { .. } => 0,
+        Reply::Done => 0,
+        Reply::Freed { .. } => 0,
+    }
+}
+
+/// The immediate of an atomic operation (RFC 9669, section 5.3).
+fn atomic_code(op: AtomicOp) -> u64
+    ensures { result ≡ atomic_code op }
+{
+    match op {
+        AtomicOp::AtomicAdd => 0x00,
+        AtomicOp::AtomicOr => 0x40,
+        AtomicOp::AtomicAnd => 0x50,
+        AtomicOp::AtomicXor => 0xa0,
+        AtomicOp::FetchAdd => 0x01,
+        AtomicOp::FetchOr => 0x41,
+        AtomicOp::FetchAnd => 0x51,
+        AtomicOp::FetchXor => 0xa1,
+        AtomicOp::Exchange => 0xe1,
+        AtomicOp::CompareExchange => 0xf1,
+    }
+}
