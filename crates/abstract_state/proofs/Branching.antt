@@ -8,7 +8,7 @@ use Rattle.isa.specs.declared.operation.Source.{Source}
 use Rattle.isa.specs.declared.operation.Register.{Register}
 use Rattle.ebpf_decode.specs.declared.insn.Insn.TheVariants.{JumpIf}
 use Rattle.ebpf_decode.specs.declared.map.MapDef.{MapDef}
-use Rattle.ebpf_decode.specs.InstructionCodes.{register_number}
+use Rattle.isa.specs.InstructionCodes.{register_number}
 use Rattle.ebpf_decode.specs.InstructionEncoding.{slot_count}
 use Rattle.semantics.specs.RegisterValue.{Uninitialized}
 use Rattle.semantics.specs.MachineState.{MachineState, register_value}

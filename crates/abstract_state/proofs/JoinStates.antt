@@ -1,7 +1,7 @@
 -- The joint state is sound for a run for which either state is.
 use Rattle.std.proofs.Common.{◌≡◌, inl, inr, ℕ, zero, suc, ◌<◌, ◌≤◌, List, [], ◌∷◌, length, refl, sym, ◌∙◌, arith}
 use Rattle.std.specs.Prelude.{slice_index_or}
-use Rattle.ebpf_decode.specs.InstructionCodes.{register_number}
+use Rattle.isa.specs.InstructionCodes.{register_number}
 use Rattle.semantics.specs.MachineState.{register_value}
 use Rattle.abstract_state.specs.declared.kind.Kind.TheVariants.{Unset}
 use Rattle.abstract_state.specs.declared.kind.StackWord.TheVariants.{Spilled}

@@ -17,7 +17,8 @@ use Rattle.semantics.specs.MachineState.{MachineState, register_value, with_regi
 use Rattle.semantics.specs.Program.{Program}
 use Rattle.semantics.specs.Step.{Outcome, BadContextAccess}
 use Rattle.semantics.specs.History.{is_load_width}
-use Rattle.semantics.specs.Memory.{size_bytes, context_word, context_field, spilled_or_number, stack_value, packet_value, cell_ref}
+use Rattle.isa.specs.InstructionCodes.{size_bytes}
+use Rattle.semantics.specs.Memory.{context_word, context_field, spilled_or_number, stack_value, packet_value, cell_ref}
 use Rattle.semantics.specs.RunTrace.{IsReplyTo}
 use Rattle.semantics.specs.Semantics.{at_next_slot, word_value, load_cell_step, load_step, instruction_step, write_step}
 use Rattle.abstract_scalar.specs.declared.interval.Interval.{Interval}

@@ -9,13 +9,13 @@ use Rattle.isa.proofs.Bounds.{movsx64-lt}
 use Rattle.ebpf_decode.specs.declared.insn.Insn.{Insn}
 use Rattle.ebpf_decode.specs.declared.insn.Insn.TheVariants.{Ldxs}
 use Rattle.ebpf_decode.specs.declared.map.MapDef.{MapDef}
-use Rattle.ebpf_decode.specs.InstructionCodes.{extension_size}
+use Rattle.isa.specs.InstructionCodes.{extension_size, size_bytes}
 use Rattle.ebpf_decode.specs.InstructionEncoding.{slot_count}
 use Rattle.semantics.specs.RegisterValue.{RegisterValue, Number}
 use Rattle.semantics.specs.MachineState.{MachineState, register_value}
 use Rattle.semantics.specs.Program.{Program}
 use Rattle.semantics.specs.Step.{Outcome, then_outcome}
-use Rattle.semantics.specs.Memory.{size_bytes, spilled_or_number, stack_value, packet_value}
+use Rattle.semantics.specs.Memory.{spilled_or_number, stack_value, packet_value}
 use Rattle.semantics.specs.Arithmetic.{changed_number}
 use Rattle.semantics.specs.Semantics.{extended, load_signed_step, instruction_step}
 use Rattle.abstract_scalar.specs.Intervals.{full_of}

@@ -16,7 +16,7 @@ use Rattle.ebpf_decode.specs.InstructionEncoding.{slot_count, FieldsFit}
 use Rattle.semantics.specs.RegisterValue.{RegisterValue, Number, StackPointer, PacketPointer}
 use Rattle.semantics.specs.MachineState.{MachineState, register_value}
 use Rattle.semantics.specs.Program.{Program}
-use Rattle.semantics.specs.Memory.{size_bytes}
+use Rattle.isa.specs.InstructionCodes.{size_bytes}
 use Rattle.semantics.specs.Semantics.{fetched_register, store_step, instruction_step}
 use Rattle.abstract_scalar.specs.Intervals.{constant_of}
 use Rattle.abstract_state.specs.declared.kind.Kind.{Kind}

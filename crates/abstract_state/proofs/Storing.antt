@@ -13,7 +13,8 @@ use Rattle.semantics.specs.RegisterValue.{RegisterValue, Uninitialized, Number, 
 use Rattle.semantics.specs.RegisterValue as meaning
 use Rattle.semantics.specs.MachineState.{MachineState, StackByte, register_value}
 use Rattle.semantics.specs.Program.{Program}
-use Rattle.semantics.specs.Memory.{size_bytes, stack_place, stack_range, packet_range, as_written, spilled_parts}
+use Rattle.isa.specs.InstructionCodes.{size_bytes}
+use Rattle.semantics.specs.Memory.{stack_place, stack_range, packet_range, as_written, spilled_parts}
 use Rattle.semantics.specs.Semantics.{stored_places, store_step}
 use Rattle.abstract_state.specs.declared.kind.Kind.{Kind}
 use Rattle.abstract_state.specs.declared.kind.Kind.TheVariants.{Unset, Scalar, Ctx, Stack, Packet, PacketEnd, Map, ValueOrNull, Value}

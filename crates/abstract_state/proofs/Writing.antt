@@ -8,7 +8,7 @@ use Rattle.std.proofs.Math.Logic.{⊎_elim}
 use Rattle.isa.specs.declared.operation.Register.{Register}
 use Rattle.isa.specs.declared.operation.Register.TheVariants.{R0, R1, R2, R3, R4, R5, R6, R7, R8, R9, R10}
 use Rattle.ebpf_decode.specs.declared.map.MapDef.{MapDef}
-use Rattle.ebpf_decode.specs.InstructionCodes.{register_number}
+use Rattle.isa.specs.InstructionCodes.{register_number}
 use Rattle.semantics.specs.RegisterValue.{RegisterValue, Uninitialized, PacketPointer}
 use Rattle.semantics.specs.MachineState.{MachineState, StackByte, register_value, with_register}
 use Rattle.abstract_state.specs.declared.kind.Kind.{Kind}

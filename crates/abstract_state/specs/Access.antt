@@ -9,9 +9,8 @@ use Rattle.isa.specs.declared.operation.AtomicOp.{AtomicOp}
 use Rattle.isa.specs.declared.operation.AtomicOp.TheVariants.{CompareExchange}
 use Rattle.isa.specs.declared.operation.Register.{Register}
 use Rattle.isa.specs.declared.operation.Register.TheVariants.{R0}
-use Rattle.ebpf_decode.specs.InstructionCodes.{extension_size, width_size}
+use Rattle.isa.specs.InstructionCodes.{extension_size, width_size, size_bytes}
 use Rattle.ebpf_decode.specs.declared.map.MapDef.{MapDef}
-use Rattle.semantics.specs.Memory.{size_bytes}
 use Rattle.semantics.specs.Semantics.{fetched_register}
 use Rattle.abstract_scalar.specs.Intervals.{constant_of, interval_of, full_of}
 use Rattle.abstract_state.specs.declared.kind.Kind.{Kind}

@@ -1,7 +1,7 @@
 -- What is known of a run: the kinds of its registers and the words of its stack, and where a run begins.
 use Rattle.std.specs.Prelude.{ℕ, Bool, true, false, List, [], ◌∷◌, Result, Ok, Err, replicate, slice_index_or, slice_set, if◌then◌else◌}
 use Rattle.isa.specs.declared.operation.Register.{Register}
-use Rattle.ebpf_decode.specs.InstructionCodes.{register_number}
+use Rattle.isa.specs.InstructionCodes.{register_number}
 pub use Rattle.semantics.specs.Program.{value_size_of, key_size_of}
 use Rattle.abstract_state.specs.declared.kind.Kind.{Kind}
 use Rattle.abstract_state.specs.declared.kind.Kind.TheVariants.{Unset, Ctx, Stack}

@@ -1,9 +1,8 @@
 //! Loads, stores and atomic operations.
 
 ghost use Rattle.std.specs.Prelude.{◌≡◌, ◌<◌, ◌≤◌, ◌+◌, ◌%◌};
-ghost use Rattle.ebpf_decode.specs.InstructionCodes.{extension_size};
+ghost use Rattle.isa.specs.InstructionCodes.{extension_size, size_bytes};
 ghost use Rattle.abstract_scalar.specs.Intervals.{full_of};
-ghost use Rattle.semantics.specs.Memory.{size_bytes};
 ghost use Rattle.abstract_state.specs.Words.{loaded_number, is_byte_set, are_bytes_set, bytes_loaded, narrow_loaded, spilled_loaded, word_loaded, narrow_storable, storable};
 ghost use Rattle.abstract_state.specs.Access.{are_value_writes_served, context_kind, context_loaded, loaded_kind, signed_loaded, stack_stored, stored};
 

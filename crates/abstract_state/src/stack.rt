@@ -1,7 +1,7 @@
 //! Words of the stack.
 
 ghost use Rattle.std.specs.Prelude.{◌≡◌, ◌&&◌, ◌≤◌, ◌+◌};
-ghost use Rattle.semantics.specs.Memory.{size_bytes};
+ghost use Rattle.isa.specs.InstructionCodes.{size_bytes};
 ghost use Rattle.abstract_state.specs.Join.{zip_with, spilled, bytes_of_kind, bytes_of_word, join_bytes, join_spilled, join_word};
 ghost use Rattle.abstract_state.specs.Words.{with_set, word_stored};
 

@@ -1,7 +1,7 @@
 //! What is known of a run at a slot.
 
 ghost use Rattle.std.specs.Prelude.{◌≡◌};
-ghost use Rattle.ebpf_decode.specs.InstructionCodes.{register_number};
+ghost use Rattle.isa.specs.InstructionCodes.{register_number};
 ghost use Rattle.abstract_state.specs.States.{kind_of, with_kind, opening_state};
 
 use crate::kind::{Kind, StackWord};

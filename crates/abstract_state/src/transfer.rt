@@ -1,8 +1,7 @@
 //! What flows out of an instruction.
 
 ghost use Rattle.std.specs.Prelude.{◌≡◌, ◌≤◌};
-ghost use Rattle.ebpf_decode.specs.InstructionCodes.{width_size};
-ghost use Rattle.semantics.specs.Memory.{size_bytes};
+ghost use Rattle.isa.specs.InstructionCodes.{width_size, size_bytes};
 ghost use Rattle.semantics.specs.Semantics.{fetched_register};
 ghost use Rattle.abstract_state.specs.Access.{load_of, signed_load_of, with_fetched_kind, expects, atomic_on};
 ghost use Rattle.abstract_state.specs.Unary.{unary_change};

@@ -1,6 +1,5 @@
 -- A program's slots and its instructions determine each other.
-use Rattle.std.proofs.Common.{◌≡◌, ℕ, ◌+◌, ◌-◌, ◌/◌, ◌%◌, ◌^◌, Bool, true, false, cond, List, [], ◌∷◌, ◌++◌, length, Option, Some, None, Result, Ok, Err, refl, sym, ap, subst, ◌∙◌, append_assoc, pos, arith, w32, inl, inr, ⊎_elim}
-use Rattle.std.specs.Prelude.{◌⊎◌, eqb}
+use Rattle.std.proofs.Common.{◌≡◌, ℕ, ◌+◌, ◌-◌, ◌/◌, ◌%◌, ◌^◌, ◌≤◌, lit≤, List, [], ◌∷◌, ◌++◌, length, Option, Some, None, Result, Ok, Err, refl, sym, ap, subst, ◌∙◌, append_assoc, pos, arith, w32}
 use Rattle.std.specs.Int.{cast_signed}
 use Rattle.std.specs.List.{flat_map, AllByRecursion}
 use Rattle.std.proofs.lemmas.Grind.{flat_map-append}
@@ -17,10 +16,9 @@ use Rattle.ebpf_decode.specs.declared.wide.SlotReading.TheVariants.{Whole, Head}
 use Rattle.ebpf_decode.specs.declared.insn.Insn.{Insn}
 use Rattle.ebpf_decode.specs.declared.insn.Insn.TheVariants.{Alu, Neg, Movsx, Movsx32, End, Ja, Ja32, JumpIf, Ldx, Ldxs, St, Stx, AtomicUpdate, Lddw, Ldmap, CallHelper, Exit}
 use Rattle.ebpf_decode.specs.SlotForm.{slot_bytes, SlotFits}
-use Rattle.ebpf_decode.specs.InstructionCodes.{class_ld}
 use Rattle.ebpf_decode.specs.InstructionEncoding.{slot, slot_of, more_slots_of, slot_count, slots_of_instruction, slots_of, total_slots, instruction_bytes, FieldsFit}
-use Rattle.ebpf_decode.specs.InstructionReading.{◌>>=◌, class_of, instruction_at, head_slot, head_at, wide_insn, second_at, at_slot, step_at, pending_of, finished_by, code_from}
-use Rattle.ebpf_decode.proofs.InstructionLaws.{instruction_reads, whole_again, IsReadWhole}
+use Rattle.ebpf_decode.specs.InstructionReading.{◌>>=◌, class_of, reading_in, head_slot, head_at, wide_insn, second_at, at_slot, whole, step_at, pending_of, finished_by, code_from}
+use Rattle.ebpf_decode.proofs.InstructionLaws.{instruction_reads, head_is_read, whole_is, whole_is_no_head, whole_again, IsReadWhole}
 use Rattle.ebpf_decode.proofs.WideLaws.{head_reads, HeadFits, head_fits, second_found, wide_slots, wide_fits, number_head_again, map_head_again, number_again, map_again}
 
 -- ---- what is encoded is read
@@ -46,16 +44,12 @@ pub bind_ok : {A B E : Type 0} (r : Result A E) (f : A → Result B E) (y : B) �
 bind_ok (Ok x) f y e = (x, refl, e)
 bind_ok (Err d) f y e = absurd cc
 
-cond_either : {A : Type 0} (b : Bool) (x y z : A) → cond b x y ≡ z → (x ≡ z) ⊎ (y ≡ z)
-cond_either true x y z e = inl e
-cond_either false x y z e = inr e
-
 abbrev read : SlotReading → Result SlotReading DecodeFault
 read reading = Ok reading
 
-at_ok : {A : Type 0} (place : ℕ) (r : Result A SlotFault) (f : A → SlotReading) (reading : SlotReading) → (at_slot place r >>= λ x. read (f x)) ≡ Ok reading → (x : A) × (r ≡ Ok x) × (f x ≡ reading)
-at_ok place (Ok x) f reading e = (x, refl, cc)
-at_ok place (Err d) f reading e = absurd cc
+at_ok : (place : ℕ) (r : Result SlotReading SlotFault) (reading : SlotReading) → at_slot place r ≡ read reading → r ≡ Ok reading
+at_ok place (Ok x) reading e = let same : x ≡ reading = cc in rw same refl
+at_ok place (Err d) reading e = absurd cc
 
 -- a first slot that waits for its second
 abbrev heads : Option WideHead → List Slot
@@ -99,9 +93,9 @@ head_step s head fits e =
     let is : s ≡ head_slot head = (head_reads s).encoded head e in
     record { slots = ap (λ (t : Slot). t ∷ []) is; fits = tt; pending_fits = head_fits head (subst SlotFits is fits) }
 
-whole_step : (s : Slot) (insn : Insn) → SlotFits s → instruction_at s ≡ Ok insn → IsStep None s (Whole insn)
+whole_step : (s : Slot) (insn : Insn) → SlotFits s → reading_in (class_of s) s ≡ Ok (Whole insn) → IsStep None s (Whole insn)
 whole_step s insn fits e =
-    let is = (instruction_reads s).encoded insn e in
+    let is = instruction_reads (class_of s) s insn e in
     let none : more_slots_of insn ≡ [] = is.1 in
     record { slots = rw none (ap (λ (t : Slot). t ∷ []) is.0); fits = (fits_of insn none (subst SlotFits is.0 fits), tt); pending_fits = tt }
 
@@ -114,16 +108,10 @@ second_is_step head s insn head_ok fits e =
 
 step_found : (place : ℕ) (pending : Option WideHead) (s : Slot) (reading : SlotReading) → SlotFits s → PendingFits pending → step_at place pending s ≡ Ok reading → IsStep pending s reading
 unfolding step_at
-step_found place None s reading fits waiting e =
-    let P : SlotReading → Type 0 = λ r. IsStep None s r in
-    ⊎_elim
-    (λ h. let a = at_ok place (head_at s) (λ head. Head head) reading h in subst P a.2 (head_step s a.0 fits a.1))
-    (λ h. let a = at_ok place (instruction_at s) (λ insn. Whole insn) reading h in subst P a.2 (whole_step s a.0 fits a.1))
-    (cond_either (eqb (class_of s) class_ld) (at_slot place (head_at s) >>= λ head. Ok (Head head)) (at_slot place (instruction_at s) >>= λ insn. Ok (Whole insn)) (Ok reading) e)
-step_found place (Some head) s reading fits waiting e =
-    let P : SlotReading → Type 0 = λ r. IsStep (Some head) s r in
-    let a = at_ok (place - 1) (second_at head s) (λ insn. Whole insn) reading e in
-    subst P a.2 (second_is_step head s a.0 waiting fits a.1)
+step_found place None s (Whole insn) fits waiting e = whole_step s insn fits (at_ok place (reading_in (class_of s) s) (Whole insn) e)
+step_found place None s (Head head) fits waiting e = head_step s head fits (head_is_read (class_of s) s head (at_ok place (reading_in (class_of s) s) (Head head) e))
+step_found place (Some head) s (Whole insn) fits waiting e = second_is_step head s insn waiting fits (whole_is (second_at head s) insn (at_ok (place - 1) (whole (second_at head s)) (Whole insn) e))
+step_found place (Some head) s (Head other) fits waiting e = absurd (whole_is_no_head (second_at head s) other (at_ok (place - 1) (whole (second_at head s)) (Head other) e))
 
 code_one : (place : ℕ) (pending : Option WideHead) (s : Slot) (rest : List Slot) → code_from place pending (s ∷ rest) ≡ (step_at place pending s >>= λ reading. code_from (place + 1) (pending_of reading) rest >>= λ others. Ok (finished_by reading ++ others))
 unfolding code_from
@@ -168,6 +156,17 @@ count_is insn = refl
 pub length_slots : (code : List Insn) → length (slots_of code) ≡ total_slots code
 length_slots [] = refl
 length_slots (insn ∷ code) = omega (arith, length-append (slots_of_instruction insn) (slots_of code), count_is insn, length_slots code, sum_by-cons slot_count insn code)
+
+some_slots : (insn : Insn) → 1 ≤ slot_count insn
+unfolding slot_count
+some_slots (Lddw dst value) = lit≤ tt
+some_slots (Ldmap dst map) = lit≤ tt
+some_slots insn = lit≤ tt
+
+-- a program has at least a slot for each instruction
+pub instructions_within_slots : (code : List Insn) → length code ≤ total_slots code
+instructions_within_slots [] = omega arith
+instructions_within_slots (insn ∷ code) = omega (arith, some_slots insn, instructions_within_slots code, sum_by-cons slot_count insn code)
 
 pub bytes_of_slots : (code : List Insn) → flat_map slot_bytes (slots_of code) ≡ flat_map instruction_bytes code
 bytes_of_slots [] = refl

@@ -7,6 +7,10 @@ use Rattle.std.proofs.Math.Facts.{sfits_to_z}
 use Rattle.std.proofs.lemmas.Nat.{shr_below, mod_below}
 use Rattle.isa.specs.declared.operation.Width.{Width}
 use Rattle.isa.specs.declared.operation.Width.TheVariants.{Bits32}
+use Rattle.isa.specs.declared.operation.Class.{Class}
+use Rattle.isa.specs.declared.operation.Class.TheVariants as classes
+use Rattle.isa.specs.declared.operation.Mode.{Mode}
+use Rattle.isa.specs.declared.operation.Mode.TheVariants as modes
 use Rattle.isa.specs.declared.operation.AluOp.{AluOp}
 use Rattle.isa.specs.declared.operation.AluOp.TheVariants.{Add}
 use Rattle.isa.specs.declared.operation.Extension.{Extension}
@@ -29,25 +33,31 @@ use Rattle.ebpf_decode.specs.declared.slot.Slot.{Slot}
 use Rattle.ebpf_decode.specs.declared.insn.Insn.{Insn}
 use Rattle.ebpf_decode.specs.declared.insn.Insn.TheVariants.{Alu, Neg, Movsx, Movsx32, End, Ja, Ja32, JumpIf, Ldx, Ldxs, St, Stx, AtomicUpdate, Lddw, Ldmap, CallHelper, Exit}
 use Rattle.ebpf_decode.specs.SlotForm.{SlotFits}
-use Rattle.ebpf_decode.specs.InstructionCodes.{alu_class, jump_class, alu_code, alu_offset, extension_bits, short_bits, swap_bits, test_code, size_code, extension_size, width_size, atomic_code}
+use Rattle.isa.specs.InstructionCodes.{class_number, alu_class, jump_class, alu_code, alu_offset, mode_number, test_code, size_code, extension_size, width_size, atomic_code}
+use Rattle.isa.specs.Alu.{extension_bits, short_extension_bits}
+use Rattle.isa.specs.Swap.{swap_bits}
 use Rattle.ebpf_decode.specs.InstructionEncoding.{operation_opcode, memory_opcode, neg_opcode, order_opcode, source_bit, slot_of, more_slots_of, slots_of_instruction, slots_of, FieldsFit}
 use Rattle.ebpf_decode.proofs.SlotFacts.{slot_small}
 
 -- ---- opcodes
 
-operation_small : (code bit top : ℕ) → code < 16 → bit < 2 → top < 8 → operation_opcode code bit top < 256
-operation_small code bit top c b t = omega arith
+class_small : (c : Class) → class_number c < 8
+class_small classes.Ld = lit< tt
+class_small c = lit< tt
 
-memory_small : (mode size top : ℕ) → mode < 8 → size < 4 → top < 8 → memory_opcode mode size top < 256
-memory_small mode size top m s t = omega arith
+mode_small : (mode : Mode) → mode_number mode < 8
+mode_small modes.Imm = lit< tt
+mode_small mode = lit< tt
 
-alu_class_small : (width : Width) → alu_class width < 8
-alu_class_small Bits32 = lit< tt
-alu_class_small width = lit< tt
+size_code_small : (size : Size) → size_code size < 4
+size_code_small U8 = lit< tt
+size_code_small size = lit< tt
 
-jump_class_small : (width : Width) → jump_class width < 8
-jump_class_small Bits32 = lit< tt
-jump_class_small width = lit< tt
+operation_small : (code bit : ℕ) (c : Class) → code < 16 → bit < 2 → operation_opcode code bit c < 256
+operation_small code bit c low one = omega (arith, class_small c)
+
+memory_small : (mode : Mode) (size : Size) (c : Class) → memory_opcode mode size c < 256
+memory_small mode size c = omega (arith, mode_small mode, size_code_small size, class_small c)
 
 alu_code_small : (op : AluOp) → alu_code op < 16
 alu_code_small Add = lit< tt
@@ -56,10 +66,6 @@ alu_code_small op = lit< tt
 test_code_small : (test : Test) → test_code test < 16
 test_code_small Eq = lit< tt
 test_code_small test = lit< tt
-
-size_code_small : (size : Size) → size_code size < 4
-size_code_small U8 = lit< tt
-size_code_small size = lit< tt
 
 source_bit_small : (source : Source) → source_bit source < 2
 source_bit_small (Imm value) = lit< tt
@@ -75,19 +81,19 @@ order_opcode_small order = lit< tt
 
 opcode_small : (insn : Insn) → (slot_of insn).opcode < 256
 unfolding slot_of
-opcode_small (Alu width op dst source) = operation_small (alu_code op) (source_bit source) (alu_class width) (alu_code_small op) (source_bit_small source) (alu_class_small width)
+opcode_small (Alu width op dst source) = operation_small (alu_code op) (source_bit source) (alu_class width) (alu_code_small op) (source_bit_small source)
 opcode_small (Neg width dst) = neg_opcode_small width
 opcode_small (Movsx extension dst src) = lit< tt
 opcode_small (Movsx32 extension dst src) = lit< tt
 opcode_small (End order swap_width dst) = order_opcode_small order
 opcode_small (Ja distance) = lit< tt
 opcode_small (Ja32 distance) = lit< tt
-opcode_small (JumpIf width test dst source distance) = operation_small (test_code test) (source_bit source) (jump_class width) (test_code_small test) (source_bit_small source) (jump_class_small width)
-opcode_small (Ldx size dst src offset) = memory_small 3 (size_code size) 1 (lit< tt) (size_code_small size) (lit< tt)
-opcode_small (Ldxs extension dst src offset) = memory_small 4 (size_code (extension_size extension)) 1 (lit< tt) (size_code_small (extension_size extension)) (lit< tt)
-opcode_small (St size dst offset immediate) = memory_small 3 (size_code size) 2 (lit< tt) (size_code_small size) (lit< tt)
-opcode_small (Stx size dst src offset) = memory_small 3 (size_code size) 3 (lit< tt) (size_code_small size) (lit< tt)
-opcode_small (AtomicUpdate width op dst src offset) = memory_small 6 (size_code (width_size width)) 3 (lit< tt) (size_code_small (width_size width)) (lit< tt)
+opcode_small (JumpIf width test dst source distance) = operation_small (test_code test) (source_bit source) (jump_class width) (test_code_small test) (source_bit_small source)
+opcode_small (Ldx size dst src offset) = memory_small modes.Mem size classes.Ldx
+opcode_small (Ldxs extension dst src offset) = memory_small modes.MemSx (extension_size extension) classes.Ldx
+opcode_small (St size dst offset immediate) = memory_small modes.Mem size classes.St
+opcode_small (Stx size dst src offset) = memory_small modes.Mem size classes.Stx
+opcode_small (AtomicUpdate width op dst src offset) = memory_small modes.Atomic (width_size width) classes.Stx
 opcode_small (Lddw dst value) = lit< tt
 opcode_small (Ldmap dst map) = lit< tt
 opcode_small (CallHelper helper) = lit< tt
@@ -109,7 +115,7 @@ extension_fits : (extension : Extension) → FitsSigned w16 (pos (extension_bits
 extension_fits I8 = record { sfits = lit< tt }
 extension_fits extension = record { sfits = lit< tt }
 
-short_fits : (extension : ShortExtension) → FitsSigned w16 (pos (short_bits extension))
+short_fits : (extension : ShortExtension) → FitsSigned w16 (pos (short_extension_bits extension))
 short_fits Short8 = record { sfits = lit< tt }
 short_fits extension = record { sfits = lit< tt }
 

@@ -7,7 +7,7 @@ use Rattle.isa.specs.declared.operation.Source.TheVariants.{Imm, Reg}
 use Rattle.ebpf_decode.specs.declared.slot.Slot.{Slot}
 use Rattle.ebpf_decode.specs.declared.insn.Insn.{Insn}
 use Rattle.ebpf_decode.specs.declared.insn.Insn.TheVariants.{Alu, Neg, Movsx, Movsx32, End, Ja, Ja32, JumpIf, Ldx, Ldxs, St, Stx, AtomicUpdate, Lddw, Ldmap, CallHelper, Exit}
-use Rattle.ebpf_decode.specs.InstructionCodes.{register_number}
+use Rattle.isa.specs.InstructionCodes.{register_number}
 use Rattle.ebpf_decode.specs.InstructionEncoding.{slot_of, more_slots_of, source_register}
 
 pub register_small : (r : Register) → register_number r < 16

@@ -15,9 +15,9 @@ use Rattle.ebpf_decode.specs.declared.wide.SlotReading.TheVariants.{Whole, Head}
 use Rattle.ebpf_decode.specs.declared.insn.Insn.{Insn}
 use Rattle.ebpf_decode.specs.declared.insn.Insn.TheVariants.{Lddw, Ldmap}
 use Rattle.ebpf_decode.specs.SlotForm.{same_slot, SlotFits}
-use Rattle.ebpf_decode.specs.InstructionCodes.{register_number}
+use Rattle.isa.specs.InstructionCodes.{register_number}
 use Rattle.ebpf_decode.specs.InstructionEncoding.{slot, wide_opcode, slot_of, more_slots_of, slots_of_instruction, FieldsFit}
-use Rattle.ebpf_decode.specs.InstructionReading.{◌>>=◌, register_at, head_slot, exact_head, number_head_at, map_head_at, head_at, wide_insn, second_slot, second_at, step_at}
+use Rattle.ebpf_decode.specs.InstructionReading.{◌>>=◌, register_at, head_slot, exact_head, number_head_at, map_head_at, head_at, wide_insn, second_slot, second_at, reading_in, step_at}
 use Rattle.ebpf_decode.proofs.SlotLaws.{equal_from_same, same_itself}
 use Rattle.ebpf_decode.proofs.InstructionLaws.{register_again}
 
@@ -75,11 +75,11 @@ unfolding exact_head
 exact_head_again head = rw (same_itself (head_slot head)) refl
 
 pub number_head_again : (place : ℕ) (dst : Register) (value : ℕ) → step_at place None (slot_of (Lddw dst value)) ≡ Ok (Head (Number dst (cast_signed w32 (value % 2 ^ 32))))
-unfolding step_at head_at number_head_at slot_of head_slot
+unfolding step_at reading_in head_at number_head_at slot_of head_slot
 number_head_again place dst value = rw (register_again dst, exact_head_again (Number dst (cast_signed w32 (value % 2 ^ 32)))) refl
 
 pub map_head_again : (place : ℕ) (dst : Register) (map : ℤ) → step_at place None (slot_of (Ldmap dst map)) ≡ Ok (Head (Map dst map))
-unfolding step_at head_at map_head_at slot_of head_slot
+unfolding step_at reading_in head_at map_head_at slot_of head_slot
 map_head_again place dst map = rw (register_again dst, exact_head_again (Map dst map)) refl
 
 -- ---- second slots

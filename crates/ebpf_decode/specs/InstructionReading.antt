@@ -1,6 +1,6 @@
 -- What one slot is read as, or its first fault. Within a slot the lower fault comes first: the opcode and the fields that select
 -- are tested before the registers, and these before the unused fields.
-use Rattle.std.specs.Prelude.{ℕ, ◌+◌, ◌-◌, ◌*◌, ◌^◌, ◌/◌, ◌%◌, Option, Some, None, Result, Ok, Err, Bool, ℤ, pos, List, [], ◌∷◌, ◌++◌, ◌==◌, nat_le, ◌&&◌, ◌||◌, not, if◌then◌else◌}
+use Rattle.std.specs.Prelude.{ℕ, ◌+◌, ◌-◌, ◌*◌, ◌^◌, ◌/◌, ◌%◌, Option, Some, None, Result, Ok, Err, Bool, true, false, ℤ, pos, List, [], ◌∷◌, ◌++◌, ◌==◌, nat_le, ◌&&◌, ◌||◌, not, if◌then◌else◌}
 use Rattle.std.specs.List.{find}
 use Rattle.std.specs.Int.{w32, cast_unsigned}
 use Rattle.std.specs.Option.{ok_or}
@@ -31,7 +31,13 @@ use Rattle.ebpf_decode.specs.declared.wide.SlotReading.TheVariants.{Whole, Head}
 use Rattle.ebpf_decode.specs.declared.insn.Insn.{Insn}
 use Rattle.ebpf_decode.specs.declared.insn.Insn.TheVariants.{Alu, Neg, Movsx, Movsx32, End, Ja, Ja32, JumpIf, Ldx, Ldxs, St, Stx, AtomicUpdate, Lddw, Ldmap, CallHelper, Exit}
 use Rattle.ebpf_decode.specs.SlotForm.{same_slot}
-use Rattle.ebpf_decode.specs.InstructionCodes.{register_number, registers, class_ld, class_ldx, class_st, alu_class, jump_class, alu_code, alu_offset, alu_ops, end_code, extension_bits, extensions, short_bits, short_extensions, orders, swap_bits, swap_widths, test_code, tests, mode_abs, mode_ind, mode_mem, mode_memsx, mode_atomic, size_code, sizes, extension_size, width_size, widths, atomic_code, atomic_ops}
+use Rattle.isa.specs.declared.operation.Class.{Class}
+use Rattle.isa.specs.declared.operation.Class.TheVariants as classes
+use Rattle.isa.specs.declared.operation.Mode.{Mode}
+use Rattle.isa.specs.declared.operation.Mode.TheVariants as modes
+use Rattle.isa.specs.Alu.{extension_bits, short_extension_bits}
+use Rattle.isa.specs.Swap.{swap_bits}
+use Rattle.isa.specs.InstructionCodes.{register_number, register_of, class_of_opcode, alu_code, alu_offset, alu_ops, end_code, extensions, short_extensions, orders, swap_widths, test_code, tests, mode_of_opcode, size_code, sizes, extension_size, width_size, widths, atomic_code, atomic_ops}
 use Rattle.ebpf_decode.specs.InstructionEncoding.{slot, slot_of, wide_opcode, neg_opcode, movsx_opcode, order_opcode, ja_opcode, ja32_opcode, call_opcode, exit_opcode}
 
 infixl 10 ◌>>=◌
@@ -41,8 +47,8 @@ abbrev pub ◌>>=◌ : {A B E : Type 0} → Result A E → (A → Result B E) �
 
 -- ---- the parts of an opcode
 
-abbrev pub class_of : Slot → ℕ
-class_of s = s.opcode % 8
+abbrev pub class_of : Slot → Class
+class_of s = class_of_opcode s.opcode
 
 abbrev pub source_bit_of : Slot → ℕ
 source_bit_of s = s.opcode / 8 % 2
@@ -53,13 +59,13 @@ code_of s = s.opcode / 16
 abbrev pub size_of : Slot → ℕ
 size_of s = s.opcode / 8 % 4
 
-abbrev pub mode_of : Slot → ℕ
-mode_of s = s.opcode / 32
+abbrev pub mode_of : Slot → Option Mode
+mode_of s = mode_of_opcode s.opcode
 
 -- ---- what a number names
 
 unfoldable pub register_at : ℕ → Result Register SlotFault
-register_at number = ok_or (find (λ r. register_number r == number) registers) BadRegister
+register_at number = ok_or (register_of number) BadRegister
 
 -- division and remainder, which are told from their signed forms by the offset
 abbrev pub is_division : ℕ → Bool
@@ -75,7 +81,7 @@ unfoldable pub extension_at : ℤ → Result Extension SlotFault
 extension_at offset = ok_or (find (λ e. int_eq (pos (extension_bits e)) offset) extensions) UnknownOpcode
 
 unfoldable pub short_extension_at : ℤ → Result ShortExtension SlotFault
-short_extension_at offset = ok_or (find (λ e. int_eq (pos (short_bits e)) offset) short_extensions) UnknownOpcode
+short_extension_at offset = ok_or (find (λ e. int_eq (pos (short_extension_bits e)) offset) short_extensions) UnknownOpcode
 
 unfoldable pub order_at : ℕ → Result ByteOrder SlotFault
 order_at opcode = ok_or (find (λ o. order_opcode o == opcode) orders) UnknownOpcode
@@ -211,31 +217,20 @@ atomic_at s = do
   src ← register_at s.src
   exactly s (AtomicUpdate width op dst src s.offset)
 
--- classes LDX, ST and STX
-unfoldable pub load_at : Slot → Result Insn SlotFault
-load_at s =
-    if mode_of s == mode_mem then ldx_at s else
-    if mode_of s == mode_memsx then ldxs_at s else Err UnknownOpcode
+-- classes LDX, ST and STX, by the mode
+unfoldable pub load_at : Option Mode → Slot → Result Insn SlotFault
+load_at (Some modes.Mem) s = ldx_at s
+load_at (Some modes.MemSx) s = ldxs_at s
+load_at mode s = Err UnknownOpcode
 
-unfoldable pub store_immediate_at : Slot → Result Insn SlotFault
-store_immediate_at s = if mode_of s == mode_mem then st_at s else Err UnknownOpcode
+unfoldable pub store_immediate_at : Option Mode → Slot → Result Insn SlotFault
+store_immediate_at (Some modes.Mem) s = st_at s
+store_immediate_at mode s = Err UnknownOpcode
 
-unfoldable pub store_at : Slot → Result Insn SlotFault
-store_at s =
-    if mode_of s == mode_mem then stx_at s else
-    if mode_of s == mode_atomic then atomic_at s else Err UnknownOpcode
-
--- ---- one slot
-
--- an instruction that takes one slot
-unfoldable pub instruction_at : Slot → Result Insn SlotFault
-instruction_at s =
-    if class_of s == alu_class Bits64 then arithmetic_at Bits64 s else
-    if class_of s == alu_class Bits32 then arithmetic_at Bits32 s else
-    if class_of s == jump_class Bits64 then jump_at Bits64 s else
-    if class_of s == jump_class Bits32 then jump_at Bits32 s else
-    if class_of s == class_ldx then load_at s else
-    if class_of s == class_st then store_immediate_at s else store_at s
+unfoldable pub store_at : Option Mode → Slot → Result Insn SlotFault
+store_at (Some modes.Mem) s = stx_at s
+store_at (Some modes.Atomic) s = atomic_at s
+store_at mode s = Err UnknownOpcode
 
 -- ---- wide instructions, of two slots
 
@@ -248,8 +243,13 @@ unfoldable pub exact_head : Slot → WideHead → Result WideHead SlotFault
 exact_head s head = if same_slot s (head_slot head) then Ok head else Err FieldNotZero
 
 -- legacy loads from packets (RFC 9669, section 5.5), in words, half words and bytes
+abbrev pub is_legacy_mode : Option Mode → Bool
+is_legacy_mode (Some modes.Abs) = true
+is_legacy_mode (Some modes.Ind) = true
+is_legacy_mode mode = false
+
 abbrev pub is_legacy : Slot → Bool
-is_legacy s = ((mode_of s == mode_abs) || (mode_of s == mode_ind)) && not (size_of s == 3)
+is_legacy s = is_legacy_mode (mode_of s) && not (size_of s == 3)
 
 unfoldable pub number_head_at : Slot → Result WideHead SlotFault
 number_head_at s = do
@@ -283,6 +283,29 @@ second_slot (Map dst map) s = slot 0 0 0 (pos 0) (pos 0)
 unfoldable pub second_at : WideHead → Slot → Result Insn SlotFault
 second_at head s = if same_slot s (second_slot head s) then Ok (wide_insn head s) else Err FieldNotZero
 
+-- ---- one slot
+
+-- an instruction that ends with its first slot
+abbrev pub whole : Result Insn SlotFault → Result SlotReading SlotFault
+whole (Ok insn) = Ok (Whole insn)
+whole (Err fault) = Err fault
+
+-- an instruction that waits for its second slot
+abbrev pub begun : Result WideHead SlotFault → Result SlotReading SlotFault
+begun (Ok head) = Ok (Head head)
+begun (Err fault) = Err fault
+
+-- a slot of this class
+unfoldable pub reading_in : Class → Slot → Result SlotReading SlotFault
+reading_in classes.Ld s = begun (head_at s)
+reading_in classes.Ldx s = whole (load_at (mode_of s) s)
+reading_in classes.St s = whole (store_immediate_at (mode_of s) s)
+reading_in classes.Stx s = whole (store_at (mode_of s) s)
+reading_in classes.Alu s = whole (arithmetic_at Bits32 s)
+reading_in classes.Alu64 s = whole (arithmetic_at Bits64 s)
+reading_in classes.Jmp s = whole (jump_at Bits64 s)
+reading_in classes.Jmp32 s = whole (jump_at Bits32 s)
+
 -- ---- all slots
 
 abbrev pub fault_at : ℕ → SlotFault → DecodeFault
@@ -299,15 +322,8 @@ at_slot place (Err fault) = Err (fault_at place fault)
 
 -- what one slot gives, after the head of a wide instruction or nothing; a fault of a wide instruction names its first slot
 unfoldable pub step_at : ℕ → Option WideHead → Slot → Result SlotReading DecodeFault
-step_at place None s =
-    if class_of s == class_ld then (do
-      head ← at_slot place (head_at s)
-      Ok (Head head)) else (do
-        insn ← at_slot place (instruction_at s)
-        Ok (Whole insn))
-step_at place (Some head) s = do
-  insn ← at_slot (place - 1) (second_at head s)
-  Ok (Whole insn)
+step_at place None s = at_slot place (reading_in (class_of s) s)
+step_at place (Some head) s = at_slot (place - 1) (whole (second_at head s))
 
 abbrev pub pending_of : SlotReading → Option WideHead
 pending_of (Whole insn) = None

@@ -1,6 +1,6 @@
-pub mod InstructionCodes
 pub mod SlotForm
 pub mod InstructionEncoding
+pub mod Jumps
 pub mod InstructionReading
 pub mod MapForm
 pub mod ImageContents

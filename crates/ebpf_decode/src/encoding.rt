@@ -2,7 +2,7 @@
 
 ghost use Rattle.std.specs.Prelude.{◌≡◌, ◌<◌, ◌^◌, ◌/◌, ◌%◌, pos};
 ghost use Rattle.std.specs.Int.{w32, cast_signed};
-ghost use Rattle.ebpf_decode.specs.InstructionCodes.{register_number};
+ghost use Rattle.isa.specs.InstructionCodes.{register_number};
 ghost use Rattle.ebpf_decode.specs.InstructionReading.{head_slot};
 ghost use Rattle.ebpf_decode.specs.InstructionEncoding.{slot, slot_of, more_slots_of, option_list, neg_opcode, movsx_opcode, wide_opcode, ja_opcode, ja32_opcode, call_opcode, exit_opcode, source_bit, source_register, source_immediate};
 
@@ -10,55 +10,58 @@ use crate::codes;
 use crate::insn::Insn;
 use crate::slot::Slot;
 use crate::wide::WideHead;
-use isa::{AluOp, AtomicOp, ByteOrder, Extension, Register, Size, Source, SwapWidth, Test, Width};
+use isa::{
+    AluOp, AtomicOp, ByteOrder, Class, Extension, Mode, Register, Size, Source, SwapWidth, Test,
+    Width,
+};
 
 /// The opcode of a negation.
 pub fn neg_opcode(width: Width) -> u8
     ensures { result ≡ neg_opcode width }
 {
-    codes::operation_opcode(codes::NEG, 0, codes::alu_class(width))
+    codes::operation_opcode(codes::NEG, 0, width.alu_class())
 }
 
 /// The opcode of a move between registers, and so of the sign-extending ones.
 pub fn movsx_opcode(width: Width) -> u8
     ensures { result ≡ movsx_opcode width }
 {
-    codes::operation_opcode(codes::MOV, 1, codes::alu_class(width))
+    codes::operation_opcode(AluOp::Mov.code(), 1, width.alu_class())
 }
 
 /// The opcode of a wide instruction.
 pub fn wide_opcode() -> u8
     ensures { result ≡ wide_opcode }
 {
-    codes::memory_opcode(codes::IMM, codes::DW, codes::LD)
+    codes::memory_opcode(Mode::Imm, Size::U64, Class::Ld)
 }
 
 /// The opcode of a jump by the offset.
 pub fn ja_opcode() -> u8
     ensures { result ≡ ja_opcode }
 {
-    codes::operation_opcode(codes::JA, 0, codes::jump_class(Width::Bits64))
+    codes::operation_opcode(codes::JA, 0, Class::Jmp)
 }
 
 /// The opcode of a jump by the immediate.
 pub fn ja32_opcode() -> u8
     ensures { result ≡ ja32_opcode }
 {
-    codes::operation_opcode(codes::JA, 0, codes::jump_class(Width::Bits32))
+    codes::operation_opcode(codes::JA, 0, Class::Jmp32)
 }
 
 /// The opcode of a call.
 pub fn call_opcode() -> u8
     ensures { result ≡ call_opcode }
 {
-    codes::operation_opcode(codes::CALL, 0, codes::jump_class(Width::Bits64))
+    codes::operation_opcode(codes::CALL, 0, Class::Jmp)
 }
 
 /// The opcode of an exit.
 pub fn exit_opcode() -> u8
     ensures { result ≡ exit_opcode }
 {
-    codes::operation_opcode(codes::EXIT, 0, codes::jump_class(Width::Bits64))
+    codes::operation_opcode(codes::EXIT, 0, Class::Jmp)
 }
 
 fn source_bit(source: Source) -> u8
@@ -76,7 +79,7 @@ fn source_register(source: Source) -> u8
 {
     match source {
         Source::Imm(_) => 0,
-        Source::Reg(register) => codes::register_number(register),
+        Source::Reg(register) => register.number(),
     }
 }
 
@@ -94,14 +97,10 @@ fn binary_slot(width: Width, op: AluOp, dst: Register, source: Source) -> Slot
     ensures { result ≡ slot_of (Insn.Alu width op dst source) }
 {
     Slot {
-        opcode: codes::operation_opcode(
-            codes::alu_code(op),
-            source_bit(source),
-            codes::alu_class(width),
-        ),
-        dst: codes::register_number(dst),
+        opcode: codes::operation_opcode(op.code(), source_bit(source), width.alu_class()),
+        dst: dst.number(),
         src: source_register(source),
-        offset: codes::alu_offset(op),
+        offset: i16::from(op.offset()),
         immediate: source_immediate(source),
     }
 }
@@ -112,7 +111,7 @@ fn neg_slot(width: Width, dst: Register) -> Slot
 {
     Slot {
         opcode: neg_opcode(width),
-        dst: codes::register_number(dst),
+        dst: dst.number(),
         src: 0,
         offset: 0,
         immediate: 0,
@@ -124,8 +123,8 @@ fn movsx_slot(width: Width, bits: i16, dst: Register, src: Register) -> Slot
 {
     Slot {
         opcode: movsx_opcode(width),
-        dst: codes::register_number(dst),
-        src: codes::register_number(src),
+        dst: dst.number(),
+        src: src.number(),
         offset: bits,
         immediate: 0,
     }
@@ -137,10 +136,10 @@ fn end_slot(order: ByteOrder, swap_width: SwapWidth, dst: Register) -> Slot
 {
     Slot {
         opcode: codes::order_opcode(order),
-        dst: codes::register_number(dst),
+        dst: dst.number(),
         src: 0,
         offset: 0,
-        immediate: codes::swap_bits(swap_width),
+        immediate: i32::from(swap_width.bits()),
     }
 }
 
@@ -162,12 +161,8 @@ fn conditional_slot(width: Width, test: Test, dst: Register, source: Source, dis
     ensures { result ≡ slot_of (Insn.JumpIf width test dst source distance) }
 {
     Slot {
-        opcode: codes::operation_opcode(
-            codes::test_code(test),
-            source_bit(source),
-            codes::jump_class(width),
-        ),
-        dst: codes::register_number(dst),
+        opcode: codes::operation_opcode(test.code(), source_bit(source), width.jump_class()),
+        dst: dst.number(),
         src: source_register(source),
         offset: distance,
         immediate: source_immediate(source),
@@ -180,8 +175,8 @@ fn memory_slot(opcode: u8, dst: Register, src: Register, offset: i16, immediate:
 {
     Slot {
         opcode,
-        dst: codes::register_number(dst),
-        src: codes::register_number(src),
+        dst: dst.number(),
+        src: src.number(),
         offset,
         immediate,
     }
@@ -192,8 +187,8 @@ fn st_slot(size: Size, dst: Register, offset: i16, immediate: i32) -> Slot
     ensures { result ≡ slot_of (Insn.St size dst offset immediate) }
 {
     Slot {
-        opcode: codes::memory_opcode(codes::MEM, codes::size_code(size), codes::ST),
-        dst: codes::register_number(dst),
+        opcode: codes::memory_opcode(Mode::Mem, size, Class::St),
+        dst: dst.number(),
         src: 0,
         offset,
         immediate,
@@ -204,7 +199,7 @@ fn st_slot(size: Size, dst: Register, offset: i16, immediate: i32) -> Slot
 fn ldx_slot(size: Size, dst: Register, src: Register, offset: i16) -> Slot
     ensures { result ≡ slot_of (Insn.Ldx size dst src offset) }
 {
-    let opcode = codes::memory_opcode(codes::MEM, codes::size_code(size), codes::LDX);
+    let opcode = codes::memory_opcode(Mode::Mem, size, Class::Ldx);
     memory_slot(opcode, dst, src, offset, 0)
 }
 
@@ -212,8 +207,7 @@ fn ldx_slot(size: Size, dst: Register, src: Register, offset: i16) -> Slot
 fn ldxs_slot(extension: Extension, dst: Register, src: Register, offset: i16) -> Slot
     ensures { result ≡ slot_of (Insn.Ldxs extension dst src offset) }
 {
-    let size = codes::extension_size(extension);
-    let opcode = codes::memory_opcode(codes::MEMSX, codes::size_code(size), codes::LDX);
+    let opcode = codes::memory_opcode(Mode::MemSx, extension.size(), Class::Ldx);
     memory_slot(opcode, dst, src, offset, 0)
 }
 
@@ -221,7 +215,7 @@ fn ldxs_slot(extension: Extension, dst: Register, src: Register, offset: i16) ->
 fn stx_slot(size: Size, dst: Register, src: Register, offset: i16) -> Slot
     ensures { result ≡ slot_of (Insn.Stx size dst src offset) }
 {
-    let opcode = codes::memory_opcode(codes::MEM, codes::size_code(size), codes::STX);
+    let opcode = codes::memory_opcode(Mode::Mem, size, Class::Stx);
     memory_slot(opcode, dst, src, offset, 0)
 }
 
@@ -229,9 +223,8 @@ fn stx_slot(size: Size, dst: Register, src: Register, offset: i16) -> Slot
 fn atomic_slot(width: Width, op: AtomicOp, dst: Register, src: Register, offset: i16) -> Slot
     ensures { result ≡ slot_of (Insn.AtomicUpdate width op dst src offset) }
 {
-    let size = codes::width_size(width);
-    let opcode = codes::memory_opcode(codes::ATOMIC, codes::size_code(size), codes::STX);
-    memory_slot(opcode, dst, src, offset, codes::atomic_code(op))
+    let opcode = codes::memory_opcode(Mode::Atomic, width.size(), Class::Stx);
+    memory_slot(opcode, dst, src, offset, i32::from(op.code()))
 }
 
 /// The first slot of a wide instruction.
@@ -242,14 +235,14 @@ pub fn head_slot(head: WideHead) -> Slot
     match head {
         WideHead::Number { dst, low } => Slot {
             opcode: wide_opcode(),
-            dst: codes::register_number(dst),
+            dst: dst.number(),
             src: 0,
             offset: 0,
             immediate: low,
         },
         WideHead::Map { dst, map } => Slot {
             opcode: wide_opcode(),
-            dst: codes::register_number(dst),
+            dst: dst.number(),
             src: 1,
             offset: 0,
             immediate: map,
@@ -280,8 +273,8 @@ pub fn slot_of(insn: Insn) -> Slot
     match insn {
         Insn::Alu { width, op, dst, source } => binary_slot(width, op, dst, source),
         Insn::Neg { width, dst } => neg_slot(width, dst),
-        Insn::Movsx { extension, dst, src } => movsx_slot(Width::Bits64, codes::extension_bits(extension), dst, src),
-        Insn::Movsx32 { extension, dst, src } => movsx_slot(Width::Bits32, codes::short_bits(extension), dst, src),
+        Insn::Movsx { extension, dst, src } => movsx_slot(Width::Bits64, i16::from(extension.bits()), dst, src),
+        Insn::Movsx32 { extension, dst, src } => movsx_slot(Width::Bits32, i16::from(extension.bits()), dst, src),
         Insn::End { order, swap_width, dst } => end_slot(order, swap_width, dst),
         Insn::Ja { distance } => bare_slot(ja_opcode(), distance, 0),
         Insn::Ja32 { distance } => bare_slot(ja32_opcode(), 0, distance),

@@ -51,7 +51,7 @@ impl Image {
         ensures made { IfOk result (λ image. image ≡ record { maps = maps.items; code = code.items }) }
         ensures fault { fault_of result ≡ first_part_fault maps.items code.items }
     {
-        known_code(&code);
+        code_fields_fit(&code);
         match part_fault(&maps, &code) {
             Some(fault) => Err(fault),
             None => Ok(Image::new(maps, code)),
@@ -73,34 +73,23 @@ impl Image {
     {
         &self.code
     }
-}
 
-impl Insn {
-    /// How many slots the instruction takes: a wide one two, any other one.
-    #[tactic(auto, unfolding(crate::specs::InstructionEncoding::slot_count))]
-    pub fn slot_count(self) -> u32
-        ensures count { result ≡ slot_count self }
-        ensures few { result ≤ 2 }
+    /// How many slots the program takes: 1 to 4096.
+    pub fn slots(&self) -> usize
+        ensures slots { result ≡ total_slots self.now.code }
+        ensures some { 1 ≤ result }
+        ensures most { result ≤ 4096 }
     {
-        match self {
-            Insn::Lddw { .. } | Insn::Ldmap { .. } => 2,
-            _ => 1,
-        }
+        total_slots(self.code())
     }
-
-    /// The numbers of an instruction are in their types' ranges.
-    #[tactic(auto, unfolding(crate::specs::InstructionEncoding::FieldsFit))]
-    fn known(self)
-        ensures { FieldsFit self }
-    {}
 }
 
 /// The numbers of the instructions are in their types' ranges.
-fn known_code(code: &[Insn])
+fn code_fields_fit(code: &[Insn])
     ensures { AllByRecursion FieldsFit code.now }
 {
     for insn in code {
-        insn.known();
+        insn.fields_fit();
     }
 }
 
@@ -146,7 +135,7 @@ fn code_fault(code: &[Insn]) -> Option<DecodeFault>
 }
 
 /// How many slots the instructions take.
-fn total_slots(code: &[Insn]) -> usize
+pub fn total_slots(code: &[Insn]) -> usize
     requires { length code.now ≤ 4096 }
     ensures { result ≡ total_slots code.now }
 {

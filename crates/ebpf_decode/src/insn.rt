@@ -1,5 +1,9 @@
 //! An instruction with its fields, for the whole of RFC 9669's table that images may use.
 
+ghost use Rattle.std.specs.Prelude.{◌≡◌, ◌≤◌};
+ghost use Rattle.ebpf_decode.specs.InstructionEncoding.{FieldsFit, slot_count};
+ghost use Rattle.ebpf_decode.specs.Jumps.{jump_distance};
+
 use isa::{
     AluOp, AtomicOp, ByteOrder, Extension, Register, ShortExtension, Size, Source, SwapWidth, Test,
     Width,
@@ -107,4 +111,37 @@ pub enum Insn {
     },
     /// Ends the run.
     Exit,
+}
+
+impl Insn {
+    /// How many slots the instruction takes: a wide one two, any other one.
+    #[tactic(auto, unfolding(crate::specs::InstructionEncoding::slot_count))]
+    pub fn slot_count(self) -> u32
+        ensures count { result ≡ slot_count self }
+        ensures few { result ≤ 2 }
+    {
+        match self {
+            Insn::Lddw { .. } | Insn::Ldmap { .. } => 2,
+            _ => 1,
+        }
+    }
+
+    /// How far the instruction may jump, in slots from the slot after it; none of an instruction that is no jump.
+    #[tactic(auto, unfolding(crate::specs::Jumps::jump_distance))]
+    pub fn jump_distance(self) -> Option<i32>
+        ensures { result ≡ jump_distance self }
+    {
+        match self {
+            Insn::Ja { distance } => Some(i32::from(distance)),
+            Insn::Ja32 { distance } => Some(distance),
+            Insn::JumpIf { distance, .. } => Some(i32::from(distance)),
+            _ => None,
+        }
+    }
+
+    /// The fact that the numbers of an instruction are in their types' ranges.
+    #[tactic(auto, unfolding(crate::specs::InstructionEncoding::FieldsFit))]
+    pub fn fields_fit(self)
+        ensures { FieldsFit self }
+    {}
 }

@@ -1,22 +1,23 @@
 //! Loads, stores and atomic operations as they stand in a slot (classes LDX, ST and STX; RFC 9669, section 5).
 
 ghost use Rattle.std.specs.Prelude.{◌≡◌};
-ghost use Rattle.ebpf_decode.specs.InstructionReading.{ldx_at, ldxs_at, st_at, stx_at, atomic_at, load_at, store_immediate_at, store_at};
+ghost use Rattle.ebpf_decode.specs.InstructionReading.{ldx_at, ldxs_at, st_at, stx_at, atomic_at, mode_of, load_at, store_immediate_at, store_at};
 
 use crate::codes;
 use crate::fault::SlotFault;
 use crate::insn::Insn;
 use crate::slot::Slot;
+use isa::Mode;
 
 impl Slot {
     /// The load of a slot of class LDX, or its first fault.
     #[tactic(auto, unfolding(crate::specs::InstructionReading::load_at))]
     pub(crate) fn load(self) -> Result<Insn, SlotFault>
-        ensures { result ≡ load_at self }
+        ensures { result ≡ load_at (mode_of self) self }
     {
         match self.mode() {
-            codes::MEM => self.ldx(),
-            codes::MEMSX => self.ldxs(),
+            Some(Mode::Mem) => self.ldx(),
+            Some(Mode::MemSx) => self.ldxs(),
             _ => Err(SlotFault::UnknownOpcode),
         }
     }
@@ -24,10 +25,10 @@ impl Slot {
     /// The store of a slot of class ST, or its first fault.
     #[tactic(auto, unfolding(crate::specs::InstructionReading::store_immediate_at))]
     pub(crate) fn store_immediate(self) -> Result<Insn, SlotFault>
-        ensures { result ≡ store_immediate_at self }
+        ensures { result ≡ store_immediate_at (mode_of self) self }
     {
         match self.mode() {
-            codes::MEM => self.st(),
+            Some(Mode::Mem) => self.st(),
             _ => Err(SlotFault::UnknownOpcode),
         }
     }
@@ -35,11 +36,11 @@ impl Slot {
     /// The store or atomic operation of a slot of class STX, or its first fault.
     #[tactic(auto, unfolding(crate::specs::InstructionReading::store_at))]
     pub(crate) fn store(self) -> Result<Insn, SlotFault>
-        ensures { result ≡ store_at self }
+        ensures { result ≡ store_at (mode_of self) self }
     {
         match self.mode() {
-            codes::MEM => self.stx(),
-            codes::ATOMIC => self.atomic(),
+            Some(Mode::Mem) => self.stx(),
+            Some(Mode::Atomic) => self.atomic(),
             _ => Err(SlotFault::UnknownOpcode),
         }
     }

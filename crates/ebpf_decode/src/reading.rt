@@ -6,7 +6,6 @@ ghost use Rattle.ebpf_decode.specs.InstructionReading.{at_slot, step_at, pending
 ghost use Rattle.ebpf_decode.specs.ImageContents.{Contents};
 ghost use Rattle.ebpf_decode.specs.ImageFormat.{Gives, map_count, has_head, maps_at, code_at, image_at, has_code_size, may_ask_memory, first_decode_fault, IsImageEncoding};
 
-use crate::codes;
 use crate::fault::{DecodeFault, SlotFault};
 use crate::image::{Image, MAX_SLOTS};
 use crate::insn::Insn;
@@ -68,16 +67,9 @@ fn step(place: u32, pending: Option<WideHead>, slot: Slot) -> Result<SlotReading
 fn first_step(place: u32, slot: Slot) -> Result<SlotReading, DecodeFault>
     ensures { result ≡ step_at place None slot }
 {
-    if slot.class() == codes::LD {
-        match slot.head() {
-            Ok(head) => Ok(SlotReading::Head(head)),
-            Err(fault) => Err(fault.at(place)),
-        }
-    } else {
-        match slot.instruction() {
-            Ok(insn) => Ok(SlotReading::Whole(insn)),
-            Err(fault) => Err(fault.at(place)),
-        }
+    match slot.reading() {
+        Ok(reading) => Ok(reading),
+        Err(fault) => Err(fault.at(place)),
     }
 }
 

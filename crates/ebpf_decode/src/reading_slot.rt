@@ -1,43 +1,58 @@
 //! One slot read as an instruction, by its class.
 
 ghost use Rattle.std.specs.Prelude.{◌≡◌};
-ghost use Rattle.ebpf_decode.specs.InstructionReading.{class_of, source_bit_of, code_of, size_of, mode_of, source_at, exactly, instruction_at};
+ghost use Rattle.ebpf_decode.specs.InstructionReading.{class_of, source_bit_of, code_of, size_of, mode_of, source_at, exactly, whole, begun, reading_in};
 
 use crate::fault::SlotFault;
 use crate::insn::Insn;
 use crate::slot::Slot;
+use crate::wide::{SlotReading, WideHead};
 use crate::{codes, encoding};
-use isa::{Source, Width};
+use isa::{Class, Mode, Source, Width};
+
+/// An instruction that ends with its first slot.
+pub(crate) fn whole(read: Result<Insn, SlotFault>) -> Result<SlotReading, SlotFault>
+    ensures { result ≡ whole read }
+{
+    match read {
+        Ok(insn) => Ok(SlotReading::Whole(insn)),
+        Err(fault) => Err(fault),
+    }
+}
+
+/// An instruction that waits for its second slot.
+fn begun(read: Result<WideHead, SlotFault>) -> Result<SlotReading, SlotFault>
+    ensures { result ≡ begun read }
+{
+    match read {
+        Ok(head) => Ok(SlotReading::Head(head)),
+        Err(fault) => Err(fault),
+    }
+}
 
 impl Slot {
-    /// The instruction of a slot that is not of class LD, or its first fault.
-    #[tactic(auto, unfolding(crate::specs::InstructionReading::instruction_at))]
-    pub(crate) fn instruction(self) -> Result<Insn, SlotFault>
-        ensures { result ≡ instruction_at self }
+    /// What a slot gives that ends no wide instruction, or its first fault.
+    #[tactic(auto, unfolding(crate::specs::InstructionReading::reading_in))]
+    pub(crate) fn reading(self) -> Result<SlotReading, SlotFault>
+        ensures { result ≡ reading_in (class_of self) self }
     {
-        let class = self.class();
-        if class == codes::alu_class(Width::Bits64) {
-            self.arithmetic(Width::Bits64)
-        } else if class == codes::alu_class(Width::Bits32) {
-            self.arithmetic(Width::Bits32)
-        } else if class == codes::jump_class(Width::Bits64) {
-            self.jump(Width::Bits64)
-        } else if class == codes::jump_class(Width::Bits32) {
-            self.jump(Width::Bits32)
-        } else if class == codes::LDX {
-            self.load()
-        } else if class == codes::ST {
-            self.store_immediate()
-        } else {
-            self.store()
+        match self.class() {
+            Class::Ld => begun(self.head()),
+            Class::Ldx => whole(self.load()),
+            Class::St => whole(self.store_immediate()),
+            Class::Stx => whole(self.store()),
+            Class::Alu => whole(self.arithmetic(Width::Bits32)),
+            Class::Alu64 => whole(self.arithmetic(Width::Bits64)),
+            Class::Jmp => whole(self.jump(Width::Bits64)),
+            Class::Jmp32 => whole(self.jump(Width::Bits32)),
         }
     }
 
     /// The class: the low three bits of the opcode.
-    pub(crate) fn class(self) -> u8
+    pub(crate) fn class(self) -> Class
         ensures { result ≡ class_of self }
     {
-        self.opcode % 8
+        Class::of_opcode(self.opcode)
     }
 
     /// The operation of arithmetic or a jump: the high four bits of the opcode.
@@ -55,10 +70,10 @@ impl Slot {
     }
 
     /// The mode of a load or a store: the high three bits of the opcode.
-    pub(crate) fn mode(self) -> u8
+    pub(crate) fn mode(self) -> Option<Mode>
         ensures { result ≡ mode_of self }
     {
-        self.opcode / 32
+        Mode::of_opcode(self.opcode)
     }
 
     /// The second operand of arithmetic or a conditional jump, or fault 17.

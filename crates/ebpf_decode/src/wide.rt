@@ -2,13 +2,13 @@
 
 ghost use Rattle.std.specs.Prelude.{◌≡◌, ◌+◌, ◌*◌, ◌^◌, IsTrue};
 ghost use Rattle.std.specs.Int.{w32, cast_unsigned};
-ghost use Rattle.ebpf_decode.specs.InstructionReading.{is_legacy, exact_head, number_head_at, map_head_at, head_at, wide_insn, second_slot, second_at};
+ghost use Rattle.ebpf_decode.specs.InstructionReading.{is_legacy_mode, is_legacy, exact_head, number_head_at, map_head_at, head_at, wide_insn, second_slot, second_at};
 
 use crate::fault::SlotFault;
 use crate::insn::Insn;
 use crate::slot::Slot;
 use crate::{codes, encoding};
-use isa::Register;
+use isa::{Mode, Register, Size};
 
 /// What the first slot of a wide instruction says.
 #[derive(Clone, Copy, Debug, PartialEq, Eq)]
@@ -80,6 +80,16 @@ fn joined(high: i32, low: i32) -> u64
     u64::from(high.cast_unsigned()) * 0x1_0000_0000 + u64::from(low.cast_unsigned())
 }
 
+/// Whether loads of this mode are legacy packet loads (section 5.5).
+fn is_legacy_mode(mode: Option<Mode>) -> bool
+    ensures { result ≡ is_legacy_mode mode }
+{
+    match mode {
+        Some(Mode::Abs) | Some(Mode::Ind) => true,
+        _ => false,
+    }
+}
+
 impl Slot {
     /// The head of a wide instruction in a slot of class LD, or its first fault. The sources 2 to 6 and the legacy loads are
     /// not in the profile.
@@ -104,8 +114,7 @@ impl Slot {
     fn is_legacy(self) -> bool
         ensures { result ≡ is_legacy self }
     {
-        let mode = self.mode();
-        (mode == codes::ABS || mode == codes::IND) && self.size() != codes::DW
+        is_legacy_mode(self.mode()) && self.size() != Size::U64.code()
     }
 
     #[tactic(auto, unfolding(crate::specs::InstructionReading::number_head_at))]

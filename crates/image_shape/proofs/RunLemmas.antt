@@ -10,7 +10,7 @@ use Rattle.ebpf_decode.specs.declared.insn.Insn.{Insn}
 use Rattle.ebpf_decode.specs.declared.insn.Insn.TheVariants.{Alu, Neg, Movsx, Movsx32, End, Ja, Ja32, JumpIf, Ldx, Ldxs, St, Stx, AtomicUpdate, Lddw, Ldmap, CallHelper, Exit}
 use Rattle.ebpf_decode.specs.declared.map.MapDef.{MapDef}
 use Rattle.ebpf_decode.specs.InstructionEncoding.{slot_count}
-use Rattle.ebpf_decode.specs.InstructionCodes.{atomic_code, width_size}
+use Rattle.isa.specs.InstructionCodes.{atomic_code, width_size, size_bytes}
 use Rattle.semantics.specs.RegisterValue.{RegisterValue, Uninitialized, Number, ContextPointer, StackPointer, PacketPointer, CellPointer}
 use Rattle.semantics.specs.MachineState.{MachineState, register_value, with_register}
 use Rattle.semantics.specs.Program.{Program, shard_of_key}
@@ -18,7 +18,7 @@ use Rattle.semantics.specs.Step.{Outcome, or_trap, Step, Continues, CallsMap, Tr
 use Rattle.isa.specs.Words.{signed_value, low_half}
 use Rattle.semantics.specs.Arithmetic.{source_value}
 use Rattle.semantics.specs.declared.call.Call.TheVariants.{Lookup, Load, Store, Atomic, Update, Delete}
-use Rattle.semantics.specs.Memory.{size_bytes, stack_range, stack_place, stack_with, packet_range, cell_range, cell_ref}
+use Rattle.semantics.specs.Memory.{stack_range, stack_place, stack_with, packet_range, cell_range, cell_ref}
 use Rattle.semantics.specs.Comparison.{jump_outcome}
 use Rattle.semantics.specs.Helpers.{map_argument, map_at, bytes_argument, number_argument, context_argument, returned, found_value, answer_value, adjusted_state, with_key, lookup_step, update_step, delete_step, adjust_head_step, helper_step}
 use Rattle.semantics.specs.Semantics.{word_value, stored_places, stored_number, with_fetched, expected_number, at_next_slot, jump_step, branch_step, written_register, write_step, load_cell_step, load_step, load_signed_step, store_step, after_fetch, fetched_register, atomic_step, exit_step, instruction_step}

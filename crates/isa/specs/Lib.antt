@@ -3,3 +3,4 @@ pub mod Alu
 pub mod Swap
 pub mod Test
 pub mod Atomic
+pub mod InstructionCodes

@@ -2,7 +2,7 @@
 use Rattle.std.specs.Prelude.{◌≡◌, ℕ, zero, suc, ◌<◌, ◌^◌, List, [], length, All, IsTrue, Option, Some, None, slice_get}
 use Rattle.isa.specs.declared.operation.AtomicOp.{AtomicOp}
 use Rattle.ebpf_decode.specs.declared.map.MapDef.{MapDef}
-use Rattle.ebpf_decode.specs.InstructionCodes.{atomic_code}
+use Rattle.isa.specs.InstructionCodes.{atomic_code}
 use Rattle.semantics.specs.declared.call.CellRef.{CellRef}
 use Rattle.semantics.specs.declared.call.Call.{Call}
 use Rattle.semantics.specs.declared.call.Call.TheVariants.{Lookup, Atomic, Update, Delete}

@@ -9,7 +9,8 @@ use Rattle.semantics.specs.declared.call.Entry.{Entry}
 use Rattle.semantics.specs.Program.{part_of_key}
 use Rattle.semantics.specs.ShardPlan.{ShardPlan}
 use Rattle.semantics.specs.Reclamation.{is_inside, holds, inside_count}
-use Rattle.semantics.specs.SequentialShard.{atomic_op_at, reply_of, shard_after}
+use Rattle.isa.specs.InstructionCodes.{atomic_op_of}
+use Rattle.semantics.specs.SequentialShard.{reply_of, shard_after}
 
 -- ---- the caller's condition
 
@@ -80,7 +81,7 @@ meets_part plan history who (Store cell offset width value) =
     is_holder plan history who cell.id && is_load_width width && is_in_cell plan offset width && fits_width value width
 meets_part plan history who (Atomic cell offset width op value expected) =
     is_holder plan history who cell.id && is_atomic_width width && is_in_cell plan offset width &&
-    is_some (atomic_op_at op) && fits_width value width && fits_width expected width && is_expected op expected
+    is_some (atomic_op_of op) && fits_width value width && fits_width expected width && is_expected op expected
 meets_part plan history who (Update shard key value flags) =
     may_change_keys plan history who && is_own_key plan key && length value == plan.definition.value_size
 meets_part plan history who (Delete shard key) = may_change_keys plan history who && is_own_key plan key

@@ -6,7 +6,7 @@ use Rattle.isa.specs.declared.operation.AtomicOp.{AtomicOp}
 use Rattle.isa.specs.Atomic.{atomic_result}
 use Rattle.ebpf_decode.specs.declared.map.MapKind.{MapKind}
 use Rattle.ebpf_decode.specs.declared.map.MapKind.TheVariants.{Array, Hash}
-use Rattle.ebpf_decode.specs.InstructionCodes.{atomic_code, atomic_ops}
+use Rattle.isa.specs.InstructionCodes.{atomic_op_of}
 use Rattle.wire.specs.FrameView.{overwritten_at}
 use Rattle.semantics.specs.declared.call.Call.{Call}
 use Rattle.semantics.specs.declared.call.Call.TheVariants.{Enter, Leave, Lookup, Load, Store, Atomic, Update, Delete, Reclaim}
@@ -66,10 +66,6 @@ with_cell shard cell bytes = record shard { cells = slice_set shard.cells cell b
 abbrev pub with_number_in_cell : SequentialShard → ℕ → ℕ → ℕ → ℕ → SequentialShard
 with_number_in_cell shard cell offset width value =
     with_cell shard cell (overwritten_at offset (bytes_of_number width value) (cell_bytes shard cell))
-
--- the atomic operation of an immediate
-abbrev pub atomic_op_at : ℕ → Option AtomicOp
-atomic_op_at code = find (λ op. atomic_code op == code) atomic_ops
 
 abbrev pub changed_by : Option AtomicOp → ℕ → ℕ → ℕ → ℕ → ℕ
 changed_by (Some op) width old value expected = atomic_result (8 * width) op old value expected
@@ -194,7 +190,7 @@ abbrev pub shard_after_call : ShardPlan → List Entry → SequentialShard → C
 shard_after_call plan history shard (Store cell offset width value) = with_number_in_cell shard cell.id offset width value
 shard_after_call plan history shard (Atomic cell offset width op value expected) =
     with_number_in_cell shard cell.id offset width
-    (changed_by (atomic_op_at op) width (number_in_cell shard cell.id offset width) value expected)
+    (changed_by (atomic_op_of op) width (number_in_cell shard cell.id offset width) value expected)
 shard_after_call plan history shard (Update number key value flags) =
     updated_where (update_answer plan shard key flags) (with_value plan history shard key value (cell_of_key plan shard key)) shard
 shard_after_call plan history shard (Delete number key) =

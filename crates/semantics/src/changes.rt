@@ -4,20 +4,20 @@ ghost use Rattle.std.specs.Prelude.{◌≡◌, ◌<◌, ◌≤◌, ◌+◌, ◌^
 ghost use Rattle.semantics.specs.PlanLimits.{IsWithinLimits, IsIndexSize};
 ghost use Rattle.semantics.specs.OneThread.{state_of, IsSized};
 ghost use Rattle.semantics.specs.History.{is_atomic_width};
-ghost use Rattle.semantics.specs.SequentialShard.{with_cell, with_number_in_cell, number_in_cell, atomic_op_at, changed_by, without_key, without_found, after_eviction, with_new_key, cell_of_key, with_value, updated_where, update_answer, delete_answer, present_key, shard_after_call};
+ghost use Rattle.semantics.specs.SequentialShard.{with_cell, with_number_in_cell, number_in_cell, changed_by, without_key, without_found, after_eviction, with_new_key, cell_of_key, with_value, updated_where, update_answer, delete_answer, present_key, shard_after_call};
 
 use crate::answers::{
     cell_of_key, changed_by, delete_answer, is_full_of_keys, number_in_cell, update_answer,
 };
 use crate::bytes::{Key, Value};
 use crate::call::{Call, Entry};
-use crate::conditions::atomic_op_at;
 use crate::little_endian::bytes_of_number;
 use crate::plan::{PresentKey, RetiredCell, ShardPlan};
 use crate::state::{
     ShardState, cell_bytes, least_recently_used, present_key, put_cell, put_present, put_retired,
     remove_present, remove_reclaimable, set_cell,
 };
+use isa::AtomicOp;
 use std::alloc::AllocError;
 
 /// Writes a number into a cell.
@@ -206,7 +206,7 @@ pub fn apply(
             expected,
         } => {
             let old = number_in_cell(state, cell.id, *offset, *width);
-            let new = changed_by(atomic_op_at(*op), *width, old, *value, *expected);
+            let new = changed_by(AtomicOp::of(*op), *width, old, *value, *expected);
             write_number(state, cell.id, *offset, *width, new);
             Ok(())
         }

@@ -4,7 +4,7 @@ ghost use Rattle.std.specs.Prelude.{◌≡◌, ◌<◌, ◌≤◌, ◌==◌, ◌
 ghost use Rattle.semantics.specs.PlanLimits.{IsWithinLimits, IsIndexSize};
 ghost use Rattle.semantics.specs.Reclamation.{inside_count};
 ghost use Rattle.semantics.specs.Program.{shard_number_of_key, part_of_key};
-ghost use Rattle.semantics.specs.SequentialShard.{atomic_op_at};
+ghost use Rattle.isa.specs.InstructionCodes.{atomic_op_of};
 ghost use Rattle.semantics.specs.History.{shard_of_call, is_outside_worker, is_inside_worker, is_holder, may_change_keys, is_reclaimer, is_own_key, is_load_width, is_atomic_width, is_in_cell, fits_width, is_expected, meets_part, meets, room_for_leave, room_needed, journal_is_full};
 
 use crate::bytes::{Key, Value};
@@ -149,25 +149,6 @@ fn fits_width(value: u64, width: u64) -> bool
     }
 }
 
-/// The atomic operation of an immediate (RFC 9669, section 5.3).
-pub fn atomic_op_at(code: u64) -> Option<AtomicOp>
-    ensures { result ≡ atomic_op_at code }
-{
-    match code {
-        0x00 => Some(AtomicOp::AtomicAdd),
-        0x40 => Some(AtomicOp::AtomicOr),
-        0x50 => Some(AtomicOp::AtomicAnd),
-        0xa0 => Some(AtomicOp::AtomicXor),
-        0x01 => Some(AtomicOp::FetchAdd),
-        0x41 => Some(AtomicOp::FetchOr),
-        0x51 => Some(AtomicOp::FetchAnd),
-        0xa1 => Some(AtomicOp::FetchXor),
-        0xe1 => Some(AtomicOp::Exchange),
-        0xf1 => Some(AtomicOp::CompareExchange),
-        _ => None,
-    }
-}
-
 /// Whether an operation may have this number to compare with: only compare-and-exchange has one.
 fn is_expected(op: u64, expected: u64) -> bool
     ensures { result ≡ is_expected op expected }
@@ -184,11 +165,11 @@ fn is_load(plan: &ShardPlan, offset: u64, width: u64) -> bool
 
 /// Whether an atomic operation of this width may be made at this offset with these numbers.
 fn is_atomic(plan: &ShardPlan, offset: u64, width: u64, op: u64, value: u64, expected: u64) -> bool
-    ensures { result ≡ (is_atomic_width width && is_in_cell plan.now offset width && is_some (atomic_op_at op) && fits_width value width && fits_width expected width && is_expected op expected) }
+    ensures { result ≡ (is_atomic_width width && is_in_cell plan.now offset width && is_some (atomic_op_of op) && fits_width value width && fits_width expected width && is_expected op expected) }
 {
     is_atomic_width(width)
         && is_in_cell(plan, offset, width)
-        && atomic_op_at(op).is_some()
+        && AtomicOp::of(op).is_some()
         && fits_width(value, width)
         && fits_width(expected, width)
         && is_expected(op, expected)

@@ -3,15 +3,15 @@
 ghost use Rattle.std.specs.Prelude.{◌≡◌, ◌<◌, ◌≤◌, ◌+◌, ◌^◌, ℤ, ℕ, IsTrue, List, [], Option, Some, None, IfOk, length, take, drop, replicate, slice_index_or, slice_set};
 ghost use Rattle.ebpf_decode.specs.declared.map.MapKind.TheVariants.{Array};
 ghost use Rattle.semantics.specs.declared.call.Entry.{Entry};
+ghost use Rattle.isa.specs.InstructionCodes.{atomic_op_of};
 ghost use Rattle.semantics.specs.LittleEndian.{number_of_bytes};
 ghost use Rattle.semantics.specs.OneThread.{IsSized};
 ghost use Rattle.semantics.specs.History.{is_atomic_width};
 ghost use Rattle.semantics.specs.ShardPlan.{capacity};
-ghost use Rattle.semantics.specs.SequentialShard.{opening_cells, atomic_op_at, cell_of_index, number_in_cell, with_number_in_cell, with_cell, changed_by, array_update_answer, update_answer, updated_where, with_value, cell_of_key, lookup_reply, reply_of, shard_after_call};
+ghost use Rattle.semantics.specs.SequentialShard.{opening_cells, cell_of_index, number_in_cell, with_number_in_cell, with_cell, changed_by, array_update_answer, update_answer, updated_where, with_value, cell_of_key, lookup_reply, reply_of, shard_after_call};
 ghost use Rattle.shard_core.specs.ArrayShard.{IsArrayPlan, array_state};
 
 use isa::{AtomicOp, Width, atomic};
-use semantics::conditions::atomic_op_at;
 use semantics::little_endian::{bytes_of_number, number_of_bytes, part_at};
 use semantics::{Call, CellRef, Key, Reply, ShardPlan, Value};
 use std::alloc::{AllocError, Global};
@@ -89,10 +89,10 @@ fn change_number(
     requires inside { offset + width ≤ 64 }
     requires value { value < 256 ^ width }
     requires expected { expected < 256 ^ width }
-    ensures { array_state cells.new.items ≡ with_number_in_cell (array_state cells.old.items) cell offset width (changed_by (atomic_op_at op) width (number_in_cell (array_state cells.old.items) cell offset width) value expected) }
+    ensures { array_state cells.new.items ≡ with_number_in_cell (array_state cells.old.items) cell offset width (changed_by (atomic_op_of op) width (number_in_cell (array_state cells.old.items) cell offset width) value expected) }
 {
     let old = number_in_cell(cells, cell, offset, width);
-    let new = changed_by(atomic_op_at(op), width, old, value, expected);
+    let new = changed_by(AtomicOp::of(op), width, old, value, expected);
     write_number(cells, cell, offset, width, new);
 }
 

@@ -8,7 +8,7 @@ use Rattle.std.proofs.lemmas.Bool.Decides.{nat_tests}
 use Rattle.isa.specs.declared.operation.AtomicOp.{AtomicOp}
 use Rattle.isa.specs.declared.operation.AtomicOp.TheVariants.{AtomicAdd, AtomicOr, AtomicAnd, AtomicXor, FetchAdd, FetchOr, FetchAnd, FetchXor, Exchange, CompareExchange}
 use Rattle.ebpf_decode.specs.declared.map.MapDef.{MapDef}
-use Rattle.ebpf_decode.specs.InstructionCodes.{atomic_code}
+use Rattle.isa.specs.InstructionCodes.{atomic_code, atomic_op_of}
 use Rattle.semantics.specs.declared.options.Options.{Options}
 use Rattle.semantics.specs.declared.plan.ShardPlan.{ShardPlan}
 use Rattle.semantics.specs.declared.call.CellRef.{CellRef}
@@ -16,7 +16,6 @@ use Rattle.semantics.specs.declared.call.Call.TheVariants.{Load, Store}
 use Rattle.semantics.specs.Program.{part_of_key, shard_number_of_key}
 use Rattle.semantics.specs.ShardPlan.{AreOptions}
 use Rattle.semantics.specs.Reclamation.{is_inside, holds}
-use Rattle.semantics.specs.SequentialShard.{atomic_op_at}
 use Rattle.semantics.specs.History.{is_own_key, is_load_width, is_in_cell, fits_width}
 use Rattle.semantics.proofs.ConditionLemmas.{first_true, second_true}
 use Rattle.semantics.specs.Program.{value_size_of}
@@ -186,7 +185,7 @@ at_place maps options worker shards cell offset width ready readable =
 fits_test : (value width : ℕ) → value < 256 ^ width → fits_width value width ≡ true
 fits_test value width fits = grind (arith, nat_tests)
 
-known_op : (op : AtomicOp) → is_some (atomic_op_at (atomic_code op)) ≡ true
+known_op : (op : AtomicOp) → is_some (atomic_op_of (atomic_code op)) ≡ true
 known_op AtomicAdd = refl
 known_op AtomicOr = refl
 known_op AtomicAnd = refl

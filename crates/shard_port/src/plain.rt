@@ -7,7 +7,7 @@ ghost use Rattle.shard_port.specs.Asking.{may_ask_at, all_left, IsAnsweredAmong,
 ghost use Rattle.shard_port.specs.PortView.{ServesMaps, IsReady, IsRunCall, SetsBytes, cell_of_handle, handle_of, word_in, answer_in, has_small_cell};
 ghost use Rattle.map_port.specs.Served.{handle_limit};
 ghost use Rattle.semantics.specs.LittleEndian.{number_of_bytes};
-ghost use Rattle.ebpf_decode.specs.InstructionCodes.{atomic_code};
+ghost use Rattle.isa.specs.InstructionCodes.{atomic_code};
 
 use crate::asking::{ask_at, leave_all};
 use ebpf_decode::Image;

@@ -1,6 +1,6 @@
 -- Which reject tells of which fault, and the numbers that rejects are printed with.
 use Rattle.std.specs.Prelude.{ℕ}
-use Rattle.ebpf_decode.specs.InstructionCodes.{register_number}
+use Rattle.isa.specs.InstructionCodes.{register_number}
 use Rattle.image_shape.specs.declared.fault.ShapeFault.{ShapeFault}
 use Rattle.image_shape.specs.declared.fault.ShapeFault.TheVariants as shape
 use Rattle.abstract_state.specs.declared.refusal.Refusal.{Refusal}

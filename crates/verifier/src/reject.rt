@@ -1,7 +1,7 @@
 //! Why a program is rejected.
 
 ghost use Rattle.std.specs.Prelude.{◌≡◌};
-ghost use Rattle.ebpf_decode.specs.InstructionCodes.{register_number};
+ghost use Rattle.isa.specs.InstructionCodes.{register_number};
 ghost use Rattle.verifier.specs.Rejects.{reject_of_shape, reject_of_refusal, reject_number};
 
 use abstract_state::Refusal;

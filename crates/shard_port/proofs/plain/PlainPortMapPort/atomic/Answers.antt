@@ -3,7 +3,7 @@ use Rattle.std.specs.Coded.{Coded-set, coded_bool, le_prop}
 use Rattle.std.proofs.Math.Logic.{∥∥₁_elim}
 use Rattle.semantics.specs.declared.call.Call.TheVariants.{Atomic}
 use Rattle.semantics.specs.declared.call.Reply.TheVariants.{Word}
-use Rattle.ebpf_decode.specs.InstructionCodes.{atomic_code}
+use Rattle.isa.specs.InstructionCodes.{atomic_code}
 use Rattle.shard_port.specs.Asking.{IsAnsweredAmong}
 use Rattle.shard_port.specs.PortView.{IsReady, cell_of_handle, word_in}
 use Rattle.shard_port.proofs.MayAskLemmas.{may_change, some_part}
