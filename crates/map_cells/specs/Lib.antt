@@ -1,0 +1,3 @@
+pub mod Blocks
+pub mod CellTable
+pub mod Places

@@ -1,0 +1,12 @@
+//! The cells that hold a map's values: found by ids that are never given again, in places that are used again.
+#![tactic(auto)]
+
+mod blocks;
+pub mod retired;
+pub mod table;
+
+pub use retired::Retired;
+pub use table::Cells;
+
+#[cfg(test)]
+mod tests;

@@ -1,0 +1,254 @@
+//! The table of cells.
+
+ghost use Rattle.std.specs.Prelude.{◌≡◌, ◌≢◌, ◌<◌, ◌≤◌, ◌+◌, ◌*◌, ◌^◌, ◌⊎◌, ℕ, IsTrue, IfOk, IfSome, Some, None, List, [], ◌∷◌, length, filter, vec_len, vec_capacity, slice_index_or};
+ghost use Rattle.isa.specs.Atomic.{atomic_result};
+ghost use Rattle.map_cells.specs.Places.{place_at};
+ghost use Rattle.map_cells.specs.CellTable.{CellTable, empty_table, is_kept, bytes_at, number_at, with_new_cell, with_bytes, with_number, with_retired, is_below, freed_below, oldest_stamp, without_oldest, IsLowestStamp, IsNotRetired, IsLatestStamp};
+
+use crate::blocks::{block_at, write_at};
+use crate::retired::Retired;
+use isa::{AtomicOp, Width, atomic};
+use semantics::little_endian::{bytes_of_number, number_of_bytes};
+use std::alloc::{AllocError, Global};
+use std::collections::VecDeque;
+use std::marker::Model;
+
+/// Stands for the place of an id that was freed.
+const NO_PLACE: u32 = u32::MAX;
+
+/// The cells of one shard. Contracts see a `CellTable`.
+#[derive(Drop)]
+pub struct Cells {
+    /// How many bytes a cell has.
+    size: usize,
+    places: u32,
+    ids: usize,
+    /// The cells by place, one behind the other.
+    bytes: Vec<u8>,
+    /// The place of each id that was given.
+    place_of: Vec<u32>,
+    /// The places that no cell has.
+    free: Vec<u32>,
+    retired: VecDeque<Retired>,
+}
+
+impl Model for Cells {
+    ghost use Rattle.std.specs.Prelude.{length, vec_capacity};
+    ghost use Rattle.std.specs.VecDeque.{deque_capacity};
+    ghost use Rattle.map_cells.specs.CellTable.{CellTable};
+    ghost use Rattle.map_cells.specs.Places.{IsTable, cells_in};
+
+    ghost Value = { CellTable };
+
+    ghost view = { λ t. record { value_size = t.size; places = t.places; ids = t.ids; free = length t.free.items; cells = cells_in t.size t.bytes.items t.place_of.items; retired = t.retired.items } };
+
+    ghost invariant = { λ t. IsTable t.size t.places t.ids t.bytes.items t.place_of.items t.free.items t.retired.items (vec_capacity t.place_of) (vec_capacity t.free) (deque_capacity t.retired) };
+}
+
+impl Cells {
+    /// A table with no cell, and room for `places` cells of `value_size` bytes at a time and for `ids` ids in all. Fails only for
+    /// lack of memory; no other call takes any.
+    pub fn new(
+        alloc: Global,
+        value_size: usize,
+        places: u32,
+        ids: usize,
+    ) -> Result<Self, AllocError>
+        requires size { value_size ≤ 256 }
+        requires places { places < 4294967295 }
+        ensures { IfOk result (λ cells. cells ≡ empty_table value_size places ids) }
+    {
+        let free = all_places(alloc, places)?;
+        Ok(Cells {
+            size: value_size,
+            places,
+            ids,
+            bytes: vec![in alloc; 0; places as usize * value_size]?,
+            place_of: Vec::with_capacity(alloc, ids)?,
+            free,
+            retired: VecDeque::with_capacity(alloc, places as usize)?,
+        })
+    }
+
+    /// Makes a cell of these bytes at a free place, and gives its id: the number of cells that were made before.
+    pub fn take(&mut self, bytes: &[u8]) -> u64
+        requires size { length bytes.now ≡ self.old.value_size }
+        requires free { 0 < self.old.free }
+        requires ids { length self.old.cells < self.old.ids }
+        ensures id { result ≡ length self.old.cells }
+        ensures table { self.new ≡ with_new_cell self.old bytes.now }
+    {
+        let id = self.place_of.len();
+        let Some(place) = self.free.pop() else {
+            unreachable!()
+        };
+        write_at(&mut self.bytes, self.size, place as usize, 0, bytes);
+        self.place_of.push_reserved(place);
+        id as u64
+    }
+
+    /// Has a kept cell wait until no run is left that entered before the stamp.
+    pub fn retire(&mut self, id: u64, stamp: u64)
+        requires kept { IsTrue (is_kept self.old id) }
+        requires once { IsNotRetired self.old id }
+        requires room { length self.old.retired < self.old.places }
+        requires latest { IsLatestStamp self.old stamp }
+        ensures { self.new ≡ with_retired self.old id stamp }
+    {
+        let placed = self.retired.push_back(Retired { id, stamp });
+        prove!(placed.is_ok());
+    }
+
+    /// The bytes of a kept cell.
+    pub fn bytes(&self, id: u64) -> &[u8]
+        requires { IsTrue (is_kept self.now id) }
+        ensures bytes { result.now ≡ bytes_at self.now id }
+        ensures size { length result.now ≡ self.now.value_size }
+    {
+        let place = place_in(&self.place_of, id);
+        block_at(&self.bytes, self.size, place)
+    }
+
+    /// Writes all bytes of a kept cell.
+    pub fn write(&mut self, id: u64, bytes: &[u8])
+        requires kept { IsTrue (is_kept self.old id) }
+        requires size { length bytes.now ≡ self.old.value_size }
+        ensures { self.new ≡ with_bytes self.old id bytes.now }
+    {
+        let place = place_in(&self.place_of, id);
+        write_at(&mut self.bytes, self.size, place, 0, bytes);
+    }
+
+    /// The number that `width` bytes of a kept cell make, the lowest byte first.
+    pub fn load(&self, id: u64, offset: usize, width: usize) -> u64
+        requires kept { IsTrue (is_kept self.now id) }
+        requires within { offset + width ≤ self.now.value_size }
+        requires width { width ≤ 8 }
+        ensures number { result ≡ number_at self.now id offset width }
+        ensures below { result < 256 ^ width }
+    {
+        let bytes = self.bytes(id);
+        number_of_bytes(&bytes[offset..offset + width])
+    }
+
+    /// Writes a number into `width` bytes of a kept cell, the lowest byte first.
+    pub fn store(&mut self, id: u64, offset: usize, width: usize, value: u64)
+        requires kept { IsTrue (is_kept self.old id) }
+        requires within { offset + width ≤ self.old.value_size }
+        requires width { width ≤ 8 }
+        ensures { self.new ≡ with_number self.old id offset width value }
+    {
+        let place = place_in(&self.place_of, id);
+        let number = bytes_of_number(width as u64, value);
+        write_at(&mut self.bytes, self.size, place, offset, number.as_slice());
+    }
+
+    /// Changes a number in a kept cell by an atomic operation, and gives what it was. `width` is 4 or 8.
+    pub fn atomic(
+        &mut self,
+        id: u64,
+        offset: usize,
+        width: usize,
+        operation: AtomicOp,
+        operand: u64,
+        expected: u64,
+    ) -> u64
+        requires kept { IsTrue (is_kept self.old id) }
+        requires within { offset + width ≤ self.old.value_size }
+        requires width { (width ≡ 4) ⊎ (width ≡ 8) }
+        requires operand { operand < 256 ^ width }
+        requires expected { expected < 256 ^ width }
+        ensures old { result ≡ number_at self.old id offset width }
+        ensures table { self.new ≡ with_number self.old id offset width (atomic_result (8 * width) operation (number_at self.old id offset width) operand expected) }
+    {
+        let old = self.load(id, offset, width);
+        let new = changed(width, operation, old, operand, expected);
+        self.store(id, offset, width, new);
+        old
+    }
+
+    /// Frees the retired cells whose stamps are below the floor, and says how many they were. Their places are used again, their
+    /// ids are not.
+    pub fn free(&mut self, floor: u64) -> u64
+        ensures count { result ≡ length (filter (is_below floor) self.old.retired) }
+        ensures table { self.new ≡ freed_below floor self.old }
+    {
+        let _most = self.waiting();
+        let mut count = 0;
+        while let Some(stamp) = self.oldest() {
+            if stamp >= floor {
+                break;
+            }
+            self.free_oldest();
+            count += 1;
+        }
+        count
+    }
+
+    /// How many retired cells wait for their readers.
+    pub fn waiting(&self) -> usize
+        ensures { result ≡ length self.now.retired }
+    {
+        self.retired.len()
+    }
+
+    /// The stamp of the oldest retirement.
+    fn oldest(&self) -> Option<u64>
+        ensures stamp { result ≡ oldest_stamp self.now.retired }
+        ensures lowest { IfSome result (λ stamp. IsLowestStamp self.now.retired stamp) }
+    {
+        match self.retired.front() {
+            Some(one) => Some(one.stamp),
+            None => None,
+        }
+    }
+
+    /// Frees the cell that was retired first.
+    fn free_oldest(&mut self)
+        requires { 0 < length self.old.retired }
+        ensures { self.new ≡ without_oldest self.old }
+    {
+        let Some(one) = self.retired.pop_front() else {
+            unreachable!()
+        };
+        let place = place_in(&self.place_of, one.id);
+        self.place_of[one.id as usize] = NO_PLACE;
+        self.free.push_reserved(place as u32);
+    }
+}
+
+/// What an atomic operation makes of a number of 4 or 8 bytes.
+fn changed(width: usize, operation: AtomicOp, old: u64, operand: u64, expected: u64) -> u64
+    requires width { (width ≡ 4) ⊎ (width ≡ 8) }
+    requires old { old < 256 ^ width }
+    requires operand { operand < 256 ^ width }
+    requires expected { expected < 256 ^ width }
+    ensures { result ≡ atomic_result (8 * width) operation old operand expected }
+{
+    if width == 4 {
+        atomic(operation, Width::Bits32, old, operand, expected)
+    } else {
+        atomic(operation, Width::Bits64, old, operand, expected)
+    }
+}
+
+/// The place of an id that was given.
+fn place_in(place_of: &[u32], id: u64) -> usize
+    requires { id < length place_of.now }
+    ensures { result ≡ place_at place_of.now id }
+{
+    place_of[id as usize] as usize
+}
+
+/// The numbers below `places`.
+fn all_places(alloc: Global, places: u32) -> Result<Vec<u32>, AllocError>
+    ensures count { IfOk result (λ free. length free.items ≡ places) }
+    ensures each { IfOk result (λ free. (k : ℕ) → k < places → slice_index_or free.items k 0 ≡ k) }
+    ensures room { IfOk result (λ free. places ≤ vec_capacity free) }
+{
+    let mut free = Vec::with_capacity(alloc, places as usize)?;
+    for place in 0..places {
+        free.push_reserved(place);
+    }
+    Ok(free)
+}
