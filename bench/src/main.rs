@@ -7,6 +7,7 @@ mod library;
 mod measure;
 mod plain;
 mod programs;
+mod queues;
 
 use assemble::Program;
 use flat::{Flat, flatten};
@@ -236,5 +237,8 @@ fn main() {
     print_running(&word);
     if "verify".contains(&word) {
         print_verifying();
+    }
+    if "queues".contains(&word) {
+        queues::print();
     }
 }

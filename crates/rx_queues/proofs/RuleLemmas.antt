@@ -1,0 +1,134 @@
+-- Each step on a queue keeps its rule.
+use Rattle.std.proofs.Common.{◌≡◌, ◌≢◌, ℕ, zero, suc, true, false, true≢false, List, [], ◌∷◌, ◌++◌, length, set, sym, refl, ap, ◌∙◌, subst, ⊎_elim, append_assoc}
+use mathlib.Core.Option.{some, some-ne-none}
+use lib.ListN.{get_elem?}
+use Rattle.crossbeam_queue.specs.Fifo.{Pushes, Pops, Forks, Merges, Learns}
+use Rattle.crossbeam_queue.proofs.Lists.{at_set, at_snoc}
+use Rattle.rx_queues.specs.declared.job.Job.{Job}
+use Rattle.rx_queues.specs.declared.rule.Known.{Known}
+use Rattle.rx_queues.specs.Fifo.{known, putter, taker, with_put, with_taken, Knows, IsInOrder, IsTakenInOrder, MayHold}
+
+-- what is found in a list with one more, and not in the list, stands at its end
+found_at_end : (list : List Known) (last it : Known) (at : ℕ) → get_elem? list at ≢ some it → get_elem? (list ++ last ∷ []) at ≡ some it → at ≡ length list
+found_at_end [] last it zero missed found = refl
+found_at_end [] last it (suc at) missed found = absurd (some-ne-none it (sym found))
+found_at_end (first ∷ others) last it zero missed found = absurd (missed found)
+found_at_end (first ∷ others) last it (suc at) missed found = ap suc (found_at_end others last it at missed found)
+
+abbrev Each : (ℕ → Known → Type 0) → List Known → Type 0
+Each Fact passes = (at : ℕ) (it : Known) → get_elem? passes at ≡ some it → Fact at it
+
+-- a fact of each pass, after one of them was changed
+each_set : (Fact : ℕ → Known → Type 0) (passes : List Known) (changed : ℕ) (now : Known) → Fact changed now
+    → ((at : ℕ) (it : Known) → at ≢ changed → get_elem? passes at ≡ some it → Fact at it) → Each Fact (set passes changed now)
+each_set Fact passes changed now mine others at it found =
+    ⊎_elim (λ (same : (at ≡ changed) × (now ≡ it)). subst (λ (pair : ℕ × Known). Fact pair.0 pair.1) (λ i. (sym same.0 i, same.1 i)) mine)
+    (λ (apart : (at ≢ changed) × (get_elem? passes at ≡ some it)). others at it apart.0 apart.1)
+    (at_set passes changed at now it found)
+
+pub begins_in_order : IsInOrder [] (known true true [] [] ∷ [])
+begins_in_order = record {
+  writer = 0;
+  reader = 0;
+  put = [];
+  taken = [];
+  rest = refl;
+  each = each_set (Knows 0 0 [] []) (known true true [] [] ∷ []) 0 (known true true [] []) ((λ _. (refl, refl)), λ _. (refl, refl))
+      (λ at it other found. absurd (other (found_at_end [] _ it at (λ none. some-ne-none it (sym none)) found)));
+}
+
+pub put_keeps_order : (room pass : ℕ) (it : Known) (job : Job) → it.puts ≡ true → Pushes IsInOrder room pass it job (λ after. after ≡ with_put it job)
+put_keeps_order room pass it job may held passes _ rule found =
+    let mine = rule.each pass it found in
+    let put = rule.put ++ job ∷ [] in (
+      with_put it job,
+      record {
+        writer = rule.writer;
+        reader = rule.reader;
+        put = put;
+        taken = rule.taken;
+        rest = ap (λ jobs. jobs ++ job ∷ []) rule.rest ∙ append_assoc rule.taken held (job ∷ []);
+        each = each_set (Knows rule.writer rule.reader put rule.taken) passes pass (with_put it job)
+            ((λ _. ((mine.0 may).0, ap (λ jobs. jobs ++ job ∷ []) (mine.0 may).1)), mine.1)
+            (λ at other apart there. ((λ puts. absurd (apart (((rule.each at other there).0 puts).0 ∙ sym (mine.0 may).0))), (rule.each at other there).1));
+      },
+      refl,
+    )
+
+pub take_keeps_order : (pass : ℕ) (it : Known) → it.takes ≡ true → Pops IsInOrder pass it (λ job after. after ≡ with_taken it job)
+take_keeps_order pass it may job held passes rule found =
+    let mine = rule.each pass it found in
+    let taken = rule.taken ++ job ∷ [] in (
+      with_taken it job,
+      record {
+        writer = rule.writer;
+        reader = rule.reader;
+        put = rule.put;
+        taken = taken;
+        rest = rule.rest ∙ sym (append_assoc rule.taken (job ∷ []) held);
+        each = each_set (Knows rule.writer rule.reader rule.put taken) passes pass (with_taken it job)
+            (mine.0, λ _. ((mine.1 may).0, ap (λ jobs. jobs ++ job ∷ []) (mine.1 may).1))
+            (λ at other apart there. ((rule.each at other there).0, λ takes. absurd (apart (((rule.each at other there).1 takes).0 ∙ sym (mine.1 may).0))));
+      },
+      refl,
+    )
+
+pub split_keeps_order : (pass : ℕ) (it : Known) → it.puts ≡ true → it.takes ≡ true → Forks IsInOrder pass it (putter it.put) (taker it.taken)
+split_keeps_order pass it puts takes held passes rule found =
+    let mine = rule.each pass it found in
+    let left : Known = putter it.put in
+    let right : Known = taker it.taken in
+    let changed : List Known = set passes pass left in
+    let Kept : ℕ → Known → Type 0 = λ at other. (other.puts ≡ true → (at ≡ rule.writer) × (other.put ≡ rule.put)) × (other.takes ≢ true) in
+    let kept : Each Kept changed = each_set Kept passes pass left ((λ _. mine.0 puts), λ wrong. true≢false (sym wrong))
+    (λ at other apart there. ((rule.each at other there).0, λ may. apart (((rule.each at other there).1 may).0 ∙ sym (mine.1 takes).0))) in
+    record {
+      writer = rule.writer;
+      reader = length changed;
+      put = rule.put;
+      taken = rule.taken;
+      rest = rule.rest;
+      each = λ at other there. ⊎_elim (λ before. ((kept at other before).0, λ may. absurd ((kept at other before).1 may)))
+          (λ (is : right ≡ other). (
+            (λ may. absurd (true≢false (sym (ap (λ (one : Known). one.puts) is ∙ may)))),
+            λ may. (found_at_end changed right other at (λ before. (kept at other before).1 may) there, ap (λ (one : Known). one.taken) (sym is) ∙ (mine.1 takes).1),
+          )) (at_snoc changed right other at there);
+    }
+
+pub join_keeps_order : (pass : ℕ) (it : Known) (other : ℕ) (theirs : Known) → it.puts ≡ true → theirs.takes ≡ true
+    → Merges IsInOrder pass it other theirs (known true true it.put theirs.taken) (known false false [] [])
+join_keeps_order pass it other theirs puts takes held passes rule found two there =
+    let both : Known = known true true it.put theirs.taken in
+    let mine = rule.each pass it found in
+    let changed : List Known = set passes pass both in
+    let was : get_elem? passes other ≡ some theirs = ⊎_elim (λ same. absurd (two same.0)) (λ apart. apart.1) (at_set passes pass other both theirs there) in
+    let known_there = (rule.each other theirs was).1 takes in
+    let Now : ℕ → Known → Type 0 = λ at one. at ≢ other → Knows rule.writer pass rule.put rule.taken at one in
+    let now : Each Now changed = each_set Now passes pass both (λ _. ((λ _. mine.0 puts), λ _. (refl, known_there.1)))
+    (λ at one _ here apart. ((rule.each at one here).0, λ may. absurd (apart (((rule.each at one here).1 may).0 ∙ sym known_there.0)))) in
+    record {
+      writer = rule.writer;
+      reader = pass;
+      put = rule.put;
+      taken = rule.taken;
+      rest = rule.rest;
+      each = each_set (Knows rule.writer pass rule.put rule.taken) changed other (known false false [] [])
+          ((λ wrong. absurd (true≢false (sym wrong))), λ wrong. absurd (true≢false (sym wrong))) (λ at one apart here. now at one here apart);
+    }
+
+-- what a pass learns of what its queue holds
+pub pass_may_hold : (pass : ℕ) (it : Known) → Learns IsInOrder pass it (MayHold it)
+pass_may_hold pass it held passes rule found = record {
+  put = rule.put;
+  taken = rule.taken;
+  rest = rule.rest;
+  all_put = λ may. ((rule.each pass it found).0 may).1;
+  all_taken = λ may. ((rule.each pass it found).1 may).1;
+}
+
+-- a pass with both rights knows that what was taken is a beginning of what was put
+pub taken_in_order : (it : Known) (held : List Job) → it.puts ≡ true → it.takes ≡ true → MayHold it held → IsTakenInOrder it.taken it.put
+taken_in_order it held puts takes may = record {
+  left = held;
+  rest = may.all_put puts ∙ may.rest ∙ ap (λ jobs. jobs ++ held) (sym (may.all_taken takes));
+}

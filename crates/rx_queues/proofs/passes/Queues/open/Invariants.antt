@@ -1,0 +1,8 @@
+use Rattle.std.proofs.Common.{◌≡◌, length}
+use Rattle.rx_queues.specs.Passes.{ArePutPasses}
+use Rattle.rx_queues.proofs.OpeningLemmas.{HavePutNothing, TakeFromTheirs}
+use Rattle.rx_queues.proofs.passes.Queues.open.Given as goal
+
+abbrev pub invariant-queues : goal.invariant-queues
+invariant-queues l = (length l.queues.items ≡ l.queue) × (length l.puts.items ≡ l.queue) × (length l.takes.items ≡ l.queue)
+    × ArePutPasses l.queues.items l.puts.items × HavePutNothing l.puts.items × TakeFromTheirs l.queues.items l.takes.items

@@ -1,0 +1,19 @@
+//! Receive queues: what one dispatcher hands to the workers, the controller and the reclaimer, each job once and in order.
+//!
+//! A queue holds up to 64 jobs. The right to put into all of them is one [`PutPass`], the right to take from one of them a
+//! [`TakePass`]; each knows what was done through it, and threads share the [`Queues`] by reference.
+#![tactic(auto)]
+
+mod flow_spread;
+mod job;
+mod passes;
+mod queues;
+mod rule;
+#[cfg(test)]
+mod tests;
+
+pub use flow_spread::spread;
+pub use job::Job;
+pub use passes::{PutPass, Queues, TakePass};
+pub use semantics::Caller;
+pub use shards::OpenFault;

@@ -1,0 +1,27 @@
+//! The queues, and the rights to put and to take.
+
+ghost use Rattle.std.specs.Prelude.{◌≡◌, ◌+◌, length};
+
+use crate::rule::{Queue, QueuePass};
+
+/// A queue for each worker, one for the controller and one for the reclaimer. Threads share it by reference.
+#[derive(Drop)]
+pub struct Queues {
+    pub(crate) queues: Vec<Queue>,
+    pub(crate) workers: usize,
+    ghost sized: { length queues.items ≡ workers + 2 },
+}
+
+/// The right to put into every queue of some [`Queues`](crate::Queues). Contracts see what was put through it, queue by queue
+/// (`jobs_put`).
+#[derive(Drop)]
+pub struct PutPass {
+    pub(crate) passes: Vec<QueuePass>,
+}
+
+/// The right to take from one queue. Contracts see which one, and what was taken through it (`jobs_taken`).
+#[derive(Drop)]
+pub struct TakePass {
+    pub(crate) queue: usize,
+    pub(crate) pass: QueuePass,
+}
