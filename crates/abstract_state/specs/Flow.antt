@@ -13,7 +13,7 @@ use Rattle.isa.specs.declared.operation.Source.TheVariants.{Imm, Reg}
 use Rattle.isa.specs.declared.operation.Register.{Register}
 use Rattle.isa.specs.declared.operation.Register.TheVariants.{R0, R1, R2, R3, R4, R10}
 use Rattle.ebpf_decode.specs.declared.insn.Insn.{Insn}
-use Rattle.ebpf_decode.specs.declared.insn.Insn.TheVariants.{Alu, Neg, Movsx, Movsx32, End, Ja, Ja32, JumpIf, Ldx, Ldxs, St, Stx, AtomicUpdate, Lddw, Ldmap, CallHelper}
+use Rattle.ebpf_decode.specs.declared.insn.Insn.TheVariants.{Alu, Neg, Movsx, Movsx32, End, Ja, Ja32, JumpIf, Ldx, Ldxs, St, Stx, AtomicUpdate, Lddw, Ldmap, CallHelper, Exit}
 use Rattle.ebpf_decode.specs.declared.map.MapDef.{MapDef}
 use Rattle.semantics.specs.Semantics.{fetched_register}
 use Rattle.abstract_scalar.specs.declared.interval.Interval.{Interval}
@@ -139,9 +139,12 @@ test_flow state width test dst source =
     Ok (Splits (refine_state state width test dst source true) (refine_state state width test dst source false))))
 
 -- R0 is the verdict, a number
+abbrev pub verdict_kind : Kind → Checked (Unit {0})
+verdict_kind (Scalar i) = Ok tt
+verdict_kind other = Err PointerLeak
+
 abbrev pub exit_kind : Kind → Checked Flow
-exit_kind (Scalar i) = Ok Ends
-exit_kind other = Err PointerLeak
+exit_kind kind = verdict_kind kind >>= (λ _. Ok Ends)
 
 abbrev pub exit_flow : State → Checked Flow
 exit_flow state = reads state R0 >>= (λ _. exit_kind (kind_of state R0))
@@ -151,23 +154,6 @@ falls after = after >>= (λ state. Ok (Falls state))
 
 -- ---- one equation for each instruction
 
-abbrev pub control_flow : List MapDef → State → ℕ → Insn → Checked Flow
-control_flow maps state slot (Ja distance) = Ok (Jumps state)
-control_flow maps state slot (Ja32 distance) = Ok (Jumps state)
-control_flow maps state slot (JumpIf width test dst source distance) = test_flow state width test dst source
-control_flow maps state slot (CallHelper helper) = falls (call_flow maps state slot helper)
-control_flow maps state slot insn = exit_flow state
-
-abbrev pub memory_flow : List MapDef → State → ℕ → Insn → Checked Flow
-memory_flow maps state slot (Ldx size dst src offset) =
-    falls (load_flow state dst src (load_of maps state size dst src offset))
-memory_flow maps state slot (Ldxs extension dst src offset) =
-    falls (load_flow state dst src (signed_load_of maps state extension dst src offset))
-memory_flow maps state slot (St size dst offset immediate) = falls (store_flow maps state size dst offset immediate)
-memory_flow maps state slot (Stx size dst src offset) = falls (store_register_flow maps state size dst src offset)
-memory_flow maps state slot (AtomicUpdate width op dst src offset) = falls (atomic_flow maps state width op dst src offset)
-memory_flow maps state slot insn = control_flow maps state slot insn
-
 abbrev pub flow_of : List MapDef → State → ℕ → Insn → Checked Flow
 flow_of maps state slot (Alu width op dst source) = falls (alu_flow maps state slot width op dst source)
 flow_of maps state slot (Neg width dst) = falls (unary_flow state dst dst (neg_of width))
@@ -176,4 +162,13 @@ flow_of maps state slot (Movsx32 extension dst src) = falls (unary_flow state ds
 flow_of maps state slot (End order width dst) = falls (unary_flow state dst dst (swap_of order width))
 flow_of maps state slot (Lddw dst value) = falls (number_flow state dst value)
 flow_of maps state slot (Ldmap dst map) = falls (map_flow maps state dst map)
-flow_of maps state slot insn = memory_flow maps state slot insn
+flow_of maps state slot (Ldx size dst src offset) = falls (load_flow state dst src (load_of maps state size dst src offset))
+flow_of maps state slot (Ldxs extension dst src offset) = falls (load_flow state dst src (signed_load_of maps state extension dst src offset))
+flow_of maps state slot (St size dst offset immediate) = falls (store_flow maps state size dst offset immediate)
+flow_of maps state slot (Stx size dst src offset) = falls (store_register_flow maps state size dst src offset)
+flow_of maps state slot (AtomicUpdate width op dst src offset) = falls (atomic_flow maps state width op dst src offset)
+flow_of maps state slot (CallHelper helper) = falls (call_flow maps state slot helper)
+flow_of maps state slot (Ja distance) = Ok (Jumps state)
+flow_of maps state slot (Ja32 distance) = Ok (Jumps state)
+flow_of maps state slot (JumpIf width test dst source distance) = test_flow state width test dst source
+flow_of maps state slot Exit = exit_flow state

@@ -11,3 +11,4 @@ pub mod Unary
 pub mod Flow
 pub mod Abstraction
 pub mod Soundness
+pub mod InPlace

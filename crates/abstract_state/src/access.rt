@@ -4,6 +4,7 @@ ghost use Rattle.std.specs.Prelude.{◌≡◌, ◌<◌, ◌≤◌, ◌+◌, ◌%
 ghost use Rattle.isa.specs.InstructionCodes.{extension_size, size_bytes};
 ghost use Rattle.abstract_scalar.specs.Intervals.{full_of};
 ghost use Rattle.abstract_state.specs.Words.{loaded_number, is_byte_set, are_bytes_set, bytes_loaded, narrow_loaded, spilled_loaded, word_loaded, narrow_storable, storable};
+ghost use Rattle.abstract_state.specs.InPlace.{kept};
 ghost use Rattle.abstract_state.specs.Access.{are_value_writes_served, context_kind, context_loaded, loaded_kind, signed_loaded, stack_stored, stored};
 
 use crate::kind::{Kind, StackWord};
@@ -198,28 +199,27 @@ impl State {
         }
     }
 
-    /// The state after a store to the stack.
-    fn stack_stored(mut self, size: Size, from: usize, kind: Kind) -> State
+    /// Stores to the stack.
+    fn store_to_stack(&mut self, size: Size, from: usize, kind: Kind)
         requires within { (from % 8) + size_bytes size ≤ 8 }
         requires inside { from < 512 }
-        ensures { result ≡ stack_stored self size from kind }
+        ensures { self.new ≡ stack_stored self.old size from kind }
     {
         self.stack[from / 8] = self.stack[from / 8].stored(size, from % 8, kind);
-        self
     }
 
-    /// The state after a store at a distance from what a register holds (RFC 9669, section 5.1): the place is tested first, and
-    /// then what is stored.
-    pub(crate) fn stored(
-        self,
+    /// Stores at a distance from what a register holds (RFC 9669, section 5.1): the place is tested first, and then what is
+    /// stored.
+    pub(crate) fn store_at(
+        &mut self,
         maps: &[MapDef],
         size: Size,
         address: Kind,
         distance: i16,
         dst: Register,
         kind: Kind,
-    ) -> Result<State, Refusal>
-        ensures { result ≡ stored maps.now self size address distance dst kind }
+    ) -> Result<(), Refusal>
+        ensures { kept result self.new ≡ stored maps.now self.old size address distance dst kind }
     {
         let count = size_bytes(size);
         match address {
@@ -227,20 +227,19 @@ impl State {
             Kind::Stack(place) => {
                 let from = stack_access(place, distance, count)? as usize;
                 storable(size, kind)?;
-                Ok(self.stack_stored(size, from, kind))
+                self.store_to_stack(size, from, kind);
+                Ok(())
             }
             Kind::Packet { off, range, .. } => {
                 packet_access(off, range, distance, count)?;
-                narrow_storable(kind)?;
-                Ok(self)
+                narrow_storable(kind)
             }
             Kind::Value { map, off, .. } => {
                 if !are_value_writes_served() {
                     return Err(Refusal::WrongKind(dst));
                 }
                 value_access(maps, map, off, distance, count)?;
-                narrow_storable(kind)?;
-                Ok(self)
+                narrow_storable(kind)
             }
             _ => Err(Refusal::WrongKind(dst)),
         }

@@ -4,6 +4,7 @@ ghost use Rattle.std.specs.Prelude.{◌≡◌, ◌^◌, pos, neg_ℤ, true};
 ghost use Rattle.std.specs.Int.RustNames.{int_le};
 ghost use Rattle.isa.specs.Words.{signed_value};
 ghost use Rattle.abstract_scalar.specs.Transfer.{transfer_of};
+ghost use Rattle.abstract_state.specs.InPlace.{kept};
 ghost use Rattle.abstract_state.specs.Arithmetic.{source_kind, blamed, number_kind, moved_kind, distance_of, moves_pointers, moved_pointer, moved_far, pointer_sum, is_movable, combined_pointer, combined_kind, alu_kind, after_alu_of};
 
 use crate::kind::Kind;
@@ -235,7 +236,7 @@ impl State {
     /// stack, the packet or a value moves by a single number, and one to the packet also by an interval; otherwise 36, and 37,
     /// 38 or 40 where the pointer would leave what it points to.
     pub fn after_alu(
-        self,
+        mut self,
         maps: &[MapDef],
         slot: u16,
         width: Width,
@@ -244,6 +245,22 @@ impl State {
         source: Source,
     ) -> Result<State, Refusal>
         ensures { result ≡ after_alu_of maps.now self slot width op dst source }
+    {
+        self.compute(maps, slot, width, op, dst, source)?;
+        Ok(self)
+    }
+
+    /// The same in place.
+    pub(crate) fn compute(
+        &mut self,
+        maps: &[MapDef],
+        slot: u16,
+        width: Width,
+        op: AluOp,
+        dst: Register,
+        source: Source,
+    ) -> Result<(), Refusal>
+        ensures { kept result self.new ≡ after_alu_of maps.now self.old slot width op dst source }
     {
         let first = self.kind(dst);
         let second = self.source(source);
@@ -257,6 +274,7 @@ impl State {
             dst,
             blamed(dst, source),
         )?;
-        Ok(self.with(dst, kind))
+        self.set(dst, kind);
+        Ok(())
     }
 }

@@ -1,6 +1,7 @@
 //! Calls of helpers.
 
 ghost use Rattle.std.specs.Prelude.{◌≡◌};
+ghost use Rattle.abstract_state.specs.InPlace.{kept};
 ghost use Rattle.abstract_state.specs.Calls.{helper_at, is_served, served_helper, map_argument, stack_argument, number_argument, context_argument, is_inside_stack, key_arguments, update_arguments, head_arguments, returned, any_number, call_of};
 
 use crate::fact::Fact;
@@ -150,54 +151,58 @@ impl State {
         number_argument(self.kind(Register::R2), Register::R2)
     }
 
-    /// The state after a call: R0 has the answer, and R1 to R5 nothing.
-    fn returned(self, answer: Kind) -> State
-        ensures { result ≡ returned answer self }
+    /// After a call R0 has the answer, and R1 to R5 nothing.
+    fn return_with(&mut self, answer: Kind)
+        ensures { self.new ≡ returned answer self.old }
     {
         let unset = Kind::Unset;
-        State {
-            registers: [
-                answer,
-                unset,
-                unset,
-                unset,
-                unset,
-                unset,
-                self.registers[6],
-                self.registers[7],
-                self.registers[8],
-                self.registers[9],
-                self.registers[10],
-            ],
-            stack: self.stack,
-            start_range: self.start_range,
-        }
+        self.registers = [
+            answer,
+            unset,
+            unset,
+            unset,
+            unset,
+            unset,
+            self.registers[6],
+            self.registers[7],
+            self.registers[8],
+            self.registers[9],
+            self.registers[10],
+        ];
     }
 
-    /// The state after the call of a helper in a slot, whose arguments are set (RFC 9669, section 4.3.1).
-    pub(crate) fn called(self, maps: &[MapDef], slot: u16, helper: Helper) -> Result<State, Refusal>
-        ensures { result ≡ call_of maps.now self slot helper }
+    /// Calls a helper in a slot, whose arguments are set (RFC 9669, section 4.3.1).
+    pub(crate) fn call_helper(
+        &mut self,
+        maps: &[MapDef],
+        slot: u16,
+        helper: Helper,
+    ) -> Result<(), Refusal>
+        ensures { kept result self.new ≡ call_of maps.now self.old slot helper }
     {
         let any_number = Kind::Scalar(Interval::full(Width::Bits64));
-        match helper {
-            Helper::LookupElem => {
-                let map = self.key_arguments(maps)?;
-                Ok(self.returned(Kind::ValueOrNull { map, id: slot }))
-            }
+        let answer = match helper {
+            Helper::LookupElem => Kind::ValueOrNull {
+                map: self.key_arguments(maps)?,
+                id: slot,
+            },
             Helper::UpdateElem => {
                 self.update_arguments(maps)?;
-                Ok(self.returned(any_number))
+                any_number
             }
             Helper::DeleteElem => {
                 self.key_arguments(maps)?;
-                Ok(self.returned(any_number))
+                any_number
             }
-            Helper::KtimeGetNs => Ok(self.returned(any_number)),
-            Helper::GetSmpProcessorId => Ok(self.returned(Kind::Scalar(Interval::up_to(7)))),
+            Helper::KtimeGetNs => any_number,
+            Helper::GetSmpProcessorId => Kind::Scalar(Interval::up_to(7)),
             Helper::AdjustHead => {
                 self.head_arguments()?;
-                Ok(self.told(Fact::HeadMoved).returned(any_number))
+                self.tell(Fact::HeadMoved);
+                any_number
             }
-        }
+        };
+        self.return_with(answer);
+        Ok(())
     }
 }

@@ -14,3 +14,16 @@ pub enum Flow {
     /// A conditional jump: what is known where it is taken, and where the run goes on at the next instruction.
     Splits { taken: State, fallen: State },
 }
+
+/// Where a run goes on after an instruction.
+#[derive(Clone, Copy, Debug, PartialEq, Eq)]
+pub enum Way {
+    /// The run ends.
+    Ends,
+    /// At the next instruction.
+    Falls,
+    /// So many slots after the next one.
+    Jumps,
+    /// At either: a conditional jump.
+    Splits,
+}

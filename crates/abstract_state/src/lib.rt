@@ -23,7 +23,7 @@ mod tell;
 mod transfer;
 
 pub use fact::Fact;
-pub use flow::Flow;
+pub use flow::{Flow, Way};
 pub use helper::Helper;
 pub use kind::{Kind, StackWord};
 pub use refusal::Refusal;

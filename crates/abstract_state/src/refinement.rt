@@ -190,7 +190,7 @@ impl State {
     /// number; a null test makes every copy of the lookup's answer 0, or a value; a test against the packet's end tells how far
     /// the packet reaches past the base of the pointer's id.
     pub fn refine(
-        self,
+        mut self,
         width: Width,
         test: Test,
         dst: Register,
@@ -199,22 +199,37 @@ impl State {
     ) -> State
         ensures { result ≡ refine_state self width test dst source taken }
     {
+        self.learn(width, test, dst, source, taken);
+        self
+    }
+
+    /// The same in place.
+    pub(crate) fn learn(
+        &mut self,
+        width: Width,
+        test: Test,
+        dst: Register,
+        source: Source,
+        taken: bool,
+    )
+        ensures { self.new ≡ refine_state self.old width test dst source taken }
+    {
         let kind = self.kind(dst);
         let other = self.source(source);
-        self.refined(
+        self.cut_or_tell(
             number_cut(width, test, taken, kind, other),
             fact_of(test, taken, kind, other),
             dst,
-        )
+        );
     }
 
-    /// The state with a number cut, or else with a fact told of all copies of a pointer.
-    fn refined(self, cut: Option<Kind>, fact: Fact, dst: Register) -> State
-        ensures { result ≡ refined cut fact self dst }
+    /// Cuts a number, or else tells all copies of a pointer a fact.
+    fn cut_or_tell(&mut self, cut: Option<Kind>, fact: Fact, dst: Register)
+        ensures { self.new ≡ refined cut fact self.old dst }
     {
         match cut {
-            Some(kind) => self.with(dst, kind),
-            None => self.told(fact),
+            Some(kind) => self.set(dst, kind),
+            None => self.tell(fact),
         }
     }
 }

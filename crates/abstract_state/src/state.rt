@@ -69,11 +69,10 @@ impl State {
         self.registers[index_of(register)]
     }
 
-    /// The same with one register's kind.
-    pub(crate) fn with(mut self, register: Register, kind: Kind) -> State
-        ensures { result ≡ with_kind self register kind }
+    /// Writes what is known of a register.
+    pub(crate) fn set(&mut self, register: Register, kind: Kind)
+        ensures { self.new ≡ with_kind self.old register kind }
     {
         self.registers[index_of(register)] = kind;
-        self
     }
 }

@@ -1,7 +1,7 @@
 //! Rows of what a verifier may conclude from straight code, and of what it refuses. A conditional jump goes on where it isn't taken,
 //! unless the row says otherwise.
 
-use crate::{Flow, Kind, Refusal, State};
+use crate::{Kind, Refusal, State, Way};
 use abstract_scalar::Interval;
 use ebpf_decode::{Insn, MapDef, MapKind};
 use isa::{AluOp, AtomicOp, Extension, Register, Size, Source, Test, Width};
@@ -19,14 +19,11 @@ fn known_after(code: &[Insn], taken: bool, register: Register) -> Result<Kind, R
     let mut state = State::opening();
     let mut slot: u16 = 0;
     for insn in code {
-        match state.flow(&MAPS, slot, *insn)? {
-            Flow::Ends => return Ok(state.kind(register)),
-            Flow::Falls(after) => state = after,
-            Flow::Jumps(after) => state = after,
-            Flow::Splits {
-                taken: there,
-                fallen,
-            } => state = if taken { there } else { fallen },
+        match state.step(&MAPS, slot, *insn)? {
+            Way::Ends => return Ok(state.kind(register)),
+            Way::Falls => {}
+            Way::Jumps => {}
+            Way::Splits => state.follow(*insn, taken),
         }
         slot = slot.wrapping_add(1);
     }
@@ -266,27 +263,25 @@ fn joins(rt: HostRuntime) {
 fn joined_states(rt: HostRuntime) {
     let mut spilled = State::opening();
     let mut numbered = State::opening();
-    match spilled.flow(&MAPS, 0, spill(Size::U64, -8, Register::R1)) {
-        Ok(Flow::Falls(after)) => spilled = after,
-        _ => {}
-    }
-    match numbered.flow(&MAPS, 0, store(Size::U64, Register::R10, -8, 5)) {
-        Ok(Flow::Falls(after)) => numbered = after,
-        _ => {}
-    }
+    let spill = spilled.step(&MAPS, 0, spill(Size::U64, -8, Register::R1));
+    assert_eq!(rt; spill, Ok(Way::Falls), "a context is spilled");
+    let number = numbered.step(&MAPS, 0, store(Size::U64, Register::R10, -8, 5));
+    assert_eq!(rt; number, Ok(Way::Falls), "a number is stored");
     let read = load(Size::U64, Register::R4, Register::R10, -8);
-    let same = spilled.join(&spilled).flow(&MAPS, 1, read);
-    assert!(rt;
-        matches!(same, Ok(Flow::Falls(_))),
+    let mut same = spilled.join(&spilled);
+    assert_eq!(rt;
+        same.step(&MAPS, 1, read),
+        Ok(Way::Falls),
         "a word spilled on both paths can be read"
     );
-    let other = spilled.join(&numbered).flow(&MAPS, 1, read);
-    assert!(rt;
-        matches!(other, Err(Refusal::StackUnset)),
+    let mut other = spilled.join(&numbered);
+    assert_eq!(rt;
+        other.step(&MAPS, 1, read),
+        Err(Refusal::StackUnset),
         "a pointer on one path and a number on the other can't"
     );
     assert_eq!(rt;
-        spilled.join(&numbered).kind(Register::R10),
+        other.kind(Register::R10),
         Kind::Stack(512),
         "registers are joined too"
     );

@@ -5,10 +5,11 @@ ghost use Rattle.isa.specs.InstructionCodes.{width_size, size_bytes};
 ghost use Rattle.semantics.specs.Semantics.{fetched_register};
 ghost use Rattle.abstract_state.specs.Access.{load_of, signed_load_of, with_fetched_kind, expects, atomic_on};
 ghost use Rattle.abstract_state.specs.Unary.{unary_change};
-ghost use Rattle.abstract_state.specs.Flow.{writable, fetch_writable, is_set, reads, reads_source, reads_both, reads_operands, reads_expected, reads_atomic, reads_arguments, alu_flow, number_of, operand_of, unary_flow, load_flow, store_flow, store_register_flow, atomic_flow, known_map, map_flow, number_flow, call_flow, test_flow, exit_kind, exit_flow, control_flow, memory_flow, flow_of};
+ghost use Rattle.abstract_state.specs.InPlace.{kept, flow_kept, edge_state};
+ghost use Rattle.abstract_state.specs.Flow.{writable, fetch_writable, is_set, reads, reads_source, reads_both, reads_operands, reads_expected, reads_atomic, reads_arguments, alu_flow, number_of, operand_of, unary_flow, load_flow, store_flow, store_register_flow, atomic_flow, known_map, map_flow, number_flow, call_flow, verdict_kind, flow_of};
 
 use crate::access::{are_value_writes_served, narrow_storable};
-use crate::flow::Flow;
+use crate::flow::Way;
 use crate::helper::Helper;
 use crate::kind::Kind;
 use crate::places::value_access;
@@ -164,21 +165,22 @@ impl State {
         }
     }
 
+    /// Arithmetic.
     #[inline(never)]
     fn alu(
-        self,
+        &mut self,
         maps: &[MapDef],
         slot: u16,
         width: Width,
         op: AluOp,
         dst: Register,
         source: Source,
-    ) -> Result<State, Refusal>
-        ensures { result ≡ alu_flow maps.now self slot width op dst source }
+    ) -> Result<(), Refusal>
+        ensures { kept result self.new ≡ alu_flow maps.now self.old slot width op dst source }
     {
         writable(dst)?;
         self.reads_operands(op, dst, source)?;
-        self.after_alu(maps, slot, width, op, dst, source)
+        self.compute(maps, slot, width, op, dst, source)
     }
 
     /// The number in a register that an operation with one operand reads and another that it writes.
@@ -190,90 +192,93 @@ impl State {
         number_of(self.kind(operand), operand)
     }
 
+    /// A zero-extending load.
     #[inline(never)]
     fn load(
-        self,
+        &mut self,
         maps: &[MapDef],
         size: Size,
         dst: Register,
         src: Register,
         offset: i16,
-    ) -> Result<State, Refusal>
-        ensures { result ≡ load_flow self dst src (load_of maps.now self size dst src offset) }
+    ) -> Result<(), Refusal>
+        ensures { kept result self.new ≡ load_flow self.old dst src (load_of maps.now self.old size dst src offset) }
     {
         writable(dst)?;
         self.reads(src)?;
         let kind = self.loaded(maps, size, self.kind(src), offset, src)?;
-        Ok(self.with(dst, kind))
+        self.set(dst, kind);
+        Ok(())
     }
 
+    /// A sign-extending load.
     #[inline(never)]
     fn signed_load(
-        self,
+        &mut self,
         maps: &[MapDef],
         extension: Extension,
         dst: Register,
         src: Register,
         offset: i16,
-    ) -> Result<State, Refusal>
-        ensures { result ≡ load_flow self dst src (signed_load_of maps.now self extension dst src offset) }
+    ) -> Result<(), Refusal>
+        ensures { kept result self.new ≡ load_flow self.old dst src (signed_load_of maps.now self.old extension dst src offset) }
     {
         writable(dst)?;
         self.reads(src)?;
         let kind = self.signed_loaded(maps, extension, self.kind(src), offset, src)?;
-        Ok(self.with(dst, kind))
+        self.set(dst, kind);
+        Ok(())
     }
 
+    /// A store of an immediate.
     #[inline(never)]
     fn store(
-        self,
+        &mut self,
         maps: &[MapDef],
         size: Size,
         dst: Register,
         offset: i16,
         immediate: i32,
-    ) -> Result<State, Refusal>
-        ensures { result ≡ store_flow maps.now self size dst offset immediate }
+    ) -> Result<(), Refusal>
+        ensures { kept result self.new ≡ store_flow maps.now self.old size dst offset immediate }
     {
         self.reads(dst)?;
-        self.stored(
-            maps,
-            size,
-            self.kind(dst),
-            offset,
-            dst,
-            self.source(Source::Imm(immediate)),
-        )
+        let address = self.kind(dst);
+        let stored = self.source(Source::Imm(immediate));
+        self.store_at(maps, size, address, offset, dst, stored)
     }
 
+    /// A store of a register.
     #[inline(never)]
     fn store_register(
-        self,
+        &mut self,
         maps: &[MapDef],
         size: Size,
         dst: Register,
         src: Register,
         offset: i16,
-    ) -> Result<State, Refusal>
-        ensures { result ≡ store_register_flow maps.now self size dst src offset }
+    ) -> Result<(), Refusal>
+        ensures { kept result self.new ≡ store_register_flow maps.now self.old size dst src offset }
     {
         self.reads_both(dst, Source::Reg(src))?;
-        self.stored(maps, size, self.kind(dst), offset, dst, self.kind(src))
+        let address = self.kind(dst);
+        let stored = self.kind(src);
+        self.store_at(maps, size, address, offset, dst, stored)
     }
 
-    /// The state after an atomic operation fetched.
-    fn with_fetched(self, register: Option<Register>, width: Width) -> State
-        ensures { result ≡ with_fetched_kind self register width }
+    /// Puts what an atomic operation fetches into its register.
+    fn fetch(&mut self, register: Option<Register>, width: Width)
+        ensures { self.new ≡ with_fetched_kind self.old register width }
     {
         match register {
-            None => self,
-            Some(register) => self.with(register, Kind::Scalar(Interval::full(width))),
+            None => {}
+            Some(register) => self.set(register, Kind::Scalar(Interval::full(width))),
         }
     }
 
-    #[inline(never)]
-    fn atomic_on(
-        self,
+    /// An atomic operation at a distance from what a register holds: only values of maps may be worked on so.
+    fn atomic_at(
+        &mut self,
         maps: &[MapDef],
         width: Width,
         op: AtomicOp,
@@ -281,8 +286,8 @@ impl State {
         distance: i16,
         dst: Register,
         src: Register,
-    ) -> Result<State, Refusal>
-        ensures { result ≡ atomic_on maps.now self width op address distance dst src }
+    ) -> Result<(), Refusal>
+        ensures { kept result self.new ≡ atomic_on maps.now self.old width op address distance dst src }
     {
         match address {
             Kind::Value { map, off, .. } => {
@@ -292,186 +297,125 @@ impl State {
                 value_access(maps, map, off, distance, width_bytes(width))?;
                 narrow_storable(self.kind(src))?;
                 expects(op, self.kind(Register::R0))?;
-                Ok(self.with_fetched(fetched_register(op, src), width))
+                self.fetch(fetched_register(op, src), width);
+                Ok(())
             }
             _ => Err(Refusal::WrongKind(dst)),
         }
     }
 
+    /// An atomic operation.
     #[inline(never)]
     fn atomic(
-        self,
+        &mut self,
         maps: &[MapDef],
         width: Width,
         op: AtomicOp,
         dst: Register,
         src: Register,
         offset: i16,
-    ) -> Result<State, Refusal>
-        ensures { result ≡ atomic_flow maps.now self width op dst src offset }
+    ) -> Result<(), Refusal>
+        ensures { kept result self.new ≡ atomic_flow maps.now self.old width op dst src offset }
     {
         fetch_writable(fetched_register(op, src))?;
         self.reads_atomic(op, dst, src)?;
-        self.atomic_on(maps, width, op, self.kind(dst), offset, dst, src)
+        let address = self.kind(dst);
+        self.atomic_at(maps, width, op, address, offset, dst, src)
     }
 
-    #[inline(never)]
-    fn load_map(self, maps: &[MapDef], dst: Register, map: i32) -> Result<State, Refusal>
-        ensures { result ≡ map_flow maps.now self dst map }
+    /// A wide load of a map's address.
+    fn load_map(&mut self, maps: &[MapDef], dst: Register, map: i32) -> Result<(), Refusal>
+        ensures { kept result self.new ≡ map_flow maps.now self.old dst map }
     {
         writable(dst)?;
         let kind = known_map(maps, map)?;
-        Ok(self.with(dst, kind))
+        self.set(dst, kind);
+        Ok(())
     }
 
+    /// A wide load of a number.
+    fn load_number(&mut self, dst: Register, value: u64) -> Result<(), Refusal>
+        ensures { kept result self.new ≡ number_flow self.old dst value }
+    {
+        writable(dst)?;
+        self.set(dst, Kind::Scalar(Interval::constant(value)));
+        Ok(())
+    }
+
+    /// An operation with one operand.
     #[inline(never)]
-    fn call(self, maps: &[MapDef], slot: u16, number: i32) -> Result<State, Refusal>
-        ensures { result ≡ call_flow maps.now self slot number }
+    fn unary(&mut self, dst: Register, operand: Register, change: Unary) -> Result<(), Refusal>
+        ensures { kept result self.new ≡ unary_flow self.old dst operand (unary_change change) }
+    {
+        let i = self.operand(dst, operand)?;
+        self.set(dst, Kind::Scalar(change.of(i)));
+        Ok(())
+    }
+
+    /// The call of a helper by its number.
+    #[inline(never)]
+    fn call(&mut self, maps: &[MapDef], slot: u16, number: i32) -> Result<(), Refusal>
+        ensures { kept result self.new ≡ call_flow maps.now self.old slot number }
     {
         let helper = Helper::served(number)?;
         self.reads_arguments(helper)?;
-        self.called(maps, slot, helper)
+        self.call_helper(maps, slot, helper)
     }
 
-    #[inline(never)]
-    fn test(self, width: Width, test: Test, dst: Register, source: Source) -> Result<Flow, Refusal>
-        ensures { result ≡ test_flow self width test dst source }
-    {
-        self.reads_both(dst, source)?;
-        allowed_test(
-            width,
-            test,
-            self.kind(dst),
-            self.source(source),
-            dst,
-            source,
-        )?;
-        Ok(Flow::Splits {
-            taken: self.refine(width, test, dst, source, true),
-            fallen: self.refine(width, test, dst, source, false),
-        })
-    }
-
-    fn exit(&self) -> Result<Flow, Refusal>
-        ensures { result ≡ exit_flow self.now }
-    {
-        self.reads(Register::R0)?;
-        exit_kind(self.kind(Register::R0))
-    }
-
-    /// What flows out of a jump, a call or an exit.
-    #[inline(never)]
-    fn control_flow(self, maps: &[MapDef], slot: u16, insn: Insn) -> Result<Flow, Refusal>
-        ensures { result ≡ control_flow maps.now self slot insn }
+    /// Takes the state over the instruction in a slot that begins in it, and tells where a run goes on: or the first rule that
+    /// the instruction breaks (a write of R10; then an unknown helper or map; then an unset register; then the rule of its
+    /// class). After a conditional jump the state stands as it was: `follow` takes it along an edge. After a refusal no promise
+    /// is made of it.
+    #[rattlefmt::skip]
+    pub fn step(&mut self, maps: &[MapDef], slot: u16, insn: Insn) -> Result<Way, Refusal>
+        ensures { flow_kept insn result self.new ≡ flow_of maps.now self.old slot insn }
     {
         match insn {
-            Insn::Ja { .. } => Ok(Flow::Jumps(self)),
-            Insn::Ja32 { .. } => Ok(Flow::Jumps(self)),
+            Insn::Alu { width, op, dst, source } => self.alu(maps, slot, width, op, dst, source)?,
+            Insn::Neg { width, dst } => self.unary(dst, dst, Unary::Neg(width))?,
+            Insn::Movsx { extension, dst, src } => self.unary(dst, src, Unary::Movsx(extension))?,
+            Insn::Movsx32 { extension, dst, src } => self.unary(dst, src, Unary::Movsx32(extension))?,
+            Insn::End { order, swap_width, dst } => self.unary(dst, dst, Unary::Swap(order, swap_width))?,
+            Insn::Lddw { dst, value } => self.load_number(dst, value)?,
+            Insn::Ldmap { dst, map } => self.load_map(maps, dst, map)?,
+            Insn::Ldx { size, dst, src, offset } => self.load(maps, size, dst, src, offset)?,
+            Insn::Ldxs { extension, dst, src, offset } => self.signed_load(maps, extension, dst, src, offset)?,
+            Insn::St { size, dst, offset, immediate } => self.store(maps, size, dst, offset, immediate)?,
+            Insn::Stx { size, dst, src, offset } => self.store_register(maps, size, dst, src, offset)?,
+            Insn::AtomicUpdate { width, op, dst, src, offset } => self.atomic(maps, width, op, dst, src, offset)?,
+            Insn::CallHelper { helper } => self.call(maps, slot, helper)?,
+            Insn::Ja { .. } => return Ok(Way::Jumps),
+            Insn::Ja32 { .. } => return Ok(Way::Jumps),
+            Insn::JumpIf { width, test, dst, source, .. } => {
+                self.reads_both(dst, source)?;
+                allowed_test(width, test, self.kind(dst), self.source(source), dst, source)?;
+                return Ok(Way::Splits);
+            }
+            Insn::Exit => {
+                self.reads(Register::R0)?;
+                verdict_kind(self.kind(Register::R0))?;
+                return Ok(Way::Ends);
+            }
+        }
+        Ok(Way::Falls)
+    }
+
+    /// Takes the state along one edge of an allowed conditional jump: the one where it is taken, or where it isn't. Of another
+    /// instruction both edges leave the state as it is.
+    #[inline(never)]
+    pub fn follow(&mut self, insn: Insn, taken: bool)
+        ensures { self.new ≡ edge_state insn self.old taken }
+    {
+        match insn {
             Insn::JumpIf {
                 width,
                 test,
                 dst,
                 source,
                 ..
-            } => self.test(width, test, dst, source),
-            Insn::CallHelper { helper } => Ok(Flow::Falls(self.call(maps, slot, helper)?)),
-            _ => self.exit(),
+            } => self.learn(width, test, dst, source, taken),
+            _ => {}
         }
-    }
-
-    /// What flows out of an instruction that works on memory, or out of the others.
-    #[inline(never)]
-    fn memory_flow(self, maps: &[MapDef], slot: u16, insn: Insn) -> Result<Flow, Refusal>
-        ensures { result ≡ memory_flow maps.now self slot insn }
-    {
-        let after = match insn {
-            Insn::Ldx {
-                size,
-                dst,
-                src,
-                offset,
-            } => self.load(maps, size, dst, src, offset)?,
-            Insn::Ldxs {
-                extension,
-                dst,
-                src,
-                offset,
-            } => self.signed_load(maps, extension, dst, src, offset)?,
-            Insn::St {
-                size,
-                dst,
-                offset,
-                immediate,
-            } => self.store(maps, size, dst, offset, immediate)?,
-            Insn::Stx {
-                size,
-                dst,
-                src,
-                offset,
-            } => self.store_register(maps, size, dst, src, offset)?,
-            Insn::AtomicUpdate {
-                width,
-                op,
-                dst,
-                src,
-                offset,
-            } => self.atomic(maps, width, op, dst, src, offset)?,
-            _ => return self.control_flow(maps, slot, insn),
-        };
-        Ok(Flow::Falls(after))
-    }
-
-    /// The state after an operation with one operand.
-    #[inline(never)]
-    fn unary(self, dst: Register, operand: Register, change: Unary) -> Result<State, Refusal>
-        ensures { result ≡ unary_flow self dst operand (unary_change change) }
-    {
-        let i = self.operand(dst, operand)?;
-        Ok(self.with(dst, Kind::Scalar(change.of(i))))
-    }
-
-    /// The state after a wide load of a number.
-    #[inline(never)]
-    fn load_number(self, dst: Register, value: u64) -> Result<State, Refusal>
-        ensures { result ≡ number_flow self dst value }
-    {
-        writable(dst)?;
-        Ok(self.with(dst, Kind::Scalar(Interval::constant(value))))
-    }
-
-    /// What flows out of the instruction in a slot that begins in this state: what is known on each of its edges, or the first
-    /// rule that it breaks (a write of R10; then an unknown helper or map; then an unset register; then the rule of its class).
-    pub fn flow(self, maps: &[MapDef], slot: u16, insn: Insn) -> Result<Flow, Refusal>
-        ensures { result ≡ flow_of maps.now self slot insn }
-    {
-        let after = match insn {
-            Insn::Alu {
-                width,
-                op,
-                dst,
-                source,
-            } => self.alu(maps, slot, width, op, dst, source)?,
-            Insn::Neg { width, dst } => self.unary(dst, dst, Unary::Neg(width))?,
-            Insn::Movsx {
-                extension,
-                dst,
-                src,
-            } => self.unary(dst, src, Unary::Movsx(extension))?,
-            Insn::Movsx32 {
-                extension,
-                dst,
-                src,
-            } => self.unary(dst, src, Unary::Movsx32(extension))?,
-            Insn::End {
-                order,
-                swap_width,
-                dst,
-            } => self.unary(dst, dst, Unary::Swap(order, swap_width))?,
-            Insn::Lddw { dst, value } => self.load_number(dst, value)?,
-            Insn::Ldmap { dst, map } => self.load_map(maps, dst, map)?,
-            _ => return self.memory_flow(maps, slot, insn),
-        };
-        Ok(Flow::Falls(after))
     }
 }
 
@@ -509,11 +453,11 @@ fn number_of(kind: Kind, register: Register) -> Result<Interval, Refusal>
 }
 
 /// The verdict has to be a number.
-fn exit_kind(kind: Kind) -> Result<Flow, Refusal>
-    ensures { result ≡ exit_kind kind }
+fn verdict_kind(kind: Kind) -> Result<(), Refusal>
+    ensures { result ≡ verdict_kind kind }
 {
     match kind {
-        Kind::Scalar(_) => Ok(Flow::Ends),
+        Kind::Scalar(_) => Ok(()),
         _ => Err(Refusal::PointerLeak),
     }
 }

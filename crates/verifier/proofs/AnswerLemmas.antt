@@ -15,7 +15,7 @@ use Rattle.abstract_state.specs.States.{Checked}
 use Rattle.abstract_state.specs.Flow.{flow_of}
 use Rattle.verifier.specs.Dataflow.{known_at, AreEntryStates, Accepts, IsFirstBroken, has_no_shape, breaks_rule, wants_memory}
 use Rattle.verifier.specs.Answers.{HasOneAnswer}
-use Rattle.verifier.proofs.PassLemmas.{agree}
+use Rattle.verifier.proofs.EntryStates.{agree}
 
 -- at the slots where both are entry states, they are the same
 same_below : (maps : List MapDef) (code : List Insn) (one other : List (Option State)) (end bound : ℕ) → AreEntryStates maps code one end → AreEntryStates maps code other end → bound ≤ end →
@@ -39,4 +39,4 @@ not_broken maps code states slot why accepted broken =
 pub one_answer : HasOneAnswer
 one_answer maps code states reject accepted (has_no_shape fault is e) = absurd (no_fault code fault accepted.shape is)
 one_answer maps code states reject accepted (breaks_rule slot why broken e) = absurd (not_broken maps code states slot why accepted broken)
-one_answer maps code states reject accepted (wants_memory shape e) = e
+one_answer maps code states reject accepted (wants_memory shape asked e) = e

@@ -1,5 +1,7 @@
+pub mod EntryStates
 pub mod PassLemmas
 pub mod ReaderLemmas
+pub mod MemoryLemmas
 pub mod ArrivalLemmas
 pub mod InstructionLemmas
 pub mod PlaceLemmas

@@ -1,5 +1,5 @@
 -- Entry states: what is known before an instruction is what flows along the edges that lead to it, joined.
-use Rattle.std.specs.Prelude.{◌≡◌, ℕ, zero, suc, ◌+◌, ◌<◌, ◌==◌, Bool, true, false, ℤ, pos, negsuc, ◌+ℤ◌, List, length, Option, Some, None, Ok, Err, IsOk, slice_index_or, if◌then◌else◌}
+use Rattle.std.specs.Prelude.{◌≡◌, ℕ, zero, suc, ◌+◌, ◌<◌, ◌==◌, Bool, true, false, ℤ, pos, negsuc, ◌+ℤ◌, List, [], ◌∷◌, ◌++◌, Option, Some, None, Ok, Err, IsOk, IsTrue, slice_index_or, if◌then◌else◌}
 use Rattle.ebpf_decode.specs.declared.insn.Insn.{Insn}
 use Rattle.ebpf_decode.specs.declared.map.MapDef.{MapDef}
 use Rattle.ebpf_decode.specs.InstructionEncoding.{slot_count, total_slots}
@@ -66,9 +66,15 @@ arrived maps code states target zero = if target == 0 then Some opening_state el
 arrived maps code states target (suc slot) =
     arriving_from maps slot (instruction_at code slot) (known_at states slot) target (arrived maps code states target slot)
 
--- before the pass a state stands at slot 0 alone
-abbrev pub IsOpening : List (Option State) → Type 0
-IsOpening states = (slot : ℕ) → slot < length states → known_at states slot ≡ (if slot == 0 then Some opening_state else None)
+-- the entry states of the first so many slots, each from those before it
+unfoldable pub states_to : List MapDef → List Insn → ℕ → List (Option State)
+states_to maps code zero = []
+states_to maps code (suc slot) =
+    states_to maps code slot ++ arrived maps code (states_to maps code slot) slot slot ∷ []
+
+-- the entry states of a program: a function of it, since edges go up
+abbrev pub states_of : List MapDef → List Insn → List (Option State)
+states_of maps code = states_to maps code (total_slots code)
 
 -- ---- what is accepted
 
@@ -88,6 +94,31 @@ pub record Accepts (maps : List MapDef) (code : List Insn) (states : List (Optio
   pub entry : AreEntryStates maps code states (total_slots code)
   pub passes : (slot : ℕ) → PassesChecks maps code states slot
 
+-- an edge of these leads past the next instruction: what flows there has to be kept
+abbrev pub jumps : Flow → Bool
+jumps Ends = false
+jumps (Falls state) = false
+jumps (Jumps state) = true
+jumps (Splits taken fallen) = true
+
+-- a jump that breaks no rule, and no instruction before it does
+pub record IsPassedJump (maps : List MapDef) (code : List Insn) (slot : ℕ) : Type 0 where
+  pub states : List (Option State)
+  pub entry : AreEntryStates maps code states (slot + 1)
+  pub passes : (before : ℕ) → before < slot + 1 → PassesChecks maps code states before
+  pub insn : Insn
+  pub state : State
+  pub flow : Flow
+  pub here : instruction_at code slot ≡ Some insn
+  pub known : known_at states slot ≡ Some state
+  pub flows : flow_of maps state slot insn ≡ Ok flow
+  pub is_jump : IsTrue (jumps flow)
+
+-- memory may have been asked for: for what flows along a jump, or, once the whole program has passed, for the resolved instructions
+pub data MayAskMemory (maps : List MapDef) (code : List Insn) : Type 0 where
+  passed_jump : (slot : ℕ) → IsPassedJump maps code slot → MayAskMemory maps code
+  passed_all : (states : List (Option State)) → Accepts maps code states → MayAskMemory maps code
+
 -- the program has structure, and the instruction at this slot is the first that breaks a rule
 pub record IsFirstBroken (maps : List MapDef) (code : List Insn) (slot : ℕ) (why : Refusal) : Type 0 where
   pub shape : HasShape code
@@ -101,8 +132,8 @@ pub record IsFirstBroken (maps : List MapDef) (code : List Insn) (slot : ℕ) (w
   pub breaks : flow_of maps state slot insn ≡ Err why
 
 -- the first rule that a program breaks: those of structure first, and then those of kinds by rising slot. A want of memory may be
--- answered in place of a rule of kinds, since the tests of structure take none.
+-- answered in place of a rule of kinds, where memory may have been asked for before the rule was looked at.
 pub data IsFirstReject (maps : List MapDef) (code : List Insn) (reject : Reject) : Type 0 where
   has_no_shape : (fault : ShapeFault) → IsFirstFault code fault → reject ≡ reject_of_shape fault → IsFirstReject maps code reject
   breaks_rule : (slot : ℕ) (why : Refusal) → IsFirstBroken maps code slot why → reject ≡ reject_of_refusal slot why → IsFirstReject maps code reject
-  wants_memory : HasShape code → reject ≡ Memory → IsFirstReject maps code reject
+  wants_memory : HasShape code → MayAskMemory maps code → reject ≡ Memory → IsFirstReject maps code reject

@@ -1,9 +1,10 @@
 //! The verifier: which images may run.
 #![tactic(auto)]
 
-mod edges;
+mod advance;
 pub mod laws;
 mod pass;
+mod pending;
 mod reader;
 mod reject;
 pub mod resolved;

@@ -1,10 +1,10 @@
 //! Programs that only read.
 
-ghost use Rattle.std.specs.Prelude.{◌≡◌, ◌≤◌, length, IsTrue};
-ghost use Rattle.ebpf_decode.specs.InstructionEncoding.{total_slots};
-ghost use Rattle.verifier.specs.Dataflow.{known_at};
-ghost use Rattle.verifier.specs.Readers.{is_worker_helper, is_value, is_queue_field, only_reads, reads_known, IsReader};
+ghost use Rattle.std.specs.Prelude.{◌≡◌};
+ghost use Rattle.verifier.specs.Pending.{entry_of};
+ghost use Rattle.verifier.specs.Readers.{is_worker_helper, is_value, is_queue_field, only_reads, reads_known};
 
+use crate::pending::Entry;
 use abstract_state::{Kind, State};
 use ebpf_decode::Insn;
 
@@ -45,29 +45,15 @@ fn only_reads(state: &State, insn: Insn) -> bool
     }
 }
 
-/// The same for the state at a slot, if there is one.
-fn reads_at(states: &Vec<Option<State>>, slot: usize, insn: Insn) -> bool
-    ensures { result ≡ reads_known insn (known_at states.now.items slot) }
-{
-    match states.get(slot) {
-        Some(Some(state)) => only_reads(state, insn),
-        Some(None) => true,
-        None => true,
-    }
-}
-
-/// Whether each instruction of the program only reads, in the states at its slots.
-pub(crate) fn is_reader(code: &[Insn], states: &Vec<Option<State>>) -> bool
-    requires few { total_slots code.now ≤ 4096 }
-    ensures sound { IsTrue result → IsReader code.now states.now.items }
-    ensures exact { IsReader code.now states.now.items → IsTrue result }
-{
-    let mut slot = 0;
-    'slots: for insn in code {
-        if !reads_at(states, slot, *insn) {
-            return false;
+impl Entry {
+    /// The same in what is known at a slot.
+    pub(crate) fn only_reads(&self, insn: Insn) -> bool
+        ensures { result ≡ reads_known insn (entry_of self.now) }
+    {
+        if self.is_reached {
+            only_reads(&self.state, insn)
+        } else {
+            true
         }
-        slot += insn.slot_count() as usize;
     }
-    true
 }

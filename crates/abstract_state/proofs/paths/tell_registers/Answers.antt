@@ -7,14 +7,14 @@ use Rattle.abstract_state.proofs.paths.tell_registers.Goals as goal
 
 pub returns : goal.returns
 returns c =
-    let one : length c.args.before ≡ 11 = search rules
-    in filled-map Unset (told_kind c.args.fact) c.args.before c.registers.told c.registers.invariant.same_length
+    let one : length c.args.told.now ≡ 11 = search rules
+    in filled-map Unset (told_kind c.args.fact) c.args.told.now c.registers.told c.registers.invariant.same_length
     (λ k h. c.registers.invariant.done k (omega arith))
 
 pub registers-preserved : goal.registers-preserved
 registers-preserved c =
     let new : c.of_kind.result ≡ told_kind c.args.fact (slice_index_or c.registers.told c.registers.i Unset) = search rules
-    in let old : slice_index_or c.registers.told c.registers.i Unset ≡ slice_index_or c.args.before c.registers.i Unset = c.registers.invariant.rest c.registers.i (omega arith)
+    in let old : slice_index_or c.registers.told c.registers.i Unset ≡ slice_index_or c.args.told.now c.registers.i Unset = c.registers.invariant.rest c.registers.i (omega arith)
     in let inside : c.registers.i < length c.registers.told = search rules
-    in filled-step Unset (λ k. told_kind c.args.fact (slice_index_or c.args.before k Unset)) c.args.before c.registers.told c.registers.i c.of_kind.result
+    in filled-step Unset (λ k. told_kind c.args.fact (slice_index_or c.args.told.now k Unset)) c.args.told.now c.registers.told c.registers.i c.of_kind.result
     c.registers.invariant inside (new ∙ ap (told_kind c.args.fact) old)

@@ -5,4 +5,4 @@ use Rattle.abstract_state.proofs.Filled.{Filled}
 use Rattle.abstract_state.proofs.paths.tell_registers.Given as goal
 
 abbrev pub invariant-registers : goal.invariant-registers
-invariant-registers l = Filled Unset (λ k. told_kind l.fact (slice_index_or l.fn.before k Unset)) l.fn.before l.told l.i
+invariant-registers l = Filled Unset (λ k. told_kind l.fact (slice_index_or l.fn.told k Unset)) l.fn.told l.told l.i

@@ -6,4 +6,4 @@ use Rattle.abstract_state.proofs.Filled.{Filled}
 use Rattle.abstract_state.proofs.paths.tell_stack.Given as goal
 
 abbrev pub invariant-words : goal.invariant-words
-invariant-words l = Filled (Spilled Unset) (λ k. told_word l.fact (slice_index_or l.fn.before k (Spilled Unset))) l.fn.before l.told l.i
+invariant-words l = Filled (Spilled Unset) (λ k. told_word l.fact (slice_index_or l.fn.told k (Spilled Unset))) l.fn.told l.told l.i

@@ -1,0 +1,16 @@
+use Rattle.std.proofs.Common.{◌≡◌, length, take}
+use Rattle.ebpf_decode.specs.InstructionEncoding.{total_slots}
+use Rattle.verifier.specs.Dataflow.{states_of}
+use Rattle.verifier.specs.Resolving.{AreMemories}
+use Rattle.verifier.proofs.PassLemmas.{IsHeld}
+use Rattle.verifier.proofs.ReaderLemmas.{IsMark}
+use Rattle.verifier.proofs.pass.pass.Given as goal
+
+abbrev pub invariant-slots : goal.invariant-slots
+invariant-slots l = record {
+  at : l.slot ≡ total_slots (take l.insn-index l.code);
+  room : length l.memories ≡ 4096;
+  held : IsHeld l.maps l.code l.slot l.entry l.pending;
+  noted : AreMemories l.code (states_of l.maps l.code) l.memories l.slot;
+  mark : IsMark l.code (states_of l.maps l.code) l.slot l.reads;
+}

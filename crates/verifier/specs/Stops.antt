@@ -1,0 +1,23 @@
+-- Why a pass stops at an instruction.
+use Rattle.std.specs.Prelude.{◌≡◌, ℕ, List, Option, Some, Ok, Err, IsTrue}
+use Rattle.ebpf_decode.specs.declared.insn.Insn.{Insn}
+use Rattle.ebpf_decode.specs.declared.map.MapDef.{MapDef}
+use Rattle.abstract_state.specs.declared.flow.Flow.{Flow}
+use Rattle.abstract_state.specs.declared.refusal.Refusal.{Refusal}
+use Rattle.abstract_state.specs.declared.state.State.{State}
+use Rattle.abstract_state.specs.Flow.{flow_of}
+use Rattle.verifier.specs.Dataflow.{jumps}
+
+-- the instruction breaks a rule in what is known
+pub record BreaksRule (maps : List MapDef) (slot : ℕ) (insn : Insn) (known : Option State) (why : Refusal) : Type 0 where
+  pub state : State
+  pub is : known ≡ Some state
+  pub breaks : flow_of maps state slot insn ≡ Err why
+
+-- it breaks none, and an edge leads past the next instruction
+pub record WantsRoom (maps : List MapDef) (slot : ℕ) (insn : Insn) (known : Option State) : Type 0 where
+  pub state : State
+  pub is : known ≡ Some state
+  pub flow : Flow
+  pub flows : flow_of maps state slot insn ≡ Ok flow
+  pub is_jump : IsTrue (jumps flow)

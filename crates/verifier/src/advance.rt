@@ -1,0 +1,135 @@
+//! From what is known at a slot to what is known at the next.
+
+ghost use Rattle.std.specs.Prelude.{◌≡◌, ◌<◌, ◌+◌, ◌≤ℤ◌, ◌+ℤ◌, ℕ, pos, Some, Err, IsOk, IsTrue, IfOk, IfErr};
+ghost use Rattle.abstract_state.specs.declared.flow.Flow.{Flow};
+ghost use Rattle.abstract_state.specs.declared.refusal.Refusal.{Refusal};
+ghost use Rattle.abstract_state.specs.declared.state.State.{State};
+ghost use Rattle.abstract_state.specs.Flow.{flow_of};
+ghost use Rattle.abstract_state.specs.InPlace.{flow_by};
+ghost use Rattle.abstract_state.specs.Soundness.{distance_of_jump};
+ghost use Rattle.ebpf_decode.specs.InstructionEncoding.{slot_count};
+ghost use Rattle.verifier.specs.Dataflow.{arriving, arriving_from, jumps};
+ghost use Rattle.verifier.specs.Pending.{entry_of, pending_at};
+ghost use Rattle.verifier.specs.Stops.{BreaksRule, WantsRoom};
+
+use crate::pending::{Entry, Pending};
+use abstract_state::{Refusal, Way};
+use ebpf_decode::{Insn, MapDef};
+use std::alloc::{AllocError, Global};
+
+/// Why a pass stops.
+#[derive(Clone, Copy)]
+pub(crate) enum Stop {
+    /// Memory was refused.
+    Memory,
+    /// The instruction breaks a rule.
+    Rule(Refusal),
+}
+
+/// How far the instruction jumps; 0 where it doesn't.
+fn distance_of(insn: Insn) -> i32
+    ensures { result ≡ distance_of_jump insn }
+{
+    match insn {
+        Insn::Ja { distance } => i32::from(distance),
+        Insn::Ja32 { distance } => distance,
+        Insn::JumpIf { distance, .. } => i32::from(distance),
+        _ => 0,
+    }
+}
+
+/// Where the instruction jumps.
+fn target_of(slot: usize, insn: Insn) -> usize
+    requires within { slot < 4096 }
+    requires forward { pos 0 ≤ℤ distance_of_jump insn }
+    ensures { pos result ≡ pos (slot + 1) +ℤ distance_of_jump insn }
+{
+    slot + 1 + distance_of(insn) as usize
+}
+
+/// The two edges of a conditional jump: what is known where it is taken is brought there, what is known where it isn't falls on.
+#[inline(never)]
+fn split(
+    alloc: Global,
+    slot: usize,
+    insn: Insn,
+    pending: &mut Pending,
+    entry: &mut Entry,
+) -> Result<(), AllocError>
+    requires within { slot < 4096 }
+    requires forward { pos 0 ≤ℤ distance_of_jump insn }
+    ensures later { IfOk result (λ _. (target : ℕ) → slot + slot_count insn < target →
+        pending_at pending.new target ≡ arriving slot insn target (flow_by insn Way.Splits entry.old.state) (pending_at pending.old target)) }
+    ensures next { IfOk result (λ _.
+        entry_of entry.new ≡ arriving slot insn (slot + slot_count insn) (flow_by insn Way.Splits entry.old.state) (pending_at pending.old (slot + slot_count insn))) }
+{
+    let mut taken = entry.state;
+    taken.follow(insn, true);
+    pending.bring(alloc, target_of(slot, insn), &taken)?;
+    entry.state.follow(insn, false);
+    pending.fall(slot + insn.slot_count() as usize, entry);
+    Ok(())
+}
+
+/// Brings what is known after an instruction along its edges: memory is asked for only where one leads past the next instruction.
+fn lead_on(
+    alloc: Global,
+    slot: usize,
+    insn: Insn,
+    way: Way,
+    pending: &mut Pending,
+    entry: &mut Entry,
+) -> Result<(), AllocError>
+    requires within { slot < 4096 }
+    requires forward { pos 0 ≤ℤ distance_of_jump insn }
+    ensures later { IfOk result (λ _. (target : ℕ) → slot + slot_count insn < target →
+        pending_at pending.new target ≡ arriving slot insn target (flow_by insn way entry.old.state) (pending_at pending.old target)) }
+    ensures next { IfOk result (λ _.
+        entry_of entry.new ≡ arriving slot insn (slot + slot_count insn) (flow_by insn way entry.old.state) (pending_at pending.old (slot + slot_count insn))) }
+    ensures asked { IfErr result (λ _. IsTrue (jumps (flow_by insn way entry.old.state))) }
+{
+    let next = slot + insn.slot_count() as usize;
+    match way {
+        Way::Ends => pending.land(next, entry),
+        Way::Falls => pending.fall(next, entry),
+        Way::Jumps => {
+            pending.bring(alloc, target_of(slot, insn), &entry.state)?;
+            pending.land(next, entry);
+        }
+        Way::Splits => split(alloc, slot, insn, pending, entry)?,
+    }
+    Ok(())
+}
+
+/// Looks at the instruction at a slot: from what is known there to what is known at the next, or why the pass stops.
+pub(crate) fn advance(
+    alloc: Global,
+    maps: &[MapDef],
+    slot: usize,
+    insn: Insn,
+    pending: &mut Pending,
+    entry: &mut Entry,
+) -> Result<(), Stop>
+    requires within { slot < 4096 }
+    requires forward { pos 0 ≤ℤ distance_of_jump insn }
+    ensures later { IfOk result (λ _. (target : ℕ) → slot + slot_count insn < target →
+        pending_at pending.new target ≡ arriving_from maps.now slot (Some insn) (entry_of entry.old) target (pending_at pending.old target)) }
+    ensures next { IfOk result (λ _.
+        entry_of entry.new ≡ arriving_from maps.now slot (Some insn) (entry_of entry.old) (slot + slot_count insn) (pending_at pending.old (slot + slot_count insn))) }
+    ensures passes { IfOk result (λ _. (state : State) → entry_of entry.old ≡ Some state → IsOk (flow_of maps.now state slot insn)) }
+    ensures broken { (why : Refusal) → result ≡ Err (Stop.Rule why) → BreaksRule maps.now slot insn (entry_of entry.old) why }
+    ensures asked { result ≡ Err Stop.Memory → WantsRoom maps.now slot insn (entry_of entry.old) }
+{
+    if !entry.is_reached {
+        pending.land(slot + insn.slot_count() as usize, entry);
+        return Ok(());
+    }
+    let way = match entry.state.step(maps, slot as u16, insn) {
+        Ok(way) => way,
+        Err(why) => return Err(Stop::Rule(why)),
+    };
+    match lead_on(alloc, slot, insn, way, pending, entry) {
+        Ok(()) => Ok(()),
+        Err(_) => Err(Stop::Memory),
+    }
+}
