@@ -1,6 +1,6 @@
 -- Loads: what a register is then known to have.
 use Rattle.std.proofs.Common.{◌≡◌, ℕ, ◌+◌, ◌*◌, ◌/◌, ◌^◌, ◌<◌, ◌≤◌, Bool, true, false, ◌==◌, ℤ, pos, negsuc, List, length, take, drop, refl, sym, ◌∙◌, ap, arith, subst}
-use Rattle.std.specs.Prelude.{Ok, Err, IsTrue, ◌+ℤ◌, slice_get, if◌then◌else◌}
+use Rattle.std.specs.Prelude.{Some, None, Ok, Err, IsTrue, ◌+ℤ◌, slice_get, if◌then◌else◌}
 use Rattle.isa.specs.declared.operation.Size.{Size}
 use Rattle.isa.specs.declared.operation.Size.TheVariants.{U8, U16, U32, U64}
 use Rattle.isa.specs.declared.operation.Register.{Register}
@@ -18,7 +18,8 @@ use Rattle.semantics.specs.Program.{Program}
 use Rattle.semantics.specs.Step.{Outcome, BadContextAccess}
 use Rattle.semantics.specs.History.{is_load_width}
 use Rattle.isa.specs.InstructionCodes.{size_bytes}
-use Rattle.semantics.specs.Memory.{context_word, context_field, spilled_or_number, stack_value, packet_value, cell_ref}
+use Rattle.semantics.specs.declared.linux.ContextField.TheVariants.{Data, DataEnd, IngressIfindex, RxQueueIndex}
+use Rattle.semantics.specs.Memory.{field_outcome, context_word, context_field, spilled_or_number, stack_value, packet_value, cell_ref}
 use Rattle.semantics.specs.RunTrace.{IsReplyTo}
 use Rattle.semantics.specs.Semantics.{at_next_slot, word_value, load_cell_step, load_step, instruction_step, write_step}
 use Rattle.abstract_scalar.specs.declared.interval.Interval.{Interval}
@@ -85,7 +86,7 @@ field_loads maps held state machine a count some (pos place) kind e = by_tests (
 
     by_tests : (t0 t4 t12 t16 : Bool) →
         (if t0 then Ok (Packet 0 0 state.start_range) else (if t4 then Ok PacketEnd else (if t12 then Ok (Scalar (interval_of 1 1)) else (if t16 then Ok (Scalar (interval_of 0 7)) else Err ContextAccess)))) ≡ Ok kind →
-        Loads s kind (if t0 then Ok (PacketPointer machine.generation (pos 0)) else (if t4 then Ok (meaning.PacketEnd machine.generation) else (if t12 then Ok (Number 1) else (if t16 then Ok (Number machine.worker) else Err BadContextAccess))))
+        Loads s kind (field_outcome machine (if t0 then Some Data else (if t4 then Some DataEnd else (if t12 then Some IngressIfindex else (if t16 then Some RxQueueIndex else None)))))
     by_tests true t4 t12 t16 e = let same : Packet 0 0 state.start_range ≡ kind = cc in loads_as s (Packet 0 0 state.start_range) kind (Ok (PacketPointer machine.generation (pos 0))) (PacketPointer machine.generation (pos 0)) same refl packet
     by_tests false true t12 t16 e = let same : PacketEnd ≡ kind = cc in loads_as s (PacketEnd) kind (Ok (meaning.PacketEnd machine.generation)) (meaning.PacketEnd machine.generation) same refl refl
     by_tests false false true t16 e = let same : Scalar (interval_of 1 1) ≡ kind = cc in loads_as s (Scalar (interval_of 1 1)) kind (Ok (Number 1)) (Number 1) same refl one

@@ -22,7 +22,8 @@ use Rattle.semantics.specs.Program.{Program, shard_of_key}
 use Rattle.semantics.specs.Step.{Outcome, then_outcome, Step, Continues, Traps}
 use Rattle.semantics.specs.Step as cause
 use Rattle.semantics.specs.Memory.{stack_place, written_bytes}
-use Rattle.semantics.specs.Helpers.{map_at, bytes_argument, found_value, lookup_step, update_step, delete_step, adjust_head_step, helper_step}
+use Rattle.semantics.specs.Helpers.{map_at, bytes_argument, found_value, lookup_step, update_step, delete_step, adjust_head_step, found_helper_step, helper_step}
+use Rattle.semantics.specs.declared.linux.Helper.TheVariants as linux
 use Rattle.semantics.specs.Helpers as meaning
 use Rattle.semantics.specs.RunTrace.{IsReplyTo}
 use Rattle.semantics.specs.Semantics.{instruction_step}
@@ -301,9 +302,8 @@ served_sound : (program : Program) (held : Held) (state : State) (machine : Mach
     >>= (λ helper. if is_served helper then Ok helper else Err UnknownHelper))
     >>= (λ helper. reads_arguments state helper >>= (λ _. call_of program.maps state machine.slot helper))) ≡ Ok flow →
     Follows program held flow machine (CallHelper (pos n))
-    (if t1 then lookup_step program machine else (if t2 then update_step program machine else (if t3 then delete_step program machine
-    else (if t5 then Continues (meaning.returned machine (Number machine.now)) else (if t8 then Continues (meaning.returned machine (Number machine.worker))
-    else (if t44 then adjust_head_step machine else Traps cause.UnknownHelper))))))
+    (found_helper_step program machine (if t1 then Some linux.MapLookupElem else (if t2 then Some linux.MapUpdateElem else (if t3 then Some linux.MapDeleteElem
+    else (if t5 then Some linux.KtimeGetNs else (if t8 then Some linux.GetSmpProcessorId else (if t44 then Some linux.XdpAdjustHead else None)))))))
 served_sound program held state machine n flow a true t2 t3 t5 t8 t44 e = lookup_sound program held state machine (pos n) flow a e
 served_sound program held state machine n flow a false true t3 t5 t8 t44 e = cc
 served_sound program held state machine n flow a false false true t5 t8 t44 e = cc

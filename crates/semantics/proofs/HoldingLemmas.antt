@@ -1,5 +1,5 @@
 -- Which cells a shard keeps apart, and why a held cell is not freed.
-use Rattle.std.proofs.Common.{◌≡◌, ℕ, zero, suc, ◌+◌, ◌<◌, ◌≤◌, Bool, true, false, cond, ◌||◌, not, nat_lt, pos, negsuc, List, [], ◌∷◌, ◌++◌, length, Option, Some, None, arith, refl, sym, ◌∙◌, ap, subst}
+use Rattle.std.proofs.Common.{◌≡◌, ℕ, zero, suc, ◌+◌, ◌<◌, ◌≤◌, Bool, true, false, cond, ◌||◌, not, nat_lt, List, [], ◌∷◌, ◌++◌, length, Option, Some, None, arith, refl, sym, ◌∙◌, ap, subst}
 use Rattle.std.specs.Prelude.{◌==◌, All, filter, find, option_map, bytes_eq, if◌then◌else◌, is_some}
 use Rattle.std.specs.List.{AllByRecursion, list_all}
 use Rattle.std.proofs.lemmas.List.{length-set, length-append}
@@ -15,10 +15,13 @@ use Rattle.semantics.specs.declared.call.Call.{Call}
 use Rattle.semantics.specs.declared.call.Call.TheVariants.{Enter, Leave, Lookup, Load, Store, Atomic, Update, Delete, Reclaim}
 use Rattle.semantics.specs.declared.plan.PresentKey.{PresentKey}
 use Rattle.semantics.specs.declared.plan.RetiredCell.{RetiredCell}
+use Rattle.semantics.specs.declared.linux.UpdateFlags.{UpdateFlags}
+use Rattle.semantics.specs.declared.linux.UpdateFlags.TheVariants.{Any, NoExist, Exist}
+use Rattle.semantics.specs.Linux.{update_flags_of}
 use Rattle.semantics.specs.ShardPlan.{ShardPlan}
 use Rattle.semantics.specs.Reclamation.{is_worker, entered_by, entered_at, found_cell, held_by, holds, worker_numbers, began_after, is_reclaimable}
 use Rattle.semantics.specs.LeastRecentlyUsed.{is_least_recently_used}
-use Rattle.semantics.specs.SequentialShard.{SequentialShard, without_key, without_found, after_eviction, with_new_key, with_value, with_cell, updated_where, shard_after_call, shard_after, cell_of_key, cell_of_kind, update_answer, update_answer_of_kind, array_update_answer, delete_answer, delete_answer_of_kind, present_key, lookup_reply, reply_of}
+use Rattle.semantics.specs.SequentialShard.{SequentialShard, without_key, without_found, after_eviction, with_new_key, with_value, with_cell, updated_where, shard_after_call, shard_after, cell_of_key, cell_of_kind, update_answer, update_answer_by, delete_answer, delete_answer_of_kind, present_key, lookup_reply, reply_of}
 use Rattle.semantics.specs.History.{shard_of_call, is_inside_worker, is_own_key, meets_part, IsLegalStep, IsLegalHistory}
 use Rattle.semantics.proofs.ConditionLemmas.{first_true, second_true}
 use Rattle.semantics.proofs.LawLemmas.{updated_where-keeps, after_eviction-keeps}
@@ -118,14 +121,12 @@ sound_after plan (entry ∷ older) = sound_after_call plan older (shard_after pl
 
 -- ---- an array retires nothing
 
-no_more_retired_at_array : (plan : ShardPlan) (history : List Entry) (shard : SequentialShard) (key value : List ℕ) (flags : ℕ) (unknown : Bool) (cell : Option ℕ) → (updated_where (if unknown then negsuc 21 else array_update_answer flags cell) (with_value plan history shard key value cell) shard).retired ≡ shard.retired
-no_more_retired_at_array plan history shard key value flags true cell = refl
-no_more_retired_at_array plan history shard key value flags false None = refl
-no_more_retired_at_array plan history shard key value flags false (Some cell) = by_test (flags == 1)
-  where
-    by_test : (exists : Bool) → (updated_where (if exists then negsuc 16 else pos 0) (with_cell shard cell value) shard).retired ≡ shard.retired
-    by_test true = refl
-    by_test false = refl
+no_more_retired_at_array : (plan : ShardPlan) (history : List Entry) (shard : SequentialShard) (key value : List ℕ) (flags : Option UpdateFlags) (cell : Option ℕ) → (updated_where (update_answer_by Array plan shard flags cell) (with_value plan history shard key value cell) shard).retired ≡ shard.retired
+no_more_retired_at_array plan history shard key value None cell = refl
+no_more_retired_at_array plan history shard key value (Some flags) None = refl
+no_more_retired_at_array plan history shard key value (Some Any) (Some cell) = refl
+no_more_retired_at_array plan history shard key value (Some NoExist) (Some cell) = refl
+no_more_retired_at_array plan history shard key value (Some Exist) (Some cell) = refl
 
 array_call : (plan : ShardPlan) (history : List Entry) (shard : SequentialShard) (call : Call) → plan.definition.kind ≡ Array → shard.retired ≡ [] → (shard_after_call plan history shard call).retired ≡ []
 array_call plan history shard (Enter number) kind none = none
@@ -135,8 +136,8 @@ array_call plan history shard (Load cell offset width) kind none = none
 array_call plan history shard (Store cell offset width value) kind none = none
 array_call plan history shard (Atomic cell offset width op value expected) kind none = none
 array_call plan history shard (Update number key value flags) kind none =
-    let at_kind : MapKind → Type 0 = λ k. (updated_where (if nat_lt 2 flags then negsuc 21 else update_answer_of_kind k plan shard flags (cell_of_key plan shard key)) (with_value plan history shard key value (cell_of_key plan shard key)) shard).retired ≡ shard.retired in
-    subst at_kind (sym kind) (no_more_retired_at_array plan history shard key value flags (nat_lt 2 flags) (cell_of_key plan shard key)) ∙ none
+    let at_kind : MapKind → Type 0 = λ k. (updated_where (update_answer_by k plan shard (update_flags_of flags) (cell_of_key plan shard key)) (with_value plan history shard key value (cell_of_key plan shard key)) shard).retired ≡ shard.retired in
+    subst at_kind (sym kind) (no_more_retired_at_array plan history shard key value (update_flags_of flags) (cell_of_key plan shard key)) ∙ none
 array_call plan history shard (Delete number key) kind none =
     let at_kind : MapKind → Type 0 = λ k. (updated_where (delete_answer_of_kind k (cell_of_key plan shard key)) (without_found shard (length history) (present_key shard key)) shard).retired ≡ shard.retired in
     subst at_kind (sym kind) refl ∙ none

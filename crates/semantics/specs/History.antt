@@ -1,15 +1,19 @@
 -- Which calls a shard serves, when its journal is full, and which histories are legal. A journal lists its entries in order,
 -- the oldest first; a history has the newest first.
 use Rattle.std.specs.Prelude.{◌≡◌, ℕ, ◌+◌, ◌%◌, ◌^◌, ◌==◌, Bool, true, false, ◌&&◌, ◌||◌, nat_lt, nat_le, List, [], ◌∷◌, length, reverse, is_some, if◌then◌else◌, IsTrue, IsFalse}
+use Rattle.isa.specs.declared.operation.AtomicOp.TheVariants.{CompareExchange}
 use Rattle.semantics.specs.declared.call.Caller.{Caller}
 use Rattle.semantics.specs.declared.call.Caller.TheVariants.{Worker, Controller, Reclaimer}
 use Rattle.semantics.specs.declared.call.Call.{Call}
 use Rattle.semantics.specs.declared.call.Call.TheVariants.{Enter, Leave, Lookup, Load, Store, Atomic, Update, Delete, Reclaim}
+use Rattle.semantics.specs.declared.call.SectionChange.{SectionChange}
+use Rattle.semantics.specs.declared.call.SectionChange.TheVariants.{Begins, Ends}
 use Rattle.semantics.specs.declared.call.Entry.{Entry}
+use Rattle.semantics.specs.Sections.{section_change}
 use Rattle.semantics.specs.Program.{part_of_key}
 use Rattle.semantics.specs.ShardPlan.{ShardPlan}
 use Rattle.semantics.specs.Reclamation.{is_inside, holds, inside_count}
-use Rattle.isa.specs.InstructionCodes.{atomic_op_of}
+use Rattle.isa.specs.InstructionCodes.{atomic_code, atomic_op_of}
 use Rattle.semantics.specs.SequentialShard.{reply_of, shard_after}
 
 -- ---- the caller's condition
@@ -69,7 +73,7 @@ fits_width value width = nat_lt value (256 ^ width)
 
 -- only compare-and-exchange has a number to compare with
 abbrev pub is_expected : ℕ → ℕ → Bool
-is_expected op expected = expected == 0 || op == 0xf1
+is_expected op expected = expected == 0 || op == atomic_code CompareExchange
 
 abbrev pub meets_part : ShardPlan → List Entry → Caller → Call → Bool
 meets_part plan history who (Enter shard) = is_outside_worker plan history who
@@ -94,18 +98,21 @@ meets plan history who call = shard_of_call call == plan.number && meets_part pl
 -- ---- the journal's room
 
 -- a run that enters will need room for its Leave
-abbrev pub room_for_leave : Call → ℕ
-room_for_leave (Enter shard) = 1
-room_for_leave call = 0
+abbrev pub room_for_leave : SectionChange → ℕ
+room_for_leave Begins = 1
+room_for_leave change = 0
 
 -- the entries, one more for each run inside, counting one that would enter, and one for the call itself
 abbrev pub room_needed : List Entry → Call → ℕ
-room_needed history call = length history + inside_count history + room_for_leave call + 1
+room_needed history call = length history + inside_count history + room_for_leave (section_change call) + 1
 
 -- a Leave always has room, which its Enter left
+abbrev pub lacks_room : SectionChange → ShardPlan → ℕ → Bool
+lacks_room Ends plan needed = false
+lacks_room change plan needed = nat_lt plan.reserve needed
+
 abbrev pub journal_is_full : ShardPlan → List Entry → Call → Bool
-journal_is_full plan history (Leave shard) = false
-journal_is_full plan history call = nat_lt plan.reserve (room_needed history call)
+journal_is_full plan history call = lacks_room (section_change call) plan (room_needed history call)
 
 -- ---- legal histories
 

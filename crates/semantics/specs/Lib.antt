@@ -3,6 +3,7 @@ pub mod Padding
 pub mod LittleEndian
 pub mod RegisterValue
 pub mod MachineState
+pub mod Linux
 pub mod Program
 pub mod HeadAdjustment
 pub mod Step
@@ -12,6 +13,7 @@ pub mod Memory
 pub mod Helpers
 pub mod Semantics
 pub mod RunTrace
+pub mod Sections
 pub mod ShardPlan
 pub mod PlanLimits
 pub mod Reclamation
@@ -20,6 +22,5 @@ pub mod SequentialShard
 pub mod History
 pub mod ServedCalls
 pub mod Laws
-pub mod OneThread
 pub mod System
 pub mod Safety

@@ -8,6 +8,9 @@ use Rattle.semantics.specs.declared.call.Call.{Call}
 use Rattle.semantics.specs.declared.call.Call.TheVariants.{Enter, Leave, Lookup}
 use Rattle.semantics.specs.declared.call.Reply.{Reply}
 use Rattle.semantics.specs.declared.call.Reply.TheVariants.{Cell}
+use Rattle.semantics.specs.declared.call.SectionChange.{SectionChange}
+use Rattle.semantics.specs.declared.call.SectionChange.TheVariants.{Begins, Ends, Stays}
+use Rattle.semantics.specs.Sections.{section_change}
 use Rattle.semantics.specs.declared.call.Entry.{Entry}
 pub use Rattle.semantics.specs.declared.plan.RetiredCell.{RetiredCell}
 
@@ -17,10 +20,13 @@ is_worker worker (Worker number) = number == worker
 is_worker worker other = false
 
 -- the place of the worker's Enter that no Leave of its own follows, by its own newest Enter or Leave
+abbrev pub entered_where : SectionChange → ℕ → Option ℕ → Option ℕ
+entered_where Begins place before = Some place
+entered_where Ends place before = None
+entered_where Stays place before = before
+
 abbrev pub entered_by : Call → ℕ → Option ℕ → Option ℕ
-entered_by (Enter shard) place before = Some place
-entered_by (Leave shard) place before = None
-entered_by call place before = before
+entered_by call place before = entered_where (section_change call) place before
 
 abbrev pub entered_at : ℕ → List Entry → Option ℕ
 entered_at worker [] = None

@@ -13,6 +13,10 @@ use Rattle.semantics.specs.declared.call.Call.TheVariants.{Enter, Leave, Lookup,
 use Rattle.semantics.specs.declared.call.Reply.{Reply}
 use Rattle.semantics.specs.declared.call.Reply.TheVariants.{Entered, Left, Cell, Null, Word, Done, Answer, Freed}
 use Rattle.semantics.specs.declared.call.Entry.{Entry}
+use Rattle.semantics.specs.declared.linux.Errno.TheVariants.{NoEntry, TooBig, NoMemory, Exists, Invalid}
+use Rattle.semantics.specs.declared.linux.UpdateFlags.{UpdateFlags}
+use Rattle.semantics.specs.declared.linux.UpdateFlags.TheVariants.{Any, NoExist, Exist}
+use Rattle.semantics.specs.Linux.{errno_code, success, update_flags_of}
 use Rattle.semantics.specs.LittleEndian.{number_of_bytes, bytes_of_number}
 use Rattle.semantics.specs.ShardPlan.{ShardPlan, capacity}
 use Rattle.semantics.specs.Reclamation.{RetiredCell, is_reclaimable}
@@ -84,27 +88,43 @@ abbrev pub is_hash : MapKind → Bool
 is_hash Hash = true
 is_hash kind = false
 
-abbrev pub array_update_answer : ℕ → Option ℕ → ℤ
-array_update_answer flags None = negsuc 6
-array_update_answer flags (Some cell) = if flags == 1 then negsuc 16 else pos 0
+-- of a key that is there: an index of an array always is
+abbrev pub present_key_answer : UpdateFlags → ℤ
+present_key_answer Any = success
+present_key_answer NoExist = errno_code Exists
+present_key_answer Exist = success
 
-abbrev pub keyed_update_answer : ShardPlan → SequentialShard → ℕ → Option ℕ → ℤ
-keyed_update_answer plan shard flags (Some cell) = if flags == 1 then negsuc 16 else pos 0
-keyed_update_answer plan shard flags None =
-    if flags == 2 then negsuc 1
-    else (if is_hash plan.definition.kind && is_full_of_keys plan shard then negsuc 6
-    else (if has_free_cell plan shard then pos 0 else negsuc 11))
+abbrev pub array_update_answer : UpdateFlags → Option ℕ → ℤ
+array_update_answer flags None = errno_code TooBig
+array_update_answer flags (Some cell) = present_key_answer flags
 
-abbrev pub update_answer_of_kind : MapKind → ShardPlan → SequentialShard → ℕ → Option ℕ → ℤ
+-- of a new key: a hash shard may be full of keys, and any may have no free cell
+abbrev pub new_key_answer : ShardPlan → SequentialShard → ℤ
+new_key_answer plan shard =
+    if is_hash plan.definition.kind && is_full_of_keys plan shard then errno_code TooBig
+    else (if has_free_cell plan shard then success else errno_code NoMemory)
+
+abbrev pub absent_key_answer : ShardPlan → SequentialShard → UpdateFlags → ℤ
+absent_key_answer plan shard Any = new_key_answer plan shard
+absent_key_answer plan shard NoExist = new_key_answer plan shard
+absent_key_answer plan shard Exist = errno_code NoEntry
+
+abbrev pub keyed_update_answer : ShardPlan → SequentialShard → UpdateFlags → Option ℕ → ℤ
+keyed_update_answer plan shard flags (Some cell) = present_key_answer flags
+keyed_update_answer plan shard flags None = absent_key_answer plan shard flags
+
+abbrev pub update_answer_of_kind : MapKind → ShardPlan → SequentialShard → UpdateFlags → Option ℕ → ℤ
 update_answer_of_kind Array plan shard flags cell = array_update_answer flags cell
 update_answer_of_kind kind plan shard flags cell = keyed_update_answer plan shard flags cell
 
--- in this order: unknown flags -22; an array's index out of range -7, an index that is always there under NOEXIST -17;
--- a present key under NOEXIST -17, an absent one under EXIST -2; a new key in a full hash shard -7, with no free cell -12
+-- flags that are none of the three are refused first
+abbrev pub update_answer_by : MapKind → ShardPlan → SequentialShard → Option UpdateFlags → Option ℕ → ℤ
+update_answer_by kind plan shard None cell = errno_code Invalid
+update_answer_by kind plan shard (Some flags) cell = update_answer_of_kind kind plan shard flags cell
+
 abbrev pub update_answer : ShardPlan → SequentialShard → List ℕ → ℕ → ℤ
 update_answer plan shard key flags =
-    if nat_lt 2 flags then negsuc 21
-    else update_answer_of_kind plan.definition.kind plan shard flags (cell_of_key plan shard key)
+    update_answer_by plan.definition.kind plan shard (update_flags_of flags) (cell_of_key plan shard key)
 
 -- the shard without a key, whose cell is retired at this place of the history
 abbrev pub without_key : SequentialShard → ℕ → PresentKey → SequentialShard
@@ -140,11 +160,11 @@ updated_where (pos answer) updated shard = if answer == 0 then updated else shar
 updated_where (negsuc answer) updated shard = shard
 
 abbrev pub delete_answer_of_kind : MapKind → Option ℕ → ℤ
-delete_answer_of_kind Array cell = negsuc 21
-delete_answer_of_kind kind (Some cell) = pos 0
-delete_answer_of_kind kind None = negsuc 1
+delete_answer_of_kind Array cell = errno_code Invalid
+delete_answer_of_kind kind (Some cell) = success
+delete_answer_of_kind kind None = errno_code NoEntry
 
--- of an array nothing can be deleted: -22; an absent key: -2
+-- of an array nothing can be deleted
 abbrev pub delete_answer : ShardPlan → SequentialShard → List ℕ → ℤ
 delete_answer plan shard key = delete_answer_of_kind plan.definition.kind (cell_of_key plan shard key)
 

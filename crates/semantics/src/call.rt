@@ -1,5 +1,9 @@
 //! The calls on a map shard, their callers and their replies.
 
+ghost use Rattle.std.specs.Prelude.{◌≡◌};
+ghost use Rattle.semantics.specs.Sections.{section_change};
+ghost use Rattle.semantics.specs.History.{shard_of_call};
+
 use crate::bytes::{Key, Value};
 
 /// Who makes a call.
@@ -76,6 +80,53 @@ pub enum Call {
     Reclaim {
         shard: u32,
     },
+}
+
+/// What a call does to its worker's read-side section of the shard.
+#[derive(Clone, Copy, Debug, PartialEq, Eq)]
+pub enum SectionChange {
+    /// Enter.
+    Begins,
+    /// Leave.
+    Ends,
+    /// Every other call.
+    Stays,
+}
+
+impl Call {
+    /// The shard that the call names.
+    pub fn shard(&self) -> u32
+        ensures { result ≡ shard_of_call self.now }
+    {
+        match self {
+            Call::Enter { shard } => *shard,
+            Call::Leave { shard } => *shard,
+            Call::Lookup { shard, .. } => *shard,
+            Call::Load { cell, .. } => cell.shard,
+            Call::Store { cell, .. } => cell.shard,
+            Call::Atomic { cell, .. } => cell.shard,
+            Call::Update { shard, .. } => *shard,
+            Call::Delete { shard, .. } => *shard,
+            Call::Reclaim { shard } => *shard,
+        }
+    }
+
+    /// What the call does to its worker's section.
+    pub fn section_change(&self) -> SectionChange
+        ensures { result ≡ section_change self.now }
+    {
+        match self {
+            Call::Enter { .. } => SectionChange::Begins,
+            Call::Leave { .. } => SectionChange::Ends,
+            Call::Lookup { .. } => SectionChange::Stays,
+            Call::Load { .. } => SectionChange::Stays,
+            Call::Store { .. } => SectionChange::Stays,
+            Call::Atomic { .. } => SectionChange::Stays,
+            Call::Update { .. } => SectionChange::Stays,
+            Call::Delete { .. } => SectionChange::Stays,
+            Call::Reclaim { .. } => SectionChange::Stays,
+        }
+    }
 }
 
 /// The reply to a call.

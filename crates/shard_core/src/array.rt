@@ -4,16 +4,19 @@ ghost use Rattle.std.specs.Prelude.{◌≡◌, ◌<◌, ◌≤◌, ◌+◌, ◌^
 ghost use Rattle.ebpf_decode.specs.declared.map.MapKind.TheVariants.{Array};
 ghost use Rattle.semantics.specs.declared.call.Entry.{Entry};
 ghost use Rattle.isa.specs.InstructionCodes.{atomic_op_of};
+ghost use Rattle.semantics.specs.Linux.{errno_code, success, update_flags_of};
 ghost use Rattle.semantics.specs.LittleEndian.{number_of_bytes};
-ghost use Rattle.semantics.specs.OneThread.{IsSized};
+ghost use Rattle.one_thread_map.specs.OneThread.{IsSized};
 ghost use Rattle.semantics.specs.History.{is_atomic_width};
 ghost use Rattle.semantics.specs.ShardPlan.{capacity};
-ghost use Rattle.semantics.specs.SequentialShard.{opening_cells, cell_of_index, number_in_cell, with_number_in_cell, with_cell, changed_by, array_update_answer, update_answer, updated_where, with_value, cell_of_key, lookup_reply, reply_of, shard_after_call};
+ghost use Rattle.semantics.specs.SequentialShard.{opening_cells, cell_of_index, number_in_cell, with_number_in_cell, with_cell, changed_by, present_key_answer, array_update_answer, update_answer_by, update_answer, updated_where, with_value, cell_of_key, lookup_reply, reply_of, shard_after_call};
 ghost use Rattle.shard_core.specs.ArrayShard.{IsArrayPlan, array_state};
 
-use isa::{AtomicOp, Width, atomic};
+use isa::AtomicOp;
+use one_thread_map::answers::{array_update_answer, changed_by, lookup_reply};
+use one_thread_map::state::zeros;
 use semantics::little_endian::{bytes_of_number, number_of_bytes, part_at};
-use semantics::{Call, CellRef, Key, Reply, ShardPlan, Value};
+use semantics::{Call, Errno, Key, Reply, ShardPlan, UpdateFlags, Value};
 use std::alloc::{AllocError, Global};
 
 /// The cell of an index, if the array has the index.
@@ -57,24 +60,6 @@ fn write_number(cells: &mut Vec<Value>, cell: u64, offset: u64, width: u64, valu
     }
 }
 
-/// What an atomic operation makes of a number; without an operation it stays.
-fn changed_by(op: Option<AtomicOp>, width: u64, old: u64, value: u64, expected: u64) -> u64
-    requires width { IsTrue (is_atomic_width width) }
-    requires old { old < 256 ^ width }
-    requires value { value < 256 ^ width }
-    requires expected { expected < 256 ^ width }
-    ensures { result ≡ changed_by op width old value expected }
-{
-    match op {
-        Some(op) => if width == 4 {
-            atomic(op, Width::Bits32, old, value, expected)
-        } else {
-            atomic(op, Width::Bits64, old, value, expected)
-        },
-        None => old,
-    }
-}
-
 /// Changes a number in a cell by the atomic operation of an immediate.
 fn change_number(
     cells: &mut Vec<Value>,
@@ -96,18 +81,15 @@ fn change_number(
     write_number(cells, cell, offset, width, new);
 }
 
-/// What an Update answers: -22 for unknown flags, -7 out of range, -17 under NOEXIST, else 0.
+/// What an Update answers: unknown flags are invalid; an index out of range is too big, and every other is there.
 fn update_answer(plan: &ShardPlan, key: &Key, flags: u64) -> i32
     requires plan { IsArrayPlan plan.now }
     requires size { length key.now ≡ plan.now.definition.key_size }
     ensures { (cells : List (List ℕ)) → result ≡ update_answer plan.now (array_state cells) key.now flags }
 {
-    if flags > 2 {
-        return -22;
-    }
-    match cell_of_key(plan, key) {
-        None => -7,
-        Some(_) => if flags == 1 { -17 } else { 0 },
+    match UpdateFlags::of(flags) {
+        None => Errno::Invalid.code(),
+        Some(flags) => array_update_answer(flags, cell_of_key(plan, key)),
     }
 }
 
@@ -117,28 +99,13 @@ fn update(plan: &ShardPlan, cells: &mut Vec<Value>, key: &Key, value: &Value, fl
     requires size { length key.now ≡ plan.now.definition.key_size }
     ensures { (history : List Entry) → array_state cells.new.items ≡ updated_where (update_answer plan.now (array_state cells.old.items) key.now flags) (with_value plan.now history (array_state cells.old.items) key.now value.now (cell_of_key plan.now (array_state cells.old.items) key.now)) (array_state cells.old.items) }
 {
-    if flags > 2 || flags == 1 {
+    if update_answer(plan, key, flags) != 0 {
         return;
     }
     if let Some(cell) = cell_of_key(plan, key) {
         if cell < cells.len() as u64 {
             cells[cell as usize] = *value;
         }
-    }
-}
-
-/// The reply to a Lookup.
-fn lookup_reply(plan: &ShardPlan, cell: Option<u64>) -> Reply
-    ensures { result ≡ lookup_reply plan.now cell }
-{
-    match cell {
-        Some(id) => Reply::Cell {
-            cell: CellRef {
-                shard: plan.number,
-                id,
-            },
-        },
-        None => Reply::Null,
     }
 }
 
@@ -171,7 +138,9 @@ pub fn reply_of(plan: &ShardPlan, cells: &[Value], call: &Call) -> Reply
         Call::Update { key, flags, .. } => Reply::Answer {
             code: update_answer(plan, key, *flags),
         },
-        Call::Delete { .. } => Reply::Answer { code: -22 },
+        Call::Delete { .. } => Reply::Answer {
+            code: Errno::Invalid.code(),
+        },
         Call::Reclaim { .. } => Reply::Freed { count: 0 },
     }
 }
@@ -210,18 +179,6 @@ pub fn change(plan: &ShardPlan, cells: &mut Vec<Value>, call: &Call)
         Call::Delete { .. } => {}
         Call::Reclaim { .. } => {}
     }
-}
-
-/// A value of so many zeros.
-fn zeros(size: u32) -> Value
-    requires { size ≤ 64 }
-    ensures { result ≡ replicate size 0 }
-{
-    let mut value = Value::empty();
-    for _ in 0..size {
-        value.append(&[0]);
-    }
-    value
 }
 
 /// The cells with which a shard is opened: one of zeros for each of its indices.

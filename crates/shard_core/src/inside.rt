@@ -5,7 +5,7 @@ ghost use Rattle.semantics.specs.declared.call.Entry.{Entry};
 ghost use Rattle.semantics.specs.declared.call.Reply.{Reply};
 ghost use Rattle.shard_core.specs.ArrayShard.{inside_flags, with_flag};
 
-use semantics::{Call, Caller};
+use semantics::{Call, Caller, SectionChange};
 
 /// A flag for each worker, by its number.
 pub type Flags = [bool; 8];
@@ -37,15 +37,9 @@ fn set(flags: &mut [bool], who: &Caller, flag: bool)
 pub fn note(flags: &mut [bool], who: &Caller, call: &Call)
     ensures { (older : List Entry) (reply : Reply) → flags.old ≡ inside_flags older → flags.new ≡ inside_flags ((record { who = who.now; call = call.now; reply = reply }) ∷ older) }
 {
-    match call {
-        Call::Enter { .. } => set(flags, who, true),
-        Call::Leave { .. } => set(flags, who, false),
-        Call::Lookup { .. } => {}
-        Call::Load { .. } => {}
-        Call::Store { .. } => {}
-        Call::Atomic { .. } => {}
-        Call::Update { .. } => {}
-        Call::Delete { .. } => {}
-        Call::Reclaim { .. } => {}
+    match call.section_change() {
+        SectionChange::Begins => set(flags, who, true),
+        SectionChange::Ends => set(flags, who, false),
+        SectionChange::Stays => {}
     }
 }

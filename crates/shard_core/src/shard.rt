@@ -8,7 +8,9 @@ ghost use Rattle.shard_core.specs.JournaledShard.{opened_shard, sequential_reply
 
 use crate::array::{change, opening_cells, reply_of};
 use crate::inside::{Flags, count, note};
-use semantics::{Call, Caller, Entry, JournalFull, Reply, ShardPlan, Value};
+use semantics::{
+    Call, Caller, Entry, JournalFull, Reply, SectionChange, ShardPlan, Value,
+};
 use std::alloc::{AllocError, Global};
 use std::marker::Model;
 
@@ -81,14 +83,14 @@ impl Shard {
     pub fn holds(&self, worker: u8, cell: u64) -> bool
         ensures { result ≡ holds worker cell (reverse self.now.journal) }
     {
-        semantics::history::holds(worker, cell, &self.entries)
+        one_thread_map::history::holds(worker, cell, &self.entries)
     }
 
     /// Whether the caller may make this call now. May read the whole journal.
     pub fn meets(&self, who: &Caller, call: &Call) -> bool
         ensures { result ≡ meets self.now.plan (reverse self.now.journal) who.now call.now }
     {
-        semantics::conditions::meets(&self.plan, &self.entries, who, call)
+        one_thread_map::conditions::meets(&self.plan, &self.entries, who, call)
     }
 
     /// Whether the journal has no room for a call that is no Leave: for its entry, one more for each run inside, and one more
@@ -108,16 +110,10 @@ impl Shard {
     pub fn is_full(&self, call: &Call) -> bool
         ensures { result ≡ journal_is_full self.now.plan (reverse self.now.journal) call.now }
     {
-        match call {
-            Call::Leave { .. } => false,
-            Call::Enter { .. } => self.lacks_room(1),
-            Call::Lookup { .. } => self.lacks_room(0),
-            Call::Load { .. } => self.lacks_room(0),
-            Call::Store { .. } => self.lacks_room(0),
-            Call::Atomic { .. } => self.lacks_room(0),
-            Call::Update { .. } => self.lacks_room(0),
-            Call::Delete { .. } => self.lacks_room(0),
-            Call::Reclaim { .. } => self.lacks_room(0),
+        match call.section_change() {
+            SectionChange::Ends => false,
+            SectionChange::Begins => self.lacks_room(1),
+            SectionChange::Stays => self.lacks_room(0),
         }
     }
 

@@ -5,7 +5,6 @@ ghost use Rattle.std.specs.List.{AllByRecursion};
 ghost use Rattle.semantics.specs.History.{shard_of_call, IsLegalJournal};
 ghost use Rattle.shard_port.specs.Asking.{entered, left, can_enter, may_ask, may_ask_at, IsAnswered, IsTurnedAway, IsAnsweredAmong, IsTurnedAwayAmong, IsWorkerOf, all_left};
 
-use semantics::conditions::shard_of_call;
 use semantics::{Call, Caller, JournalFull, Reply};
 use shard_core::Shard;
 use shards::Shards;
@@ -56,7 +55,7 @@ pub fn ask_at(shards: &mut Shards, worker: u8, call: &Call) -> Result<Reply, Jou
     ensures turned_away { OnErr result (IsTurnedAwayAmong worker shards.old call.now shards.new) }
     ensures names_the_shard { IfErr result (λ fault. fault.shard ≡ shard_of_call call.now) }
 {
-    let number = shard_of_call(call);
+    let number = call.shard();
     ask(shards.shard(number), worker, call)
 }
 

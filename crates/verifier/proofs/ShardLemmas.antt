@@ -1,5 +1,6 @@
 -- A shard of an array stays sound: as many cells as at first, of bytes, and what a worker holds is one of them.
 use Rattle.std.proofs.Common.{◌≡◌, ℕ, ◌+◌, ◌*◌, ◌/◌, ◌%◌, ◌<◌, ◌==◌, Bool, true, false, nat_lt, pos, negsuc, List, [], ◌∷◌, length, replicate, div-add-mod', Option, Some, None, All, IsTrue, if◌then◌else◌, refl, sym, ◌∙◌, ap, subst, arith}
+use Rattle.std.specs.Prelude.{slice_set}
 use Rattle.std.proofs.Math.Bool.{or-false}
 use Rattle.std.proofs.lemmas.Nat.{div_below}
 use Rattle.std.proofs.lemmas.Bool.Decides.{nat_tests}
@@ -12,10 +13,13 @@ use Rattle.semantics.specs.declared.call.Call.{Call}
 use Rattle.semantics.specs.declared.call.Call.TheVariants.{Enter, Leave, Lookup, Load, Store, Atomic, Update, Delete, Reclaim}
 use Rattle.semantics.specs.declared.call.Reply.{Reply}
 use Rattle.semantics.specs.declared.call.Entry.{Entry}
+use Rattle.semantics.specs.declared.linux.UpdateFlags.{UpdateFlags}
+use Rattle.semantics.specs.declared.linux.UpdateFlags.TheVariants.{Any, NoExist, Exist}
+use Rattle.semantics.specs.Linux.{update_flags_of}
 use Rattle.semantics.specs.LittleEndian.{number_of_bytes}
 use Rattle.semantics.specs.ShardPlan.{capacity}
 use Rattle.semantics.specs.Reclamation.{is_worker, found_cell, held_by, holds}
-use Rattle.semantics.specs.SequentialShard.{SequentialShard, opening_cells, cell_of_kind, cell_of_key, with_cell, with_value, updated_where, array_update_answer, update_answer_of_kind, delete_answer_of_kind, without_found, present_key, shard_after_call, shard_after, lookup_reply, reply_of, is_kept, is_kept_of_kind}
+use Rattle.semantics.specs.SequentialShard.{SequentialShard, opening_cells, cell_of_kind, cell_of_key, with_cell, with_value, updated_where, update_answer_by, delete_answer_of_kind, without_found, present_key, shard_after_call, shard_after, lookup_reply, reply_of, is_kept, is_kept_of_kind}
 use Rattle.verifier.proofs.SystemInvariant.{IsSoundShard}
 
 abbrev pub AreAllCellsBytes : List (List ℕ) → Type 0
@@ -60,18 +64,19 @@ pub record AreCellsKept (before after : List (List ℕ)) : Type 0 where
 same_cells : (cells : List (List ℕ)) → AreCellsKept cells cells
 same_cells cells = record { count = refl; bytes = λ all. all }
 
-array_update : (plan : ShardPlan) (h : List Entry) (shard : SequentialShard) (key value : List ℕ) (flags : ℕ) (unknown : Bool) (cell : Option ℕ) → All (λ byte. byte < 256) value →
-    AreCellsKept shard.cells (updated_where (if unknown then negsuc 21 else array_update_answer flags cell) (with_value plan h shard key value cell) shard).cells
-array_update plan h shard key value flags true cell all = same_cells shard.cells
-array_update plan h shard key value flags false None all = same_cells shard.cells
-array_update plan h shard key value flags false (Some cell) all = by_test (flags == 1)
-  where
-    by_test : (exists : Bool) → AreCellsKept shard.cells (updated_where (if exists then negsuc 16 else pos 0) (with_cell shard cell value) shard).cells
-    by_test true = same_cells shard.cells
-    by_test false = record {
-      count = length-set shard.cells cell value;
-      bytes = λ before. All-set (All (λ byte. byte < 256)) shard.cells cell value all before;
-    }
+value_kept : (cells : List (List ℕ)) (cell : ℕ) (value : List ℕ) → All (λ byte. byte < 256) value → AreCellsKept cells (slice_set cells cell value)
+value_kept cells cell value all = record {
+  count = length-set cells cell value;
+  bytes = λ before. All-set (All (λ byte. byte < 256)) cells cell value all before;
+}
+
+array_update : (plan : ShardPlan) (h : List Entry) (shard : SequentialShard) (key value : List ℕ) (flags : Option UpdateFlags) (cell : Option ℕ) → All (λ byte. byte < 256) value →
+    AreCellsKept shard.cells (updated_where (update_answer_by Array plan shard flags cell) (with_value plan h shard key value cell) shard).cells
+array_update plan h shard key value None cell all = same_cells shard.cells
+array_update plan h shard key value (Some flags) None all = same_cells shard.cells
+array_update plan h shard key value (Some NoExist) (Some cell) all = same_cells shard.cells
+array_update plan h shard key value (Some Any) (Some cell) all = value_kept shard.cells cell value all
+array_update plan h shard key value (Some Exist) (Some cell) all = value_kept shard.cells cell value all
 
 cells_after : (plan : ShardPlan) (h : List Entry) (shard : SequentialShard) (call : Call) → plan.definition.kind ≡ Array → IsPlainCall call →
     AreCellsKept shard.cells (shard_after_call plan h shard call).cells
@@ -82,8 +87,8 @@ cells_after plan h shard (Load cell offset width) array plain = same_cells shard
 cells_after plan h shard (Store cell offset width value) array plain = absurd plain
 cells_after plan h shard (Atomic cell offset width op value expected) array plain = absurd plain
 cells_after plan h shard (Update number key value flags) array plain =
-    subst (λ kind. AreCellsKept shard.cells (updated_where (if nat_lt 2 flags then negsuc 21 else update_answer_of_kind kind plan shard flags (cell_of_key plan shard key)) (with_value plan h shard key value (cell_of_key plan shard key)) shard).cells)
-    (sym array) (array_update plan h shard key value flags (nat_lt 2 flags) (cell_of_key plan shard key) plain)
+    subst (λ kind. AreCellsKept shard.cells (updated_where (update_answer_by kind plan shard (update_flags_of flags) (cell_of_key plan shard key)) (with_value plan h shard key value (cell_of_key plan shard key)) shard).cells)
+    (sym array) (array_update plan h shard key value (update_flags_of flags) (cell_of_key plan shard key) plain)
 cells_after plan h shard (Delete number key) array plain =
     subst (λ kind. AreCellsKept shard.cells (updated_where (delete_answer_of_kind kind (cell_of_key plan shard key)) (without_found shard (length h) (present_key shard key)) shard).cells)
     (sym array) (same_cells shard.cells)

@@ -1,7 +1,7 @@
 use Rattle.std.proofs.Common.{◌≡◌, ◌<◌, length, reverse, arith, sym, ◌∙◌}
 use Rattle.std.specs.Prelude.{IsTrue, IsFalse, vec_len, vec_capacity}
 use Rattle.semantics.specs.History.{meets, journal_is_full}
-use Rattle.semantics.proofs.ConditionLemmas.{IsSized-meets}
+use Rattle.one_thread_map.proofs.SizeLemmas.{IsSized-meets}
 use Rattle.shard_core.proofs.RoomLemmas.{served_has_room}
 use Rattle.shard_core.proofs.StepLemmas.{IsKept-step}
 use Rattle.shard_core.proofs.shard.Shard.apply.Goals as goal

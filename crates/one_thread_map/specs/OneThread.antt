@@ -1,0 +1,39 @@
+-- The one-thread shard: what contracts see of it, and what its fields are.
+use Rattle.std.specs.Prelude.{◌≡◌, ◌+◌, ◌<◌, ◌≤◌, ◌^◌, List, length, reverse, IsTrue}
+use Rattle.semantics.specs.declared.call.Entry.{Entry}
+use Rattle.semantics.specs.declared.call.Call.{Call}
+use Rattle.semantics.specs.declared.call.Call.TheVariants.{Enter, Leave, Lookup, Load, Store, Atomic, Update, Delete, Reclaim}
+use Rattle.one_thread_map.specs.declared.state.ShardState.{ShardState}
+use Rattle.semantics.specs.declared.plan.ShardPlan.{ShardPlan}
+use Rattle.semantics.specs.PlanLimits.{IsWithinLimits}
+use Rattle.semantics.specs.SequentialShard.{SequentialShard, shard_after}
+use Rattle.semantics.specs.History.{is_atomic_width, IsLegalHistory}
+
+-- what it was opened with, and its history, the newest entry first
+pub record OneThread : Type 0 where
+  pub plan : ShardPlan
+  pub history : List Entry
+
+-- the lists that the fields hold
+abbrev pub state_of : ShardState → SequentialShard
+state_of state = record { present = state.present.items; cells = state.cells.items; retired = state.retired.items }
+
+-- the state is what the journal leads to, and the journal is legal
+pub record IsOneThread (plan : ShardPlan) (journal : List Entry) (state : SequentialShard) : Type 0 where
+  pub limits : IsWithinLimits plan
+  pub led : state ≡ shard_after plan (reverse journal)
+  pub legal : IsLegalHistory plan (reverse journal)
+
+-- the sizes in a call that a shard serves: a key of the map's length, a width of at most 8, bytes within 64, numbers within the
+-- width
+abbrev pub IsSized : ShardPlan → Call → Type 0
+IsSized plan (Enter shard) = Unit {0}
+IsSized plan (Leave shard) = Unit {0}
+IsSized plan (Lookup shard key) = length key ≡ plan.definition.key_size
+IsSized plan (Load cell offset width) = width ≤ 8
+IsSized plan (Store cell offset width value) = (width ≤ 8) × (offset + width ≤ 64)
+IsSized plan (Atomic cell offset width op value expected) =
+    IsTrue (is_atomic_width width) × (offset + width ≤ 64) × (value < 256 ^ width) × (expected < 256 ^ width)
+IsSized plan (Update shard key value flags) = length key ≡ plan.definition.key_size
+IsSized plan (Delete shard key) = length key ≡ plan.definition.key_size
+IsSized plan (Reclaim shard) = Unit {0}

@@ -1,0 +1,248 @@
+//! What each call replies, by a shard's state.
+
+ghost use Rattle.std.specs.Prelude.{◌≡◌, ◌<◌, ◌≤◌, ◌+◌, ◌*◌, ◌^◌, ℤ, IsTrue, Option, length, reverse};
+ghost use Rattle.ebpf_decode.specs.declared.map.MapKind.TheVariants.{Hash};
+ghost use Rattle.semantics.specs.Linux.{errno_code, success, update_flags_of};
+ghost use Rattle.semantics.specs.PlanLimits.{IsWithinLimits, IsIndexSize};
+ghost use Rattle.one_thread_map.specs.OneThread.{state_of, IsSized};
+ghost use Rattle.semantics.specs.History.{is_atomic_width};
+ghost use Rattle.semantics.specs.SequentialShard.{cell_of_key, number_in_cell, changed_by, has_free_cell, is_full_of_keys, present_key_answer, array_update_answer, new_key_answer, absent_key_answer, keyed_update_answer, update_answer_of_kind, update_answer_by, update_answer, delete_answer_of_kind, delete_answer, lookup_reply, reply_of};
+
+use crate::state::{
+    ShardState, capacity, cell_bytes, cell_of_index, cell_of_present, reclaimable_count,
+};
+use ebpf_decode::MapKind;
+use isa::{AtomicOp, Width, atomic};
+use semantics::little_endian::{number_of_bytes, part_at};
+use semantics::{Call, CellRef, Entry, Errno, Key, Reply, ShardPlan, UpdateFlags};
+
+/// The cell that has a key's value.
+pub fn cell_of_key(plan: &ShardPlan, state: &ShardState, key: &Key) -> Option<u64>
+    requires limits { IsWithinLimits plan.now }
+    requires size { length key.now ≡ plan.now.definition.key_size }
+    ensures { result ≡ cell_of_key plan.now (state_of state.now) key.now }
+{
+    match plan.definition.kind {
+        MapKind::Array => cell_of_index(plan, number_of_bytes(key.as_slice())),
+        MapKind::Hash => cell_of_present(&state.present, key),
+        MapKind::LruHash => cell_of_present(&state.present, key),
+    }
+}
+
+/// The number that some bytes of a cell make.
+pub fn number_in_cell(state: &ShardState, cell: u64, offset: u64, width: u64) -> u64
+    requires { width ≤ 8 }
+    ensures number { result ≡ number_in_cell (state_of state.now) cell offset width }
+    ensures below { result < 256 ^ width }
+{
+    let bytes = cell_bytes(&state.cells, cell);
+    number_of_bytes(part_at(bytes.as_slice(), offset as usize, width as usize))
+}
+
+/// What an atomic operation makes of a number; without an operation it stays.
+pub fn changed_by(op: Option<AtomicOp>, width: u64, old: u64, value: u64, expected: u64) -> u64
+    requires width { IsTrue (is_atomic_width width) }
+    requires old { old < 256 ^ width }
+    requires value { value < 256 ^ width }
+    requires expected { expected < 256 ^ width }
+    ensures { result ≡ changed_by op width old value expected }
+{
+    match op {
+        Some(op) => if width == 4 {
+            atomic(op, Width::Bits32, old, value, expected)
+        } else {
+            atomic(op, Width::Bits64, old, value, expected)
+        },
+        None => old,
+    }
+}
+
+/// Whether a cell is free for a new key: each key has two, so that a retired one may wait for its readers.
+fn has_free_cell(plan: &ShardPlan, state: &ShardState) -> bool
+    requires { IsWithinLimits plan.now }
+    ensures { result ≡ has_free_cell plan.now (state_of state.now) }
+{
+    state.present.len() as u128 + (state.retired.len() as u128) < 2 * u128::from(capacity(plan))
+}
+
+/// Whether the shard has as many keys as it may have.
+pub fn is_full_of_keys(plan: &ShardPlan, state: &ShardState) -> bool
+    requires { IsWithinLimits plan.now }
+    ensures { result ≡ is_full_of_keys plan.now (state_of state.now) }
+{
+    capacity(plan) <= state.present.len() as u64
+}
+
+/// What an Update of a key that is there answers: that it exists, where it may not.
+pub fn present_key_answer(flags: UpdateFlags) -> i32
+    ensures { result ≡ present_key_answer flags }
+{
+    match flags {
+        UpdateFlags::Any => 0,
+        UpdateFlags::NoExist => Errno::Exists.code(),
+        UpdateFlags::Exist => 0,
+    }
+}
+
+/// What an Update of an array answers: an index out of range is too big, and every other is there.
+pub fn array_update_answer(flags: UpdateFlags, cell: Option<u64>) -> i32
+    ensures { result ≡ array_update_answer flags cell }
+{
+    match cell {
+        None => Errno::TooBig.code(),
+        Some(_) => present_key_answer(flags),
+    }
+}
+
+/// What an Update of a new key answers: a hash shard may be full of keys, and any may have no free cell.
+fn new_key_answer(plan: &ShardPlan, state: &ShardState) -> i32
+    requires { IsWithinLimits plan.now }
+    ensures { result ≡ new_key_answer plan.now (state_of state.now) }
+{
+    if plan.definition.kind == MapKind::Hash && is_full_of_keys(plan, state) {
+        Errno::TooBig.code()
+    } else if has_free_cell(plan, state) {
+        0
+    } else {
+        Errno::NoMemory.code()
+    }
+}
+
+/// What an Update of an absent key answers: that there is no entry, where it must be present, else as a new key.
+fn absent_key_answer(plan: &ShardPlan, state: &ShardState, flags: UpdateFlags) -> i32
+    requires { IsWithinLimits plan.now }
+    ensures { result ≡ absent_key_answer plan.now (state_of state.now) flags }
+{
+    match flags {
+        UpdateFlags::Any => new_key_answer(plan, state),
+        UpdateFlags::NoExist => new_key_answer(plan, state),
+        UpdateFlags::Exist => Errno::NoEntry.code(),
+    }
+}
+
+/// What an Update of a map with keys answers.
+fn keyed_update_answer(
+    plan: &ShardPlan,
+    state: &ShardState,
+    flags: UpdateFlags,
+    cell: Option<u64>,
+) -> i32
+    requires { IsWithinLimits plan.now }
+    ensures { result ≡ keyed_update_answer plan.now (state_of state.now) flags cell }
+{
+    match cell {
+        Some(_) => present_key_answer(flags),
+        None => absent_key_answer(plan, state, flags),
+    }
+}
+
+/// What an Update with known flags answers, as the map's kind has it.
+fn update_answer_of_kind(
+    plan: &ShardPlan,
+    state: &ShardState,
+    flags: UpdateFlags,
+    cell: Option<u64>,
+) -> i32
+    requires { IsWithinLimits plan.now }
+    ensures { result ≡ update_answer_of_kind plan.now.definition.kind plan.now (state_of state.now) flags cell }
+{
+    match plan.definition.kind {
+        MapKind::Array => array_update_answer(flags, cell),
+        MapKind::Hash => keyed_update_answer(plan, state, flags, cell),
+        MapKind::LruHash => keyed_update_answer(plan, state, flags, cell),
+    }
+}
+
+/// What an Update answers: unknown flags are invalid, and then as the map's kind has it.
+pub fn update_answer(plan: &ShardPlan, state: &ShardState, key: &Key, flags: u64) -> i32
+    requires limits { IsWithinLimits plan.now }
+    requires size { length key.now ≡ plan.now.definition.key_size }
+    ensures { result ≡ update_answer plan.now (state_of state.now) key.now flags }
+{
+    match UpdateFlags::of(flags) {
+        None => Errno::Invalid.code(),
+        Some(flags) => update_answer_of_kind(plan, state, flags, cell_of_key(plan, state, key)),
+    }
+}
+
+/// What a Delete of a map with keys answers: that there is no entry, where the key is absent.
+fn found_answer(cell: Option<u64>) -> i32
+    ensures { result ≡ delete_answer_of_kind Hash cell }
+{
+    match cell {
+        Some(_) => 0,
+        None => Errno::NoEntry.code(),
+    }
+}
+
+fn delete_answer_of_kind(kind: MapKind, cell: Option<u64>) -> i32
+    ensures { result ≡ delete_answer_of_kind kind cell }
+{
+    match kind {
+        MapKind::Array => Errno::Invalid.code(),
+        MapKind::Hash => found_answer(cell),
+        MapKind::LruHash => found_answer(cell),
+    }
+}
+
+/// What a Delete answers: nothing can be deleted from an array, nor an absent key.
+pub fn delete_answer(plan: &ShardPlan, state: &ShardState, key: &Key) -> i32
+    requires limits { IsWithinLimits plan.now }
+    requires size { length key.now ≡ plan.now.definition.key_size }
+    ensures { result ≡ delete_answer plan.now (state_of state.now) key.now }
+{
+    delete_answer_of_kind(plan.definition.kind, cell_of_key(plan, state, key))
+}
+
+/// The reply to a Lookup.
+pub fn lookup_reply(plan: &ShardPlan, cell: Option<u64>) -> Reply
+    ensures { result ≡ lookup_reply plan.now cell }
+{
+    match cell {
+        Some(id) => Reply::Cell {
+            cell: CellRef {
+                shard: plan.number,
+                id,
+            },
+        },
+        None => Reply::Null,
+    }
+}
+
+/// What a call replies.
+pub fn reply_of(plan: &ShardPlan, journal: &[Entry], state: &ShardState, call: &Call) -> Reply
+    requires limits { IsWithinLimits plan.now }
+    requires sized { IsSized plan.now call.now }
+    ensures { result ≡ reply_of plan.now (reverse journal.now) (state_of state.now) call.now }
+{
+    match call {
+        Call::Enter { .. } => Reply::Entered,
+        Call::Leave { .. } => Reply::Left,
+        Call::Lookup { key, .. } => lookup_reply(plan, cell_of_key(plan, state, key)),
+        Call::Load {
+            cell,
+            offset,
+            width,
+        } => Reply::Word {
+            value: number_in_cell(state, cell.id, *offset, *width),
+        },
+        Call::Store { .. } => Reply::Done,
+        Call::Atomic {
+            cell,
+            offset,
+            width,
+            ..
+        } => Reply::Word {
+            value: number_in_cell(state, cell.id, *offset, *width),
+        },
+        Call::Update { key, flags, .. } => Reply::Answer {
+            code: update_answer(plan, state, key, *flags),
+        },
+        Call::Delete { key, .. } => Reply::Answer {
+            code: delete_answer(plan, state, key),
+        },
+        Call::Reclaim { .. } => Reply::Freed {
+            count: reclaimable_count(journal, &state.retired) as u64,
+        },
+    }
+}

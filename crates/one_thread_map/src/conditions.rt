@@ -1,0 +1,232 @@
+//! Which calls a shard serves, and when its journal is full.
+
+ghost use Rattle.std.specs.Prelude.{◌≡◌, ◌<◌, ◌≤◌, ◌==◌, ◌+◌, ◌^◌, ◌&&◌, Bool, IsTrue, length, reverse, nat_lt, is_some};
+ghost use Rattle.semantics.specs.PlanLimits.{IsWithinLimits, IsIndexSize};
+ghost use Rattle.semantics.specs.Reclamation.{inside_count};
+ghost use Rattle.semantics.specs.Program.{shard_number_of_key, part_of_key};
+ghost use Rattle.isa.specs.InstructionCodes.{atomic_op_of};
+ghost use Rattle.semantics.specs.History.{is_outside_worker, is_inside_worker, is_holder, may_change_keys, is_reclaimer, is_own_key, is_load_width, is_atomic_width, is_in_cell, fits_width, is_expected, meets_part, meets, room_for_leave, room_needed, lacks_room, journal_is_full};
+
+use crate::history::{holds, inside_count, is_inside};
+use ebpf_decode::MapKind;
+use isa::AtomicOp;
+use semantics::little_endian::number_of_bytes;
+use semantics::{Call, Caller, CellRef, Entry, Key, SectionChange, ShardPlan, Value};
+use wire::fnv1a64;
+
+/// Whether the caller is a worker of the plan that is not inside.
+fn is_outside_worker(plan: &ShardPlan, journal: &[Entry], who: &Caller) -> bool
+    ensures { result ≡ is_outside_worker plan.now (reverse journal.now) who.now }
+{
+    match who {
+        Caller::Worker { number } => u32::from(*number) < plan.workers
+            && !is_inside(*number, journal),
+        Caller::Controller => false,
+        Caller::Reclaimer => false,
+    }
+}
+
+/// Whether the caller is a worker of the plan that is inside.
+fn is_inside_worker(plan: &ShardPlan, journal: &[Entry], who: &Caller) -> bool
+    ensures { result ≡ is_inside_worker plan.now (reverse journal.now) who.now }
+{
+    match who {
+        Caller::Worker { number } => u32::from(*number) < plan.workers
+            && is_inside(*number, journal),
+        Caller::Controller => false,
+        Caller::Reclaimer => false,
+    }
+}
+
+/// Whether the caller is a worker of the plan that holds the cell.
+fn is_holder(plan: &ShardPlan, journal: &[Entry], who: &Caller, cell: &CellRef) -> bool
+    ensures { result ≡ is_holder plan.now (reverse journal.now) who.now cell.now.id }
+{
+    match who {
+        Caller::Worker { number } => u32::from(*number) < plan.workers
+            && holds(*number, cell.id, journal),
+        Caller::Controller => false,
+        Caller::Reclaimer => false,
+    }
+}
+
+/// Whether the caller may change keys: a worker inside, and the controller always.
+fn may_change_keys(plan: &ShardPlan, journal: &[Entry], who: &Caller) -> bool
+    ensures { result ≡ may_change_keys plan.now (reverse journal.now) who.now }
+{
+    match who {
+        Caller::Worker { .. } => is_inside_worker(plan, journal, who),
+        Caller::Controller => true,
+        Caller::Reclaimer => false,
+    }
+}
+
+fn is_reclaimer(who: &Caller) -> bool
+    ensures { result ≡ is_reclaimer who.now }
+{
+    match who {
+        Caller::Worker { .. } => false,
+        Caller::Controller => false,
+        Caller::Reclaimer => true,
+    }
+}
+
+/// The number that chooses a key's shard: an array's index, else the key's hash.
+fn shard_number_of_key(kind: MapKind, key: &[u8]) -> u64
+    requires { IsIndexSize kind (length key.now) }
+    ensures { result ≡ shard_number_of_key kind key.now }
+{
+    match kind {
+        MapKind::Array => number_of_bytes(key),
+        MapKind::Hash => fnv1a64(key),
+        MapKind::LruHash => fnv1a64(key),
+    }
+}
+
+/// Whether the key has the map's length and belongs to the shard.
+fn is_own_key(plan: &ShardPlan, key: &Key) -> bool
+    requires { IsWithinLimits plan.now }
+    ensures { result ≡ is_own_key plan.now key.now }
+{
+    let bytes = key.as_slice();
+    bytes.len() == plan.definition.key_size as usize
+        && shard_number_of_key(plan.definition.kind, bytes) % u64::from(plan.parts)
+            == u64::from(plan.part)
+}
+
+/// Whether a Load or a Store may have this width.
+fn is_load_width(width: u64) -> bool
+    ensures { result ≡ is_load_width width }
+{
+    width == 1 || width == 2 || width == 4 || width == 8
+}
+
+/// Whether an atomic operation may have this width.
+fn is_atomic_width(width: u64) -> bool
+    ensures { result ≡ is_atomic_width width }
+{
+    width == 4 || width == 8
+}
+
+/// Whether the bytes lie inside the value, at a multiple of their number.
+fn is_in_cell(plan: &ShardPlan, offset: u64, width: u64) -> bool
+    requires { 0 < width }
+    ensures { result ≡ is_in_cell plan.now offset width }
+{
+    u128::from(offset) + u128::from(width) <= u128::from(plan.definition.value_size)
+        && offset % width == 0
+}
+
+/// Whether so many bytes hold the number.
+fn fits_width(value: u64, width: u64) -> bool
+    requires { IsTrue (is_load_width width) }
+    ensures { result ≡ fits_width value width }
+{
+    match width {
+        1 => value < 0x100,
+        2 => value < 0x1_0000,
+        4 => value < 0x1_0000_0000,
+        _ => true,
+    }
+}
+
+/// Whether an operation may have this number to compare with: only compare-and-exchange has one.
+fn is_expected(op: u64, expected: u64) -> bool
+    ensures { result ≡ is_expected op expected }
+{
+    expected == 0 || op == u64::from(AtomicOp::CompareExchange.code())
+}
+
+/// Whether a Load of this width may be made at this offset.
+fn is_load(plan: &ShardPlan, offset: u64, width: u64) -> bool
+    ensures { result ≡ (is_load_width width && is_in_cell plan.now offset width) }
+{
+    is_load_width(width) && is_in_cell(plan, offset, width)
+}
+
+/// Whether an atomic operation of this width may be made at this offset with these numbers.
+fn is_atomic(plan: &ShardPlan, offset: u64, width: u64, op: u64, value: u64, expected: u64) -> bool
+    ensures { result ≡ (is_atomic_width width && is_in_cell plan.now offset width && is_some (atomic_op_of op) && fits_width value width && fits_width expected width && is_expected op expected) }
+{
+    is_atomic_width(width)
+        && is_in_cell(plan, offset, width)
+        && AtomicOp::of(op).is_some()
+        && fits_width(value, width)
+        && fits_width(expected, width)
+        && is_expected(op, expected)
+}
+
+/// Whether the caller may make this call on this shard, apart from the shard's number.
+fn meets_part(plan: &ShardPlan, journal: &[Entry], who: &Caller, call: &Call) -> bool
+    requires { IsWithinLimits plan.now }
+    ensures { result ≡ meets_part plan.now (reverse journal.now) who.now call.now }
+{
+    match call {
+        Call::Enter { .. } => is_outside_worker(plan, journal, who),
+        Call::Leave { .. } => is_inside_worker(plan, journal, who),
+        Call::Lookup { key, .. } => is_inside_worker(plan, journal, who) && is_own_key(plan, key),
+        Call::Load {
+            cell,
+            offset,
+            width,
+        } => is_holder(plan, journal, who, cell) && is_load(plan, *offset, *width),
+        Call::Store {
+            cell,
+            offset,
+            width,
+            value,
+        } => is_holder(plan, journal, who, cell)
+            && is_load(plan, *offset, *width)
+            && fits_width(*value, *width),
+        Call::Atomic {
+            cell,
+            offset,
+            width,
+            op,
+            value,
+            expected,
+        } => is_holder(plan, journal, who, cell)
+            && is_atomic(plan, *offset, *width, *op, *value, *expected),
+        Call::Update { key, value, .. } => may_change_keys(plan, journal, who)
+            && is_own_key(plan, key)
+            && is_value(plan, value),
+        Call::Delete { key, .. } => may_change_keys(plan, journal, who) && is_own_key(plan, key),
+        Call::Reclaim { .. } => is_reclaimer(who),
+    }
+}
+
+/// Whether the value has the map's length.
+fn is_value(plan: &ShardPlan, value: &Value) -> bool
+    ensures { result ≡ (length value.now == plan.now.definition.value_size) }
+{
+    value.as_slice().len() == plan.definition.value_size as usize
+}
+
+/// Whether the caller may make this call on this shard now.
+pub fn meets(plan: &ShardPlan, journal: &[Entry], who: &Caller, call: &Call) -> bool
+    requires { IsWithinLimits plan.now }
+    ensures { result ≡ meets plan.now (reverse journal.now) who.now call.now }
+{
+    call.shard() == plan.number && meets_part(plan, journal, who, call)
+}
+
+/// Whether the journal has no room for a call that is no Leave: for its entry, one more for each run inside, and one more
+/// for the run that it lets in.
+fn lacks_room(plan: &ShardPlan, journal: &[Entry], entering: u8) -> bool
+    ensures { result ≡ nat_lt plan.now.reserve (length (reverse journal.now) + inside_count (reverse journal.now) + entering + 1) }
+{
+    let needed = journal.len() as u128 + inside_count(journal) as u128 + u128::from(entering) + 1;
+    u128::from(plan.reserve) < needed
+}
+
+/// Whether the journal is full for this call: the entries, one more for each run inside, one for a run that would enter, and
+/// one for the call itself are more than it has room for. For a Leave it never is, since its Enter left it room.
+pub fn journal_is_full(plan: &ShardPlan, journal: &[Entry], call: &Call) -> bool
+    ensures { result ≡ journal_is_full plan.now (reverse journal.now) call.now }
+{
+    match call.section_change() {
+        SectionChange::Ends => false,
+        SectionChange::Begins => lacks_room(plan, journal, 1),
+        SectionChange::Stays => lacks_room(plan, journal, 0),
+    }
+}

@@ -1,0 +1,228 @@
+//! What a journal tells by the places of its entries: who is inside, who holds a cell, when a key was used.
+//!
+//! A journal has its oldest entry first; the definitions speak of the history, which has its newest entry first.
+
+ghost use Rattle.std.specs.Prelude.{◌≡◌, ◌==◌, ◌+◌, ◌<◌, ◌^◌, ℕ, Bool, Option, List, reverse, length, unwrap_or, count_by, bytes_eq, vec_len, vec_capacity, ◌++◌, ◌∷◌, []};
+ghost use Rattle.std.specs.List.{list_all};
+ghost use Rattle.semantics.specs.Reclamation.{is_worker, entered_where, entered_by, entered_at, is_inside, found_cell, held_by, holds, worker_numbers, inside_count, began_after, is_reclaimable};
+ghost use Rattle.semantics.specs.LeastRecentlyUsed.{is_found, is_done, call_uses, uses, last_use};
+
+use semantics::{Call, Caller, Entry, Key, Reply, RetiredCell, SectionChange};
+
+/// The numbers that workers may have.
+const WORKER_NUMBERS: [u8; 8] = [0, 1, 2, 3, 4, 5, 6, 7];
+
+/// Whether the caller is the worker of this number.
+fn is_worker(worker: u8, who: &Caller) -> bool
+    ensures { result ≡ is_worker worker who.now }
+{
+    match who {
+        Caller::Worker { number } => *number == worker,
+        Caller::Controller => false,
+        Caller::Reclaimer => false,
+    }
+}
+
+/// Where a worker's own call at a place begins or ends a section: where the section then began, if there is one.
+fn entered_by(call: &Call, place: u64) -> Option<Option<u64>>
+    ensures { (before : Option ℕ) → unwrap_or result before ≡ entered_by call.now place before }
+{
+    match call.section_change() {
+        SectionChange::Begins => Some(Some(place)),
+        SectionChange::Ends => Some(None),
+        SectionChange::Stays => None,
+    }
+}
+
+/// The place of the worker's Enter that no Leave of its own follows.
+pub fn entered_at(worker: u8, journal: &[Entry]) -> Option<u64>
+    ensures { result ≡ entered_at worker (reverse journal.now) }
+{
+    let mut older = journal.len();
+    'newer: while older > 0 {
+        older -= 1;
+        let entry = &journal[older];
+        if is_worker(worker, &entry.who) {
+            if let Some(at) = entered_by(&entry.call, older as u64) {
+                return at;
+            }
+        }
+    }
+    None
+}
+
+/// Whether the worker is inside a section: it has an Enter with no later Leave.
+pub fn is_inside(worker: u8, journal: &[Entry]) -> bool
+    ensures { result ≡ is_inside worker (reverse journal.now) }
+{
+    entered_at(worker, journal).is_some()
+}
+
+/// How many workers are inside.
+pub fn inside_count(journal: &[Entry]) -> usize
+    ensures { result ≡ inside_count (reverse journal.now) }
+{
+    count_inside(&WORKER_NUMBERS, journal)
+}
+
+fn count_inside(workers: &[u8], journal: &[Entry]) -> usize
+    ensures { result ≡ count_by (λ worker. is_inside worker (reverse journal.now)) workers.now }
+{
+    workers
+        .iter()
+        .filter(|worker| is_inside(**worker, journal))
+        .count()
+}
+
+/// Whether the reply is this cell.
+fn found_cell(reply: &Reply, cell: u64) -> bool
+    ensures { result ≡ found_cell reply.now cell }
+{
+    match reply {
+        Reply::Cell { cell: found } => found.id == cell,
+        Reply::Entered => false,
+        Reply::Left => false,
+        Reply::Null => false,
+        Reply::Word { .. } => false,
+        Reply::Done => false,
+        Reply::Answer { .. } => false,
+        Reply::Freed { .. } => false,
+    }
+}
+
+/// Where a worker's own entry decides whether it then holds the cell: the answer.
+fn held_by(call: &Call, reply: &Reply, cell: u64) -> Option<bool>
+    ensures { (before : Bool) → unwrap_or result before ≡ held_by call.now reply.now cell before }
+{
+    match call {
+        Call::Enter { .. } => Some(false),
+        Call::Leave { .. } => Some(false),
+        Call::Lookup { .. } => if found_cell(reply, cell) {
+            Some(true)
+        } else {
+            None
+        },
+        Call::Load { .. } => None,
+        Call::Store { .. } => None,
+        Call::Atomic { .. } => None,
+        Call::Update { .. } => None,
+        Call::Delete { .. } => None,
+        Call::Reclaim { .. } => None,
+    }
+}
+
+/// Whether the worker holds the cell: since its last Enter, which no Leave follows, a Lookup of its own found it.
+pub fn holds(worker: u8, cell: u64, journal: &[Entry]) -> bool
+    ensures { result ≡ holds worker cell (reverse journal.now) }
+{
+    let mut older = journal.len();
+    'newer: while older > 0 {
+        older -= 1;
+        let entry = &journal[older];
+        if is_worker(worker, &entry.who) {
+            if let Some(answer) = held_by(&entry.call, &entry.reply, cell) {
+                return answer;
+            }
+        }
+    }
+    false
+}
+
+/// Whether a section that began at this place, if there is one, began after another place.
+fn began_after(since: u64, entered: Option<u64>) -> bool
+    ensures { result ≡ began_after since entered }
+{
+    match entered {
+        Some(at) => since < at,
+        None => true,
+    }
+}
+
+/// Whether the retired cell may be freed: every worker inside entered after the retirement.
+pub fn is_reclaimable(journal: &[Entry], retired: &RetiredCell) -> bool
+    ensures { result ≡ is_reclaimable (reverse journal.now) retired.now }
+{
+    all_began_after(&WORKER_NUMBERS, journal, retired.since)
+}
+
+fn all_began_after(workers: &[u8], journal: &[Entry], since: u64) -> bool
+    ensures { result ≡ list_all (λ worker. began_after since (entered_at worker (reverse journal.now))) workers.now }
+{
+    workers
+        .iter()
+        .all(|worker| began_after(since, entered_at(*worker, journal)))
+}
+
+/// Whether the reply is a cell.
+fn is_found(reply: &Reply) -> bool
+    ensures { result ≡ is_found reply.now }
+{
+    match reply {
+        Reply::Cell { .. } => true,
+        Reply::Entered => false,
+        Reply::Left => false,
+        Reply::Null => false,
+        Reply::Word { .. } => false,
+        Reply::Done => false,
+        Reply::Answer { .. } => false,
+        Reply::Freed { .. } => false,
+    }
+}
+
+/// Whether the reply is the answer 0.
+fn is_done(reply: &Reply) -> bool
+    ensures { result ≡ is_done reply.now }
+{
+    match reply {
+        Reply::Answer { code } => *code == 0,
+        Reply::Entered => false,
+        Reply::Left => false,
+        Reply::Cell { .. } => false,
+        Reply::Null => false,
+        Reply::Word { .. } => false,
+        Reply::Done => false,
+        Reply::Freed { .. } => false,
+    }
+}
+
+/// Whether the entry is a use of the key: a Lookup that found it, or an Update that answered 0.
+pub fn uses(key: &Key, entry: &Entry) -> bool
+    ensures { result ≡ uses key.now entry.now }
+{
+    match &entry.call {
+        Call::Lookup { key: asked, .. } => asked.is_same(key) && is_found(&entry.reply),
+        Call::Update { key: asked, .. } => asked.is_same(key) && is_done(&entry.reply),
+        Call::Enter { .. } => false,
+        Call::Leave { .. } => false,
+        Call::Load { .. } => false,
+        Call::Store { .. } => false,
+        Call::Atomic { .. } => false,
+        Call::Delete { .. } => false,
+        Call::Reclaim { .. } => false,
+    }
+}
+
+/// One more than the place of the key's last use; 0 where there is none.
+pub fn last_use(key: &Key, journal: &[Entry]) -> u64
+    ensures { result ≡ last_use key.now (reverse journal.now) }
+{
+    let mut older = journal.len();
+    'newer: while older > 0 {
+        let newest = older;
+        older -= 1;
+        if uses(key, &journal[older]) {
+            return newest as u64;
+        }
+    }
+    0
+}
+
+/// Puts an entry behind the others, for which there is room.
+pub(crate) fn put_entry(journal: &mut Vec<Entry>, entry: Entry)
+    requires { vec_len journal.old < vec_capacity journal.old }
+    ensures { journal.new.items ≡ journal.old.items ++ entry ∷ [] }
+{
+    if journal.extend_from_slice(&[entry]).is_err() {
+        unreachable!()
+    }
+}
