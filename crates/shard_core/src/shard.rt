@@ -8,9 +8,7 @@ ghost use Rattle.shard_core.specs.JournaledShard.{opened_shard, sequential_reply
 
 use crate::array::{change, opening_cells, reply_of};
 use crate::inside::{Flags, count, note};
-use semantics::{
-    Call, Caller, Entry, JournalFull, Reply, SectionChange, ShardPlan, Value,
-};
+use semantics::{Call, Caller, Entry, JournalFull, Reply, SectionChange, ShardPlan, Value};
 use std::alloc::{AllocError, Global};
 use std::marker::Model;
 
