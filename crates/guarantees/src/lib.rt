@@ -1,5 +1,78 @@
-//! What xlb promises, from the contracts of the calls that keep it.
+//! What xlb promises, on one page. Each guarantee that stands today is the contract of a function that does nothing; each is composed
+//! from what the public calls of the crates below ensure, and the definitions that it names are those of docs/DEFINITIONS.md.
+//!
+//! *Whatever frames arrive and however the shared steps of workers, controller and reclaimer interleave, a run of an image that
+//! `verify` accepted reaches no trap and ends within as many instructions as the image has slots*: `accepted_images_are_safe`.
+//! *It gives the verdict and frame of RFC 9669's tables on the replies that it was handed, each the reply of a one-thread map at the
+//! run's own place in its shard's one legal history*: `runs_are_their_meaning` with `entries_are_steps`, for runs of one worker after
+//! the other over shards without locks.
 #![tactic(auto)]
 
+pub mod running;
 #[cfg(test)]
 mod tests;
+
+ghost use Rattle.semantics.specs.Safety.{IsSafeImage};
+ghost use Rattle.guarantees.specs.Guarantees.{RunsAreTheirMeaning, StoppedRunsAreBeginnings, EntriesAreSteps, OpenedShardsAreReady, RunsLeaveOthersAlone};
+
+use shard_port::laws::{
+    finish_leaves, journals_after_a_refusal, journals_have_the_calls, leaves_others_alone,
+    opened_are_outside, opened_serve, stays_one_port,
+};
+use verifier::Verified;
+use verifier::laws::accepted_is_safe;
+
+/// A `Verified` stands for a safe image: for all options with which its maps can be opened and after any list of events of all
+/// actors, no run's next instruction traps, and each run that goes on has done fewer instructions than the image has slots.
+pub fn accepted_images_are_safe(verified: &Verified)
+    ensures { IsSafeImage verified.now.maps verified.now.code }
+{
+    accepted_is_safe();
+    let _ = verified.image().maps();
+}
+
+/// A worker's run: `PlainPort::over` makes its port over shards that it is not inside of, `run` ends, and `finish` leaves the shards.
+/// Then verdict, frame and number of instructions are the trace of the program on some replies, which makes just the calls that
+/// they answer; each shard's journal has these calls with these replies more, in order, between one Enter and one Leave, and nothing
+/// where it was not asked; all journals are legal; and the worker is outside every shard, so that the next run can begin.
+pub fn runs_are_their_meaning()
+    ensures { RunsAreTheirMeaning }
+{
+    journals_have_the_calls();
+    stays_one_port();
+    finish_leaves();
+}
+
+/// The same of a run that stopped because a shard's journal was full: its calls are those that the trace makes up to the refused one,
+/// and they stand in the journals. The refused call stands in none; its shard may have an Enter and a Leave with no call between.
+pub fn stopped_runs_are_beginnings()
+    ensures { StoppedRunsAreBeginnings }
+{
+    journals_after_a_refusal();
+    stays_one_port();
+    finish_leaves();
+}
+
+/// Each entry of a legal journal is a call that its caller could make there, and its reply is that of the one-thread map in the state
+/// that the entries before it lead to.
+pub fn entries_are_steps()
+    ensures { EntriesAreSteps }
+{}
+
+/// Shards as `Shards::open` gives them serve their maps, their journals are legal, and nobody is inside: so what is said of runs holds
+/// from the first one on.
+pub fn opened_shards_are_ready()
+    ensures { OpenedShardsAreReady }
+{
+    opened_serve();
+    opened_are_outside();
+}
+
+/// A run leaves every other worker inside or outside each shard, as it was: so what is said of runs holds of several workers' runs, one
+/// after the other over the same shards.
+pub fn runs_leave_others_alone()
+    ensures { RunsLeaveOthersAlone }
+{
+    runs_are_their_meaning();
+    leaves_others_alone();
+}

@@ -1,2 +1,1 @@
--- The lemmas that proofs of this crate share.
-pub mod ReachLemmas
+pub mod shared

@@ -17,7 +17,7 @@ const INVALID: i32 = -22;
 ///
 /// Answers 0. Answers -22, and changes nothing, where the headroom would fall below 0 or the frame
 /// below 14 bytes. Newly opened bytes are zero. Takes no memory.
-#[tactic(auto, using(crate::proofs::ReachLemmas::reaches_within, crate::proofs::ReachLemmas::reaches_past))]
+#[tactic(auto, using(crate::proofs::shared::ReachLemmas::reaches_within, crate::proofs::shared::ReachLemmas::reaches_past))]
 pub fn adjust_head(frame: &mut Frame, distance: i32) -> i32
     ensures moved { frame.new ≡ adjusted_head distance frame.old }
     ensures answer { result ≡ adjust_answer distance frame.old }

@@ -1,20 +1,13 @@
 //! Instructions and programs, by the words of a listing, and the runs of them.
 
-ghost use Rattle.std.specs.Prelude.{◌≡◌, ◌<◌};
-ghost use Rattle.semantics.specs.ShardPlan.{AreOptions};
-ghost use Rattle.shard_port.specs.PortView.{ServesMaps};
-
 use ebpf_decode::{Image, Insn, MapDef, MapKind};
 use isa::Register::{R1, R2, R10};
 use isa::{AluOp, Register, Size, Source, Test, Width};
-use machine::{Exit, Moment, Stop, run};
+use machine::Moment;
 use semantics::Options;
-use shard_port::PlainPort;
-use shards::Shards;
 use std::alloc::Global;
 use std::test::Fail;
 use verifier::{Verified, verify};
-use wire::Frame;
 
 pub(super) const OPTIONS: Options = Options {
     workers: 8,
@@ -130,24 +123,4 @@ pub(super) fn accepted(
     code.extend_from_slice(head)?;
     code.extend_from_slice(tail)?;
     Ok(verify(alloc, Image::of(all_maps, code)?)?)
-}
-
-/// One run over the shards of the image's maps.
-pub(super) fn run_over(
-    verified: &Verified,
-    options: Options,
-    shards: &mut Shards,
-    moment: &Moment,
-    frame: &mut Frame,
-) -> Result<Exit, Stop>
-    requires options { AreOptions verified.now.maps options }
-    requires shards { ServesMaps verified.now.maps options shards.old }
-    requires worker { moment.now.worker < 8 }
-    requires among { moment.now.worker < options.workers }
-    requires headroom { frame.old.headroom ≡ 256 }
-{
-    let mut port = PlainPort::over(verified.image(), options, shards, moment.worker);
-    let result = run(verified, frame, moment, &mut port);
-    port.finish();
-    result
 }

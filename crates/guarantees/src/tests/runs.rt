@@ -4,14 +4,15 @@ ghost use Rattle.std.specs.Prelude.{◌<◌};
 
 use super::programs::{
     ARRAY, EXIT, MOMENT, OPTIONS, SMALL, accepted, add, copy, jump_if, load, look_up, mov, put,
-    run_over, store,
+    store,
 };
+use crate::opened_shards_are_ready;
+use crate::running::worker_run;
 use ebpf_decode::{Insn, decode};
 use isa::Register::{R0, R1, R2, R3, R6, R10};
 use isa::{Size, Source, Test};
 use machine::{Exit, Stop};
 use semantics::{Call, Caller, CellRef, Entry, Key, Options, Reply, Verdict};
-use shard_port::laws::opened_serve;
 use shards::Shards;
 use std::alloc::Global;
 use std::process::Abort;
@@ -102,9 +103,9 @@ fn leaves(
 {
     let image = verified.image();
     let mut shards = Shards::open(alloc, image, options)?;
-    opened_serve();
+    opened_shards_are_ready();
     let mut frame = Frame::of(alloc, bytes)?;
-    let result = run_over(verified, options, &mut shards, &MOMENT, &mut frame);
+    let result = worker_run(verified, options, &mut shards, &MOMENT, &mut frame);
     assert_eq!(rt; result, want, "{name}");
     assert_eq!(rt; frame.bytes(), bytes, "{name}");
     says(rt, &mut shards, number, entries, name);

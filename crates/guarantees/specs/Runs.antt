@@ -1,0 +1,112 @@
+-- What the calls of one run give, and what a run over shards comes to.
+use Rattle.std.specs.Prelude.{◌≡◌, ◌⊎◌, ℕ, ◌≤◌, List, [], ◌∷◌, ◌++◌, Some, slice_get, IsFalse}
+use Rattle.ebpf_decode.specs.InstructionEncoding.{total_slots}
+use Rattle.wire.specs.FrameView.{FrameView}
+use Rattle.semantics.specs.declared.call.Call.{Call}
+use Rattle.semantics.specs.declared.options.Options.{Options}
+use Rattle.semantics.specs.declared.verdict.Verdict.{Verdict}
+use Rattle.semantics.specs.MachineState.{MachineState, initial_state}
+use Rattle.semantics.specs.Program.{Program}
+use Rattle.semantics.specs.History.{shard_of_call, IsLegalJournal}
+use Rattle.semantics.specs.RunTrace.{HasExited, Waits}
+use Rattle.verifier.specs.Verified.{Verified}
+use Rattle.shard_core.specs.JournaledShard.{JournaledShard}
+use Rattle.map_port.specs.Exchanges.{Exchange, calls_in, replies_in}
+use Rattle.shard_port.specs.Asking.{is_in, enter_entry, leave_entry, all_left}
+use Rattle.shard_port.specs.PortView.{ServesMaps}
+use Rattle.shard_port.specs.declared.plain.PlainPort.{PlainPort}
+use Rattle.shard_port.specs.PlainPorts.{PortGives, PortRefuses}
+use Rattle.shard_port.specs.Sessions.{with_entries, session, entries_at}
+use Rattle.machine.specs.declared.exit.Stop.{Stop}
+use Rattle.machine.specs.declared.exit.Stop.TheVariants.{JournalFull}
+use Rattle.machine.specs.declared.moment.Moment.{Moment}
+use Rattle.machine.specs.Running.{program_of, whole_trace, Ends, Stops}
+
+-- ---- the shards between runs
+
+-- the worker is inside none of the shards
+abbrev pub IsOutside : ℕ → List JournaledShard → Type 0
+IsOutside worker shards = (number : ℕ) (shard : JournaledShard) → slice_get shards number ≡ Some shard → IsFalse (is_in worker shard)
+
+-- each shard's journal is one legal history of the one-thread map
+abbrev pub AreLegal : List JournaledShard → Type 0
+AreLegal shards = (number : ℕ) (shard : JournaledShard) → slice_get shards number ≡ Some shard → IsLegalJournal shard.plan shard.journal
+
+-- a run of a worker: when it began, on which frame
+pub record Start : Type 0 where
+  pub worker : ℕ
+  pub now : ℕ
+  pub frame : FrameView
+
+abbrev pub start_of : Moment → FrameView → Start
+start_of moment frame = record { worker = moment.worker; now = moment.now_ns; frame = frame }
+
+abbrev pub state_at : Start → MachineState
+state_at start = initial_state start.frame start.worker start.now
+
+-- ---- what the calls of a run ensure: `PlainPort::over` made the port before, `run` left the port after, `finish` left the shards
+
+pub record IsPortOver (options : Options) (worker : ℕ) (shards : List JournaledShard) (port : PlainPort) : Type 0 where
+  pub same_shards : port.shards.now ≡ shards
+  pub same_options : port.options ≡ options
+  pub same_worker : port.worker ≡ worker
+
+pub record IsFinished (options : Options) (port : PlainPort) (shards : List JournaledShard) : Type 0 where
+  pub left : shards ≡ all_left port.worker port.shards.now
+  pub serve : ServesMaps port.image.now.maps port.options shards
+
+-- a run that ended
+pub record Ran (verified : Verified) (options : Options) (start : Start) (before after : List JournaledShard) (verdict : Verdict) (steps : ℕ) (frame : FrameView) : Type 0 where
+  pub port : PlainPort
+  pub over : IsPortOver options start.worker before port
+  pub later : PlainPort
+  pub ended : Ends PortGives (program_of verified options.shards) (state_at start) port later verdict steps frame
+  pub finished : IsFinished options later after
+
+-- a run whose call a shard refused
+pub record WasStopped (verified : Verified) (options : Options) (start : Start) (before after : List JournaledShard) (shard : ℕ) (frame : FrameView) : Type 0 where
+  pub port : PlainPort
+  pub over : IsPortOver options start.worker before port
+  pub later : PlainPort
+  pub stopped : Stops PortGives PortRefuses (program_of verified options.shards) (state_at start) port later frame shard
+  pub finished : IsFinished options later after
+
+-- ---- what that means
+
+-- each shard's journal has more just what this worker asked of it and was answered, in order, between one Enter and one Leave
+abbrev pub AreWritten : ℕ → List Exchange → List JournaledShard → List JournaledShard → Type 0
+AreWritten worker exchanges before after =
+    (number : ℕ) (shard : JournaledShard) → slice_get before number ≡ Some shard →
+    slice_get after number ≡ Some (with_entries shard (session worker shard.plan.number (entries_at worker number exchanges)))
+
+-- the same, but that the shard of a refused call, if it was the first there, may have an Enter and a Leave with no call between
+abbrev pub AreWrittenBut : Call → ℕ → List Exchange → List JournaledShard → List JournaledShard → Type 0
+AreWrittenBut call worker exchanges before after =
+    (number : ℕ) (shard : JournaledShard) → slice_get before number ≡ Some shard →
+    (slice_get after number ≡ Some (with_entries shard (session worker shard.plan.number (entries_at worker number exchanges))))
+    ⊎ ((shard_of_call call ≡ number) × (slice_get after number ≡ Some (with_entries shard (enter_entry worker shard.plan.number ∷ leave_entry worker shard.plan.number ∷ []))))
+
+-- the run is the meaning of its program on the replies that stand in the journals, which are legal; and it left every shard
+pub record IsTheMeaning (program : Program) (start : Start) (before after : List JournaledShard) (verdict : Verdict) (steps : ℕ) (frame : FrameView) : Type 0 where
+  pub exchanges : List Exchange
+  pub last : MachineState
+  pub trace : whole_trace program (state_at start) (replies_in exchanges) ≡ record { calls = calls_in exchanges; stand = HasExited verdict last }
+  pub counted : steps ≡ last.steps
+  pub bounded : steps ≤ total_slots program.code
+  pub sent : frame ≡ last.frame
+  pub written : AreWritten start.worker exchanges before after
+  pub legal : ∥ AreLegal after ∥₁
+  pub outside : IsOutside start.worker after
+
+-- the run made the calls of its program up to the refused one, which no journal has; and it left every shard
+pub record IsTheBeginning (program : Program) (start : Start) (before after : List JournaledShard) (shard : ℕ) : Type 0 where
+  pub exchanges : List Exchange
+  pub refused : Call
+  pub named : shard ≡ shard_of_call refused
+  pub trace : whole_trace program (state_at start) (replies_in exchanges) ≡ record { calls = calls_in exchanges ++ refused ∷ []; stand = Waits }
+  pub written : AreWrittenBut refused start.worker exchanges before after
+  pub legal : ∥ AreLegal after ∥₁
+  pub outside : IsOutside start.worker after
+
+abbrev pub IsStoppedBeginning : Program → Start → List JournaledShard → List JournaledShard → Stop → Type 0
+IsStoppedBeginning program start before after (JournalFull shard) = IsTheBeginning program start before after shard

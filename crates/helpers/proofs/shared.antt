@@ -1,0 +1,2 @@
+-- Lemmas that proofs of other crates cite.
+pub mod ReachLemmas
