@@ -1,0 +1,230 @@
+//! The journal.
+
+ghost use Rattle.std.specs.Prelude.{◌≡◌, ◌+◌, ◌*◌, ◌<◌, ◌≤◌, ◌∷◌, ◌++◌, [], IfOk, length, vec_len, vec_capacity, slice_get, Some};
+ghost use Rattle.journal.specs.Journaled.{opened_journal, with_entry};
+ghost use Rattle.journal.specs.Entries.{enter_entry, leave_entry, lookup_entry, load_entry, store_entry, atomic_entry, update_entry, delete_entry, reclaim_entry};
+ghost use Rattle.journal.specs.Rows.{HasNoBytes, entry_of};
+ghost use Rattle.journal.specs.Ranges.{IsShortRange};
+
+use crate::append::{AtomicChange, CellRange};
+use crate::row::{Row, Shape};
+use semantics::{Caller, Entry};
+use std::alloc::{AllocError, Global};
+use std::marker::Model;
+
+/// The entries of a shard, the oldest first. Contracts see the list of them, and what the journal was opened with.
+#[derive(Drop)]
+pub struct Journal {
+    shape: Shape,
+    /// How many entries there is room for.
+    reserve: u32,
+    rows: Vec<Row>,
+    /// The keys and values of the rows, one after another.
+    bytes: Vec<u8>,
+}
+
+impl Model for Journal {
+    ghost use Rattle.std.specs.Prelude.{vec_capacity};
+    ghost use Rattle.journal.specs.Journaled.{Journaled};
+    ghost use Rattle.journal.specs.Rows.{journaled, IsKept};
+
+    ghost Value = { Journaled };
+
+    ghost view = { λ j. journaled j.shape.shard j.reserve j.shape.key_size j.shape.value_size j.rows.items j.bytes.items };
+
+    ghost invariant = { λ j. IsKept j.reserve j.shape.key_size j.shape.value_size j.rows.items (vec_capacity j.rows) j.bytes.items (vec_capacity j.bytes) };
+}
+
+impl Journal {
+    /// An empty journal of a shard, with room for `reserve` entries with keys and values of these sizes in bytes. Fails only for lack of memory.
+    pub fn open(
+        alloc: Global,
+        shard: u32,
+        reserve: u32,
+        key_size: u32,
+        value_size: u32,
+    ) -> Result<Self, AllocError>
+        requires key { key_size ≤ 32 }
+        requires value { value_size ≤ 64 }
+        ensures { IfOk result (λ journal. journal ≡ opened_journal shard reserve key_size value_size) }
+    {
+        let room = reserve as usize * (key_size as usize + value_size as usize);
+        let rows = Vec::with_capacity(alloc, reserve as usize)?;
+        let bytes = Vec::with_capacity(alloc, room)?;
+        let shape = Shape {
+            shard,
+            key_size,
+            value_size,
+        };
+        Ok(Journal {
+            shape,
+            reserve,
+            rows,
+            bytes,
+        })
+    }
+
+    /// How many entries there are.
+    pub fn len(&self) -> usize
+        ensures { result ≡ length self.now.entries }
+    {
+        self.rows.len()
+    }
+
+    /// The entry at a place, counted from 0.
+    pub fn entry(&self, place: usize) -> Entry
+        requires { place < length self.now.entries }
+        ensures { slice_get self.now.entries place ≡ Some result }
+    {
+        let row = &self.rows[place];
+        row.entry(&self.shape, self.bytes.as_slice())
+    }
+
+    // A row without key and value behind the others.
+    fn put(&mut self, row: Row)
+        requires room { length self.old.entries < self.old.reserve }
+        requires plain { HasNoBytes row }
+        ensures { self.new ≡ with_entry self.old (entry_of self.old.shard self.old.key_size self.old.value_size [] row) }
+    {
+        put_row(&mut self.rows, row);
+    }
+
+    /// An Enter.
+    pub fn append_enter(&mut self, who: Caller)
+        requires { length self.old.entries < self.old.reserve }
+        ensures { self.new ≡ with_entry self.old (enter_entry self.old.shard who) }
+    {
+        self.put(Row::Entered { who });
+    }
+
+    /// A Leave.
+    pub fn append_leave(&mut self, who: Caller)
+        requires { length self.old.entries < self.old.reserve }
+        ensures { self.new ≡ with_entry self.old (leave_entry self.old.shard who) }
+    {
+        self.put(Row::Left { who });
+    }
+
+    /// A Lookup that found this cell, or nothing.
+    pub fn append_lookup(&mut self, who: Caller, key: &[u8], found: Option<u64>)
+        requires room { length self.old.entries < self.old.reserve }
+        requires key { length key.now ≡ self.old.key_size }
+        ensures { self.new ≡ with_entry self.old (lookup_entry self.old.shard who key.now found) }
+    {
+        let at = self.bytes.len() as u64;
+        put_bytes(&mut self.bytes, key);
+        match found {
+            Some(cell) => put_row(&mut self.rows, Row::Found { who, at, cell }),
+            None => put_row(&mut self.rows, Row::Missed { who, at }),
+        }
+    }
+
+    /// A Load, with what it read.
+    pub fn append_load(&mut self, who: Caller, range: &CellRange, value: u64)
+        requires room { length self.old.entries < self.old.reserve }
+        requires range { IsShortRange range.now }
+        ensures { self.new ≡ with_entry self.old (load_entry self.old.shard who range.now value) }
+    {
+        self.put(Row::Loaded {
+            who,
+            width: range.width as u8,
+            offset: range.offset as u16,
+            cell: range.cell,
+            value,
+        });
+    }
+
+    /// A Store of a number.
+    pub fn append_store(&mut self, who: Caller, range: &CellRange, value: u64)
+        requires room { length self.old.entries < self.old.reserve }
+        requires range { IsShortRange range.now }
+        ensures { self.new ≡ with_entry self.old (store_entry self.old.shard who range.now value) }
+    {
+        self.put(Row::Stored {
+            who,
+            width: range.width as u8,
+            offset: range.offset as u16,
+            cell: range.cell,
+            value,
+        });
+    }
+
+    /// An Atomic, with what was there before.
+    pub fn append_atomic(&mut self, who: Caller, range: &CellRange, change: &AtomicChange, old: u64)
+        requires room { length self.old.entries < self.old.reserve }
+        requires range { IsShortRange range.now }
+        requires op { change.now.op < 256 }
+        ensures { self.new ≡ with_entry self.old (atomic_entry self.old.shard who range.now change.now old) }
+    {
+        self.put(Row::Changed {
+            who,
+            width: range.width as u8,
+            op: change.op as u8,
+            offset: range.offset as u16,
+            cell: range.cell,
+            value: change.value,
+            expected: change.expected,
+            old,
+        });
+    }
+
+    /// An Update, with its answer.
+    pub fn append_update(&mut self, who: Caller, key: &[u8], value: &[u8], flags: u64, code: i32)
+        requires room { length self.old.entries < self.old.reserve }
+        requires key { length key.now ≡ self.old.key_size }
+        requires value { length value.now ≡ self.old.value_size }
+        ensures { self.new ≡ with_entry self.old (update_entry self.old.shard who key.now value.now flags code) }
+    {
+        let at = self.bytes.len() as u64;
+        put_bytes(&mut self.bytes, key);
+        put_bytes(&mut self.bytes, value);
+        let row = Row::Updated {
+            who,
+            code,
+            at,
+            flags,
+        };
+        put_row(&mut self.rows, row);
+    }
+
+    /// A Delete, with its answer.
+    pub fn append_delete(&mut self, who: Caller, key: &[u8], code: i32)
+        requires room { length self.old.entries < self.old.reserve }
+        requires key { length key.now ≡ self.old.key_size }
+        ensures { self.new ≡ with_entry self.old (delete_entry self.old.shard who key.now code) }
+    {
+        let at = self.bytes.len() as u64;
+        put_bytes(&mut self.bytes, key);
+        put_row(&mut self.rows, Row::Deleted { who, code, at });
+    }
+
+    /// A Reclaim, with how many cells it freed.
+    pub fn append_reclaim(&mut self, who: Caller, count: u64)
+        requires { length self.old.entries < self.old.reserve }
+        ensures { self.new ≡ with_entry self.old (reclaim_entry self.old.shard who count) }
+    {
+        self.put(Row::Reclaimed { who, count });
+    }
+}
+
+// Puts a row behind the others, for which there is room.
+fn put_row(rows: &mut Vec<Row>, row: Row)
+    requires { vec_len rows.old < vec_capacity rows.old }
+    ensures items { rows.new.items ≡ rows.old.items ++ row ∷ [] }
+    ensures room { vec_capacity rows.old ≤ vec_capacity rows.new }
+{
+    if rows.push(row).is_err() {
+        unreachable!()
+    }
+}
+
+// Puts bytes behind the others, for which there is room.
+fn put_bytes(bytes: &mut Vec<u8>, more: &[u8])
+    requires { vec_len bytes.old + length more.now ≤ vec_capacity bytes.old }
+    ensures items { bytes.new.items ≡ bytes.old.items ++ more.now }
+    ensures room { vec_capacity bytes.old ≤ vec_capacity bytes.new }
+{
+    if bytes.extend_from_slice(more).is_err() {
+        unreachable!()
+    }
+}

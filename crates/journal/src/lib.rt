@@ -1,0 +1,16 @@
+//! The journal of a map's shard: every call that was served, with its reply, in the room that its own kind needs.
+//!
+//! A shard writes an entry for each call, under its lock, so what an entry costs is what a call costs. An [`Entry`] by value has room for a
+//! whole key and a whole value. Here each is a row of 40 bytes, one variant for each kind of call, and keys and values stand one
+//! after another beside the rows. Both rooms are taken when the journal is opened, and no later call takes memory.
+#![tactic(auto)]
+
+mod append;
+mod journal_of_shard;
+mod row;
+#[cfg(test)]
+mod tests;
+
+pub use append::{AtomicChange, CellRange};
+pub use journal_of_shard::Journal;
+pub use semantics::{Caller, Entry};
