@@ -1,7 +1,7 @@
 //! Loads, stores and atomic operations.
 
 ghost use Rattle.std.specs.Prelude.{◌≡◌, ◌<◌, ◌≤◌, ◌+◌, ◌%◌};
-ghost use Rattle.isa.specs.InstructionCodes.{extension_size, size_bytes};
+ghost use Rattle.isa.specs.InstructionCodes.{size_bytes};
 ghost use Rattle.abstract_scalar.specs.Intervals.{full_of};
 ghost use Rattle.abstract_state.specs.Words.{loaded_number, is_byte_set, are_bytes_set, bytes_loaded, narrow_loaded, spilled_loaded, word_loaded, narrow_storable, storable};
 ghost use Rattle.abstract_state.specs.InPlace.{kept};
@@ -10,11 +10,10 @@ ghost use Rattle.abstract_state.specs.Access.{are_value_writes_served, context_k
 use crate::kind::{Kind, StackWord};
 use crate::places::{packet_access, stack_access, value_access};
 use crate::refusal::Refusal;
-use crate::stack::size_bytes;
+use crate::site::{Address, Site};
 use crate::state::State;
 use abstract_scalar::Interval;
-use ebpf_decode::MapDef;
-use isa::{Extension, Register, Size, Width};
+use isa::{Extension, Size, Width};
 
 /// Whether programs may store to values of maps as yet.
 pub(crate) fn are_value_writes_served() -> bool
@@ -67,17 +66,6 @@ fn storable(size: Size, kind: Kind) -> Result<(), Refusal>
     match size {
         Size::U64 => Ok(()),
         _ => narrow_storable(kind),
-    }
-}
-
-/// How many bytes a sign-extending load reads.
-fn extension_size(extension: Extension) -> Size
-    ensures { result ≡ extension_size extension }
-{
-    match extension {
-        Extension::I8 => Size::U8,
-        Extension::I16 => Size::U16,
-        Extension::I32 => Size::U32,
     }
 }
 
@@ -140,7 +128,7 @@ impl State {
         match word {
             StackWord::Spilled(kind) => spilled_loaded(size, kind),
             StackWord::Bytes(_) => {
-                if self.are_bytes_set(from, size_bytes(size) as usize) {
+                if self.are_bytes_set(from, size.bytes() as usize) {
                     Ok(loaded_number(size))
                 } else {
                     Err(Refusal::StackUnset)
@@ -149,51 +137,42 @@ impl State {
         }
     }
 
-    /// What a zero-extending load gives (RFC 9669, section 5.1), at a distance from what a register holds.
-    pub(crate) fn loaded(
-        &self,
-        maps: &[MapDef],
-        size: Size,
-        kind: Kind,
-        distance: i16,
-        source: Register,
-    ) -> Result<Kind, Refusal>
-        ensures { result ≡ loaded_kind maps.now self.now size kind distance source }
+    /// What a zero-extending load gives (RFC 9669, section 5.1).
+    pub(crate) fn loaded(&self, site: Site<'_>, size: Size, from: Address) -> Result<Kind, Refusal>
+        ensures { result ≡ loaded_kind site.entry.maps.now self.now size from.base from.offset from.register }
     {
-        let count = size_bytes(size);
-        match kind {
-            Kind::Ctx => self.context_loaded(size, distance),
+        let count = size.bytes();
+        match from.base {
+            Kind::Ctx => self.context_loaded(size, from.offset),
             Kind::Stack(place) => {
-                let from = stack_access(place, distance, count)? as usize;
-                self.word_loaded(size, from, self.stack[from / 8])
+                let at = stack_access(place, from.offset, count)? as usize;
+                self.word_loaded(size, at, self.stack[at / 8])
             }
             Kind::Packet { off, range, .. } => {
-                packet_access(off, range, distance, count)?;
+                packet_access(off, range, from.offset, count)?;
                 Ok(loaded_number(size))
             }
             Kind::Value { map, off, .. } => {
-                value_access(maps, map, off, distance, count)?;
+                value_access(site.maps, map, off, from.offset, count)?;
                 Ok(loaded_number(size))
             }
-            _ => Err(Refusal::WrongKind(source)),
+            _ => Err(Refusal::WrongKind(from.register)),
         }
     }
 
-    /// What a sign-extending load gives (RFC 9669, section 5.2).
+    /// What a sign-extending load gives (RFC 9669, section 5.2): no field of the context is read so.
     pub(crate) fn signed_loaded(
         &self,
-        maps: &[MapDef],
+        site: Site<'_>,
         extension: Extension,
-        kind: Kind,
-        distance: i16,
-        source: Register,
+        from: Address,
     ) -> Result<Kind, Refusal>
-        ensures { result ≡ signed_loaded maps.now self.now extension kind distance source }
+        ensures { result ≡ signed_loaded site.entry.maps.now self.now extension from.base from.offset from.register }
     {
-        match kind {
+        match from.base {
             Kind::Ctx => Err(Refusal::ContextAccess),
             _ => {
-                self.loaded(maps, extension_size(extension), kind, distance, source)?;
+                self.loaded(site, extension.size(), from)?;
                 Ok(Kind::Scalar(Interval::full(Width::Bits64)))
             }
         }
@@ -208,40 +187,38 @@ impl State {
         self.stack[from / 8] = self.stack[from / 8].stored(size, from % 8, kind);
     }
 
-    /// Stores at a distance from what a register holds (RFC 9669, section 5.1): the place is tested first, and then what is
+    /// Stores what is known of a register or an immediate (RFC 9669, section 5.1): the place is tested first, and then what is
     /// stored.
     pub(crate) fn store_at(
         &mut self,
-        maps: &[MapDef],
+        site: Site<'_>,
         size: Size,
-        address: Kind,
-        distance: i16,
-        dst: Register,
+        to: Address,
         kind: Kind,
     ) -> Result<(), Refusal>
-        ensures { kept result self.new ≡ stored maps.now self.old size address distance dst kind }
+        ensures { kept result self.new ≡ stored site.entry.maps.now self.old size to.base to.offset to.register kind }
     {
-        let count = size_bytes(size);
-        match address {
+        let count = size.bytes();
+        match to.base {
             Kind::Ctx => Err(Refusal::ContextAccess),
             Kind::Stack(place) => {
-                let from = stack_access(place, distance, count)? as usize;
+                let at = stack_access(place, to.offset, count)? as usize;
                 storable(size, kind)?;
-                self.store_to_stack(size, from, kind);
+                self.store_to_stack(size, at, kind);
                 Ok(())
             }
             Kind::Packet { off, range, .. } => {
-                packet_access(off, range, distance, count)?;
+                packet_access(off, range, to.offset, count)?;
                 narrow_storable(kind)
             }
             Kind::Value { map, off, .. } => {
                 if !are_value_writes_served() {
-                    return Err(Refusal::WrongKind(dst));
+                    return Err(Refusal::WrongKind(to.register));
                 }
-                value_access(maps, map, off, distance, count)?;
+                value_access(site.maps, map, off, to.offset, count)?;
                 narrow_storable(kind)
             }
-            _ => Err(Refusal::WrongKind(dst)),
+            _ => Err(Refusal::WrongKind(to.register)),
         }
     }
 }

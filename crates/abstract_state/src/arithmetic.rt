@@ -10,6 +10,7 @@ ghost use Rattle.abstract_state.specs.Arithmetic.{source_kind, blamed, number_ki
 use crate::kind::Kind;
 use crate::places::{STACK_BYTES, place_within, value_size};
 use crate::refusal::Refusal;
+use crate::site::{Operands, Site};
 use crate::state::State;
 use abstract_scalar::Interval;
 use ebpf_decode::MapDef;
@@ -125,26 +126,18 @@ fn moved_far(
 }
 
 /// A pointer moved by what another register holds.
-fn pointer_sum(
-    maps: &[MapDef],
-    slot: u16,
-    op: AluOp,
-    pointer: Kind,
-    other: Kind,
-    dst: Register,
-    source: Register,
-) -> Result<Kind, Refusal>
-    ensures { result ≡ pointer_sum maps.now slot op pointer other dst source }
+fn pointer_sum(site: Site<'_>, op: AluOp, on: Operands) -> Result<Kind, Refusal>
+    ensures { result ≡ pointer_sum site.entry.maps.now site.entry.slot op on.first on.second on.dst on.source }
 {
-    match other {
+    match on.second {
         Kind::Scalar(i) => {
             if i.is_constant() {
-                moved_pointer(maps, pointer, distance(op, i.low), dst)
+                moved_pointer(site.maps, on.first, distance(op, i.low), on.dst)
             } else {
-                moved_far(slot, op, pointer, i, source)
+                moved_far(site.slot, op, on.first, i, on.source)
             }
         }
-        _ => Err(Refusal::WrongKind(source)),
+        _ => Err(Refusal::WrongKind(on.source)),
     }
 }
 
@@ -159,63 +152,36 @@ fn is_movable(kind: Kind) -> bool
 }
 
 /// An operation whose first operand is a pointer.
-fn combined_pointer(
-    maps: &[MapDef],
-    slot: u16,
-    width: Width,
-    op: AluOp,
-    pointer: Kind,
-    other: Kind,
-    dst: Register,
-    source: Register,
-) -> Result<Kind, Refusal>
-    ensures { result ≡ combined_pointer maps.now slot width op pointer other dst source }
+fn combined_pointer(site: Site<'_>, width: Width, op: AluOp, on: Operands) -> Result<Kind, Refusal>
+    ensures { result ≡ combined_pointer site.entry.maps.now site.entry.slot width op on.first on.second on.dst on.source }
 {
-    if moves_pointers(width, op) && is_movable(pointer) {
-        pointer_sum(maps, slot, op, pointer, other, dst, source)
+    if moves_pointers(width, op) && is_movable(on.first) {
+        pointer_sum(site, op, on)
     } else {
-        Err(Refusal::WrongKind(dst))
+        Err(Refusal::WrongKind(on.dst))
     }
 }
 
 /// An operation that reads its destination.
-fn combined(
-    maps: &[MapDef],
-    slot: u16,
-    width: Width,
-    op: AluOp,
-    first: Kind,
-    second: Kind,
-    dst: Register,
-    source: Register,
-) -> Result<Kind, Refusal>
-    ensures { result ≡ combined_kind maps.now slot width op first second dst source }
+fn combined(site: Site<'_>, width: Width, op: AluOp, on: Operands) -> Result<Kind, Refusal>
+    ensures { result ≡ combined_kind site.entry.maps.now site.entry.slot width op on.first on.second on.dst on.source }
 {
-    match first {
-        Kind::Scalar(i) => match second {
+    match on.first {
+        Kind::Scalar(i) => match on.second {
             Kind::Scalar(j) => Ok(Kind::Scalar(abstract_scalar::transfer(width, op, i, j))),
-            _ => Err(Refusal::WrongKind(source)),
+            _ => Err(Refusal::WrongKind(on.source)),
         },
-        _ => combined_pointer(maps, slot, width, op, first, second, dst, source),
+        _ => combined_pointer(site, width, op, on),
     }
 }
 
 /// The kind of what an arithmetic operation leaves in its destination.
-fn alu_kind(
-    maps: &[MapDef],
-    slot: u16,
-    width: Width,
-    op: AluOp,
-    first: Kind,
-    second: Kind,
-    dst: Register,
-    source: Register,
-) -> Result<Kind, Refusal>
-    ensures { result ≡ alu_kind maps.now slot width op first second dst source }
+fn alu_kind(site: Site<'_>, width: Width, op: AluOp, on: Operands) -> Result<Kind, Refusal>
+    ensures { result ≡ alu_kind site.entry.maps.now site.entry.slot width op on.first on.second on.dst on.source }
 {
     match op {
-        AluOp::Mov => moved(width, second, source),
-        _ => combined(maps, slot, width, op, first, second, dst, source),
+        AluOp::Mov => moved(width, on.second, on.source),
+        _ => combined(site, width, op, on),
     }
 }
 
@@ -232,48 +198,41 @@ impl State {
         }
     }
 
-    /// The state after an arithmetic instruction in a slot whose operands are set (RFC 9669, section 4.1). A pointer to the
-    /// stack, the packet or a value moves by a single number, and one to the packet also by an interval; otherwise 36, and 37,
-    /// 38 or 40 where the pointer would leave what it points to.
+    /// The state after an arithmetic instruction whose operands are set (RFC 9669, section 4.1). A pointer to the stack, the packet
+    /// or a value moves by a single number, and one to the packet also by an interval; otherwise 36, and 37, 38 or 40 where the
+    /// pointer would leave what it points to.
     pub fn after_alu(
         mut self,
-        maps: &[MapDef],
-        slot: u16,
+        site: Site<'_>,
         width: Width,
         op: AluOp,
         dst: Register,
         source: Source,
     ) -> Result<State, Refusal>
-        ensures { result ≡ after_alu_of maps.now self slot width op dst source }
+        ensures { result ≡ after_alu_of site.entry.maps.now self site.entry.slot width op dst source }
     {
-        self.compute(maps, slot, width, op, dst, source)?;
+        self.compute(site, width, op, dst, source)?;
         Ok(self)
     }
 
     /// The same in place.
     pub(crate) fn compute(
         &mut self,
-        maps: &[MapDef],
-        slot: u16,
+        site: Site<'_>,
         width: Width,
         op: AluOp,
         dst: Register,
         source: Source,
     ) -> Result<(), Refusal>
-        ensures { kept result self.new ≡ after_alu_of maps.now self.old slot width op dst source }
+        ensures { kept result self.new ≡ after_alu_of site.entry.maps.now self.old site.entry.slot width op dst source }
     {
-        let first = self.kind(dst);
-        let second = self.source(source);
-        let kind = alu_kind(
-            maps,
-            slot,
-            width,
-            op,
-            first,
-            second,
+        let on = Operands {
+            first: self.kind(dst),
+            second: self.source(source),
             dst,
-            blamed(dst, source),
-        )?;
+            source: blamed(dst, source),
+        };
+        let kind = alu_kind(site, width, op, on)?;
         self.set(dst, kind);
         Ok(())
     }

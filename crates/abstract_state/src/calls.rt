@@ -9,6 +9,7 @@ use crate::helper::Helper;
 use crate::kind::Kind;
 use crate::places::{STACK_BYTES, key_size, value_size};
 use crate::refusal::Refusal;
+use crate::site::Site;
 use crate::state::State;
 use abstract_scalar::Interval;
 use ebpf_decode::MapDef;
@@ -171,27 +172,22 @@ impl State {
         ];
     }
 
-    /// Calls a helper in a slot, whose arguments are set (RFC 9669, section 4.3.1).
-    pub(crate) fn call_helper(
-        &mut self,
-        maps: &[MapDef],
-        slot: u16,
-        helper: Helper,
-    ) -> Result<(), Refusal>
-        ensures { kept result self.new ≡ call_of maps.now self.old slot helper }
+    /// Calls a helper whose arguments are set (RFC 9669, section 4.3.1).
+    pub(crate) fn call_helper(&mut self, site: Site<'_>, helper: Helper) -> Result<(), Refusal>
+        ensures { kept result self.new ≡ call_of site.entry.maps.now self.old site.entry.slot helper }
     {
         let any_number = Kind::Scalar(Interval::full(Width::Bits64));
         let answer = match helper {
             Helper::LookupElem => Kind::ValueOrNull {
-                map: self.key_arguments(maps)?,
-                id: slot,
+                map: self.key_arguments(site.maps)?,
+                id: site.slot,
             },
             Helper::UpdateElem => {
-                self.update_arguments(maps)?;
+                self.update_arguments(site.maps)?;
                 any_number
             }
             Helper::DeleteElem => {
-                self.key_arguments(maps)?;
+                self.key_arguments(site.maps)?;
                 any_number
             }
             Helper::KtimeGetNs => any_number,

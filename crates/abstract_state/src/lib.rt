@@ -15,6 +15,7 @@ mod paths;
 mod places;
 mod refinement;
 mod refusal;
+mod site;
 mod stack;
 mod state;
 #[cfg(test)]
@@ -27,4 +28,5 @@ pub use flow::{Flow, Way};
 pub use helper::Helper;
 pub use kind::{Kind, StackWord};
 pub use refusal::Refusal;
+pub use site::Site;
 pub use state::State;

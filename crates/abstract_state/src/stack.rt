@@ -8,20 +8,6 @@ ghost use Rattle.abstract_state.specs.Words.{with_set, word_stored};
 use crate::kind::{Kind, StackWord};
 use isa::Size;
 
-/// How many bytes a load or a store moves.
-pub(crate) fn size_bytes(size: Size) -> u32
-    ensures count { result ≡ size_bytes size }
-    ensures some { 1 ≤ result }
-    ensures most { result ≤ 8 }
-{
-    match size {
-        Size::U8 => 1,
-        Size::U16 => 2,
-        Size::U32 => 4,
-        Size::U64 => 8,
-    }
-}
-
 /// Whether a byte is set on both paths.
 fn is_both(first: bool, second: bool) -> bool
     ensures { result ≡ (first && second) }
@@ -88,7 +74,7 @@ impl StackWord {
     {
         match size {
             Size::U64 => StackWord::Spilled(kind),
-            _ => StackWord::Bytes(with_set(self.bytes(), from, size_bytes(size) as usize)),
+            _ => StackWord::Bytes(with_set(self.bytes(), from, size.bytes() as usize)),
         }
     }
 }

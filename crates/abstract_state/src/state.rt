@@ -1,7 +1,6 @@
 //! What is known of a run at a slot.
 
 ghost use Rattle.std.specs.Prelude.{◌≡◌};
-ghost use Rattle.isa.specs.InstructionCodes.{register_number};
 ghost use Rattle.abstract_state.specs.States.{kind_of, with_kind, opening_state};
 
 use crate::kind::{Kind, StackWord};
@@ -16,25 +15,6 @@ pub struct State {
     pub stack: [StackWord; 64],
     /// How many bytes from the packet's start are known to lie in the packet.
     pub start_range: u32,
-}
-
-/// A register's place among the eleven (RFC 9669, section 3.1).
-pub(crate) fn index_of(register: Register) -> usize
-    ensures { result ≡ register_number register }
-{
-    match register {
-        Register::R0 => 0,
-        Register::R1 => 1,
-        Register::R2 => 2,
-        Register::R3 => 3,
-        Register::R4 => 4,
-        Register::R5 => 5,
-        Register::R6 => 6,
-        Register::R7 => 7,
-        Register::R8 => 8,
-        Register::R9 => 9,
-        Register::R10 => 10,
-    }
 }
 
 impl State {
@@ -66,13 +46,13 @@ impl State {
     pub fn kind(&self, register: Register) -> Kind
         ensures { result ≡ kind_of self.now register }
     {
-        self.registers[index_of(register)]
+        self.registers[register.number() as usize]
     }
 
     /// Writes what is known of a register.
     pub(crate) fn set(&mut self, register: Register, kind: Kind)
         ensures { self.new ≡ with_kind self.old register kind }
     {
-        self.registers[index_of(register)] = kind;
+        self.registers[register.number() as usize] = kind;
     }
 }

@@ -1,25 +1,30 @@
 //! Rows of what a verifier may conclude from straight code, and of what it refuses. A conditional jump goes on where it isn't taken,
 //! unless the row says otherwise.
 
-use crate::{Kind, Refusal, State, Way};
+use crate::{Kind, Refusal, Site, State, Way};
 use abstract_scalar::Interval;
 use ebpf_decode::{Insn, MapDef, MapKind};
 use isa::{AluOp, AtomicOp, Extension, Register, Size, Source, Test, Width};
 use std::test::Fail;
 
-const MAPS: [MapDef; 1] = [MapDef {
+static MAPS: [MapDef; 1] = [MapDef {
     kind: MapKind::Array,
     key_size: 4,
     value_size: 8,
     max_entries: 1,
 }];
 
+/// A slot of an image with one map.
+fn site(slot: u16) -> Site<'static> {
+    Site { maps: &MAPS, slot }
+}
+
 /// The kind of a register after some instructions, or the first rule that one of them breaks.
 fn known_after(code: &[Insn], taken: bool, register: Register) -> Result<Kind, Refusal> {
     let mut state = State::opening();
     let mut slot: u16 = 0;
     for insn in code {
-        match state.step(&MAPS, slot, *insn)? {
+        match state.step(site(slot), *insn)? {
             Way::Ends => return Ok(state.kind(register)),
             Way::Falls => {}
             Way::Jumps => {}
@@ -263,20 +268,20 @@ fn joins(rt: HostRuntime) {
 fn joined_states(rt: HostRuntime) {
     let mut spilled = State::opening();
     let mut numbered = State::opening();
-    let spill = spilled.step(&MAPS, 0, spill(Size::U64, -8, Register::R1));
+    let spill = spilled.step(site(0), spill(Size::U64, -8, Register::R1));
     assert_eq!(rt; spill, Ok(Way::Falls), "a context is spilled");
-    let number = numbered.step(&MAPS, 0, store(Size::U64, Register::R10, -8, 5));
+    let number = numbered.step(site(0), store(Size::U64, Register::R10, -8, 5));
     assert_eq!(rt; number, Ok(Way::Falls), "a number is stored");
     let read = load(Size::U64, Register::R4, Register::R10, -8);
     let mut same = spilled.join(&spilled);
     assert_eq!(rt;
-        same.step(&MAPS, 1, read),
+        same.step(site(1), read),
         Ok(Way::Falls),
         "a word spilled on both paths can be read"
     );
     let mut other = spilled.join(&numbered);
     assert_eq!(rt;
-        other.step(&MAPS, 1, read),
+        other.step(site(1), read),
         Err(Refusal::StackUnset),
         "a pointer on one path and a number on the other can't"
     );

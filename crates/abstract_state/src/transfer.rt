@@ -1,9 +1,9 @@
 //! What flows out of an instruction.
 
-ghost use Rattle.std.specs.Prelude.{◌≡◌, ◌≤◌};
-ghost use Rattle.isa.specs.InstructionCodes.{width_size, size_bytes};
+ghost use Rattle.std.specs.Prelude.{◌≡◌};
 ghost use Rattle.semantics.specs.Semantics.{fetched_register};
 ghost use Rattle.abstract_state.specs.Access.{load_of, signed_load_of, with_fetched_kind, expects, atomic_on};
+ghost use Rattle.abstract_state.specs.States.{kind_of};
 ghost use Rattle.abstract_state.specs.Unary.{unary_change};
 ghost use Rattle.abstract_state.specs.InPlace.{kept, flow_kept, edge_state};
 ghost use Rattle.abstract_state.specs.Flow.{writable, fetch_writable, is_set, reads, reads_source, reads_both, reads_operands, reads_expected, reads_atomic, reads_arguments, alu_flow, number_of, operand_of, unary_flow, load_flow, store_flow, store_register_flow, atomic_flow, known_map, map_flow, number_flow, call_flow, verdict_kind, flow_of};
@@ -15,6 +15,7 @@ use crate::kind::Kind;
 use crate::places::value_access;
 use crate::refinement::allowed_test;
 use crate::refusal::Refusal;
+use crate::site::{Address, Site};
 use crate::state::State;
 use abstract_scalar::Interval;
 use ebpf_decode::{Insn, MapDef};
@@ -169,18 +170,17 @@ impl State {
     #[inline(never)]
     fn alu(
         &mut self,
-        maps: &[MapDef],
-        slot: u16,
+        site: Site<'_>,
         width: Width,
         op: AluOp,
         dst: Register,
         source: Source,
     ) -> Result<(), Refusal>
-        ensures { kept result self.new ≡ alu_flow maps.now self.old slot width op dst source }
+        ensures { kept result self.new ≡ alu_flow site.entry.maps.now self.old site.entry.slot width op dst source }
     {
         writable(dst)?;
         self.reads_operands(op, dst, source)?;
-        self.compute(maps, slot, width, op, dst, source)
+        self.compute(site, width, op, dst, source)
     }
 
     /// The number in a register that an operation with one operand reads and another that it writes.
@@ -192,21 +192,32 @@ impl State {
         number_of(self.kind(operand), operand)
     }
 
+    /// An offset from what a register holds.
+    fn address(&self, register: Register, offset: i16) -> Address
+        ensures { result ≡ record { base = kind_of self.now register; offset = offset; register = register } }
+    {
+        Address {
+            base: self.kind(register),
+            offset,
+            register,
+        }
+    }
+
     /// A zero-extending load.
     #[inline(never)]
     fn load(
         &mut self,
-        maps: &[MapDef],
+        site: Site<'_>,
         size: Size,
         dst: Register,
         src: Register,
         offset: i16,
     ) -> Result<(), Refusal>
-        ensures { kept result self.new ≡ load_flow self.old dst src (load_of maps.now self.old size dst src offset) }
+        ensures { kept result self.new ≡ load_flow self.old dst src (load_of site.entry.maps.now self.old size dst src offset) }
     {
         writable(dst)?;
         self.reads(src)?;
-        let kind = self.loaded(maps, size, self.kind(src), offset, src)?;
+        let kind = self.loaded(site, size, self.address(src, offset))?;
         self.set(dst, kind);
         Ok(())
     }
@@ -215,17 +226,17 @@ impl State {
     #[inline(never)]
     fn signed_load(
         &mut self,
-        maps: &[MapDef],
+        site: Site<'_>,
         extension: Extension,
         dst: Register,
         src: Register,
         offset: i16,
     ) -> Result<(), Refusal>
-        ensures { kept result self.new ≡ load_flow self.old dst src (signed_load_of maps.now self.old extension dst src offset) }
+        ensures { kept result self.new ≡ load_flow self.old dst src (signed_load_of site.entry.maps.now self.old extension dst src offset) }
     {
         writable(dst)?;
         self.reads(src)?;
-        let kind = self.signed_loaded(maps, extension, self.kind(src), offset, src)?;
+        let kind = self.signed_loaded(site, extension, self.address(src, offset))?;
         self.set(dst, kind);
         Ok(())
     }
@@ -234,36 +245,36 @@ impl State {
     #[inline(never)]
     fn store(
         &mut self,
-        maps: &[MapDef],
+        site: Site<'_>,
         size: Size,
         dst: Register,
         offset: i16,
         immediate: i32,
     ) -> Result<(), Refusal>
-        ensures { kept result self.new ≡ store_flow maps.now self.old size dst offset immediate }
+        ensures { kept result self.new ≡ store_flow site.entry.maps.now self.old size dst offset immediate }
     {
         self.reads(dst)?;
-        let address = self.kind(dst);
+        let to = self.address(dst, offset);
         let stored = self.source(Source::Imm(immediate));
-        self.store_at(maps, size, address, offset, dst, stored)
+        self.store_at(site, size, to, stored)
     }
 
     /// A store of a register.
     #[inline(never)]
     fn store_register(
         &mut self,
-        maps: &[MapDef],
+        site: Site<'_>,
         size: Size,
         dst: Register,
         src: Register,
         offset: i16,
     ) -> Result<(), Refusal>
-        ensures { kept result self.new ≡ store_register_flow maps.now self.old size dst src offset }
+        ensures { kept result self.new ≡ store_register_flow site.entry.maps.now self.old size dst src offset }
     {
         self.reads_both(dst, Source::Reg(src))?;
-        let address = self.kind(dst);
+        let to = self.address(dst, offset);
         let stored = self.kind(src);
-        self.store_at(maps, size, address, offset, dst, stored)
+        self.store_at(site, size, to, stored)
     }
 
     /// Puts what an atomic operation fetches into its register.
@@ -276,59 +287,57 @@ impl State {
         }
     }
 
-    /// An atomic operation at a distance from what a register holds: only values of maps may be worked on so.
+    /// An atomic operation: only values of maps may be worked on so.
     fn atomic_at(
         &mut self,
-        maps: &[MapDef],
+        site: Site<'_>,
         width: Width,
         op: AtomicOp,
-        address: Kind,
-        distance: i16,
-        dst: Register,
+        at: Address,
         src: Register,
     ) -> Result<(), Refusal>
-        ensures { kept result self.new ≡ atomic_on maps.now self.old width op address distance dst src }
+        ensures { kept result self.new ≡ atomic_on site.entry.maps.now self.old width op at.base at.offset at.register src }
     {
-        match address {
+        match at.base {
             Kind::Value { map, off, .. } => {
                 if !are_value_writes_served() {
-                    return Err(Refusal::WrongKind(dst));
+                    return Err(Refusal::WrongKind(at.register));
                 }
-                value_access(maps, map, off, distance, width_bytes(width))?;
+                value_access(site.maps, map, off, at.offset, width.size().bytes())?;
                 narrow_storable(self.kind(src))?;
                 expects(op, self.kind(Register::R0))?;
                 self.fetch(fetched_register(op, src), width);
                 Ok(())
             }
-            _ => Err(Refusal::WrongKind(dst)),
+            _ => Err(Refusal::WrongKind(at.register)),
         }
     }
 
-    /// An atomic operation.
+    /// An atomic operation, whose operands have to be set.
     #[inline(never)]
     fn atomic(
         &mut self,
-        maps: &[MapDef],
+        site: Site<'_>,
         width: Width,
         op: AtomicOp,
         dst: Register,
         src: Register,
         offset: i16,
     ) -> Result<(), Refusal>
-        ensures { kept result self.new ≡ atomic_flow maps.now self.old width op dst src offset }
+        ensures { kept result self.new ≡ atomic_flow site.entry.maps.now self.old width op dst src offset }
     {
         fetch_writable(fetched_register(op, src))?;
         self.reads_atomic(op, dst, src)?;
-        let address = self.kind(dst);
-        self.atomic_at(maps, width, op, address, offset, dst, src)
+        let at = self.address(dst, offset);
+        self.atomic_at(site, width, op, at, src)
     }
 
     /// A wide load of a map's address.
-    fn load_map(&mut self, maps: &[MapDef], dst: Register, map: i32) -> Result<(), Refusal>
-        ensures { kept result self.new ≡ map_flow maps.now self.old dst map }
+    fn load_map(&mut self, site: Site<'_>, dst: Register, map: i32) -> Result<(), Refusal>
+        ensures { kept result self.new ≡ map_flow site.entry.maps.now self.old dst map }
     {
         writable(dst)?;
-        let kind = known_map(maps, map)?;
+        let kind = known_map(site.maps, map)?;
         self.set(dst, kind);
         Ok(())
     }
@@ -354,36 +363,36 @@ impl State {
 
     /// The call of a helper by its number.
     #[inline(never)]
-    fn call(&mut self, maps: &[MapDef], slot: u16, number: i32) -> Result<(), Refusal>
-        ensures { kept result self.new ≡ call_flow maps.now self.old slot number }
+    fn call(&mut self, site: Site<'_>, number: i32) -> Result<(), Refusal>
+        ensures { kept result self.new ≡ call_flow site.entry.maps.now self.old site.entry.slot number }
     {
         let helper = Helper::served(number)?;
         self.reads_arguments(helper)?;
-        self.call_helper(maps, slot, helper)
+        self.call_helper(site, helper)
     }
 
-    /// Takes the state over the instruction in a slot that begins in it, and tells where a run goes on: or the first rule that
+    /// Takes the state over the instruction that begins in it, and tells where a run goes on: or the first rule that
     /// the instruction breaks (a write of R10; then an unknown helper or map; then an unset register; then the rule of its
     /// class). After a conditional jump the state stands as it was: `follow` takes it along an edge. After a refusal no promise
     /// is made of it.
     #[rattlefmt::skip]
-    pub fn step(&mut self, maps: &[MapDef], slot: u16, insn: Insn) -> Result<Way, Refusal>
-        ensures { flow_kept insn result self.new ≡ flow_of maps.now self.old slot insn }
+    pub fn step(&mut self, site: Site<'_>, insn: Insn) -> Result<Way, Refusal>
+        ensures { flow_kept insn result self.new ≡ flow_of site.entry.maps.now self.old site.entry.slot insn }
     {
         match insn {
-            Insn::Alu { width, op, dst, source } => self.alu(maps, slot, width, op, dst, source)?,
+            Insn::Alu { width, op, dst, source } => self.alu(site, width, op, dst, source)?,
             Insn::Neg { width, dst } => self.unary(dst, dst, Unary::Neg(width))?,
             Insn::Movsx { extension, dst, src } => self.unary(dst, src, Unary::Movsx(extension))?,
             Insn::Movsx32 { extension, dst, src } => self.unary(dst, src, Unary::Movsx32(extension))?,
             Insn::End { order, swap_width, dst } => self.unary(dst, dst, Unary::Swap(order, swap_width))?,
             Insn::Lddw { dst, value } => self.load_number(dst, value)?,
-            Insn::Ldmap { dst, map } => self.load_map(maps, dst, map)?,
-            Insn::Ldx { size, dst, src, offset } => self.load(maps, size, dst, src, offset)?,
-            Insn::Ldxs { extension, dst, src, offset } => self.signed_load(maps, extension, dst, src, offset)?,
-            Insn::St { size, dst, offset, immediate } => self.store(maps, size, dst, offset, immediate)?,
-            Insn::Stx { size, dst, src, offset } => self.store_register(maps, size, dst, src, offset)?,
-            Insn::AtomicUpdate { width, op, dst, src, offset } => self.atomic(maps, width, op, dst, src, offset)?,
-            Insn::CallHelper { helper } => self.call(maps, slot, helper)?,
+            Insn::Ldmap { dst, map } => self.load_map(site, dst, map)?,
+            Insn::Ldx { size, dst, src, offset } => self.load(site, size, dst, src, offset)?,
+            Insn::Ldxs { extension, dst, src, offset } => self.signed_load(site, extension, dst, src, offset)?,
+            Insn::St { size, dst, offset, immediate } => self.store(site, size, dst, offset, immediate)?,
+            Insn::Stx { size, dst, src, offset } => self.store_register(site, size, dst, src, offset)?,
+            Insn::AtomicUpdate { width, op, dst, src, offset } => self.atomic(site, width, op, dst, src, offset)?,
+            Insn::CallHelper { helper } => self.call(site, helper)?,
             Insn::Ja { .. } => return Ok(Way::Jumps),
             Insn::Ja32 { .. } => return Ok(Way::Jumps),
             Insn::JumpIf { width, test, dst, source, .. } => {
@@ -459,16 +468,5 @@ fn verdict_kind(kind: Kind) -> Result<(), Refusal>
     match kind {
         Kind::Scalar(_) => Ok(()),
         _ => Err(Refusal::PointerLeak),
-    }
-}
-
-/// How many bytes an atomic operation works on.
-fn width_bytes(width: Width) -> u32
-    ensures count { result ≡ size_bytes (width_size width) }
-    ensures some { 1 ≤ result }
-{
-    match width {
-        Width::Bits32 => 4,
-        Width::Bits64 => 8,
     }
 }

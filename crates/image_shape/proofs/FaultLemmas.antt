@@ -8,7 +8,8 @@ use Rattle.ebpf_decode.specs.InstructionEncoding.{slot_count, total_slots}
 use Rattle.semantics.specs.Program.{instruction_at}
 use Rattle.image_shape.specs.declared.fault.ShapeFault.{ShapeFault}
 use Rattle.image_shape.specs.declared.fault.ShapeFault.TheVariants.{JumpBackward, JumpOutside, JumpIntoWide, FallsOff, Unreachable}
-use Rattle.image_shape.specs.Edges.{jump_distance, falls_through, IsEdge, is_begin}
+use Rattle.ebpf_decode.specs.Jumps.{jump_distance}
+use Rattle.image_shape.specs.Edges.{falls_through, IsEdge, is_begin}
 use Rattle.image_shape.specs.Layouts.{IsLayout, GoesForward}
 use Rattle.image_shape.specs.Structure.{jump_fault, fall_fault, or_else, instruction_fault, fault_at, HasSoundEdges, IsFirstFault, IsFirstBadEdge}
 use Rattle.image_shape.proofs.SlotLemmas.{some_slots, instruction_here, none_inside, past_end, next_begins}

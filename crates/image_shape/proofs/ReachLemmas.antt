@@ -6,7 +6,8 @@ use Rattle.std.proofs.lemmas.List.{get_or-set_same, get_or-set_other, length-rep
 use Rattle.ebpf_decode.specs.declared.insn.Insn.{Insn}
 use Rattle.ebpf_decode.specs.InstructionEncoding.{total_slots}
 use Rattle.semantics.specs.Program.{instruction_at}
-use Rattle.image_shape.specs.Edges.{jump_distance, IsJump, IsEdge, is_begin, IsReachableSlot, reached_start, reached_along}
+use Rattle.ebpf_decode.specs.Jumps.{jump_distance}
+use Rattle.image_shape.specs.Edges.{IsJump, IsEdge, is_begin, IsReachableSlot, reached_start, reached_along}
 use Rattle.image_shape.specs.Structure.{HasSoundEdges, HasShape, IsFirstUnreachable}
 use Rattle.image_shape.specs.Layouts.{IsMarked}
 use Rattle.image_shape.proofs.SlotLemmas.{past_end}

@@ -25,7 +25,8 @@ use Rattle.semantics.specs.declared.linux.Helper.{Helper}
 use Rattle.semantics.specs.declared.linux.Helper.TheVariants.{MapLookupElem, MapUpdateElem, MapDeleteElem, KtimeGetNs, GetSmpProcessorId, XdpAdjustHead}
 use Rattle.semantics.specs.Linux.{helper_of}
 use Rattle.semantics.specs.Semantics.{word_value, stored_places, stored_number, with_fetched, expected_number, at_next_slot, jump_step, branch_step, written_register, write_step, load_cell_step, load_step, load_signed_step, store_step, after_fetch, fetched_register, atomic_step, exit_step, instruction_step}
-use Rattle.image_shape.specs.Edges.{jump_distance, falls_through, IsEdge}
+use Rattle.ebpf_decode.specs.Jumps.{jump_distance}
+use Rattle.image_shape.specs.Edges.{falls_through, IsEdge}
 use Rattle.image_shape.specs.Runs.{GoesTo, RunsFollowEdges}
 
 goes : (P : ℕ → Type 0) {A : Type 0} (outcome : Outcome A) (go : A → Step) → ((a : A) → GoesTo P (go a)) → GoesTo P (or_trap outcome go)

@@ -1,16 +1,10 @@
 -- The edges of a program: from an instruction to the slots at which a run may go on after it (RFC 9669, section 4.3).
-use Rattle.std.specs.Prelude.{◌≡◌, ℕ, ◌+◌, Bool, true, false, ℤ, pos, ◌+ℤ◌, ◌⊎◌, List, Option, Some, None, IsTrue, is_some}
+use Rattle.std.specs.Prelude.{◌≡◌, ℕ, ◌+◌, Bool, true, false, ℤ, pos, ◌+ℤ◌, ◌⊎◌, List, Some, IsTrue, is_some}
 use Rattle.ebpf_decode.specs.declared.insn.Insn.{Insn}
-use Rattle.ebpf_decode.specs.declared.insn.Insn.TheVariants.{Ja, Ja32, JumpIf, Exit}
+use Rattle.ebpf_decode.specs.declared.insn.Insn.TheVariants.{Ja, Ja32, Exit}
 use Rattle.ebpf_decode.specs.InstructionEncoding.{slot_count}
+use Rattle.ebpf_decode.specs.Jumps.{jump_distance}
 use Rattle.semantics.specs.Program.{instruction_at}
-
--- how far an instruction may jump, in slots from the slot after it
-unfoldable pub jump_distance : Insn → Option ℤ
-jump_distance (Ja distance) = Some distance
-jump_distance (Ja32 distance) = Some distance
-jump_distance (JumpIf width test dst source distance) = Some distance
-jump_distance insn = None
 
 -- a run may go on at the slot after the instruction
 unfoldable pub falls_through : Insn → Bool

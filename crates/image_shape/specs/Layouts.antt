@@ -2,7 +2,8 @@
 use Rattle.std.specs.Prelude.{◌≡◌, ℕ, Bool, true, false, ℤ, pos, ◌≤ℤ◌, ◌⊎◌, List, Some, slice_index_or}
 use Rattle.ebpf_decode.specs.declared.insn.Insn.{Insn}
 use Rattle.ebpf_decode.specs.InstructionEncoding.{total_slots}
-use Rattle.image_shape.specs.Edges.{jump_distance, is_begin}
+use Rattle.ebpf_decode.specs.Jumps.{jump_distance}
+use Rattle.image_shape.specs.Edges.{is_begin}
 
 -- the marks are at the slots where instructions begin, and this is how many slots there are
 pub record IsLayout (code : List Insn) (begins : List Bool) (total : ℕ) : Type 0 where

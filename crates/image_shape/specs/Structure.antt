@@ -6,7 +6,8 @@ use Rattle.ebpf_decode.specs.InstructionEncoding.{slot_count, total_slots}
 use Rattle.semantics.specs.Program.{instruction_at}
 use Rattle.image_shape.specs.declared.fault.ShapeFault.{ShapeFault}
 use Rattle.image_shape.specs.declared.fault.ShapeFault.TheVariants.{JumpBackward, JumpOutside, JumpIntoWide, FallsOff, Unreachable}
-use Rattle.image_shape.specs.Edges.{jump_distance, falls_through, is_begin, IsReachableSlot}
+use Rattle.ebpf_decode.specs.Jumps.{jump_distance}
+use Rattle.image_shape.specs.Edges.{falls_through, is_begin, IsReachableSlot}
 
 -- ---- one instruction, by where instructions begin in its program and how many slots the program has
 

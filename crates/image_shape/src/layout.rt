@@ -5,7 +5,7 @@ ghost use Rattle.ebpf_decode.specs.InstructionEncoding.{total_slots};
 ghost use Rattle.image_shape.specs.Structure.{jump_fault, fall_fault, instruction_fault};
 ghost use Rattle.image_shape.specs.Layouts.{IsLayout};
 
-use crate::edges::{falls_through, jump_distance};
+use crate::edges::falls_through;
 use crate::fault::ShapeFault;
 use ebpf_decode::Insn;
 use ebpf_decode::image::MAX_SLOTS;
@@ -73,7 +73,7 @@ impl Layout {
         requires within { slot < self.now.total }
         ensures { result ≡ instruction_fault (λ k. slice_index_or self.now.begins k false) self.now.total slot insn }
     {
-        let jump = match jump_distance(insn) {
+        let jump = match insn.jump_distance() {
             Some(distance) => self.jump_fault(slot, distance),
             None => None,
         };

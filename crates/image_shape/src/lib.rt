@@ -8,7 +8,7 @@ mod layout;
 mod reach;
 mod shape;
 
-pub use edges::{falls_through, jump_distance};
+pub use edges::falls_through;
 pub use fault::ShapeFault;
 pub use laws::{edges_go_up, one_answer, runs_follow_edges};
 pub use shape::check_shape;

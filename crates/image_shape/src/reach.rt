@@ -6,7 +6,7 @@ ghost use Rattle.image_shape.specs.Edges.{IsFall, IsJump, IsEdge};
 ghost use Rattle.image_shape.specs.Structure.{HasShape, HasSoundEdges, IsFirstFault};
 ghost use Rattle.image_shape.specs.Layouts.{GoesForward, IsMarked};
 
-use crate::edges::{falls_through, jump_distance};
+use crate::edges::falls_through;
 use crate::fault::ShapeFault;
 use ebpf_decode::Insn;
 use ebpf_decode::image::MAX_SLOTS;
@@ -60,7 +60,7 @@ fn mark_target(reached: &mut [bool; MAX_SLOTS], slot: usize, insn: Insn)
     requires forward { GoesForward insn }
     ensures { IsMarked (IsJump slot insn) reached.old reached.new }
 {
-    if let Some(distance) = jump_distance(insn) {
+    if let Some(distance) = insn.jump_distance() {
         reached[target_slot(slot, distance)] = true;
     }
 }

@@ -243,7 +243,7 @@ const EDGES: [(&str, Insn, Option<i32>, bool); 6] = [
 #[test]
 fn edges_of_an_instruction(rt: HostRuntime) {
     for (name, insn, distance, falls) in EDGES {
-        assert_eq!(rt; jump_distance(insn), distance, "{name}");
+        assert_eq!(rt; insn.jump_distance(), distance, "{name}");
         assert_eq!(rt; falls_through(insn), falls, "{name}");
     }
 }

@@ -1,20 +1,25 @@
 -- An accepted program has no first reject but a want of memory: entry states are the only ones.
-use Rattle.std.proofs.Common.{◌≡◌, ℕ, zero, suc, ◌+◌, ◌<◌, ◌≤◌, List, Option, Some, None, Ok, Err, sym, ◌∙◌, ⊎_elim, arith}
+use Rattle.std.proofs.Common.{◌≡◌, ℕ, zero, suc, ◌+◌, ◌<◌, ◌≤◌, List, Option, Some, None, true, false, Ok, Err, refl, sym, ap, subst, ◌∙◌, ⊎_elim, arith}
 use Rattle.std.specs.Prelude.{IsOk}
 use Rattle.std.proofs.lemmas.Bool.{cases_lt}
+use Rattle.isa.specs.declared.operation.Register.TheVariants.{R0}
 use Rattle.ebpf_decode.specs.declared.insn.Insn.{Insn}
+use Rattle.ebpf_decode.specs.declared.insn.Insn.TheVariants.{Alu, Neg, Movsx, Movsx32, End, Ja, Ja32, JumpIf, Ldx, Ldxs, St, Stx, AtomicUpdate, Lddw, Ldmap, CallHelper, Exit}
+use Rattle.ebpf_decode.specs.Jumps.{jump_distance}
 use Rattle.ebpf_decode.specs.declared.map.MapDef.{MapDef}
 use Rattle.ebpf_decode.specs.InstructionEncoding.{total_slots}
 use Rattle.semantics.specs.Program.{instruction_at}
-use Rattle.image_shape.proofs.LawLemmas.{no_fault}
+use Rattle.image_shape.proofs.LawLemmas.{no_fault, one_fault}
 use Rattle.image_shape.proofs.SlotLemmas.{past_end}
 use Rattle.abstract_state.specs.declared.flow.Flow.{Flow}
+use Rattle.abstract_state.specs.declared.flow.Flow.TheVariants.{Ends, Falls}
 use Rattle.abstract_state.specs.declared.refusal.Refusal.{Refusal}
 use Rattle.abstract_state.specs.declared.state.State.{State}
-use Rattle.abstract_state.specs.States.{Checked}
-use Rattle.abstract_state.specs.Flow.{flow_of}
-use Rattle.verifier.specs.Dataflow.{known_at, AreEntryStates, Accepts, IsFirstBroken, has_no_shape, breaks_rule, wants_memory}
-use Rattle.verifier.specs.Answers.{HasOneAnswer}
+use Rattle.abstract_state.specs.States.{Checked, ◌>>=◌, kind_of}
+use Rattle.abstract_state.specs.Flow.{reads, verdict_kind, falls, flow_of}
+use Rattle.verifier.specs.Dataflow.{known_at, jumps, AreEntryStates, Accepts, MayAskMemory, passed_jump, passed_all, IsFirstBroken, has_no_shape, breaks_rule, wants_memory}
+use Rattle.verifier.specs.Rejects.{reject_of_shape, reject_of_refusal}
+use Rattle.verifier.specs.Answers.{HasOneAnswer, FirstRejectIsOne, RuleBeforeJumpsIsTold}
 use Rattle.verifier.proofs.EntryStates.{agree}
 
 -- at the slots where both are entry states, they are the same
@@ -40,3 +45,95 @@ pub one_answer : HasOneAnswer
 one_answer maps code states reject accepted (has_no_shape fault is e) = absurd (no_fault code fault accepted.shape is)
 one_answer maps code states reject accepted (breaks_rule slot why broken e) = absurd (not_broken maps code states slot why accepted broken)
 one_answer maps code states reject accepted (wants_memory shape asked e) = e
+
+-- ---- one first reject
+
+-- of two broken rules that are each the first, neither comes before the other
+not_before : (maps : List MapDef) (code : List Insn) (slot later : ℕ) (why other : Refusal) → IsFirstBroken maps code slot why → IsFirstBroken maps code later other → slot < later → ⊥
+not_before maps code slot later why other first second h =
+    let same : known_at first.states slot ≡ known_at second.states slot =
+    same_below maps code first.states second.states (slot + 1) (slot + 1) first.entry (λ k g. second.entry k (omega arith)) (omega arith) slot (omega arith)
+    in no_break (flow_of maps first.state slot first.insn) why
+    (second.earlier slot h first.insn first.state first.here (sym same ∙ first.known)) first.breaks
+
+same_rule : (maps : List MapDef) (code : List Insn) (slot : ℕ) (why other : Refusal) → IsFirstBroken maps code slot why → IsFirstBroken maps code slot other → why ≡ other
+same_rule maps code slot why other first second =
+    let states : known_at first.states slot ≡ known_at second.states slot =
+    same_below maps code first.states second.states (slot + 1) (slot + 1) first.entry second.entry (omega arith) slot (omega arith)
+    in let insn : first.insn ≡ second.insn = (let one : instruction_at code slot ≡ Some first.insn = first.here in let two : instruction_at code slot ≡ Some second.insn = second.here in cc)
+    in let state : first.state ≡ second.state = (let one : known_at first.states slot ≡ Some first.state = first.known in let two : known_at second.states slot ≡ Some second.state = second.known in cc)
+    in let here : flow_of maps first.state slot first.insn ≡ Err why = first.breaks
+    in let there : flow_of maps first.state slot first.insn ≡ Err other = rw (state, insn) second.breaks
+    in cc
+
+same_slot : (maps : List MapDef) (code : List Insn) (slot later : ℕ) (why other : Refusal) → IsFirstBroken maps code slot why → IsFirstBroken maps code later other → slot ≡ later
+same_slot maps code slot later why other first second = ⊎_elim
+    (λ less. absurd (not_before maps code slot later why other first second less))
+    (λ more. ⊎_elim
+    (λ less. absurd (not_before maps code later slot other why second first less))
+    (λ least. omega arith)
+    (cases_lt later slot))
+    (cases_lt slot later)
+
+one_rule : (maps : List MapDef) (code : List Insn) (slot later : ℕ) (why other : Refusal) → IsFirstBroken maps code slot why → IsFirstBroken maps code later other →
+    reject_of_refusal slot why ≡ reject_of_refusal later other
+one_rule maps code slot later why other first second =
+    let at : slot ≡ later = same_slot maps code slot later why other first second
+    in let here : IsFirstBroken maps code slot other = subst (λ k. IsFirstBroken maps code k other) (sym at) second
+    in ap (λ rule. reject_of_refusal slot rule) (same_rule maps code slot why other first here) ∙ ap (λ k. reject_of_refusal k other) at
+
+pub first_reject_is_one : FirstRejectIsOne
+first_reject_is_one maps code one other (has_no_shape fault is e) (has_no_shape fault2 is2 e2) neither nor = e ∙ ap reject_of_shape (one_fault code fault fault2 is is2) ∙ sym e2
+first_reject_is_one maps code one other (has_no_shape fault is e) (breaks_rule slot why broken e2) neither nor = absurd (no_fault code fault broken.shape is)
+first_reject_is_one maps code one other (has_no_shape fault is e) (wants_memory shape asked e2) neither nor = absurd (nor e2)
+first_reject_is_one maps code one other (breaks_rule slot why broken e) (has_no_shape fault is e2) neither nor = absurd (no_fault code fault broken.shape is)
+first_reject_is_one maps code one other (breaks_rule slot why broken e) (breaks_rule slot2 why2 broken2 e2) neither nor = e ∙ one_rule maps code slot slot2 why why2 broken broken2 ∙ sym e2
+first_reject_is_one maps code one other (breaks_rule slot why broken e) (wants_memory shape asked e2) neither nor = absurd (nor e2)
+first_reject_is_one maps code one other (wants_memory shape asked e) second neither nor = absurd (neither e)
+
+-- ---- no memory is asked for before the first jump
+
+falls_on : (after : Checked State) (flow : Flow) → falls after ≡ Ok flow → jumps flow ≡ false
+falls_on (Ok state) flow e = let is : flow ≡ Falls state = cc in rw is refl
+falls_on (Err why) flow e = absurd cc
+
+ends_so : (first second : Checked (Unit {0})) (flow : Flow) → (first >>= (λ _. second >>= (λ _. Ok Ends))) ≡ Ok flow → jumps flow ≡ false
+ends_so (Ok one) (Ok two) flow e = let is : flow ≡ Ends = cc in rw is refl
+ends_so (Ok one) (Err why) flow e = absurd cc
+ends_so (Err why) second flow e = absurd cc
+
+stays : (maps : List MapDef) (state : State) (slot : ℕ) (insn : Insn) (flow : Flow) → jump_distance insn ≡ None → flow_of maps state slot insn ≡ Ok flow → jumps flow ≡ false
+unfolding jump_distance
+stays maps state slot (Ja distance) flow none e = absurd cc
+stays maps state slot (Ja32 distance) flow none e = absurd cc
+stays maps state slot (JumpIf width test dst source distance) flow none e = absurd cc
+stays maps state slot (Alu width op dst source) flow none e = falls_on _ flow e
+stays maps state slot (Neg width dst) flow none e = falls_on _ flow e
+stays maps state slot (Movsx extension dst src) flow none e = falls_on _ flow e
+stays maps state slot (Movsx32 extension dst src) flow none e = falls_on _ flow e
+stays maps state slot (End order width dst) flow none e = falls_on _ flow e
+stays maps state slot (Lddw dst value) flow none e = falls_on _ flow e
+stays maps state slot (Ldmap dst map) flow none e = falls_on _ flow e
+stays maps state slot (Ldx size dst src offset) flow none e = falls_on _ flow e
+stays maps state slot (Ldxs extension dst src offset) flow none e = falls_on _ flow e
+stays maps state slot (St size dst offset immediate) flow none e = falls_on _ flow e
+stays maps state slot (Stx size dst src offset) flow none e = falls_on _ flow e
+stays maps state slot (AtomicUpdate width op dst src offset) flow none e = falls_on _ flow e
+stays maps state slot (CallHelper helper) flow none e = falls_on _ flow e
+stays maps state slot Exit flow none e = ends_so (reads state R0) (verdict_kind (kind_of state R0)) flow e
+
+not_asked : (maps : List MapDef) (code : List Insn) (slot : ℕ) (why : Refusal) → IsFirstBroken maps code slot why →
+    ((before : ℕ) (insn : Insn) → before < slot → instruction_at code before ≡ Some insn → jump_distance insn ≡ None) → MayAskMemory maps code → ⊥
+not_asked maps code slot why broken none (passed_all states accepted) = not_broken maps code states slot why accepted broken
+not_asked maps code slot why broken none (passed_jump at jump) = ⊎_elim
+    (λ below. let quiet : jumps jump.flow ≡ false = stays maps jump.state at jump.insn jump.flow (none at jump.insn below jump.here) jump.flows
+    in let loud : jumps jump.flow ≡ true = jump.is_jump in absurd cc)
+    (λ past. let same : known_at jump.states slot ≡ known_at broken.states slot =
+    same_below maps code jump.states broken.states (slot + 1) (slot + 1) (λ k h. jump.entry k (omega arith)) broken.entry (omega arith) slot (omega arith)
+    in no_break (flow_of maps broken.state slot broken.insn) why (jump.passes slot (omega arith) broken.insn broken.state broken.here (same ∙ broken.known)) broken.breaks)
+    (cases_lt at slot)
+
+pub rule_before_jumps_is_told : RuleBeforeJumpsIsTold
+rule_before_jumps_is_told maps code slot why reject broken none (has_no_shape fault is e) = absurd (no_fault code fault broken.shape is)
+rule_before_jumps_is_told maps code slot why reject broken none (breaks_rule other rule is e) = e ∙ one_rule maps code other slot rule why is broken
+rule_before_jumps_is_told maps code slot why reject broken none (wants_memory shape asked e) = absurd (not_asked maps code slot why broken none asked)

@@ -1,3 +1,4 @@
+pub mod Distances
 pub mod EntryStates
 pub mod PassLemmas
 pub mod ReaderLemmas

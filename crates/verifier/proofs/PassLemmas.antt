@@ -10,7 +10,8 @@ use Rattle.ebpf_decode.specs.declared.map.MapDef.{MapDef}
 use Rattle.ebpf_decode.specs.InstructionEncoding.{slot_count, total_slots}
 use Rattle.semantics.specs.Program.{instruction_at}
 use Rattle.image_shape.specs.declared.fault.ShapeFault.{ShapeFault}
-use Rattle.image_shape.specs.Edges.{jump_distance, is_begin}
+use Rattle.ebpf_decode.specs.Jumps.{jump_distance}
+use Rattle.image_shape.specs.Edges.{is_begin}
 use Rattle.image_shape.specs.Structure.{jump_fault, fall_fault, or_else, instruction_fault, HasShape}
 use Rattle.image_shape.proofs.FaultLemmas.{fault_here}
 use Rattle.image_shape.proofs.SlotLemmas.{some_slots, past_end, instruction_here}

@@ -1,5 +1,5 @@
 -- Every instruction of an accepted program has an entry state: a path of edges leads to it, and something flows along each edge.
-use Rattle.std.proofs.Common.{◌≡◌, inl, inr, ℕ, zero, suc, ◌+◌, ◌-◌, ◌<◌, Bool, true, false, ℤ, pos, List, Option, Some, None, Ok, Err, refl, sym, ap, subst, ◌∙◌, arith}
+use Rattle.std.proofs.Common.{◌≡◌, inl, inr, ℕ, zero, suc, ◌+◌, ◌-◌, ◌<◌, Bool, true, false, pos, List, Option, Some, None, Ok, Err, refl, sym, ap, subst, ◌∙◌, arith}
 use Rattle.std.specs.Prelude.{◌+ℤ◌, IsSome, IsTrue}
 use Rattle.ebpf_decode.specs.declared.insn.Insn.{Insn}
 use Rattle.ebpf_decode.specs.declared.insn.Insn.TheVariants.{Ja, Ja32, JumpIf, Exit}
@@ -10,7 +10,9 @@ use Rattle.isa.specs.declared.operation.Test.{Test}
 use Rattle.isa.specs.declared.operation.Register.{Register}
 use Rattle.isa.specs.declared.operation.Source.{Source}
 use Rattle.semantics.specs.Program.{instruction_at}
-use Rattle.image_shape.specs.Edges.{jump_distance, falls_through, IsJump, IsEdge, is_begin, IsReachableSlot, reached_start, reached_along}
+use Rattle.ebpf_decode.specs.Jumps.{jump_distance}
+use Rattle.verifier.proofs.Distances.{some_distance}
+use Rattle.image_shape.specs.Edges.{falls_through, IsJump, IsEdge, is_begin, IsReachableSlot, reached_start, reached_along}
 use Rattle.image_shape.proofs.LawLemmas.{edges_go_up}
 use Rattle.abstract_state.specs.declared.flow.Flow.{Flow}
 use Rattle.abstract_state.specs.declared.flow.Flow.TheVariants.{Ends, Falls, Jumps, Splits}
@@ -19,7 +21,6 @@ use Rattle.abstract_state.specs.States.{Checked, ◌>>=◌, kind_of}
 use Rattle.abstract_state.specs.Arithmetic.{source_kind}
 use Rattle.abstract_state.specs.Refinement.{allowed_test, refine_state}
 use Rattle.abstract_state.specs.Flow.{reads_both, test_flow, falls, flow_of}
-use Rattle.abstract_state.specs.Soundness.{distance_of_jump}
 use Rattle.abstract_state.proofs.Inverting.{ok_value, ok_then}
 use Rattle.verifier.specs.Dataflow.{known_at, join_known, joined_where, is_target, is_next, arriving, arriving_if, arriving_from, arrived, Accepts}
 use Rattle.verifier.specs.Answers.{EachInstructionHasState}
@@ -86,16 +87,9 @@ pub record Flows (slot : ℕ) (insn : Insn) (target : ℕ) (flow : Flow) : Type 
   pub there : State
   pub taken : IsTaken slot insn target there flow
 
-distance_is : (insn : Insn) (distance : ℤ) → jump_distance insn ≡ Some distance → distance_of_jump insn ≡ distance
-unfolding jump_distance
-distance_is (Ja away) distance e = cc
-distance_is (Ja32 away) distance e = cc
-distance_is (JumpIf width test dst source away) distance e = cc
-distance_is insn distance e = absurd cc
-
 target_there : (slot : ℕ) (insn : Insn) (target : ℕ) → IsJump slot insn target → is_target slot insn target ≡ true
 target_there slot insn target jump =
-    jumps_there slot insn target (jump.2 ∙ ap (λ distance. pos (slot + 1) +ℤ distance) (sym (distance_is insn jump.0 jump.1)))
+    jumps_there slot insn target (jump.2 ∙ ap (λ distance. pos (slot + 1) +ℤ distance) (sym (some_distance insn jump.0 jump.1)))
 
 falls_is : (after : Checked State) (flow : Flow) → falls after ≡ Ok flow → (state : State) × (Falls state ≡ flow)
 falls_is (Ok state) flow e = (state, ok_value (Falls state) flow e)

@@ -1,20 +1,36 @@
 -- There is one answer to a program; of an accepted one each instruction has an entry state, and it is safe.
-use Rattle.std.specs.Prelude.{◌≡◌, ℕ, List, Option, Some, IsSome}
+use Rattle.std.specs.Prelude.{◌≡◌, ◌≢◌, ℕ, ◌<◌, List, Option, Some, None, IsSome}
 use Rattle.ebpf_decode.specs.declared.insn.Insn.{Insn}
 use Rattle.ebpf_decode.specs.declared.map.MapDef.{MapDef}
 use Rattle.ebpf_decode.specs.ImageContents.{IsEncodable}
+use Rattle.ebpf_decode.specs.Jumps.{jump_distance}
 use Rattle.semantics.specs.Program.{instruction_at}
 use Rattle.semantics.specs.Safety.{IsSafeImage}
+use Rattle.abstract_state.specs.declared.refusal.Refusal.{Refusal}
 use Rattle.abstract_state.specs.declared.state.State.{State}
 use Rattle.verifier.specs.declared.reject.Reject.{Reject}
 use Rattle.verifier.specs.declared.reject.Reject.TheVariants.{Memory}
-use Rattle.verifier.specs.Dataflow.{known_at, Accepts, IsFirstReject}
+use Rattle.verifier.specs.Dataflow.{known_at, Accepts, IsFirstBroken, IsFirstReject}
+use Rattle.verifier.specs.Rejects.{reject_of_refusal}
 
 -- of a program that some entry states let through, only a want of memory can be answered
 abbrev pub HasOneAnswer : Type 0
 HasOneAnswer =
     (maps : List MapDef) (code : List Insn) (states : List (Option State)) (reject : Reject) → Accepts maps code states → IsFirstReject maps code reject →
     reject ≡ Memory
+
+-- a refused program has one first reject, but for a want of memory
+abbrev pub FirstRejectIsOne : Type 0
+FirstRejectIsOne =
+    (maps : List MapDef) (code : List Insn) (one other : Reject) → IsFirstReject maps code one → IsFirstReject maps code other →
+    one ≢ Memory → other ≢ Memory → one ≡ other
+
+-- a rule that is broken before the first jump is told, whatever memory there is
+abbrev pub RuleBeforeJumpsIsTold : Type 0
+RuleBeforeJumpsIsTold =
+    (maps : List MapDef) (code : List Insn) (slot : ℕ) (why : Refusal) (reject : Reject) → IsFirstBroken maps code slot why →
+    ((before : ℕ) (insn : Insn) → before < slot → instruction_at code before ≡ Some insn → jump_distance insn ≡ None) →
+    IsFirstReject maps code reject → reject ≡ reject_of_refusal slot why
 
 -- at each slot at which an instruction begins something is known: so what is said of the instructions with an entry state is said of all
 abbrev pub EachInstructionHasState : Type 0

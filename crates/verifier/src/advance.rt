@@ -13,7 +13,7 @@ ghost use Rattle.verifier.specs.Pending.{entry_of, pending_at};
 ghost use Rattle.verifier.specs.Stops.{BreaksRule, WantsRoom};
 
 use crate::pending::{Entry, Pending};
-use abstract_state::{Refusal, Way};
+use abstract_state::{Refusal, Site, Way};
 use ebpf_decode::{Insn, MapDef};
 use std::alloc::{AllocError, Global};
 
@@ -27,14 +27,13 @@ pub(crate) enum Stop {
 }
 
 /// How far the instruction jumps; 0 where it doesn't.
+#[tactic(auto, using(crate::proofs::Distances::no_distance))]
 fn distance_of(insn: Insn) -> i32
     ensures { result ≡ distance_of_jump insn }
 {
-    match insn {
-        Insn::Ja { distance } => i32::from(distance),
-        Insn::Ja32 { distance } => distance,
-        Insn::JumpIf { distance, .. } => i32::from(distance),
-        _ => 0,
+    match insn.jump_distance() {
+        Some(distance) => distance,
+        None => 0,
     }
 }
 
@@ -124,7 +123,11 @@ pub(crate) fn advance(
         pending.land(slot + insn.slot_count() as usize, entry);
         return Ok(());
     }
-    let way = match entry.state.step(maps, slot as u16, insn) {
+    let site = Site {
+        maps,
+        slot: slot as u16,
+    };
+    let way = match entry.state.step(site, insn) {
         Ok(way) => way,
         Err(why) => return Err(Stop::Rule(why)),
     };

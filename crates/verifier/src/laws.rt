@@ -1,11 +1,21 @@
 //! Laws of the definitions: each is the contract of a function that does nothing.
 
-ghost use Rattle.verifier.specs.Answers.{HasOneAnswer, EachInstructionHasState, AcceptedIsSafe};
+ghost use Rattle.verifier.specs.Answers.{HasOneAnswer, FirstRejectIsOne, RuleBeforeJumpsIsTold, EachInstructionHasState, AcceptedIsSafe};
 
 /// A program that some entry states let through has no reject but a want of memory: so `verify` answers `Ok` exactly for these, where
 /// there is memory.
 pub fn one_answer()
     ensures { HasOneAnswer }
+{}
+
+/// A refused program has one first reject, but for a want of memory.
+pub fn first_reject_is_one()
+    ensures { FirstRejectIsOne }
+{}
+
+/// A rule that is broken before the first jump is told, whatever memory there is: no memory is asked for before.
+pub fn rule_before_jumps_is_told()
+    ensures { RuleBeforeJumpsIsTold }
 {}
 
 /// Each instruction of a program that some entry states let through has one of them: so the checks, and `is_reader`, pass none over.

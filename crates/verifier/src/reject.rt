@@ -1,12 +1,10 @@
 //! Why a program is rejected.
 
 ghost use Rattle.std.specs.Prelude.{◌≡◌};
-ghost use Rattle.isa.specs.InstructionCodes.{register_number};
 ghost use Rattle.verifier.specs.Rejects.{reject_of_shape, reject_of_refusal, reject_number};
 
 use abstract_state::Refusal;
 use image_shape::ShapeFault;
-use isa::Register;
 use thiserror::Error;
 
 /// The first rule that a program breaks, with the slot of the instruction and, where the rule is about one, the register's number.
@@ -93,11 +91,11 @@ impl Reject {
         match why {
             Refusal::UnsetRegister(register) => Reject::UnsetRegister {
                 slot,
-                register: number_of(register),
+                register: u32::from(register.number()),
             },
             Refusal::WrongKind(register) => Reject::WrongKind {
                 slot,
-                register: number_of(register),
+                register: u32::from(register.number()),
             },
             Refusal::PacketBounds => Reject::PacketBounds { slot },
             Refusal::StackBounds => Reject::StackBounds { slot },
@@ -109,7 +107,7 @@ impl Reject {
             Refusal::UnknownHelper => Reject::UnknownHelper { slot },
             Refusal::BadArgument(register) => Reject::BadArgument {
                 slot,
-                register: number_of(register),
+                register: u32::from(register.number()),
             },
             Refusal::PointerLeak => Reject::PointerLeak { slot },
             Refusal::UnknownMap => Reject::UnknownMap { slot },
@@ -141,24 +139,5 @@ impl Reject {
             Reject::UnknownMap { .. } => 47,
             Reject::Memory => 48,
         }
-    }
-}
-
-/// A register's number, as it is printed.
-fn number_of(register: Register) -> u32
-    ensures { result ≡ register_number register }
-{
-    match register {
-        Register::R0 => 0,
-        Register::R1 => 1,
-        Register::R2 => 2,
-        Register::R3 => 3,
-        Register::R4 => 4,
-        Register::R5 => 5,
-        Register::R6 => 6,
-        Register::R7 => 7,
-        Register::R8 => 8,
-        Register::R9 => 9,
-        Register::R10 => 10,
     }
 }

@@ -1,5 +1,5 @@
 use Rattle.std.proofs.Common.{◌≡◌, ◌+◌, ◌<◌, pos, ◌+ℤ◌, Some, to_z, of_z, w32, sym, ap, ◌∙◌, rules, arith}
-use Rattle.image_shape.specs.Edges.{jump_distance}
+use Rattle.ebpf_decode.specs.Jumps.{jump_distance}
 use Rattle.image_shape.proofs.ReachLemmas.{one_marked, one_target}
 use Rattle.image_shape.proofs.reach.mark_target.Goals as goal
 

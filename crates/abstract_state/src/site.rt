@@ -1,0 +1,29 @@
+//! Where an instruction is judged, and what it works on.
+
+use crate::kind::Kind;
+use ebpf_decode::MapDef;
+use isa::Register;
+
+/// Where an instruction is judged: the maps of its image, and its slot.
+#[derive(Clone, Copy)]
+pub struct Site<'a> {
+    pub maps: &'a [MapDef],
+    pub slot: u16,
+}
+
+/// Two operands, with the registers that a refusal names.
+#[derive(Clone, Copy)]
+pub(crate) struct Operands {
+    pub(crate) first: Kind,
+    pub(crate) second: Kind,
+    pub(crate) dst: Register,
+    pub(crate) source: Register,
+}
+
+/// Where a load, a store or an atomic operation goes: an offset from what a register holds.
+#[derive(Clone, Copy)]
+pub(crate) struct Address {
+    pub(crate) base: Kind,
+    pub(crate) offset: i16,
+    pub(crate) register: Register,
+}
