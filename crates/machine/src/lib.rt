@@ -3,6 +3,7 @@
 
 mod advance;
 mod exit;
+mod facts;
 mod machine;
 mod moment;
 mod next;

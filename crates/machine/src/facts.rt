@@ -1,0 +1,64 @@
+//! Facts of types, each brought into a proof by a function that does nothing and is named after the fact.
+
+ghost use Rattle.std.specs.Prelude.{◌≡◌, ◌≤◌, ◌<◌, ◌^◌, length, All};
+ghost use Rattle.ebpf_decode.specs.ImageContents.{IsEncodable};
+ghost use Rattle.semantics.specs.System.{IsInputFrame};
+ghost use Rattle.verifier.specs.Dataflow.{Accepts};
+ghost use Rattle.machine.specs.Meaning.{IsWhole};
+
+use crate::machine::Machine;
+use verifier::Verified;
+use wire::Frame;
+
+/// A verified image's program is let through by its entry states, and is one that the image format encodes.
+pub(crate) fn program_is_accepted(verified: &Verified)
+    ensures accepted { Accepts verified.now.maps verified.now.code verified.now.states }
+    ensures encodable { IsEncodable verified.now.maps verified.now.code }
+{
+    let _ = verified.image().maps();
+}
+
+/// A frame has at most 2304 bytes.
+pub(crate) fn frame_is_short(frame: &Frame)
+    ensures { length frame.now.bytes ≤ 2304 }
+{
+    let _ = frame.len();
+}
+
+/// A frame with all its headroom free is one that may come in.
+pub(crate) fn frame_may_come_in(frame: &Frame)
+    requires { frame.now.headroom ≡ 256 }
+    ensures { IsInputFrame frame.now.bytes }
+{
+    let _ = frame.bytes();
+    let _ = frame.len();
+}
+
+/// Words have 64 bits.
+fn words_have_64_bits(words: &[u64])
+    ensures { All (λ word. word < 2 ^ 64) words.now }
+{
+    let _ = words;
+}
+
+/// Bytes have 8 bits.
+fn bytes_have_8_bits(bytes: &[u8])
+    ensures { All (λ byte. byte < 256) bytes.now }
+{
+    let _ = bytes;
+}
+
+/// Registers and stack have their lengths, and their parts their widths.
+pub(crate) fn machine_is_whole(machine: &Machine)
+    ensures { IsWhole machine.now }
+{
+    words_have_64_bits(&machine.registers);
+    bytes_have_8_bits(&machine.stack);
+}
+
+/// A time has 64 bits.
+pub(crate) fn time_has_64_bits(now_ns: u64)
+    ensures { now_ns < 2 ^ 64 }
+{
+    let _ = now_ns;
+}
