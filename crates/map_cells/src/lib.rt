@@ -1,7 +1,7 @@
 //! The cells that hold a map's values: found by ids that are never given again, in places that are used again.
 #![tactic(auto)]
 
-mod blocks;
+pub mod blocks;
 pub mod retired;
 pub mod table;
 

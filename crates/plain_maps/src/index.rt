@@ -1,0 +1,169 @@
+//! The index.
+
+ghost use Rattle.std.specs.Prelude.{◌≡◌, ◌<◌, ◌≤◌, ◌+◌, ◌*◌, ◌^◌, ◌≢◌, ℕ, List, [], length, IfOk, None, Some, cond, if◌then◌else◌, is_some, bytes_eq};
+ghost use Rattle.plain_maps.specs.Keyed.{KeyMap, entry_of};
+ghost use Rattle.plain_maps.specs.Hashing.{home_of};
+ghost use Rattle.plain_maps.specs.Buckets.{bucket_at};
+
+use crate::buckets::{Bucket, cleared, found_in, home_of, placed};
+use crate::search::search;
+use map_cells::blocks::write_at;
+use std::alloc::{AllocError, Global};
+use std::marker::Model;
+
+/// A map from keys of one size to entry numbers. Keys stand in buckets by their hash, and those that find no place there in order: so no
+/// key, whoever chose it, costs more than the logarithm.
+#[derive(Drop)]
+pub struct KeyIndex {
+    size: usize,
+    capacity: usize,
+    /// The keys by entry number, one behind the other.
+    keys: Vec<u8>,
+    /// Whether an entry number has a key.
+    is_there: Vec<bool>,
+    buckets: Vec<Bucket>,
+    /// The numbers that stand in no bucket, by rising keys.
+    order: Vec<u32>,
+}
+
+impl Model for KeyIndex {
+    ghost use Rattle.std.specs.Prelude.{vec_capacity};
+    ghost use Rattle.plain_maps.specs.Keyed.{KeyMap, key_map};
+    ghost use Rattle.plain_maps.specs.Buckets.{IsIndex};
+
+    ghost Value = { KeyMap };
+
+    ghost view = { λ x. key_map x.size x.capacity x.keys.items x.is_there.items };
+
+    ghost invariant = { λ x. IsIndex x.size x.capacity x.keys.items x.is_there.items x.order.items (vec_capacity x.order) x.buckets.items };
+}
+
+impl KeyIndex {
+    /// An index with no keys, and room for `capacity` keys of `size` bytes. Fails only for lack of memory; no other call takes any.
+    pub fn new(alloc: Global, size: usize, capacity: u32) -> Result<Self, AllocError>
+        requires size { size ≤ 256 }
+        requires capacity { capacity < 4294967295 }
+        ensures { IfOk result (λ index. index ≡ record { size = size; capacity = capacity; entries = [] }) }
+    {
+        let capacity = capacity as usize;
+        Ok(KeyIndex {
+            size,
+            capacity,
+            keys: vec![in alloc; 0; capacity * size]?,
+            is_there: vec![in alloc; false; capacity]?,
+            buckets: vec![in alloc; Bucket::EMPTY; bucket_count(capacity)]?,
+            order: Vec::with_capacity(alloc, capacity)?,
+        })
+    }
+
+    /// The entry number of a key.
+    pub fn find(&self, key: &[u8]) -> Option<u32>
+        requires { length key.now ≡ self.now.size }
+        ensures { result ≡ entry_of self.now key.now }
+    {
+        let home = home_in(&self.buckets, key);
+        let bucket = bucket_in(&self.buckets, home);
+        if let Some(number) = found_in(&self.keys, self.size, &bucket, key) {
+            return Some(number);
+        }
+        if bucket.over == 0 {
+            return None;
+        }
+        match search(&self.keys, self.size, self.capacity, &self.order, key) {
+            Ok(at) => Some(self.order[at]),
+            Err(_) => None,
+        }
+    }
+
+    /// Gives a new key an entry number that no key has.
+    pub fn insert(&mut self, key: &[u8], number: u32)
+        requires size { length key.now ≡ self.old.size }
+        requires absent { entry_of self.old key.now ≡ None }
+        requires number { number < self.old.capacity }
+        requires unused { (q : List ℕ) → entry_of self.old q ≢ Some number }
+        ensures shape { (self.new.size ≡ self.old.size) × (self.new.capacity ≡ self.old.capacity) }
+        ensures count { length self.new.entries ≡ length self.old.entries + 1 }
+        ensures lookups { (q : List ℕ) → entry_of self.new q ≡ cond (bytes_eq key.now q) (Some number) (entry_of self.old q) }
+    {
+        let home = home_in(&self.buckets, key);
+        let bucket = bucket_in(&self.buckets, home);
+        if let Some(more) = placed(number, bucket) {
+            self.buckets[home] = more;
+            write_at(&mut self.keys, self.size, number as usize, 0, key);
+            self.is_there[number as usize] = true;
+            return;
+        }
+        let at = match search(&self.keys, self.size, self.capacity, &self.order, key) {
+            Ok(_) => unreachable!(),
+            Err(at) => at,
+        };
+        let put = self.order.insert(at, number);
+        prove!(put.is_ok());
+        let over = bucket.over + 1;
+        self.buckets[home] = Bucket { over, ..bucket };
+        write_at(&mut self.keys, self.size, number as usize, 0, key);
+        self.is_there[number as usize] = true;
+    }
+
+    /// Takes a key out, and gives the entry number that it had.
+    pub fn remove(&mut self, key: &[u8]) -> Option<u32>
+        requires { length key.now ≡ self.old.size }
+        ensures value { result ≡ entry_of self.old key.now }
+        ensures shape { (self.new.size ≡ self.old.size) × (self.new.capacity ≡ self.old.capacity) }
+        ensures count { length self.new.entries + (if is_some result then 1 else 0) ≡ length self.old.entries }
+        ensures lookups { (q : List ℕ) → entry_of self.new q ≡ cond (bytes_eq key.now q) None (entry_of self.old q) }
+    {
+        let home = home_in(&self.buckets, key);
+        let bucket = bucket_in(&self.buckets, home);
+        if let Some(number) = found_in(&self.keys, self.size, &bucket, key) {
+            self.buckets[home] = cleared(number, bucket);
+            self.is_there[number as usize] = false;
+            return Some(number);
+        }
+        if bucket.over == 0 {
+            return None;
+        }
+        match search(&self.keys, self.size, self.capacity, &self.order, key) {
+            Ok(at) => {
+                let number = self.order.remove(at);
+                let over = bucket.over - 1;
+                self.buckets[home] = Bucket { over, ..bucket };
+                self.is_there[number as usize] = false;
+                Some(number)
+            }
+            Err(_) => None,
+        }
+    }
+}
+
+/// The number of a key's bucket.
+fn home_in(buckets: &[Bucket], key: &[u8]) -> usize
+    requires { 0 < length buckets.now }
+    ensures home { result ≡ home_of (length buckets.now) key.now }
+    ensures within { result < length buckets.now }
+{
+    home_of(key, buckets.len())
+}
+
+/// The bucket of this number.
+fn bucket_in(buckets: &[Bucket], number: usize) -> Bucket
+    requires { number < length buckets.now }
+    ensures { result ≡ bucket_at buckets.now number }
+{
+    buckets[number]
+}
+
+/// How many buckets an index has: a power of two, at least twice the capacity.
+fn bucket_count(capacity: usize) -> usize
+    requires { capacity < 4294967295 }
+    ensures some { 0 < result }
+    ensures few { result < 2 ^ 36 }
+{
+    let mut count = 1;
+    for _ in 0..34 {
+        if count < 2 * capacity {
+            count *= 2;
+        }
+    }
+    count
+}
