@@ -1,6 +1,5 @@
 //! Which entry number was used least recently.
 
-
 ghost use Rattle.std.specs.Prelude.{◌≡◌, ℕ, ◌≤◌, length, Some, nat_eq, IfSome};
 ghost use Rattle.lru_maps.specs.Recency.{IsByLastUse, IsLeastRecent, used_at};
 
