@@ -13,4 +13,4 @@ mod tests;
 pub use backend::Backend;
 pub use fault::RingFault;
 pub use preference::Preference;
-pub use ring::Ring;
+pub use ring::{RING_SIZES, Ring, is_ring_size};

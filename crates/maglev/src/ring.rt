@@ -19,7 +19,7 @@ use std::marker::Model;
 const MOST_BACKENDS: usize = 256;
 
 /// How many slots a ring may have: primes, so that each skip leads through all slots.
-const RING_SIZES: [u32; 4] = [7, 251, 4093, 65537];
+pub const RING_SIZES: [u32; 4] = [7, 251, 4093, 65537];
 
 /// The number of the backend that owns each slot. Contracts see a ring as the list of these numbers, by slot.
 #[derive(Debug, Drop)]
@@ -38,7 +38,7 @@ impl Model for Ring {
 }
 
 /// Whether a table may have this size.
-fn is_ring_size(size: u32) -> bool
+pub fn is_ring_size(size: u32) -> bool
     ensures { IsTrue result ↔ IsRingSize size }
 {
     RING_SIZES.contains(&size)

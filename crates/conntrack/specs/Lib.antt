@@ -1,0 +1,5 @@
+-- The definitions that the contracts of this crate cite, in reading order.
+pub mod SteeringMaps
+pub mod Layouts
+pub mod SteeringRule
+pub mod FaultNumber

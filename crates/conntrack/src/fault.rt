@@ -1,0 +1,52 @@
+//! Why no steering maps were made.
+
+use std::alloc::{AllocError, AllocFailed};
+use thiserror::Error;
+
+/// Why no steering maps were made. Nothing is left behind.
+#[derive(Clone, Copy, Debug, PartialEq, Eq, Error)]
+pub enum SteerFault {
+    /// The lookup table has none of the sizes 7, 251, 4093 and 65537.
+    #[error("fault 73 BadSize")]
+    BadSize,
+    /// The allocator refused the list.
+    #[error("fault 74 Memory")]
+    Memory,
+}
+
+impl SteerFault {
+    ghost use Rattle.std.specs.Prelude.{◌≡◌};
+    ghost use Rattle.conntrack.specs.FaultNumber.{steer_fault_number};
+
+    /// The number that the fault's text prints.
+    pub fn number(self) -> u8
+        ensures { result ≡ steer_fault_number self }
+    {
+        match self {
+            SteerFault::BadSize => 73,
+            SteerFault::Memory => 74,
+        }
+    }
+}
+
+impl From<AllocError> for SteerFault {
+    ghost use Rattle.std.specs.Prelude.{◌≡◌};
+    ghost use Rattle.conntrack.specs.declared.fault.SteerFault.TheVariants.{Memory};
+
+    ghost from_gives = { λ _ fault. fault ≡ Memory };
+
+    fn from(_error: AllocError) -> SteerFault {
+        SteerFault::Memory
+    }
+}
+
+impl<T: Drop> From<AllocFailed<T>> for SteerFault {
+    ghost use Rattle.std.specs.Prelude.{◌≡◌};
+    ghost use Rattle.conntrack.specs.declared.fault.SteerFault.TheVariants.{Memory};
+
+    ghost from_gives = { λ _ fault. fault ≡ Memory };
+
+    fn from(_error: AllocFailed<T>) -> SteerFault {
+        SteerFault::Memory
+    }
+}

@@ -1,0 +1,22 @@
+//! Which backend a frame goes to: the maps of steering, the layouts of their records, and the steering rule in plain Rust.
+//!
+//! The rule decides by what stands in the maps. A frame without a flow, or for no service, passes. A frame that cannot be tunnelled, or
+//! that comes before the tunnel is set up, is dropped. Otherwise it goes to the backend that was noted for its flow if that one is up, else to
+//! the owner of the flow's slot in the ring, which is then noted; and where neither is up it is dropped. A service may be marked *no tracking*:
+//! then nothing is noted and only the ring decides.
+#![tactic(auto)]
+
+mod choosing;
+mod fault;
+mod keys;
+mod records;
+mod steering_maps;
+#[cfg(test)]
+mod tests;
+
+pub use choosing::{Assigned, Choice, Records, choose};
+pub use fault::SteerFault;
+pub use ipip::{Ipv4Address, MacAddress};
+pub use keys::{Service, index_key};
+pub use records::{BackendRecord, FlowRecord, RingRecord, TunnelRecord, VipRecord};
+pub use steering_maps::{SteeringMap, maps, table_size};

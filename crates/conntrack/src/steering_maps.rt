@@ -1,0 +1,125 @@
+//! The six maps of steering.
+
+ghost use Rattle.std.specs.Prelude.{◌≡◌, ℕ, ◌≤◌, ◌↔◌, IfOk, IfSome, IsErrOf, IsNone, IsTrue};
+ghost use Rattle.maglev.specs.RingSize.{IsRingSize};
+ghost use Rattle.conntrack.specs.SteeringMaps.{map_place, ring_entries, steering_maps};
+ghost use Rattle.conntrack.specs.declared.fault.SteerFault.TheVariants.{BadSize};
+
+use crate::fault::SteerFault;
+use ebpf_decode::{MapDef, MapKind};
+use maglev::{RING_SIZES, is_ring_size};
+use std::alloc::Global;
+
+/// A map of steering.
+#[derive(Clone, Copy, Debug, PartialEq, Eq)]
+pub enum SteeringMap {
+    /// The services: what clients send to.
+    Vips,
+    /// The backend that was noted for each flow.
+    Flows,
+    /// The lookup table: the backend of each slot.
+    Ring,
+    /// The backends, by their numbers.
+    Backends,
+    /// The tunnel, at index 0.
+    Ctl,
+    /// How many frames got each verdict, by its number.
+    Stats,
+}
+
+impl SteeringMap {
+    /// The map's place in the image's list.
+    pub fn place(self) -> u32
+        ensures { result ≡ map_place self }
+    {
+        match self {
+            SteeringMap::Vips => 0,
+            SteeringMap::Flows => 1,
+            SteeringMap::Ring => 2,
+            SteeringMap::Backends => 3,
+            SteeringMap::Ctl => 4,
+            SteeringMap::Stats => 5,
+        }
+    }
+}
+
+fn defined(kind: MapKind, key_size: u32, value_size: u32, max_entries: u32) -> MapDef
+    ensures { result ≡ record { kind = kind; key_size = key_size; value_size = value_size; max_entries = max_entries } }
+{
+    MapDef {
+        kind,
+        key_size,
+        value_size,
+        max_entries,
+    }
+}
+
+/// The maps for a lookup table of this size.
+fn defined_maps(size: u32) -> [MapDef; 6]
+    requires { size ≤ 65537 }
+    ensures { result ≡ steering_maps size }
+{
+    let ring = (size + 7) / 8 * 8;
+    [
+        defined(MapKind::Hash, 8, 8, 64),
+        defined(MapKind::LruHash, 16, 8, 4096),
+        defined(MapKind::Array, 4, 8, ring),
+        defined(MapKind::Array, 4, 8, 256),
+        defined(MapKind::Array, 4, 24, 8),
+        defined(MapKind::Array, 4, 8, 8),
+    ]
+}
+
+// Whether it is the same map.
+fn is_same(one: &MapDef, other: &MapDef) -> bool
+    ensures { IsTrue result ↔ (one.now ≡ other.now) }
+{
+    one.kind == other.kind
+        && one.key_size == other.key_size
+        && one.value_size == other.value_size
+        && one.max_entries == other.max_entries
+}
+
+// Whether these are the maps for a lookup table of this size.
+fn are_for(maps: &[MapDef], size: u32) -> bool
+    requires { size ≤ 65537 }
+    ensures { IsTrue result ↔ (maps.now ≡ steering_maps size) }
+{
+    let wanted = defined_maps(size);
+    if maps.len() != wanted.len() {
+        return false;
+    }
+    'places: for place in 0..wanted.len() {
+        if !is_same(&maps[place], &wanted[place]) {
+            return false;
+        }
+    }
+    true
+}
+
+/// The definitions of the six maps, for a lookup table of `size` slots. Refused with 73 exactly where that is none of Maglev's sizes here (7, 251, 4093,
+/// 65537), and with 74 without memory.
+pub fn maps(alloc: Global, size: u32) -> Result<Vec<MapDef>, SteerFault>
+    ensures maps { IfOk result (λ maps. maps.items ≡ steering_maps size) }
+    ensures bad_size { IsErrOf result BadSize ↔ ¬ IsRingSize size }
+{
+    if !is_ring_size(size) {
+        return Err(SteerFault::BadSize);
+    }
+    let mut maps = Vec::new(alloc);
+    maps.extend_from_slice(&defined_maps(size))?;
+    Ok(maps)
+}
+
+/// The size of the lookup table for which these are the six maps. None where they are the six maps for no size.
+pub fn table_size(maps: &[MapDef]) -> Option<u32>
+    ensures size { IfSome result (λ size. IsRingSize size × (maps.now ≡ steering_maps size)) }
+    ensures none { IsNone result → (size : ℕ) → IsRingSize size → ¬ (maps.now ≡ steering_maps size) }
+{
+    'sizes: for size in RING_SIZES {
+        if are_for(maps, size) {
+            return Some(size);
+        }
+    }
+    None
+}
