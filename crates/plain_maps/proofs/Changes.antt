@@ -372,6 +372,9 @@ module _ (size capacity : ℕ) (keys : List ℕ) (flags : List Bool) (order : Li
           let other : m ≢ n = λ same. false≢true (sym apart ∙ (bytes_eq-Decides key q).1 (sym has_key ∙ (ap (key_of size keys) (sym same) ∙ member.1))) in
           lookup_there size keys (set flags n false) q apart_left m (stays m member.0 other) member.1 ∙ sym found
 
+  pub removed_freed : (q : List ℕ) → lookup (bytes_eq q) (entries_of size keys (numbers_there 0 (set flags n false))) ≢ Some n
+  removed_freed q found = let member = there_lookup size keys (set flags n false) q n found in (left n member.0).1 refl
+
   pub removed_count : length (entries_of size keys (numbers_there 0 (set flags n false))) + 1 ≡ length (entries_of size keys (numbers_there 0 flags))
   removed_count =
       let one : length (entries_of size keys (numbers_there 0 (set flags n false))) ≡ length (numbers_there 0 (set flags n false)) = length-map (numbers_there 0 (set flags n false)) (λ (m : ℕ). (key_of size keys m, m)) in

@@ -5,3 +5,4 @@ pub mod Edits
 pub mod Homes
 pub mod Found
 pub mod Changes
+pub mod Tables

@@ -1,3 +1,5 @@
 pub mod Keyed
 pub mod Hashing
 pub mod Buckets
+pub mod HashTable
+pub mod ArrayTable

@@ -1,6 +1,6 @@
 //! The index.
 
-ghost use Rattle.std.specs.Prelude.{◌≡◌, ◌<◌, ◌≤◌, ◌+◌, ◌*◌, ◌^◌, ◌≢◌, ℕ, List, [], length, IfOk, None, Some, cond, if◌then◌else◌, is_some, bytes_eq};
+ghost use Rattle.std.specs.Prelude.{◌≡◌, ◌<◌, ◌≤◌, ◌+◌, ◌*◌, ◌^◌, ◌≢◌, ℕ, List, [], length, IfOk, IfSome, None, Some, cond, if◌then◌else◌, is_some, bytes_eq};
 ghost use Rattle.plain_maps.specs.Keyed.{KeyMap, entry_of};
 ghost use Rattle.plain_maps.specs.Hashing.{home_of};
 ghost use Rattle.plain_maps.specs.Buckets.{bucket_at};
@@ -59,7 +59,8 @@ impl KeyIndex {
     /// The entry number of a key.
     pub fn find(&self, key: &[u8]) -> Option<u32>
         requires { length key.now ≡ self.now.size }
-        ensures { result ≡ entry_of self.now key.now }
+        ensures number { result ≡ entry_of self.now key.now }
+        ensures within { IfSome result (λ n. n < self.now.capacity) }
     {
         let home = home_in(&self.buckets, key);
         let bucket = bucket_in(&self.buckets, home);
@@ -109,6 +110,8 @@ impl KeyIndex {
     pub fn remove(&mut self, key: &[u8]) -> Option<u32>
         requires { length key.now ≡ self.old.size }
         ensures value { result ≡ entry_of self.old key.now }
+        ensures within { IfSome result (λ n. n < self.old.capacity) }
+        ensures freed { IfSome result (λ n. (q : List ℕ) → entry_of self.new q ≢ Some n) }
         ensures shape { (self.new.size ≡ self.old.size) × (self.new.capacity ≡ self.old.capacity) }
         ensures count { length self.new.entries + (if is_some result then 1 else 0) ≡ length self.old.entries }
         ensures lookups { (q : List ℕ) → entry_of self.new q ≡ cond (bytes_eq key.now q) None (entry_of self.old q) }

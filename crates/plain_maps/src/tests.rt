@@ -1,6 +1,6 @@
 //! Keys in and out, in a small index and in a large one.
 
-use crate::KeyIndex;
+use crate::{ArrayShard, HashShard, KeyIndex};
 use std::alloc::AllocError;
 
 #[test]
@@ -23,4 +23,24 @@ fn a_large_index(rt: HostRuntime) -> Result<(), AllocError> {
     assert_eq!(rt; index.find(&[7; 16]), Some(131_071));
     assert!(rt; index.find(&[8; 16]).is_none());
     Ok(())
+}
+
+#[test]
+fn a_key_of_a_hash_shard_has_its_cell(rt: HostRuntime) -> Result<(), AllocError> {
+    let mut shard = HashShard::new(rt.alloc(), 4, 131_072)?;
+    shard.insert(b"abcd", 1_000_000);
+    assert_eq!(rt; shard.find(b"abcd"), Some(1_000_000));
+    assert!(rt; shard.find(b"abce").is_none());
+    assert_eq!(rt; shard.remove(b"abcd"), Some(1_000_000));
+    assert!(rt; shard.find(b"abcd").is_none());
+    Ok(())
+}
+
+#[test]
+fn an_index_of_an_array_shard_has_its_cell(rt: HostRuntime) {
+    // 12 indices in 4 shards: index 9 is the third of its shard.
+    let shard = ArrayShard::new(12, 4);
+    assert_eq!(rt; shard.find(&[9, 0, 0, 0]), Some(2));
+    assert!(rt; shard.find(&[12, 0, 0, 0]).is_none());
+    assert!(rt; shard.find(&[9, 0, 0, 1]).is_none());
 }

@@ -4,8 +4,8 @@ use Rattle.plain_maps.specs.Keyed.{entry_of, key_map}
 use Rattle.plain_maps.specs.Hashing.{home_of}
 use Rattle.plain_maps.specs.Buckets.{bucket_at}
 use Rattle.plain_maps.proofs.Homes.{there_below}
-use Rattle.plain_maps.proofs.Found.{slots_within, found_in_bucket, found_some, nowhere, not_in_gap, lookup_there, lookup_none, absent_lookups}
-use Rattle.plain_maps.proofs.Changes.{cleared_from_bucket, taken_from_order, removed_count, removed_lookups}
+use Rattle.plain_maps.proofs.Found.{slots_within, found_in_bucket, found_some, nowhere, not_in_gap, lookup_there, lookup_none, absent_lookups, small_there}
+use Rattle.plain_maps.proofs.Changes.{cleared_from_bucket, taken_from_order, removed_count, removed_lookups, removed_freed}
 use Rattle.plain_maps.proofs.index.KeyIndex.remove.Goals as goal
 
 pub found_in-requires-clause-within : goal.found_in-requires-clause-within
@@ -154,3 +154,47 @@ returns-in-Err-clause-lookups c =
     let gap = rw (c.deref-4.ensures.value, c.deref-5.ensures.value) at c.in-Err.ensures.absent in
     let absent = lookup_none inside.size inside.keys.items inside.is_there.items c.args.key.now (not_in_gap inside.size inside.capacity inside.keys.items inside.is_there.items inside.order.items _ inside.buckets.items c.self.invariant c.args.key.now within none _ gap) in
     rw (← c.self.view_is) (absent_lookups c.args.key.now (entry_of (key_map inside.size inside.capacity inside.keys.items inside.is_there.items)) absent)
+
+pub returns-in-Some-clause-within : goal.returns-in-Some-clause-within
+returns-in-Some-clause-within c =
+    let inside = c.self.inside in
+    let home = rw c.deref.ensures.value at c.home_in-home.ensures.home in
+    let within = rw (c.deref.ensures.value, home) at c.home_in-home.ensures.within in
+    let bucket = rw (c.deref-2.ensures.value, home) at c.bucket_in-bucket.ensures in
+    let found = sym (rw (bucket, c.deref-3.ensures.value, c.in-Some.is) at c.found_in.ensures) in
+    let is = found_in_bucket inside.size inside.capacity inside.keys.items inside.is_there.items inside.order.items _ inside.buckets.items c.self.invariant c.args.key.now within c.in-Some.number found in
+    rw (← c.self.view_is) (small_there inside.size inside.capacity inside.keys.items inside.is_there.items inside.order.items _ inside.buckets.items c.self.invariant c.in-Some.number is.0)
+
+pub returns-in-Some-clause-freed : goal.returns-in-Some-clause-freed
+returns-in-Some-clause-freed c =
+    let inside = c.self.inside in
+    let home = rw c.deref.ensures.value at c.home_in-home.ensures.home in
+    let within = rw (c.deref.ensures.value, home) at c.home_in-home.ensures.within in
+    let bucket = rw (c.deref-2.ensures.value, home) at c.bucket_in-bucket.ensures in
+    let found = sym (rw (bucket, c.deref-3.ensures.value, c.in-Some.is) at c.found_in.ensures) in
+    let is = found_in_bucket inside.size inside.capacity inside.keys.items inside.is_there.items inside.order.items _ inside.buckets.items c.self.invariant c.args.key.now within c.in-Some.number found in
+    removed_freed inside.size inside.capacity inside.keys.items inside.is_there.items inside.order.items _ inside.buckets.items c.self.invariant c.args.key.now within c.in-Some.number is.0 is.1
+
+pub returns-in-Ok-clause-within : goal.returns-in-Ok-clause-within
+returns-in-Ok-clause-within c =
+    let inside = c.self.inside in
+    let home = rw c.deref.ensures.value at c.home_in-home.ensures.home in
+    let within = rw (c.deref.ensures.value, home) at c.home_in-home.ensures.within in
+    let bucket = rw (c.deref-2.ensures.value, home) at c.bucket_in-bucket.ensures in
+    let is_at = rw (c.deref-4.ensures.value, c.deref-5.ensures.value) at c.in-Ok.ensures.found in
+    let number = sym (get_or_read _ _ _ is_at.in_range c.remove-number.ensures.value 0) in
+    let there = rw number at (c.self.invariant.listed c.in-Ok.at is_at.in_range) in
+    let has = rw number at is_at.has_key in
+    rw (← c.self.view_is) (small_there inside.size inside.capacity inside.keys.items inside.is_there.items inside.order.items _ inside.buckets.items c.self.invariant c.remove-number.result there)
+
+pub returns-in-Ok-clause-freed : goal.returns-in-Ok-clause-freed
+returns-in-Ok-clause-freed c =
+    let inside = c.self.inside in
+    let home = rw c.deref.ensures.value at c.home_in-home.ensures.home in
+    let within = rw (c.deref.ensures.value, home) at c.home_in-home.ensures.within in
+    let bucket = rw (c.deref-2.ensures.value, home) at c.bucket_in-bucket.ensures in
+    let is_at = rw (c.deref-4.ensures.value, c.deref-5.ensures.value) at c.in-Ok.ensures.found in
+    let number = sym (get_or_read _ _ _ is_at.in_range c.remove-number.ensures.value 0) in
+    let there = rw number at (c.self.invariant.listed c.in-Ok.at is_at.in_range) in
+    let has = rw number at is_at.has_key in
+    removed_freed inside.size inside.capacity inside.keys.items inside.is_there.items inside.order.items _ inside.buckets.items c.self.invariant c.args.key.now within c.remove-number.result there has
