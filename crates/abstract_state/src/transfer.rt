@@ -1,4 +1,37 @@
-//! What flows out of an instruction.
+//! What a program may do, instruction by instruction.
+//!
+//! The checker goes over a program once, by rising slot. Every jump goes forward, so when it comes to an instruction, it has seen all
+//! ways that lead there. It then holds a `State`, which is true of every run that ever stands there:
+//!
+//! - of each of the eleven registers (RFC 9669, section 3.1) a `Kind`: unset, a number of an interval, or a pointer, and to what: the
+//!   context, the stack, the packet or its end, a map, a value of a map, or what a lookup gave, which may be null;
+//! - of each eight bytes of the stack the kind of the register that was spilled there, or which of the bytes were written;
+//! - how many bytes from the packet's start are known to lie in the packet.
+//!
+//! `State::step` takes the state over one instruction. It refuses the instruction where some run in such a state could do what has no
+//! meaning, or what no program may do (each refusal with its number):
+//!
+//! - read a register (35) or a byte of the stack (39) that was never written, or write the frame pointer R10 (43);
+//! - compute with a pointer, or take a number for one (36), but for moving a pointer within what it points to; make a pointer
+//!   readable as a number, in the packet, in a part of a stack word or as the verdict (46);
+//! - touch memory past what a test showed to be in the packet (37), outside the stack (38) or outside a map's value (40), on the stack
+//!   and in values at no multiple of the width (41), or a part of the context that is no field (42);
+//! - call what is no helper (44) or with arguments that it does not take (45), or name a map that the image does not have (47).
+//!
+//! Where two ways meet, `State::join` keeps what both know. A conditional jump has two edges, and `State::follow` takes the state along
+//! one of them, with what its test tells there: a number is cut to the part of its interval that can pass; what a lookup gave is null,
+//! or a value; so many bytes of the packet are there. Every pointer into the packet or to a value carries an id, the slot of the
+//! instruction that made it. No slot is passed twice in a run, so an id stands for one address; and a test of one copy tells all of
+//! them, the spilled ones too.
+//!
+//! Why that is enough: a state is true of every run that stands there, so an instruction that breaks no rule in it traps in none of
+//! them, and what flows along its edges is true where they lead. This is proved, in the words of `specs/Soundness`, as the laws
+//! `flow_is_sound`, `join_is_sound` and `opening_is_sound`. The verifier carries it by induction over all that workers, controller and
+//! reclaimer do. And no run is endless, since each step goes up. A refusal may be needless, since less is known than is true: of
+//! numbers only an unsigned interval is followed, no single bits, no signed bounds, and no relation between two registers.
+//!
+//! The order of rules within an instruction is part of the promise, since the first that is broken is told: a write of R10; then an
+//! unknown helper or map; then an unset register, the destination before the source; then the rule of the instruction's class.
 
 ghost use Rattle.std.specs.Prelude.{◌≡◌};
 ghost use Rattle.semantics.specs.Semantics.{fetched_register};

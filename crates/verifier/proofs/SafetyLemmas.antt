@@ -18,7 +18,8 @@ use Rattle.semantics.specs.declared.call.Reply.{Reply}
 use Rattle.semantics.specs.MachineState.{MachineState, initial_state}
 use Rattle.semantics.specs.Step.{Step, Continues, CallsMap, Exits, Traps}
 use Rattle.semantics.specs.Semantics.{next_step}
-use Rattle.semantics.specs.ShardPlan.{plan_at}
+use Rattle.semantics.specs.declared.options.Options.{Options}
+use Rattle.semantics.specs.ShardPlan.{plan_at, AreOptions}
 use Rattle.semantics.specs.History.{shard_of_call}
 use Rattle.semantics.specs.Safety.{IsSafeImage}
 use Rattle.semantics.specs.System.{Setting, program_of, SystemState, SystemEvent, BeginsRun, DoesInstruction, CallsShard, LeavesShard, Controls, Reclaims, WorkerState, Idle, Runs, Leaves, worker_state, history_of, with_worker, is_entered, entry_for, input_frame, opening_system, is_local, DoesNext, CanHappen, CanAllHappen, after_local, after_instruction, after_run_call, after_asking, after_shard_call, after_leaving, after_event, system_after}
@@ -28,6 +29,7 @@ use Rattle.abstract_state.specs.declared.state.State.{State}
 use Rattle.abstract_state.specs.Abstraction.{Held}
 use Rattle.abstract_state.specs.Soundness.{IsServed, Follows}
 use Rattle.verifier.specs.Dataflow.{Accepts}
+use Rattle.verifier.specs.Coverage.{CoverRuns}
 use Rattle.verifier.proofs.SystemInvariant.{entered_of, held_by, IsSoundRun, IsSoundWorker, IsSoundShard, IsSetting, IsSoundSystem}
 use Rattle.verifier.proofs.ReplyLemmas.{lookup_answer, load_answer}
 use Rattle.verifier.proofs.PlanLemmas.{plan_facts}
@@ -195,15 +197,29 @@ pub some_slot : (code : List Insn) → 1 ≤ length code → 0 < total_slots cod
 some_slot [] h = absurd (omega arith)
 some_slot (insn ∷ code) h = omega (arith, sum_by-cons slot_count insn code, some_slots insn)
 
+setting_of : (maps : List MapDef) (code : List Insn) (states : List (Option State)) (options : Options) → IsEncodable maps code → Accepts maps code states → AreOptions maps options →
+    IsSetting (record { maps = maps; code = code; options = options }) states
+setting_of maps code states options encodable accepted fit = record {
+  options = fit;
+  allowed = all_allowed maps encodable.maps_allowed;
+  accepted = accepted;
+  some_code = some_slot code encodable.some_code;
+  fits = encodable.fields_fit;
+}
+
 pub safe_image : (maps : List MapDef) (code : List Insn) (states : List (Option State)) → IsEncodable maps code → Accepts maps code states → IsSafeImage maps code
 safe_image maps code states encodable accepted options fit events can worker =
-    let setting : Setting = record { maps = maps; code = code; options = options }
-    in let good : IsSetting (record { maps = maps; code = code; options = options }) states = record {
-      options = fit;
-      allowed = all_allowed maps encodable.maps_allowed;
-      accepted = accepted;
-      some_code = some_slot code encodable.some_code;
-      fits = encodable.fields_fit;
-    }
+    let good : IsSetting (record { maps = maps; code = code; options = options }) states = setting_of maps code states options encodable accepted fit
     in safe_worker (record { maps = maps; code = code; options = options }) states (system_after (record { maps = maps; code = code; options = options }) events) worker good
     (system_sound (record { maps = maps; code = code; options = options }) states events good can)
+
+-- its entry states cover the runs that are reached
+pub cover_runs : (maps : List MapDef) (code : List Insn) (states : List (Option State)) → IsEncodable maps code → Accepts maps code states → CoverRuns maps code states
+cover_runs maps code states encodable accepted options fit events can worker machine entered runs =
+    let good : IsSetting (record { maps = maps; code = code; options = options }) states = setting_of maps code states options encodable accepted fit
+    in let system : SystemState = system_after (record { maps = maps; code = code; options = options }) events
+    in let sound : IsSoundSystem (record { maps = maps; code = code; options = options }) states (system_after (record { maps = maps; code = code; options = options }) events) =
+    system_sound (record { maps = maps; code = code; options = options }) states events good can
+    in let run : IsSoundRun (record { maps = maps; code = code; options = options }) states (system_after (record { maps = maps; code = code; options = options }) events) worker machine entered =
+    subst (IsSoundWorker (record { maps = maps; code = code; options = options }) states (system_after (record { maps = maps; code = code; options = options }) events) worker) runs (sound.workers worker)
+    in record { known = run.known; at = run.at; sound = run.sound }

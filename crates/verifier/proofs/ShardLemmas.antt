@@ -1,5 +1,5 @@
 -- A shard of an array stays sound: as many cells as at first, of bytes, and what a worker holds is one of them.
-use Rattle.std.proofs.Common.{◌≡◌, ℕ, ◌+◌, ◌*◌, ◌/◌, ◌%◌, ◌<◌, ◌==◌, Bool, true, false, nat_lt, pos, negsuc, List, [], ◌∷◌, length, replicate, div-add-mod', Option, Some, None, All, IsTrue, if◌then◌else◌, refl, sym, ◌∙◌, ap, subst, arith}
+use Rattle.std.proofs.Common.{◌≡◌, ℕ, ◌+◌, ◌*◌, ◌/◌, ◌%◌, ◌<◌, Bool, true, false, nat_lt, List, [], ◌∷◌, length, replicate, div-add-mod', Option, Some, None, All, IsTrue, if◌then◌else◌, refl, sym, ◌∙◌, ap, subst, arith}
 use Rattle.std.specs.Prelude.{slice_set}
 use Rattle.std.proofs.Math.Bool.{or-false}
 use Rattle.std.proofs.lemmas.Nat.{div_below}
@@ -19,7 +19,7 @@ use Rattle.semantics.specs.Linux.{update_flags_of}
 use Rattle.semantics.specs.LittleEndian.{number_of_bytes}
 use Rattle.semantics.specs.ShardPlan.{capacity}
 use Rattle.semantics.specs.Reclamation.{is_worker, found_cell, held_by, holds}
-use Rattle.semantics.specs.SequentialShard.{SequentialShard, opening_cells, cell_of_kind, cell_of_key, with_cell, with_value, updated_where, update_answer_by, delete_answer_of_kind, without_found, present_key, shard_after_call, shard_after, lookup_reply, reply_of, is_kept, is_kept_of_kind}
+use Rattle.semantics.specs.SequentialShard.{SequentialShard, opening_cells, cell_of_kind, cell_of_key, with_value, updated_where, update_answer_by, delete_answer_of_kind, without_found, present_key, shard_after_call, shard_after, lookup_reply, reply_of, is_kept, is_kept_of_kind}
 use Rattle.verifier.proofs.SystemInvariant.{IsSoundShard}
 
 abbrev pub AreAllCellsBytes : List (List ℕ) → Type 0

@@ -1,6 +1,6 @@
 -- What holds of the system after every list of events, where the program was accepted: each run's state is one that what is known at
 -- its slot is sound for, and a worker is inside exactly the shards that its run has entered.
-use Rattle.std.proofs.Common.{◌≡◌, ℕ, ◌*◌, ◌/◌, ◌<◌, ◌≤◌, ◌==◌, ◌&&◌, true, List, [], length, Option, Some}
+use Rattle.std.proofs.Common.{◌≡◌, ℕ, ◌*◌, ◌<◌, ◌≤◌, true, List, [], length, Option, Some}
 use Rattle.std.specs.Prelude.{All}
 use Rattle.std.specs.List.{AllByRecursion}
 use Rattle.ebpf_decode.specs.MapForm.{is_allowed_map}
@@ -13,8 +13,8 @@ use Rattle.semantics.specs.ShardPlan.{plan_at, AreOptions}
 use Rattle.semantics.specs.SequentialShard.{shard_after}
 use Rattle.semantics.specs.System.{Setting, SystemState, WorkerState, Idle, Runs, Leaves, worker_state, history_of, is_entered}
 use Rattle.abstract_state.specs.declared.state.State.{State}
-use Rattle.abstract_state.specs.Abstraction.{Held}
 use Rattle.verifier.specs.Dataflow.{Accepts}
+pub use Rattle.verifier.specs.Coverage.{held_by}
 use Rattle.verifier.proofs.PlaceLemmas.{IsSoundPlace}
 
 -- the shards that a worker's run has entered
@@ -22,11 +22,6 @@ abbrev pub entered_of : WorkerState → List ℕ
 entered_of Idle = []
 entered_of (Runs state entered) = entered
 entered_of (Leaves entered) = entered
-
--- the cells that a worker holds: of the shards that its run has entered, by its own entries
-abbrev pub held_by : Setting → SystemState → ℕ → List ℕ → Held
-held_by setting system worker entered map shard cell =
-    (shard / setting.options.shards == map) && (is_entered shard entered && holds worker cell (history_of system shard))
 
 -- the run is at a place at which what is known is sound, for the cells that its worker holds
 abbrev pub IsSoundRun : Setting → List (Option State) → SystemState → ℕ → MachineState → List ℕ → Type 0

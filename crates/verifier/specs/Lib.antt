@@ -1,6 +1,7 @@
 pub mod Rejects
 pub mod Dataflow
 pub mod Readers
+pub mod Coverage
 pub mod Verified
 pub mod Resolving
 pub mod Pending
