@@ -1,1 +1,1 @@
-pub mod Soundness
+pub mod shared

@@ -1,7 +1,5 @@
 -- An unsigned interval stands for the numbers from its low to its high end; one whose low end is above its high end stands for none.
 use Rattle.std.specs.Prelude.{ℕ, ◌-◌, ◌^◌, ◌≤◌, Bool, ◌==◌, ◌&&◌, nat_le, min, max}
-use Rattle.isa.specs.Words.{width_bits}
-use Rattle.isa.specs.declared.operation.Width.{Width}
 use Rattle.isa.specs.declared.operation.Size.{Size}
 use Rattle.isa.specs.declared.operation.Size.TheVariants.{U8, U16, U32, U64}
 use Rattle.abstract_scalar.specs.declared.interval.Interval.{Interval}

@@ -27,9 +27,9 @@ use Rattle.abstract_state.specs.Refinement.{allowed_test, fact_of, number_cut, r
 use Rattle.abstract_state.specs.Flow.{reads_both, flow_of}
 use Rattle.abstract_state.specs.Abstraction.{Held, KindCovers, setting_of, Abstracts}
 use Rattle.abstract_state.specs.Soundness.{JumpsOn, SplitsOn, JumpsForward, Follows}
-use Rattle.abstract_state.proofs.Writing.{register_written}
-use Rattle.abstract_state.proofs.Inverting.{ok_value, ok_then}
-use Rattle.abstract_state.proofs.Following.{moved_on, SourceFits, source_covers}
+use Rattle.abstract_state.proofs.shared.Writing.{register_written}
+use Rattle.abstract_state.proofs.shared.Inverting.{ok_value, ok_then}
+use Rattle.abstract_state.proofs.shared.Following.{moved_on, SourceFits, source_covers}
 use Rattle.abstract_state.proofs.RegisterSteps.{jumps_to}
 use Rattle.abstract_state.proofs.Telling.{told_sound}
 use Rattle.abstract_state.proofs.Edges.{IsTold, edge_of}

@@ -22,7 +22,7 @@ use Rattle.semantics.specs.Comparison.{place_test, test_from_end, current_place_
 use Rattle.abstract_scalar.specs.declared.interval.Interval.{Interval}
 use Rattle.abstract_scalar.specs.Intervals.{is_single}
 use Rattle.abstract_scalar.specs.Cuts.{refine_of}
-use Rattle.abstract_scalar.proofs.Soundness.{single_is, refine_covers}
+use Rattle.abstract_scalar.proofs.shared.Soundness.{single_is, refine_covers}
 use Rattle.abstract_state.specs.declared.kind.Kind.{Kind}
 use Rattle.abstract_state.specs.declared.kind.Kind.TheVariants.{Unset, Scalar, Ctx, Stack, Packet, PacketEnd, Map, ValueOrNull, Value}
 use Rattle.abstract_state.specs.declared.fact.Fact.{Fact}
@@ -30,9 +30,9 @@ use Rattle.abstract_state.specs.declared.refusal.Refusal.TheVariants.{WrongKind}
 use Rattle.abstract_state.specs.Arithmetic.{blamed}
 use Rattle.abstract_state.specs.Refinement.{is_null_test, is_order, against_scalar, against_end, against_packet, allowed_test, fact_of, number_cut}
 use Rattle.abstract_state.specs.Abstraction.{Ids, Held, Setting, KindCovers, IsNumberIn, IsPacketPlace, IsLookedUp, setting_of}
-use Rattle.abstract_state.proofs.Inverting.{err_not_ok, ok_if}
+use Rattle.abstract_state.proofs.shared.Inverting.{err_not_ok, ok_if}
 use Rattle.abstract_state.proofs.Telling.{FactHolds}
-use Rattle.abstract_state.proofs.Reaching.{has_reached}
+use Rattle.abstract_state.proofs.shared.Reaching.{has_reached}
 
 -- what an edge tells is true: the cut stands for the number, or the fact holds
 abbrev pub IsTold : Setting → Option Kind → Fact → RegisterValue → Type 0

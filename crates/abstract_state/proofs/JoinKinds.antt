@@ -3,7 +3,7 @@ use Rattle.std.proofs.Common.{◌≡◌, ℕ, ◌+◌, ◌≤◌, Bool, true, fa
 use Rattle.std.proofs.lemmas.Bool.{eqb-true, and_parts}
 use Rattle.semantics.specs.RegisterValue.{RegisterValue}
 use Rattle.abstract_scalar.specs.declared.interval.Interval.{Interval}
-use Rattle.abstract_scalar.proofs.Soundness.{hull_covers_left, hull_covers_right}
+use Rattle.abstract_scalar.proofs.shared.Soundness.{hull_covers_left, hull_covers_right}
 use Rattle.abstract_state.specs.declared.kind.Kind.{Kind}
 use Rattle.abstract_state.specs.declared.kind.Kind.TheVariants.{Unset, Scalar, Ctx, Stack, Packet, PacketEnd, Map, ValueOrNull, Value}
 use Rattle.abstract_state.specs.Join.{join_scalar, join_ctx, join_stack, join_packet, join_end, join_map, join_nullable, join_value, join_kind}

@@ -19,7 +19,7 @@ use Rattle.abstract_state.specs.declared.kind.StackWord.TheVariants.{Spilled, By
 use Rattle.abstract_state.specs.States.{all_bytes}
 use Rattle.abstract_state.specs.Join.{zip_with, spilled, bytes_of_kind, bytes_of_word, join_kind, join_word}
 use Rattle.abstract_state.specs.Abstraction.{Setting, IsNumberIn, IsByte, IsSpilled, AreWritten, WordCovers}
-use Rattle.abstract_state.proofs.Opening.{nothing_set}
+use Rattle.abstract_state.proofs.shared.Opening.{nothing_set}
 use Rattle.abstract_state.proofs.JoinKinds.{join_left, join_right}
 
 -- ---- bytes

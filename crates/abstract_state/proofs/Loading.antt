@@ -15,7 +15,7 @@ use Rattle.semantics.specs.RegisterValue.{RegisterValue, Uninitialized, Number, 
 use Rattle.semantics.specs.RegisterValue as meaning
 use Rattle.semantics.specs.MachineState.{MachineState, register_value, with_register}
 use Rattle.semantics.specs.Program.{Program}
-use Rattle.semantics.specs.Step.{Outcome, BadContextAccess}
+use Rattle.semantics.specs.Step.{Outcome}
 use Rattle.semantics.specs.History.{is_load_width}
 use Rattle.isa.specs.InstructionCodes.{size_bytes}
 use Rattle.semantics.specs.declared.linux.ContextField.TheVariants.{Data, DataEnd, IngressIfindex, RxQueueIndex}
@@ -36,9 +36,9 @@ use Rattle.abstract_state.specs.Access.{context_kind, context_loaded, loaded_kin
 use Rattle.abstract_state.specs.Flow.{writable, reads, load_flow, flow_of}
 use Rattle.abstract_state.specs.Soundness.{GoesOn, FallsOn, Follows, HoldsAfter}
 use Rattle.abstract_state.specs.Abstraction.{Held, Setting, KindCovers, IsNumberIn, setting_of, Abstracts}
-use Rattle.abstract_state.proofs.Checking.{ok_same, ok_then, falls_made, written_ok, next_setting, covers_next, put, write_follows}
-use Rattle.abstract_state.proofs.Accesses.{IsAligned, range_found, stack_found, value_found, cell_reached}
-use Rattle.abstract_state.proofs.LoadedNumbers.{Loads, size_fits, in_full, number_loads, word_loads, stack_value_is, packet_number}
+use Rattle.abstract_state.proofs.shared.Checking.{ok_same, ok_then, falls_made, written_ok, next_setting, covers_next, put, write_follows}
+use Rattle.abstract_state.proofs.shared.Accesses.{IsAligned, range_found, stack_found, value_found, cell_reached}
+use Rattle.abstract_state.proofs.shared.LoadedNumbers.{Loads, size_fits, in_full, number_loads, word_loads, stack_value_is, packet_number}
 
 -- ---- a register that a load writes
 

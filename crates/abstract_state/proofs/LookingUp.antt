@@ -19,8 +19,7 @@ use Rattle.semantics.specs.declared.call.Reply.TheVariants.{Entered, Left, Cell,
 use Rattle.semantics.specs.RegisterValue.{RegisterValue, Uninitialized, Number, StackPointer, CellPointer}
 use Rattle.semantics.specs.MachineState.{MachineState, register_value}
 use Rattle.semantics.specs.Program.{Program, shard_of_key}
-use Rattle.semantics.specs.Step.{Outcome, then_outcome, Step, Continues, Traps}
-use Rattle.semantics.specs.Step as cause
+use Rattle.semantics.specs.Step.{then_outcome, Step, Continues}
 use Rattle.semantics.specs.Memory.{stack_place, written_bytes}
 use Rattle.semantics.specs.Helpers.{map_at, bytes_argument, found_value, lookup_step, update_step, delete_step, adjust_head_step, found_helper_step, helper_step}
 use Rattle.semantics.specs.declared.linux.Helper.TheVariants as linux
@@ -41,12 +40,12 @@ use Rattle.abstract_state.specs.Calls.{map_argument, stack_argument, is_inside_s
 use Rattle.abstract_state.specs.Flow.{reads_arguments, falls, flow_of}
 use Rattle.abstract_state.specs.Soundness.{GoesOn, FallsOn, Follows, HoldsAfter}
 use Rattle.abstract_state.specs.Abstraction.{Ids, Held, Setting, KindCovers, IsKnownMap, IsStackPlace, places_of, setting_of, Abstracts}
-use Rattle.abstract_state.proofs.Writing.{Extends, covers_later, word_later}
-use Rattle.abstract_state.proofs.Checking.{ok_same, ok_then, ok_if, falls_made, next_setting}
-use Rattle.abstract_state.proofs.ByteNumbers.{Reads}
-use Rattle.abstract_state.proofs.StackReading.{set_bytes}
-use Rattle.abstract_state.proofs.Accesses.{stack_reached}
-use Rattle.abstract_state.proofs.LoadedNumbers.{in_full}
+use Rattle.abstract_state.proofs.shared.Writing.{Extends, covers_later, word_later}
+use Rattle.abstract_state.proofs.shared.Checking.{ok_same, ok_then, ok_if, falls_made, next_setting}
+use Rattle.abstract_state.proofs.shared.ByteNumbers.{Reads}
+use Rattle.abstract_state.proofs.shared.StackReading.{set_bytes}
+use Rattle.abstract_state.proofs.shared.Accesses.{stack_reached}
+use Rattle.abstract_state.proofs.shared.LoadedNumbers.{in_full}
 
 -- ---- what a call leaves
 

@@ -14,7 +14,7 @@ use Rattle.semantics.specs.Arithmetic.{changed_number, moved_value, combined_val
 use Rattle.abstract_scalar.specs.declared.interval.Interval.{Interval}
 use Rattle.abstract_scalar.specs.Intervals.{Covers}
 use Rattle.abstract_scalar.specs.Transfer.{transfer_of}
-use Rattle.abstract_scalar.proofs.Soundness.{transfer_covers}
+use Rattle.abstract_scalar.proofs.shared.Soundness.{transfer_covers}
 use Rattle.abstract_state.specs.declared.kind.Kind.{Kind}
 use Rattle.abstract_state.specs.declared.kind.Kind.TheVariants.{Unset, Scalar, Ctx, Stack, Packet, PacketEnd, Map, ValueOrNull, Value}
 use Rattle.abstract_state.specs.declared.refusal.Refusal.TheVariants.{WrongKind, UnsetRegister}
@@ -22,8 +22,8 @@ use Rattle.abstract_state.specs.States.{Checked}
 use Rattle.abstract_state.specs.Arithmetic.{number_kind, moved_kind, combined_kind, alu_kind}
 use Rattle.abstract_state.specs.Flow.{is_set}
 use Rattle.abstract_state.specs.Abstraction.{Setting, KindCovers, IsNumberIn}
-use Rattle.abstract_state.proofs.Inverting.{err_not_ok, ok_value}
-use Rattle.abstract_state.proofs.Following.{Gives, gives}
+use Rattle.abstract_state.proofs.shared.Inverting.{err_not_ok, ok_value}
+use Rattle.abstract_state.proofs.shared.Following.{Gives, gives}
 use Rattle.abstract_state.proofs.Pointers.{pointer_combined}
 
 -- where an instruction stands: the setting at it, and the slot where the run goes on

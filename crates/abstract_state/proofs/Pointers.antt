@@ -15,7 +15,7 @@ use Rattle.semantics.specs.Memory.{stack_place}
 use Rattle.semantics.specs.Arithmetic.{pointer_distance, at_distance, combined_value}
 use Rattle.abstract_scalar.specs.declared.interval.Interval.{Interval}
 use Rattle.abstract_scalar.specs.Intervals.{is_single}
-use Rattle.abstract_scalar.proofs.Soundness.{single_is}
+use Rattle.abstract_scalar.proofs.shared.Soundness.{single_is}
 use Rattle.abstract_state.specs.declared.kind.Kind.{Kind}
 use Rattle.abstract_state.specs.declared.kind.Kind.TheVariants.{Unset, Scalar, Ctx, Stack, Packet, PacketEnd, Map, ValueOrNull, Value}
 use Rattle.abstract_state.specs.declared.refusal.Refusal.TheVariants.{WrongKind, PacketBounds, StackBounds, ValueBounds}
@@ -23,8 +23,8 @@ use Rattle.abstract_state.specs.States.{Checked, stack_bytes, value_size_of}
 use Rattle.abstract_state.specs.Places.{place_within}
 use Rattle.abstract_state.specs.Arithmetic.{distance_of, moves_pointers, moved_pointer, moved_far, pointer_sum, is_movable, combined_pointer}
 use Rattle.abstract_state.specs.Abstraction.{Ids, Setting, KindCovers, IsNumberIn, IsStackPlace, IsPacketPlace, IsLiveCell}
-use Rattle.abstract_state.proofs.Inverting.{err_not_ok, ok_value, ok_then, ok_if, place_is}
-use Rattle.abstract_state.proofs.Following.{Gives, gives}
+use Rattle.abstract_state.proofs.shared.Inverting.{err_not_ok, ok_value, ok_then, ok_if, place_is}
+use Rattle.abstract_state.proofs.shared.Following.{Gives, gives}
 
 -- ---- how far
 

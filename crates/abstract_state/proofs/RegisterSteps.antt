@@ -28,7 +28,7 @@ use Rattle.semantics.specs.Semantics.{write_step, extended, map_pointer, exit_st
 use Rattle.abstract_scalar.specs.declared.interval.Interval.{Interval}
 use Rattle.abstract_scalar.specs.Intervals.{Covers, constant_of}
 use Rattle.abstract_scalar.specs.Transfer.{neg_of, movsx64_of, movsx32_of, swap_of}
-use Rattle.abstract_scalar.proofs.Soundness.{constant_covers, neg_covers, movsx64_covers, movsx32_covers, swap_covers}
+use Rattle.abstract_scalar.proofs.shared.Soundness.{constant_covers, neg_covers, movsx64_covers, movsx32_covers, swap_covers}
 use Rattle.abstract_state.specs.declared.kind.Kind.{Kind}
 use Rattle.abstract_state.specs.declared.kind.Kind.TheVariants.{Unset, Scalar, Ctx, Stack, Packet, PacketEnd, Map, ValueOrNull, Value}
 use Rattle.abstract_state.specs.declared.flow.Flow.{Flow}
@@ -40,8 +40,8 @@ use Rattle.abstract_state.specs.Arithmetic.{source_kind, blamed, alu_kind, after
 use Rattle.abstract_state.specs.Flow.{writable, is_set, reads, reads_operands, alu_flow, number_of, operand_of, unary_flow, number_flow, known_map, map_flow, exit_kind, falls, flow_of}
 use Rattle.abstract_state.specs.Abstraction.{Held, Setting, KindCovers, IsNumberIn, setting_of, Abstracts}
 use Rattle.abstract_state.specs.Soundness.{EndsRun, JumpsOn, JumpsForward, Follows}
-use Rattle.abstract_state.proofs.Inverting.{err_not_ok, ok_value, ok_then}
-use Rattle.abstract_state.proofs.Following.{gives, wrote, falls_follow, moved_on, SourceFits, source_covers}
+use Rattle.abstract_state.proofs.shared.Inverting.{err_not_ok, ok_value, ok_then}
+use Rattle.abstract_state.proofs.shared.Following.{gives, wrote, falls_follow, moved_on, SourceFits, source_covers}
 use Rattle.abstract_state.proofs.Operations.{Stands, number_changed, operation_gives}
 
 -- what is known of the program's run before an instruction, and the slot after it

@@ -30,9 +30,9 @@ use Rattle.abstract_state.specs.Access.{loaded_kind, signed_loaded, signed_load_
 use Rattle.abstract_state.specs.Flow.{writable, reads, load_flow, flow_of}
 use Rattle.abstract_state.specs.Soundness.{FallsOn, Follows}
 use Rattle.abstract_state.specs.Abstraction.{Held, Setting, KindCovers, IsNumberIn, setting_of, Abstracts}
-use Rattle.abstract_state.proofs.Checking.{ok_same, ok_then, falls_made}
-use Rattle.abstract_state.proofs.Accesses.{IsAligned, range_found, stack_found, value_found}
-use Rattle.abstract_state.proofs.LoadedNumbers.{Loads, LoadsThere, in_full, word_number, stack_value_is, packet_number}
+use Rattle.abstract_state.proofs.shared.Checking.{ok_same, ok_then, falls_made}
+use Rattle.abstract_state.proofs.shared.Accesses.{IsAligned, range_found, stack_found, value_found}
+use Rattle.abstract_state.proofs.shared.LoadedNumbers.{Loads, LoadsThere, in_full, word_number, stack_value_is, packet_number}
 use Rattle.abstract_state.proofs.Loading.{loads_follow, cell_follows}
 
 narrow : (extension : Extension) (kind : Kind) → spilled_loaded (extension_size extension) kind ≡ narrow_loaded (extension_size extension) kind

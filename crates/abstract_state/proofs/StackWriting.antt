@@ -17,11 +17,11 @@ use Rattle.abstract_state.specs.States.{kind_of, word_of, with_word}
 use Rattle.abstract_state.specs.Join.{bytes_of_word}
 use Rattle.abstract_state.specs.Words.{with_set}
 use Rattle.abstract_state.specs.Abstraction.{Held, Setting, IsByte, AreWritten, WordCovers, places_of, setting_of, Abstracts}
-use Rattle.abstract_state.proofs.Writing.{Extends, covers_later, word_later}
-use Rattle.abstract_state.proofs.Checking.{next_setting}
-use Rattle.abstract_state.proofs.ByteNumbers.{as_written_length, written_place}
-use Rattle.abstract_state.proofs.StackReading.{word_byte, place_at}
-use Rattle.abstract_state.proofs.Splicing.{length-spliced, before-spliced, after-spliced, inside-spliced}
+use Rattle.abstract_state.proofs.shared.Writing.{Extends, covers_later, word_later}
+use Rattle.abstract_state.proofs.shared.Checking.{next_setting}
+use Rattle.abstract_state.proofs.shared.ByteNumbers.{as_written_length, written_place}
+use Rattle.abstract_state.proofs.shared.StackReading.{word_byte, place_at}
+use Rattle.abstract_state.proofs.shared.Splicing.{length-spliced, before-spliced, after-spliced, inside-spliced}
 
 places_length : (stack : List StackByte) (word : ℕ) → 8 * word + 8 ≤ length stack → length (places_of word stack) ≡ 8
 places_length stack word h =

@@ -26,12 +26,12 @@ use Rattle.abstract_state.specs.Words.{narrow_storable, with_set}
 use Rattle.abstract_state.specs.Access.{stack_stored}
 use Rattle.abstract_state.specs.Soundness.{FallsOn}
 use Rattle.abstract_state.specs.Abstraction.{Held, Setting, KindCovers, IsSpilled, WordCovers, places_of, setting_of, Abstracts}
-use Rattle.abstract_state.proofs.Writing.{Extends, covers_later, word_later}
-use Rattle.abstract_state.proofs.Checking.{next_setting, covers_next}
-use Rattle.abstract_state.proofs.ByteNumbers.{bytes_length, bytes_small, as_written_length}
-use Rattle.abstract_state.proofs.Accesses.{IsAligned, stack_reached, stack_moved, packet_moved, packet_reached}
-use Rattle.abstract_state.proofs.LoadedNumbers.{some_bytes}
-use Rattle.abstract_state.proofs.Splicing.{length-spliced, All-spliced}
+use Rattle.abstract_state.proofs.shared.Writing.{Extends, covers_later, word_later}
+use Rattle.abstract_state.proofs.shared.Checking.{next_setting, covers_next}
+use Rattle.abstract_state.proofs.shared.ByteNumbers.{bytes_length, bytes_small, as_written_length}
+use Rattle.abstract_state.proofs.shared.Accesses.{IsAligned, stack_reached, stack_moved, packet_moved, packet_reached}
+use Rattle.abstract_state.proofs.shared.LoadedNumbers.{some_bytes}
+use Rattle.abstract_state.proofs.shared.Splicing.{length-spliced, All-spliced}
 use Rattle.abstract_state.proofs.StackWriting.{stored_word, stored_part, stack_stored_sound}
 
 -- each word that is known by its bytes has eight of them

@@ -9,7 +9,7 @@ use Rattle.semantics.specs.declared.call.CellRef.{CellRef}
 use Rattle.semantics.specs.RegisterValue.{RegisterValue}
 use Rattle.semantics.specs.MachineState.{MachineState, StackByte, register_value}
 use Rattle.abstract_scalar.specs.Intervals.{constant_of}
-use Rattle.abstract_scalar.proofs.Soundness.{constant_covers}
+use Rattle.abstract_scalar.proofs.shared.Soundness.{constant_covers}
 use Rattle.abstract_state.specs.declared.kind.Kind.{Kind}
 use Rattle.abstract_state.specs.declared.kind.Kind.TheVariants.{Unset, Scalar, Ctx, Stack, Packet, PacketEnd, Map, ValueOrNull, Value}
 use Rattle.abstract_state.specs.declared.kind.StackWord.{StackWord}
@@ -20,7 +20,7 @@ use Rattle.abstract_state.specs.declared.state.State.{State}
 use Rattle.abstract_state.specs.States.{kind_of, word_of}
 use Rattle.abstract_state.specs.Facts.{told_null, told_range, told_moved, told_kind, told_word, told_start, told}
 use Rattle.abstract_state.specs.Abstraction.{Held, Setting, KindCovers, IsPacketPlace, IsLookedUp, WordCovers, setting_of, places_of, Abstracts}
-use Rattle.abstract_state.proofs.Writing.{number_below}
+use Rattle.abstract_state.proofs.shared.Writing.{number_below}
 use Rattle.abstract_state.proofs.JoinWords.{spilled_covers}
 
 -- the fact is true of the ids; that the head is moved forgets what was known

@@ -7,7 +7,7 @@ use Rattle.ebpf_decode.specs.InstructionEncoding.{slot_count, total_slots}
 use Rattle.semantics.specs.Program.{instruction_at}
 use Rattle.image_shape.specs.Edges.{is_begin}
 use Rattle.image_shape.specs.Layouts.{IsLayout}
-use Rattle.image_shape.proofs.SlotLemmas.{past_end, some_slots, instruction_here, none_inside}
+use Rattle.image_shape.proofs.shared.SlotLemmas.{past_end, some_slots, instruction_here, none_inside}
 
 -- the marks once all instructions below a slot are marked
 pub record IsLayoutSoFar (code : List Insn) (slot : ℕ) (begins : List Bool) : Type 0 where

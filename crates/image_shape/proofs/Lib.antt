@@ -1,6 +1,3 @@
-pub mod SlotLemmas
-pub mod FaultLemmas
+pub mod shared
 pub mod LayoutLemmas
 pub mod ReachLemmas
-pub mod LawLemmas
-pub mod RunLemmas

@@ -10,8 +10,8 @@ use Rattle.ebpf_decode.specs.Jumps.{jump_distance}
 use Rattle.image_shape.specs.Edges.{IsJump, IsEdge, is_begin, IsReachableSlot, reached_start, reached_along}
 use Rattle.image_shape.specs.Structure.{HasSoundEdges, HasShape, IsFirstUnreachable}
 use Rattle.image_shape.specs.Layouts.{IsMarked}
-use Rattle.image_shape.proofs.SlotLemmas.{past_end}
-use Rattle.image_shape.proofs.FaultLemmas.{IsTarget, edge_is_up}
+use Rattle.image_shape.proofs.shared.SlotLemmas.{past_end}
+use Rattle.image_shape.proofs.shared.FaultLemmas.{IsTarget, edge_is_up}
 use Rattle.image_shape.proofs.LayoutLemmas.{unmarked}
 
 -- the marks once all instructions below a slot have been looked at

@@ -9,8 +9,8 @@ use Rattle.ebpf_decode.specs.Jumps.{jump_distance}
 use Rattle.ebpf_decode.specs.declared.map.MapDef.{MapDef}
 use Rattle.ebpf_decode.specs.InstructionEncoding.{total_slots}
 use Rattle.semantics.specs.Program.{instruction_at}
-use Rattle.image_shape.proofs.LawLemmas.{no_fault, one_fault}
-use Rattle.image_shape.proofs.SlotLemmas.{past_end}
+use Rattle.image_shape.proofs.shared.LawLemmas.{no_fault, one_fault}
+use Rattle.image_shape.proofs.shared.SlotLemmas.{past_end}
 use Rattle.abstract_state.specs.declared.flow.Flow.{Flow}
 use Rattle.abstract_state.specs.declared.flow.Flow.TheVariants.{Ends, Falls}
 use Rattle.abstract_state.specs.declared.refusal.Refusal.{Refusal}

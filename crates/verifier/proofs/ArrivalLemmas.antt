@@ -14,8 +14,8 @@ use Rattle.abstract_state.specs.Join.{join_of}
 use Rattle.abstract_state.specs.Flow.{flow_of}
 use Rattle.abstract_state.specs.Abstraction.{Held, Abstracts}
 use Rattle.abstract_state.specs.Soundness.{IsShaped, FlowIsShaped}
-use Rattle.abstract_state.proofs.Shapes.{states_shaped}
-use Rattle.abstract_state.proofs.JoinStates.{join_sound}
+use Rattle.abstract_state.proofs.shared.Shapes.{states_shaped}
+use Rattle.abstract_state.proofs.shared.JoinStates.{join_sound}
 use Rattle.verifier.specs.Dataflow.{AreEntryStates, known_at, join_known, joined_where, is_target, is_next, arriving, arriving_if, arriving_from, arrived}
 
 -- what is known, if anything, has its shape

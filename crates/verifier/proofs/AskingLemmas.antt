@@ -21,7 +21,7 @@ use Rattle.semantics.specs.History.{journal_is_full}
 use Rattle.semantics.specs.System.{Setting, program_of, SystemState, Idle, Runs, worker_state, history_of, with_worker, with_entry, is_entered, entry_for, run_over, after_run_call}
 use Rattle.abstract_state.specs.declared.state.State.{State}
 use Rattle.abstract_state.specs.Soundness.{IsHandedOut, HoldsAfter}
-use Rattle.abstract_state.proofs.Writing.{held_more}
+use Rattle.abstract_state.proofs.shared.Writing.{held_more}
 use Rattle.verifier.proofs.SystemInvariant.{entered_of, held_by, IsSoundRun, IsSoundWorker, IsSetting, IsSoundSystem}
 use Rattle.verifier.proofs.HistoryLemmas.{inside_enter, inside_lookup, inside_load, holds_load, still_held, found_held}
 use Rattle.verifier.proofs.PlanLemmas.{plan_facts, plan_within, some_shards}

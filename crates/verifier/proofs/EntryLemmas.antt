@@ -13,7 +13,7 @@ use Rattle.semantics.specs.Reclamation.{is_worker, is_inside, holds}
 use Rattle.semantics.specs.ShardPlan.{plan_at}
 use Rattle.semantics.specs.System.{Setting, SystemState, WorkerState, Idle, Runs, Leaves, worker_state, history_of, with_worker, with_entry, is_entered, entry_for}
 use Rattle.abstract_state.specs.declared.state.State.{State}
-use Rattle.abstract_state.proofs.Writing.{held_more}
+use Rattle.abstract_state.proofs.shared.Writing.{held_more}
 use Rattle.verifier.proofs.SystemInvariant.{entered_of, held_by, IsSoundWorker, IsSoundShard, IsSetting, IsSoundSystem}
 use Rattle.verifier.proofs.HistoryLemmas.{inside_other, holds_other, is_another}
 use Rattle.verifier.proofs.PlanLemmas.{plan_facts, plan_within, some_shards}

@@ -9,7 +9,7 @@ use Rattle.semantics.specs.Program.{past_instruction, instruction_at}
 use Rattle.abstract_state.specs.declared.flow.Flow.{Flow}
 use Rattle.abstract_state.specs.States.{Checked}
 use Rattle.image_shape.specs.Edges.{is_begin}
-use Rattle.image_shape.proofs.SlotLemmas.{past_end}
+use Rattle.image_shape.proofs.shared.SlotLemmas.{past_end}
 
 -- what begins past an instruction begins in the rest
 past_some : (width k : ℕ) (rest : ℕ → Option Insn) (insn : Insn) → past_instruction width k rest ≡ Some insn → (n : ℕ) × (rest n ≡ Some insn)

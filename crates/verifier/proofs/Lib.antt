@@ -1,3 +1,4 @@
+pub mod shared
 pub mod Distances
 pub mod EntryStates
 pub mod PassLemmas
@@ -5,7 +6,6 @@ pub mod ReaderLemmas
 pub mod MemoryLemmas
 pub mod ArrivalLemmas
 pub mod InstructionLemmas
-pub mod PlaceLemmas
 pub mod ReachLemmas
 pub mod SystemInvariant
 pub mod HistoryLemmas
@@ -16,8 +16,5 @@ pub mod SettingLemmas
 pub mod EntryLemmas
 pub mod EventLemmas
 pub mod AskingLemmas
-pub mod RunLemmas
-pub mod LocalLemmas
-pub mod SafetyLemmas
 pub mod ResolvingLemmas
 pub mod AnswerLemmas

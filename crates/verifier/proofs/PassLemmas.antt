@@ -13,8 +13,8 @@ use Rattle.image_shape.specs.declared.fault.ShapeFault.{ShapeFault}
 use Rattle.ebpf_decode.specs.Jumps.{jump_distance}
 use Rattle.image_shape.specs.Edges.{is_begin}
 use Rattle.image_shape.specs.Structure.{jump_fault, fall_fault, or_else, instruction_fault, HasShape}
-use Rattle.image_shape.proofs.FaultLemmas.{fault_here}
-use Rattle.image_shape.proofs.SlotLemmas.{some_slots, past_end, instruction_here}
+use Rattle.image_shape.proofs.shared.FaultLemmas.{fault_here}
+use Rattle.image_shape.proofs.shared.SlotLemmas.{some_slots, past_end, instruction_here}
 use Rattle.abstract_state.specs.declared.refusal.Refusal.{Refusal}
 use Rattle.abstract_state.specs.declared.state.State.{State}
 use Rattle.abstract_state.specs.States.{opening_state}

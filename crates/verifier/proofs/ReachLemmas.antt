@@ -13,7 +13,7 @@ use Rattle.semantics.specs.Program.{instruction_at}
 use Rattle.ebpf_decode.specs.Jumps.{jump_distance}
 use Rattle.verifier.proofs.Distances.{some_distance}
 use Rattle.image_shape.specs.Edges.{falls_through, IsJump, IsEdge, is_begin, IsReachableSlot, reached_start, reached_along}
-use Rattle.image_shape.proofs.LawLemmas.{edges_go_up}
+use Rattle.image_shape.proofs.shared.LawLemmas.{edges_go_up}
 use Rattle.abstract_state.specs.declared.flow.Flow.{Flow}
 use Rattle.abstract_state.specs.declared.flow.Flow.TheVariants.{Ends, Falls, Jumps, Splits}
 use Rattle.abstract_state.specs.declared.state.State.{State}
@@ -21,12 +21,12 @@ use Rattle.abstract_state.specs.States.{Checked, ◌>>=◌, kind_of}
 use Rattle.abstract_state.specs.Arithmetic.{source_kind}
 use Rattle.abstract_state.specs.Refinement.{allowed_test, refine_state}
 use Rattle.abstract_state.specs.Flow.{reads_both, test_flow, falls, flow_of}
-use Rattle.abstract_state.proofs.Inverting.{ok_value, ok_then}
+use Rattle.abstract_state.proofs.shared.Inverting.{ok_value, ok_then}
 use Rattle.verifier.specs.Dataflow.{known_at, join_known, joined_where, is_target, is_next, arriving, arriving_if, arriving_from, arrived, Accepts}
 use Rattle.verifier.specs.Answers.{EachInstructionHasState}
 use Rattle.verifier.proofs.ArrivalLemmas.{IsTaken, by_fall, by_jump, by_test, by_no_test}
 use Rattle.verifier.proofs.InstructionLemmas.{begins_within, let_through}
-use Rattle.verifier.proofs.PlaceLemmas.{falls_there, jumps_there}
+use Rattle.verifier.proofs.shared.PlaceLemmas.{falls_there, jumps_there}
 
 -- ---- one more edge takes nothing away
 

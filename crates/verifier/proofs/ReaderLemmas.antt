@@ -5,7 +5,7 @@ use Rattle.std.proofs.lemmas.Bool.{cases_lt}
 use Rattle.ebpf_decode.specs.declared.insn.Insn.{Insn}
 use Rattle.ebpf_decode.specs.InstructionEncoding.{slot_count, total_slots}
 use Rattle.semantics.specs.Program.{instruction_at}
-use Rattle.image_shape.proofs.SlotLemmas.{past_end, some_slots}
+use Rattle.image_shape.proofs.shared.SlotLemmas.{past_end, some_slots}
 use Rattle.abstract_state.specs.declared.state.State.{State}
 use Rattle.verifier.specs.Dataflow.{known_at}
 use Rattle.verifier.specs.Readers.{only_reads, reads_known, IsReader}

@@ -15,7 +15,7 @@ use Rattle.semantics.specs.System.{Setting, SystemState, WorkerState, Idle, Runs
 use Rattle.abstract_state.specs.declared.state.State.{State}
 use Rattle.verifier.specs.Dataflow.{Accepts}
 pub use Rattle.verifier.specs.Coverage.{held_by}
-use Rattle.verifier.proofs.PlaceLemmas.{IsSoundPlace}
+use Rattle.verifier.proofs.shared.PlaceLemmas.{IsSoundPlace}
 
 -- the shards that a worker's run has entered
 abbrev pub entered_of : WorkerState → List ℕ

@@ -1,7 +1,7 @@
 -- The rows stand for what the operation gives, as the definition does.
 use Rattle.std.proofs.Common.{rules, arith, ◌≡◌, ◌<◌, ◌≤◌, ◌^◌}
 use Rattle.abstract_scalar.specs.Transfer.{transfer_of}
-use Rattle.abstract_scalar.proofs.Soundness.{transfer_covers}
+use Rattle.abstract_scalar.proofs.shared.Soundness.{transfer_covers}
 use Rattle.abstract_scalar.proofs.transfers.transfer.Goals as goal
 
 pub returns-else-is_constant-clause-sound : goal.returns-else-is_constant-clause-sound

@@ -1,4 +1,4 @@
-use Rattle.abstract_state.proofs.FlowLaw.{flow_sound}
+use Rattle.abstract_state.proofs.shared.FlowLaw.{flow_sound}
 use Rattle.abstract_state.proofs.laws.flow_is_sound.Goals as goal
 
 pub returns : goal.returns

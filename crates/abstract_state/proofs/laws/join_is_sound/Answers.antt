@@ -1,4 +1,4 @@
-use Rattle.abstract_state.proofs.JoinStates.{join_sound}
+use Rattle.abstract_state.proofs.shared.JoinStates.{join_sound}
 use Rattle.abstract_state.proofs.laws.join_is_sound.Goals as goal
 
 pub returns : goal.returns

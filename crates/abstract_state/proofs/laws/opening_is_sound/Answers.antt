@@ -1,4 +1,4 @@
-use Rattle.abstract_state.proofs.Opening.{opening_sound}
+use Rattle.abstract_state.proofs.shared.Opening.{opening_sound}
 use Rattle.abstract_state.proofs.laws.opening_is_sound.Goals as goal
 
 pub returns : goal.returns

@@ -1,4 +1,4 @@
-use Rattle.image_shape.proofs.LawLemmas as laws
+use Rattle.image_shape.proofs.shared.LawLemmas as laws
 use Rattle.image_shape.proofs.laws.one_answer.Goals as goal
 
 pub returns-clause-no_fault : goal.returns-clause-no_fault

@@ -1,7 +1,7 @@
 use Rattle.std.proofs.Common.{◌<◌, refl, rules, arith}
 use Rattle.ebpf_decode.specs.InstructionEncoding.{total_slots}
-use Rattle.image_shape.proofs.SlotLemmas.{slot_within, next_at, whole_at, begins_here, instruction_here, none_inside}
-use Rattle.image_shape.proofs.FaultLemmas.{IsTarget, edge_is_up, goes_forward}
+use Rattle.image_shape.proofs.shared.SlotLemmas.{slot_within, next_at, whole_at, begins_here, instruction_here, none_inside}
+use Rattle.image_shape.proofs.shared.FaultLemmas.{IsTarget, edge_is_up, goes_forward}
 use Rattle.image_shape.proofs.ReachLemmas.{reached_at_start, reached_next, unreachable_here, all_reachable}
 use Rattle.image_shape.proofs.reach.check_reach.Goals as goal
 

@@ -1,6 +1,6 @@
 use Rattle.std.proofs.Common.{sym, ◌∙◌}
-use Rattle.image_shape.proofs.SlotLemmas.{slot_within, next_at, whole_at}
-use Rattle.image_shape.proofs.FaultLemmas.{found_bad, good_next, all_good}
+use Rattle.image_shape.proofs.shared.SlotLemmas.{slot_within, next_at, whole_at}
+use Rattle.image_shape.proofs.shared.FaultLemmas.{found_bad, good_next, all_good}
 use Rattle.image_shape.proofs.shape.check_edges.Goals as goal
 
 pub instruction_fault-requires-clause-within : goal.instruction_fault-requires-clause-within

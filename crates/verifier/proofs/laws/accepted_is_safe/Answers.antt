@@ -1,4 +1,4 @@
-use Rattle.verifier.proofs.SafetyLemmas.{safe_image}
+use Rattle.verifier.proofs.shared.SafetyLemmas.{safe_image}
 use Rattle.verifier.proofs.laws.accepted_is_safe.Goals as goal
 
 pub returns : goal.returns

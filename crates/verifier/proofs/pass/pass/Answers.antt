@@ -7,7 +7,7 @@ use Rattle.isa.specs.declared.operation.Source.TheVariants.{Imm}
 use Rattle.ebpf_decode.specs.declared.insn.Insn.TheVariants.{Alu}
 use Rattle.std.proofs.Math.ListN.{length-set}
 use Rattle.ebpf_decode.specs.InstructionEncoding.{total_slots}
-use Rattle.image_shape.proofs.SlotLemmas.{slot_within, next_at, whole_at, instruction_here, none_inside}
+use Rattle.image_shape.proofs.shared.SlotLemmas.{slot_within, next_at, whole_at, instruction_here, none_inside}
 use Rattle.verifier.specs.Rejects.{reject_of_refusal}
 use Rattle.verifier.specs.Dataflow.{states_of}
 use Rattle.verifier.specs.Resolving.{AreMemories}

@@ -1,6 +1,6 @@
 use Rattle.std.proofs.Common.{◌<◌, arith}
 use Rattle.ebpf_decode.specs.InstructionEncoding.{total_slots}
-use Rattle.image_shape.proofs.SlotLemmas.{slot_within, next_at, whole_at}
+use Rattle.image_shape.proofs.shared.SlotLemmas.{slot_within, next_at, whole_at}
 use Rattle.xlb.proofs.report.slots_of.Goals as goal
 
 pub overflow_add-slots : goal.overflow_add-slots

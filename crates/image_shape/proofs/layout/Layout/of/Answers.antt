@@ -1,6 +1,6 @@
 use Rattle.std.proofs.Common.{◌<◌, refl, arith}
 use Rattle.ebpf_decode.specs.InstructionEncoding.{total_slots}
-use Rattle.image_shape.proofs.SlotLemmas.{slot_within, next_at, whole_at}
+use Rattle.image_shape.proofs.shared.SlotLemmas.{slot_within, next_at, whole_at}
 use Rattle.image_shape.proofs.LayoutLemmas.{layout_at_start, layout_step, layout_done}
 use Rattle.image_shape.proofs.layout.Layout.of.Goals as goal
 

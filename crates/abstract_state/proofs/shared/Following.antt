@@ -14,7 +14,7 @@ use Rattle.semantics.specs.Program.{Program}
 use Rattle.semantics.specs.Step.{Outcome, Step, or_trap, Continues}
 use Rattle.semantics.specs.Arithmetic.{source_value}
 use Rattle.semantics.specs.Semantics.{at_next_slot, written_register, write_step}
-use Rattle.abstract_scalar.proofs.Soundness.{constant_covers}
+use Rattle.abstract_scalar.proofs.shared.Soundness.{constant_covers}
 use Rattle.abstract_state.specs.declared.kind.Kind.{Kind}
 use Rattle.abstract_state.specs.declared.flow.Flow.{Flow}
 use Rattle.abstract_state.specs.declared.flow.Flow.TheVariants.{Falls}
@@ -25,8 +25,8 @@ use Rattle.abstract_state.specs.Arithmetic.{source_kind}
 use Rattle.abstract_state.specs.Flow.{writable, falls}
 use Rattle.abstract_state.specs.Abstraction.{Ids, Held, Setting, KindCovers, setting_of, places_of, Abstracts}
 use Rattle.abstract_state.specs.Soundness.{FallsOn, Follows}
-use Rattle.abstract_state.proofs.Writing.{Extends, covers_later, word_later, written}
-use Rattle.abstract_state.proofs.Inverting.{err_not_ok, ok_value}
+use Rattle.abstract_state.proofs.shared.Writing.{Extends, covers_later, word_later, written}
+use Rattle.abstract_state.proofs.shared.Inverting.{err_not_ok, ok_value}
 
 -- ---- a value that an instruction makes, which its kind stands for at the slot where the run goes on
 

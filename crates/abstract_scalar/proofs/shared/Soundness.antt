@@ -3,7 +3,7 @@ use Rattle.std.proofs.Common.{◌≡◌, ℕ, zero, suc, ◌+◌, ◌-◌, ◌*�
 use Rattle.std.specs.Int.{w64, leading_zeros}
 use Rattle.std.specs.Int.Count.{count_leading_zeros}
 use Rattle.std.specs.Prelude.{bit_and, bit_or, bit_xor}
-use Rattle.std.proofs.lemmas.Bool.{ltb-true, ltb-false, leb-true, leb-false, eqb-true, eqb-false, and_parts, not-false, cases_lt}
+use Rattle.std.proofs.lemmas.Bool.{ltb-true, ltb-false, leb-true, leb-false, eqb-true, and_parts, not-false, cases_lt}
 use Rattle.std.proofs.lemmas.Nat.{pow_pos, or_lt, xor_lt, and_le_l, and_le_r, mod_below, mul-le, le-div, leading_length}
 use Rattle.std.proofs.Math.Logic.{⊎_elim}
 use Rattle.std.proofs.Math.Nat.{mod-eq_of_lt, add-mod_right, div-mul-le_self, div-le_self, pow-suc}
@@ -25,7 +25,7 @@ use Rattle.isa.specs.declared.operation.AluOp.TheVariants.{Add, Sub, Mul, Div, S
 use Rattle.abstract_scalar.specs.declared.interval.Interval.{Interval}
 use Rattle.abstract_scalar.specs.Intervals.{Covers, interval_of, constant_of, is_single, full_of, hull_of}
 use Rattle.abstract_scalar.specs.Transfer.{operand_interval, within, binary_digits, as_long_as, is_divisor, interval_row, transfer_of, neg_of, movsx64_of, movsx32_of, swap_of}
-use Rattle.abstract_scalar.specs.Cuts.{kept_between, kept_from, cut_of, refine_of}
+use Rattle.abstract_scalar.specs.Cuts.{kept_between, cut_of, refine_of}
 
 -- ---- intervals
 

@@ -15,8 +15,8 @@ use Rattle.semantics.specs.Program.{Program}
 use Rattle.abstract_state.specs.declared.refusal.Refusal.{Refusal}
 use Rattle.abstract_state.specs.States.{◌>>=◌, value_size_of}
 use Rattle.abstract_state.specs.Places.{range_within, aligned, stack_access, value_access}
-use Rattle.abstract_state.proofs.Checking.{ok_then, ok_if}
-use Rattle.abstract_state.proofs.ByteNumbers.{reaches_within, bytes_below}
+use Rattle.abstract_state.proofs.shared.Checking.{ok_then, ok_if}
+use Rattle.abstract_state.proofs.shared.ByteNumbers.{reaches_within, bytes_below}
 
 pub range_found : (place : ℤ) (count limit : ℕ) (why : Refusal) (from : ℕ) → range_within place count limit why ≡ Ok from →
     (place ≡ pos from) × (from + count ≤ limit)

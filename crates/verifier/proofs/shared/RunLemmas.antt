@@ -18,7 +18,7 @@ use Rattle.abstract_state.specs.Soundness.{IsServed, Follows}
 use Rattle.verifier.proofs.SystemInvariant.{entered_of, held_by, IsSoundRun, IsSoundWorker, IsSetting, IsSoundSystem}
 use Rattle.verifier.proofs.PlanLemmas.{some_shards, plan_exists}
 pub use Rattle.verifier.proofs.InstructionLemmas.{begins_within}
-use Rattle.verifier.proofs.PlaceLemmas.{Here, here_of}
+use Rattle.verifier.proofs.shared.PlaceLemmas.{Here, here_of}
 use Rattle.verifier.proofs.SettingLemmas.{held_facts, lookup_served, load_served}
 
 -- ---- its calls are served

@@ -1,9 +1,9 @@
 -- Every instruction leads where its flow says.
 use Rattle.abstract_state.specs.Soundness.{FlowIsSound}
-use Rattle.abstract_state.proofs.FlowSteps.{flow_follows}
+use Rattle.abstract_state.proofs.shared.FlowSteps.{flow_follows}
 use Rattle.abstract_state.proofs.Loading.{load_sound}
 use Rattle.abstract_state.proofs.SignedLoading.{signed_load_sound}
-use Rattle.abstract_state.proofs.StoreSoundness.{store_sound, store_register_sound}
+use Rattle.abstract_state.proofs.shared.StoreSoundness.{store_sound, store_register_sound}
 use Rattle.abstract_state.proofs.LookingUp.{call_sound}
 
 pub flow_sound : FlowIsSound

@@ -5,7 +5,7 @@ use Rattle.image_shape.specs.declared.fault.ShapeFault.{ShapeFault}
 use Rattle.image_shape.specs.declared.fault.ShapeFault.TheVariants.{JumpBackward, JumpOutside, JumpIntoWide, FallsOff, Unreachable}
 use Rattle.image_shape.specs.Laws.{EdgesGoUp, HasNoFault, HasOneFault}
 use Rattle.image_shape.specs.Structure.{fault_at, HasSoundEdges, HasShape, IsFirstFault, IsFirstBadEdge, IsFirstUnreachable}
-use Rattle.image_shape.proofs.FaultLemmas.{IsTarget, edge_is_up}
+use Rattle.image_shape.proofs.shared.FaultLemmas.{IsTarget, edge_is_up}
 
 pub edges_go_up : EdgesGoUp
 edges_go_up code slot insn target shape found edge =

@@ -45,8 +45,8 @@ use Rattle.abstract_state.specs.Access.{loaded_kind, load_of, signed_loaded, sig
 use Rattle.abstract_state.specs.Calls.{served_helper, key_arguments, update_arguments, head_arguments, any_number, returned, call_of}
 use Rattle.abstract_state.specs.Flow.{writable, fetch_writable, reads, reads_both, reads_operands, reads_atomic, reads_arguments, alu_flow, operand_of, unary_flow, load_flow, store_flow, store_register_flow, atomic_flow, number_flow, known_map, map_flow, call_flow, test_flow, exit_kind, falls, flow_of}
 use Rattle.abstract_state.specs.Soundness.{IsShaped, FlowIsShaped, StatesAreShaped}
-use Rattle.abstract_state.proofs.Inverting.{err_not_ok, ok_value, ok_then, ok_if}
-use Rattle.abstract_state.proofs.JoinStates.{at_place, length-zip_with}
+use Rattle.abstract_state.proofs.shared.Inverting.{err_not_ok, ok_value, ok_then, ok_if}
+use Rattle.abstract_state.proofs.shared.JoinStates.{at_place, length-zip_with}
 
 -- ---- words
 

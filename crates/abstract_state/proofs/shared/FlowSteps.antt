@@ -28,8 +28,8 @@ use Rattle.abstract_state.specs.Access.{atomic_on, atomic_of}
 use Rattle.abstract_state.specs.Flow.{fetch_writable, reads_atomic, atomic_flow, flow_of}
 use Rattle.abstract_state.specs.Abstraction.{Held, Abstracts}
 use Rattle.abstract_state.specs.Soundness.{JumpsForward, Follows}
-use Rattle.abstract_state.proofs.Inverting.{err_not_ok, ok_then}
-use Rattle.abstract_state.proofs.Following.{SourceFits, falls_follow}
+use Rattle.abstract_state.proofs.shared.Inverting.{err_not_ok, ok_then}
+use Rattle.abstract_state.proofs.shared.Following.{SourceFits, falls_follow}
 use Rattle.abstract_state.proofs.RegisterSteps.{alu_follows, neg_follows, movsx_follows, movsx32_follows, end_follows, lddw_follows, ldmap_follows, exit_follows, ja_follows, ja32_follows}
 use Rattle.abstract_state.proofs.Branching.{jump_if_follows}
 

@@ -22,11 +22,11 @@ use Rattle.abstract_state.specs.States.{Checked}
 use Rattle.abstract_state.specs.Flow.{falls, flow_of}
 use Rattle.abstract_state.specs.Abstraction.{Held, Abstracts}
 use Rattle.abstract_state.specs.Soundness.{IsShaped, HoldsAfter, GoesOn, Lands, distance_of_jump, JumpsForward, Follows}
-use Rattle.abstract_state.proofs.FlowLaw.{flow_sound}
+use Rattle.abstract_state.proofs.shared.FlowLaw.{flow_sound}
 use Rattle.image_shape.specs.Edges.{IsEdge, is_begin}
 use Rattle.image_shape.specs.Runs.{GoesTo}
-use Rattle.image_shape.proofs.LawLemmas.{edges_go_up}
-use Rattle.image_shape.proofs.RunLemmas.{runs_follow_edges}
+use Rattle.image_shape.proofs.shared.LawLemmas.{edges_go_up}
+use Rattle.image_shape.proofs.shared.RunLemmas.{runs_follow_edges}
 use Rattle.verifier.specs.Dataflow.{known_at, is_at, is_target, is_next, Accepts}
 use Rattle.verifier.proofs.PassLemmas.{forward}
 use Rattle.verifier.proofs.ArrivalLemmas.{IsWhole, whole_below, IsSoundAt, IsTaken, by_fall, by_jump, by_test, by_no_test, sound_there}

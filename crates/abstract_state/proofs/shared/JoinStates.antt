@@ -9,7 +9,7 @@ use Rattle.abstract_state.specs.States.{kind_of, word_of}
 use Rattle.abstract_state.specs.Join.{zip_with, join_kind, join_word}
 use Rattle.abstract_state.specs.Soundness.{JoinIsSound}
 use Rattle.abstract_state.specs.Abstraction.{places_of, setting_of}
-use Rattle.abstract_state.proofs.Writing.{number_below}
+use Rattle.abstract_state.proofs.shared.Writing.{number_below}
 use Rattle.abstract_state.proofs.JoinKinds.{join_left, join_right}
 use Rattle.abstract_state.proofs.JoinWords.{word_left, word_right}
 

@@ -9,7 +9,7 @@ use Rattle.ebpf_decode.specs.declared.map.MapDef.{MapDef}
 use Rattle.ebpf_decode.specs.ImageContents.{IsAllowedMap, IsEncodable}
 use Rattle.ebpf_decode.specs.InstructionEncoding.{slot_count, total_slots}
 use Rattle.ebpf_decode.specs.MapForm.{is_allowed_map}
-use Rattle.image_shape.proofs.SlotLemmas.{some_slots}
+use Rattle.image_shape.proofs.shared.SlotLemmas.{some_slots}
 use Rattle.semantics.specs.declared.plan.ShardPlan.{ShardPlan}
 use Rattle.semantics.specs.declared.call.Caller.TheVariants.{Worker, Controller, Reclaimer}
 use Rattle.semantics.specs.declared.call.Call.{Call}
@@ -37,9 +37,9 @@ use Rattle.verifier.proofs.SettingLemmas.{opening_sound, change_is_plain}
 use Rattle.verifier.proofs.EntryLemmas.{local_change}
 use Rattle.verifier.proofs.EventLemmas.{call_sound, leave_sound, is_counted}
 use Rattle.verifier.proofs.AskingLemmas.{stopped, enter_sound, ask_sound, quiet_lookup, quiet_load, lookup_holds, load_holds}
-use Rattle.verifier.proofs.PlaceLemmas.{Here, here_of}
-use Rattle.verifier.proofs.RunLemmas.{safe_worker}
-use Rattle.verifier.proofs.LocalLemmas.{continues_soundly, called_soundly, begins_soundly}
+use Rattle.verifier.proofs.shared.PlaceLemmas.{Here, here_of}
+use Rattle.verifier.proofs.shared.RunLemmas.{safe_worker}
+use Rattle.verifier.proofs.shared.LocalLemmas.{continues_soundly, called_soundly, begins_soundly}
 
 -- ---- a run's call
 

@@ -20,7 +20,7 @@ use Rattle.abstract_state.specs.States.{word_of}
 use Rattle.abstract_state.specs.Join.{bytes_of_kind, bytes_of_word}
 use Rattle.abstract_state.specs.Words.{is_byte_set, are_bytes_set}
 use Rattle.abstract_state.specs.Abstraction.{Held, Setting, KindCovers, IsByte, IsSpilled, WordCovers, places_of, setting_of, Abstracts}
-use Rattle.abstract_state.proofs.ByteNumbers.{bytes_length, bytes_small, bytes_back, Reads, range_read, number_read, written_back, written_place}
+use Rattle.abstract_state.proofs.shared.ByteNumbers.{bytes_length, bytes_small, bytes_back, Reads, range_read, number_read, written_back, written_place}
 
 -- ---- bytes that are set were written
 

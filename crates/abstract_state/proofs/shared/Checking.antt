@@ -20,7 +20,7 @@ use Rattle.abstract_state.specs.States.{Checked, ◌>>=◌, with_kind}
 use Rattle.abstract_state.specs.Flow.{writable, falls}
 use Rattle.abstract_state.specs.Soundness.{FallsOn}
 use Rattle.abstract_state.specs.Abstraction.{Held, Ids, Setting, KindCovers, setting_of, Abstracts}
-use Rattle.abstract_state.proofs.Writing.{covers_later, written}
+use Rattle.abstract_state.proofs.shared.Writing.{covers_later, written}
 
 -- ---- what was made on the way
 

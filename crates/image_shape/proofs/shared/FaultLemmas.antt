@@ -12,7 +12,7 @@ use Rattle.ebpf_decode.specs.Jumps.{jump_distance}
 use Rattle.image_shape.specs.Edges.{falls_through, IsEdge, is_begin}
 use Rattle.image_shape.specs.Layouts.{IsLayout, GoesForward}
 use Rattle.image_shape.specs.Structure.{jump_fault, fall_fault, or_else, instruction_fault, fault_at, HasSoundEdges, IsFirstFault, IsFirstBadEdge}
-use Rattle.image_shape.proofs.SlotLemmas.{some_slots, instruction_here, none_inside, past_end, next_begins}
+use Rattle.image_shape.proofs.shared.SlotLemmas.{some_slots, instruction_here, none_inside, past_end, next_begins}
 
 -- ---- the same marks give the same fault
 

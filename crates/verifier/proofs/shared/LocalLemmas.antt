@@ -13,10 +13,10 @@ use Rattle.abstract_state.specs.declared.state.State.{State}
 use Rattle.abstract_state.specs.States.{opening_state}
 use Rattle.abstract_state.specs.Abstraction.{Held}
 use Rattle.abstract_state.specs.Soundness.{HoldsAfter}
-use Rattle.abstract_state.proofs.Opening.{opening_sound}
+use Rattle.abstract_state.proofs.shared.Opening.{opening_sound}
 use Rattle.image_shape.specs.Edges.{is_begin}
 use Rattle.verifier.proofs.SystemInvariant.{held_by, IsSoundRun, IsSoundWorker, IsSetting, IsSoundSystem}
-use Rattle.verifier.proofs.PlaceLemmas.{IsSoundPlace, continues_there, answered_there}
+use Rattle.verifier.proofs.shared.PlaceLemmas.{IsSoundPlace, continues_there, answered_there}
 
 -- ---- the run
 

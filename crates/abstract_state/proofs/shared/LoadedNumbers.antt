@@ -20,10 +20,10 @@ use Rattle.abstract_state.specs.declared.state.State.{State}
 use Rattle.abstract_state.specs.States.{word_of}
 use Rattle.abstract_state.specs.Words.{are_bytes_set, loaded_number, narrow_loaded, spilled_loaded, word_loaded}
 use Rattle.abstract_state.specs.Abstraction.{Held, Setting, KindCovers, IsNumberIn, IsPacketPlace, IsSpilled, WordCovers, places_of, setting_of, Abstracts}
-use Rattle.abstract_state.proofs.Checking.{ok_same, ok_if}
-use Rattle.abstract_state.proofs.ByteNumbers.{bytes_below, Reads, range_read, number_read}
-use Rattle.abstract_state.proofs.StackReading.{set_byte, set_bytes, GivesBack, spilled_back}
-use Rattle.abstract_state.proofs.Accesses.{IsAligned, stack_reached, stack_moved, packet_moved, packet_reached, frame_number}
+use Rattle.abstract_state.proofs.shared.Checking.{ok_same, ok_if}
+use Rattle.abstract_state.proofs.shared.ByteNumbers.{bytes_below, Reads, range_read, number_read}
+use Rattle.abstract_state.proofs.shared.StackReading.{set_byte, set_bytes, GivesBack, spilled_back}
+use Rattle.abstract_state.proofs.shared.Accesses.{IsAligned, stack_reached, stack_moved, packet_moved, packet_reached, frame_number}
 
 -- an outcome that the kind covers
 pub record Loads (s : Setting) (kind : Kind) (outcome : Outcome RegisterValue) : Type 0 where

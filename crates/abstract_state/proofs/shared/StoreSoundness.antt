@@ -32,8 +32,8 @@ use Rattle.abstract_state.specs.Access.{stack_stored, stored, store_of, atomic_o
 use Rattle.abstract_state.specs.Flow.{is_set, reads, reads_both, reads_atomic, fetch_writable, store_flow, store_register_flow, atomic_flow, flow_of}
 use Rattle.abstract_state.specs.Soundness.{FallsOn, Follows}
 use Rattle.abstract_state.specs.Abstraction.{Held, KindCovers, IsStackPlace, setting_of, Abstracts}
-use Rattle.abstract_state.proofs.Checking.{ok_same, ok_then, falls_made}
-use Rattle.abstract_state.proofs.Accesses.{IsAligned, range_found, stack_found}
+use Rattle.abstract_state.proofs.shared.Checking.{ok_same, ok_then, falls_made}
+use Rattle.abstract_state.proofs.shared.Accesses.{IsAligned, range_found, stack_found}
 use Rattle.abstract_state.proofs.Storing.{AreEight, narrow_is_number, whole_stored, part_stored, packet_stored}
 
 -- ---- stores to the stack, by their size
