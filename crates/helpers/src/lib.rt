@@ -1,6 +1,7 @@
-//! The helper functions that change a frame (the Linux profile of XDP).
+//! What the helper functions of programs take, answer and do (Linux's XDP).
 #![tactic(auto)]
 
+pub mod arguments;
 mod head;
 #[cfg(test)]
 mod table_tests;

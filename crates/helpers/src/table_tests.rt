@@ -1,6 +1,7 @@
 //! Rows worked out by hand from what Linux says of `bpf_xdp_adjust_head`.
 
 use crate::adjust_head;
+use crate::arguments::answer_word;
 use std::test::Fail;
 use wire::Frame;
 
@@ -47,4 +48,20 @@ fn bytes_that_come_back_are_zero(rt: HostRuntime) -> Result<(), Fail> {
     assert_eq!(rt; &frame.bytes()[..28], [0; 28].as_slice());
     assert_eq!(rt; &frame.bytes()[28..], [0xab; 14].as_slice());
     Ok(())
+}
+
+/// Answers of bpf-helpers(7), as R0 has them.
+#[rattlefmt::skip]
+const WORDS: [(&str, i32, u64); 4] = [
+    ("done",             0,  0),
+    ("EEXIST",         -17,  0xffff_ffff_ffff_ffef),
+    ("EINVAL",         -22,  0xffff_ffff_ffff_ffea),
+    ("a positive one", 255,  0xff),
+];
+
+#[test]
+fn answers_are_sign_extended(rt: HostRuntime) {
+    for (name, code, word) in WORDS {
+        assert_eq!(rt; answer_word(code), word, "{name}");
+    }
 }

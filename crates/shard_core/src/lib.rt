@@ -2,7 +2,6 @@
 #![tactic(auto)]
 
 mod array;
-mod inside;
 pub mod laws;
 pub mod shard;
 

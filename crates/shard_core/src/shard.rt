@@ -1,13 +1,14 @@
 //! One shard of an array.
 
-ghost use Rattle.std.specs.Prelude.{◌≡◌, ◌==◌, ◌+◌, ◌<◌, ◌≤◌, ◌↔◌, [], ◌∷◌, ◌++◌, IsErr, IfOk, IfErr, OnErr, reverse, length, nat_lt, vec_len, vec_capacity};
+ghost use Rattle.std.specs.Prelude.{◌≡◌, ◌==◌, ◌+◌, ◌<◌, ◌≤◌, ◌↔◌, [], ◌∷◌, ◌++◌, IsErr, IfOk, IfErr, OnErr, reverse, length, nat_lt, vec_len, vec_capacity, ℕ, List, count_by, slice_index_or, false};
 ghost use Rattle.semantics.specs.Reclamation.{is_inside, holds, inside_count};
 ghost use Rattle.semantics.specs.History.{meets, Meets, journal_is_full, IsJournalFull, IsLegalJournal};
-ghost use Rattle.shard_core.specs.ArrayShard.{IsArrayPlan};
+ghost use Rattle.shard_core.specs.ArrayShard.{IsArrayPlan, inside_flags, with_flag};
 ghost use Rattle.shard_core.specs.JournaledShard.{opened_shard, sequential_reply, with_entry};
+ghost use Rattle.semantics.specs.declared.call.Entry.{Entry};
+ghost use Rattle.semantics.specs.declared.call.Reply.{Reply};
 
 use crate::array::{change, opening_cells, reply_of};
-use crate::inside::{Flags, count, note};
 use semantics::{Call, Caller, Entry, JournalFull, Reply, SectionChange, ShardPlan, Value};
 use std::alloc::{AllocError, Global};
 use std::marker::Model;
@@ -155,5 +156,44 @@ fn put_entry(entries: &mut Vec<Entry>, entry: Entry)
 {
     if entries.extend_from_slice(&[entry]).is_err() {
         unreachable!()
+    }
+}
+
+// Which workers are inside, kept beside the journal so that no call has to read it.
+
+/// A flag for each worker, by its number.
+type Flags = [bool; 8];
+
+/// How many flags are set.
+fn count(flags: &[bool]) -> usize
+    ensures { result ≡ count_by (λ flag. flag) flags.now }
+{
+    flags.iter().filter(|flag| **flag).count()
+}
+
+/// Sets one worker's flag.
+fn set(flags: &mut [bool], who: &Caller, flag: bool)
+    ensures { flags.new ≡ with_flag who.now flag flags.old }
+{
+    match who {
+        Caller::Worker { number } => {
+            let place = usize::from(*number);
+            if place < flags.len() {
+                flags[place] = flag;
+            }
+        }
+        Caller::Controller => {}
+        Caller::Reclaimer => {}
+    }
+}
+
+/// Notes a call: an Enter or a Leave changes its worker's flag.
+fn note(flags: &mut [bool], who: &Caller, call: &Call)
+    ensures { (older : List Entry) (reply : Reply) → flags.old ≡ inside_flags older → flags.new ≡ inside_flags ((record { who = who.now; call = call.now; reply = reply }) ∷ older) }
+{
+    match call.section_change() {
+        SectionChange::Begins => set(flags, who, true),
+        SectionChange::Ends => set(flags, who, false),
+        SectionChange::Stays => {}
     }
 }

@@ -1,7 +1,6 @@
 //! The port of a single caller over the shards of an image's maps.
 #![tactic(auto)]
 
-mod asking;
 pub mod laws;
 pub mod plain;
 #[cfg(test)]

@@ -1,20 +1,20 @@
 //! The port of a single caller: one worker, one run at a time, no lock.
 
-ghost use Rattle.std.specs.Prelude.{◌≡◌, ◌<◌, ◌≤◌, ◌+◌, ◌*◌, ◌%◌, ◌^◌, ℕ, pos, IsTrue, IfOk, IfErr, OnErr, length, slice_get};
+ghost use Rattle.std.specs.Prelude.{◌≡◌, ◌<◌, ◌≤◌, ◌+◌, ◌*◌, ◌%◌, ◌^◌, ℕ, pos, IsTrue, IfOk, IfErr, OnErr, length, slice_get, nat_lt, IsFalse, OnOk};
 ghost use Rattle.semantics.specs.ShardPlan.{AreOptions};
-ghost use Rattle.semantics.specs.History.{shard_of_call};
-ghost use Rattle.shard_port.specs.Asking.{may_ask_at, all_left, IsAnsweredAmong, IsTurnedAwayAmong};
+ghost use Rattle.semantics.specs.History.{shard_of_call, IsLegalJournal};
+ghost use Rattle.shard_port.specs.Asking.{may_ask_at, all_left, IsAnsweredAmong, IsTurnedAwayAmong, entered, left, can_enter, may_ask, IsAnswered, IsTurnedAway, IsWorkerOf};
 ghost use Rattle.shard_port.specs.PortView.{ServesMaps, IsReady, IsRunCall, SetsBytes, cell_of_handle, handle_of, word_in, answer_in, has_small_cell};
 ghost use Rattle.map_port.specs.Served.{handle_limit};
 ghost use Rattle.semantics.specs.LittleEndian.{number_of_bytes};
-ghost use Rattle.isa.specs.InstructionCodes.{atomic_code};
+ghost use Rattle.std.specs.List.{AllByRecursion};
 
-use crate::asking::{ask_at, leave_all};
 use ebpf_decode::Image;
 use isa::AtomicOp;
 use map_port::MapPort;
 use semantics::little_endian::number_of_bytes;
-use semantics::{Call, CellRef, JournalFull, Key, Options, Reply, Value};
+use semantics::{Call, Caller, CellRef, JournalFull, Key, Options, Reply, Value};
+use shard_core::Shard;
 use shards::Shards;
 
 /// A worker's port over the shards of an image's maps. It enters a shard before its first call there, and has to be finished,
@@ -176,7 +176,7 @@ impl<'a> MapPort for PlainPort<'a> {
             cell: cell_of_handle(handle),
             offset,
             width,
-            op: atomic_code(op),
+            op: u64::from(op.code()),
             value,
             expected,
         };
@@ -290,20 +290,80 @@ fn answer_in(reply: &Reply) -> i32
     }
 }
 
-/// The immediate of an atomic operation (RFC 9669, section 5.3).
-fn atomic_code(op: AtomicOp) -> u64
-    ensures { result ≡ atomic_code op }
+// What a worker asks of a shard: to enter, a call, to leave.
+
+/// Enters the shard, if the worker is not inside. Refused where the journal is full for the Enter; then nothing is changed.
+fn enter(shard: &mut Shard, worker: u8) -> Result<(), JournalFull>
+    requires { IsTrue (nat_lt worker shard.old.plan.workers) }
+    ensures enters { OnOk result (IsTrue (can_enter worker shard.old)) }
+    ensures entered { OnOk result (shard.new ≡ entered worker shard.old) }
+    ensures legal { IsLegalJournal shard.old.plan shard.old.journal }
+    ensures full { OnErr result (IsFalse (can_enter worker shard.old)) }
+    ensures unchanged { OnErr result (shard.new ≡ shard.old) }
+    ensures names_the_shard { IfErr result (λ fault. fault.shard ≡ shard.old.plan.number) }
 {
-    match op {
-        AtomicOp::AtomicAdd => 0x00,
-        AtomicOp::AtomicOr => 0x40,
-        AtomicOp::AtomicAnd => 0x50,
-        AtomicOp::AtomicXor => 0xa0,
-        AtomicOp::FetchAdd => 0x01,
-        AtomicOp::FetchOr => 0x41,
-        AtomicOp::FetchAnd => 0x51,
-        AtomicOp::FetchXor => 0xa1,
-        AtomicOp::Exchange => 0xe1,
-        AtomicOp::CompareExchange => 0xf1,
+    let number = shard.plan().number;
+    let _ = shard.entries();
+    if shard.is_inside(worker) {
+        return Ok(());
+    }
+    match shard.apply(
+        Caller::Worker { number: worker },
+        &Call::Enter { shard: number },
+    ) {
+        Ok(_entered) => Ok(()),
+        Err(full) => Err(full),
+    }
+}
+
+/// Makes the call for the worker, which enters first if it is not inside. Refused where the journal is full for the Enter or
+/// for the call; it may have entered then.
+fn ask(shard: &mut Shard, worker: u8, call: &Call) -> Result<Reply, JournalFull>
+    requires { IsTrue (may_ask worker shard.old call.now) }
+    ensures answered { IfOk result (λ reply. IsAnswered worker shard.old call.now reply shard.new) }
+    ensures turned_away { OnErr result (IsTurnedAway worker shard.old call.now shard.new) }
+    ensures legal { IsLegalJournal shard.new.plan shard.new.journal }
+    ensures names_the_shard { IfErr result (λ fault. fault.shard ≡ shard.old.plan.number) }
+{
+    match enter(shard, worker) {
+        Ok(()) => shard.apply(Caller::Worker { number: worker }, call),
+        Err(full) => Err(full),
+    }
+}
+
+/// Makes the call for the worker at the shard that the call names. Refused as at one shard, with the shard's number.
+fn ask_at(shards: &mut Shards, worker: u8, call: &Call) -> Result<Reply, JournalFull>
+    requires { IsTrue (may_ask_at worker (slice_get shards.old (shard_of_call call.now)) call.now) }
+    ensures answered { IfOk result (λ reply. IsAnsweredAmong worker shards.old call.now reply shards.new) }
+    ensures turned_away { OnErr result (IsTurnedAwayAmong worker shards.old call.now shards.new) }
+    ensures names_the_shard { IfErr result (λ fault. fault.shard ≡ shard_of_call call.now) }
+{
+    let number = call.shard();
+    ask(shards.shard(number), worker, call)
+}
+
+/// Leaves the shard, if the worker is inside.
+fn leave(shard: &mut Shard, worker: u8)
+    requires { IsWorkerOf worker shard.old }
+    ensures { shard.new ≡ left worker shard.old }
+{
+    let number = shard.plan().number;
+    if shard.is_inside(worker) {
+        let _ = shard.apply(
+            Caller::Worker { number: worker },
+            &Call::Leave { shard: number },
+        );
+    }
+}
+
+/// Leaves all shards that the worker is inside of, the lowest number first.
+fn leave_all(shards: &mut Shards, worker: u8)
+    requires few { length shards.old ≤ 128 }
+    requires worker { AllByRecursion (IsWorkerOf worker) shards.old }
+    ensures { shards.new ≡ all_left worker shards.old }
+{
+    let count = shards.count() as u32;
+    for number in 0..count {
+        leave(shards.shard(number), worker);
     }
 }

@@ -11,11 +11,11 @@ use Rattle.shard_port.proofs.GivenLemmas.{given_by, change_told, change_below}
 use Rattle.shard_port.proofs.plain.PlainPortMapPort.atomic.Goals as goal
 
 pub ask-requires-clause-may : goal.ask-requires-clause-may
-ask-requires-clause-may c = rw (c.cell_of_handle.ensures, c.atomic_code.ensures) (∥∥₁_elim c.args.self.now.ready (Coded-set coded_bool _ _) (λ (ready : IsReady c.args.self.now.image.now.maps c.args.self.now.options c.args.self.now.worker c.args.self.now.shards.now). may_change c.args.self.now.image.now.maps c.args.self.now.options c.args.self.now.worker c.args.self.now.shards.now (cell_of_handle c.args.handle) c.args.offset c.args.width c.args.op c.args.value c.args.expected ready c.requires))
+ask-requires-clause-may c = rw (c.cell_of_handle.ensures, c.from.ensures, c.code.ensures) (∥∥₁_elim c.args.self.now.ready (Coded-set coded_bool _ _) (λ (ready : IsReady c.args.self.now.image.now.maps c.args.self.now.options c.args.self.now.worker c.args.self.now.shards.now). may_change c.args.self.now.image.now.maps c.args.self.now.options c.args.self.now.worker c.args.self.now.shards.now (cell_of_handle c.args.handle) c.args.offset c.args.width c.args.op c.args.value c.args.expected ready c.requires))
 
 pub returns-in-Ok-clause-gives : goal.returns-in-Ok-clause-gives
 returns-in-Ok-clause-gives c =
-    let among : IsAnsweredAmong c.args.self.now.worker c.args.self.now.shards.now (Atomic (cell_of_handle c.args.handle) c.args.offset c.args.width (atomic_code c.args.op) c.args.value c.args.expected) c.in-Ok.reply c.ask.new.self.shards.now = rw (c.cell_of_handle.ensures, c.atomic_code.ensures) at c.in-Ok.ensures.answered in
+    let among : IsAnsweredAmong c.args.self.now.worker c.args.self.now.shards.now (Atomic (cell_of_handle c.args.handle) c.args.offset c.args.width (atomic_code c.args.op) c.args.value c.args.expected) c.in-Ok.reply c.ask.new.self.shards.now = rw (c.cell_of_handle.ensures, c.from.ensures, c.code.ensures) at c.in-Ok.ensures.answered in
     let below : word_in c.in-Ok.reply < 256 ^ c.args.width = ∥∥₁_elim c.args.self.now.ready le_prop (λ (ready : IsReady c.args.self.now.image.now.maps c.args.self.now.options c.args.self.now.worker c.args.self.now.shards.now). change_below c.args.self.now.image.now.maps c.args.self.now.options c.args.self.now.worker c.args.self.now.shards.now (cell_of_handle c.args.handle) c.args.offset c.args.width (atomic_code c.args.op) c.args.value c.args.expected c.in-Ok.reply c.ask.new.self.shards.now ready among) in
     rw c.word_in.ensures (record {
       same_port = record {

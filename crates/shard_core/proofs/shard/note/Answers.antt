@@ -1,7 +1,7 @@
 use Rattle.std.proofs.Common.{false, sym, ◌∙◌, ap}
 use Rattle.shard_core.specs.ArrayShard.{with_flag}
 use Rattle.shard_core.proofs.FlagLemmas.{inside_flags_left}
-use Rattle.shard_core.proofs.inside.note.Goals as goal
+use Rattle.shard_core.proofs.shard.note.Goals as goal
 
 pub returns-in-Ends : goal.returns-in-Ends
 returns-in-Ends c older reply same =

@@ -2,7 +2,7 @@ use Rattle.std.proofs.Common.{◌≡◌, ◌++◌, take, drop, add-one, ap, ◌�
 use Rattle.std.specs.Prelude.{Some, slice_get}
 use Rattle.shard_port.specs.Asking.{all_left}
 use Rattle.shard_port.proofs.LeavingLemmas.{left_one_more}
-use Rattle.shard_port.proofs.asking.leave_all.Goals as goal
+use Rattle.shard_port.proofs.plain.leave_all.Goals as goal
 
 pub loop-number-preserved : goal.loop-number-preserved
 loop-number-preserved c =
