@@ -60,7 +60,8 @@ fn split(
     ensures later { IfOk result (λ _. (target : ℕ) → slot + slot_count insn < target →
         pending_at pending.new target ≡ arriving slot insn target (flow_by insn Way.Splits entry.old.state) (pending_at pending.old target)) }
     ensures next { IfOk result (λ _.
-        entry_of entry.new ≡ arriving slot insn (slot + slot_count insn) (flow_by insn Way.Splits entry.old.state) (pending_at pending.old (slot + slot_count insn))) }
+        entry_of entry.new ≡ arriving slot insn (slot + slot_count insn) (flow_by insn Way.Splits entry.old.state)
+        (pending_at pending.old (slot + slot_count insn))) }
 {
     let mut taken = entry.state;
     taken.follow(insn, true);
@@ -84,7 +85,8 @@ fn lead_on(
     ensures later { IfOk result (λ _. (target : ℕ) → slot + slot_count insn < target →
         pending_at pending.new target ≡ arriving slot insn target (flow_by insn way entry.old.state) (pending_at pending.old target)) }
     ensures next { IfOk result (λ _.
-        entry_of entry.new ≡ arriving slot insn (slot + slot_count insn) (flow_by insn way entry.old.state) (pending_at pending.old (slot + slot_count insn))) }
+        entry_of entry.new ≡ arriving slot insn (slot + slot_count insn) (flow_by insn way entry.old.state)
+        (pending_at pending.old (slot + slot_count insn))) }
     ensures asked { IfErr result (λ _. IsTrue (jumps (flow_by insn way entry.old.state))) }
 {
     let next = slot + insn.slot_count() as usize;
@@ -114,7 +116,8 @@ pub(crate) fn advance(
     ensures later { IfOk result (λ _. (target : ℕ) → slot + slot_count insn < target →
         pending_at pending.new target ≡ arriving_from maps.now slot (Some insn) (entry_of entry.old) target (pending_at pending.old target)) }
     ensures next { IfOk result (λ _.
-        entry_of entry.new ≡ arriving_from maps.now slot (Some insn) (entry_of entry.old) (slot + slot_count insn) (pending_at pending.old (slot + slot_count insn))) }
+        entry_of entry.new ≡ arriving_from maps.now slot (Some insn) (entry_of entry.old) (slot + slot_count insn)
+        (pending_at pending.old (slot + slot_count insn))) }
     ensures passes { IfOk result (λ _. (state : State) → entry_of entry.old ≡ Some state → IsOk (flow_of maps.now state slot insn)) }
     ensures broken { (why : Refusal) → result ≡ Err (Stop.Rule why) → BreaksRule maps.now slot insn (entry_of entry.old) why }
     ensures asked { result ≡ Err Stop.Memory → WantsRoom maps.now slot insn (entry_of entry.old) }
