@@ -41,6 +41,20 @@ impl HashShard {
         Ok(HashShard { index, ids, free })
     }
 
+    /// How many keys are there.
+    pub fn len(&self) -> usize
+        ensures { result ≡ length self.now.entries }
+    {
+        self.ids.len() - self.free.len()
+    }
+
+    /// How many keys there may be.
+    pub fn capacity(&self) -> usize
+        ensures { result ≡ self.now.capacity }
+    {
+        self.ids.len()
+    }
+
     /// The cell of a key.
     pub fn find(&self, key: &[u8]) -> Option<u64>
         requires { length key.now ≡ self.now.size }
