@@ -4,6 +4,7 @@ mod assemble;
 mod decode;
 mod flat;
 mod library;
+mod maps;
 mod measure;
 mod plain;
 mod programs;
@@ -240,5 +241,8 @@ fn main() {
     }
     if "queues".contains(&word) {
         queues::print();
+    }
+    if "maps".contains(&word) {
+        maps::print();
     }
 }
