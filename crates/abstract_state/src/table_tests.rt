@@ -291,3 +291,19 @@ fn joined_states(rt: HostRuntime) {
         "registers are joined too"
     );
 }
+
+#[test]
+fn states_by_value(rt: HostRuntime) -> Result<(), Fail> {
+    use Register::{R0, R1, R10};
+    let down = State::opening().after_alu(site(0), Width::Bits64, AluOp::Add, R10, Source::Imm(-8));
+    match down {
+        Ok(state) => assert_eq!(rt; state.kind(R10), Kind::Stack(504), "eight bytes down"),
+        Err(_) => assert!(rt; false, "a stack pointer moves down"),
+    }
+    let mut queue = State::opening();
+    let read = queue.step(site(0), load(Size::U32, R0, R1, 16));
+    assert_eq!(rt; read, Ok(Way::Falls), "the receive queue is read");
+    let high = queue.refine(Width::Bits64, Test::Gt, R0, Source::Imm(3), true);
+    assert_eq!(rt; high.kind(R0), scalar(4, 7), "above 3");
+    Ok(())
+}
