@@ -16,13 +16,17 @@ older_is_legal : (plan : ShardPlan) (newer older : List Entry) → IsLegalHistor
 older_is_legal plan [] older legal = legal
 older_is_legal plan (entry ∷ newer) older legal = older_is_legal plan newer older legal.1
 
-pub entry_is_step : (plan : ShardPlan) (earlier later : List Entry) (entry : Entry) → IsLegalJournal plan (earlier ++ entry ∷ later) → IsSequentialStep plan (reverse earlier) entry
+pub entry_is_step : (plan : ShardPlan) (earlier later : List Entry) (entry : Entry) → IsLegalJournal plan (earlier ++ entry ∷ later) →
+    IsSequentialStep plan (reverse earlier) entry
 entry_is_step plan earlier later entry legal =
     let split : reverse (earlier ++ entry ∷ later) ≡ reverse later ++ (entry ∷ reverse earlier) =
-    reverse-append earlier (entry ∷ later) ∙ ap (λ newer. newer ++ reverse earlier) (reverse-append (entry ∷ []) later) ∙ append_assoc (reverse later) (entry ∷ []) (reverse earlier) in
+    reverse-append earlier (entry ∷ later) ∙ ap (λ newer. newer ++ reverse earlier) (reverse-append (entry ∷ []) later) ∙
+    append_assoc (reverse later) (entry ∷ []) (reverse earlier) in
     let onward = older_is_legal plan (reverse later) (entry ∷ reverse earlier) (subst (IsLegalHistory plan) split legal) in
     onward.0.step
 
 -- shards that serve their maps have legal journals
-pub are_legal : (maps : List MapDef) (options : Options) (shards : List JournaledShard) → ServesMaps maps options shards → ∥ AreLegal shards ∥₁
-are_legal maps options shards serve = ∥∥₁_map serve (λ (are : AreShardsOf maps options shards). λ number shard known. (are.each number shard known).legal)
+pub are_legal : (maps : List MapDef) (options : Options) (shards : List JournaledShard) → ServesMaps maps options shards →
+    ∥ AreLegal shards ∥₁
+are_legal maps options shards serve = ∥∥₁_map serve (λ (are : AreShardsOf maps options shards). λ number shard known.
+    (are.each number shard known).legal)

@@ -20,20 +20,27 @@ use Rattle.guarantees.specs.Guarantees.{RunsAreTheirMeaning, StoppedRunsAreBegin
 use Rattle.guarantees.proofs.JournalLemmas.{are_legal}
 
 -- a worker that is outside the shards is outside those of its port
-outside_at : (worker : ℕ) (options : Options) (shards : List JournaledShard) (port : PlainPort) → IsPortOver options worker shards port → IsOutside worker shards → IsOutside port.worker port.shards.now
+outside_at : (worker : ℕ) (options : Options) (shards : List JournaledShard) (port : PlainPort) → IsPortOver options worker shards port →
+    IsOutside worker shards → IsOutside port.worker port.shards.now
 outside_at worker options shards port over outside =
     subst (λ number. IsOutside number port.shards.now) (sym over.same_worker) (subst (IsOutside worker) (sym over.same_shards) outside)
 
 -- after `finish` the worker is outside
-left_outside : IsOutsideAll → (worker : ℕ) (options : Options) (port : PlainPort) (after : List JournaledShard) → port.worker ≡ worker → IsFinished options port after → IsOutside worker after
+left_outside : IsOutsideAll → (worker : ℕ) (options : Options) (port : PlainPort) (after : List JournaledShard) → port.worker ≡ worker →
+    IsFinished options port after → IsOutside worker after
 left_outside outside worker options port after same finished = λ number shard known.
     subst (λ one. IsFalse (is_in one shard)) same
-    (outside port.worker port.shards.now number shard (subst (λ (shards : List JournaledShard). slice_get shards number ≡ Some shard) finished.left known))
+    (outside port.worker port.shards.now number shard (subst (λ (shards : List JournaledShard). slice_get shards number ≡ Some shard)
+    finished.left known))
 
-written_by : WritesSessions → (worker : ℕ) (options : Options) (before after : List JournaledShard) (port later : PlainPort) (exchanges : List Exchange) → IsPortOver options worker before port → IsChain PortGives port exchanges later → IsFinished options later after → IsOutside worker before → AreWritten worker exchanges before after
+written_by : WritesSessions → (worker : ℕ) (options : Options) (before after : List JournaledShard) (port later : PlainPort)
+    (exchanges : List Exchange) → IsPortOver options worker before port → IsChain PortGives port exchanges later →
+    IsFinished options later after → IsOutside worker before → AreWritten worker exchanges before after
 written_by writes worker options before after port later exchanges over chain finished outside number shard known =
-    let there : slice_get port.shards.now number ≡ Some shard = subst (λ (shards : List JournaledShard). slice_get shards number ≡ Some shard) (sym over.same_shards) known in
-    let of_port : slice_get (all_left later.worker later.shards.now) number ≡ Some (with_entries shard (session port.worker shard.plan.number (entries_at port.worker number exchanges))) =
+    let there : slice_get port.shards.now number ≡ Some shard =
+    subst (λ (shards : List JournaledShard). slice_get shards number ≡ Some shard) (sym over.same_shards) known in
+    let of_port : slice_get (all_left later.worker later.shards.now) number ≡ Some
+    (with_entries shard (session port.worker shard.plan.number (entries_at port.worker number exchanges))) =
     (writes port later exchanges chain number shard there (outside_at worker options before port over outside number shard there)).1 in
     ap (λ (shards : List JournaledShard). slice_get shards number) finished.left ∙ of_port
     ∙ ap (λ one. Some (with_entries shard (session one shard.plan.number (entries_at one number exchanges)))) over.same_worker
@@ -46,34 +53,50 @@ run_is_meaning writes stays leaves verified options start before after verdict s
   counted = ran.ended.steps_done;
   bounded = ran.ended.bounded;
   sent = ran.ended.frame_left;
-  written = written_by writes start.worker options before after ran.port ran.later ran.ended.exchanges ran.over ran.ended.chain ran.finished outside;
+  written = written_by writes start.worker options before after ran.port ran.later ran.ended.exchanges ran.over ran.ended.chain ran.finished
+      outside;
   legal = are_legal ran.later.image.now.maps ran.later.options after ran.finished.serve;
-  outside = left_outside leaves start.worker options ran.later after ((stays ran.port ran.later ran.ended.exchanges ran.ended.chain).same_worker ∙ ran.over.same_worker) ran.finished;
+  outside = left_outside leaves start.worker options ran.later after
+      ((stays ran.port ran.later ran.ended.exchanges ran.ended.chain).same_worker ∙ ran.over.same_worker) ran.finished;
 }
 
-written_but : WritesRefusedSessions → (worker : ℕ) (options : Options) (before after : List JournaledShard) (port middle later : PlainPort) (exchanges : List Exchange) (call : Call) → IsPortOver options worker before port → IsChain PortGives port exchanges middle → PortRefuses middle call later → IsFinished options later after → IsOutside worker before → AreWrittenBut call worker exchanges before after
+written_but : WritesRefusedSessions → (worker : ℕ) (options : Options) (before after : List JournaledShard) (port middle later : PlainPort)
+    (exchanges : List Exchange) (call : Call) → IsPortOver options worker before port → IsChain PortGives port exchanges middle →
+    PortRefuses middle call later → IsFinished options later after → IsOutside worker before →
+    AreWrittenBut call worker exchanges before after
 written_but writes worker options before after port middle later exchanges call over chain refuses finished outside number shard known =
-    let there : slice_get port.shards.now number ≡ Some shard = subst (λ (shards : List JournaledShard). slice_get shards number ≡ Some shard) (sym over.same_shards) known in
-    let of_port = writes port middle later exchanges call chain refuses number shard there (outside_at worker options before port over outside number shard there) in
-    let here : slice_get after number ≡ slice_get (all_left later.worker later.shards.now) number = ap (λ (shards : List JournaledShard). slice_get shards number) finished.left in
+    let there : slice_get port.shards.now number ≡ Some shard =
+    subst (λ (shards : List JournaledShard). slice_get shards number ≡ Some shard) (sym over.same_shards) known in
+    let of_port = writes port middle later exchanges call chain refuses number shard there
+    (outside_at worker options before port over outside number shard there) in
+    let here : slice_get after number ≡ slice_get (all_left later.worker later.shards.now) number =
+    ap (λ (shards : List JournaledShard). slice_get shards number) finished.left in
     ⊎_elim
-    (λ (same : slice_get (all_left later.worker later.shards.now) number ≡ Some (with_entries shard (session port.worker shard.plan.number (entries_at port.worker number exchanges)))).
-    inl (here ∙ same ∙ ap (λ one. Some (with_entries shard (session one shard.plan.number (entries_at one number exchanges)))) over.same_worker))
+    (λ (same : slice_get (all_left later.worker later.shards.now) number ≡ Some
+    (with_entries shard (session port.worker shard.plan.number (entries_at port.worker number exchanges)))).
+    inl (here ∙ same ∙ ap (λ one. Some (with_entries shard (session one shard.plan.number (entries_at one number exchanges))))
+    over.same_worker))
     (λ (visited : IsVisited port.worker later number shard (entries_at port.worker number exchanges) call).
-    inr (visited.own, here ∙ visited.finished ∙ ap (λ one. Some (with_entries shard (enter_entry one shard.plan.number ∷ leave_entry one shard.plan.number ∷ []))) over.same_worker))
+    inr (
+      visited.own,
+      here ∙ visited.finished ∙ ap (λ one. Some
+          (with_entries shard (enter_entry one shard.plan.number ∷ leave_entry one shard.plan.number ∷ []))) over.same_worker,
+    ))
     of_port
 
 pub stopped_is_beginning : WritesRefusedSessions → StaysOnePort → IsOutsideAll → StoppedRunsAreBeginnings
 stopped_is_beginning writes stays leaves verified options start before after shard frame outside was =
     let stopped = was.stopped in
     let same : was.later.worker ≡ start.worker =
-    stopped.refused.same_port.same_worker ∙ (stays was.port stopped.middle stopped.exchanges stopped.chain).same_worker ∙ was.over.same_worker in
+    stopped.refused.same_port.same_worker ∙ (stays was.port stopped.middle stopped.exchanges stopped.chain).same_worker ∙
+    was.over.same_worker in
     record {
       exchanges = stopped.exchanges;
       refused = stopped.call;
       named = stopped.names_the_shard;
       trace = stopped.trace;
-      written = written_but writes start.worker options before after was.port stopped.middle was.later stopped.exchanges stopped.call was.over stopped.chain stopped.refused was.finished outside;
+      written = written_but writes start.worker options before after was.port stopped.middle was.later stopped.exchanges stopped.call
+          was.over stopped.chain stopped.refused was.finished outside;
       legal = are_legal was.later.image.now.maps was.later.options after was.finished.serve;
       outside = left_outside leaves start.worker options was.later after same was.finished;
     }
@@ -81,37 +104,52 @@ stopped_is_beginning writes stays leaves verified options start before after sha
 pub others_alone : RunsAreTheirMeaning → LeavesOthersAlone → RunsLeaveOthersAlone
 others_alone runs leaves verified options start before after verdict steps frame outside ran other number old new differ known found =
     let meaning = runs verified options start before after verdict steps frame outside ran in
-    let written : slice_get after number ≡ Some (with_entries old (session start.worker old.plan.number (entries_at start.worker number meaning.exchanges))) = meaning.written number old known in
-    let same : new ≡ with_entries old (session start.worker old.plan.number (entries_at start.worker number meaning.exchanges)) = cc (written, found) in
+    let written : slice_get after number ≡ Some
+    (with_entries old (session start.worker old.plan.number (entries_at start.worker number meaning.exchanges))) =
+    meaning.written number old known in
+    let same : new ≡ with_entries old (session start.worker old.plan.number (entries_at start.worker number meaning.exchanges)) =
+    cc (written, found) in
     ap (is_in other) same ∙ leaves start.worker other number old meaning.exchanges differ
 
 -- ---- by what one run's calls ensure
 
-ran_record : (verified : Verified) (options : Options) (start : Start) (before after : List JournaledShard) (port later : PlainPort) (verdict : Verdict) (steps : ℕ) (frame : FrameView) →
-    IsPortOver options start.worker before port → Ends PortGives (program_of verified port.options.shards) (state_at start) port later verdict steps frame → IsFinished options later after →
+ran_record : (verified : Verified) (options : Options) (start : Start) (before after : List JournaledShard) (port later : PlainPort)
+    (verdict : Verdict) (steps : ℕ) (frame : FrameView) →
+    IsPortOver options start.worker before port →
+    Ends PortGives (program_of verified port.options.shards) (state_at start) port later verdict steps frame →
+    IsFinished options later after →
     Ran verified options start before after verdict steps frame
 ran_record verified options start before after port later verdict steps frame over ended finished = record {
   port = port;
   over = over;
   later = later;
-  ended = subst (λ (one : Options). Ends PortGives (program_of verified one.shards) (state_at start) port later verdict steps frame) over.same_options ended;
+  ended = subst (λ (one : Options). Ends PortGives (program_of verified one.shards) (state_at start) port later verdict steps frame)
+      over.same_options ended;
   finished = finished;
 }
 
-pub ran_so : RunsAreTheirMeaning → (verified : Verified) (options : Options) (start : Start) (before after : List JournaledShard) (port later : PlainPort) (verdict : Verdict) (steps : ℕ) (frame : FrameView) →
-    IsOutside start.worker before → IsPortOver options start.worker before port → Ends PortGives (program_of verified port.options.shards) (state_at start) port later verdict steps frame → IsFinished options later after →
+pub ran_so : RunsAreTheirMeaning → (verified : Verified) (options : Options) (start : Start) (before after : List JournaledShard)
+    (port later : PlainPort) (verdict : Verdict) (steps : ℕ) (frame : FrameView) →
+    IsOutside start.worker before → IsPortOver options start.worker before port →
+    Ends PortGives (program_of verified port.options.shards) (state_at start) port later verdict steps frame →
+    IsFinished options later after →
     IsTheMeaning (program_of verified options.shards) start before after verdict steps frame
 ran_so runs verified options start before after port later verdict steps frame outside over ended finished =
-    runs verified options start before after verdict steps frame outside (ran_record verified options start before after port later verdict steps frame over ended finished)
+    runs verified options start before after verdict steps frame outside
+    (ran_record verified options start before after port later verdict steps frame over ended finished)
 
-pub stopped_so : StoppedRunsAreBeginnings → (verified : Verified) (options : Options) (start : Start) (before after : List JournaledShard) (port later : PlainPort) (stop : Stop) (frame : FrameView) →
-    IsOutside start.worker before → IsPortOver options start.worker before port → StopsSo PortGives PortRefuses (program_of verified port.options.shards) (state_at start) port later frame stop → IsFinished options later after →
+pub stopped_so : StoppedRunsAreBeginnings → (verified : Verified) (options : Options) (start : Start) (before after : List JournaledShard)
+    (port later : PlainPort) (stop : Stop) (frame : FrameView) →
+    IsOutside start.worker before → IsPortOver options start.worker before port →
+    StopsSo PortGives PortRefuses (program_of verified port.options.shards) (state_at start) port later frame stop →
+    IsFinished options later after →
     IsStoppedBeginning (program_of verified options.shards) start before after stop
 stopped_so runs verified options start before after port later (JournalFull shard) frame outside over stopped finished =
     runs verified options start before after shard frame outside (record {
       port = port;
       over = over;
       later = later;
-      stopped = subst (λ (one : Options). Stops PortGives PortRefuses (program_of verified one.shards) (state_at start) port later frame shard) over.same_options stopped;
+      stopped = subst (λ (one : Options). Stops PortGives PortRefuses (program_of verified one.shards) (state_at start) port later frame
+          shard) over.same_options stopped;
       finished = finished;
     })

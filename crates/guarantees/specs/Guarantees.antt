@@ -18,7 +18,8 @@ use Rattle.guarantees.specs.Runs.{IsOutside, AreLegal, Start, Ran, WasStopped, I
 -- a run over shards in which its worker was not inside is the meaning of its program on the replies that stand in the journals
 abbrev pub RunsAreTheirMeaning : Type 0
 RunsAreTheirMeaning =
-    (verified : Verified) (options : Options) (start : Start) (before after : List JournaledShard) (verdict : Verdict) (steps : ℕ) (frame : FrameView) →
+    (verified : Verified) (options : Options) (start : Start) (before after : List JournaledShard) (verdict : Verdict) (steps : ℕ)
+    (frame : FrameView) →
     IsOutside start.worker before → Ran verified options start before after verdict steps frame →
     IsTheMeaning (program_of verified options.shards) start before after verdict steps frame
 
@@ -44,7 +45,8 @@ OpenedShardsAreReady =
 -- a run leaves every other worker inside or outside each shard, as it was: so runs of several workers can follow one another
 abbrev pub RunsLeaveOthersAlone : Type 0
 RunsLeaveOthersAlone =
-    (verified : Verified) (options : Options) (start : Start) (before after : List JournaledShard) (verdict : Verdict) (steps : ℕ) (frame : FrameView) →
+    (verified : Verified) (options : Options) (start : Start) (before after : List JournaledShard) (verdict : Verdict) (steps : ℕ)
+    (frame : FrameView) →
     IsOutside start.worker before → Ran verified options start before after verdict steps frame →
     (other number : ℕ) (old new : JournaledShard) → IsFalse (start.worker == other) →
     slice_get before number ≡ Some old → slice_get after number ≡ Some new → is_in other new ≡ is_in other old

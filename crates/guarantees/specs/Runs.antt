@@ -56,7 +56,8 @@ pub record IsFinished (options : Options) (port : PlainPort) (shards : List Jour
   pub serve : ServesMaps port.image.now.maps port.options shards
 
 -- a run that ended
-pub record Ran (verified : Verified) (options : Options) (start : Start) (before after : List JournaledShard) (verdict : Verdict) (steps : ℕ) (frame : FrameView) : Type 0 where
+pub record Ran (verified : Verified) (options : Options) (start : Start) (before after : List JournaledShard) (verdict : Verdict)
+    (steps : ℕ) (frame : FrameView) : Type 0 where
   pub port : PlainPort
   pub over : IsPortOver options start.worker before port
   pub later : PlainPort
@@ -64,7 +65,8 @@ pub record Ran (verified : Verified) (options : Options) (start : Start) (before
   pub finished : IsFinished options later after
 
 -- a run whose call a shard refused
-pub record WasStopped (verified : Verified) (options : Options) (start : Start) (before after : List JournaledShard) (shard : ℕ) (frame : FrameView) : Type 0 where
+pub record WasStopped (verified : Verified) (options : Options) (start : Start) (before after : List JournaledShard) (shard : ℕ)
+    (frame : FrameView) : Type 0 where
   pub port : PlainPort
   pub over : IsPortOver options start.worker before port
   pub later : PlainPort
@@ -84,13 +86,17 @@ abbrev pub AreWrittenBut : Call → ℕ → List Exchange → List JournaledShar
 AreWrittenBut call worker exchanges before after =
     (number : ℕ) (shard : JournaledShard) → slice_get before number ≡ Some shard →
     (slice_get after number ≡ Some (with_entries shard (session worker shard.plan.number (entries_at worker number exchanges))))
-    ⊎ ((shard_of_call call ≡ number) × (slice_get after number ≡ Some (with_entries shard (enter_entry worker shard.plan.number ∷ leave_entry worker shard.plan.number ∷ []))))
+    ⊎ ((shard_of_call call ≡ number) × (slice_get after number ≡ Some
+    (with_entries shard (enter_entry worker shard.plan.number ∷ leave_entry worker shard.plan.number ∷ []))))
 
 -- the run is the meaning of its program on the replies that stand in the journals, which are legal; and it left every shard
-pub record IsTheMeaning (program : Program) (start : Start) (before after : List JournaledShard) (verdict : Verdict) (steps : ℕ) (frame : FrameView) : Type 0 where
+pub record IsTheMeaning (program : Program) (start : Start) (before after : List JournaledShard) (verdict : Verdict) (steps : ℕ)
+    (frame : FrameView) : Type 0 where
   pub exchanges : List Exchange
   pub last : MachineState
-  pub trace : whole_trace program (state_at start) (replies_in exchanges) ≡ record { calls = calls_in exchanges; stand = HasExited verdict last }
+  pub trace :
+      whole_trace program (state_at start) (replies_in exchanges) ≡
+      record { calls = calls_in exchanges; stand = HasExited verdict last }
   pub counted : steps ≡ last.steps
   pub bounded : steps ≤ total_slots program.code
   pub sent : frame ≡ last.frame
@@ -103,7 +109,9 @@ pub record IsTheBeginning (program : Program) (start : Start) (before after : Li
   pub exchanges : List Exchange
   pub refused : Call
   pub named : shard ≡ shard_of_call refused
-  pub trace : whole_trace program (state_at start) (replies_in exchanges) ≡ record { calls = calls_in exchanges ++ refused ∷ []; stand = Waits }
+  pub trace :
+      whole_trace program (state_at start) (replies_in exchanges) ≡
+      record { calls = calls_in exchanges ++ refused ∷ []; stand = Waits }
   pub written : AreWrittenBut refused start.worker exchanges before after
   pub legal : ∥ AreLegal after ∥₁
   pub outside : IsOutside start.worker after

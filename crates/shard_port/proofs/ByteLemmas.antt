@@ -47,7 +47,8 @@ bytes_of_number-bytes : (count number : ℕ) → AreBytes (bytes_of_number count
 bytes_of_number-bytes zero number = tt
 bytes_of_number-bytes (suc count) number = (mod-lt number (lit< tt), bytes_of_number-bytes count (number / 256))
 
-overwritten-bytes : (at : ℕ) (items old : List ℕ) → AreBytes items → AreBytes old → AreBytes (take at old ++ items ++ drop (at + length items) old)
+overwritten-bytes : (at : ℕ) (items old : List ℕ) → AreBytes items → AreBytes old →
+    AreBytes (take at old ++ items ++ drop (at + length items) old)
 overwritten-bytes at items old new kept =
     each_append (λ byte. byte < 256) (take at old ++ items) (drop (at + length items) old)
     (each_append (λ byte. byte < 256) (take at old) items (each_take (λ byte. byte < 256) at old kept) new)
@@ -56,13 +57,16 @@ overwritten-bytes at items old new kept =
 number_of_bytes-below : (bytes : List ℕ) → AreBytes bytes → number_of_bytes bytes < 256 ^ length bytes
 number_of_bytes-below [] each = omega arith
 number_of_bytes-below (byte ∷ higher) each =
-    rw (number_of_bytes-cons byte higher) (below-more (number_of_bytes higher) byte (length higher) (number_of_bytes-below higher each.1) each.0)
+    rw (number_of_bytes-cons byte higher) (below-more (number_of_bytes higher) byte (length higher) (number_of_bytes-below higher each.1)
+    each.0)
 
 -- a number of some width that is read in a cell of bytes
-pub number_in_cell-below : (shard : SequentialShard) (cell offset width : ℕ) → AllByRecursion AreBytes shard.cells → number_in_cell shard cell offset width < 256 ^ width
+pub number_in_cell-below : (shard : SequentialShard) (cell offset width : ℕ) → AllByRecursion AreBytes shard.cells →
+    number_in_cell shard cell offset width < 256 ^ width
 number_in_cell-below shard cell offset width each =
     let bytes : List ℕ = take width (drop offset (cell_bytes shard cell)) in
-    let held : AreBytes bytes = each_take (λ byte. byte < 256) width (drop offset (cell_bytes shard cell)) (each_drop (λ byte. byte < 256) offset (cell_bytes shard cell) (each_at AreBytes shard.cells cell [] each tt)) in
+    let held : AreBytes bytes = each_take (λ byte. byte < 256) width (drop offset (cell_bytes shard cell))
+    (each_drop (λ byte. byte < 256) offset (cell_bytes shard cell) (each_at AreBytes shard.cells cell [] each tt)) in
     let below : number_of_bytes bytes < 256 ^ length bytes = number_of_bytes-below bytes held in
     let short : length bytes ≤ width = simp length-take (omega arith) in
     let wider : 256 ^ length bytes ≤ 256 ^ width = pow-le-pow_right {n = 256} (lit< tt) short in
@@ -70,33 +74,43 @@ number_in_cell-below shard cell offset width each =
 
 -- ---- calls
 
-number_written : (shard : SequentialShard) (cell offset width value : ℕ) → AllByRecursion AreBytes shard.cells → AllByRecursion AreBytes (with_number_in_cell shard cell offset width value).cells
+number_written : (shard : SequentialShard) (cell offset width value : ℕ) → AllByRecursion AreBytes shard.cells →
+    AllByRecursion AreBytes (with_number_in_cell shard cell offset width value).cells
 number_written shard cell offset width value each =
-    each_set AreBytes shard.cells cell (take offset (cell_bytes shard cell) ++ bytes_of_number width value ++ drop (offset + length (bytes_of_number width value)) (cell_bytes shard cell)) each
-    (overwritten-bytes offset (bytes_of_number width value) (cell_bytes shard cell) (bytes_of_number-bytes width value) (each_at AreBytes shard.cells cell [] each tt))
+    each_set AreBytes shard.cells cell (take offset (cell_bytes shard cell) ++ bytes_of_number width value ++ drop
+    (offset + length (bytes_of_number width value)) (cell_bytes shard cell)) each
+    (overwritten-bytes offset (bytes_of_number width value) (cell_bytes shard cell) (bytes_of_number-bytes width value)
+    (each_at AreBytes shard.cells cell [] each tt))
 
-cells_without : (shard : SequentialShard) (place : ℕ) (gone : Option PresentKey) → AllByRecursion AreBytes shard.cells → AllByRecursion AreBytes (without_found shard place gone).cells
+cells_without : (shard : SequentialShard) (place : ℕ) (gone : Option PresentKey) → AllByRecursion AreBytes shard.cells →
+    AllByRecursion AreBytes (without_found shard place gone).cells
 cells_without shard place None each = each
 cells_without shard place (Some gone) each = each
 
-value_set : (plan : ShardPlan) (history : List Entry) (shard : SequentialShard) (key value : List ℕ) (cell : Option ℕ) → AreBytes value → AllByRecursion AreBytes shard.cells → AllByRecursion AreBytes (with_value plan history shard key value cell).cells
+value_set : (plan : ShardPlan) (history : List Entry) (shard : SequentialShard) (key value : List ℕ) (cell : Option ℕ) → AreBytes value →
+    AllByRecursion AreBytes shard.cells → AllByRecursion AreBytes (with_value plan history shard key value cell).cells
 value_set plan history shard key value (Some cell) bytes each = each_set AreBytes shard.cells cell value each bytes
 value_set plan history shard key value None bytes each =
     each_append AreBytes (after_eviction plan history shard).cells (value ∷ [])
-    (after_eviction-keeps (λ after. AllByRecursion AreBytes after.cells) plan history shard (λ gone is. cells_without shard (length history) gone each) each)
+    (after_eviction-keeps (λ after. AllByRecursion AreBytes after.cells) plan history shard
+    (λ gone is. cells_without shard (length history) gone each) each)
     (bytes, tt)
 
-pub cells_after_call : (plan : ShardPlan) (history : List Entry) (shard : SequentialShard) (call : Call) → SetsBytes call → AllByRecursion AreBytes shard.cells → AllByRecursion AreBytes (shard_after_call plan history shard call).cells
+pub cells_after_call : (plan : ShardPlan) (history : List Entry) (shard : SequentialShard) (call : Call) → SetsBytes call →
+    AllByRecursion AreBytes shard.cells → AllByRecursion AreBytes (shard_after_call plan history shard call).cells
 cells_after_call plan history shard (Enter number) sets each = each
 cells_after_call plan history shard (Leave number) sets each = each
 cells_after_call plan history shard (Lookup number key) sets each = each
 cells_after_call plan history shard (Load cell offset width) sets each = each
 cells_after_call plan history shard (Store cell offset width value) sets each = number_written shard cell.id offset width value each
-cells_after_call plan history shard (Atomic cell offset width op value expected) sets each = number_written shard cell.id offset width _ each
+cells_after_call plan history shard (Atomic cell offset width op value expected) sets each =
+    number_written shard cell.id offset width _ each
 cells_after_call plan history shard (Update number key value flags) sets each =
-    updated_where-keeps (λ after. AllByRecursion AreBytes after.cells) (update_answer plan shard key flags) (with_value plan history shard key value (cell_of_key plan shard key)) shard
+    updated_where-keeps (λ after. AllByRecursion AreBytes after.cells) (update_answer plan shard key flags)
+    (with_value plan history shard key value (cell_of_key plan shard key)) shard
     (value_set plan history shard key value (cell_of_key plan shard key) sets each) each
 cells_after_call plan history shard (Delete number key) sets each =
-    updated_where-keeps (λ after. AllByRecursion AreBytes after.cells) (delete_answer plan shard key) (without_found shard (length history) (present_key shard key)) shard
+    updated_where-keeps (λ after. AllByRecursion AreBytes after.cells) (delete_answer plan shard key)
+    (without_found shard (length history) (present_key shard key)) shard
     (cells_without shard (length history) (present_key shard key) each) each
 cells_after_call plan history shard (Reclaim number) sets each = each

@@ -29,7 +29,8 @@ use Rattle.shard_port.proofs.ReadyLemmas.{plan_number, is_worker_of}
 inside_once_entered : (worker : ℕ) (shard : JournaledShard) → is_inside worker (reverse (entered worker shard).journal) ≡ true
 inside_once_entered worker shard = by_test (is_in worker shard) refl
   where
-    by_test : (inside : Bool) → is_in worker shard ≡ inside → is_inside worker (reverse (shard.journal ++ (if inside then [] else enter_entry worker shard.plan.number ∷ []))) ≡ true
+    by_test : (inside : Bool) → is_in worker shard ≡ inside →
+        is_inside worker (reverse (shard.journal ++ (if inside then [] else enter_entry worker shard.plan.number ∷ []))) ≡ true
     by_test true is = rw (append_none shard.journal) is
     by_test false is = rw (newest_first shard (enter_entry worker shard.plan.number), same_worker worker) refl
 
@@ -45,10 +46,12 @@ few_parts maps options are = grind (arith, are.power_of_two)
 abbrev pub served_by : List MapDef → Options → Maps
 served_by maps options = record { maps = maps; shards = options.shards }
 
-pub shard_of_known : (served : Maps) (map : ℕ) (key : List ℕ) (definition : MapDef) → slice_get served.maps map ≡ Some definition → shard_of served map key ≡ map * served.shards + part_of_key definition.kind served.shards key
+pub shard_of_known : (served : Maps) (map : ℕ) (key : List ℕ) (definition : MapDef) → slice_get served.maps map ≡ Some definition →
+    shard_of served map key ≡ map * served.shards + part_of_key definition.kind served.shards key
 shard_of_known served map key definition known = rw known refl
 
-found_at : (shards : List JournaledShard) (number : ℕ) → number < length shards → (shard : JournaledShard) × (slice_get shards number ≡ Some shard)
+found_at : (shards : List JournaledShard) (number : ℕ) → number < length shards →
+    (shard : JournaledShard) × (slice_get shards number ≡ Some shard)
 found_at [] number within = absurd (omega arith)
 found_at (first ∷ rest) zero within = (first, refl)
 found_at (first ∷ rest) (suc number) within = found_at rest number (omega arith)
@@ -62,16 +65,18 @@ below_count map maps parts part of_map of_part =
 same_test : (a b : ℕ) → a ≡ b → (a == b) ≡ true
 same_test a b same = grind (arith, nat_tests)
 
-pub record IsAtKey (maps : List MapDef) (options : Options) (worker : ℕ) (shards : List JournaledShard) (map : ℕ) (key : List ℕ) : Type 0 where
-  pub shard : JournaledShard
-  pub known : slice_get shards (shard_of (served_by maps options) map key) ≡ Some shard
-  pub is_worker : nat_lt worker shard.plan.workers ≡ true
-  pub numbered : (shard_of (served_by maps options) map key == shard.plan.number) ≡ true
-  pub inside : is_inside worker (reverse (entered worker shard).journal) ≡ true
-  pub own_key : is_own_key shard.plan key ≡ true
-  pub definition : slice_get maps map ≡ Some shard.plan.definition
+pub record IsAtKey (maps : List MapDef) (options : Options) (worker : ℕ) (shards : List JournaledShard) (map : ℕ) (key : List ℕ) : Type 0
+  where
+    pub shard : JournaledShard
+    pub known : slice_get shards (shard_of (served_by maps options) map key) ≡ Some shard
+    pub is_worker : nat_lt worker shard.plan.workers ≡ true
+    pub numbered : (shard_of (served_by maps options) map key == shard.plan.number) ≡ true
+    pub inside : is_inside worker (reverse (entered worker shard).journal) ≡ true
+    pub own_key : is_own_key shard.plan key ≡ true
+    pub definition : slice_get maps map ≡ Some shard.plan.definition
 
-pub at_key : (maps : List MapDef) (options : Options) (worker : ℕ) (shards : List JournaledShard) (map : ℕ) (key : List ℕ) → IsReady maps options worker shards → IsKeyOf (served_by maps options) map key → IsAtKey maps options worker shards map key
+pub at_key : (maps : List MapDef) (options : Options) (worker : ℕ) (shards : List JournaledShard) (map : ℕ) (key : List ℕ) →
+    IsReady maps options worker shards → IsKeyOf (served_by maps options) map key → IsAtKey maps options worker shards map key
 at_key maps options worker shards map key ready of_map =
     let parts : ℕ = options.shards in
     let definition : MapDef = of_map.definition in
@@ -81,7 +86,8 @@ at_key maps options worker shards map key ready of_map =
     let number : ℕ = shard_of (served_by maps options) map key in
     let at : number ≡ map * parts + part = shard_of_known (served_by maps options) map key definition of_map.known in
     let counted : length shards ≡ length maps * parts = ready.are_shards.count in
-    let here : map * parts + part < length maps * parts = below_count map (length maps) parts part (slice_get_within maps map definition of_map.known) below in
+    let here : map * parts + part < length maps * parts =
+    below_count map (length maps) parts part (slice_get_within maps map definition of_map.known) below in
     let within : number < length shards = omega (arith, at, counted, here) in
     let found = found_at shards number within in
     let is : IsShardOf maps options number found.0 = ready.are_shards.each number found.0 found.1 in
@@ -92,7 +98,8 @@ at_key maps options worker shards map key ready of_map =
     let same : definition ≡ found.0.plan.definition = cc (of_map.known, defined) in
     let sized : length key ≡ found.0.plan.definition.key_size = of_map.key_size ∙ ap (λ (one : MapDef). one.key_size) same in
     let own_part : part_of_key found.0.plan.definition.kind found.0.plan.parts key ≡ found.0.plan.part =
-    ap (λ (one : MapDef). part_of_key one.kind found.0.plan.parts key) (sym same) ∙ ap (λ n. part_of_key definition.kind n key) plan.2 ∙ sym of_part ∙ sym plan.1 in
+    ap (λ (one : MapDef). part_of_key one.kind found.0.plan.parts key) (sym same) ∙ ap (λ n. part_of_key definition.kind n key) plan.2 ∙
+    sym of_part ∙ sym plan.1 in
     record {
       shard = found.0;
       known = found.1;
@@ -103,42 +110,61 @@ at_key maps options worker shards map key ready of_map =
       definition = defined;
     }
 
-pub may_lookup : (maps : List MapDef) (options : Options) (worker : ℕ) (shards : List JournaledShard) (map : ℕ) (key : List ℕ) → IsReady maps options worker shards → IsKeyOf (served_by maps options) map key → IsTrue (may_ask_at worker (slice_get shards (shard_of (served_by maps options) map key)) (lookup_call (served_by maps options) map key))
+pub may_lookup : (maps : List MapDef) (options : Options) (worker : ℕ) (shards : List JournaledShard) (map : ℕ) (key : List ℕ) →
+    IsReady maps options worker shards → IsKeyOf (served_by maps options) map key →
+    IsTrue (may_ask_at worker (slice_get shards (shard_of (served_by maps options) map key)) (lookup_call (served_by maps options) map key))
 may_lookup maps options worker shards map key ready of_map =
     let at = at_key maps options worker shards map key ready of_map in
     rw at.known (both_true _ _ at.is_worker (both_true _ _ at.numbered (both_true _ _ (both_true _ _ at.is_worker at.inside) at.own_key)))
 
-pub may_delete : (maps : List MapDef) (options : Options) (worker : ℕ) (shards : List JournaledShard) (map : ℕ) (key : List ℕ) → IsReady maps options worker shards → IsKeyOf (served_by maps options) map key → IsTrue (may_ask_at worker (slice_get shards (shard_of (served_by maps options) map key)) (delete_call (served_by maps options) map key))
+pub may_delete : (maps : List MapDef) (options : Options) (worker : ℕ) (shards : List JournaledShard) (map : ℕ) (key : List ℕ) →
+    IsReady maps options worker shards → IsKeyOf (served_by maps options) map key →
+    IsTrue (may_ask_at worker (slice_get shards (shard_of (served_by maps options) map key)) (delete_call (served_by maps options) map key))
 may_delete maps options worker shards map key ready of_map =
     let at = at_key maps options worker shards map key ready of_map in
     rw at.known (both_true _ _ at.is_worker (both_true _ _ at.numbered (both_true _ _ (both_true _ _ at.is_worker at.inside) at.own_key)))
 
-pub may_update : (maps : List MapDef) (options : Options) (worker : ℕ) (shards : List JournaledShard) (map : ℕ) (key value : List ℕ) (flags : ℕ) → IsReady maps options worker shards → IsPairOf (served_by maps options) map key value → IsTrue (may_ask_at worker (slice_get shards (shard_of (served_by maps options) map key)) (update_call (served_by maps options) map key value flags))
+pub may_update : (maps : List MapDef) (options : Options) (worker : ℕ) (shards : List JournaledShard) (map : ℕ) (key value : List ℕ)
+    (flags : ℕ) → IsReady maps options worker shards → IsPairOf (served_by maps options) map key value →
+    IsTrue (may_ask_at worker (slice_get shards (shard_of (served_by maps options) map key))
+    (update_call (served_by maps options) map key value flags))
 may_update maps options worker shards map key value flags ready pair =
-    let of_map : IsKeyOf (served_by maps options) map key = record { definition = pair.definition; known = pair.known; key_size = pair.key_size; bytes = pair.bytes } in
+    let of_map : IsKeyOf (served_by maps options) map key =
+    record { definition = pair.definition; known = pair.known; key_size = pair.key_size; bytes = pair.bytes } in
     let at = at_key maps options worker shards map key ready of_map in
     let same : pair.definition ≡ at.shard.plan.definition = cc (pair.known, at.definition) in
     let sized : length value ≡ at.shard.plan.definition.value_size = pair.value_size ∙ ap (λ (one : MapDef). one.value_size) same in
-    rw at.known (both_true _ _ at.is_worker (both_true _ _ at.numbered (both_true _ _ (both_true _ _ (both_true _ _ at.is_worker at.inside) at.own_key) (same_test _ _ sized))))
+    rw at.known (both_true _ _ at.is_worker (both_true _ _ at.numbered
+    (both_true _ _ (both_true _ _ (both_true _ _ at.is_worker at.inside) at.own_key) (same_test _ _ sized))))
 
 -- ---- the shard of a cell
 
-holder : (worker cell : ℕ) (found : Option JournaledShard) → holds_at worker found cell ≡ true → (shard : JournaledShard) × (found ≡ Some shard) × (holds worker cell (reverse shard.journal) ≡ true)
+holder : (worker cell : ℕ) (found : Option JournaledShard) → holds_at worker found cell ≡ true →
+    (shard : JournaledShard) × (found ≡ Some shard) × (holds worker cell (reverse shard.journal) ≡ true)
 holder worker cell None held = cc
 holder worker cell (Some shard) held = (shard, refl, held)
 
-pub record IsAtCell (maps : List MapDef) (options : Options) (worker : ℕ) (shards : List JournaledShard) (map : ℕ) (cell : CellRef) : Type 0 where
-  pub shard : JournaledShard
-  pub known : slice_get shards cell.shard ≡ Some shard
-  pub is_worker : nat_lt worker shard.plan.workers ≡ true
-  pub numbered : (cell.shard == shard.plan.number) ≡ true
-  pub held : holds worker cell.id (reverse (entered worker shard).journal) ≡ true
-  pub definition : slice_get maps map ≡ Some shard.plan.definition
+pub record IsAtCell (maps : List MapDef) (options : Options) (worker : ℕ) (shards : List JournaledShard) (map : ℕ) (cell : CellRef) : Type 0
+  where
+    pub shard : JournaledShard
+    pub known : slice_get shards cell.shard ≡ Some shard
+    pub is_worker : nat_lt worker shard.plan.workers ≡ true
+    pub numbered : (cell.shard == shard.plan.number) ≡ true
+    pub held : holds worker cell.id (reverse (entered worker shard).journal) ≡ true
+    pub definition : slice_get maps map ≡ Some shard.plan.definition
 
-pub at_cell : (maps : List MapDef) (options : Options) (worker : ℕ) (shards : List JournaledShard) (map : ℕ) (cell : CellRef) → IsReady maps options worker shards → IsTrue (is_handed_out (record { served = served_by maps options; worker = worker; shards = shards }) map cell.shard cell.id) → IsAtCell maps options worker shards map cell
+pub at_cell : (maps : List MapDef) (options : Options) (worker : ℕ) (shards : List JournaledShard) (map : ℕ) (cell : CellRef) →
+    IsReady maps options worker shards → IsTrue (is_handed_out (record {
+      served = served_by maps options;
+      worker = worker;
+      shards =
+          shards;
+    }) map cell.shard cell.id) → IsAtCell maps options worker shards map cell
 at_cell maps options worker shards map cell ready handed =
-    let of_map : IsTrue (cell.shard / options.shards == map) = first_true (cell.shard / options.shards == map) (holds_at worker (slice_get shards cell.shard) cell.id) handed in
-    let there : holds_at worker (slice_get shards cell.shard) cell.id ≡ true = second_true (cell.shard / options.shards == map) (holds_at worker (slice_get shards cell.shard) cell.id) handed in
+    let of_map : IsTrue (cell.shard / options.shards == map) =
+    first_true (cell.shard / options.shards == map) (holds_at worker (slice_get shards cell.shard) cell.id) handed in
+    let there : holds_at worker (slice_get shards cell.shard) cell.id ≡ true =
+    second_true (cell.shard / options.shards == map) (holds_at worker (slice_get shards cell.shard) cell.id) handed in
     let place : cell.shard / options.shards ≡ map = grind (arith, nat_tests) in
     let found = holder worker cell.id (slice_get shards cell.shard) there in
     let is : IsShardOf maps options cell.shard found.0 = ready.are_shards.each cell.shard found.0 found.1 in
@@ -149,18 +175,21 @@ at_cell maps options worker shards map cell ready handed =
       known = found.1;
       is_worker = is_worker_of maps options worker cell.shard found.0 ready.is_worker is;
       numbered = same_test cell.shard found.0.plan.number (sym plan.0);
-      held = subst (λ (one : JournaledShard). holds worker cell.id (reverse one.journal) ≡ true) (sym (stays_entered worker found.0 inside)) found.2;
+      held = subst (λ (one : JournaledShard). holds worker cell.id (reverse one.journal) ≡ true) (sym (stays_entered worker found.0 inside))
+          found.2;
       definition = ap (slice_get maps) (sym place) ∙ plan.4;
     }
 
-in_cell_of : (maps : List MapDef) (map : ℕ) (plan : ShardPlan) (offset width : ℕ) → slice_get maps map ≡ Some plan.definition → offset + width ≤ value_size_of (slice_get maps map) → offset % width ≡ 0 → is_in_cell plan offset width ≡ true
+in_cell_of : (maps : List MapDef) (map : ℕ) (plan : ShardPlan) (offset width : ℕ) → slice_get maps map ≡ Some plan.definition →
+    offset + width ≤ value_size_of (slice_get maps map) → offset % width ≡ 0 → is_in_cell plan offset width ≡ true
 in_cell_of maps map plan offset width defined inside aligned =
     let size : value_size_of (slice_get maps map) ≡ plan.definition.value_size = ap value_size_of defined in
     let within : offset + width ≤ plan.definition.value_size = omega (arith, size, inside) in
     both_true (nat_le (offset + width) plan.definition.value_size) (offset % width == 0) (grind (arith, nat_tests)) (same_test _ _ aligned)
 
 -- what a Load, a Store and an atomic operation share
-pub record IsAtPlace (maps : List MapDef) (options : Options) (worker : ℕ) (shards : List JournaledShard) (cell : CellRef) (offset width : ℕ) : Type 0 where
+pub record IsAtPlace (maps : List MapDef) (options : Options) (worker : ℕ) (shards : List JournaledShard) (cell : CellRef)
+    (offset width : ℕ) : Type 0 where
   pub shard : JournaledShard
   pub known : slice_get shards cell.shard ≡ Some shard
   pub is_worker : nat_lt worker shard.plan.workers ≡ true
@@ -169,7 +198,10 @@ pub record IsAtPlace (maps : List MapDef) (options : Options) (worker : ℕ) (sh
   pub is_width : is_load_width width ≡ true
   pub in_cell : is_in_cell shard.plan offset width ≡ true
 
-pub at_place : (maps : List MapDef) (options : Options) (worker : ℕ) (shards : List JournaledShard) (cell : CellRef) (offset width : ℕ) → IsReady maps options worker shards → IsReadable (served_by maps options) (is_handed_out (record { served = served_by maps options; worker = worker; shards = shards })) cell offset width → IsAtPlace maps options worker shards cell offset width
+pub at_place : (maps : List MapDef) (options : Options) (worker : ℕ) (shards : List JournaledShard) (cell : CellRef) (offset width : ℕ) →
+    IsReady maps options worker shards → IsReadable (served_by maps options)
+    (is_handed_out (record { served = served_by maps options; worker = worker; shards = shards })) cell offset width →
+    IsAtPlace maps options worker shards cell offset width
 at_place maps options worker shards cell offset width ready readable =
     let at = at_cell maps options worker shards readable.map cell ready readable.holds in
     record {
@@ -197,18 +229,33 @@ known_op FetchXor = refl
 known_op Exchange = refl
 known_op CompareExchange = refl
 
-pub may_load : (maps : List MapDef) (options : Options) (worker : ℕ) (shards : List JournaledShard) (cell : CellRef) (offset width : ℕ) → IsReady maps options worker shards → IsReadable (served_by maps options) (is_handed_out (record { served = served_by maps options; worker = worker; shards = shards })) cell offset width → IsTrue (may_ask_at worker (slice_get shards cell.shard) (Load cell offset width))
+pub may_load : (maps : List MapDef) (options : Options) (worker : ℕ) (shards : List JournaledShard) (cell : CellRef) (offset width : ℕ) →
+    IsReady maps options worker shards → IsReadable (served_by maps options)
+    (is_handed_out (record { served = served_by maps options; worker = worker; shards = shards })) cell offset width →
+    IsTrue (may_ask_at worker (slice_get shards cell.shard) (Load cell offset width))
 may_load maps options worker shards cell offset width ready readable =
     let at = at_place maps options worker shards cell offset width ready readable in
-    rw at.known (both_true _ _ at.is_worker (both_true _ _ at.numbered (both_true _ _ (both_true _ _ (both_true _ _ at.is_worker at.held) at.is_width) at.in_cell)))
+    rw at.known (both_true _ _ at.is_worker (both_true _ _ at.numbered
+    (both_true _ _ (both_true _ _ (both_true _ _ at.is_worker at.held) at.is_width) at.in_cell)))
 
-pub may_store : (maps : List MapDef) (options : Options) (worker : ℕ) (shards : List JournaledShard) (cell : CellRef) (offset width value : ℕ) → IsReady maps options worker shards → IsStorable (served_by maps options) (is_handed_out (record { served = served_by maps options; worker = worker; shards = shards })) cell offset width value → IsTrue (may_ask_at worker (slice_get shards cell.shard) (Store cell offset width value))
+pub may_store : (maps : List MapDef) (options : Options) (worker : ℕ) (shards : List JournaledShard) (cell : CellRef)
+    (offset width value : ℕ) → IsReady maps options worker shards →
+    IsStorable (served_by maps options) (is_handed_out (record { served = served_by maps options; worker = worker; shards = shards })) cell
+    offset width value → IsTrue (may_ask_at worker (slice_get shards cell.shard) (Store cell offset width value))
 may_store maps options worker shards cell offset width value ready storable =
     let at = at_place maps options worker shards cell offset width ready storable.place in
-    rw at.known (both_true _ _ at.is_worker (both_true _ _ at.numbered (both_true _ _ (both_true _ _ (both_true _ _ (both_true _ _ at.is_worker at.held) at.is_width) at.in_cell) (fits_test value width storable.fits))))
+    rw at.known (both_true _ _ at.is_worker (both_true _ _ at.numbered
+    (both_true _ _ (both_true _ _ (both_true _ _ (both_true _ _ at.is_worker at.held) at.is_width) at.in_cell)
+    (fits_test value width storable.fits))))
 
-pub may_change : (maps : List MapDef) (options : Options) (worker : ℕ) (shards : List JournaledShard) (cell : CellRef) (offset width : ℕ) (op : AtomicOp) (value expected : ℕ) → IsReady maps options worker shards → IsAtomic (served_by maps options) (is_handed_out (record { served = served_by maps options; worker = worker; shards = shards })) cell offset width op value expected → IsTrue (may_ask_at worker (slice_get shards cell.shard) (atomic_call cell offset width op value expected))
+pub may_change : (maps : List MapDef) (options : Options) (worker : ℕ) (shards : List JournaledShard) (cell : CellRef) (offset width : ℕ)
+    (op : AtomicOp) (value expected : ℕ) → IsReady maps options worker shards →
+    IsAtomic (served_by maps options) (is_handed_out (record { served = served_by maps options; worker = worker; shards = shards })) cell
+    offset width op value expected → IsTrue (may_ask_at worker (slice_get shards cell.shard)
+    (atomic_call cell offset width op value expected))
 may_change maps options worker shards cell offset width op value expected ready atomic =
     let at = at_place maps options worker shards cell offset width ready atomic.place in
     rw at.known (both_true _ _ at.is_worker (both_true _ _ at.numbered
-    (both_true _ _ (both_true _ _ (both_true _ _ (both_true _ _ (both_true _ _ (both_true _ _ (both_true _ _ at.is_worker at.held) atomic.atomic_width) at.in_cell) (known_op op)) (fits_test value width atomic.fits)) (fits_test expected width atomic.expected_fits)) atomic.expected_if)))
+    (both_true _ _ (both_true _ _ (both_true _ _ (both_true _ _ (both_true _ _ (both_true _ _ (both_true _ _ at.is_worker at.held)
+    atomic.atomic_width) at.in_cell) (known_op op)) (fits_test value width atomic.fits))
+    (fits_test expected width atomic.expected_fits)) atomic.expected_if)))

@@ -81,13 +81,14 @@ may_ask_at worker (Some shard) call = may_ask worker shard call
 may_ask_at worker None call = false
 
 -- the call's shard answered, and the others stay
-pub record IsAnsweredAmong (worker : ℕ) (before : List JournaledShard) (call : Call) (reply : Reply) (after : List JournaledShard) : Type 0 where
-  pub shard : JournaledShard
-  pub new : JournaledShard
-  pub known : slice_get before (shard_of_call call) ≡ Some shard
-  pub answered : IsAnswered worker shard call reply new
-  pub legal : IsLegalJournal new.plan new.journal
-  pub put_back : after ≡ slice_set before (shard_of_call call) new
+pub record IsAnsweredAmong (worker : ℕ) (before : List JournaledShard) (call : Call) (reply : Reply) (after : List JournaledShard) : Type 0
+  where
+    pub shard : JournaledShard
+    pub new : JournaledShard
+    pub known : slice_get before (shard_of_call call) ≡ Some shard
+    pub answered : IsAnswered worker shard call reply new
+    pub legal : IsLegalJournal new.plan new.journal
+    pub put_back : after ≡ slice_set before (shard_of_call call) new
 
 -- the call's shard refused, and the others stay
 pub record IsTurnedAwayAmong (worker : ℕ) (before : List JournaledShard) (call : Call) (after : List JournaledShard) : Type 0 where

@@ -38,10 +38,12 @@ abbrev pub with_entries : JournaledShard → List Entry → JournaledShard
 with_entries shard entries = record { plan = shard.plan; journal = shard.journal ++ entries }
 
 -- the worker entered the shard for this call alone, which was refused there
-pub record IsVisited (worker : ℕ) (after : PlainPort) (number : ℕ) (shard : JournaledShard) (entries : List Entry) (call : Call) : Type 0 where
-  pub own : shard_of_call call ≡ number
-  pub first_call : entries ≡ []
-  pub finished : slice_get (all_left after.worker after.shards.now) number ≡ Some (with_entries shard (enter_entry worker shard.plan.number ∷ leave_entry worker shard.plan.number ∷ []))
+pub record IsVisited (worker : ℕ) (after : PlainPort) (number : ℕ) (shard : JournaledShard) (entries : List Entry) (call : Call) : Type 0
+  where
+    pub own : shard_of_call call ≡ number
+    pub first_call : entries ≡ []
+    pub finished : slice_get (all_left after.worker after.shards.now) number ≡ Some
+        (with_entries shard (enter_entry worker shard.plan.number ∷ leave_entry worker shard.plan.number ∷ []))
 
 -- ---- the laws
 
@@ -51,8 +53,10 @@ abbrev pub WritesSessions : Type 0
 WritesSessions =
     (before after : PlainPort) (exchanges : List Exchange) → IsChain PortGives before exchanges after →
     (number : ℕ) (shard : JournaledShard) → slice_get before.shards.now number ≡ Some shard → IsFalse (is_in before.worker shard) →
-    (slice_get after.shards.now number ≡ Some (with_entries shard (begun before.worker shard.plan.number (entries_at before.worker number exchanges))))
-    × (slice_get (all_left after.worker after.shards.now) number ≡ Some (with_entries shard (session before.worker shard.plan.number (entries_at before.worker number exchanges))))
+    (slice_get after.shards.now number ≡ Some
+    (with_entries shard (begun before.worker shard.plan.number (entries_at before.worker number exchanges))))
+    × (slice_get (all_left after.worker after.shards.now) number ≡ Some
+    (with_entries shard (session before.worker shard.plan.number (entries_at before.worker number exchanges))))
 
 -- where the run ended because a call was refused: the same, but that the shard of this call, if it was the first there, may
 -- have an Enter and a Leave with no call between
@@ -61,7 +65,8 @@ WritesRefusedSessions =
     (before middle after : PlainPort) (exchanges : List Exchange) (call : Call) →
     IsChain PortGives before exchanges middle → PortRefuses middle call after →
     (number : ℕ) (shard : JournaledShard) → slice_get before.shards.now number ≡ Some shard → IsFalse (is_in before.worker shard) →
-    (slice_get (all_left after.worker after.shards.now) number ≡ Some (with_entries shard (session before.worker shard.plan.number (entries_at before.worker number exchanges))))
+    (slice_get (all_left after.worker after.shards.now) number ≡ Some
+    (with_entries shard (session before.worker shard.plan.number (entries_at before.worker number exchanges))))
     ⊎ IsVisited before.worker after number shard (entries_at before.worker number exchanges) call
 
 -- calls leave a port over the same shards, maps and options, for the same worker
@@ -81,12 +86,14 @@ LeavesOthersAlone =
 
 -- shards that were opened are those of the maps, and stay that by every call that sets bytes, whoever makes it
 abbrev pub OpenedServe : Type 0
-OpenedServe = (maps : List MapDef) (options : Options) (shards : List JournaledShard) → AreOpened maps options shards → ServesMaps maps options shards
+OpenedServe = (maps : List MapDef) (options : Options) (shards : List JournaledShard) → AreOpened maps options shards →
+    ServesMaps maps options shards
 
 -- and nobody is inside one that was opened
 abbrev pub OpenedAreOutside : Type 0
 OpenedAreOutside =
-    (maps : List MapDef) (options : Options) (shards : List JournaledShard) (worker number : ℕ) (shard : JournaledShard) → AreOpened maps options shards →
+    (maps : List MapDef) (options : Options) (shards : List JournaledShard) (worker number : ℕ) (shard : JournaledShard) →
+    AreOpened maps options shards →
     slice_get shards number ≡ Some shard → IsFalse (is_in worker shard)
 
 abbrev pub CallsKeepServing : Type 0

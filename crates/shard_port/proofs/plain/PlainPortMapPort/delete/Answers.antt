@@ -13,11 +13,16 @@ use Rattle.shard_port.proofs.GivenLemmas.{given_by, delete_told}
 use Rattle.shard_port.proofs.plain.PlainPortMapPort.delete.Goals as goal
 
 pub ask-requires-clause-may : goal.ask-requires-clause-may
-ask-requires-clause-may c = rw c.shard_of.ensures (∥∥₁_elim c.args.self.now.ready (Coded-set coded_bool _ _) (λ (ready : IsReady c.args.self.now.image.now.maps c.args.self.now.options c.args.self.now.worker c.args.self.now.shards.now). may_delete c.args.self.now.image.now.maps c.args.self.now.options c.args.self.now.worker c.args.self.now.shards.now c.args.map c.args.key.now ready c.requires))
+ask-requires-clause-may c = rw c.shard_of.ensures (∥∥₁_elim c.args.self.now.ready (Coded-set coded_bool _ _)
+    (λ (ready : IsReady c.args.self.now.image.now.maps c.args.self.now.options c.args.self.now.worker c.args.self.now.shards.now).
+    may_delete c.args.self.now.image.now.maps c.args.self.now.options c.args.self.now.worker c.args.self.now.shards.now c.args.map
+    c.args.key.now ready c.requires))
 
 pub returns-in-Ok-clause-gives : goal.returns-in-Ok-clause-gives
 returns-in-Ok-clause-gives c =
-    let among : IsAnsweredAmong c.args.self.now.worker c.args.self.now.shards.now (delete_call (maps_of c.args.self.now) c.args.map c.args.key.now) c.in-Ok.reply c.ask.new.self.shards.now = rw c.shard_of.ensures at c.in-Ok.ensures.answered in
+    let among : IsAnsweredAmong c.args.self.now.worker c.args.self.now.shards.now
+    (delete_call (maps_of c.args.self.now) c.args.map c.args.key.now) c.in-Ok.reply c.ask.new.self.shards.now =
+    rw c.shard_of.ensures at c.in-Ok.ensures.answered in
     let fits : FitsSigned w32 c.answer_in.result = search rules in
     let same : to_z w32 (of_z w32 c.answer_in.result) ≡ c.answer_in.result = to_z-of_z w32 c.answer_in.result fits in
     record {
@@ -27,7 +32,12 @@ returns-in-Ok-clause-gives c =
         same_options = c.ask.ensures.same_options;
         same_worker = c.ask.ensures.same_worker;
       };
-      given = given_by c.args.self.now.image.now.maps _ c.args.self.now.options _ c.args.self.now.worker _ c.args.self.now.shards.now _ (delete_call (maps_of c.args.self.now) c.args.map c.args.key.now) c.in-Ok.reply (Answer (to_z w32 (of_z w32 c.answer_in.result)))
+      given = given_by c.args.self.now.image.now.maps _ c.args.self.now.options _ c.args.self.now.worker _ c.args.self.now.shards.now _
+          (delete_call (maps_of c.args.self.now) c.args.map c.args.key.now) c.in-Ok.reply (Answer (to_z w32 (of_z w32 c.answer_in.result)))
           (ap (λ image. image.now.maps) c.ask.ensures.same_image) c.ask.ensures.same_options c.ask.ensures.same_worker
-          (∥∥₁_elim c.args.self.now.ready le_prop (λ (ready : IsReady c.args.self.now.image.now.maps c.args.self.now.options c.args.self.now.worker c.args.self.now.shards.now). some_part _ c.args.self.now.options ready.are_options)) tt tt (subst (FitsSigned w32) (sym same) fits) (delete_told c.args.self.now.worker c.args.self.now.shards.now (shard_of (maps_of c.args.self.now) c.args.map c.args.key.now) c.args.key.now c.in-Ok.reply c.ask.new.self.shards.now among ∙ ap Answer (sym c.answer_in.ensures ∙ sym same)) among;
+          (∥∥₁_elim c.args.self.now.ready le_prop (λ (ready : IsReady c.args.self.now.image.now.maps c.args.self.now.options
+          c.args.self.now.worker c.args.self.now.shards.now). some_part _ c.args.self.now.options ready.are_options)) tt tt
+          (subst (FitsSigned w32) (sym same) fits)
+          (delete_told c.args.self.now.worker c.args.self.now.shards.now (shard_of (maps_of c.args.self.now) c.args.map c.args.key.now)
+          c.args.key.now c.in-Ok.reply c.ask.new.self.shards.now among ∙ ap Answer (sym c.answer_in.ensures ∙ sym same)) among;
     }

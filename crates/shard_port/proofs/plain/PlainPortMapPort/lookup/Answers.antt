@@ -12,18 +12,35 @@ use Rattle.shard_port.proofs.GivenLemmas.{given_by, small_lookup, found_told, lo
 use Rattle.shard_port.proofs.plain.PlainPortMapPort.lookup.Goals as goal
 
 pub ask-requires-clause-may : goal.ask-requires-clause-may
-ask-requires-clause-may c = rw c.shard_of.ensures (∥∥₁_elim c.args.self.now.ready (Coded-set coded_bool _ _) (λ (ready : IsReady c.args.self.now.image.now.maps c.args.self.now.options c.args.self.now.worker c.args.self.now.shards.now). may_lookup c.args.self.now.image.now.maps c.args.self.now.options c.args.self.now.worker c.args.self.now.shards.now c.args.map c.args.key.now ready c.requires))
+ask-requires-clause-may c = rw c.shard_of.ensures (∥∥₁_elim c.args.self.now.ready (Coded-set coded_bool _ _)
+    (λ (ready : IsReady c.args.self.now.image.now.maps c.args.self.now.options c.args.self.now.worker c.args.self.now.shards.now).
+    may_lookup c.args.self.now.image.now.maps c.args.self.now.options c.args.self.now.worker c.args.self.now.shards.now c.args.map
+    c.args.key.now ready c.requires))
 
 pub handle_of-requires : goal.handle_of-requires
 handle_of-requires c =
-    let among : IsAnsweredAmong c.args.self.now.worker c.args.self.now.shards.now (lookup_call (maps_of c.args.self.now) c.args.map c.args.key.now) c.in-Ok.reply c.ask.new.self.shards.now = rw c.shard_of.ensures at c.in-Ok.ensures.answered in
-    ∥∥₁_elim c.args.self.now.ready (Coded-set coded_bool _ _) (λ (ready : IsReady c.args.self.now.image.now.maps c.args.self.now.options c.args.self.now.worker c.args.self.now.shards.now). small_lookup c.args.self.now.image.now.maps c.args.self.now.options c.args.self.now.worker c.args.self.now.shards.now (shard_of (maps_of c.args.self.now) c.args.map c.args.key.now) c.args.key.now c.in-Ok.reply c.ask.new.self.shards.now ready among)
+    let among : IsAnsweredAmong c.args.self.now.worker c.args.self.now.shards.now
+    (lookup_call (maps_of c.args.self.now) c.args.map c.args.key.now) c.in-Ok.reply c.ask.new.self.shards.now =
+    rw c.shard_of.ensures at c.in-Ok.ensures.answered in
+    ∥∥₁_elim c.args.self.now.ready (Coded-set coded_bool _ _)
+    (λ (ready : IsReady c.args.self.now.image.now.maps c.args.self.now.options c.args.self.now.worker c.args.self.now.shards.now).
+    small_lookup c.args.self.now.image.now.maps c.args.self.now.options c.args.self.now.worker c.args.self.now.shards.now
+    (shard_of (maps_of c.args.self.now) c.args.map c.args.key.now) c.args.key.now c.in-Ok.reply c.ask.new.self.shards.now ready among)
 
 pub returns-in-Ok-clause-gives : goal.returns-in-Ok-clause-gives
 returns-in-Ok-clause-gives c =
-    let among : IsAnsweredAmong c.args.self.now.worker c.args.self.now.shards.now (lookup_call (maps_of c.args.self.now) c.args.map c.args.key.now) c.in-Ok.reply c.ask.new.self.shards.now = rw c.shard_of.ensures at c.in-Ok.ensures.answered in
-    let small : IsTrue (has_small_cell c.in-Ok.reply) = ∥∥₁_elim c.args.self.now.ready (Coded-set coded_bool _ _) (λ (ready : IsReady c.args.self.now.image.now.maps c.args.self.now.options c.args.self.now.worker c.args.self.now.shards.now). small_lookup c.args.self.now.image.now.maps c.args.self.now.options c.args.self.now.worker c.args.self.now.shards.now (shard_of (maps_of c.args.self.now) c.args.map c.args.key.now) c.args.key.now c.in-Ok.reply c.ask.new.self.shards.now ready among) in
-    let told : c.in-Ok.reply ≡ found_reply cell_of_handle (handle_of c.in-Ok.reply) = found_told c.args.self.now.worker c.args.self.now.shards.now (shard_of (maps_of c.args.self.now) c.args.map c.args.key.now) c.args.key.now c.in-Ok.reply c.ask.new.self.shards.now small among in
+    let among : IsAnsweredAmong c.args.self.now.worker c.args.self.now.shards.now
+    (lookup_call (maps_of c.args.self.now) c.args.map c.args.key.now) c.in-Ok.reply c.ask.new.self.shards.now =
+    rw c.shard_of.ensures at c.in-Ok.ensures.answered in
+    let small : IsTrue (has_small_cell c.in-Ok.reply) =
+    ∥∥₁_elim c.args.self.now.ready (Coded-set coded_bool _ _)
+    (λ (ready : IsReady c.args.self.now.image.now.maps c.args.self.now.options c.args.self.now.worker c.args.self.now.shards.now).
+    small_lookup c.args.self.now.image.now.maps c.args.self.now.options c.args.self.now.worker c.args.self.now.shards.now
+    (shard_of (maps_of c.args.self.now) c.args.map c.args.key.now) c.args.key.now c.in-Ok.reply c.ask.new.self.shards.now ready
+    among) in
+    let told : c.in-Ok.reply ≡ found_reply cell_of_handle (handle_of c.in-Ok.reply) =
+    found_told c.args.self.now.worker c.args.self.now.shards.now (shard_of (maps_of c.args.self.now) c.args.map c.args.key.now)
+    c.args.key.now c.in-Ok.reply c.ask.new.self.shards.now small among in
     rw c.handle_of.ensures.handle (record {
       same_port = record {
         same_shards = c.ask.ensures.same_shards;
@@ -31,7 +48,14 @@ returns-in-Ok-clause-gives c =
         same_options = c.ask.ensures.same_options;
         same_worker = c.ask.ensures.same_worker;
       };
-      given = given_by c.args.self.now.image.now.maps _ c.args.self.now.options _ c.args.self.now.worker _ c.args.self.now.shards.now _ (lookup_call (maps_of c.args.self.now) c.args.map c.args.key.now) c.in-Ok.reply (found_reply cell_of_handle (handle_of c.in-Ok.reply))
+      given = given_by c.args.self.now.image.now.maps _ c.args.self.now.options _ c.args.self.now.worker _ c.args.self.now.shards.now _
+          (lookup_call (maps_of c.args.self.now) c.args.map c.args.key.now) c.in-Ok.reply
+          (found_reply cell_of_handle (handle_of c.in-Ok.reply))
           (ap (λ image. image.now.maps) c.ask.ensures.same_image) c.ask.ensures.same_options c.ask.ensures.same_worker
-          (∥∥₁_elim c.args.self.now.ready le_prop (λ (ready : IsReady c.args.self.now.image.now.maps c.args.self.now.options c.args.self.now.worker c.args.self.now.shards.now). some_part _ c.args.self.now.options ready.are_options)) tt tt (subst (IsReplyTo (program_over (maps_of c.args.self.now)) (lookup_call (maps_of c.args.self.now) c.args.map c.args.key.now)) told (lookup_formed (maps_of c.args.self.now) c.args.self.now.worker c.args.self.now.shards.now (shard_of (maps_of c.args.self.now) c.args.map c.args.key.now) c.args.key.now c.in-Ok.reply c.ask.new.self.shards.now among)) (told) among;
+          (∥∥₁_elim c.args.self.now.ready le_prop (λ (ready : IsReady c.args.self.now.image.now.maps c.args.self.now.options
+          c.args.self.now.worker c.args.self.now.shards.now). some_part _ c.args.self.now.options ready.are_options)) tt tt
+          (subst (IsReplyTo (program_over (maps_of c.args.self.now)) (lookup_call (maps_of c.args.self.now) c.args.map c.args.key.now))
+          told (lookup_formed (maps_of c.args.self.now) c.args.self.now.worker c.args.self.now.shards.now
+          (shard_of (maps_of c.args.self.now) c.args.map c.args.key.now) c.args.key.now c.in-Ok.reply c.ask.new.self.shards.now among))
+          (told) among;
     })

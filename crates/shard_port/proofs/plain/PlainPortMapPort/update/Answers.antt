@@ -14,14 +14,19 @@ use Rattle.shard_port.proofs.GivenLemmas.{given_by, update_told}
 use Rattle.shard_port.proofs.plain.PlainPortMapPort.update.Goals as goal
 
 pub ask-requires-clause-may : goal.ask-requires-clause-may
-ask-requires-clause-may c = rw c.shard_of.ensures (∥∥₁_elim c.args.self.now.ready (Coded-set coded_bool _ _) (λ (ready : IsReady c.args.self.now.image.now.maps c.args.self.now.options c.args.self.now.worker c.args.self.now.shards.now). may_update c.args.self.now.image.now.maps c.args.self.now.options c.args.self.now.worker c.args.self.now.shards.now c.args.map c.args.key.now c.args.value.now c.args.flags ready c.requires))
+ask-requires-clause-may c = rw c.shard_of.ensures (∥∥₁_elim c.args.self.now.ready (Coded-set coded_bool _ _)
+    (λ (ready : IsReady c.args.self.now.image.now.maps c.args.self.now.options c.args.self.now.worker c.args.self.now.shards.now).
+    may_update c.args.self.now.image.now.maps c.args.self.now.options c.args.self.now.worker c.args.self.now.shards.now c.args.map
+    c.args.key.now c.args.value.now c.args.flags ready c.requires))
 
 pub ask-requires-clause-sets_bytes : goal.ask-requires-clause-sets_bytes
 ask-requires-clause-sets_bytes c = recursion_from_All (λ byte. byte < 256) c.args.value.now c.requires.value_bytes
 
 pub returns-in-Ok-clause-gives : goal.returns-in-Ok-clause-gives
 returns-in-Ok-clause-gives c =
-    let among : IsAnsweredAmong c.args.self.now.worker c.args.self.now.shards.now (update_call (maps_of c.args.self.now) c.args.map c.args.key.now c.args.value.now c.args.flags) c.in-Ok.reply c.ask.new.self.shards.now = rw c.shard_of.ensures at c.in-Ok.ensures.answered in
+    let among : IsAnsweredAmong c.args.self.now.worker c.args.self.now.shards.now
+    (update_call (maps_of c.args.self.now) c.args.map c.args.key.now c.args.value.now c.args.flags) c.in-Ok.reply
+    c.ask.new.self.shards.now = rw c.shard_of.ensures at c.in-Ok.ensures.answered in
     let fits : FitsSigned w32 c.answer_in.result = search rules in
     let same : to_z w32 (of_z w32 c.answer_in.result) ≡ c.answer_in.result = to_z-of_z w32 c.answer_in.result fits in
     record {
@@ -31,7 +36,14 @@ returns-in-Ok-clause-gives c =
         same_options = c.ask.ensures.same_options;
         same_worker = c.ask.ensures.same_worker;
       };
-      given = given_by c.args.self.now.image.now.maps _ c.args.self.now.options _ c.args.self.now.worker _ c.args.self.now.shards.now _ (update_call (maps_of c.args.self.now) c.args.map c.args.key.now c.args.value.now c.args.flags) c.in-Ok.reply (Answer (to_z w32 (of_z w32 c.answer_in.result)))
+      given = given_by c.args.self.now.image.now.maps _ c.args.self.now.options _ c.args.self.now.worker _ c.args.self.now.shards.now _
+          (update_call (maps_of c.args.self.now) c.args.map c.args.key.now c.args.value.now c.args.flags) c.in-Ok.reply
+          (Answer (to_z w32 (of_z w32 c.answer_in.result)))
           (ap (λ image. image.now.maps) c.ask.ensures.same_image) c.ask.ensures.same_options c.ask.ensures.same_worker
-          (∥∥₁_elim c.args.self.now.ready le_prop (λ (ready : IsReady c.args.self.now.image.now.maps c.args.self.now.options c.args.self.now.worker c.args.self.now.shards.now). some_part _ c.args.self.now.options ready.are_options)) tt (recursion_from_All (λ byte. byte < 256) c.args.value.now c.requires.value_bytes) (subst (FitsSigned w32) (sym same) fits) (update_told c.args.self.now.worker c.args.self.now.shards.now (shard_of (maps_of c.args.self.now) c.args.map c.args.key.now) c.args.key.now c.args.value.now c.args.flags c.in-Ok.reply c.ask.new.self.shards.now among ∙ ap Answer (sym c.answer_in.ensures ∙ sym same)) among;
+          (∥∥₁_elim c.args.self.now.ready le_prop (λ (ready : IsReady c.args.self.now.image.now.maps c.args.self.now.options
+          c.args.self.now.worker c.args.self.now.shards.now). some_part _ c.args.self.now.options ready.are_options)) tt
+          (recursion_from_All (λ byte. byte < 256) c.args.value.now c.requires.value_bytes) (subst (FitsSigned w32) (sym same) fits)
+          (update_told c.args.self.now.worker c.args.self.now.shards.now (shard_of (maps_of c.args.self.now) c.args.map c.args.key.now)
+          c.args.key.now c.args.value.now c.args.flags c.in-Ok.reply c.ask.new.self.shards.now among ∙
+          ap Answer (sym c.answer_in.ensures ∙ sym same)) among;
     }
