@@ -6,7 +6,7 @@ ghost use Rattle.plain_maps.specs.Hashing.{home_of};
 ghost use Rattle.plain_maps.specs.Buckets.{bucket_at};
 
 use crate::buckets::{Bucket, cleared, found_in, home_of, placed};
-use crate::search::search;
+use crate::search::{key_at, search};
 use map_cells::blocks::write_at;
 use std::alloc::{AllocError, Global};
 use std::marker::Model;
@@ -74,6 +74,15 @@ impl KeyIndex {
             Ok(at) => Some(self.order[at]),
             Err(_) => None,
         }
+    }
+
+    /// The key that has an entry number, which some key must have.
+    pub fn key(&self, number: u32) -> &[u8]
+        requires { (q : List ℕ) × (entry_of self.now q ≡ Some number) }
+        ensures key { entry_of self.now result.now ≡ Some number }
+        ensures size { length result.now ≡ self.now.size }
+    {
+        key_at(&self.keys, self.size, number as usize)
     }
 
     /// Gives a new key an entry number that no key has.

@@ -1,5 +1,7 @@
 //! Keys in and out, in a small index and in a large one.
 
+ghost use Rattle.std.specs.Prelude.{◌≡◌, length};
+
 use crate::{ArrayShard, HashShard, KeyIndex};
 use std::alloc::AllocError;
 
@@ -16,10 +18,22 @@ fn a_key_comes_and_goes(rt: HostRuntime) -> Result<(), AllocError> {
     Ok(())
 }
 
+/// Whether the key is there, and is the key of its number.
+fn gives_back(index: &KeyIndex, key: &[u8]) -> bool
+    requires { length key.now ≡ index.now.size }
+{
+    match index.find(key) {
+        Some(number) => index.key(number) == key,
+        None => false,
+    }
+}
+
 #[test]
 fn a_large_index(rt: HostRuntime) -> Result<(), AllocError> {
     let mut index = KeyIndex::new(rt.alloc(), 16, 131_072)?;
     index.insert(&[7; 16], 131_071);
+    assert!(rt; gives_back(&index, &[7; 16]));
+    assert!(rt; !gives_back(&index, &[8; 16]));
     assert_eq!(rt; index.find(&[7; 16]), Some(131_071));
     assert!(rt; index.find(&[8; 16]).is_none());
     Ok(())
