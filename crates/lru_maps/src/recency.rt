@@ -1,7 +1,7 @@
 //! Which entry number was used least recently.
 
 ghost use Rattle.std.specs.Prelude.{◌≡◌, ℕ, ◌<◌, ◌≤◌, ◌-◌, length, Some, nat_eq, IfSome, IfOk, slice_get};
-ghost use Rattle.lru_maps.specs.Recency.{IsByLastUse, IsLeastRecent, used_at, used, released, countdown, order_of};
+ghost use Rattle.lru_maps.specs.Recency.{IsByLastUse, IsLeastRecent, used_at, used, released, countdown, order_of, StaysByUse};
 
 use lru::LruCache;
 use std::alloc::{AllocError, Global};
@@ -37,7 +37,7 @@ impl Recency {
     /// A use of the number, after all uses so far: it stands first.
     pub fn touch(&mut self, number: u32)
         ensures order { order_of self.new.cache.entries ≡ used number (order_of self.old.cache.entries) }
-        ensures by_use { (last : ℕ → ℕ) (now : ℕ) → ((m : ℕ) → last m ≤ now) → IsByLastUse last self.old.cache.entries → IsByLastUse (used_at last number now) self.new.cache.entries }
+        ensures by_use { StaysByUse number self.old.cache.entries self.new.cache.entries }
     {
         let _valid = self.cache.len();
         self.cache.promote(&number);
