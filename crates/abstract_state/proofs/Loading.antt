@@ -117,7 +117,7 @@ pub cell_follows : (program : Program) (held : Held) (state : State) (machine : 
     (load_cell_step program insn machine dst map shard cell place (size_bytes size) convert)
 cell_follows program held state machine a insn dst done w map shard cell place from size convert i found holds covers =
     rw (cell_reached program map place from (size_bytes size) found, written_ok dst done w machine Uninitialized)
-    (record { map = map; holds = holds; is_width = load_width size; inside = found.inside; aligned = found.multiple }, given)
+    (record { map = map; holds = holds; is_width = load_width size; inside = found.inside }, given)
   where
     given : (reply : Reply) → IsReplyTo program (Load (cell_ref shard cell) from (size_bytes size)) reply → (held' : Held) →
         HoldsAfter program held held' (Load (cell_ref shard cell) from (size_bytes size)) reply →

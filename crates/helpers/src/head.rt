@@ -24,7 +24,7 @@ pub fn adjust_head(frame: &mut Frame, distance: i32) -> i32
 {
     if distance < 0 {
         let back = distance.unsigned_abs() as usize;
-        if back > frame.room() {
+        if back > frame.room() || frame.len() < MIN_FRAME.saturating_sub(back) {
             return INVALID;
         }
         frame.grow_front(back);

@@ -1,5 +1,5 @@
 -- What a port serves: the calls that a run may make of it, and the words that stand for cells.
-use Rattle.std.specs.Prelude.{◌≡◌, ℕ, zero, suc, ◌<◌, ◌^◌, List, [], length, All, IsTrue, Option, Some, None, slice_get}
+use Rattle.std.specs.Prelude.{◌≡◌, ℕ, zero, suc, ◌%◌, ◌<◌, ◌^◌, List, [], length, All, IsTrue, Option, Some, None, slice_get}
 use Rattle.isa.specs.declared.operation.AtomicOp.{AtomicOp}
 use Rattle.ebpf_decode.specs.declared.map.MapDef.{MapDef}
 use Rattle.isa.specs.InstructionCodes.{atomic_code}
@@ -61,7 +61,7 @@ pub record IsPairOf (served : Maps) (map : ℕ) (key value : List ℕ) : Type 0 
   pub bytes : All (λ byte. byte < 256) key
   pub value_bytes : All (λ byte. byte < 256) value
 
--- some bytes of a cell that was handed out: inside its value, at a multiple of their number
+-- some bytes of a cell that was handed out, inside its value
 abbrev pub IsReadable : Maps → Held → CellRef → ℕ → ℕ → Type 0
 IsReadable served held cell offset width = IsServedLoad (program_over served) held cell offset width
 
@@ -70,10 +70,11 @@ pub record IsStorable (served : Maps) (held : Held) (cell : CellRef) (offset wid
   pub place : IsReadable served held cell offset width
   pub fits : value < 256 ^ width
 
--- an atomic operation there; only compare-and-exchange has a number to compare with
+-- an atomic operation there, at a multiple of its width; only compare-and-exchange has a number to compare with
 pub record IsAtomic (served : Maps) (held : Held) (cell : CellRef) (offset width : ℕ) (op : AtomicOp) (value expected : ℕ) : Type 0 where
   pub place : IsReadable served held cell offset width
   pub atomic_width : IsTrue (is_atomic_width width)
+  pub aligned : offset % width ≡ 0
   pub fits : value < 256 ^ width
   pub expected_fits : expected < 256 ^ width
   pub expected_if : IsTrue (is_expected (atomic_code op) expected)

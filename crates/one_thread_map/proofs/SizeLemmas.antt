@@ -7,7 +7,7 @@ use Rattle.semantics.specs.declared.call.Call.{Call}
 use Rattle.semantics.specs.declared.call.Call.TheVariants.{Enter, Leave, Lookup, Load, Store, Atomic, Update, Delete, Reclaim}
 use Rattle.semantics.specs.declared.plan.ShardPlan.{ShardPlan}
 use Rattle.semantics.specs.PlanLimits.{IsWithinLimits}
-use Rattle.semantics.specs.History.{is_load_width, is_in_cell, fits_width, meets_part, meets}
+use Rattle.semantics.specs.History.{is_load_width, is_in_cell, is_aligned, fits_width, meets_part, meets}
 use Rattle.semantics.proofs.ConditionLemmas.{first_true, second_true}
 use Rattle.one_thread_map.specs.OneThread.{IsSized}
 
@@ -19,7 +19,6 @@ width_met width held = grind (arith, nat_tests)
 
 in_cell_met : (plan : ShardPlan) (offset width : ℕ) → IsWithinLimits plan → IsTrue (is_in_cell plan offset width) → offset + width ≤ 64
 in_cell_met plan offset width limits held =
-    let h : IsTrue (nat_le (offset + width) plan.definition.value_size) = first_true (nat_le (offset + width) plan.definition.value_size) (offset % width == 0) held in
     let most : plan.definition.value_size ≤ 64 = limits.value_size in
     grind (arith, nat_tests)
 
@@ -35,7 +34,7 @@ sized_part plan history who (Store cell offset width value) limits met =
     (width_met width (second_true _ _ (first_true _ _ (first_true _ _ met))), in_cell_met plan offset width limits (second_true _ _ (first_true _ _ met)))
 sized_part plan history who (Atomic cell offset width op value expected) limits met = (
   second_true _ _ (first_true _ _ (first_true _ _ (first_true _ _ (first_true _ _ (first_true _ _ met))))),
-  in_cell_met plan offset width limits (second_true _ _ (first_true _ _ (first_true _ _ (first_true _ _ (first_true _ _ met))))),
+  in_cell_met plan offset width limits (first_true (is_in_cell plan offset width) (is_aligned offset width) (second_true _ _ (first_true _ _ (first_true _ _ (first_true _ _ (first_true _ _ met)))))),
   fits_met value width (second_true _ _ (first_true _ _ (first_true _ _ met))),
   fits_met expected width (second_true _ _ (first_true _ _ met)),
 )

@@ -5,7 +5,7 @@ ghost use Rattle.semantics.specs.PlanLimits.{IsWithinLimits, IsIndexSize};
 ghost use Rattle.semantics.specs.Reclamation.{inside_count};
 ghost use Rattle.semantics.specs.Program.{shard_number_of_key, part_of_key};
 ghost use Rattle.isa.specs.InstructionCodes.{atomic_op_of};
-ghost use Rattle.semantics.specs.History.{is_outside_worker, is_inside_worker, is_holder, may_change_keys, is_reclaimer, is_own_key, is_load_width, is_atomic_width, is_in_cell, fits_width, is_expected, meets_part, meets, room_for_leave, room_needed, lacks_room, journal_is_full};
+ghost use Rattle.semantics.specs.History.{is_outside_worker, is_inside_worker, is_holder, may_change_keys, is_reclaimer, are_bytes, is_own_key, is_value, are_flags, is_load_width, is_atomic_width, is_in_cell, is_aligned, fits_width, is_expected, meets_part, meets, room_for_leave, room_needed, lacks_room, journal_is_full};
 
 use crate::history::{holds, inside_count, is_inside};
 use ebpf_decode::MapKind;
@@ -90,8 +90,17 @@ fn is_own_key(plan: &ShardPlan, key: &Key) -> bool
 {
     let bytes = key.as_slice();
     bytes.len() == plan.definition.key_size as usize
-        && shard_number_of_key(plan.definition.kind, bytes) % u64::from(plan.parts)
+        && (shard_number_of_key(plan.definition.kind, bytes) % u64::from(plan.parts)
             == u64::from(plan.part)
+            && are_bytes(bytes))
+}
+
+/// Whether these are bytes, as a slice of `u8` always is.
+fn are_bytes(bytes: &[u8]) -> bool
+    ensures { result ≡ are_bytes bytes.now }
+{
+    let _ = bytes;
+    true
 }
 
 /// Whether a Load or a Store may have this width.
@@ -108,13 +117,19 @@ fn is_atomic_width(width: u64) -> bool
     width == 4 || width == 8
 }
 
-/// Whether the bytes lie inside the value, at a multiple of their number.
+/// Whether the bytes lie inside the value.
 fn is_in_cell(plan: &ShardPlan, offset: u64, width: u64) -> bool
-    requires { 0 < width }
     ensures { result ≡ is_in_cell plan.now offset width }
 {
     u128::from(offset) + u128::from(width) <= u128::from(plan.definition.value_size)
-        && offset % width == 0
+}
+
+/// Whether the offset is a multiple of the width.
+fn is_aligned(offset: u64, width: u64) -> bool
+    requires { 0 < width }
+    ensures { result ≡ is_aligned offset width }
+{
+    offset % width == 0
 }
 
 /// Whether so many bytes hold the number.
@@ -146,10 +161,10 @@ fn is_load(plan: &ShardPlan, offset: u64, width: u64) -> bool
 
 /// Whether an atomic operation of this width may be made at this offset with these numbers.
 fn is_atomic(plan: &ShardPlan, offset: u64, width: u64, op: u64, value: u64, expected: u64) -> bool
-    ensures { result ≡ (is_atomic_width width && is_in_cell plan.now offset width && is_some (atomic_op_of op) && fits_width value width && fits_width expected width && is_expected op expected) }
+    ensures { result ≡ (is_atomic_width width && (is_in_cell plan.now offset width && is_aligned offset width) && is_some (atomic_op_of op) && fits_width value width && fits_width expected width && is_expected op expected) }
 {
     is_atomic_width(width)
-        && is_in_cell(plan, offset, width)
+        && (is_in_cell(plan, offset, width) && is_aligned(offset, width))
         && AtomicOp::of(op).is_some()
         && fits_width(value, width)
         && fits_width(expected, width)
@@ -187,9 +202,14 @@ fn meets_part(plan: &ShardPlan, journal: &[Entry], who: &Caller, call: &Call) ->
             expected,
         } => is_holder(plan, journal, who, cell)
             && is_atomic(plan, *offset, *width, *op, *value, *expected),
-        Call::Update { key, value, .. } => may_change_keys(plan, journal, who)
+        Call::Update {
+            key,
+            value,
+            flags,
+            ..
+        } => may_change_keys(plan, journal, who)
             && is_own_key(plan, key)
-            && is_value(plan, value),
+            && (is_value(plan, value) && are_flags(*flags)),
         Call::Delete { key, .. } => may_change_keys(plan, journal, who) && is_own_key(plan, key),
         Call::Reclaim { .. } => is_reclaimer(who),
     }
@@ -197,9 +217,18 @@ fn meets_part(plan: &ShardPlan, journal: &[Entry], who: &Caller, call: &Call) ->
 
 /// Whether the value has the map's length.
 fn is_value(plan: &ShardPlan, value: &Value) -> bool
-    ensures { result ≡ (length value.now == plan.now.definition.value_size) }
+    ensures { result ≡ is_value plan.now value.now }
 {
-    value.as_slice().len() == plan.definition.value_size as usize
+    let bytes = value.as_slice();
+    bytes.len() == plan.definition.value_size as usize && are_bytes(bytes)
+}
+
+/// Whether the flags are a number of 64 bits, as a `u64` always is.
+fn are_flags(flags: u64) -> bool
+    ensures { result ≡ are_flags flags }
+{
+    let _ = flags;
+    true
 }
 
 /// Whether the caller may make this call on this shard now.

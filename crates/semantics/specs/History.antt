@@ -1,6 +1,7 @@
 -- Which calls a shard serves, when its journal is full, and which histories are legal. A journal lists its entries in order,
 -- the oldest first; a history has the newest first.
 use Rattle.std.specs.Prelude.{◌≡◌, ℕ, ◌+◌, ◌%◌, ◌^◌, ◌==◌, Bool, true, false, ◌&&◌, ◌||◌, nat_lt, nat_le, List, [], ◌∷◌, length, reverse, is_some, if◌then◌else◌, IsTrue, IsFalse}
+use Rattle.std.specs.List.{list_all}
 use Rattle.isa.specs.declared.operation.AtomicOp.TheVariants.{CompareExchange}
 use Rattle.semantics.specs.declared.call.Caller.{Caller}
 use Rattle.semantics.specs.declared.call.Caller.TheVariants.{Worker, Controller, Reclaimer}
@@ -54,9 +55,22 @@ abbrev pub is_reclaimer : Caller → Bool
 is_reclaimer Reclaimer = true
 is_reclaimer who = false
 
--- the key has the map's length and belongs to the shard
+-- keys and values are bytes
+abbrev pub are_bytes : List ℕ → Bool
+are_bytes bytes = list_all (λ byte. nat_lt byte 256) bytes
+
+-- the key has the map's length, belongs to the shard, and is of bytes
 abbrev pub is_own_key : ShardPlan → List ℕ → Bool
-is_own_key plan key = length key == plan.definition.key_size && part_of_key plan.definition.kind plan.parts key == plan.part
+is_own_key plan key =
+    length key == plan.definition.key_size && (part_of_key plan.definition.kind plan.parts key == plan.part && are_bytes key)
+
+-- the value has the map's length, and is of bytes
+abbrev pub is_value : ShardPlan → List ℕ → Bool
+is_value plan value = length value == plan.definition.value_size && are_bytes value
+
+-- flags are a number of 64 bits: the map answers those that it doesn't know
+abbrev pub are_flags : ℕ → Bool
+are_flags flags = nat_lt flags (2 ^ 64)
 
 abbrev pub is_load_width : ℕ → Bool
 is_load_width width = width == 1 || width == 2 || width == 4 || width == 8
@@ -64,9 +78,13 @@ is_load_width width = width == 1 || width == 2 || width == 4 || width == 8
 abbrev pub is_atomic_width : ℕ → Bool
 is_atomic_width width = width == 4 || width == 8
 
--- inside the value, at a multiple of the width
+-- inside the value
 abbrev pub is_in_cell : ShardPlan → ℕ → ℕ → Bool
-is_in_cell plan offset width = nat_le (offset + width) plan.definition.value_size && offset % width == 0
+is_in_cell plan offset width = nat_le (offset + width) plan.definition.value_size
+
+-- an atomic operation is also at a multiple of its width
+abbrev pub is_aligned : ℕ → ℕ → Bool
+is_aligned offset width = offset % width == 0
 
 abbrev pub fits_width : ℕ → ℕ → Bool
 fits_width value width = nat_lt value (256 ^ width)
@@ -84,10 +102,10 @@ meets_part plan history who (Load cell offset width) =
 meets_part plan history who (Store cell offset width value) =
     is_holder plan history who cell.id && is_load_width width && is_in_cell plan offset width && fits_width value width
 meets_part plan history who (Atomic cell offset width op value expected) =
-    is_holder plan history who cell.id && is_atomic_width width && is_in_cell plan offset width &&
+    is_holder plan history who cell.id && is_atomic_width width && (is_in_cell plan offset width && is_aligned offset width) &&
     is_some (atomic_op_of op) && fits_width value width && fits_width expected width && is_expected op expected
 meets_part plan history who (Update shard key value flags) =
-    may_change_keys plan history who && is_own_key plan key && length value == plan.definition.value_size
+    may_change_keys plan history who && is_own_key plan key && (is_value plan value && are_flags flags)
 meets_part plan history who (Delete shard key) = may_change_keys plan history who && is_own_key plan key
 meets_part plan history who (Reclaim shard) = is_reclaimer who
 

@@ -1,12 +1,13 @@
 -- An image is safe: whatever frames arrive and however the shared steps of workers, controller and reclaimer interleave, no
 -- run's next instruction traps, and no run takes more instructions than the image has slots.
-use Rattle.std.specs.Prelude.{ℕ, ◌<◌, List, Option, Some, None, IsTrue, MatchBool}
+use Rattle.std.specs.Prelude.{ℕ, ◌<◌, List, ◌∷◌, Option, Some, None, IsTrue, MatchBool}
 use Rattle.ebpf_decode.specs.declared.insn.Insn.{Insn}
 use Rattle.ebpf_decode.specs.declared.map.MapDef.{MapDef}
 use Rattle.semantics.specs.declared.options.Options.{Options}
 use Rattle.semantics.specs.declared.call.Caller.TheVariants.{Worker}
 use Rattle.semantics.specs.declared.call.Call.{Call}
 use Rattle.semantics.specs.declared.call.Call.TheVariants.{Enter, Load, Store, Atomic}
+use Rattle.semantics.specs.declared.call.Reply.TheVariants.{Entered}
 use Rattle.semantics.specs.declared.call.Entry.{Entry}
 use Rattle.semantics.specs.MachineState.{MachineState}
 use Rattle.ebpf_decode.specs.InstructionEncoding.{total_slots}
@@ -24,12 +25,21 @@ IsOnKeptCell plan history (Store cell offset width value) = IsTrue (is_kept plan
 IsOnKeptCell plan history (Atomic cell offset width op value expected) = IsTrue (is_kept plan (shard_after plan history) cell.id)
 IsOnKeptCell plan history call = Unit {0}
 
--- the shard exists, and the worker may make the call, on a cell that is not freed: where it has not entered the shard yet, that is Enter
+-- the caller may make the call, on a cell that is not freed
+abbrev pub IsServedAt : ShardPlan → List Entry → ℕ → Call → Type 0
+IsServedAt plan history worker call = Meets plan history (Worker worker) call × IsOnKeptCell plan history call
+
+-- the history after the worker's Enter
+abbrev pub after_enter : ShardPlan → List Entry → ℕ → List Entry
+after_enter plan history worker = (record { who = Worker worker; call = Enter plan.number; reply = Entered }) ∷ history
+
+-- the shard exists, and the worker may make the call; where it has not entered the shard yet, it may enter, and then make the call
 abbrev pub IsServedCall : Option ShardPlan → SystemState → ℕ → List ℕ → Call → Type 0
 IsServedCall (Some plan) system worker entered call =
     MatchBool (is_entered plan.number entered)
-    (Meets plan (history_of system plan.number) (Worker worker) call × IsOnKeptCell plan (history_of system plan.number) call)
-    (Meets plan (history_of system plan.number) (Worker worker) (Enter plan.number))
+    (IsServedAt plan (history_of system plan.number) worker call)
+    (Meets plan (history_of system plan.number) (Worker worker) (Enter plan.number)
+    × IsServedAt plan (after_enter plan (history_of system plan.number) worker) worker call)
 IsServedCall None system worker entered call = ⊥
 
 -- an instruction does not trap; a call on a cell that is not held or was freed is a trap too

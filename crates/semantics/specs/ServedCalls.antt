@@ -1,5 +1,5 @@
 -- Calls of maps that a run may make, by the maps that the program has and the cells that are held; and what a reply hands out.
-use Rattle.std.specs.Prelude.{◌≡◌, ℕ, ◌+◌, ◌%◌, ◌<◌, ◌≤◌, Bool, List, length, All, IsTrue, Some, slice_get}
+use Rattle.std.specs.Prelude.{◌≡◌, ℕ, ◌+◌, ◌<◌, ◌≤◌, Bool, List, length, All, IsTrue, Some, slice_get}
 use Rattle.ebpf_decode.specs.declared.map.MapDef.{MapDef}
 use Rattle.semantics.specs.declared.call.CellRef.{CellRef}
 use Rattle.semantics.specs.declared.call.Call.{Call}
@@ -22,13 +22,12 @@ pub record IsServedLookup (program : Program) (shard : ℕ) (key : List ℕ) : T
   pub bytes : All (λ byte. byte < 256) key
   pub own : shard ≡ shard_of_key map definition.kind program.shards key
 
--- a load from a cell that is held, inside its value and at a multiple of its width
+-- a load from a cell that is held, inside its value
 pub record IsServedLoad (program : Program) (held : Held) (cell : CellRef) (offset width : ℕ) : Type 0 where
   pub map : ℕ
   pub holds : IsTrue (held map cell.shard cell.id)
   pub is_width : IsTrue (is_load_width width)
   pub inside : offset + width ≤ value_size_of (slice_get program.maps map)
-  pub aligned : offset % width ≡ 0
 
 abbrev pub IsServed : Program → Held → Call → Type 0
 IsServed program held (Lookup shard key) = IsServedLookup program shard key

@@ -65,8 +65,8 @@ with_entry system shard entry =
 -- ---- events
 
 pub data SystemEvent : Type 0 where
-  -- an idle worker begins a run on a frame, at a time in nanoseconds
-  BeginsRun : (worker : ℕ) → (frame : List ℕ) → (now : ℕ) → SystemEvent
+  -- an idle worker begins a run on a frame, at a time in nanoseconds; the run is told a worker's number, which need not be its own
+  BeginsRun : (worker : ℕ) → (frame : List ℕ) → (now : ℕ) → (told : ℕ) → SystemEvent
   -- a worker does an instruction that touches nothing shared
   DoesInstruction : (worker : ℕ) → SystemEvent
   -- a worker makes its run's next call, or enters the shard first
@@ -114,24 +114,15 @@ abbrev pub MayLeave : WorkerState → ℕ → Type 0
 MayLeave (Leaves entered) shard = IsTrue (is_entered shard entered)
 MayLeave other shard = ⊥
 
--- the keys and values of a change are bytes
-abbrev pub AreBytes : List ℕ → Type 0
-AreBytes bytes = All (λ byte. byte < 256) bytes
-
-abbrev pub HasBytes : Call → Type 0
-HasBytes (Update shard key value flags) = AreBytes key × AreBytes value × (flags < 2 ^ 64)
-HasBytes (Delete shard key) = AreBytes key
-HasBytes call = Unit {0}
-
 -- what the event needs in order to happen
 abbrev pub CanHappen : Setting → SystemState → SystemEvent → Type 0
-CanHappen setting system (BeginsRun worker frame now) =
-    (worker < setting.options.workers) × (worker_state system worker ≡ Idle) × IsInputFrame frame × (now < 2 ^ 64)
+CanHappen setting system (BeginsRun worker frame now told) =
+    (worker < setting.options.workers) × (worker_state system worker ≡ Idle) × IsInputFrame frame × (now < 2 ^ 64) × (told < 8)
 CanHappen setting system (DoesInstruction worker) = DoesNext setting (worker_state system worker) is_local
 CanHappen setting system (CallsShard worker) = DoesNext setting (worker_state system worker) calls_map
 CanHappen setting system (LeavesShard worker shard) = MayLeave (worker_state system worker) shard
 CanHappen setting system (Controls call) =
-    IsTrue (is_key_change call) × HasBytes call ×
+    IsTrue (is_key_change call) ×
     MayCall (plan_at setting.maps setting.options (shard_of_call call)) system Controller call
 CanHappen setting system (Reclaims shard) =
     MayCall (plan_at setting.maps setting.options shard) system Reclaimer (Reclaim shard)
@@ -204,8 +195,8 @@ after_leaving setting system worker shard other = system
 
 -- the state after the event
 abbrev pub after_event : Setting → SystemState → SystemEvent → SystemState
-after_event setting system (BeginsRun worker frame now) =
-    with_worker system worker (Runs (initial_state (input_frame frame) worker now) [])
+after_event setting system (BeginsRun worker frame now told) =
+    with_worker system worker (Runs (initial_state (input_frame frame) told now) [])
 after_event setting system (DoesInstruction worker) =
     with_worker system worker (after_instruction setting (worker_state system worker))
 after_event setting system (CallsShard worker) = after_shard_call setting system worker (worker_state system worker)

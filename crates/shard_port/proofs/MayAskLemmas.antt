@@ -16,8 +16,8 @@ use Rattle.semantics.specs.declared.call.Call.TheVariants.{Load, Store}
 use Rattle.semantics.specs.Program.{part_of_key, shard_number_of_key}
 use Rattle.semantics.specs.ShardPlan.{AreOptions}
 use Rattle.semantics.specs.Reclamation.{is_inside, holds}
-use Rattle.semantics.specs.History.{is_own_key, is_load_width, is_in_cell, fits_width}
-use Rattle.semantics.proofs.ConditionLemmas.{first_true, second_true}
+use Rattle.semantics.specs.History.{are_flags, is_own_key, is_load_width, is_in_cell, fits_width}
+use Rattle.semantics.proofs.ConditionLemmas.{first_true, second_true, bytes_test}
 use Rattle.semantics.specs.Program.{value_size_of}
 use Rattle.shard_core.specs.JournaledShard.{JournaledShard}
 use Rattle.map_port.specs.Served.{Maps, shard_of, IsKeyOf, IsPairOf, IsReadable, IsStorable, IsAtomic, lookup_call, update_call, delete_call, atomic_call}
@@ -61,6 +61,9 @@ below_count map maps parts part of_map of_part =
     let more : suc map * parts ≤ maps * parts = mul-le-mul_right parts of_map in
     let next : suc map * parts ≡ map * parts + parts = suc-mul map parts in
     omega (arith, more, next, of_part)
+
+flags_test : (flags : ℕ) → flags < 2 ^ 64 → are_flags flags ≡ true
+flags_test flags few = grind (arith, nat_tests)
 
 same_test : (a b : ℕ) → a ≡ b → (a == b) ≡ true
 same_test a b same = grind (arith, nat_tests)
@@ -106,7 +109,7 @@ at_key maps options worker shards map key ready of_map =
       is_worker = is_worker_of maps options worker number found.0 ready.is_worker is;
       numbered = same_test number found.0.plan.number (sym plan.0);
       inside = inside_once_entered worker found.0;
-      own_key = both_true _ _ (same_test _ _ sized) (same_test _ _ own_part);
+      own_key = both_true _ _ (same_test _ _ sized) (both_true _ _ (same_test _ _ own_part) (bytes_test key of_map.bytes));
       definition = defined;
     }
 
@@ -125,17 +128,18 @@ may_delete maps options worker shards map key ready of_map =
     rw at.known (both_true _ _ at.is_worker (both_true _ _ at.numbered (both_true _ _ (both_true _ _ at.is_worker at.inside) at.own_key)))
 
 pub may_update : (maps : List MapDef) (options : Options) (worker : ℕ) (shards : List JournaledShard) (map : ℕ) (key value : List ℕ)
-    (flags : ℕ) → IsReady maps options worker shards → IsPairOf (served_by maps options) map key value →
+    (flags : ℕ) → IsReady maps options worker shards → flags < 2 ^ 64 → IsPairOf (served_by maps options) map key value →
     IsTrue (may_ask_at worker (slice_get shards (shard_of (served_by maps options) map key))
     (update_call (served_by maps options) map key value flags))
-may_update maps options worker shards map key value flags ready pair =
+may_update maps options worker shards map key value flags ready few pair =
     let of_map : IsKeyOf (served_by maps options) map key =
     record { definition = pair.definition; known = pair.known; key_size = pair.key_size; bytes = pair.bytes } in
     let at = at_key maps options worker shards map key ready of_map in
     let same : pair.definition ≡ at.shard.plan.definition = cc (pair.known, at.definition) in
     let sized : length value ≡ at.shard.plan.definition.value_size = pair.value_size ∙ ap (λ (one : MapDef). one.value_size) same in
     rw at.known (both_true _ _ at.is_worker (both_true _ _ at.numbered
-    (both_true _ _ (both_true _ _ (both_true _ _ at.is_worker at.inside) at.own_key) (same_test _ _ sized))))
+    (both_true _ _ (both_true _ _ (both_true _ _ at.is_worker at.inside) at.own_key)
+    (both_true _ _ (both_true _ _ (same_test _ _ sized) (bytes_test value pair.value_bytes)) (flags_test flags few)))))
 
 -- ---- the shard of a cell
 
@@ -181,11 +185,11 @@ at_cell maps options worker shards map cell ready handed =
     }
 
 in_cell_of : (maps : List MapDef) (map : ℕ) (plan : ShardPlan) (offset width : ℕ) → slice_get maps map ≡ Some plan.definition →
-    offset + width ≤ value_size_of (slice_get maps map) → offset % width ≡ 0 → is_in_cell plan offset width ≡ true
-in_cell_of maps map plan offset width defined inside aligned =
+    offset + width ≤ value_size_of (slice_get maps map) → is_in_cell plan offset width ≡ true
+in_cell_of maps map plan offset width defined inside =
     let size : value_size_of (slice_get maps map) ≡ plan.definition.value_size = ap value_size_of defined in
     let within : offset + width ≤ plan.definition.value_size = omega (arith, size, inside) in
-    both_true (nat_le (offset + width) plan.definition.value_size) (offset % width == 0) (grind (arith, nat_tests)) (same_test _ _ aligned)
+    grind (arith, nat_tests)
 
 -- what a Load, a Store and an atomic operation share
 pub record IsAtPlace (maps : List MapDef) (options : Options) (worker : ℕ) (shards : List JournaledShard) (cell : CellRef)
@@ -211,7 +215,7 @@ at_place maps options worker shards cell offset width ready readable =
       numbered = at.numbered;
       held = at.held;
       is_width = readable.is_width;
-      in_cell = in_cell_of maps readable.map at.shard.plan offset width at.definition readable.inside readable.aligned;
+      in_cell = in_cell_of maps readable.map at.shard.plan offset width at.definition readable.inside;
     }
 
 fits_test : (value width : ℕ) → value < 256 ^ width → fits_width value width ≡ true
@@ -257,5 +261,5 @@ may_change maps options worker shards cell offset width op value expected ready 
     let at = at_place maps options worker shards cell offset width ready atomic.place in
     rw at.known (both_true _ _ at.is_worker (both_true _ _ at.numbered
     (both_true _ _ (both_true _ _ (both_true _ _ (both_true _ _ (both_true _ _ (both_true _ _ (both_true _ _ at.is_worker at.held)
-    atomic.atomic_width) at.in_cell) (known_op op)) (fits_test value width atomic.fits))
+    atomic.atomic_width) (both_true _ _ at.in_cell (same_test _ _ atomic.aligned))) (known_op op)) (fits_test value width atomic.fits))
     (fits_test expected width atomic.expected_fits)) atomic.expected_if)))

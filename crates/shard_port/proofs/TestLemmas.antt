@@ -66,5 +66,4 @@ example_cell served served' held cell_of map key (suc handle) maps below same ha
       holds = handed map known.definition known.known (shard_of_known served map key known.definition known.known);
       is_width = refl;
       inside = omega (arith, size, known.value_size);
-      aligned = refl;
     }

@@ -7,7 +7,7 @@ use Rattle.std.proofs.lemmas.List.Elements.{All-get_or}
 use Rattle.ebpf_decode.specs.declared.map.MapKind.{MapKind}
 use Rattle.ebpf_decode.specs.declared.map.MapKind.TheVariants.{Array, Hash, LruHash}
 use Rattle.ebpf_decode.specs.MapForm.{is_served, is_allowed_map}
-use Rattle.semantics.proofs.ConditionLemmas.{first_true}
+use Rattle.semantics.proofs.ConditionLemmas.{first_true, bytes_test}
 use Rattle.ebpf_decode.specs.declared.map.MapDef.{MapDef}
 use Rattle.ebpf_decode.specs.declared.insn.Insn.{Insn}
 use Rattle.semantics.specs.declared.options.Options.{Options}
@@ -145,7 +145,7 @@ lookup_plan maps code options shard key some served =
           both (shard == shard) _ (same_true shard shard refl)
           (both (nat_lt worker options.workers && is_inside worker h) _ (both (nat_lt worker options.workers) _ (below_true worker options.workers few) inside)
           (both (length key == served.definition.key_size) _ (same_true (length key) served.definition.key_size served.key_size)
-          (same_true part (shard % options.shards) (sym of_part))));
+          (both (part == shard % options.shards) _ (same_true part (shard % options.shards) (sym of_part)) (bytes_test key served.bytes))));
     }
 
 -- a load from a held cell is one that the cell's shard serves
@@ -163,8 +163,7 @@ load_meets maps code options held cell offset width plan h worker of_held served
     in both (cell.shard == plan.number) _ (same_true cell.shard plan.number (sym facts.number))
     (both (nat_lt worker plan.workers && holds worker cell.id h && is_load_width width) _
     (both (nat_lt worker plan.workers && holds worker cell.id h) _ (both (nat_lt worker plan.workers) _ (below_true worker plan.workers known) of_map.1) served.is_width)
-    (both (nat_le (offset + width) plan.definition.value_size) _ (at_most_true (offset + width) plan.definition.value_size inside)
-    (same_true (offset % width) 0 served.aligned)))
+    (at_most_true (offset + width) plan.definition.value_size inside))
 
 -- ---- plans of images that may be opened with the options
 

@@ -106,4 +106,4 @@ pub cell_reached : (program : Program) (map : ℕ) (place : ℤ) (from count : �
     cell_range program map place count ≡ Ok from
 cell_reached program map place from count found =
     let inside : from + count ≤ value_size_of_map program map = rw (map_value_size program map) found.inside
-    in rw (found.at, within_true (from + count) (value_size_of_map program map) inside, zero_true (from % count) found.multiple) refl
+    in rw (found.at, within_true (from + count) (value_size_of_map program map) inside) refl

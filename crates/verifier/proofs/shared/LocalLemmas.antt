@@ -46,12 +46,12 @@ pub begins_at_start : (code : List Insn) → 0 < total_slots code → IsTrue (is
 begins_at_start [] some = absurd (omega arith)
 begins_at_start (insn ∷ code) some = refl
 
-pub begins_soundly : (setting : Setting) (states : List (Option State)) (system : SystemState) (worker : ℕ) (frame : List ℕ) (now : ℕ) → IsSetting setting states →
-    IsInputFrame frame → worker < 8 → now < 2 ^ 64 → IsSoundRun setting states system worker (initial_state (input_frame frame) worker now) []
-begins_soundly setting states system worker frame now good is few early = record {
+pub begins_soundly : (setting : Setting) (states : List (Option State)) (system : SystemState) (worker : ℕ) (frame : List ℕ) (now told : ℕ) → IsSetting setting states →
+    IsInputFrame frame → told < 8 → now < 2 ^ 64 → IsSoundRun setting states system worker (initial_state (input_frame frame) told now) []
+begins_soundly setting states system worker frame now told good is few early = record {
   known = opening_state;
   at = good.accepted.entry 0 good.some_code;
   begins = begins_at_start setting.code good.some_code;
-  sound = opening_sound setting.maps (held_by setting system worker []) frame worker now is few early;
+  sound = opening_sound setting.maps (held_by setting system worker []) frame told now is few early;
   few = omega arith;
 }

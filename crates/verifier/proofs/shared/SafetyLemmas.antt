@@ -145,18 +145,16 @@ leaving_sound setting states system worker shard (Leaves entered) good sound is 
 
 event_sound : (setting : Setting) (states : List (Option State)) (system : SystemState) (event : SystemEvent) → IsSetting setting states → CanHappen setting system event →
     IsSoundSystem setting states system → IsSoundSystem setting states (after_event setting system event)
-event_sound setting states system (BeginsRun worker frame now) good can sound =
-    let few : worker < setting.options.workers = can.0
-    in let most : setting.options.workers ≤ 8 = good.options.at_most_eight
-    in local_change setting states system worker (Runs (initial_state (input_frame frame) worker now) []) good sound can.0 (sym (ap entered_of can.1))
-    (begins_soundly setting states system worker frame now good can.2 (omega arith) can.3)
+event_sound setting states system (BeginsRun worker frame now told) good can sound =
+    local_change setting states system worker (Runs (initial_state (input_frame frame) told now) []) good sound can.0 (sym (ap entered_of can.1))
+    (begins_soundly setting states system worker frame now told good can.2 can.4 can.3)
 event_sound setting states system (DoesInstruction worker) good can sound =
     instruction_sound setting states system worker (worker_state system worker) good sound refl can
 event_sound setting states system (CallsShard worker) good can sound = shard_call_sound setting states system worker (worker_state system worker) good sound refl
 event_sound setting states system (LeavesShard worker shard) good can sound = leaving_sound setting states system worker shard (worker_state system worker) good sound refl
 event_sound setting states system (Controls call) good can sound =
     call_sound setting states system (shard_of_call call) (plan_at setting.maps setting.options (shard_of_call call)) Controller call good sound refl
-    (change_is_plain call can.0 can.1) (λ worker. refl)
+    (change_is_plain (plan_at setting.maps setting.options (shard_of_call call)) system call can.0 can.1) (λ worker. refl)
 event_sound setting states system (Reclaims shard) good can sound =
     call_sound setting states system shard (plan_at setting.maps setting.options shard) Reclaimer (Reclaim shard) good sound refl tt (λ worker. refl)
 

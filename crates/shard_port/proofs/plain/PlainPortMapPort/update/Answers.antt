@@ -17,7 +17,7 @@ pub ask-requires-clause-may : goal.ask-requires-clause-may
 ask-requires-clause-may c = rw c.shard_of.ensures (∥∥₁_elim c.args.self.now.ready (Coded-set coded_bool _ _)
     (λ (ready : IsReady c.args.self.now.image.now.maps c.args.self.now.options c.args.self.now.worker c.args.self.now.shards.now).
     may_update c.args.self.now.image.now.maps c.args.self.now.options c.args.self.now.worker c.args.self.now.shards.now c.args.map
-    c.args.key.now c.args.value.now c.args.flags ready c.requires))
+    c.args.key.now c.args.value.now c.args.flags ready c.ranges.flags c.requires))
 
 pub ask-requires-clause-sets_bytes : goal.ask-requires-clause-sets_bytes
 ask-requires-clause-sets_bytes c = recursion_from_All (λ byte. byte < 256) c.args.value.now c.requires.value_bytes
