@@ -101,8 +101,11 @@ lookup_served setting states system worker entered shard key good few inside ser
     in let inside_at : is_inside worker (history_of system is.plan.number) ≡ is_entered is.plan.number entered = rw at inside
     in served_at is.plan system worker entered (Lookup shard key) (plan_at setting.maps setting.options shard) is.planned (omega (arith, few, facts.workers)) inside_at
     (λ into. (is.meets (history_of system is.plan.number) worker few (inside_at ∙ into), tt))
-    (λ outside. (is.meets (after_enter is.plan (history_of system is.plan.number) worker) worker few
-    (inside_enter worker is.plan.number (record { who = Worker worker; call = Enter is.plan.number; reply = Entered }) (history_of system is.plan.number) refl refl), tt))
+    (λ outside. (
+      is.meets (after_enter is.plan (history_of system is.plan.number) worker) worker few
+          (inside_enter worker is.plan.number (record { who = Worker worker; call = Enter is.plan.number; reply = Entered }) (history_of system is.plan.number) refl refl),
+      tt,
+    ))
 
 -- a load that the abstract state lets through: its shard was entered
 pub load_served : (setting : Setting) (states : List (Option State)) (system : SystemState) (worker : ℕ) (entered : List ℕ) (cell : CellRef) (offset width : ℕ) → IsSetting setting states →

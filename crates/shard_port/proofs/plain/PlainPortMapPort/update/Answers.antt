@@ -1,4 +1,5 @@
 use Rattle.std.proofs.Common.{◌≡◌, ◌<◌, ap, sym, ◌∙◌, subst, rules, to_z, of_z, w32}
+use Rattle.std.proofs.Math.Facts.{Fits-of_lt, Fits-lt-pow}
 use Rattle.std.specs.Prelude.{FitsSigned}
 use Rattle.std.proofs.lemmas.Int.{to_z-of_z}
 use Rattle.std.specs.Coded.{Coded-set, coded_bool, le_prop}
@@ -17,7 +18,7 @@ pub ask-requires-clause-may : goal.ask-requires-clause-may
 ask-requires-clause-may c = rw c.shard_of.ensures (∥∥₁_elim c.args.self.now.ready (Coded-set coded_bool _ _)
     (λ (ready : IsReady c.args.self.now.image.now.maps c.args.self.now.options c.args.self.now.worker c.args.self.now.shards.now).
     may_update c.args.self.now.image.now.maps c.args.self.now.options c.args.self.now.worker c.args.self.now.shards.now c.args.map
-    c.args.key.now c.args.value.now c.args.flags ready c.ranges.flags c.requires))
+    c.args.key.now c.args.value.now c.args.flags ready (Fits-lt-pow c.ranges.flags) c.requires))
 
 pub ask-requires-clause-sets_bytes : goal.ask-requires-clause-sets_bytes
 ask-requires-clause-sets_bytes c = recursion_from_All (λ byte. byte < 256) c.args.value.now c.requires.value_bytes
