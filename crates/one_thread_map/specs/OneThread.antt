@@ -5,7 +5,7 @@ use Rattle.semantics.specs.declared.call.Call.{Call}
 use Rattle.semantics.specs.declared.call.Call.TheVariants.{Enter, Leave, Lookup, Load, Store, Atomic, Update, Delete, Reclaim}
 use Rattle.one_thread_map.specs.declared.state.ShardState.{ShardState}
 use Rattle.semantics.specs.declared.plan.ShardPlan.{ShardPlan}
-use Rattle.semantics.specs.PlanLimits.{IsWithinLimits}
+use Rattle.semantics.specs.PlanLimits.{IsPlan}
 use Rattle.semantics.specs.SequentialShard.{SequentialShard, shard_after}
 use Rattle.semantics.specs.History.{is_atomic_width, IsLegalHistory}
 
@@ -20,7 +20,7 @@ state_of state = record { present = state.present.items; cells = state.cells.ite
 
 -- the state is what the journal leads to, and the journal is legal
 pub record IsOneThread (plan : ShardPlan) (journal : List Entry) (state : SequentialShard) : Type 0 where
-  pub limits : IsWithinLimits plan
+  pub plan_is : IsPlan plan
   pub led : state ≡ shard_after plan (reverse journal)
   pub legal : IsLegalHistory plan (reverse journal)
 

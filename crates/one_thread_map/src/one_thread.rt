@@ -1,7 +1,7 @@
 //! A map's shard on one thread: slow and plain, so that whatever a faster shard does can be held against it.
 
 ghost use Rattle.std.specs.Prelude.{◌≡◌, ◌<◌, [], ◌∷◌, List, IsFalse, IfOk, OnErr, reverse, vec_len, vec_capacity, ◌++◌};
-ghost use Rattle.semantics.specs.PlanLimits.{IsWithinLimits};
+ghost use Rattle.semantics.specs.PlanLimits.{IsWithinLimits, IsPlan};
 ghost use Rattle.semantics.specs.SequentialShard.{reply_of, shard_after};
 ghost use Rattle.semantics.specs.History.{meets, Meets, journal_is_full, IsLegalHistory, IsLegalStep};
 
@@ -37,7 +37,7 @@ impl Model for OneThreadShard {
 impl OneThreadShard {
     /// A shard in which nothing has happened. Fails only without memory.
     pub fn open(alloc: Global, plan: ShardPlan) -> Result<Self, AllocError>
-        requires { IsWithinLimits plan }
+        requires { IsPlan plan }
         ensures { IfOk result (λ shard. shard ≡ record { plan = plan; history = [] }) }
     {
         let cells = opening_cells(alloc, &plan)?;
@@ -56,7 +56,7 @@ impl OneThreadShard {
     /// What the shard was opened with.
     pub fn plan(&self) -> &ShardPlan
         ensures plan { result.now ≡ self.now.plan }
-        ensures limits { IsWithinLimits self.now.plan }
+        ensures limits { IsPlan self.now.plan }
     {
         &self.plan
     }

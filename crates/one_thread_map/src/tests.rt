@@ -1,6 +1,7 @@
 //! Rows that run the definitions of a map's shard.
 
-ghost use Rattle.semantics.specs.PlanLimits.{IsWithinLimits};
+ghost use Rattle.std.specs.Prelude.{◌≤◌};
+ghost use Rattle.semantics.specs.PlanLimits.{IsPlan};
 
 use crate::one_thread::OneThreadShard;
 use ebpf_decode::{MapDef, MapKind};
@@ -44,7 +45,11 @@ enum Ask {
 type Row = (&'static str, Ask, Reply);
 
 fn plan(kind: MapKind, max_entries: u32, reserve: u32) -> ShardPlan
-    ensures { IsWithinLimits result }
+    requires some { 1 ≤ max_entries }
+    requires most { max_entries ≤ 131072 }
+    requires least { 16 ≤ reserve }
+    requires greatest { reserve ≤ 1048576 }
+    ensures { IsPlan result }
 {
     ShardPlan {
         number: 0,

@@ -220,7 +220,7 @@ pub record IsGuardedBy (found : Option ℕ) (cell place : ℕ) (retired : List R
   pub is : found ≡ Some entered
   pub late : IsLate cell entered retired
 
-reply_finds : (plan : ShardPlan) (found : Option ℕ) (cell : ℕ) → found_cell (lookup_reply plan found) cell ≡ true → found ≡ Some cell
+pub reply_finds : (plan : ShardPlan) (found : Option ℕ) (cell : ℕ) → found_cell (lookup_reply plan found) cell ≡ true → found ≡ Some cell
 reply_finds plan None cell finds = cc
 reply_finds plan (Some id) cell finds = let same : id ≡ cell = grind (arith, nat_tests) in ap Some same
 
@@ -296,10 +296,14 @@ began_no_later : (since entered : ℕ) (found : Option ℕ) → found ≡ Some e
 began_no_later since entered None is late = cc
 began_no_later since entered (Some at) is late = let same : at ≡ entered = cc in grind (arith, nat_tests)
 
+pub each_held_stays : (plan : ShardPlan) (history : List Entry) (worker cell : ℕ) → worker < 8 → IsLegalHistory plan history → holds worker cell history ≡ true → AllByRecursion (λ (gone : RetiredCell). gone.cell ≡ cell → is_reclaimable history gone ≡ false) (shard_after plan history).retired
+each_held_stays plan history worker cell below legal holds =
+    let by = guarded plan worker cell history legal holds in
+    each_weaker (λ (gone : RetiredCell). gone.cell ≡ cell → by.entered ≤ gone.since) (λ (gone : RetiredCell). gone.cell ≡ cell → is_reclaimable history gone ≡ false) (λ gone late same.
+    fails_at (λ one. began_after gone.since (entered_at one history)) worker below
+    (began_no_later gone.since by.entered (entered_at worker history) by.is (late same))) (shard_after plan history).retired by.late
+
 pub held_stays : (plan : ShardPlan) (history : List Entry) (worker cell : ℕ) → worker < 8 → IsLegalHistory plan history → holds worker cell history ≡ true → All (λ (gone : RetiredCell). gone.cell ≡ cell → is_reclaimable history gone ≡ false) (shard_after plan history).retired
 held_stays plan history worker cell below legal holds =
-    let by = guarded plan worker cell history legal holds in
     All-from_recursion (λ (gone : RetiredCell). gone.cell ≡ cell → is_reclaimable history gone ≡ false) (shard_after plan history).retired
-    (each_weaker (λ (gone : RetiredCell). gone.cell ≡ cell → by.entered ≤ gone.since) (λ (gone : RetiredCell). gone.cell ≡ cell → is_reclaimable history gone ≡ false) (λ gone late same.
-    fails_at (λ one. began_after gone.since (entered_at one history)) worker below
-    (began_no_later gone.since by.entered (entered_at worker history) by.is (late same))) (shard_after plan history).retired by.late)
+    (each_held_stays plan history worker cell below legal holds)

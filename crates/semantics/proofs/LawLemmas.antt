@@ -27,11 +27,11 @@ after_eviction-keeps P plan history shard evicted same = by_test (is_full_of_key
     by_test true = evicted (least_recently_used history shard.present) refl
     by_test false = same
 
-same_cells_without : (shard : SequentialShard) (place : ℕ) (gone : Option PresentKey) → (without_found shard place gone).cells ≡ shard.cells
+pub same_cells_without : (shard : SequentialShard) (place : ℕ) (gone : Option PresentKey) → (without_found shard place gone).cells ≡ shard.cells
 same_cells_without shard place None = refl
 same_cells_without shard place (Some gone) = refl
 
-same_cells_evicted : (plan : ShardPlan) (history : List Entry) (shard : SequentialShard) → (after_eviction plan history shard).cells ≡ shard.cells
+pub same_cells_evicted : (plan : ShardPlan) (history : List Entry) (shard : SequentialShard) → (after_eviction plan history shard).cells ≡ shard.cells
 same_cells_evicted plan history shard =
     after_eviction-keeps (λ after. after.cells ≡ shard.cells) plan history shard (λ gone is. same_cells_without shard (length history) gone) refl
 

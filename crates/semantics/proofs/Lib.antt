@@ -3,3 +3,12 @@ pub mod BytesLemmas
 pub mod ConditionLemmas
 pub mod LawLemmas
 pub mod HoldingLemmas
+pub mod CallerLemmas
+pub mod IdLemmas
+pub mod KeptLemmas
+pub mod UseLemmas
+pub mod QuietLemmas
+pub mod SystemLemmas
+pub mod RowLemmas
+pub mod TraceRowLemmas
+pub mod PlanLemmas

@@ -4,7 +4,8 @@ use Rattle.semantics.specs.declared.call.Entry.{Entry}
 use Rattle.semantics.specs.declared.plan.RetiredCell.{RetiredCell}
 use Rattle.semantics.specs.Reclamation.{holds, is_reclaimable}
 use Rattle.semantics.specs.ShardPlan.{ShardPlan}
-use Rattle.semantics.specs.SequentialShard.{SequentialShard, shard_after, with_new_key}
+use Rattle.semantics.specs.PlanLimits.{IsPlan}
+use Rattle.semantics.specs.SequentialShard.{SequentialShard, shard_after, with_new_key, is_kept}
 use Rattle.semantics.specs.History.{journal_is_full, IsSequentialStep, IsLegalHistory}
 
 -- two steps of one call from one history have one reply, and leave one state
@@ -44,3 +45,9 @@ HeldCellStays =
     (plan : ShardPlan) (history : List Entry) (worker cell : ℕ) → worker < 8 → IsLegalHistory plan history →
     IsTrue (holds worker cell history) →
     All (λ (retired : RetiredCell). retired.cell ≡ cell → IsFalse (is_reclaimable history retired)) (shard_after plan history).retired
+
+-- so it is kept: it has a present key, or waits for its readers; an array's shard has a cell for each of its indices
+abbrev pub HeldCellIsKept : Type 0
+HeldCellIsKept =
+    (plan : ShardPlan) (history : List Entry) (worker cell : ℕ) → IsPlan plan →
+    worker < 8 → IsLegalHistory plan history → IsTrue (holds worker cell history) → IsTrue (is_kept plan (shard_after plan history) cell)

@@ -22,5 +22,11 @@ pub mod SequentialShard
 pub mod History
 pub mod ServedCalls
 pub mod Laws
+pub mod CallerLaws
+pub mod IdLaws
+pub mod UseLaws
 pub mod System
 pub mod Safety
+pub mod SystemLaws
+pub mod SystemRows
+pub mod TraceRows

@@ -1,5 +1,9 @@
 use Rattle.semantics.proofs.HoldingLemmas.{held_stays}
+use Rattle.semantics.proofs.KeptLemmas.{held_is_kept_of_plan}
 use Rattle.semantics.proofs.laws.held_cell_stays.Goals as goal
 
-pub returns : goal.returns
-returns c = held_stays
+pub returns-clause-stays : goal.returns-clause-stays
+returns-clause-stays c = held_stays
+
+pub returns-clause-kept : goal.returns-clause-kept
+returns-clause-kept c = held_is_kept_of_plan

@@ -1,0 +1,5 @@
+use Rattle.semantics.proofs.PlanLemmas as plans
+use Rattle.semantics.proofs.laws.shards_have_plans.Goals as goal
+
+pub returns : goal.returns
+returns c = plans.shards_have_plans
