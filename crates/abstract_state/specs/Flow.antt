@@ -13,7 +13,7 @@ use Rattle.isa.specs.declared.operation.Source.TheVariants.{Imm, Reg}
 use Rattle.isa.specs.declared.operation.Register.{Register}
 use Rattle.isa.specs.declared.operation.Register.TheVariants.{R0, R1, R2, R3, R4, R10}
 use Rattle.ebpf_decode.specs.declared.insn.Insn.{Insn}
-use Rattle.ebpf_decode.specs.declared.insn.Insn.TheVariants.{Alu, Neg, Movsx, Movsx32, End, Ja, Ja32, JumpIf, Ldx, Ldxs, St, Stx, AtomicUpdate, Lddw, Ldmap, CallHelper, Exit}
+use Rattle.ebpf_decode.specs.declared.insn.Insn.TheVariants.{Alu, Neg, Movsx, Movsx32, End, Ja, Ja32, JumpIf, Ldx, Ldxs, St, Stx, AtomicUpdate, Lddw, Ldmap, Ldval, CallHelper, Exit}
 use Rattle.ebpf_decode.specs.declared.map.MapDef.{MapDef}
 use Rattle.semantics.specs.Semantics.{fetched_register}
 use Rattle.abstract_scalar.specs.declared.interval.Interval.{Interval}
@@ -162,6 +162,8 @@ flow_of maps state slot (Movsx32 extension dst src) = falls (unary_flow state ds
 flow_of maps state slot (End order width dst) = falls (unary_flow state dst dst (swap_of order width))
 flow_of maps state slot (Lddw dst value) = falls (number_flow state dst value)
 flow_of maps state slot (Ldmap dst map) = falls (map_flow maps state dst map)
+-- no address in a value is served as yet
+flow_of maps state slot (Ldval dst map offset) = Err UnknownMap
 flow_of maps state slot (Ldx size dst src offset) = falls (load_flow state dst src (load_of maps state size dst src offset))
 flow_of maps state slot (Ldxs extension dst src offset) = falls (load_flow state dst src (signed_load_of maps state extension dst src offset))
 flow_of maps state slot (St size dst offset immediate) = falls (store_flow maps state size dst offset immediate)

@@ -420,6 +420,7 @@ impl State {
             Insn::End { order, swap_width, dst } => self.unary(dst, dst, Unary::Swap(order, swap_width))?,
             Insn::Lddw { dst, value } => self.load_number(dst, value)?,
             Insn::Ldmap { dst, map } => self.load_map(site, dst, map)?,
+            Insn::Ldval { .. } => return Err(Refusal::UnknownMap),
             Insn::Ldx { size, dst, src, offset } => self.load(site, size, dst, src, offset)?,
             Insn::Ldxs { extension, dst, src, offset } => self.signed_load(site, extension, dst, src, offset)?,
             Insn::St { size, dst, offset, immediate } => self.store(site, size, dst, offset, immediate)?,

@@ -3,6 +3,7 @@
 ghost use Rattle.std.specs.Prelude.{◌≡◌, IfOk};
 ghost use Rattle.ebpf_decode.specs.ImageContents.{Contents};
 ghost use Rattle.ebpf_decode.specs.ImageFormat.{IsImageEncoding};
+ghost use Rattle.ebpf_decode.specs.declared.version.Version.TheVariants.{V1};
 ghost use Rattle.semantics.specs.Safety.{IsSafeImage};
 
 use ebpf_decode::{Image, decode};
@@ -21,10 +22,14 @@ pub fn decoded(alloc: Global, bytes: &[u8]) -> Result<Image, u8>
 
 /// The image that the bytes encode, accepted, or the number of the fault.
 pub fn accept(alloc: Global, bytes: &[u8]) -> Result<Verified, u8>
-    ensures read { IfOk result (λ v. IsImageEncoding bytes.now (record { maps = v.maps; code = v.code })) }
+    ensures read { IfOk result (λ v. IsImageEncoding bytes.now (record { version = V1; maps = v.maps; code = v.code })) }
     ensures safe { IfOk result (λ v. IsSafeImage v.maps v.code) }
 {
-    match verify(alloc, decoded(alloc, bytes)?) {
+    let image = match decoded(alloc, bytes)?.served() {
+        Ok(image) => image,
+        Err(fault) => return Err(fault.number()),
+    };
+    match verify(alloc, image) {
         Ok(verified) => Ok(verified),
         Err(reject) => Err(reject.number()),
     }

@@ -1,7 +1,7 @@
 -- Which bytes stand in the words of a line.
 use Rattle.std.proofs.Common.{◌≡◌, ℕ, zero, suc, ◌+◌, ◌≤◌, ◌<◌, ◌^◌, ◌/◌, ◌%◌, Bool, true, false, ◌&&◌, not, leb, ltb, eqb, List, [], ◌∷◌, ◌++◌, length, get_or, refl, ap, arith}
 use Rattle.std.specs.Prelude.{◌≢◌, ℤ, pos, negsuc, FitsSigned}
-use Rattle.std.specs.Int.{w16, w32}
+use Rattle.std.specs.Int.{w16, w32, w64}
 use Rattle.std.specs.Fmt.{decimal, signed_decimal}
 use Rattle.std.proofs.lemmas.Fmt.{decimal_by_steps}
 use Rattle.std.proofs.lemmas.Bool.Decides.{nat_tests}
@@ -60,13 +60,23 @@ digit_word m lt = grind (arith, nat_tests)
 pub decimal_word : (n : ℕ) → n < 2 ^ 64 → all_bytes (word_byte 58) (decimal n) ≡ true
 decimal_word n small = decimal_by_steps (λ m ds. all_bytes (word_byte 58) ds ≡ true) (λ m lt. digit_word m lt) (λ m ds le a. all_append (word_byte 58) ds ((48 + m % 10) ∷ []) a (digit_word (m % 10) (omega arith))) n small
 
-pub signed_word : (z : ℤ) → FitsSigned w32 z → all_bytes (word_byte 58) (signed_decimal z) ≡ true
+pub signed_word : (z : ℤ) → FitsSigned w64 z → all_bytes (word_byte 58) (signed_decimal z) ≡ true
 signed_word (pos n) fits = decimal_word n (omega arith)
 signed_word (negsuc n) fits = decimal_word (suc n) (omega arith)
 
-pub sign_word : (z : ℤ) → FitsSigned w32 z → all_bytes (word_byte 58) (with_sign z) ≡ true
+pub sign_word : (z : ℤ) → FitsSigned w64 z → all_bytes (word_byte 58) (with_sign z) ≡ true
 sign_word (pos n) fits = decimal_word n (omega arith)
 sign_word (negsuc n) fits = decimal_word (suc n) (omega arith)
+
+-- a number of 32 bits fits 64
+pub widest_fits : (z : ℤ) → FitsSigned w32 z → FitsSigned w64 z
+widest_fits (pos n) fits = omega arith
+widest_fits (negsuc n) fits = omega arith
+
+-- and so does one of 16
+pub far_fits : (z : ℤ) → FitsSigned w16 z → FitsSigned w64 z
+far_fits (pos n) fits = omega arith
+far_fits (negsuc n) fits = omega arith
 
 pub wider_fits : (z : ℤ) → FitsSigned w16 z → FitsSigned w32 z
 wider_fits (pos n) fits = omega arith

@@ -11,7 +11,7 @@ use Rattle.isa.specs.declared.operation.Test.TheVariants.{Eq, Gt, Ge, Set, Ne, S
 use Rattle.isa.specs.declared.operation.AtomicOp.TheVariants.{AtomicAdd, AtomicOr, AtomicAnd, AtomicXor, FetchAdd, FetchOr, FetchAnd, FetchXor, Exchange, CompareExchange}
 use Rattle.isa.specs.declared.operation.Size.TheVariants.{U8, U16, U32, U64}
 use Rattle.disasm.specs.declared.head.Head.{Head}
-use Rattle.disasm.specs.declared.head.Head.TheVariants.{Alu, Neg, Movsx, Movsx32, End, Ja, Ja32, JumpIf, Ldx, Ldxs, St, Stx, Atomic, Lddw, Ldmap, Call, Exit}
+use Rattle.disasm.specs.declared.head.Head.TheVariants.{Alu, Neg, Movsx, Movsx32, End, Ja, Ja32, JumpIf, Ldx, Ldxs, St, Stx, Atomic, Lddw, Ldmap, Ldval, Call, Exit}
 use Rattle.disasm.specs.declared.head.TheConstants.{HEADS}
 use Rattle.disasm.specs.Names.{head_name}
 use Rattle.disasm.proofs.Bytes.{all_bytes, word_byte}
@@ -126,6 +126,7 @@ named_again (Atomic Bits32 Exchange) = refl
 named_again (Atomic Bits32 CompareExchange) = refl
 named_again Lddw = refl
 named_again Ldmap = refl
+named_again Ldval = refl
 named_again Call = refl
 named_again Exit = refl
 
@@ -236,5 +237,6 @@ head_word (Atomic Bits32 Exchange) = refl
 head_word (Atomic Bits32 CompareExchange) = refl
 head_word Lddw = refl
 head_word Ldmap = refl
+head_word Ldval = refl
 head_word Call = refl
 head_word Exit = refl

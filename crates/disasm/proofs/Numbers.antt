@@ -1,7 +1,7 @@
 -- Numbers are read back from their texts.
 use Rattle.std.proofs.Common.{◌≡◌, ℕ, zero, suc, ◌+◌, ◌*◌, ◌<◌, ◌^◌, ◌/◌, ◌%◌, List, [], ◌∷◌, ◌++◌, length, drop, get_or, Result, Ok, Err, refl, sym, ap, ◌∙◌, arith, leb, true, length-append}
 use Rattle.std.specs.Prelude.{◌≢◌, ℤ, pos, negsuc, FitsSigned}
-use Rattle.std.specs.Int.{w16, w32}
+use Rattle.std.specs.Int.{w16, w32, w64}
 use Rattle.std.specs.Fmt.{decimal, signed_decimal}
 use Rattle.std.specs.Result.{OkIff}
 use Rattle.std.specs.Char.{digit_value}
@@ -14,7 +14,7 @@ use Rattle.std.proofs.lemmas.Str.Parse.{without_leading_plus_none, IsNumeralMode
 use Rattle.std.proofs.lemmas.Bool.{lt-ltb}
 use Rattle.std.proofs.lemmas.Int.{to_z-of_z}
 use mir.Val.{to_z, of_z}
-use Rattle.disasm.specs.LineReading.{short_in}
+use Rattle.disasm.specs.LineReading.{short_in, word_in, count_in}
 use Rattle.disasm.specs.AssemblyText.{with_sign, hex_digit, hex_digits}
 
 own : IsNumeralModel (AllDigits 10) (digits_value 10)
@@ -24,16 +24,16 @@ pub ok_from : {A E P : Type 0} (r : Result A E) (v : A) → OkIff r P v → P �
 ok_from (Ok x) v h p = ap Ok h.1
 ok_from (Err e) v h p = absurd (h p)
 
-pub plain_read : {E : Type 0} (z : ℤ) (bs : List ℕ) (r : Result ℤ E) → FitsSigned w32 z → bs ≡ signed_decimal z → ParsesSigned w32 10 bs r → r ≡ Ok z
-plain_read (pos n) bs r fits is h = parse-signed_decimal w32 (pos n) bs r fits (omega arith) is h
-plain_read (negsuc n) bs r fits is h = parse-signed_decimal w32 (negsuc n) bs r fits (omega arith) is h
+pub plain_read : {E : Type 0} (z : ℤ) (bs : List ℕ) (r : Result ℤ E) → FitsSigned w64 z → bs ≡ signed_decimal z → ParsesSigned w64 10 bs r → r ≡ Ok z
+plain_read (pos n) bs r fits is h = parse-signed_decimal w64 (pos n) bs r fits (omega arith) is h
+plain_read (negsuc n) bs r fits is h = parse-signed_decimal w64 (negsuc n) bs r fits (omega arith) is h
 
-pub signed_read : {E : Type 0} (z : ℤ) (bs : List ℕ) (r : Result ℤ E) → FitsSigned w32 z → bs ≡ with_sign z → ParsesSigned w32 10 bs r → r ≡ Ok z
+pub signed_read : {E : Type 0} (z : ℤ) (bs : List ℕ) (r : Result ℤ E) → FitsSigned w64 z → bs ≡ with_sign z → ParsesSigned w64 10 bs r → r ≡ Ok z
 signed_read (negsuc n) bs r fits is h = plain_read (negsuc n) bs r fits is h
 signed_read (pos n) bs r fits is h =
     let numeral = decimal_is_IsNumeral n (omega arith) in
     let digits : drop 1 bs ≡ decimal n = ap (drop 1) is in
-    let reads = parse_signed_plus own w32 bs r h (ap (λ (xs : List ℕ). get_or xs 0 0) is) in
+    let reads = parse_signed_plus own w64 bs r h (ap (λ (xs : List ℕ). get_or xs 0 0) is) in
     let value : digits_value 10 (drop 1 bs) ≡ n = rw digits numeral.1 in
     ok_from r _ reads (rw digits numeral.0.1, rw digits numeral.0.0, omega arith) ∙ ap (λ (m : ℕ). Ok (pos m)) value
 
@@ -96,9 +96,20 @@ ok_same r v w a b = let e : Ok v ≡ Ok w = sym a ∙ b in cc
 pub ok_not_err : {A E : Type 0} (r : Result A E) (e : E) (w : A) → r ≡ Err e → r ≡ Ok w → ⊥
 ok_not_err r e w a b = let f : Err e ≡ Ok w = sym a ∙ b in cc
 
-pub ok_value : {E : Type 0} (r : Result ℤ E) (v z : ℤ) → FitsSigned w32 z → r ≡ Ok v → r ≡ Ok z → to_z w32 (of_z w32 v) ≡ z
-ok_value r v z fits a b = rw (ok_same r v z a b) (to_z-of_z w32 z fits)
+pub ok_value : {E : Type 0} (r : Result ℤ E) (v z : ℤ) → FitsSigned w64 z → r ≡ Ok v → r ≡ Ok z → to_z w64 (of_z w64 v) ≡ z
+ok_value r v z fits a b = rw (ok_same r v z a b) (to_z-of_z w64 z fits)
 
 pub short_again : (z : ℤ) → FitsSigned w16 z → short_in z ≡ z
 short_again (pos n) fits = rw (lt-ltb n 32768 (omega arith)) refl
 short_again (negsuc n) fits = rw (lt-ltb n 32768 (omega arith)) refl
+
+pub word_again : (z : ℤ) → FitsSigned w32 z → word_in z ≡ z
+word_again (pos n) fits = rw (lt-ltb n 0x8000_0000 (omega arith)) refl
+word_again (negsuc n) fits = rw (lt-ltb n 0x8000_0000 (omega arith)) refl
+
+pub count_again : (n : ℕ) → n < 2 ^ 32 → count_in (pos n) ≡ n
+count_again n fits = rw (lt-ltb n 0x1_0000_0000 (omega arith)) refl
+
+-- an unsigned number of 32 bits fits 64
+pub count_fits : (n : ℕ) → n < 2 ^ 32 → FitsSigned w64 (pos n)
+count_fits n fits = omega arith

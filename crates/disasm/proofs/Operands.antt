@@ -1,7 +1,7 @@
 -- Operands are read back from their texts.
 use Rattle.std.proofs.Common.{◌≡◌, ℕ, zero, suc, ◌<◌, ◌^◌, true, List, [], ◌∷◌, ◌++◌, length, drop, get_or, refl, sym, ap, ◌∙◌, arith}
 use Rattle.std.specs.Prelude.{◌≢◌, ℤ, codes, FitsSigned}
-use Rattle.std.specs.Int.{w16, w32}
+use Rattle.std.specs.Int.{w16, w64}
 use Rattle.std.specs.Fmt.{signed_decimal}
 use Rattle.isa.specs.declared.operation.Register.{Register as RegisterName}
 use Rattle.disasm.specs.declared.operand.Operand.{Operand}
@@ -10,18 +10,18 @@ use Rattle.disasm.specs.declared.operand.Operands.{Operands}
 use Rattle.disasm.specs.declared.operand.Operands.TheVariants.{Zero, One, Two, Three}
 use Rattle.disasm.specs.AssemblyText.{register_text, with_sign, hex_digits, operand_text, list_text}
 use Rattle.disasm.specs.LineReading.{Lacks, OperandFits, OperandsFit, as_read, AreRead}
-use Rattle.disasm.proofs.Bytes.{all_bytes, word_byte, all_append, lacks_from, mid_passes, widen, signed_word, sign_word, wider_fits, hex_word, register_word, register_tail}
+use Rattle.disasm.proofs.Bytes.{all_bytes, word_byte, all_append, lacks_from, mid_passes, widen, signed_word, sign_word, widest_fits, far_fits, hex_word, register_word, register_tail}
 
 place_word : (r : RegisterName) (z : ℤ) → FitsSigned w16 z → all_bytes (word_byte 120) (codes "[" ++ (register_text r ++ (with_sign z ++ codes "]"))) ≡ true
 place_word r z fits =
-    let tail : all_bytes (word_byte 120) (with_sign z ++ 93 ∷ []) ≡ true = all_append (word_byte 120) (with_sign z) (93 ∷ []) (widen 58 120 (with_sign z) (omega arith) (sign_word z (wider_fits z fits))) refl in
+    let tail : all_bytes (word_byte 120) (with_sign z ++ 93 ∷ []) ≡ true = all_append (word_byte 120) (with_sign z) (93 ∷ []) (widen 58 120 (with_sign z) (omega arith) (sign_word z (far_fits z fits))) refl in
     all_append (word_byte 120) (register_text r) (with_sign z ++ 93 ∷ []) (register_word r) tail
 
 pub operand_word : (o : Operand) → OperandFits o → all_bytes (word_byte 128) (operand_text o) ≡ true
 unfolding operand_text
 operand_word (Register r) fits = widen 120 128 (register_text r) (omega arith) (register_word r)
 operand_word (Number z) fits = widen 58 128 (signed_decimal z) (omega arith) (signed_word z fits)
-operand_word (Distance z) fits = widen 58 128 (with_sign z) (omega arith) (sign_word z fits)
+operand_word (Distance z) fits = widen 58 128 (with_sign z) (omega arith) (sign_word z (widest_fits z fits))
 operand_word (Place r z) fits = widen 120 128 (codes "[" ++ (register_text r ++ (with_sign z ++ codes "]"))) (omega arith) (place_word r z fits)
 operand_word (Wide n) fits = hex_word 16 n
 
@@ -50,7 +50,7 @@ pub wide_case : (text xs digits : List ℕ) (value : ℕ) → text ≡ xs ++ 120
 unfolding operand_text
 wide_case text xs digits value split first hex (Register r) fits is = absurd (no_x text xs digits split (rw is (register_word r)))
 wide_case text xs digits value split first hex (Number z) fits is = absurd (no_x text xs digits split (rw is (widen 58 120 (signed_decimal z) (omega arith) (signed_word z fits))))
-wide_case text xs digits value split first hex (Distance z) fits is = absurd (no_x text xs digits split (rw is (widen 58 120 (with_sign z) (omega arith) (sign_word z fits))))
+wide_case text xs digits value split first hex (Distance z) fits is = absurd (no_x text xs digits split (rw is (widen 58 120 (with_sign z) (omega arith) (sign_word z (widest_fits z fits)))))
 wide_case text xs digits value split first hex (Place r z) fits is = absurd (no_x text xs digits split (rw is (place_word r z fits)))
 wide_case text xs digits value split first hex (Wide n) fits is = ap Wide (hex n fits (first (48 ∷ []) (hex_digits 16 n) is (lacks_from (word_byte 58) 120 (48 ∷ []) refl refl)))
 
@@ -63,7 +63,7 @@ bracket_case text inside found begins place (Register r) fits is =
     let f : get_or text 0 0 ≡ 91 = ap (λ (xs : List ℕ). get_or xs 0 0) begins in
     absurd (omega arith)
 bracket_case text inside found begins place (Number z) fits is = absurd (no_bracket text inside begins (rw is (signed_word z fits)))
-bracket_case text inside found begins place (Distance z) fits is = absurd (no_bracket text inside begins (rw is (sign_word z fits)))
+bracket_case text inside found begins place (Distance z) fits is = absurd (no_bracket text inside begins (rw is (sign_word z (widest_fits z fits))))
 bracket_case text inside found begins place (Place r z) fits is = place r z fits (ap (drop 1) (sym begins ∙ is))
 bracket_case text inside found begins place (Wide n) fits is =
     let e : get_or text 0 0 ≡ 48 = ap (λ (xs : List ℕ). get_or xs 0 0) is in
@@ -75,7 +75,7 @@ pub register_case : (text : List ℕ) (found : RegisterName) → get_or text 0 0
 unfolding operand_text
 register_case text found first named (Register r) fits is = ap Register (named r is)
 register_case text found first named (Number z) fits is = absurd (no_r text first (rw is (signed_word z fits)))
-register_case text found first named (Distance z) fits is = absurd (no_r text first (rw is (sign_word z fits)))
+register_case text found first named (Distance z) fits is = absurd (no_r text first (rw is (sign_word z (widest_fits z fits))))
 register_case text found first named (Place r z) fits is =
     let e : get_or text 0 0 ≡ 91 = ap (λ (xs : List ℕ). get_or xs 0 0) is in
     absurd (omega arith)
@@ -84,13 +84,13 @@ register_case text found first named (Wide n) fits is =
     absurd (omega arith)
 
 pub number_case : (text : List ℕ) (found : ℤ) → get_or text 0 0 ≢ 114 → ((rest : List ℕ) → text ≢ 91 ∷ rest) → Lacks 120 text
-    → ((z : ℤ) → FitsSigned w32 z → text ≡ signed_decimal z → found ≡ z) → ((z : ℤ) → FitsSigned w32 z → text ≡ with_sign z → found ≡ z)
+    → ((z : ℤ) → FitsSigned w64 z → text ≡ signed_decimal z → found ≡ z) → ((z : ℤ) → FitsSigned w64 z → text ≡ with_sign z → found ≡ z)
     → (o : Operand) → OperandFits o → text ≡ operand_text o → Number found ≡ as_read o
 unfolding operand_text
 number_case text found not_r not_bracket lacks plain signed (Register r) fits is =
     absurd (not_r (ap (λ (xs : List ℕ). get_or xs 0 0) (is ∙ (register_tail r).1)))
 number_case text found not_r not_bracket lacks plain signed (Number z) fits is = ap Number (plain z fits is)
-number_case text found not_r not_bracket lacks plain signed (Distance z) fits is = ap Number (signed z fits is)
+number_case text found not_r not_bracket lacks plain signed (Distance z) fits is = ap Number (signed z (widest_fits z fits) is)
 number_case text found not_r not_bracket lacks plain signed (Place r z) fits is = absurd (not_bracket _ is)
 number_case text found not_r not_bracket lacks plain signed (Wide n) fits is =
     let long : length text ≡ length (48 ∷ 120 ∷ hex_digits 16 n) = ap length is in

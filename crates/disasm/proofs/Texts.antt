@@ -13,10 +13,13 @@ use Rattle.ebpf_decode.specs.declared.map.MapDef.{MapDef}
 use Rattle.ebpf_decode.specs.declared.map.MapKind.{MapKind}
 use Rattle.ebpf_decode.specs.declared.map.MapKind.TheVariants.{Hash, Array, LruHash}
 use Rattle.ebpf_decode.specs.declared.fault.DecodeFault.{DecodeFault}
-use Rattle.ebpf_decode.specs.InstructionEncoding.{FieldsFit, total_slots}
-use Rattle.ebpf_decode.specs.MapForm.{is_served, is_key_size, is_value_size, is_entry_count}
+use Rattle.ebpf_decode.specs.InstructionEncoding.{FieldsFit, slot_count, total_slots}
+use Rattle.ebpf_decode.specs.declared.version.Version.{Version}
+use Rattle.ebpf_decode.specs.declared.version.Version.TheVariants.{V1, V2}
+use Rattle.ebpf_decode.specs.Versions.{IsInVersion}
+use Rattle.ebpf_decode.specs.MapForm.{is_key_size, is_value_size, is_entry_count}
 use Rattle.ebpf_decode.specs.ImageContents.{Contents, IsAllowedMap, IsEncodable}
-use Rattle.ebpf_decode.specs.ImageFormat.{first_part_fault, first_bad_map}
+use Rattle.ebpf_decode.specs.ImageFormat.{first_part_fault, first_bad_map, version_fault}
 use Rattle.disasm.specs.declared.head.Head.{Head}
 use Rattle.disasm.specs.declared.operand.Operands.{Operands}
 use Rattle.disasm.specs.declared.operand.Operands.TheVariants.{Zero, One, Two, Three}
@@ -138,31 +141,38 @@ maps_unique (m ∷ maps) (o ∷ others) code rest known fits code_fits stops e =
 
 -- ---- images
 
-parts_fit : (kind : MapKind) (k v n : ℕ) → (is_served kind && is_key_size kind k && is_value_size v && is_entry_count n) ≡ true → (k < 2 ^ 32) × (v < 2 ^ 32) × (n < 2 ^ 32)
-parts_fit Hash k v n h = absurd cc
-parts_fit Array k v n h = (grind (arith, nat_tests), grind (arith, nat_tests), grind (arith, nat_tests))
-parts_fit LruHash k v n h = absurd cc
+parts_fit : (version : Version) (kind : MapKind) (k v n : ℕ) → (is_key_size kind k && is_value_size version v && is_entry_count n) ≡ true → (k < 2 ^ 32) × (v < 2 ^ 32) × (n < 2 ^ 32)
+parts_fit V1 Hash k v n h = (grind (arith, nat_tests), grind (arith, nat_tests), grind (arith, nat_tests))
+parts_fit V1 Array k v n h = (grind (arith, nat_tests), grind (arith, nat_tests), grind (arith, nat_tests))
+parts_fit V1 LruHash k v n h = (grind (arith, nat_tests), grind (arith, nat_tests), grind (arith, nat_tests))
+parts_fit V2 Hash k v n h = (grind (arith, nat_tests), grind (arith, nat_tests), grind (arith, nat_tests))
+parts_fit V2 Array k v n h = (grind (arith, nat_tests), grind (arith, nat_tests), grind (arith, nat_tests))
+parts_fit V2 LruHash k v n h = (grind (arith, nat_tests), grind (arith, nat_tests), grind (arith, nat_tests))
 
-allowed_fits : (m : MapDef) → IsAllowedMap m → MapFits m
-allowed_fits m h =
-    let f = parts_fit m.kind m.key_size m.value_size m.max_entries h in
+allowed_fits : (version : Version) (m : MapDef) → IsAllowedMap version m → MapFits m
+allowed_fits version m h =
+    let f = parts_fit version m.kind m.key_size m.value_size m.max_entries h in
     record { key_size = f.0; value_size = f.1; max_entries = f.2 }
 
-all_fit : (maps : List MapDef) → AllByRecursion IsAllowedMap maps → AllByRecursion MapFits maps
-all_fit [] h = tt
-all_fit (m ∷ maps) h = (allowed_fits m h.0, all_fit maps h.1)
+all_fit : (version : Version) (maps : List MapDef) → AllByRecursion (IsAllowedMap version) maps → AllByRecursion MapFits maps
+all_fit version [] h = tt
+all_fit version (m ∷ maps) h = (allowed_fits version m h.0, all_fit version maps h.1)
 
-all_good : (place : ℕ) (maps : List MapDef) → AllByRecursion IsAllowedMap maps → first_bad_map place maps ≡ None
-all_good place [] h = refl
-all_good place (m ∷ maps) h = rw h.0 (all_good (place + 1) maps h.1)
+all_good : (version : Version) (place : ℕ) (maps : List MapDef) → AllByRecursion (IsAllowedMap version) maps → first_bad_map version place maps ≡ None
+all_good version place [] h = refl
+all_good version place (m ∷ maps) h = rw h.0 (all_good version (place + 1) maps h.1)
 
-pub no_fault : (maps : List MapDef) (code : List Insn) → IsEncodable maps code → first_part_fault maps code ≡ None
+all_known : (version : Version) (slot : ℕ) (code : List Insn) → AllByRecursion (IsInVersion version) code → version_fault version slot code ≡ None
+all_known version slot [] h = refl
+all_known version slot (insn ∷ code) h = rw h.0 (all_known version (slot + slot_count insn) code h.1)
+
+pub no_fault : (version : Version) (maps : List MapDef) (code : List Insn) → IsEncodable version maps code → first_part_fault version maps code ≡ None
 unfolding first_part_fault
-no_fault maps code is =
+no_fault version maps code is =
     let few : ltb 16 (length maps) ≡ false = grind (arith, nat_tests, is.few_maps) in
     let some : eqb (length code) 0 ≡ false = grind (arith, nat_tests, is.some_code) in
     let short : ltb 4096 (total_slots code) ≡ false = grind (arith, nat_tests, is.few_slots) in
-    rw (few, all_good 0 maps is.maps_allowed, some, short) refl
+    rw (few, all_good version 0 maps is.maps_allowed, some, short, all_known version 0 code is.in_version) refl
 
 pub not_empty : (r : Bool) (xs : List ℕ) → r ≡ eqb (length xs) 0 → r ≡ false → 0 < length xs
 not_empty r [] h f = absurd cc
@@ -174,15 +184,25 @@ is_empty r (x ∷ xs) h t =
     let e : length (x ∷ xs) ≡ 0 = (Decides-eqb (length (x ∷ xs)) 0).0 (sym h ∙ t) in
     absurd (omega arith)
 
--- the parts that were read are those of each image with this text
-pub same_parts : (text body program rest : List ℕ) (maps : List MapDef) (code : List Insn) → text ≡ version_text ++ body → AreMapsRead body maps program → IsCodeRead program code rest
-    → (image : Contents) → IsAssemblyText text image → (maps ≡ image.maps) × (code ≡ image.code) × (rest ≡ [])
-same_parts text body program rest maps code begins read_maps read_code image is =
-    let spelled : version_text ++ body ≡ version_text ++ (maps_text image.maps ++ code_text image.code) = sym begins ∙ is.spelled ∙ append_assoc version_text (maps_text image.maps) (code_text image.code) in
-    let same_body : body ≡ maps_text image.maps ++ code_text image.code = append_cancel_left version_text body (maps_text image.maps ++ code_text image.code) spelled in
-    let first = maps_unique maps image.maps image.code program read_maps.known (all_fit image.maps is.encodable.maps_allowed) is.encodable.fields_fit read_maps.stops (sym read_maps.text_is ∙ same_body) in
+not_next : (n m : ℕ) → n ≡ m → m ≡ n + 1 → ⊥
+not_next n m same next = omega arith
+
+-- the first line tells the version
+same_version : (version other : Version) (xs ys : List ℕ) → version_text version ++ xs ≡ version_text other ++ ys → (version ≡ other) × (xs ≡ ys)
+same_version V1 V1 xs ys e = (refl, append_cancel_left (version_text V1) xs ys e)
+same_version V2 V2 xs ys e = (refl, append_cancel_left (version_text V2) xs ys e)
+same_version V1 V2 xs ys e = absurd (not_next 49 50 (ap (λ (text : List ℕ). get_or text 8 0) e) refl)
+same_version V2 V1 xs ys e = absurd (not_next 49 50 (ap (λ (text : List ℕ). get_or text 8 0) (sym e)) refl)
+
+-- the version and the parts that were read are those of each image with this text
+pub same_parts : (version : Version) (text body program rest : List ℕ) (maps : List MapDef) (code : List Insn) → text ≡ version_text version ++ body → AreMapsRead body maps program → IsCodeRead program code rest
+    → (image : Contents) → IsAssemblyText text image → (version ≡ image.version) × (maps ≡ image.maps) × (code ≡ image.code) × (rest ≡ [])
+same_parts version text body program rest maps code begins read_maps read_code image is =
+    let spelled : version_text version ++ body ≡ version_text image.version ++ (maps_text image.maps ++ code_text image.code) = sym begins ∙ is.spelled ∙ append_assoc (version_text image.version) (maps_text image.maps) (code_text image.code) in
+    let same = same_version version image.version body (maps_text image.maps ++ code_text image.code) spelled in
+    let first = maps_unique maps image.maps image.code program read_maps.known (all_fit image.version image.maps is.encodable.maps_allowed) is.encodable.fields_fit read_maps.stops (sym read_maps.text_is ∙ same.1) in
     let second = code_unique code image.code rest read_code.known is.encodable.fields_fit read_code.stops (sym read_code.text_is ∙ first.1) in
-    (first.0, second.0, second.1)
+    (same.0, first.0, second.0, second.1)
 
 maps_fit : (maps : List MapDef) → AllByRecursion IsKnownMap maps → AllByRecursion MapFits maps
 maps_fit [] known = tt
@@ -192,41 +212,43 @@ pub code_fits : (code : List Insn) → AllByRecursion IsKnownInstruction code �
 code_fits [] known = tt
 code_fits (i ∷ code) known = (known.0.0.fields_fit, code_fits code known.1)
 
-whole_text : (text body program rest : List ℕ) (maps : List MapDef) (code : List Insn) → text ≡ version_text ++ body → AreMapsRead body maps program → IsCodeRead program code rest → text ≡ parts_text maps code ++ rest
-whole_text text body program rest maps code begins read_maps read_code =
-    begins ∙ ap (λ (xs : List ℕ). version_text ++ xs) (read_maps.text_is ∙ ap (λ (xs : List ℕ). maps_text maps ++ xs) read_code.text_is) ∙ simp append_assoc refl
+whole_text : (version : Version) (text body program rest : List ℕ) (maps : List MapDef) (code : List Insn) → text ≡ version_text version ++ body → AreMapsRead body maps program → IsCodeRead program code rest → text ≡ parts_text version maps code ++ rest
+whole_text version text body program rest maps code begins read_maps read_code =
+    begins ∙ ap (λ (xs : List ℕ). version_text version ++ xs) (read_maps.text_is ∙ ap (λ (xs : List ℕ). maps_text maps ++ xs) read_code.text_is) ∙ simp append_assoc refl
 
 same_program : (program rest : List ℕ) (code : List Insn) → program ≡ code_text code ++ rest → code ≡ [] → BeginsWithNoMap program → BeginsWithNoMap rest
 same_program program rest [] is empty stops = rw is at stops
 same_program program rest (i ∷ code) is empty stops = absurd cc
 
-pub bad_after : (text body program rest : List ℕ) (maps : List MapDef) (code : List Insn) → text ≡ version_text ++ body → AreMapsRead body maps program → IsCodeRead program code rest → 0 < length rest
+pub bad_after : (version : Version) (text body program rest : List ℕ) (maps : List MapDef) (code : List Insn) → text ≡ version_text version ++ body → AreMapsRead body maps program → IsCodeRead program code rest → 0 < length rest
     → IsFirstBadLine text (2 + length maps + length code)
-bad_after text body program rest maps code begins read_maps read_code some = inr (record {
+bad_after version text body program rest maps code begins read_maps read_code some = inr (record {
+  version = version;
   maps = maps;
   code = code;
   rest = rest;
   maps_fit = maps_fit maps read_maps.known;
   code_fits = code_fits code read_code.known;
   line_is = refl;
-  text_is = whole_text text body program rest maps code begins read_maps read_code;
+  text_is = whole_text version text body program rest maps code begins read_maps read_code;
   not_ended = some;
   no_instruction = read_code.stops;
   no_map = λ empty. same_program program rest code read_code.text_is empty read_maps.stops;
 })
 
-pub whole_parts : (text body program rest : List ℕ) (maps : List MapDef) (code : List Insn) → text ≡ version_text ++ body → AreMapsRead body maps program → IsCodeRead program code rest → rest ≡ [] → text ≡ parts_text maps code
-whole_parts text body program rest maps code begins read_maps read_code empty =
-    whole_text text body program rest maps code begins read_maps read_code ∙ ap (λ (xs : List ℕ). parts_text maps code ++ xs) empty ∙ append-nil (parts_text maps code)
+pub whole_parts : (version : Version) (text body program rest : List ℕ) (maps : List MapDef) (code : List Insn) → text ≡ version_text version ++ body → AreMapsRead body maps program → IsCodeRead program code rest → rest ≡ [] → text ≡ parts_text version maps code
+whole_parts version text body program rest maps code begins read_maps read_code empty =
+    whole_text version text body program rest maps code begins read_maps read_code ∙ ap (λ (xs : List ℕ). parts_text version maps code ++ xs) empty ∙ append-nil (parts_text version maps code)
 
-pub faulty : (text body program rest : List ℕ) (maps : List MapDef) (code : List Insn) (fault : DecodeFault) → text ≡ version_text ++ body → AreMapsRead body maps program → IsCodeRead program code rest → rest ≡ []
-    → first_part_fault maps code ≡ Some fault → IsFaultyText text fault
-faulty text body program rest maps code fault begins read_maps read_code empty is = record {
+pub faulty : (version : Version) (text body program rest : List ℕ) (maps : List MapDef) (code : List Insn) (fault : DecodeFault) → text ≡ version_text version ++ body → AreMapsRead body maps program → IsCodeRead program code rest → rest ≡ []
+    → first_part_fault version maps code ≡ Some fault → IsFaultyText text fault
+faulty version text body program rest maps code fault begins read_maps read_code empty is = record {
+  version = version;
   maps = maps;
   code = code;
   maps_fit = maps_fit maps read_maps.known;
   code_fits = code_fits code read_code.known;
-  text_is = whole_parts text body program rest maps code begins read_maps read_code empty;
+  text_is = whole_parts version text body program rest maps code begins read_maps read_code empty;
   fault_is = is;
 }
 

@@ -11,10 +11,12 @@ use Rattle.ebpf_decode.specs.declared.insn.Insn.TheVariants as insns
 use Rattle.ebpf_decode.specs.declared.map.MapDef.{MapDef}
 use Rattle.ebpf_decode.specs.declared.map.MapKind.{MapKind}
 use Rattle.ebpf_decode.specs.declared.map.MapKind.TheVariants.{Hash, Array, LruHash}
+use Rattle.ebpf_decode.specs.declared.version.Version.{Version}
+use Rattle.ebpf_decode.specs.declared.version.Version.TheVariants.{V1, V2}
 use Rattle.ebpf_decode.specs.InstructionEncoding.{FieldsFit}
 use Rattle.ebpf_decode.specs.ImageContents.{Contents, IsEncodable}
 use Rattle.disasm.specs.declared.head.Head.{Head}
-use Rattle.disasm.specs.declared.head.Head.TheVariants.{Alu, Neg, Movsx, Movsx32, End, Ja, Ja32, JumpIf, Ldx, Ldxs, St, Stx, Atomic, Lddw, Ldmap, Call, Exit}
+use Rattle.disasm.specs.declared.head.Head.TheVariants.{Alu, Neg, Movsx, Movsx32, End, Ja, Ja32, JumpIf, Ldx, Ldxs, St, Stx, Atomic, Lddw, Ldmap, Ldval, Call, Exit}
 use Rattle.disasm.specs.declared.operand.Operand.{Operand}
 use Rattle.disasm.specs.declared.operand.Operand.TheVariants as operands
 use Rattle.disasm.specs.declared.operand.Operands.{Operands}
@@ -91,6 +93,7 @@ head_of (insns.Stx size dst src offset) = Stx size
 head_of (insns.AtomicUpdate width op dst src offset) = Atomic width op
 head_of (insns.Lddw dst value) = Lddw
 head_of (insns.Ldmap dst map) = Ldmap
+head_of (insns.Ldval dst map offset) = Ldval
 head_of (insns.CallHelper helper) = Call
 head_of insns.Exit = Exit
 
@@ -115,6 +118,7 @@ operands_of (insns.Stx size dst src offset) = Two (operands.Place dst offset) (o
 operands_of (insns.AtomicUpdate width op dst src offset) = Two (operands.Place dst offset) (operands.Register src)
 operands_of (insns.Lddw dst value) = Two (operands.Register dst) (operands.Wide value)
 operands_of (insns.Ldmap dst map) = Two (operands.Register dst) (operands.Number map)
+operands_of (insns.Ldval dst map offset) = Three (operands.Register dst) (operands.Number map) (operands.Number (pos offset))
 operands_of (insns.CallHelper helper) = One (operands.Number helper)
 operands_of insns.Exit = Zero
 
@@ -156,8 +160,9 @@ pub record IsMapLine (m : MapDef) (line : List ℕ) : Type 0 where
 abbrev pub ended : List ℕ → List ℕ
 ended line = line ++ 10 ∷ []
 
-abbrev pub version_text : List ℕ
-version_text = ended (codes "version 1")
+abbrev pub version_text : Version → List ℕ
+version_text V1 = ended (codes "version 1")
+version_text V2 = ended (codes "version 2")
 
 abbrev pub maps_text : List MapDef → List ℕ
 maps_text maps = flat_map (λ m. ended (map_line_of m)) maps
@@ -166,10 +171,10 @@ abbrev pub code_text : List Insn → List ℕ
 code_text code = flat_map (λ insn. ended (line_of insn)) code
 
 -- the first line, one for each map, one for each instruction
-abbrev pub parts_text : List MapDef → List Insn → List ℕ
-parts_text maps code = version_text ++ maps_text maps ++ code_text code
+abbrev pub parts_text : Version → List MapDef → List Insn → List ℕ
+parts_text version maps code = version_text version ++ maps_text maps ++ code_text code
 
 -- the text is the image's
 pub record IsAssemblyText (text : List ℕ) (image : Contents) : Type 0 where
-  pub encodable : IsEncodable image.maps image.code
-  pub spelled : text ≡ parts_text image.maps image.code
+  pub encodable : IsEncodable image.version image.maps image.code
+  pub spelled : text ≡ parts_text image.version image.maps image.code

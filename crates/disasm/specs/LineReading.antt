@@ -1,6 +1,6 @@
 -- What is read of a line that is a right spelling.
 use Rattle.std.specs.Prelude.{◌≡◌, ◌≢◌, ℕ, ◌<◌, ◌^◌, Bool, List, length, slice_index, ◌==◌, ℤ, pos, negsuc, FitsSigned, nat_lt, if◌then◌else◌}
-use Rattle.std.specs.Int.{w16, w32}
+use Rattle.std.specs.Int.{w16, w32, w64}
 use Rattle.std.specs.List.{starts_with}
 use Rattle.isa.specs.declared.operation.Register.{Register}
 use Rattle.isa.specs.declared.operation.Register.TheVariants.{R0}
@@ -9,7 +9,7 @@ use Rattle.isa.specs.declared.operation.Source.TheVariants.{Imm, Reg}
 use Rattle.ebpf_decode.specs.declared.insn.Insn.{Insn}
 use Rattle.ebpf_decode.specs.declared.insn.Insn.TheVariants as insns
 use Rattle.disasm.specs.declared.head.Head.{Head}
-use Rattle.disasm.specs.declared.head.Head.TheVariants.{Alu, Neg, Movsx, Movsx32, End, Ja, Ja32, JumpIf, Ldx, Ldxs, St, Stx, Atomic, Lddw, Ldmap, Call, Exit}
+use Rattle.disasm.specs.declared.head.Head.TheVariants.{Alu, Neg, Movsx, Movsx32, End, Ja, Ja32, JumpIf, Ldx, Ldxs, St, Stx, Atomic, Lddw, Ldmap, Ldval, Call, Exit}
 use Rattle.disasm.specs.declared.operand.Operand.{Operand}
 use Rattle.disasm.specs.declared.operand.Operand.TheVariants as operands
 use Rattle.disasm.specs.declared.operand.Operands.{Operands}
@@ -26,7 +26,7 @@ begins_with_register text r = starts_with (λ a b. a == b) text (register_text r
 -- the numbers fit their fields
 abbrev pub OperandFits : Operand → Type 0
 OperandFits (operands.Register r) = Unit {0}
-OperandFits (operands.Number value) = FitsSigned w32 value
+OperandFits (operands.Number value) = FitsSigned w64 value
 OperandFits (operands.Distance value) = FitsSigned w32 value
 OperandFits (operands.Place r offset) = FitsSigned w16 offset
 OperandFits (operands.Wide value) = value < 2 ^ 64
@@ -71,9 +71,19 @@ abbrev pub wide_in : Operand → ℕ
 wide_in (operands.Wide value) = value
 wide_in o = 0
 
+-- a number that fits 32 bits, or zero
+abbrev pub word_in : ℤ → ℤ
+word_in (pos n) = if nat_lt n 0x8000_0000 then pos n else pos 0
+word_in (negsuc n) = if nat_lt n 0x8000_0000 then negsuc n else pos 0
+
+-- an unsigned number that fits 32 bits, or zero
+abbrev pub count_in : ℤ → ℕ
+count_in (pos n) = if nat_lt n 0x1_0000_0000 then n else 0
+count_in (negsuc n) = 0
+
 abbrev pub source_in : Operand → Source
 source_in (operands.Register r) = Reg r
-source_in o = Imm (number_in o)
+source_in o = Imm (word_in (number_in o))
 
 -- a number that fits 16 bits, or zero
 abbrev pub short_in : ℤ → ℤ
@@ -87,14 +97,15 @@ insn_made (Movsx extension) x y z = insns.Movsx extension (register_in x) (regis
 insn_made (Movsx32 extension) x y z = insns.Movsx32 extension (register_in x) (register_in y)
 insn_made (End order swap_width) x y z = insns.End order swap_width (register_in x)
 insn_made Ja x y z = insns.Ja (short_in (number_in x))
-insn_made Ja32 x y z = insns.Ja32 (number_in x)
+insn_made Ja32 x y z = insns.Ja32 (word_in (number_in x))
 insn_made (JumpIf width test) x y z = insns.JumpIf width test (register_in x) (source_in y) (short_in (number_in z))
 insn_made (Ldx size) x y z = insns.Ldx size (register_in x) (register_in y) (offset_in y)
 insn_made (Ldxs extension) x y z = insns.Ldxs extension (register_in x) (register_in y) (offset_in y)
-insn_made (St size) x y z = insns.St size (register_in x) (offset_in x) (number_in y)
+insn_made (St size) x y z = insns.St size (register_in x) (offset_in x) (word_in (number_in y))
 insn_made (Stx size) x y z = insns.Stx size (register_in x) (register_in y) (offset_in x)
 insn_made (Atomic width op) x y z = insns.AtomicUpdate width op (register_in x) (register_in y) (offset_in x)
 insn_made Lddw x y z = insns.Lddw (register_in x) (wide_in y)
-insn_made Ldmap x y z = insns.Ldmap (register_in x) (number_in y)
-insn_made Call x y z = insns.CallHelper (number_in x)
+insn_made Ldmap x y z = insns.Ldmap (register_in x) (word_in (number_in y))
+insn_made Ldval x y z = insns.Ldval (register_in x) (word_in (number_in y)) (count_in (number_in z))
+insn_made Call x y z = insns.CallHelper (word_in (number_in x))
 insn_made Exit x y z = insns.Exit

@@ -19,7 +19,7 @@ use Rattle.isa.specs.declared.operation.AtomicOp.TheVariants.{AtomicAdd, AtomicO
 use Rattle.isa.specs.declared.operation.Size.{Size}
 use Rattle.isa.specs.declared.operation.Size.TheVariants.{U8, U16, U32, U64}
 use Rattle.disasm.specs.declared.head.Head.{Head}
-use Rattle.disasm.specs.declared.head.Head.TheVariants.{Alu, Neg, Movsx, Movsx32, End, Ja, Ja32, JumpIf, Ldx, Ldxs, St, Stx, Atomic, Lddw, Ldmap, Call, Exit}
+use Rattle.disasm.specs.declared.head.Head.TheVariants.{Alu, Neg, Movsx, Movsx32, End, Ja, Ja32, JumpIf, Ldx, Ldxs, St, Stx, Atomic, Lddw, Ldmap, Ldval, Call, Exit}
 
 -- arithmetic (RFC 9669, section 4.1)
 abbrev pub alu_name : AluOp → List ℕ
@@ -126,6 +126,7 @@ head_stem (Stx size) = codes "stx"
 head_stem (Atomic width op) = atomic_name op
 head_stem Lddw = codes "lddw"
 head_stem Ldmap = codes "ldmap"
+head_stem Ldval = codes "ldval"
 head_stem Call = codes "call"
 head_stem Exit = codes "exit"
 

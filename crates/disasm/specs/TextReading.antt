@@ -4,6 +4,7 @@ use Rattle.std.specs.List.{AllByRecursion}
 use Rattle.ebpf_decode.specs.declared.insn.Insn.{Insn}
 use Rattle.ebpf_decode.specs.declared.map.MapDef.{MapDef}
 use Rattle.ebpf_decode.specs.declared.fault.DecodeFault.{DecodeFault}
+use Rattle.ebpf_decode.specs.declared.version.Version.{Version}
 use Rattle.ebpf_decode.specs.InstructionEncoding.{FieldsFit}
 use Rattle.ebpf_decode.specs.ImageFormat.{first_part_fault}
 use Rattle.disasm.specs.declared.fault.AsmFault.{AsmFault}
@@ -61,29 +62,31 @@ pub record AreMapsRead (text : List ℕ) (maps : List MapDef) (rest : List ℕ) 
 
 -- after these lines of maps and these of instructions comes a line that is no right spelling there
 pub record IsBadAfter (text : List ℕ) (line : ℕ) : Type 0 where
+  pub version : Version
   pub maps : List MapDef
   pub code : List Insn
   pub rest : List ℕ
   pub maps_fit : AllByRecursion MapFits maps
   pub code_fits : AllByRecursion FieldsFit code
   pub line_is : line ≡ 2 + length maps + length code
-  pub text_is : text ≡ parts_text maps code ++ rest
+  pub text_is : text ≡ parts_text version maps code ++ rest
   pub not_ended : 0 < length rest
   pub no_instruction : BeginsWithNoInstruction rest
   pub no_map : code ≡ [] → BeginsWithNoMap rest
 
 -- the line, counted from 1, is the first that is no right spelling
 abbrev pub IsFirstBadLine : List ℕ → ℕ → Type 0
-IsFirstBadLine text line = ((line ≡ 1) × ((rest : List ℕ) → text ≢ version_text ++ rest)) ⊎ IsBadAfter text line
+IsFirstBadLine text line = ((line ≡ 1) × ((version : Version) (rest : List ℕ) → text ≢ version_text version ++ rest)) ⊎ IsBadAfter text line
 
--- all lines are right spellings, of parts that no image has
+-- all lines are right spellings, of parts that no image of the version has
 pub record IsFaultyText (text : List ℕ) (fault : DecodeFault) : Type 0 where
+  pub version : Version
   pub maps : List MapDef
   pub code : List Insn
   pub maps_fit : AllByRecursion MapFits maps
   pub code_fits : AllByRecursion FieldsFit code
-  pub text_is : text ≡ parts_text maps code
-  pub fault_is : first_part_fault maps code ≡ Some fault
+  pub text_is : text ≡ parts_text version maps code
+  pub fault_is : first_part_fault version maps code ≡ Some fault
 
 -- why the text spells no image
 abbrev pub Explains : List ℕ → AsmFault → Type 0

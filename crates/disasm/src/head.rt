@@ -26,13 +26,14 @@ pub enum Head {
     Atomic(Width, AtomicOp),
     Lddw,
     Ldmap,
+    Ldval,
     Call,
     Exit,
 }
 
 /// Every first word once.
 #[rattlefmt::skip]
-const HEADS: [Head; 107] = [
+const HEADS: [Head; 108] = [
     Head::Alu(Width::Bits64, AluOp::Add), Head::Alu(Width::Bits64, AluOp::Sub), Head::Alu(Width::Bits64, AluOp::Mul),
     Head::Alu(Width::Bits64, AluOp::Div), Head::Alu(Width::Bits64, AluOp::Sdiv), Head::Alu(Width::Bits64, AluOp::Or),
     Head::Alu(Width::Bits64, AluOp::And), Head::Alu(Width::Bits64, AluOp::Lsh), Head::Alu(Width::Bits64, AluOp::Rsh),
@@ -73,7 +74,7 @@ const HEADS: [Head; 107] = [
     Head::Atomic(Width::Bits32, AtomicOp::AtomicXor), Head::Atomic(Width::Bits32, AtomicOp::FetchAdd),
     Head::Atomic(Width::Bits32, AtomicOp::FetchOr), Head::Atomic(Width::Bits32, AtomicOp::FetchAnd),
     Head::Atomic(Width::Bits32, AtomicOp::FetchXor), Head::Atomic(Width::Bits32, AtomicOp::Exchange),
-    Head::Atomic(Width::Bits32, AtomicOp::CompareExchange), Head::Lddw, Head::Ldmap, Head::Call, Head::Exit,
+    Head::Atomic(Width::Bits32, AtomicOp::CompareExchange), Head::Lddw, Head::Ldmap, Head::Ldval, Head::Call, Head::Exit,
 ];
 
 fn alu_name(of: AluOp) -> &'static str
@@ -229,6 +230,7 @@ impl Head {
             Head::Atomic(_, op) => atomic_name(op),
             Head::Lddw => "lddw",
             Head::Ldmap => "ldmap",
+            Head::Ldval => "ldval",
             Head::Call => "call",
             Head::Exit => "exit",
         }
@@ -247,7 +249,7 @@ impl Head {
             Head::Ldx(size) | Head::St(size) | Head::Stx(size) => size_letters(size),
             Head::Ldxs(extension) => extension_letter(extension),
             Head::Atomic(width, _) => width_letters(width),
-            Head::Ja | Head::Lddw | Head::Ldmap | Head::Call | Head::Exit => "",
+            Head::Ja | Head::Lddw | Head::Ldmap | Head::Ldval | Head::Call | Head::Exit => "",
         }
     }
 

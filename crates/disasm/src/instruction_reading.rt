@@ -9,7 +9,7 @@ ghost use Rattle.disasm.specs.TextReading.{TellsInstruction, BeginsWithNoInstruc
 
 use crate::head::Head;
 use crate::operand::Operand;
-use crate::reading::{cut, operands_of, short};
+use crate::reading::{count, cut, operands_of, short, word};
 use crate::spelling::line;
 use ebpf_decode::Insn;
 use std::alloc::{AllocError, Global};
@@ -27,18 +27,19 @@ fn insn_of(head: Head, x: Operand, y: Operand, z: Operand) -> Insn
         Head::Movsx32(extension) => Insn::Movsx32 { extension, dst: x.register(), src: y.register() },
         Head::End(order, swap_width) => Insn::End { order, swap_width, dst: x.register() },
         Head::Ja => Insn::Ja { distance: short(x.number()) },
-        Head::Ja32 => Insn::Ja32 { distance: x.number() },
+        Head::Ja32 => Insn::Ja32 { distance: word(x.number()) },
         Head::JumpIf(width, test) => Insn::JumpIf {
             width, test, dst: x.register(), source: y.source(), distance: short(z.number()),
         },
         Head::Ldx(size) => Insn::Ldx { size, dst: x.register(), src: y.register(), offset: y.offset() },
         Head::Ldxs(extension) => Insn::Ldxs { extension, dst: x.register(), src: y.register(), offset: y.offset() },
-        Head::St(size) => Insn::St { size, dst: x.register(), offset: x.offset(), immediate: y.number() },
+        Head::St(size) => Insn::St { size, dst: x.register(), offset: x.offset(), immediate: word(y.number()) },
         Head::Stx(size) => Insn::Stx { size, dst: x.register(), src: y.register(), offset: x.offset() },
         Head::Atomic(width, op) => Insn::AtomicUpdate { width, op, dst: x.register(), src: y.register(), offset: x.offset() },
         Head::Lddw => Insn::Lddw { dst: x.register(), value: y.wide() },
-        Head::Ldmap => Insn::Ldmap { dst: x.register(), map: y.number() },
-        Head::Call => Insn::CallHelper { helper: x.number() },
+        Head::Ldmap => Insn::Ldmap { dst: x.register(), map: word(y.number()) },
+        Head::Ldval => Insn::Ldval { dst: x.register(), map: word(y.number()), offset: count(z.number()) },
+        Head::Call => Insn::CallHelper { helper: word(x.number()) },
         Head::Exit => Insn::Exit,
     }
 }

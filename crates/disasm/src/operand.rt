@@ -12,7 +12,7 @@ pub enum Operand {
     /// `r0` to `r10`.
     Register(Register),
     /// A number, with a minus where it is negative.
-    Number(i32),
+    Number(i64),
     /// A number of slots, always with its sign.
     Distance(i32),
     /// A place in memory, `[r1+0]`: a register and an offset with its sign.

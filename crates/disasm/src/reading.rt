@@ -1,14 +1,14 @@
 //! Lines read leniently: what is no right spelling is read as anything. Who reads prints the result again and compares.
 
 ghost use Rattle.std.specs.Prelude.{◌≡◌, ◌≢◌, ◌++◌, ◌∷◌, [], ◌<◌, ◌^◌, ℕ, ℤ, List, length, slice_index, FitsSigned, codes};
-ghost use Rattle.std.specs.Int.{w16, w32};
+ghost use Rattle.std.specs.Int.{w16, w32, w64};
 ghost use Rattle.std.specs.Fmt.{decimal, signed_decimal};
 ghost use Rattle.std.specs.List.{find, starts_with};
 ghost use Rattle.std.specs.Str.{bytes_eq};
 ghost use Rattle.isa.specs.declared.operation.Register.{Register as RegisterName};
 ghost use Rattle.disasm.specs.declared.operand.Operands.{Operands as OperandList};
 ghost use Rattle.disasm.specs.AssemblyText.{register_text, with_sign, hex_digits, operand_text, list_text};
-ghost use Rattle.disasm.specs.LineReading.{Lacks, OperandFits, OperandsFit, as_read, AreRead, begins_with_register, register_in, number_in, short_in, offset_in, wide_in, source_in, insn_made};
+ghost use Rattle.disasm.specs.LineReading.{Lacks, OperandFits, OperandsFit, as_read, AreRead, begins_with_register, register_in, number_in, short_in, word_in, count_in, offset_in, wide_in, source_in, insn_made};
 
 use crate::operand::{Operand, register_text};
 use isa::{Register, Source};
@@ -86,18 +86,44 @@ fn begins_with_register(text: &str, register: Register) -> bool
 }
 
 /// A number, with or without a plus.
-fn number_of(text: &str) -> i32
-    ensures plain { (z : ℤ) → FitsSigned w32 z → text.now ≡ signed_decimal z → result ≡ z }
-    ensures signed { (z : ℤ) → FitsSigned w32 z → text.now ≡ with_sign z → result ≡ z }
+fn number_of(text: &str) -> i64
+    ensures plain { (z : ℤ) → FitsSigned w64 z → text.now ≡ signed_decimal z → result ≡ z }
+    ensures signed { (z : ℤ) → FitsSigned w64 z → text.now ≡ with_sign z → result ≡ z }
 {
-    match text.parse::<i32>() {
+    match text.parse::<i64>() {
         Ok(value) => value,
         Err(_) => 0,
     }
 }
 
-/// A number that fits, or 0.
-pub(crate) fn short(value: i32) -> i16
+/// A number of 32 bits, or 0 where it doesn't fit.
+pub(crate) fn word(value: i64) -> i32
+    ensures { result ≡ word_in value }
+{
+    if value < -0x8000_0000 {
+        return 0;
+    }
+    if value > 0x7fff_ffff {
+        return 0;
+    }
+    value as i32
+}
+
+/// An unsigned number of 32 bits, or 0 where it doesn't fit.
+pub(crate) fn count(value: i64) -> u32
+    ensures { result ≡ count_in value }
+{
+    if value < 0 {
+        return 0;
+    }
+    if value > 0xffff_ffff {
+        return 0;
+    }
+    value as u32
+}
+
+/// A number of 16 bits, or 0 where it doesn't fit.
+pub(crate) fn short(value: i64) -> i16
     ensures { result ≡ short_in value }
 {
     if value < -32768 {
@@ -166,7 +192,7 @@ impl Operand {
         }
     }
 
-    pub(crate) fn number(self) -> i32
+    pub(crate) fn number(self) -> i64
         ensures { result ≡ number_in self }
     {
         match self {
@@ -198,7 +224,7 @@ impl Operand {
     {
         match self {
             Operand::Register(register) => Source::Reg(register),
-            _ => Source::Imm(self.number()),
+            _ => Source::Imm(word(self.number())),
         }
     }
 }

@@ -35,6 +35,7 @@ fn head_of(insn: Insn) -> Head
         Insn::AtomicUpdate { width, op, .. } => Head::Atomic(width, op),
         Insn::Lddw { .. } => Head::Lddw,
         Insn::Ldmap { .. } => Head::Ldmap,
+        Insn::Ldval { .. } => Head::Ldval,
         Insn::CallHelper { .. } => Head::Call,
         Insn::Exit => Head::Exit,
     }
@@ -44,7 +45,7 @@ fn source_operand(source: Source) -> Operand
     ensures { result ≡ source_operand source }
 {
     match source {
-        Source::Imm(value) => Operand::Number(value),
+        Source::Imm(value) => Operand::Number(i64::from(value)),
         Source::Reg(register) => Operand::Register(register),
     }
 }
@@ -68,12 +69,15 @@ fn operands_of(insn: Insn) -> Operands
         }
         Insn::Ldx { dst, src, offset, .. } => Operands::Two(Operand::Register(dst), Operand::Place(src, offset)),
         Insn::Ldxs { dst, src, offset, .. } => Operands::Two(Operand::Register(dst), Operand::Place(src, offset)),
-        Insn::St { dst, offset, immediate, .. } => Operands::Two(Operand::Place(dst, offset), Operand::Number(immediate)),
+        Insn::St { dst, offset, immediate, .. } => Operands::Two(Operand::Place(dst, offset), Operand::Number(i64::from(immediate))),
         Insn::Stx { dst, src, offset, .. } => Operands::Two(Operand::Place(dst, offset), Operand::Register(src)),
         Insn::AtomicUpdate { dst, src, offset, .. } => Operands::Two(Operand::Place(dst, offset), Operand::Register(src)),
         Insn::Lddw { dst, value } => Operands::Two(Operand::Register(dst), Operand::Wide(value)),
-        Insn::Ldmap { dst, map } => Operands::Two(Operand::Register(dst), Operand::Number(map)),
-        Insn::CallHelper { helper } => Operands::One(Operand::Number(helper)),
+        Insn::Ldmap { dst, map } => Operands::Two(Operand::Register(dst), Operand::Number(i64::from(map))),
+        Insn::Ldval { dst, map, offset } => {
+            Operands::Three(Operand::Register(dst), Operand::Number(i64::from(map)), Operand::Number(i64::from(offset)))
+        }
+        Insn::CallHelper { helper } => Operands::One(Operand::Number(i64::from(helper))),
         Insn::Exit => Operands::Zero,
     }
 }

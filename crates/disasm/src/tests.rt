@@ -308,10 +308,17 @@ fn bad_lines(rt: HostRuntime) -> Result<(), Fail> {
 }
 
 #[rattlefmt::skip]
-const FIRST_BAD_LINES: [(&str, &str, usize); 12] = [
+const FIRST_BAD_LINES: [(&str, &str, usize); 19] = [
     ("empty text",                                  "",                                             1),
     ("version without a line feed",                 "version 1",                                    1),
-    ("another version",                             "version 2\nexit\n",                            1),
+    ("another version",                             "version 3\nexit\n",                            1),
+    ("version 1 after version 2",                   "version 2\nversion 1\nexit\n",                 2),
+    ("an address without its offset",               "version 2\nldval r1, 0\n",                     2),
+    ("an address with a signed offset",             "version 2\nldval r1, 0, -8\n",                 2),
+    ("an address with a plus",                      "version 2\nldval r1, 0, +8\n",                 2),
+    ("an address with too large an offset",         "version 2\nldval r1, 0, 4294967296\n",         2),
+    ("an immediate above 32 bits",                  "version 2\nmov r1, 2147483648\n",              2),
+    ("an immediate below 32 bits",                  "version 2\nmov r1, -2147483649\n",             2),
     ("no version",                                  "exit\n",                                       1),
     ("last line without a line feed",               "version 1\nexit",                              2),
     ("last map without a line feed",                "version 1\nmap array 4 8 1",                   2),
@@ -331,24 +338,74 @@ fn first_bad_lines(rt: HostRuntime) -> Result<(), Fail> {
     Ok(())
 }
 
+// Texts of images that there are, and the bytes of which they are the text, one number of 64 bits a slot.
+#[rattlefmt::skip]
+const VERSION_2: [(&str, &str, u64, u64); 4] = [
+    ("an address in a value",  "ldval r1, 0, 8",           0x1821000000000000, 0x0000000008000000),
+    ("the largest offset",     "ldval r10, 0, 4294967295", 0x182a000000000000, 0x00000000ffffffff),
+    ("a map below 0",          "ldval r0, -1, 0",          0x18200000ffffffff, 0x0000000000000000),
+    ("a map",                  "ldmap r1, 0",              0x1811000000000000, 0x0000000000000000),
+];
+
+#[test]
+fn version_2(rt: HostRuntime) -> Result<(), Fail> {
+    for (name, spelling, first, second) in VERSION_2 {
+        let given = format!(in rt.alloc(); "version 2\n{spelling}\n")?;
+        let image = assemble(rt.alloc(), &given)?;
+        let mut want = Vec::new(rt.alloc());
+        want.extend_from_slice(&[0x58, 0x4c, 0x42, 0x50, 2, 0, 0, 0])?;
+        want.extend_from_slice(&first.to_be_bytes())?;
+        want.extend_from_slice(&second.to_be_bytes())?;
+        let bytes = encode(rt.alloc(), &image)?;
+        assert_eq!(rt; bytes.as_slice(), want.as_slice(), "{name}");
+        let again = text(rt.alloc(), &decode(rt.alloc(), &bytes)?)?;
+        assert_eq!(rt; again.as_str(), given.as_str(), "{name}");
+    }
+    Ok(())
+}
+
+// Texts with maps of each kind, read and printed again.
+#[rattlefmt::skip]
+const MAPS: [&str; 5] = [
+    "version 1\nmap hash 4 8 1\nexit\n",
+    "version 1\nmap lru 32 64 131072\nexit\n",
+    "version 1\nmap array 4 8 1\nmap hash 1 16 7\nmap lru 16 8 4096\nexit\n",
+    "version 2\nmap array 4 256 1\nmap hash 13 72 9\nexit\n",
+    "version 2\nmap lru 4 8 1\nexit\n",
+];
+
+#[test]
+fn maps_of_each_kind(rt: HostRuntime) -> Result<(), Fail> {
+    for given in MAPS {
+        let image = assemble(rt.alloc(), given)?;
+        let again = decode(rt.alloc(), &encode(rt.alloc(), &image)?)?;
+        assert_eq!(rt; text(rt.alloc(), &again)?.as_str(), given);
+    }
+    Ok(())
+}
+
 const SIXTEEN_MAPS: &str =
     "map array 4 8 1\nmap array 4 8 1\nmap array 4 8 1\nmap array 4 8 1\nmap array 4 8 1\nmap array 4 8 1\nmap array 4 8 1\nmap array 4 8 1\nmap array 4 8 1\nmap array 4 8 1\nmap array 4 8 1\nmap array 4 8 1\nmap array 4 8 1\nmap array 4 8 1\nmap array 4 8 1\nmap array 4 8 1\n";
 
 #[rattlefmt::skip]
-const FAULTY: [(&str, &str, DecodeFault); 7] = [
-    ("no instruction",                  "",                                                 DecodeFault::Empty),
-    ("maps without instructions",       "map array 4 8 1\n",                                DecodeFault::Empty),
-    ("hash maps are not served yet",    "map hash 4 8 1\nexit\n",                           DecodeFault::BadMap { map: 0 }),
-    ("nor are maps of last use",        "map array 4 8 1\nmap lru 4 8 1\nexit\n",           DecodeFault::BadMap { map: 1 }),
-    ("an array's keys have four bytes", "map array 8 8 1\nexit\n",                          DecodeFault::BadMap { map: 0 }),
-    ("a value of 32-bit numbers",       "map array 4294967295 4294967295 4294967295\nexit\n", DecodeFault::BadMap { map: 0 }),
-    ("a refused map goes first",        "map array 4 12 1\n",                               DecodeFault::BadMap { map: 0 }),
+const FAULTY: [(&str, &str, &str, DecodeFault); 11] = [
+    ("no instruction",                  "1", "",                                                 DecodeFault::Empty),
+    ("maps without instructions",       "1", "map array 4 8 1\n",                                DecodeFault::Empty),
+    ("a hash's keys have 32 bytes",     "1", "map hash 33 8 1\nexit\n",                          DecodeFault::BadMap { map: 0 }),
+    ("so have those of last use",       "1", "map array 4 8 1\nmap lru 33 8 1\nexit\n",          DecodeFault::BadMap { map: 1 }),
+    ("an array's keys have four bytes", "1", "map array 8 8 1\nexit\n",                          DecodeFault::BadMap { map: 0 }),
+    ("a value of 32-bit numbers",       "1", "map array 4294967295 4294967295 4294967295\nexit\n", DecodeFault::BadMap { map: 0 }),
+    ("a refused map goes first",        "1", "map array 4 12 1\n",                               DecodeFault::BadMap { map: 0 }),
+    ("a large value in version 1",      "1", "map array 4 256 1\nexit\n",                        DecodeFault::BadMap { map: 0 }),
+    ("too large a value in version 2",  "2", "map array 4 264 1\nexit\n",                        DecodeFault::BadMap { map: 0 }),
+    ("an address in version 1",         "1", "ldval r1, 0, 8\nexit\n",                           DecodeFault::NotInProfile { slot: 0 }),
+    ("an address after a wide number",  "1", "lddw r1, 0x0000000000000000\nldval r1, 0, 8\n",     DecodeFault::NotInProfile { slot: 2 }),
 ];
 
 #[test]
 fn faulty_images(rt: HostRuntime) -> Result<(), Fail> {
-    for (name, given, want) in FAULTY {
-        let given = format!(in rt.alloc(); "version 1\n{given}")?;
+    for (name, version, given, want) in FAULTY {
+        let given = format!(in rt.alloc(); "version {version}\n{given}")?;
         assert_eq!(rt;
             assemble(rt.alloc(), &given).err(),
             Some(AsmFault::Image(want)),

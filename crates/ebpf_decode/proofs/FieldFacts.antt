@@ -31,7 +31,7 @@ use Rattle.isa.specs.declared.operation.Source.{Source}
 use Rattle.isa.specs.declared.operation.Source.TheVariants.{Imm, Reg}
 use Rattle.ebpf_decode.specs.declared.slot.Slot.{Slot}
 use Rattle.ebpf_decode.specs.declared.insn.Insn.{Insn}
-use Rattle.ebpf_decode.specs.declared.insn.Insn.TheVariants.{Alu, Neg, Movsx, Movsx32, End, Ja, Ja32, JumpIf, Ldx, Ldxs, St, Stx, AtomicUpdate, Lddw, Ldmap, CallHelper, Exit}
+use Rattle.ebpf_decode.specs.declared.insn.Insn.TheVariants.{Alu, Neg, Movsx, Movsx32, End, Ja, Ja32, JumpIf, Ldx, Ldxs, St, Stx, AtomicUpdate, Lddw, Ldmap, Ldval, CallHelper, Exit}
 use Rattle.ebpf_decode.specs.SlotForm.{SlotFits}
 use Rattle.isa.specs.InstructionCodes.{class_number, alu_class, jump_class, alu_code, alu_offset, mode_number, test_code, size_code, extension_size, width_size, atomic_code}
 use Rattle.isa.specs.Alu.{extension_bits, short_extension_bits}
@@ -96,6 +96,7 @@ opcode_small (Stx size dst src offset) = memory_small modes.Mem size classes.Stx
 opcode_small (AtomicUpdate width op dst src offset) = memory_small modes.Atomic (width_size width) classes.Stx
 opcode_small (Lddw dst value) = lit< tt
 opcode_small (Ldmap dst map) = lit< tt
+opcode_small (Ldval dst map offset) = lit< tt
 opcode_small (CallHelper helper) = lit< tt
 opcode_small Exit = lit< tt
 
@@ -149,6 +150,7 @@ numbers_fit (Stx size dst src offset) fits = (fits, none32)
 numbers_fit (AtomicUpdate width op dst src offset) fits = (fits, atomic_fits op)
 numbers_fit (Lddw dst value) fits = (none16, sfits_to_z {w = w32} (record { fits = mod_below value (2 ^ 32) (lit< tt) }))
 numbers_fit (Ldmap dst map) fits = (none16, fits)
+numbers_fit (Ldval dst map offset) fits = (none16, fits.0)
 numbers_fit (CallHelper helper) fits = (none16, fits)
 numbers_fit Exit fits = (none16, none32)
 
@@ -163,6 +165,7 @@ more_fit : (insn : Insn) → FieldsFit insn → AllByRecursion SlotFits (more_sl
 unfolding more_slots_of FieldsFit
 more_fit (Lddw dst value) fits = (record { opcode = lit< tt; dst = lit< tt; src = lit< tt; offset = none16; immediate = sfits_to_z {w = w32} (record { fits = shr_below value 32 32 fits }) }, tt)
 more_fit (Ldmap dst map) fits = (record { opcode = lit< tt; dst = lit< tt; src = lit< tt; offset = none16; immediate = none32 }, tt)
+more_fit (Ldval dst map offset) fits = (record { opcode = lit< tt; dst = lit< tt; src = lit< tt; offset = none16; immediate = sfits_to_z {w = w32} (record { fits = fits.1 }) }, tt)
 more_fit insn fits = tt
 
 all_slots : (xs ys : List Slot) → AllByRecursion SlotFits xs → AllByRecursion SlotFits ys → AllByRecursion SlotFits (xs ++ ys)

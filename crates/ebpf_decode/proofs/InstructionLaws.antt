@@ -32,7 +32,8 @@ use Rattle.ebpf_decode.specs.declared.wide.WideHead.{WideHead}
 use Rattle.ebpf_decode.specs.declared.wide.SlotReading.{SlotReading}
 use Rattle.ebpf_decode.specs.declared.wide.SlotReading.TheVariants.{Whole, Head}
 use Rattle.ebpf_decode.specs.declared.insn.Insn.{Insn}
-use Rattle.ebpf_decode.specs.declared.insn.Insn.TheVariants.{Alu, Neg, Movsx, Movsx32, End, Ja, Ja32, JumpIf, Ldx, Ldxs, St, Stx, AtomicUpdate, Lddw, Ldmap, CallHelper, Exit}
+use Rattle.ebpf_decode.specs.declared.insn.Insn.TheVariants.{Alu, Neg, Movsx, Movsx32, End, Ja, Ja32, JumpIf, Ldx, Ldxs, St, Stx, AtomicUpdate, Lddw, Ldmap, Ldval, CallHelper, Exit}
+use Rattle.ebpf_decode.specs.declared.version.Version.{Version}
 use Rattle.ebpf_decode.specs.SlotForm.{same_slot}
 use Rattle.isa.specs.InstructionCodes.{register_number}
 use Rattle.ebpf_decode.specs.InstructionEncoding.{slot_of, more_slots_of}
@@ -157,28 +158,28 @@ begun_is_not_whole (Ok read) insn e = cc
 begun_is_not_whole (Err fault) insn e = cc
 
 -- an instruction that ends with this slot is the one that the slot encodes
-pub instruction_reads : (c : Class) (s : Slot) (insn : Insn) → reading_in c s ≡ Ok (Whole insn) → (s ≡ slot_of insn) × (more_slots_of insn ≡ [])
+pub instruction_reads : (version : Version) (c : Class) (s : Slot) (insn : Insn) → reading_in version c s ≡ Ok (Whole insn) → (s ≡ slot_of insn) × (more_slots_of insn ≡ [])
 unfolding reading_in
-instruction_reads classes.Ld s insn e = absurd (begun_is_not_whole (head_at s) insn e)
-instruction_reads classes.Ldx s insn e = (load_reads (mode_of s) s).encoded insn (whole_is _ insn e)
-instruction_reads classes.St s insn e = (store_immediate_reads (mode_of s) s).encoded insn (whole_is _ insn e)
-instruction_reads classes.Stx s insn e = (store_reads (mode_of s) s).encoded insn (whole_is _ insn e)
-instruction_reads classes.Alu s insn e = (arithmetic_reads Bits32 s).encoded insn (whole_is _ insn e)
-instruction_reads classes.Alu64 s insn e = (arithmetic_reads Bits64 s).encoded insn (whole_is _ insn e)
-instruction_reads classes.Jmp s insn e = (jump_reads Bits64 s).encoded insn (whole_is _ insn e)
-instruction_reads classes.Jmp32 s insn e = (jump_reads Bits32 s).encoded insn (whole_is _ insn e)
+instruction_reads version classes.Ld s insn e = absurd (begun_is_not_whole (head_at version s) insn e)
+instruction_reads version classes.Ldx s insn e = (load_reads (mode_of s) s).encoded insn (whole_is _ insn e)
+instruction_reads version classes.St s insn e = (store_immediate_reads (mode_of s) s).encoded insn (whole_is _ insn e)
+instruction_reads version classes.Stx s insn e = (store_reads (mode_of s) s).encoded insn (whole_is _ insn e)
+instruction_reads version classes.Alu s insn e = (arithmetic_reads Bits32 s).encoded insn (whole_is _ insn e)
+instruction_reads version classes.Alu64 s insn e = (arithmetic_reads Bits64 s).encoded insn (whole_is _ insn e)
+instruction_reads version classes.Jmp s insn e = (jump_reads Bits64 s).encoded insn (whole_is _ insn e)
+instruction_reads version classes.Jmp32 s insn e = (jump_reads Bits32 s).encoded insn (whole_is _ insn e)
 
 -- only a slot of class LD begins an instruction of two
-pub head_is_read : (c : Class) (s : Slot) (head : WideHead) → reading_in c s ≡ Ok (Head head) → head_at s ≡ Ok head
+pub head_is_read : (version : Version) (c : Class) (s : Slot) (head : WideHead) → reading_in version c s ≡ Ok (Head head) → head_at version s ≡ Ok head
 unfolding reading_in
-head_is_read classes.Ld s head e = begun_is (head_at s) head e
-head_is_read classes.Ldx s head e = absurd (whole_is_no_head _ head e)
-head_is_read classes.St s head e = absurd (whole_is_no_head _ head e)
-head_is_read classes.Stx s head e = absurd (whole_is_no_head _ head e)
-head_is_read classes.Alu s head e = absurd (whole_is_no_head _ head e)
-head_is_read classes.Alu64 s head e = absurd (whole_is_no_head _ head e)
-head_is_read classes.Jmp s head e = absurd (whole_is_no_head _ head e)
-head_is_read classes.Jmp32 s head e = absurd (whole_is_no_head _ head e)
+head_is_read version classes.Ld s head e = begun_is (head_at version s) head e
+head_is_read version classes.Ldx s head e = absurd (whole_is_no_head _ head e)
+head_is_read version classes.St s head e = absurd (whole_is_no_head _ head e)
+head_is_read version classes.Stx s head e = absurd (whole_is_no_head _ head e)
+head_is_read version classes.Alu s head e = absurd (whole_is_no_head _ head e)
+head_is_read version classes.Alu64 s head e = absurd (whole_is_no_head _ head e)
+head_is_read version classes.Jmp s head e = absurd (whole_is_no_head _ head e)
+head_is_read version classes.Jmp32 s head e = absurd (whole_is_no_head _ head e)
 
 -- ---- what is encoded so is read
 
@@ -193,95 +194,95 @@ exactly_again insn = rw (same_itself (slot_of insn)) refl
 
 -- the first slot is read at once as the whole instruction
 abbrev pub IsReadWhole : Insn → Type 0
-IsReadWhole insn = (place : ℕ) → step_at place None (slot_of insn) ≡ Ok (Whole insn)
+IsReadWhole insn = (version : Version) (place : ℕ) → step_at version place None (slot_of insn) ≡ Ok (Whole insn)
 
 alu_imm_again : (width : Width) (op : AluOp) (dst : Register) (value : ℤ) → IsReadWhole (Alu width op dst (Imm value))
 unfolding step_at reading_in arithmetic_at binary_at alu_op_at source_at slot_of
-alu_imm_again Bits32 Add dst value = λ place. rw (register_again dst, exactly_again (Alu Bits32 Add dst (Imm value))) refl
-alu_imm_again Bits64 Add dst value = λ place. rw (register_again dst, exactly_again (Alu Bits64 Add dst (Imm value))) refl
-alu_imm_again width op dst value = λ place. rw (register_again dst, exactly_again (Alu width op dst (Imm value))) refl
+alu_imm_again Bits32 Add dst value = λ version place. rw (register_again dst, exactly_again (Alu Bits32 Add dst (Imm value))) refl
+alu_imm_again Bits64 Add dst value = λ version place. rw (register_again dst, exactly_again (Alu Bits64 Add dst (Imm value))) refl
+alu_imm_again width op dst value = λ version place. rw (register_again dst, exactly_again (Alu width op dst (Imm value))) refl
 
 alu_reg_again : (width : Width) (op : AluOp) (dst src : Register) → IsReadWhole (Alu width op dst (Reg src))
 unfolding step_at reading_in arithmetic_at binary_at alu_op_at source_at slot_of
-alu_reg_again Bits32 Add dst src = λ place. rw (register_again dst, register_again src, exactly_again (Alu Bits32 Add dst (Reg src))) refl
-alu_reg_again Bits64 Add dst src = λ place. rw (register_again dst, register_again src, exactly_again (Alu Bits64 Add dst (Reg src))) refl
-alu_reg_again width op dst src = λ place. rw (register_again dst, register_again src, exactly_again (Alu width op dst (Reg src))) refl
+alu_reg_again Bits32 Add dst src = λ version place. rw (register_again dst, register_again src, exactly_again (Alu Bits32 Add dst (Reg src))) refl
+alu_reg_again Bits64 Add dst src = λ version place. rw (register_again dst, register_again src, exactly_again (Alu Bits64 Add dst (Reg src))) refl
+alu_reg_again width op dst src = λ version place. rw (register_again dst, register_again src, exactly_again (Alu width op dst (Reg src))) refl
 
 neg_again : (width : Width) (dst : Register) → IsReadWhole (Neg width dst)
 unfolding step_at reading_in arithmetic_at neg_at slot_of
-neg_again Bits32 dst = λ place. rw (register_again dst, exactly_again (Neg Bits32 dst)) refl
-neg_again Bits64 dst = λ place. rw (register_again dst, exactly_again (Neg Bits64 dst)) refl
+neg_again Bits32 dst = λ version place. rw (register_again dst, exactly_again (Neg Bits32 dst)) refl
+neg_again Bits64 dst = λ version place. rw (register_again dst, exactly_again (Neg Bits64 dst)) refl
 
 movsx_again : (extension : Extension) (dst src : Register) → IsReadWhole (Movsx extension dst src)
 unfolding step_at reading_in arithmetic_at movsx_at extension_at slot_of
-movsx_again I8 dst src = λ place. rw (register_again dst, register_again src, exactly_again (Movsx I8 dst src)) refl
-movsx_again extension dst src = λ place. rw (register_again dst, register_again src, exactly_again (Movsx extension dst src)) refl
+movsx_again I8 dst src = λ version place. rw (register_again dst, register_again src, exactly_again (Movsx I8 dst src)) refl
+movsx_again extension dst src = λ version place. rw (register_again dst, register_again src, exactly_again (Movsx extension dst src)) refl
 
 movsx32_again : (extension : ShortExtension) (dst src : Register) → IsReadWhole (Movsx32 extension dst src)
 unfolding step_at reading_in arithmetic_at movsx_at short_extension_at slot_of
-movsx32_again Short8 dst src = λ place. rw (register_again dst, register_again src, exactly_again (Movsx32 Short8 dst src)) refl
-movsx32_again extension dst src = λ place. rw (register_again dst, register_again src, exactly_again (Movsx32 extension dst src)) refl
+movsx32_again Short8 dst src = λ version place. rw (register_again dst, register_again src, exactly_again (Movsx32 Short8 dst src)) refl
+movsx32_again extension dst src = λ version place. rw (register_again dst, register_again src, exactly_again (Movsx32 extension dst src)) refl
 
 end_again : (order : ByteOrder) (width : SwapWidth) (dst : Register) → IsReadWhole (End order width dst)
 unfolding step_at reading_in arithmetic_at end_at order_at swap_width_at slot_of
-end_again ToLittle Swap16 dst = λ place. rw (register_again dst, exactly_again (End ToLittle Swap16 dst)) refl
-end_again ToBig Swap16 dst = λ place. rw (register_again dst, exactly_again (End ToBig Swap16 dst)) refl
-end_again Swapped Swap16 dst = λ place. rw (register_again dst, exactly_again (End Swapped Swap16 dst)) refl
-end_again order width dst = λ place. rw (register_again dst, exactly_again (End order width dst)) refl
+end_again ToLittle Swap16 dst = λ version place. rw (register_again dst, exactly_again (End ToLittle Swap16 dst)) refl
+end_again ToBig Swap16 dst = λ version place. rw (register_again dst, exactly_again (End ToBig Swap16 dst)) refl
+end_again Swapped Swap16 dst = λ version place. rw (register_again dst, exactly_again (End Swapped Swap16 dst)) refl
+end_again order width dst = λ version place. rw (register_again dst, exactly_again (End order width dst)) refl
 
 ja_again : (distance : ℤ) → IsReadWhole (Ja distance)
 unfolding step_at reading_in jump_at slot_of
-ja_again distance = λ place. rw (exactly_again (Ja distance)) refl
+ja_again distance = λ version place. rw (exactly_again (Ja distance)) refl
 
 ja32_again : (distance : ℤ) → IsReadWhole (Ja32 distance)
 unfolding step_at reading_in jump_at slot_of
-ja32_again distance = λ place. rw (exactly_again (Ja32 distance)) refl
+ja32_again distance = λ version place. rw (exactly_again (Ja32 distance)) refl
 
 jump_imm_again : (width : Width) (test : Test) (dst : Register) (value distance : ℤ) → IsReadWhole (JumpIf width test dst (Imm value) distance)
 unfolding step_at reading_in jump_at conditional_at test_at source_at slot_of
-jump_imm_again Bits32 Eq dst value distance = λ place. rw (register_again dst, exactly_again (JumpIf Bits32 Eq dst (Imm value) distance)) refl
-jump_imm_again Bits64 Eq dst value distance = λ place. rw (register_again dst, exactly_again (JumpIf Bits64 Eq dst (Imm value) distance)) refl
-jump_imm_again width test dst value distance = λ place. rw (register_again dst, exactly_again (JumpIf width test dst (Imm value) distance)) refl
+jump_imm_again Bits32 Eq dst value distance = λ version place. rw (register_again dst, exactly_again (JumpIf Bits32 Eq dst (Imm value) distance)) refl
+jump_imm_again Bits64 Eq dst value distance = λ version place. rw (register_again dst, exactly_again (JumpIf Bits64 Eq dst (Imm value) distance)) refl
+jump_imm_again width test dst value distance = λ version place. rw (register_again dst, exactly_again (JumpIf width test dst (Imm value) distance)) refl
 
 jump_reg_again : (width : Width) (test : Test) (dst src : Register) (distance : ℤ) → IsReadWhole (JumpIf width test dst (Reg src) distance)
 unfolding step_at reading_in jump_at conditional_at test_at source_at slot_of
-jump_reg_again Bits32 Eq dst src distance = λ place. rw (register_again dst, register_again src, exactly_again (JumpIf Bits32 Eq dst (Reg src) distance)) refl
-jump_reg_again Bits64 Eq dst src distance = λ place. rw (register_again dst, register_again src, exactly_again (JumpIf Bits64 Eq dst (Reg src) distance)) refl
-jump_reg_again width test dst src distance = λ place. rw (register_again dst, register_again src, exactly_again (JumpIf width test dst (Reg src) distance)) refl
+jump_reg_again Bits32 Eq dst src distance = λ version place. rw (register_again dst, register_again src, exactly_again (JumpIf Bits32 Eq dst (Reg src) distance)) refl
+jump_reg_again Bits64 Eq dst src distance = λ version place. rw (register_again dst, register_again src, exactly_again (JumpIf Bits64 Eq dst (Reg src) distance)) refl
+jump_reg_again width test dst src distance = λ version place. rw (register_again dst, register_again src, exactly_again (JumpIf width test dst (Reg src) distance)) refl
 
 ldx_again : (size : Size) (dst src : Register) (offset : ℤ) → IsReadWhole (Ldx size dst src offset)
 unfolding step_at reading_in load_at ldx_at size_at slot_of
-ldx_again U8 dst src offset = λ place. rw (register_again dst, register_again src, exactly_again (Ldx U8 dst src offset)) refl
-ldx_again size dst src offset = λ place. rw (register_again dst, register_again src, exactly_again (Ldx size dst src offset)) refl
+ldx_again U8 dst src offset = λ version place. rw (register_again dst, register_again src, exactly_again (Ldx U8 dst src offset)) refl
+ldx_again size dst src offset = λ version place. rw (register_again dst, register_again src, exactly_again (Ldx size dst src offset)) refl
 
 ldxs_again : (extension : Extension) (dst src : Register) (offset : ℤ) → IsReadWhole (Ldxs extension dst src offset)
 unfolding step_at reading_in load_at ldxs_at extension_size_at slot_of
-ldxs_again I8 dst src offset = λ place. rw (register_again dst, register_again src, exactly_again (Ldxs I8 dst src offset)) refl
-ldxs_again extension dst src offset = λ place. rw (register_again dst, register_again src, exactly_again (Ldxs extension dst src offset)) refl
+ldxs_again I8 dst src offset = λ version place. rw (register_again dst, register_again src, exactly_again (Ldxs I8 dst src offset)) refl
+ldxs_again extension dst src offset = λ version place. rw (register_again dst, register_again src, exactly_again (Ldxs extension dst src offset)) refl
 
 st_again : (size : Size) (dst : Register) (offset immediate : ℤ) → IsReadWhole (St size dst offset immediate)
 unfolding step_at reading_in store_immediate_at st_at size_at slot_of
-st_again U8 dst offset immediate = λ place. rw (register_again dst, exactly_again (St U8 dst offset immediate)) refl
-st_again size dst offset immediate = λ place. rw (register_again dst, exactly_again (St size dst offset immediate)) refl
+st_again U8 dst offset immediate = λ version place. rw (register_again dst, exactly_again (St U8 dst offset immediate)) refl
+st_again size dst offset immediate = λ version place. rw (register_again dst, exactly_again (St size dst offset immediate)) refl
 
 stx_again : (size : Size) (dst src : Register) (offset : ℤ) → IsReadWhole (Stx size dst src offset)
 unfolding step_at reading_in store_at stx_at size_at slot_of
-stx_again U8 dst src offset = λ place. rw (register_again dst, register_again src, exactly_again (Stx U8 dst src offset)) refl
-stx_again size dst src offset = λ place. rw (register_again dst, register_again src, exactly_again (Stx size dst src offset)) refl
+stx_again U8 dst src offset = λ version place. rw (register_again dst, register_again src, exactly_again (Stx U8 dst src offset)) refl
+stx_again size dst src offset = λ version place. rw (register_again dst, register_again src, exactly_again (Stx size dst src offset)) refl
 
 atomic_again : (width : Width) (op : AtomicOp) (dst src : Register) (offset : ℤ) → IsReadWhole (AtomicUpdate width op dst src offset)
 unfolding step_at reading_in store_at atomic_at width_at atomic_op_at slot_of
-atomic_again Bits32 AtomicAdd dst src offset = λ place. rw (register_again dst, register_again src, exactly_again (AtomicUpdate Bits32 AtomicAdd dst src offset)) refl
-atomic_again Bits64 AtomicAdd dst src offset = λ place. rw (register_again dst, register_again src, exactly_again (AtomicUpdate Bits64 AtomicAdd dst src offset)) refl
-atomic_again width op dst src offset = λ place. rw (register_again dst, register_again src, exactly_again (AtomicUpdate width op dst src offset)) refl
+atomic_again Bits32 AtomicAdd dst src offset = λ version place. rw (register_again dst, register_again src, exactly_again (AtomicUpdate Bits32 AtomicAdd dst src offset)) refl
+atomic_again Bits64 AtomicAdd dst src offset = λ version place. rw (register_again dst, register_again src, exactly_again (AtomicUpdate Bits64 AtomicAdd dst src offset)) refl
+atomic_again width op dst src offset = λ version place. rw (register_again dst, register_again src, exactly_again (AtomicUpdate width op dst src offset)) refl
 
 call_again : (helper : ℤ) → IsReadWhole (CallHelper helper)
 unfolding step_at reading_in jump_at call_at slot_of
-call_again helper = λ place. rw (exactly_again (CallHelper helper)) refl
+call_again helper = λ version place. rw (exactly_again (CallHelper helper)) refl
 
 exit_again : IsReadWhole Exit
 unfolding step_at reading_in jump_at slot_of
-exit_again = λ place. rw (exactly_again Exit) refl
+exit_again = λ version place. rw (exactly_again Exit) refl
 
 pub whole_again : (insn : Insn) → more_slots_of insn ≡ [] → IsReadWhole insn
 unfolding more_slots_of
@@ -304,3 +305,4 @@ whole_again (CallHelper helper) none = call_again helper
 whole_again Exit none = exit_again
 whole_again (Lddw dst value) none = absurd cc
 whole_again (Ldmap dst map) none = absurd cc
+whole_again (Ldval dst map offset) none = absurd cc

@@ -8,3 +8,4 @@ pub mod CodeLaws
 pub mod MapLaws
 pub mod ImageLaws
 pub mod PartLaws
+pub mod ServedLaws

@@ -8,6 +8,7 @@ use Rattle.ebpf_decode.specs.declared.map.MapDef.{MapDef}
 use Rattle.ebpf_decode.specs.declared.insn.Insn.{Insn}
 use Rattle.ebpf_decode.specs.declared.wide.WideHead.{WideHead}
 use Rattle.ebpf_decode.specs.declared.wide.SlotReading.{SlotReading}
+use Rattle.ebpf_decode.specs.declared.version.Version.{Version}
 use Rattle.ebpf_decode.specs.SlotForm.{slot_at, slots_at}
 use Rattle.ebpf_decode.specs.InstructionReading.{◌>>=◌, step_at, code_from, pending_of, finished_by}
 use Rattle.ebpf_decode.specs.MapForm.{map_at}
@@ -23,27 +24,27 @@ regroup : (front : List MapDef) (m : MapDef) (read : Result (List MapDef × List
 regroup front m (Ok x) = ap (λ (ms : List MapDef). Ok (ms, x.1)) (simp append_assoc)
 regroup front m (Err f) = refl
 
-pub map_more : (front : List MapDef) (count i : ℕ) (bytes : List ℕ) (m : MapDef) (total : Result (List MapDef × List ℕ) DecodeFault) → i < count → map_at bytes ≡ Some m
-    → with_front front (maps_at i (count - i) bytes) ≡ total → with_front (front ++ m ∷ []) (maps_at (i + 1) (count - (i + 1)) (drop 16 bytes)) ≡ total
+pub map_more : (version : Version) (front : List MapDef) (count i : ℕ) (bytes : List ℕ) (m : MapDef) (total : Result (List MapDef × List ℕ) DecodeFault) → i < count → map_at version bytes ≡ Some m
+    → with_front front (maps_at version i (count - i) bytes) ≡ total → with_front (front ++ m ∷ []) (maps_at version (i + 1) (count - (i + 1)) (drop 16 bytes)) ≡ total
 unfolding maps_at
-map_more front count i bytes m total lt found so_far =
+map_more version front count i bytes m total lt found so_far =
     let k : count - i ≡ suc (count - (i + 1)) = omega arith in
-    let one : with_front front (maps_at i (count - i) bytes) ≡ with_front (front ++ m ∷ []) (maps_at (i + 1) (count - (i + 1)) (drop 16 bytes)) = rw (k, found) (regroup front m (maps_at (i + 1) (count - (i + 1)) (drop 16 bytes))) in
+    let one : with_front front (maps_at version i (count - i) bytes) ≡ with_front (front ++ m ∷ []) (maps_at version (i + 1) (count - (i + 1)) (drop 16 bytes)) = rw (k, found) (regroup front m (maps_at version (i + 1) (count - (i + 1)) (drop 16 bytes))) in
     sym one ∙ so_far
 
-pub map_refused : (front : List MapDef) (count i : ℕ) (bytes : List ℕ) (total : Result (List MapDef × List ℕ) DecodeFault) → i < count → map_at bytes ≡ None
-    → with_front front (maps_at i (count - i) bytes) ≡ total → total ≡ Err (BadMap i)
+pub map_refused : (version : Version) (front : List MapDef) (count i : ℕ) (bytes : List ℕ) (total : Result (List MapDef × List ℕ) DecodeFault) → i < count → map_at version bytes ≡ None
+    → with_front front (maps_at version i (count - i) bytes) ≡ total → total ≡ Err (BadMap i)
 unfolding maps_at
-map_refused front count i bytes total lt none so_far =
+map_refused version front count i bytes total lt none so_far =
     let k : count - i ≡ suc (count - (i + 1)) = omega arith in
-    let one : with_front front (maps_at i (count - i) bytes) ≡ Err (BadMap i) = rw (k, none) refl in
+    let one : with_front front (maps_at version i (count - i) bytes) ≡ Err (BadMap i) = rw (k, none) refl in
     sym so_far ∙ one
 
-pub maps_done : (front : List MapDef) (count i : ℕ) (bytes : List ℕ) (total : Result (List MapDef × List ℕ) DecodeFault) → count ≤ i → with_front front (maps_at i (count - i) bytes) ≡ total → total ≡ Ok (front, bytes)
+pub maps_done : (version : Version) (front : List MapDef) (count i : ℕ) (bytes : List ℕ) (total : Result (List MapDef × List ℕ) DecodeFault) → count ≤ i → with_front front (maps_at version i (count - i) bytes) ≡ total → total ≡ Ok (front, bytes)
 unfolding maps_at
-maps_done front count i bytes total le so_far =
+maps_done version front count i bytes total le so_far =
     let k : count - i ≡ 0 = omega arith in
-    let one : with_front front (maps_at i (count - i) bytes) ≡ Ok (front, bytes) = rw k (ap (λ (ms : List MapDef). Ok (ms, bytes)) (append-nil front)) in
+    let one : with_front front (maps_at version i (count - i) bytes) ≡ Ok (front, bytes) = rw k (ap (λ (ms : List MapDef). Ok (ms, bytes)) (append-nil front)) in
     sym so_far ∙ one
 
 -- ---- slots
@@ -55,36 +56,36 @@ regroup_code : (front new : List Insn) (read : Result (List Insn) DecodeFault) �
 regroup_code front new (Ok x) = ap (λ (c : List Insn). Ok c) (simp append_assoc)
 regroup_code front new (Err f) = refl
 
-code_step : (place : ℕ) (pending : Option WideHead) (n : ℕ) (bytes : List ℕ) → code_from place pending (slots_at (suc n) bytes) ≡ (step_at place pending (slot_at bytes) >>= λ reading. code_from (place + 1) (pending_of reading) (slots_at n (drop 8 bytes)) >>= λ others. Ok (finished_by reading ++ others))
+code_step : (version : Version) (place : ℕ) (pending : Option WideHead) (n : ℕ) (bytes : List ℕ) → code_from version place pending (slots_at (suc n) bytes) ≡ (step_at version place pending (slot_at bytes) >>= λ reading. code_from version (place + 1) (pending_of reading) (slots_at n (drop 8 bytes)) >>= λ others. Ok (finished_by reading ++ others))
 unfolding slots_at code_from
-code_step place None n bytes = refl
-code_step place (Some head) n bytes = refl
+code_step version place None n bytes = refl
+code_step version place (Some head) n bytes = refl
 
-pub slot_more : (front : List Insn) (pending : Option WideHead) (count i : ℕ) (bytes : List ℕ) (reading : SlotReading) (total : Result (List Insn) DecodeFault) → i < count → step_at i pending (slot_at bytes) ≡ Ok reading
-    → in_front front (code_from i pending (slots_at (count - i) bytes)) ≡ total → in_front (front ++ finished_by reading) (code_from (i + 1) (pending_of reading) (slots_at (count - (i + 1)) (drop 8 bytes))) ≡ total
-slot_more front pending count i bytes reading total lt found so_far =
+pub slot_more : (version : Version) (front : List Insn) (pending : Option WideHead) (count i : ℕ) (bytes : List ℕ) (reading : SlotReading) (total : Result (List Insn) DecodeFault) → i < count → step_at version i pending (slot_at bytes) ≡ Ok reading
+    → in_front front (code_from version i pending (slots_at (count - i) bytes)) ≡ total → in_front (front ++ finished_by reading) (code_from version (i + 1) (pending_of reading) (slots_at (count - (i + 1)) (drop 8 bytes))) ≡ total
+slot_more version front pending count i bytes reading total lt found so_far =
     let k : count - i ≡ suc (count - (i + 1)) = omega arith in
-    let one : in_front front (code_from i pending (slots_at (count - i) bytes)) ≡ in_front (front ++ finished_by reading) (code_from (i + 1) (pending_of reading) (slots_at (count - (i + 1)) (drop 8 bytes))) = rw (k, code_step i pending (count - (i + 1)) bytes, found) (regroup_code front (finished_by reading) (code_from (i + 1) (pending_of reading) (slots_at (count - (i + 1)) (drop 8 bytes)))) in
+    let one : in_front front (code_from version i pending (slots_at (count - i) bytes)) ≡ in_front (front ++ finished_by reading) (code_from version (i + 1) (pending_of reading) (slots_at (count - (i + 1)) (drop 8 bytes))) = rw (k, code_step version i pending (count - (i + 1)) bytes, found) (regroup_code front (finished_by reading) (code_from version (i + 1) (pending_of reading) (slots_at (count - (i + 1)) (drop 8 bytes)))) in
     sym one ∙ so_far
 
-pub slot_refused : (front : List Insn) (pending : Option WideHead) (count i : ℕ) (bytes : List ℕ) (fault : DecodeFault) (total : Result (List Insn) DecodeFault) → i < count → step_at i pending (slot_at bytes) ≡ Err fault
-    → in_front front (code_from i pending (slots_at (count - i) bytes)) ≡ total → total ≡ Err fault
-slot_refused front pending count i bytes fault total lt found so_far =
+pub slot_refused : (version : Version) (front : List Insn) (pending : Option WideHead) (count i : ℕ) (bytes : List ℕ) (fault : DecodeFault) (total : Result (List Insn) DecodeFault) → i < count → step_at version i pending (slot_at bytes) ≡ Err fault
+    → in_front front (code_from version i pending (slots_at (count - i) bytes)) ≡ total → total ≡ Err fault
+slot_refused version front pending count i bytes fault total lt found so_far =
     let k : count - i ≡ suc (count - (i + 1)) = omega arith in
-    let one : in_front front (code_from i pending (slots_at (count - i) bytes)) ≡ Err fault = rw (k, code_step i pending (count - (i + 1)) bytes, found) refl in
+    let one : in_front front (code_from version i pending (slots_at (count - i) bytes)) ≡ Err fault = rw (k, code_step version i pending (count - (i + 1)) bytes, found) refl in
     sym so_far ∙ one
 
 -- the slots are read, and no wide instruction waits for its second
-pub slots_done : (front : List Insn) (count i : ℕ) (bytes : List ℕ) (total : Result (List Insn) DecodeFault) → count ≤ i → in_front front (code_from i None (slots_at (count - i) bytes)) ≡ total → total ≡ Ok front
+pub slots_done : (version : Version) (front : List Insn) (count i : ℕ) (bytes : List ℕ) (total : Result (List Insn) DecodeFault) → count ≤ i → in_front front (code_from version i None (slots_at (count - i) bytes)) ≡ total → total ≡ Ok front
 unfolding slots_at code_from
-slots_done front count i bytes total le so_far =
+slots_done version front count i bytes total le so_far =
     let k : count - i ≡ 0 = omega arith in
-    let one : in_front front (code_from i None (slots_at (count - i) bytes)) ≡ Ok front = rw k (ap (λ (c : List Insn). Ok c) (append-nil front)) in
+    let one : in_front front (code_from version i None (slots_at (count - i) bytes)) ≡ Ok front = rw k (ap (λ (c : List Insn). Ok c) (append-nil front)) in
     sym so_far ∙ one
 
-pub slots_cut : (front : List Insn) (head : WideHead) (count i : ℕ) (bytes : List ℕ) (total : Result (List Insn) DecodeFault) → count ≤ i → in_front front (code_from i (Some head) (slots_at (count - i) bytes)) ≡ total → total ≡ Err (faults.WideCut (i - 1))
+pub slots_cut : (version : Version) (front : List Insn) (head : WideHead) (count i : ℕ) (bytes : List ℕ) (total : Result (List Insn) DecodeFault) → count ≤ i → in_front front (code_from version i (Some head) (slots_at (count - i) bytes)) ≡ total → total ≡ Err (faults.WideCut (i - 1))
 unfolding slots_at code_from
-slots_cut front head count i bytes total le so_far =
+slots_cut version front head count i bytes total le so_far =
     let k : count - i ≡ 0 = omega arith in
-    let one : in_front front (code_from i (Some head) (slots_at (count - i) bytes)) ≡ Err (faults.WideCut (i - 1)) = rw k refl in
+    let one : in_front front (code_from version i (Some head) (slots_at (count - i) bytes)) ≡ Err (faults.WideCut (i - 1)) = rw k refl in
     sym so_far ∙ one

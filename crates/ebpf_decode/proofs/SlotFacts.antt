@@ -6,7 +6,7 @@ use Rattle.isa.specs.declared.operation.Source.{Source}
 use Rattle.isa.specs.declared.operation.Source.TheVariants.{Imm, Reg}
 use Rattle.ebpf_decode.specs.declared.slot.Slot.{Slot}
 use Rattle.ebpf_decode.specs.declared.insn.Insn.{Insn}
-use Rattle.ebpf_decode.specs.declared.insn.Insn.TheVariants.{Alu, Neg, Movsx, Movsx32, End, Ja, Ja32, JumpIf, Ldx, Ldxs, St, Stx, AtomicUpdate, Lddw, Ldmap, CallHelper, Exit}
+use Rattle.ebpf_decode.specs.declared.insn.Insn.TheVariants.{Alu, Neg, Movsx, Movsx32, End, Ja, Ja32, JumpIf, Ldx, Ldxs, St, Stx, AtomicUpdate, Lddw, Ldmap, Ldval, CallHelper, Exit}
 use Rattle.isa.specs.InstructionCodes.{register_number}
 use Rattle.ebpf_decode.specs.InstructionEncoding.{slot_of, more_slots_of, source_register}
 
@@ -41,6 +41,7 @@ slot_small (Stx size dst src offset) = (register_small dst, register_small src)
 slot_small (AtomicUpdate width op dst src offset) = (register_small dst, register_small src)
 slot_small (Lddw dst value) = (register_small dst, lit< tt)
 slot_small (Ldmap dst map) = (register_small dst, lit< tt)
+slot_small (Ldval dst map offset) = (register_small dst, lit< tt)
 slot_small (CallHelper helper) = (lit< tt, lit< tt)
 slot_small Exit = (lit< tt, lit< tt)
 
@@ -51,4 +52,5 @@ pub more_small : (insn : Insn) (s : Slot) → more_slots_of insn ≡ s ∷ [] �
 unfolding more_slots_of
 more_small (Lddw dst value) s e = subst IsSmall (same_head _ s e) (lit< tt, lit< tt)
 more_small (Ldmap dst map) s e = subst IsSmall (same_head _ s e) (lit< tt, lit< tt)
+more_small (Ldval dst map offset) s e = subst IsSmall (same_head _ s e) (lit< tt, lit< tt)
 more_small insn s e = absurd cc

@@ -1,6 +1,6 @@
 -- The two slots of a wide instruction.
 use Rattle.std.proofs.Common.{◌≡◌, ℕ, ◌+◌, ◌*◌, ◌/◌, ◌%◌, ◌^◌, ◌<◌, Bool, true, false, cond, [], ◌∷◌, Result, Ok, Err, None, Some, refl, sym, ap, ◌∙◌, ℤ, pos, arith, lit<, w32}
-use Rattle.std.specs.Prelude.{FitsSigned}
+use Rattle.std.specs.Prelude.{FitsSigned, IsTrue}
 use Rattle.std.specs.Int.{cast_signed, cast_unsigned}
 use Rattle.std.proofs.Math.Facts.{Fits-of_z}
 use Rattle.std.proofs.lemmas.Int.{of_z-to_z, to_z-of_z}
@@ -8,79 +8,100 @@ use Rattle.std.proofs.lemmas.Nat.{shr_split, shr_below, mod_below, shr_high, mod
 use Rattle.isa.specs.declared.operation.Register.{Register}
 use Rattle.ebpf_decode.specs.declared.slot.Slot.{Slot}
 use Rattle.ebpf_decode.specs.declared.fault.SlotFault.{SlotFault}
-use Rattle.ebpf_decode.specs.declared.fault.SlotFault.TheVariants.{FieldNotZero}
+use Rattle.ebpf_decode.specs.declared.fault.SlotFault.TheVariants.{FieldNotZero, NotInProfile}
 use Rattle.ebpf_decode.specs.declared.wide.WideHead.{WideHead}
-use Rattle.ebpf_decode.specs.declared.wide.WideHead.TheVariants.{Number, Map}
+use Rattle.ebpf_decode.specs.declared.wide.WideHead.TheVariants.{Number, Map, Value}
 use Rattle.ebpf_decode.specs.declared.wide.SlotReading.TheVariants.{Whole, Head}
 use Rattle.ebpf_decode.specs.declared.insn.Insn.{Insn}
-use Rattle.ebpf_decode.specs.declared.insn.Insn.TheVariants.{Lddw, Ldmap}
+use Rattle.ebpf_decode.specs.declared.insn.Insn.TheVariants.{Lddw, Ldmap, Ldval}
+use Rattle.ebpf_decode.specs.declared.version.Version.{Version}
+use Rattle.ebpf_decode.specs.declared.version.Version.TheVariants.{V1, V2}
+use Rattle.ebpf_decode.specs.Versions.{has_value_addresses, is_in_version}
 use Rattle.ebpf_decode.specs.SlotForm.{same_slot, SlotFits}
 use Rattle.isa.specs.InstructionCodes.{register_number}
 use Rattle.ebpf_decode.specs.InstructionEncoding.{slot, wide_opcode, slot_of, more_slots_of, slots_of_instruction, FieldsFit}
-use Rattle.ebpf_decode.specs.InstructionReading.{◌>>=◌, register_at, head_slot, exact_head, number_head_at, map_head_at, head_at, wide_insn, second_slot, second_at, reading_in, step_at}
+use Rattle.ebpf_decode.specs.InstructionReading.{◌>>=◌, register_at, head_slot, exact_head, number_head_at, map_head_at, value_head_at, head_at, wide_insn, second_slot, second_at, reading_in, step_at}
 use Rattle.ebpf_decode.proofs.SlotLaws.{equal_from_same, same_itself}
 use Rattle.ebpf_decode.proofs.InstructionLaws.{register_again}
 
 -- ---- heads
 
-pub record HeadReads (s : Slot) (outcome : Result WideHead SlotFault) : Type 0 where
-  pub encoded : (head : WideHead) → outcome ≡ Ok head → s ≡ head_slot head
+-- images of this version may have an instruction that begins so
+abbrev pub IsHeadOf : Version → WideHead → Type 0
+IsHeadOf version (Number dst low) = Unit {0}
+IsHeadOf version (Map dst map) = Unit {0}
+IsHeadOf version (Value dst map) = IsTrue (has_value_addresses version)
 
-head_bind : {A : Type 0} (s : Slot) (r : Result A SlotFault) (f : A → Result WideHead SlotFault) → ((x : A) → HeadReads s (f x)) → HeadReads s (r >>= f)
-head_bind s (Ok x) f h = h x
-head_bind s (Err e) f h = record { encoded = λ head eq. absurd cc }
+pub record HeadReads (version : Version) (s : Slot) (outcome : Result WideHead SlotFault) : Type 0 where
+  pub encoded : (head : WideHead) → outcome ≡ Ok head → (s ≡ head_slot head) × IsHeadOf version head
 
-head_if : (s : Slot) (b : Bool) (x y : Result WideHead SlotFault) → HeadReads s x → HeadReads s y → HeadReads s (cond b x y)
-head_if s true x y p q = p
-head_if s false x y p q = q
+head_bind : {A : Type 0} (version : Version) (s : Slot) (r : Result A SlotFault) (f : A → Result WideHead SlotFault) → ((x : A) → HeadReads version s (f x)) → HeadReads version s (r >>= f)
+head_bind version s (Ok x) f h = h x
+head_bind version s (Err e) f h = record { encoded = λ head eq. absurd cc }
 
-head_err : (s : Slot) (e : SlotFault) → HeadReads s (Err e)
-head_err s e = record { encoded = λ head eq. absurd cc }
+head_if : (version : Version) (s : Slot) (b : Bool) (x y : Result WideHead SlotFault) → HeadReads version s x → HeadReads version s y → HeadReads version s (cond b x y)
+head_if version s true x y p q = p
+head_if version s false x y p q = q
+
+head_err : (version : Version) (s : Slot) (e : SlotFault) → HeadReads version s (Err e)
+head_err version s e = record { encoded = λ head eq. absurd cc }
 
 abbrev found : WideHead → Result WideHead SlotFault
 found head = Ok head
 
-only_exact_head : (s : Slot) (head other : WideHead) (b : Bool) → same_slot s (head_slot head) ≡ b → cond b (found head) (Err FieldNotZero) ≡ Ok other → s ≡ head_slot other
-only_exact_head s head other true same e = let it : head ≡ other = cc in rw (← it) (equal_from_same s (head_slot head) same)
-only_exact_head s head other false same e = absurd cc
+only_exact_head : (version : Version) (s : Slot) (head other : WideHead) (b : Bool) → IsHeadOf version head → same_slot s (head_slot head) ≡ b → cond b (found head) (Err FieldNotZero) ≡ Ok other → (s ≡ head_slot other) × IsHeadOf version other
+only_exact_head version s head other true its same e = let it : head ≡ other = cc in rw (← it) (equal_from_same s (head_slot head) same, its)
+only_exact_head version s head other false its same e = absurd cc
 
-exact_head_reads : (s : Slot) (head : WideHead) → HeadReads s (exact_head s head)
+exact_head_reads : (version : Version) (s : Slot) (head : WideHead) → IsHeadOf version head → HeadReads version s (exact_head s head)
 unfolding exact_head
-exact_head_reads s head = record { encoded = λ other e. only_exact_head s head other (same_slot s (head_slot head)) refl e }
+exact_head_reads version s head its = record { encoded = λ other e. only_exact_head version s head other (same_slot s (head_slot head)) its refl e }
 
-number_head_reads : (s : Slot) → HeadReads s (number_head_at s)
+number_head_reads : (version : Version) (s : Slot) → HeadReads version s (number_head_at s)
 unfolding number_head_at
-number_head_reads s = head_bind s (register_at s.dst) _ (λ dst. exact_head_reads s (Number dst s.immediate))
+number_head_reads version s = head_bind version s (register_at s.dst) _ (λ dst. exact_head_reads version s (Number dst s.immediate) tt)
 
-map_head_reads : (s : Slot) → HeadReads s (map_head_at s)
+map_head_reads : (version : Version) (s : Slot) → HeadReads version s (map_head_at s)
 unfolding map_head_at
-map_head_reads s = head_bind s (register_at s.dst) _ (λ dst. exact_head_reads s (Map dst s.immediate))
+map_head_reads version s = head_bind version s (register_at s.dst) _ (λ dst. exact_head_reads version s (Map dst s.immediate) tt)
 
-pub head_reads : (s : Slot) → HeadReads s (head_at s)
+value_head_reads : (version : Version) (s : Slot) → HeadReads version s (value_head_at version s)
+unfolding value_head_at
+value_head_reads V1 s = head_err V1 s NotInProfile
+value_head_reads V2 s = head_bind V2 s (register_at s.dst) _ (λ dst. exact_head_reads V2 s (Value dst s.immediate) refl)
+
+pub head_reads : (version : Version) (s : Slot) → HeadReads version s (head_at version s)
 unfolding head_at
-head_reads s = head_if s _ _ _ (head_if s _ _ _ (number_head_reads s) (head_if s _ _ _ (map_head_reads s) (head_if s _ _ _ (head_err s _) (head_err s _)))) (head_if s _ _ _ (head_err s _) (head_err s _))
+head_reads version s = head_if version s _ _ _ (head_if version s _ _ _ (number_head_reads version s) (head_if version s _ _ _ (map_head_reads version s) (head_if version s _ _ _ (value_head_reads version s) (head_if version s _ _ _ (head_err version s _) (head_err version s _))))) (head_if version s _ _ _ (head_err version s _) (head_err version s _))
 
 -- what a head holds fits its slot
 unfoldable pub HeadFits : WideHead → Type 0
 HeadFits (Number dst low) = FitsSigned w32 low
 HeadFits (Map dst map) = FitsSigned w32 map
+HeadFits (Value dst map) = FitsSigned w32 map
 
 pub head_fits : (head : WideHead) → SlotFits (head_slot head) → HeadFits head
 unfolding head_slot HeadFits
 head_fits (Number dst low) fits = fits.immediate
 head_fits (Map dst map) fits = fits.immediate
+head_fits (Value dst map) fits = fits.immediate
 
 exact_head_again : (head : WideHead) → exact_head (head_slot head) head ≡ Ok head
 unfolding exact_head
 exact_head_again head = rw (same_itself (head_slot head)) refl
 
-pub number_head_again : (place : ℕ) (dst : Register) (value : ℕ) → step_at place None (slot_of (Lddw dst value)) ≡ Ok (Head (Number dst (cast_signed w32 (value % 2 ^ 32))))
+pub number_head_again : (version : Version) (place : ℕ) (dst : Register) (value : ℕ) → step_at version place None (slot_of (Lddw dst value)) ≡ Ok (Head (Number dst (cast_signed w32 (value % 2 ^ 32))))
 unfolding step_at reading_in head_at number_head_at slot_of head_slot
-number_head_again place dst value = rw (register_again dst, exact_head_again (Number dst (cast_signed w32 (value % 2 ^ 32)))) refl
+number_head_again version place dst value = rw (register_again dst, exact_head_again (Number dst (cast_signed w32 (value % 2 ^ 32)))) refl
 
-pub map_head_again : (place : ℕ) (dst : Register) (map : ℤ) → step_at place None (slot_of (Ldmap dst map)) ≡ Ok (Head (Map dst map))
+pub map_head_again : (version : Version) (place : ℕ) (dst : Register) (map : ℤ) → step_at version place None (slot_of (Ldmap dst map)) ≡ Ok (Head (Map dst map))
 unfolding step_at reading_in head_at map_head_at slot_of head_slot
-map_head_again place dst map = rw (register_again dst, exact_head_again (Map dst map)) refl
+map_head_again version place dst map = rw (register_again dst, exact_head_again (Map dst map)) refl
+
+pub value_head_again : (version : Version) (place : ℕ) (dst : Register) (map : ℤ) (offset : ℕ) → IsTrue (has_value_addresses version) → step_at version place None (slot_of (Ldval dst map offset)) ≡ Ok (Head (Value dst map))
+unfolding step_at reading_in head_at value_head_at slot_of head_slot
+value_head_again V1 place dst map offset has = absurd cc
+value_head_again V2 place dst map offset has = rw (register_again dst, exact_head_again (Value dst map)) refl
 
 -- ---- second slots
 
@@ -90,20 +111,24 @@ second_exact head s e =
     let same : same_slot s (second_slot head s) ≡ true = rw (← e) (same_itself s) in
     rw same refl
 
-second_step : (place : ℕ) (head : WideHead) (s : Slot) → s ≡ second_slot head s → step_at place (Some head) s ≡ Ok (Whole (wide_insn head s))
+second_step : (version : Version) (place : ℕ) (head : WideHead) (s : Slot) → s ≡ second_slot head s → step_at version place (Some head) s ≡ Ok (Whole (wide_insn head s))
 unfolding step_at
-second_step place head s e = rw (second_exact head s e) refl
+second_step version place head s e = rw (second_exact head s e) refl
 
 joined : (value : ℕ) → value < 2 ^ 64 → cast_unsigned w32 (cast_signed w32 (value / 2 ^ 32)) * 2 ^ 32 + cast_unsigned w32 (cast_signed w32 (value % 2 ^ 32)) ≡ value
 joined value lt = rw (of_z-to_z w32 (value / 2 ^ 32) (shr_below value 32 32 lt), of_z-to_z w32 (value % 2 ^ 32) (mod_below value (2 ^ 32) (lit< tt))) (shr_split value 32)
 
-pub number_again : (place : ℕ) (dst : Register) (value : ℕ) → value < 2 ^ 64 → step_at place (Some (Number dst (cast_signed w32 (value % 2 ^ 32)))) (slot 0 0 0 (pos 0) (cast_signed w32 (value / 2 ^ 32))) ≡ Ok (Whole (Lddw dst value))
+pub number_again : (version : Version) (place : ℕ) (dst : Register) (value : ℕ) → value < 2 ^ 64 → step_at version place (Some (Number dst (cast_signed w32 (value % 2 ^ 32)))) (slot 0 0 0 (pos 0) (cast_signed w32 (value / 2 ^ 32))) ≡ Ok (Whole (Lddw dst value))
 unfolding second_slot wide_insn
-number_again place dst value lt = second_step place (Number dst (cast_signed w32 (value % 2 ^ 32))) (slot 0 0 0 (pos 0) (cast_signed w32 (value / 2 ^ 32))) refl ∙ ap (λ (v : ℕ). Ok (Whole (Lddw dst v))) (joined value lt)
+number_again version place dst value lt = second_step version place (Number dst (cast_signed w32 (value % 2 ^ 32))) (slot 0 0 0 (pos 0) (cast_signed w32 (value / 2 ^ 32))) refl ∙ ap (λ (v : ℕ). Ok (Whole (Lddw dst v))) (joined value lt)
 
-pub map_again : (place : ℕ) (dst : Register) (map : ℤ) → step_at place (Some (Map dst map)) (slot 0 0 0 (pos 0) (pos 0)) ≡ Ok (Whole (Ldmap dst map))
+pub map_again : (version : Version) (place : ℕ) (dst : Register) (map : ℤ) → step_at version place (Some (Map dst map)) (slot 0 0 0 (pos 0) (pos 0)) ≡ Ok (Whole (Ldmap dst map))
 unfolding second_slot wide_insn
-map_again place dst map = second_step place (Map dst map) (slot 0 0 0 (pos 0) (pos 0)) refl
+map_again version place dst map = second_step version place (Map dst map) (slot 0 0 0 (pos 0) (pos 0)) refl
+
+pub value_again : (version : Version) (place : ℕ) (dst : Register) (map : ℤ) (offset : ℕ) → offset < 2 ^ 32 → step_at version place (Some (Value dst map)) (slot 0 0 0 (pos 0) (cast_signed w32 offset)) ≡ Ok (Whole (Ldval dst map offset))
+unfolding second_slot wide_insn
+value_again version place dst map offset lt = second_step version place (Value dst map) (slot 0 0 0 (pos 0) (cast_signed w32 offset)) refl ∙ ap (λ (n : ℕ). Ok (Whole (Ldval dst map n))) (of_z-to_z w32 offset lt)
 
 abbrev made : Insn → Result Insn SlotFault
 made insn = Ok insn
@@ -132,8 +157,16 @@ pub wide_slots : (head : WideHead) (s : Slot) → HeadFits head → SlotFits s �
 unfolding head_slot HeadFits second_slot wide_insn slot_of more_slots_of
 wide_slots (Number dst low) s head fits e = two_slots _ _ _ _ (ap (slot wide_opcode (register_number dst) 0 (pos 0)) (sym (low_back s.immediate low head))) (e ∙ ap (slot 0 0 0 (pos 0)) (sym (high_back s.immediate low fits.immediate head)))
 wide_slots (Map dst map) s head fits e = two_slots _ _ _ _ refl e
+wide_slots (Value dst map) s head fits e = two_slots _ _ _ _ refl (e ∙ ap (slot 0 0 0 (pos 0)) (sym (to_z-of_z w32 s.immediate fits.immediate)))
 
 pub wide_fits : (head : WideHead) (s : Slot) → HeadFits head → SlotFits s → FieldsFit (wide_insn head s)
 unfolding HeadFits wide_insn FieldsFit
 wide_fits (Number dst low) s head fits = omega (arith, bits_fit low head, bits_fit s.immediate fits.immediate)
 wide_fits (Map dst map) s head fits = head
+wide_fits (Value dst map) s head fits = (head, bits_fit s.immediate fits.immediate)
+
+pub wide_in_version : (version : Version) (head : WideHead) (s : Slot) → IsHeadOf version head → IsTrue (is_in_version version (wide_insn head s))
+unfolding wide_insn is_in_version
+wide_in_version version (Number dst low) s its = refl
+wide_in_version version (Map dst map) s its = refl
+wide_in_version version (Value dst map) s its = its

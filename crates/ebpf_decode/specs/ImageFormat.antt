@@ -1,28 +1,31 @@
--- The image format, version 1: the bytes 58 4c 42 50, the version, the number of maps, two zero bytes; sixteen bytes for each
+-- The image format: the bytes 58 4c 42 50, the version (1 or 2), the number of maps, two zero bytes; sixteen bytes for each
 -- map; then the slots to the end. Reading gives the image or the first fault, in the order of the numbers.
-use Rattle.std.specs.Prelude.{◌≡◌, ◌≢◌, ℕ, zero, suc, ◌+◌, ◌*◌, ◌/◌, ◌%◌, Bool, nat_le, nat_lt, ◌==◌, ◌&&◌, ◌||◌, not, List, [], ◌∷◌, ◌++◌, length, drop, slice_index, Option, Some, None, Result, Ok, Err, if◌then◌else◌}
+use Rattle.std.specs.Prelude.{◌≡◌, ◌≢◌, ℕ, zero, suc, ◌+◌, ◌*◌, ◌/◌, ◌%◌, Bool, nat_le, nat_lt, ◌==◌, ◌&&◌, ◌||◌, not, List, [], ◌∷◌, ◌++◌, length, drop, slice_index, Option, Some, None, is_some, unwrap_or, Result, Ok, Err, if◌then◌else◌}
 use Rattle.std.specs.List.{flat_map}
 use Rattle.std.specs.Option.{ok_or}
 use Rattle.ebpf_decode.specs.declared.insn.Insn.{Insn}
 use Rattle.ebpf_decode.specs.declared.map.MapDef.{MapDef}
 use Rattle.ebpf_decode.specs.declared.fault.DecodeFault.{DecodeFault}
 use Rattle.ebpf_decode.specs.declared.fault.DecodeFault.TheVariants.{BadHead, BadMap, Empty, NotWhole, TooLong, UnknownOpcode, NotInProfile, BadRegister, FieldNotZero, WideCut, Memory}
+use Rattle.ebpf_decode.specs.declared.version.Version.{Version}
+use Rattle.ebpf_decode.specs.declared.version.Version.TheVariants.{V1}
+use Rattle.ebpf_decode.specs.Versions.{version_number, version_of, is_in_version}
 use Rattle.ebpf_decode.specs.SlotForm.{slots_at}
-use Rattle.ebpf_decode.specs.InstructionEncoding.{instruction_bytes, total_slots}
+use Rattle.ebpf_decode.specs.InstructionEncoding.{instruction_bytes, slot_count, total_slots}
 use Rattle.ebpf_decode.specs.InstructionReading.{◌>>=◌, code_from}
 use Rattle.ebpf_decode.specs.MapForm.{map_bytes, map_at, is_allowed_map}
 use Rattle.ebpf_decode.specs.ImageContents.{Contents, IsEncodable}
 
 -- the first eight bytes
-abbrev pub head_bytes : ℕ → List ℕ
-head_bytes map_count = 0x58 ∷ 0x4c ∷ 0x42 ∷ 0x50 ∷ 1 ∷ map_count ∷ 0 ∷ 0 ∷ []
+abbrev pub head_bytes : Version → ℕ → List ℕ
+head_bytes version map_count = 0x58 ∷ 0x4c ∷ 0x42 ∷ 0x50 ∷ version_number version ∷ map_count ∷ 0 ∷ 0 ∷ []
 
 abbrev pub image_bytes : Contents → List ℕ
-image_bytes image = head_bytes (length image.maps) ++ flat_map map_bytes image.maps ++ flat_map instruction_bytes image.code
+image_bytes image = head_bytes image.version (length image.maps) ++ flat_map map_bytes image.maps ++ flat_map instruction_bytes image.code
 
 -- the bytes are the encoding of the image
 pub record IsImageEncoding (bytes : List ℕ) (image : Contents) : Type 0 where
-  pub encodable : IsEncodable image.maps image.code
+  pub encodable : IsEncodable image.version image.maps image.code
   pub encoded : bytes ≡ image_bytes image
 
 -- ---- reading
@@ -30,31 +33,35 @@ pub record IsImageEncoding (bytes : List ℕ) (image : Contents) : Type 0 where
 abbrev pub map_count : List ℕ → ℕ
 map_count bytes = slice_index bytes 5
 
+-- a version 1 where there is none
+abbrev pub version_at : List ℕ → Version
+version_at bytes = unwrap_or (version_of (slice_index bytes 4)) V1
+
 -- a whole head and list of maps: magic, version, at most 16 maps, two zeros, and sixteen bytes for each map
 abbrev pub has_head : List ℕ → Bool
-has_head bytes = nat_le 8 (length bytes) && (slice_index bytes 0 == 0x58) && (slice_index bytes 1 == 0x4c) && (slice_index bytes 2 == 0x42) && (slice_index bytes 3 == 0x50) && (slice_index bytes 4 == 1) && nat_le (map_count bytes) 16 && (slice_index bytes 6 == 0) && (slice_index bytes 7 == 0) && nat_le (8 + 16 * map_count bytes) (length bytes)
+has_head bytes = nat_le 8 (length bytes) && (slice_index bytes 0 == 0x58) && (slice_index bytes 1 == 0x4c) && (slice_index bytes 2 == 0x42) && (slice_index bytes 3 == 0x50) && is_some (version_of (slice_index bytes 4)) && nat_le (map_count bytes) 16 && (slice_index bytes 6 == 0) && (slice_index bytes 7 == 0) && nat_le (8 + 16 * map_count bytes) (length bytes)
 
 -- so many maps, the first of this number, and the bytes after them
-unfoldable pub maps_at : ℕ → ℕ → List ℕ → Result (List MapDef × List ℕ) DecodeFault
-maps_at place zero bytes = Ok ([], bytes)
-maps_at place (suc n) bytes = do
-  first ← ok_or (map_at bytes) (BadMap place)
-  others ← maps_at (place + 1) n (drop 16 bytes)
+unfoldable pub maps_at : Version → ℕ → ℕ → List ℕ → Result (List MapDef × List ℕ) DecodeFault
+maps_at version place zero bytes = Ok ([], bytes)
+maps_at version place (suc n) bytes = do
+  first ← ok_or (map_at version bytes) (BadMap place)
+  others ← maps_at version (place + 1) n (drop 16 bytes)
   Ok (first ∷ others.0, others.1)
 
 -- the program, of all the bytes after the maps
-unfoldable pub code_at : List ℕ → Result (List Insn) DecodeFault
-code_at bytes =
+unfoldable pub code_at : Version → List ℕ → Result (List Insn) DecodeFault
+code_at version bytes =
     if length bytes == 0 then Err Empty else
     if not (length bytes % 8 == 0) then Err NotWhole else
-    if nat_lt 4096 (length bytes / 8) then Err TooLong else code_from 0 None (slots_at (length bytes / 8) bytes)
+    if nat_lt 4096 (length bytes / 8) then Err TooLong else code_from version 0 None (slots_at (length bytes / 8) bytes)
 
 unfoldable pub image_at : List ℕ → Result Contents DecodeFault
 image_at bytes =
     if has_head bytes then (do
-      found ← maps_at 0 (map_count bytes) (drop 8 bytes)
-      code ← code_at found.1
-      Ok (record { maps = found.0; code = code })) else Err BadHead
+      found ← maps_at (version_at bytes) 0 (map_count bytes) (drop 8 bytes)
+      code ← code_at (version_at bytes) found.1
+      Ok (record { version = version_at bytes; maps = found.0; code = code })) else Err BadHead
 
 -- a program's size: whole slots, 1 to 4096 of them
 abbrev pub has_code_size : List ℕ → Bool
@@ -79,20 +86,25 @@ first_decode_fault bytes = fault_of (image_at bytes)
 
 -- ---- the first fault of an image that is made of its parts
 
-abbrev pub first_bad_map : ℕ → List MapDef → Option DecodeFault
-first_bad_map place [] = None
-first_bad_map place (m ∷ maps) = if is_allowed_map m then first_bad_map (place + 1) maps else Some (BadMap place)
+abbrev pub first_bad_map : Version → ℕ → List MapDef → Option DecodeFault
+first_bad_map version place [] = None
+first_bad_map version place (m ∷ maps) = if is_allowed_map version m then first_bad_map version (place + 1) maps else Some (BadMap place)
 
 abbrev pub code_fault : List Insn → Option DecodeFault
 code_fault code = if length code == 0 then Some Empty else (if nat_lt 4096 (total_slots code) then Some TooLong else None)
+
+-- the first instruction that images of this version may not have
+abbrev pub version_fault : Version → ℕ → List Insn → Option DecodeFault
+version_fault version slot [] = None
+version_fault version slot (insn ∷ code) = if is_in_version version insn then version_fault version (slot + slot_count insn) code else Some (NotInProfile slot)
 
 abbrev pub or_else : Option DecodeFault → Option DecodeFault → Option DecodeFault
 or_else None second = second
 or_else (Some fault) second = Some fault
 
 -- the fault that the encoding of these maps and instructions has
-unfoldable pub first_part_fault : List MapDef → List Insn → Option DecodeFault
-first_part_fault maps code = if nat_lt 16 (length maps) then Some BadHead else or_else (first_bad_map 0 maps) (code_fault code)
+unfoldable pub first_part_fault : Version → List MapDef → List Insn → Option DecodeFault
+first_part_fault version maps code = if nat_lt 16 (length maps) then Some BadHead else or_else (first_bad_map version 0 maps) (or_else (code_fault code) (version_fault version 0 code))
 
 -- the number that a fault is printed with
 abbrev pub fault_number : DecodeFault → ℕ

@@ -25,11 +25,13 @@ use Rattle.ebpf_decode.specs.declared.fault.SlotFault.TheVariants.{UnknownOpcode
 use Rattle.ebpf_decode.specs.declared.fault.DecodeFault.{DecodeFault}
 use Rattle.ebpf_decode.specs.declared.fault.DecodeFault.TheVariants as faults
 use Rattle.ebpf_decode.specs.declared.wide.WideHead.{WideHead}
-use Rattle.ebpf_decode.specs.declared.wide.WideHead.TheVariants.{Number, Map}
+use Rattle.ebpf_decode.specs.declared.wide.WideHead.TheVariants.{Number, Map, Value}
 use Rattle.ebpf_decode.specs.declared.wide.SlotReading.{SlotReading}
 use Rattle.ebpf_decode.specs.declared.wide.SlotReading.TheVariants.{Whole, Head}
 use Rattle.ebpf_decode.specs.declared.insn.Insn.{Insn}
-use Rattle.ebpf_decode.specs.declared.insn.Insn.TheVariants.{Alu, Neg, Movsx, Movsx32, End, Ja, Ja32, JumpIf, Ldx, Ldxs, St, Stx, AtomicUpdate, Lddw, Ldmap, CallHelper, Exit}
+use Rattle.ebpf_decode.specs.declared.insn.Insn.TheVariants.{Alu, Neg, Movsx, Movsx32, End, Ja, Ja32, JumpIf, Ldx, Ldxs, St, Stx, AtomicUpdate, Lddw, Ldmap, Ldval, CallHelper, Exit}
+use Rattle.ebpf_decode.specs.declared.version.Version.{Version}
+use Rattle.ebpf_decode.specs.declared.version.Version.TheVariants.{V1, V2}
 use Rattle.ebpf_decode.specs.SlotForm.{same_slot}
 use Rattle.isa.specs.declared.operation.Class.{Class}
 use Rattle.isa.specs.declared.operation.Class.TheVariants as classes
@@ -238,6 +240,7 @@ store_at mode s = Err UnknownOpcode
 unfoldable pub head_slot : WideHead → Slot
 head_slot (Number dst low) = slot wide_opcode (register_number dst) 0 (pos 0) low
 head_slot (Map dst map) = slot wide_opcode (register_number dst) 1 (pos 0) map
+head_slot (Value dst map) = slot wide_opcode (register_number dst) 2 (pos 0) map
 
 unfoldable pub exact_head : Slot → WideHead → Result WideHead SlotFault
 exact_head s head = if same_slot s (head_slot head) then Ok head else Err FieldNotZero
@@ -261,12 +264,20 @@ map_head_at s = do
   dst ← register_at s.dst
   exact_head s (Map dst s.immediate)
 
--- class LD: source 0 is a number, 1 a map of the image; 2 to 6 are forms that images may not have
-unfoldable pub head_at : Slot → Result WideHead SlotFault
-head_at s =
+-- in version 2 alone
+unfoldable pub value_head_at : Version → Slot → Result WideHead SlotFault
+value_head_at V1 s = Err NotInProfile
+value_head_at V2 s = do
+  dst ← register_at s.dst
+  exact_head s (Value dst s.immediate)
+
+-- class LD: source 0 is a number, 1 a map of the image, 2 an address in a map's value; 3 to 6 are forms that images may not have
+unfoldable pub head_at : Version → Slot → Result WideHead SlotFault
+head_at version s =
     if s.opcode == wide_opcode then
     (if s.src == 0 then number_head_at s else
     if s.src == 1 then map_head_at s else
+    if s.src == 2 then value_head_at version s else
     if nat_le s.src 6 then Err NotInProfile else Err UnknownOpcode) else
     if is_legacy s then Err NotInProfile else Err UnknownOpcode
 
@@ -274,11 +285,13 @@ head_at s =
 unfoldable pub wide_insn : WideHead → Slot → Insn
 wide_insn (Number dst low) s = Lddw dst (cast_unsigned w32 s.immediate * 2 ^ 32 + cast_unsigned w32 low)
 wide_insn (Map dst map) s = Ldmap dst map
+wide_insn (Value dst map) s = Ldval dst map (cast_unsigned w32 s.immediate)
 
--- the second slot has zeros, but for the upper half of a number
+-- the second slot has zeros, but for the upper half of a number, or an offset in a value
 unfoldable pub second_slot : WideHead → Slot → Slot
 second_slot (Number dst low) s = slot 0 0 0 (pos 0) s.immediate
 second_slot (Map dst map) s = slot 0 0 0 (pos 0) (pos 0)
+second_slot (Value dst map) s = slot 0 0 0 (pos 0) s.immediate
 
 unfoldable pub second_at : WideHead → Slot → Result Insn SlotFault
 second_at head s = if same_slot s (second_slot head s) then Ok (wide_insn head s) else Err FieldNotZero
@@ -296,15 +309,15 @@ begun (Ok head) = Ok (Head head)
 begun (Err fault) = Err fault
 
 -- a slot of this class
-unfoldable pub reading_in : Class → Slot → Result SlotReading SlotFault
-reading_in classes.Ld s = begun (head_at s)
-reading_in classes.Ldx s = whole (load_at (mode_of s) s)
-reading_in classes.St s = whole (store_immediate_at (mode_of s) s)
-reading_in classes.Stx s = whole (store_at (mode_of s) s)
-reading_in classes.Alu s = whole (arithmetic_at Bits32 s)
-reading_in classes.Alu64 s = whole (arithmetic_at Bits64 s)
-reading_in classes.Jmp s = whole (jump_at Bits64 s)
-reading_in classes.Jmp32 s = whole (jump_at Bits32 s)
+unfoldable pub reading_in : Version → Class → Slot → Result SlotReading SlotFault
+reading_in version classes.Ld s = begun (head_at version s)
+reading_in version classes.Ldx s = whole (load_at (mode_of s) s)
+reading_in version classes.St s = whole (store_immediate_at (mode_of s) s)
+reading_in version classes.Stx s = whole (store_at (mode_of s) s)
+reading_in version classes.Alu s = whole (arithmetic_at Bits32 s)
+reading_in version classes.Alu64 s = whole (arithmetic_at Bits64 s)
+reading_in version classes.Jmp s = whole (jump_at Bits64 s)
+reading_in version classes.Jmp32 s = whole (jump_at Bits32 s)
 
 -- ---- all slots
 
@@ -321,9 +334,9 @@ at_slot place (Ok x) = Ok x
 at_slot place (Err fault) = Err (fault_at place fault)
 
 -- what one slot gives, after the head of a wide instruction or nothing; a fault of a wide instruction names its first slot
-unfoldable pub step_at : ℕ → Option WideHead → Slot → Result SlotReading DecodeFault
-step_at place None s = at_slot place (reading_in (class_of s) s)
-step_at place (Some head) s = at_slot (place - 1) (whole (second_at head s))
+unfoldable pub step_at : Version → ℕ → Option WideHead → Slot → Result SlotReading DecodeFault
+step_at version place None s = at_slot place (reading_in version (class_of s) s)
+step_at version place (Some head) s = at_slot (place - 1) (whole (second_at head s))
 
 abbrev pub pending_of : SlotReading → Option WideHead
 pending_of (Whole insn) = None
@@ -334,10 +347,10 @@ finished_by (Whole insn) = insn ∷ []
 finished_by (Head head) = []
 
 -- the instructions of the slots from a place on
-unfoldable pub code_from : ℕ → Option WideHead → List Slot → Result (List Insn) DecodeFault
-code_from place None [] = Ok []
-code_from place (Some head) [] = Err (faults.WideCut (place - 1))
-code_from place pending (s ∷ rest) = do
-  reading ← step_at place pending s
-  others ← code_from (place + 1) (pending_of reading) rest
+unfoldable pub code_from : Version → ℕ → Option WideHead → List Slot → Result (List Insn) DecodeFault
+code_from version place None [] = Ok []
+code_from version place (Some head) [] = Err (faults.WideCut (place - 1))
+code_from version place pending (s ∷ rest) = do
+  reading ← step_at version place pending s
+  others ← code_from version (place + 1) (pending_of reading) rest
   Ok (finished_by reading ++ others)

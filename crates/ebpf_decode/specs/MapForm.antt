@@ -1,7 +1,9 @@
 -- Which maps an image may have, and a map's sixteen bytes: type, key size, value size and most entries, each a little-endian
 -- number of 32 bits.
-use Rattle.std.specs.Prelude.{ℕ, ◌%◌, Bool, true, false, nat_le, ◌==◌, ◌&&◌, List, [], ◌∷◌, ◌++◌, Option, Some, None, if◌then◌else◌, slice_index}
+use Rattle.std.specs.Prelude.{ℕ, ◌%◌, Bool, nat_le, ◌==◌, ◌&&◌, List, [], ◌∷◌, ◌++◌, Option, Some, None, if◌then◌else◌, slice_index}
 use Rattle.std.specs.Int.{w32, to_le_bytes, from_le_bytes}
+use Rattle.ebpf_decode.specs.declared.version.Version.{Version}
+use Rattle.ebpf_decode.specs.Versions.{most_value_bytes}
 use Rattle.ebpf_decode.specs.declared.map.MapKind.{MapKind}
 use Rattle.ebpf_decode.specs.declared.map.MapKind.TheVariants.{Hash, Array, LruHash}
 use Rattle.ebpf_decode.specs.declared.map.MapDef.{MapDef}
@@ -12,27 +14,21 @@ map_type Hash = 1
 map_type Array = 2
 map_type LruHash = 9
 
--- the kinds that images may have as yet
-abbrev pub is_served : MapKind → Bool
-is_served Hash = false
-is_served Array = true
-is_served LruHash = false
-
 -- how many bytes a key may have: four in an array, else 1 to 32
 abbrev pub is_key_size : MapKind → ℕ → Bool
 is_key_size Array size = size == 4
 is_key_size kind size = nat_le 1 size && nat_le size 32
 
--- how many bytes a value may have: 8, 16, .. 64
-abbrev pub is_value_size : ℕ → Bool
-is_value_size size = (size % 8 == 0) && nat_le 8 size && nat_le size 64
+-- how many bytes a value may have: 8, 16, .. 64, in version 2 to 256
+abbrev pub is_value_size : Version → ℕ → Bool
+is_value_size version size = (size % 8 == 0) && nat_le 8 size && nat_le size (most_value_bytes version)
 
 abbrev pub is_entry_count : ℕ → Bool
 is_entry_count count = nat_le 1 count && nat_le count 131072
 
--- an image may have this map
-abbrev pub is_allowed_map : MapDef → Bool
-is_allowed_map m = is_served m.kind && is_key_size m.kind m.key_size && is_value_size m.value_size && is_entry_count m.max_entries
+-- an image of this version may have the map
+abbrev pub is_allowed_map : Version → MapDef → Bool
+is_allowed_map version m = is_key_size m.kind m.key_size && is_value_size version m.value_size && is_entry_count m.max_entries
 
 abbrev pub map_bytes : MapDef → List ℕ
 map_bytes m = to_le_bytes w32 (map_type m.kind) ++ to_le_bytes w32 m.key_size ++ to_le_bytes w32 m.value_size ++ to_le_bytes w32 m.max_entries
@@ -46,16 +42,16 @@ map_kind_at number = if number == 1 then Some Hash else (if number == 2 then Som
 abbrev pub word_of : ℕ → ℕ → ℕ → ℕ → ℕ
 word_of a b c d = from_le_bytes w32 (a ∷ b ∷ c ∷ d ∷ [])
 
-abbrev pub allowed : MapDef → Option MapDef
-allowed m = if is_allowed_map m then Some m else None
+abbrev pub allowed : Version → MapDef → Option MapDef
+allowed version m = if is_allowed_map version m then Some m else None
 
-abbrev pub map_of_kind : Option MapKind → ℕ → ℕ → ℕ → Option MapDef
-map_of_kind None key_size value_size max_entries = None
-map_of_kind (Some kind) key_size value_size max_entries = allowed (record { kind = kind; key_size = key_size; value_size = value_size; max_entries = max_entries })
+abbrev pub map_of_kind : Version → Option MapKind → ℕ → ℕ → ℕ → Option MapDef
+map_of_kind version None key_size value_size max_entries = None
+map_of_kind version (Some kind) key_size value_size max_entries = allowed version (record { kind = kind; key_size = key_size; value_size = value_size; max_entries = max_entries })
 
--- the map at the front of the bytes, if it is one that images may have
-unfoldable pub map_at : List ℕ → Option MapDef
-map_at bytes = map_of_kind
+-- the map at the front of the bytes, if it is one that images of this version may have
+unfoldable pub map_at : Version → List ℕ → Option MapDef
+map_at version bytes = map_of_kind version
     (map_kind_at (word_of (slice_index bytes 0) (slice_index bytes 1) (slice_index bytes 2) (slice_index bytes 3)))
     (word_of (slice_index bytes 4) (slice_index bytes 5) (slice_index bytes 6) (slice_index bytes 7))
     (word_of (slice_index bytes 8) (slice_index bytes 9) (slice_index bytes 10) (slice_index bytes 11))

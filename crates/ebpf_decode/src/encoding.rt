@@ -247,6 +247,13 @@ pub fn head_slot(head: WideHead) -> Slot
             offset: 0,
             immediate: map,
         },
+        WideHead::Value { dst, map } => Slot {
+            opcode: wide_opcode(),
+            dst: dst.number(),
+            src: 2,
+            offset: 0,
+            immediate: map,
+        },
     }
 }
 
@@ -286,12 +293,13 @@ pub fn slot_of(insn: Insn) -> Slot
         Insn::AtomicUpdate { width, op, dst, src, offset } => atomic_slot(width, op, dst, src, offset),
         Insn::Lddw { dst, value } => head_slot(WideHead::Number { dst, low: low_half(value) }),
         Insn::Ldmap { dst, map } => head_slot(WideHead::Map { dst, map }),
+        Insn::Ldval { dst, map, .. } => head_slot(WideHead::Value { dst, map }),
         Insn::CallHelper { helper } => bare_slot(call_opcode(), 0, helper),
         Insn::Exit => bare_slot(exit_opcode(), 0, 0),
     }
 }
 
-/// The second slot of a wide instruction: zeros, but for the upper half of a number.
+/// The second slot of a wide instruction: zeros, but for the upper half of a number, or an offset in a value.
 #[tactic(auto, unfolding(crate::specs::InstructionEncoding::more_slots_of))]
 pub fn second_slot_of(insn: Insn) -> Option<Slot>
     ensures { more_slots_of insn ≡ option_list result }
@@ -299,6 +307,7 @@ pub fn second_slot_of(insn: Insn) -> Option<Slot>
     match insn {
         Insn::Lddw { dst: _, value } => Some(bare_slot(0, 0, high_half(value))),
         Insn::Ldmap { .. } => Some(bare_slot(0, 0, 0)),
+        Insn::Ldval { offset, .. } => Some(bare_slot(0, 0, offset.cast_signed())),
         _ => None,
     }
 }

@@ -1,14 +1,16 @@
 //! Images: maps and instructions that the image format encodes.
 
-ghost use Rattle.std.specs.Prelude.{◌≡◌, ◌≤◌, length, IfOk};
+ghost use Rattle.std.specs.Prelude.{◌≡◌, ◌≤◌, ◌↔◌, length, IfOk, IfNone, IsNone};
 ghost use Rattle.std.specs.List.{AllByRecursion};
 ghost use Rattle.ebpf_decode.specs.InstructionEncoding.{FieldsFit, slot_count, total_slots};
 ghost use Rattle.ebpf_decode.specs.ImageContents.{IsEncodable};
-ghost use Rattle.ebpf_decode.specs.ImageFormat.{fault_of, first_part_fault, first_bad_map, code_fault};
+ghost use Rattle.ebpf_decode.specs.Served.{first_unserved_map};
+ghost use Rattle.ebpf_decode.specs.ImageFormat.{fault_of, first_part_fault, or_else, first_bad_map, version_fault, code_fault};
 
 use crate::fault::DecodeFault;
 use crate::insn::Insn;
 use crate::map::MapDef;
+use crate::version::Version;
 use std::marker::Model;
 
 /// How many maps an image may have.
@@ -17,10 +19,11 @@ const MAX_MAPS: usize = 16;
 /// How many slots an image may have.
 pub const MAX_SLOTS: usize = 4096;
 
-/// The maps and the program of an image, such that the image format encodes them: at most 16 maps, each one that an image may
-/// have, and 1 to 4096 slots.
+/// The version, the maps and the program of an image, such that the image format encodes them: at most 16 maps, each one that
+/// an image of the version may have, and 1 to 4096 slots of instructions that it may have.
 #[derive(Debug, Drop)]
 pub struct Image {
+    version: Version,
     maps: Vec<MapDef>,
     code: Vec<Insn>,
 }
@@ -30,38 +33,52 @@ impl Model for Image {
 
     ghost Value = { Contents };
 
-    ghost view = { λ image. record { maps = image.maps.items; code = image.code.items } };
+    ghost view = { λ image. record { version = image.version; maps = image.maps.items; code = image.code.items } };
 
-    ghost invariant = { λ image. IsEncodable image.maps.items image.code.items };
+    ghost invariant = { λ image. IsEncodable image.version image.maps.items image.code.items };
 }
 
 impl Image {
+    ghost use Rattle.ebpf_decode.specs.Served.{IsServedImage, AreServedParts, unserved_fault};
+
     /// An image of parts that the format encodes.
-    pub(crate) fn new(maps: Vec<MapDef>, code: Vec<Insn>) -> Image
-        requires { IsEncodable maps.items code.items }
-        ensures { result ≡ record { maps = maps.items; code = code.items } }
+    pub(crate) fn new(version: Version, maps: Vec<MapDef>, code: Vec<Insn>) -> Image
+        requires { IsEncodable version maps.items code.items }
+        ensures { result ≡ record { version = version; maps = maps.items; code = code.items } }
     {
-        Image { maps, code }
+        Image {
+            version,
+            maps,
+            code,
+        }
     }
 
     /// The image of these maps and instructions, or the fault that their encoding has: 10 for more than 16 maps, 11 for the
-    /// first map that an image may not have, 12 for no instruction, 14 for more than 4096 slots, the lower number first. It
-    /// takes no memory.
-    pub fn of(maps: Vec<MapDef>, code: Vec<Insn>) -> Result<Image, DecodeFault>
-        ensures made { IfOk result (λ image. image ≡ record { maps = maps.items; code = code.items }) }
-        ensures fault { fault_of result ≡ first_part_fault maps.items code.items }
+    /// first map that an image of the version may not have, 12 for no instruction, 14 for more than 4096 slots, 16 for the
+    /// first instruction that the version doesn't have, the lower number first. It takes no memory.
+    pub fn of(version: Version, maps: Vec<MapDef>, code: Vec<Insn>) -> Result<Image, DecodeFault>
+        ensures made { IfOk result (λ image. image ≡ record { version = version; maps = maps.items; code = code.items }) }
+        ensures fault { fault_of result ≡ first_part_fault version maps.items code.items }
     {
         code_fields_fit(&code);
-        match part_fault(&maps, &code) {
+        match part_fault(version, &maps, &code) {
             Some(fault) => Err(fault),
-            None => Ok(Image::new(maps, code)),
+            None => Ok(Image::new(version, maps, code)),
         }
+    }
+
+    /// The version of the image format.
+    pub fn version(&self) -> Version
+        ensures version { result ≡ self.now.version }
+        ensures encodable { IsEncodable self.now.version self.now.maps self.now.code }
+    {
+        self.version
     }
 
     /// The maps, by their places.
     pub fn maps(&self) -> &[MapDef]
         ensures maps { result.now ≡ self.now.maps }
-        ensures encodable { IsEncodable self.now.maps self.now.code }
+        ensures encodable { IsEncodable self.now.version self.now.maps self.now.code }
     {
         &self.maps
     }
@@ -69,9 +86,39 @@ impl Image {
     /// The instructions in order, a wide one once.
     pub fn code(&self) -> &[Insn]
         ensures code { result.now ≡ self.now.code }
-        ensures encodable { IsEncodable self.now.maps self.now.code }
+        ensures encodable { IsEncodable self.now.version self.now.maps self.now.code }
     {
         &self.code
+    }
+
+    /// The image, where this build verifies and runs it, or the fault with which it is turned away: 10 for version 2, 11 for the
+    /// first map that is no array with values of at most 64 bytes. It takes no memory; a refused image is dropped.
+    pub fn served(self) -> Result<Image, DecodeFault>
+        ensures taken { IfOk result (λ image. (image ≡ self) × IsServedImage image) }
+        ensures fault { fault_of result ≡ unserved_fault self }
+    {
+        match self.unserved() {
+            None => Ok(self),
+            Some(fault) => Err(fault),
+        }
+    }
+
+    fn unserved(&self) -> Option<DecodeFault>
+        ensures fault { result ≡ unserved_fault self.now }
+        ensures served { IsNone result ↔ IsServedImage self.now }
+    {
+        match self.version {
+            Version::V1 => first_unserved_map(&self.maps),
+            Version::V2 => Some(DecodeFault::BadHead),
+        }
+    }
+
+    /// The fact of what holds of a served image's maps and program.
+    pub fn served_parts(&self)
+        requires { IsServedImage self.now }
+        ensures { AreServedParts self.now.maps self.now.code }
+    {
+        let _ = self.version();
     }
 
     /// How many slots the program takes: 1 to 4096.
@@ -95,33 +142,73 @@ fn code_fields_fit(code: &[Insn])
 
 /// The first fault of an image of these parts.
 #[tactic(auto, unfolding(crate::specs::ImageFormat::first_part_fault))]
-fn part_fault(maps: &[MapDef], code: &[Insn]) -> Option<DecodeFault>
-    ensures { result ≡ first_part_fault maps.now code.now }
+fn part_fault(version: Version, maps: &[MapDef], code: &[Insn]) -> Option<DecodeFault>
+    ensures { result ≡ first_part_fault version maps.now code.now }
 {
     if maps.len() > MAX_MAPS {
         return Some(DecodeFault::BadHead);
     }
-    match first_bad_map(maps) {
+    match first_bad_map(version, maps) {
         Some(fault) => Some(fault),
-        None => code_fault(code),
+        None => program_fault(version, code),
     }
 }
 
 /// The fault of the first map that an image may not have.
-fn first_bad_map(maps: &[MapDef]) -> Option<DecodeFault>
+fn first_bad_map(version: Version, maps: &[MapDef]) -> Option<DecodeFault>
     requires { length maps.now ≤ 16 }
-    ensures { result ≡ first_bad_map 0 maps.now }
+    ensures { result ≡ first_bad_map version 0 maps.now }
 {
     for place in 0..maps.len() {
-        if !maps[place].is_allowed() {
+        if !maps[place].is_allowed(version) {
             return Some(DecodeFault::BadMap { map: place as u32 });
         }
     }
     None
 }
 
+/// The fault of the first map that this build does not serve.
+fn first_unserved_map(maps: &[MapDef]) -> Option<DecodeFault>
+    requires { length maps.now ≤ 16 }
+    ensures { result ≡ first_unserved_map 0 maps.now }
+{
+    for place in 0..maps.len() {
+        if !maps[place].is_served() {
+            return Some(DecodeFault::BadMap { map: place as u32 });
+        }
+    }
+    None
+}
+
+/// The first fault of a program.
+fn program_fault(version: Version, code: &[Insn]) -> Option<DecodeFault>
+    ensures { result ≡ or_else (code_fault code.now) (version_fault version 0 code.now) }
+{
+    match code_fault(code) {
+        Some(fault) => Some(fault),
+        None => version_fault(version, code),
+    }
+}
+
+/// The fault of the first instruction that images of this version may not have.
+fn version_fault(version: Version, code: &[Insn]) -> Option<DecodeFault>
+    requires { length code.now ≤ 4096 }
+    ensures { result ≡ version_fault version 0 code.now }
+{
+    let mut slot = 0;
+    for insn in code {
+        if !insn.is_in_version(version) {
+            return Some(DecodeFault::NotInProfile { slot });
+        }
+        slot += insn.slot_count();
+    }
+    None
+}
+
+/// The fault of a program's size.
 fn code_fault(code: &[Insn]) -> Option<DecodeFault>
-    ensures { result ≡ code_fault code.now }
+    ensures fault { result ≡ code_fault code.now }
+    ensures few { IfNone result (length code.now ≤ 4096) }
 {
     if code.is_empty() {
         Some(DecodeFault::Empty)

@@ -3,7 +3,9 @@
 ghost use Rattle.std.specs.Prelude.{◌≡◌, ◌≤◌};
 ghost use Rattle.ebpf_decode.specs.InstructionEncoding.{FieldsFit, slot_count};
 ghost use Rattle.ebpf_decode.specs.Jumps.{jump_distance};
+ghost use Rattle.ebpf_decode.specs.Versions.{is_in_version};
 
+use crate::version::Version;
 use isa::{
     AluOp, AtomicOp, ByteOrder, Extension, Register, ShortExtension, Size, Source, SwapWidth, Test,
     Width,
@@ -105,6 +107,13 @@ pub enum Insn {
         dst: Register,
         map: i32,
     },
+    /// `dst` is the address of the byte at an offset of a map's value, the first value of the map at a place of the image's list
+    /// (wide, source 2). Version 2 alone has it.
+    Ldval {
+        dst: Register,
+        map: i32,
+        offset: u32,
+    },
     /// Calls the helper of this number.
     CallHelper {
         helper: i32,
@@ -121,8 +130,19 @@ impl Insn {
         ensures few { result ≤ 2 }
     {
         match self {
-            Insn::Lddw { .. } | Insn::Ldmap { .. } => 2,
+            Insn::Lddw { .. } | Insn::Ldmap { .. } | Insn::Ldval { .. } => 2,
             _ => 1,
+        }
+    }
+
+    /// Whether images of this version may have the instruction.
+    #[tactic(auto, unfolding(crate::specs::Versions::is_in_version))]
+    pub fn is_in_version(self, version: Version) -> bool
+        ensures { result ≡ is_in_version version self }
+    {
+        match self {
+            Insn::Ldval { .. } => version.has_value_addresses(),
+            _ => true,
         }
     }
 

@@ -13,6 +13,7 @@ mod memory;
 mod reading;
 mod reading_slot;
 pub mod slot;
+pub mod version;
 pub mod wide;
 mod writing;
 
@@ -21,6 +22,7 @@ pub use image::Image;
 pub use insn::Insn;
 pub use map::{MapDef, MapKind};
 pub use reading::decode;
+pub use version::Version;
 pub use writing::{encode, one_encoding};
 
 #[cfg(test)]

@@ -1,7 +1,10 @@
 //! The definition of a map.
 
 ghost use Rattle.std.specs.Prelude.{◌≡◌, ◌≤◌, length};
-ghost use Rattle.ebpf_decode.specs.MapForm.{map_type, map_kind_at, is_served, is_key_size, is_value_size, is_entry_count, is_allowed_map, allowed, map_at};
+ghost use Rattle.ebpf_decode.specs.MapForm.{map_type, map_kind_at, is_key_size, is_value_size, is_entry_count, is_allowed_map, allowed, map_at};
+ghost use Rattle.ebpf_decode.specs.Served.{is_served_map};
+
+use crate::version::Version;
 
 /// How a map finds its values (bpf(2); the numbers are Linux's: HASH 1, ARRAY 2, LRU_HASH 9).
 #[derive(Clone, Copy, Debug, PartialEq, Eq)]
@@ -36,16 +39,6 @@ impl MapKind {
         }
     }
 
-    /// Whether images may have maps of this kind as yet.
-    pub fn is_served(self) -> bool
-        ensures { result ≡ is_served self }
-    {
-        match self {
-            MapKind::Array => true,
-            MapKind::Hash | MapKind::LruHash => false,
-        }
-    }
-
     /// The kind of this number, if it is one of the three.
     fn of_type(number: u32) -> Option<MapKind>
         ensures { result ≡ map_kind_at number }
@@ -73,22 +66,28 @@ impl MapKind {
 }
 
 impl MapDef {
-    /// Whether an image may have this map: its kind is served, a key has 1 to 32 bytes (of an array: 4), a value 8, 16, .. 64,
-    /// and it has 1 to 131072 entries.
-    pub fn is_allowed(self) -> bool
-        ensures { result ≡ is_allowed_map self }
+    /// Whether this build verifies and runs images with the map: an array with values of at most 64 bytes.
+    pub fn is_served(self) -> bool
+        ensures { result ≡ is_served_map self }
     {
-        self.kind.is_served()
-            && self.kind.is_key_size(self.key_size)
-            && is_value_size(self.value_size)
+        self.kind == MapKind::Array && self.is_allowed(Version::V1)
+    }
+
+    /// Whether an image of this version may have the map: a key has 1 to 32 bytes (of an array: 4), a value 8, 16, .. 64 (in
+    /// version 2: to 256), and it has 1 to 131072 entries.
+    pub fn is_allowed(self, version: Version) -> bool
+        ensures { result ≡ is_allowed_map version self }
+    {
+        self.kind.is_key_size(self.key_size)
+            && is_value_size(version, self.value_size)
             && is_entry_count(self.max_entries)
     }
 
-    /// The map at the front of the bytes, if it is one that an image may have.
+    /// The map at the front of the bytes, if it is one that an image of this version may have.
     #[tactic(auto, unfolding(crate::specs::MapForm::map_at))]
-    pub(crate) fn of(bytes: &[u8]) -> Option<MapDef>
+    pub(crate) fn of(version: Version, bytes: &[u8]) -> Option<MapDef>
         requires { 16 ≤ length bytes.now }
-        ensures { result ≡ map_at bytes.now }
+        ensures { result ≡ map_at version bytes.now }
     {
         let number = u32::from_le_bytes([bytes[0], bytes[1], bytes[2], bytes[3]]);
         let key_size = u32::from_le_bytes([bytes[4], bytes[5], bytes[6], bytes[7]]);
@@ -96,26 +95,33 @@ impl MapDef {
         let max_entries = u32::from_le_bytes([bytes[12], bytes[13], bytes[14], bytes[15]]);
         match MapKind::of_type(number) {
             None => None,
-            Some(kind) => allowed(MapDef {
-                kind,
-                key_size,
-                value_size,
-                max_entries,
-            }),
+            Some(kind) => {
+                let map = MapDef {
+                    kind,
+                    key_size,
+                    value_size,
+                    max_entries,
+                };
+                allowed(version, map)
+            }
         }
     }
 }
 
-fn allowed(map: MapDef) -> Option<MapDef>
-    ensures { result ≡ allowed map }
+fn allowed(version: Version, map: MapDef) -> Option<MapDef>
+    ensures { result ≡ allowed version map }
 {
-    if map.is_allowed() { Some(map) } else { None }
+    if map.is_allowed(version) {
+        Some(map)
+    } else {
+        None
+    }
 }
 
-fn is_value_size(size: u32) -> bool
-    ensures { result ≡ is_value_size size }
+fn is_value_size(version: Version, size: u32) -> bool
+    ensures { result ≡ is_value_size version size }
 {
-    size % 8 == 0 && 8 <= size && size <= 64
+    size % 8 == 0 && 8 <= size && size <= version.most_value_bytes()
 }
 
 fn is_entry_count(count: u32) -> bool

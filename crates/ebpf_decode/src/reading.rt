@@ -4,13 +4,14 @@ ghost use Rattle.std.specs.Prelude.{◌≡◌, ◌≢◌, ◌++◌, ◌*◌, ◌
 ghost use Rattle.ebpf_decode.specs.SlotForm.{slots_at};
 ghost use Rattle.ebpf_decode.specs.InstructionReading.{at_slot, step_at, pending_of, finished_by, code_from};
 ghost use Rattle.ebpf_decode.specs.ImageContents.{Contents};
-ghost use Rattle.ebpf_decode.specs.ImageFormat.{Gives, map_count, has_head, maps_at, code_at, image_at, has_code_size, may_ask_memory, first_decode_fault, IsImageEncoding};
+ghost use Rattle.ebpf_decode.specs.ImageFormat.{Gives, map_count, version_at, has_head, maps_at, code_at, image_at, has_code_size, may_ask_memory, first_decode_fault, IsImageEncoding};
 
 use crate::fault::{DecodeFault, SlotFault};
 use crate::image::{Image, MAX_SLOTS};
 use crate::insn::Insn;
 use crate::map::MapDef;
 use crate::slot::Slot;
+use crate::version::Version;
 use crate::wide::{SlotReading, WideHead};
 use std::alloc::{AllocError, Global};
 
@@ -23,24 +24,37 @@ fn has_head(bytes: &[u8]) -> bool
         && bytes[1] == 0x4c
         && bytes[2] == 0x42
         && bytes[3] == 0x50
-        && bytes[4] == 1
+        && Version::of(bytes[4]).is_some()
         && bytes[5] <= 16
         && bytes[6] == 0
         && bytes[7] == 0
         && 8 + 16 * bytes[5] as usize <= bytes.len()
 }
 
+/// The version of an image with a whole head.
+fn version_of(bytes: &[u8]) -> Version
+    requires { 8 ≤ length bytes.now }
+    ensures { result ≡ version_at bytes.now }
+{
+    Version::of(bytes[4]).unwrap_or(Version::V1)
+}
+
 /// So many maps from the front of the bytes, and the bytes after them.
-fn maps_of(alloc: Global, count: u32, bytes: &[u8]) -> Result<(Vec<MapDef>, &[u8]), DecodeFault>
+fn maps_of(
+    alloc: Global,
+    version: Version,
+    count: u32,
+    bytes: &[u8],
+) -> Result<(Vec<MapDef>, &[u8]), DecodeFault>
     requires { 16 * count ≤ length bytes.now }
-    ensures given { Gives (λ x. (x.0.items, x.1.now)) result (maps_at 0 count bytes.now) }
+    ensures given { Gives (λ x. (x.0.items, x.1.now)) result (maps_at version 0 count bytes.now) }
     ensures asked { IfErr result (λ fault. fault ≡ DecodeFault.Memory → 0 < count) }
 {
     let mut maps = Vec::new(alloc);
     let mut rest = bytes;
     for place in 0..count {
         let (_, after) = rest.split_at(16);
-        match MapDef::of(rest) {
+        match MapDef::of(version, rest) {
             None => return Err(DecodeFault::BadMap { map: place }),
             Some(map) => maps.push(map)?,
         }
@@ -51,11 +65,16 @@ fn maps_of(alloc: Global, count: u32, bytes: &[u8]) -> Result<(Vec<MapDef>, &[u8
 
 /// An instruction that ends with the slot at this place, or a wide instruction's head, after a head or nothing.
 #[tactic(auto, unfolding(crate::specs::InstructionReading::step_at))]
-fn step(place: u32, pending: Option<WideHead>, slot: Slot) -> Result<SlotReading, DecodeFault>
-    ensures { result ≡ step_at place pending slot }
+fn step(
+    version: Version,
+    place: u32,
+    pending: Option<WideHead>,
+    slot: Slot,
+) -> Result<SlotReading, DecodeFault>
+    ensures { result ≡ step_at version place pending slot }
 {
     match pending {
-        None => first_step(place, slot),
+        None => first_step(version, place, slot),
         Some(head) => match head.with_second(slot) {
             Ok(insn) => Ok(SlotReading::Whole(insn)),
             Err(fault) => Err(fault.at(place.saturating_sub(1))),
@@ -64,10 +83,10 @@ fn step(place: u32, pending: Option<WideHead>, slot: Slot) -> Result<SlotReading
 }
 
 #[tactic(auto, unfolding(crate::specs::InstructionReading::step_at))]
-fn first_step(place: u32, slot: Slot) -> Result<SlotReading, DecodeFault>
-    ensures { result ≡ step_at place None slot }
+fn first_step(version: Version, place: u32, slot: Slot) -> Result<SlotReading, DecodeFault>
+    ensures { result ≡ step_at version place None slot }
 {
-    match slot.reading() {
+    match slot.reading(version) {
         Ok(reading) => Ok(reading),
         Err(fault) => Err(fault.at(place)),
     }
@@ -94,16 +113,21 @@ fn keep(code: &mut Vec<Insn>, reading: SlotReading) -> Result<(), AllocError>
 }
 
 /// The instructions of so many slots, from the front of the bytes.
-fn slots_code(alloc: Global, count: u32, bytes: &[u8]) -> Result<Vec<Insn>, DecodeFault>
+fn slots_code(
+    alloc: Global,
+    version: Version,
+    count: u32,
+    bytes: &[u8],
+) -> Result<Vec<Insn>, DecodeFault>
     requires { 8 * count ≤ length bytes.now }
-    ensures { Gives (λ code. code.items) result (code_from 0 None (slots_at count bytes.now)) }
+    ensures { Gives (λ code. code.items) result (code_from version 0 None (slots_at count bytes.now)) }
 {
     let mut code = Vec::new(alloc);
     let mut pending = None;
     let mut rest = bytes;
     for place in 0..count {
         let (_, after) = rest.split_at(8);
-        let reading = step(place, pending, Slot::of(rest))?;
+        let reading = step(version, place, pending, Slot::of(rest))?;
         pending = pending_of(reading);
         keep(&mut code, reading)?;
         rest = after;
@@ -116,8 +140,8 @@ fn slots_code(alloc: Global, count: u32, bytes: &[u8]) -> Result<Vec<Insn>, Deco
 
 /// The program, of all the bytes after the maps.
 #[tactic(auto, unfolding(crate::specs::ImageFormat::code_at))]
-fn code_of(alloc: Global, bytes: &[u8]) -> Result<Vec<Insn>, DecodeFault>
-    ensures given { Gives (λ code. code.items) result (code_at bytes.now) }
+fn code_of(alloc: Global, version: Version, bytes: &[u8]) -> Result<Vec<Insn>, DecodeFault>
+    ensures given { Gives (λ code. code.items) result (code_at version bytes.now) }
     ensures asked { IfErr result (λ fault. fault ≡ DecodeFault.Memory → IsTrue (has_code_size bytes.now)) }
 {
     if bytes.is_empty() {
@@ -130,25 +154,26 @@ fn code_of(alloc: Global, bytes: &[u8]) -> Result<Vec<Insn>, DecodeFault>
     if count > MAX_SLOTS {
         return Err(DecodeFault::TooLong);
     }
-    slots_code(alloc, count as u32, bytes)
+    slots_code(alloc, version, count as u32, bytes)
 }
 
-/// The maps and the program of the bytes.
+/// The version, the maps and the program of the bytes.
 #[tactic(auto, unfolding(crate::specs::ImageFormat::image_at))]
-fn parts(alloc: Global, bytes: &[u8]) -> Result<(Vec<MapDef>, Vec<Insn>), DecodeFault>
-    ensures given { Gives (λ x. record { maps = x.0.items; code = x.1.items }) result (image_at bytes.now) }
+fn parts(alloc: Global, bytes: &[u8]) -> Result<(Version, Vec<MapDef>, Vec<Insn>), DecodeFault>
+    ensures given { Gives (λ x. record { version = x.0; maps = x.1.items; code = x.2.items }) result (image_at bytes.now) }
     ensures asked { IfErr result (λ fault. fault ≡ DecodeFault.Memory → IsTrue (may_ask_memory bytes.now)) }
 {
     if !has_head(bytes) {
         return Err(DecodeFault::BadHead);
     }
-    let (maps, rest) = maps_of(alloc, bytes[5] as u32, &bytes[8..])?;
-    let code = code_of(alloc, rest)?;
-    Ok((maps, code))
+    let version = version_of(bytes);
+    let (maps, rest) = maps_of(alloc, version, bytes[5] as u32, &bytes[8..])?;
+    let code = code_of(alloc, version, rest)?;
+    Ok((version, maps, code))
 }
 
 /// The image that the bytes encode, or their first fault: 10 to 14, then 15 to 19 by rising slot, and within a slot the lower
-/// number. Fault 20 may come in place of any other. After a fault nothing is kept.
+/// number. Fault 20 comes where memory was refused, never before a whole head was read. After a fault nothing is kept.
 pub fn decode(alloc: Global, bytes: &[u8]) -> Result<Image, DecodeFault>
     // The bytes are the encoding of the image.
     ensures found { IfOk result (λ image. IsImageEncoding bytes.now image) }
@@ -159,6 +184,6 @@ pub fn decode(alloc: Global, bytes: &[u8]) -> Result<Image, DecodeFault>
     // 20 comes only where memory may have been asked for.
     ensures asked { IfErr result (λ fault. fault ≡ DecodeFault.Memory → IsTrue (may_ask_memory bytes.now)) }
 {
-    let (maps, code) = parts(alloc, bytes)?;
-    Ok(Image::new(maps, code))
+    let (version, maps, code) = parts(alloc, bytes)?;
+    Ok(Image::new(version, maps, code))
 }

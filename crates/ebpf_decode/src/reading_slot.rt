@@ -6,6 +6,7 @@ ghost use Rattle.ebpf_decode.specs.InstructionReading.{class_of, source_bit_of, 
 use crate::fault::SlotFault;
 use crate::insn::Insn;
 use crate::slot::Slot;
+use crate::version::Version;
 use crate::wide::{SlotReading, WideHead};
 use crate::{codes, encoding};
 use isa::{Class, Mode, Source, Width};
@@ -33,11 +34,11 @@ fn begun(read: Result<WideHead, SlotFault>) -> Result<SlotReading, SlotFault>
 impl Slot {
     /// What a slot gives that ends no wide instruction, or its first fault.
     #[tactic(auto, unfolding(crate::specs::InstructionReading::reading_in))]
-    pub(crate) fn reading(self) -> Result<SlotReading, SlotFault>
-        ensures { result ≡ reading_in (class_of self) self }
+    pub(crate) fn reading(self, version: Version) -> Result<SlotReading, SlotFault>
+        ensures { result ≡ reading_in version (class_of self) self }
     {
         match self.class() {
-            Class::Ld => begun(self.head()),
+            Class::Ld => begun(self.head(version)),
             Class::Ldx => whole(self.load()),
             Class::St => whole(self.store_immediate()),
             Class::Stx => whole(self.store()),

@@ -37,9 +37,9 @@ fn two_slots(alloc: Global, first: [u8; 8], second: [u8; 8]) -> Result<Vec<u8>, 
 }
 
 /// A head and one map, without a program.
-fn one_map(alloc: Global, map: [u8; 16]) -> Result<Vec<u8>, AllocError> {
+fn one_map(alloc: Global, version: u8, map: [u8; 16]) -> Result<Vec<u8>, AllocError> {
     let mut bytes = Vec::new(alloc);
-    bytes.extend_from_slice(&[0x58, 0x4c, 0x42, 0x50, 1, 1, 0, 0])?;
+    bytes.extend_from_slice(&[0x58, 0x4c, 0x42, 0x50, version, 1, 0, 0])?;
     bytes.extend_from_slice(&map)?;
     Ok(bytes)
 }
@@ -243,7 +243,7 @@ fn wide_instructions_and_their_slots(rt: HostRuntime) -> Result<(), Fail> {
         dst: Register::R2,
         map: -1,
     })?;
-    let image = Image::of(Vec::new(rt.alloc()), code)?;
+    let image = Image::of(Version::V1, Vec::new(rt.alloc()), code)?;
     let bytes = encode(rt.alloc(), &image)?;
     let want: [u8; 40] = [
         0x58, 0x4c, 0x42, 0x50, 1, 0, 0, 0, 0x18, 0x01, 0, 0, 0x11, 0x22, 0x33, 0x44, 0, 0, 0, 0,
@@ -256,37 +256,120 @@ fn wide_instructions_and_their_slots(rt: HostRuntime) -> Result<(), Fail> {
 }
 
 #[rattlefmt::skip]
-const MAPS: [(&str, [u8; 16], u8); 12] = [
-    ("array",                         [0x02, 0x00, 0x00, 0x00, 0x04, 0x00, 0x00, 0x00, 0x08, 0x00, 0x00, 0x00, 0x01, 0x00, 0x00, 0x00], 12),
-    ("largest array",                 [0x02, 0x00, 0x00, 0x00, 0x04, 0x00, 0x00, 0x00, 0x40, 0x00, 0x00, 0x00, 0x00, 0x00, 0x02, 0x00], 12),
-    ("hash is not served yet",        [0x01, 0x00, 0x00, 0x00, 0x04, 0x00, 0x00, 0x00, 0x08, 0x00, 0x00, 0x00, 0x01, 0x00, 0x00, 0x00], 11),
-    ("LRU is not served yet",         [0x09, 0x00, 0x00, 0x00, 0x04, 0x00, 0x00, 0x00, 0x08, 0x00, 0x00, 0x00, 0x01, 0x00, 0x00, 0x00], 11),
-    ("type 3 is none",                [0x03, 0x00, 0x00, 0x00, 0x04, 0x00, 0x00, 0x00, 0x08, 0x00, 0x00, 0x00, 0x01, 0x00, 0x00, 0x00], 11),
-    ("type 258 is none",              [0x02, 0x01, 0x00, 0x00, 0x04, 0x00, 0x00, 0x00, 0x08, 0x00, 0x00, 0x00, 0x01, 0x00, 0x00, 0x00], 11),
-    ("array with a key of 8 bytes",   [0x02, 0x00, 0x00, 0x00, 0x08, 0x00, 0x00, 0x00, 0x08, 0x00, 0x00, 0x00, 0x01, 0x00, 0x00, 0x00], 11),
-    ("value of 12 bytes",             [0x02, 0x00, 0x00, 0x00, 0x04, 0x00, 0x00, 0x00, 0x0c, 0x00, 0x00, 0x00, 0x01, 0x00, 0x00, 0x00], 11),
-    ("value of 0 bytes",              [0x02, 0x00, 0x00, 0x00, 0x04, 0x00, 0x00, 0x00, 0x00, 0x00, 0x00, 0x00, 0x01, 0x00, 0x00, 0x00], 11),
-    ("value of 72 bytes",             [0x02, 0x00, 0x00, 0x00, 0x04, 0x00, 0x00, 0x00, 0x48, 0x00, 0x00, 0x00, 0x01, 0x00, 0x00, 0x00], 11),
-    ("no entries",                    [0x02, 0x00, 0x00, 0x00, 0x04, 0x00, 0x00, 0x00, 0x08, 0x00, 0x00, 0x00, 0x00, 0x00, 0x00, 0x00], 11),
-    ("131073 entries",                [0x02, 0x00, 0x00, 0x00, 0x04, 0x00, 0x00, 0x00, 0x08, 0x00, 0x00, 0x00, 0x01, 0x00, 0x02, 0x00], 11),
+const MAPS: [(&str, [u8; 16], u8); 17] = [
+    ("array",                          [0x02, 0x00, 0x00, 0x00, 0x04, 0x00, 0x00, 0x00, 0x08, 0x00, 0x00, 0x00, 0x01, 0x00, 0x00, 0x00], 12),
+    ("largest array",                  [0x02, 0x00, 0x00, 0x00, 0x04, 0x00, 0x00, 0x00, 0x40, 0x00, 0x00, 0x00, 0x00, 0x00, 0x02, 0x00], 12),
+    ("hash",                           [0x01, 0x00, 0x00, 0x00, 0x04, 0x00, 0x00, 0x00, 0x08, 0x00, 0x00, 0x00, 0x01, 0x00, 0x00, 0x00], 12),
+    ("LRU hash",                       [0x09, 0x00, 0x00, 0x00, 0x04, 0x00, 0x00, 0x00, 0x08, 0x00, 0x00, 0x00, 0x01, 0x00, 0x00, 0x00], 12),
+    ("largest hash",                   [0x01, 0x00, 0x00, 0x00, 0x20, 0x00, 0x00, 0x00, 0x40, 0x00, 0x00, 0x00, 0x00, 0x00, 0x02, 0x00], 12),
+    ("LRU hash with a key of a byte",  [0x09, 0x00, 0x00, 0x00, 0x01, 0x00, 0x00, 0x00, 0x08, 0x00, 0x00, 0x00, 0x01, 0x00, 0x00, 0x00], 12),
+    ("hash without a key",             [0x01, 0x00, 0x00, 0x00, 0x00, 0x00, 0x00, 0x00, 0x08, 0x00, 0x00, 0x00, 0x01, 0x00, 0x00, 0x00], 11),
+    ("hash with a key of 33 bytes",    [0x01, 0x00, 0x00, 0x00, 0x21, 0x00, 0x00, 0x00, 0x08, 0x00, 0x00, 0x00, 0x01, 0x00, 0x00, 0x00], 11),
+    ("type 3 is none",                 [0x03, 0x00, 0x00, 0x00, 0x04, 0x00, 0x00, 0x00, 0x08, 0x00, 0x00, 0x00, 0x01, 0x00, 0x00, 0x00], 11),
+    ("type 258 is none",               [0x02, 0x01, 0x00, 0x00, 0x04, 0x00, 0x00, 0x00, 0x08, 0x00, 0x00, 0x00, 0x01, 0x00, 0x00, 0x00], 11),
+    ("array with a key of 8 bytes",    [0x02, 0x00, 0x00, 0x00, 0x08, 0x00, 0x00, 0x00, 0x08, 0x00, 0x00, 0x00, 0x01, 0x00, 0x00, 0x00], 11),
+    ("value of 12 bytes",              [0x02, 0x00, 0x00, 0x00, 0x04, 0x00, 0x00, 0x00, 0x0c, 0x00, 0x00, 0x00, 0x01, 0x00, 0x00, 0x00], 11),
+    ("value of 0 bytes",               [0x02, 0x00, 0x00, 0x00, 0x04, 0x00, 0x00, 0x00, 0x00, 0x00, 0x00, 0x00, 0x01, 0x00, 0x00, 0x00], 11),
+    ("value of 72 bytes",              [0x02, 0x00, 0x00, 0x00, 0x04, 0x00, 0x00, 0x00, 0x48, 0x00, 0x00, 0x00, 0x01, 0x00, 0x00, 0x00], 11),
+    ("value of 256 bytes",             [0x02, 0x00, 0x00, 0x00, 0x04, 0x00, 0x00, 0x00, 0x00, 0x01, 0x00, 0x00, 0x01, 0x00, 0x00, 0x00], 11),
+    ("no entries",                     [0x02, 0x00, 0x00, 0x00, 0x04, 0x00, 0x00, 0x00, 0x08, 0x00, 0x00, 0x00, 0x00, 0x00, 0x00, 0x00], 11),
+    ("131073 entries",                 [0x02, 0x00, 0x00, 0x00, 0x04, 0x00, 0x00, 0x00, 0x08, 0x00, 0x00, 0x00, 0x01, 0x00, 0x02, 0x00], 11),
+];
+
+// In version 2.
+#[rattlefmt::skip]
+const WIDER_MAPS: [(&str, [u8; 16], u8); 7] = [
+    ("array",                          [0x02, 0x00, 0x00, 0x00, 0x04, 0x00, 0x00, 0x00, 0x08, 0x00, 0x00, 0x00, 0x01, 0x00, 0x00, 0x00], 12),
+    ("value of 72 bytes",              [0x02, 0x00, 0x00, 0x00, 0x04, 0x00, 0x00, 0x00, 0x48, 0x00, 0x00, 0x00, 0x01, 0x00, 0x00, 0x00], 12),
+    ("value of 256 bytes",             [0x02, 0x00, 0x00, 0x00, 0x04, 0x00, 0x00, 0x00, 0x00, 0x01, 0x00, 0x00, 0x01, 0x00, 0x00, 0x00], 12),
+    ("hash of 256 bytes",              [0x01, 0x00, 0x00, 0x00, 0x20, 0x00, 0x00, 0x00, 0x00, 0x01, 0x00, 0x00, 0x01, 0x00, 0x00, 0x00], 12),
+    ("value of 264 bytes",             [0x02, 0x00, 0x00, 0x00, 0x04, 0x00, 0x00, 0x00, 0x08, 0x01, 0x00, 0x00, 0x01, 0x00, 0x00, 0x00], 11),
+    ("value of 68 bytes",              [0x02, 0x00, 0x00, 0x00, 0x04, 0x00, 0x00, 0x00, 0x44, 0x00, 0x00, 0x00, 0x01, 0x00, 0x00, 0x00], 11),
+    ("type 3 is none",                 [0x03, 0x00, 0x00, 0x00, 0x04, 0x00, 0x00, 0x00, 0x08, 0x00, 0x00, 0x00, 0x01, 0x00, 0x00, 0x00], 11),
 ];
 
 #[test]
 fn maps(rt: HostRuntime) -> Result<(), Fail> {
     for (name, map, want) in MAPS {
-        let bytes = one_map(rt.alloc(), map)?;
+        let bytes = one_map(rt.alloc(), 1, map)?;
         assert_eq!(rt; number_of(rt.alloc(), &bytes), want, "{name}");
+    }
+    for (name, map, want) in WIDER_MAPS {
+        let bytes = one_map(rt.alloc(), 2, map)?;
+        assert_eq!(rt; number_of(rt.alloc(), &bytes), want, "{name} in version 2");
     }
     Ok(())
 }
 
+// A wide slot and the slot after it, in an image of this version.
 #[rattlefmt::skip]
-const HEADS: [(&str, [u8; 8], u8); 9] = [
+const ADDRESSES: [(&str, u8, [u8; 8], [u8; 8], u8); 12] = [
+    ("an address in version 2",            2, [0x18, 0x21, 0, 0, 0, 0, 0, 0],    [0, 0, 0, 0, 8, 0, 0, 0],             0),
+    ("the largest offset",                 2, [0x18, 0x21, 0, 0, 0, 0, 0, 0],    [0, 0, 0, 0, 0xff, 0xff, 0xff, 0xff], 0),
+    ("a map below 0",                      2, [0x18, 0x21, 0, 0, 255, 255, 255, 255], [0, 0, 0, 0, 0, 0, 0, 0],        0),
+    ("an address in version 1",            1, [0x18, 0x21, 0, 0, 0, 0, 0, 0],    [0, 0, 0, 0, 8, 0, 0, 0],             16),
+    ("source 3 in version 2",              2, [0x18, 0x31, 0, 0, 0, 0, 0, 0],    [0, 0, 0, 0, 0, 0, 0, 0],             16),
+    ("source 7 in version 2",              2, [0x18, 0x71, 0, 0, 0, 0, 0, 0],    [0, 0, 0, 0, 0, 0, 0, 0],             15),
+    ("in register 11",                     2, [0x18, 0x2b, 0, 0, 0, 0, 0, 0],    [0, 0, 0, 0, 0, 0, 0, 0],             17),
+    ("an offset field",                    2, [0x18, 0x21, 1, 0, 0, 0, 0, 0],    [0, 0, 0, 0, 0, 0, 0, 0],             18),
+    ("a second opcode",                    2, [0x18, 0x21, 0, 0, 0, 0, 0, 0],    [0x95, 0, 0, 0, 0, 0, 0, 0],          18),
+    ("a second offset field",              2, [0x18, 0x21, 0, 0, 0, 0, 0, 0],    [0, 0, 0, 1, 0, 0, 0, 0],             18),
+    ("a map in version 2",                 2, [0x18, 0x11, 0, 0, 0, 0, 0, 0],    [0, 0, 0, 0, 0, 0, 0, 0],             0),
+    ("a map with an offset in version 2",  2, [0x18, 0x11, 0, 0, 0, 0, 0, 0],    [0, 0, 0, 0, 8, 0, 0, 0],             18),
+];
+
+#[test]
+fn addresses_in_values(rt: HostRuntime) -> Result<(), Fail> {
+    for (name, version, first, second, want) in ADDRESSES {
+        let mut bytes = Vec::new(rt.alloc());
+        bytes.extend_from_slice(&[0x58, 0x4c, 0x42, 0x50, version, 0, 0, 0])?;
+        bytes.extend_from_slice(&first)?;
+        bytes.extend_from_slice(&second)?;
+        assert_eq!(rt; number_of(rt.alloc(), &bytes), want, "{name}");
+    }
+    let mut code = Vec::new(rt.alloc());
+    code.push(ADDRESS)?;
+    let image = Image::of(Version::V2, Vec::new(rt.alloc()), code)?;
+    let bytes = encode(rt.alloc(), &image)?;
+    let want: [u8; 24] = [
+        0x58, 0x4c, 0x42, 0x50, 2, 0, 0, 0, 0x18, 0x21, 0, 0, 0, 0, 0, 0, 0, 0, 0, 0, 8, 0, 0, 0,
+    ];
+    assert_eq!(rt; bytes.as_slice(), want.as_slice());
+    let again = decode(rt.alloc(), &bytes)?;
+    assert_eq!(rt; again.version(), Version::V2);
+    assert_eq!(rt; again.code(), image.code());
+    assert_eq!(rt; again.slots(), 2);
+    Ok(())
+}
+
+/// The number of the fault with which an image of one map is turned away, or 0.
+fn unserved(alloc: Global, version: Version, map: MapDef) -> Result<u8, Fail> {
+    let mut maps = Vec::new(alloc);
+    maps.push(map)?;
+    let mut code = Vec::new(alloc);
+    code.push(Insn::Exit)?;
+    match Image::of(version, maps, code)?.served() {
+        Ok(_) => Ok(0),
+        Err(fault) => Ok(fault.number()),
+    }
+}
+
+#[test]
+fn images_that_do_not_run_yet(rt: HostRuntime) -> Result<(), Fail> {
+    assert_eq!(rt; unserved(rt.alloc(), Version::V1, ARRAY)?, 0, "an array");
+    assert_eq!(rt; unserved(rt.alloc(), Version::V1, HASH)?, 11, "a hash");
+    assert_eq!(rt; unserved(rt.alloc(), Version::V2, ARRAY)?, 10, "version 2");
+    Ok(())
+}
+
+#[rattlefmt::skip]
+const HEADS: [(&str, [u8; 8], u8); 10] = [
     ("head alone",           [0x58, 0x4c, 0x42, 0x50, 1, 0, 0, 0],    12),
     ("another magic",        [0x59, 0x4c, 0x42, 0x50, 1, 0, 0, 0],    10),
     ("another second byte",  [0x58, 0x4d, 0x42, 0x50, 1, 0, 0, 0],    10),
     ("version 0",            [0x58, 0x4c, 0x42, 0x50, 0, 0, 0, 0],    10),
-    ("version 2",            [0x58, 0x4c, 0x42, 0x50, 2, 0, 0, 0],    10),
+    ("version 2",            [0x58, 0x4c, 0x42, 0x50, 2, 0, 0, 0],    12),
+    ("version 3",            [0x58, 0x4c, 0x42, 0x50, 3, 0, 0, 0],    10),
     ("a cut list of maps",   [0x58, 0x4c, 0x42, 0x50, 1, 1, 0, 0],    10),
     ("seventeen maps",       [0x58, 0x4c, 0x42, 0x50, 1, 17, 0, 0],   10),
     ("a seventh byte of 1",  [0x58, 0x4c, 0x42, 0x50, 1, 0, 1, 0],    10),
@@ -404,6 +487,7 @@ fn lengths(rt: HostRuntime) -> Result<(), Fail> {
 /// The fault of an image of these parts, or 0.
 fn part_fault(
     alloc: Global,
+    version: Version,
     maps: u32,
     map: MapDef,
     code: u32,
@@ -417,7 +501,7 @@ fn part_fault(
     for _ in 0..code {
         all_code.push(insn)?;
     }
-    match Image::of(all_maps, all_code) {
+    match Image::of(version, all_maps, all_code) {
         Ok(_) => Ok(0),
         Err(fault) => Ok(fault.number()),
     }
@@ -437,27 +521,44 @@ const HASH: MapDef = MapDef {
     max_entries: 1,
 };
 
+const WIDE_VALUE: MapDef = MapDef {
+    kind: MapKind::Array,
+    key_size: 4,
+    value_size: 72,
+    max_entries: 1,
+};
+
 const WIDE_MOVE: Insn = Insn::Lddw {
     dst: Register::R0,
     value: 0,
 };
 
+const ADDRESS: Insn = Insn::Ldval {
+    dst: Register::R1,
+    map: 0,
+    offset: 8,
+};
+
 #[rattlefmt::skip]
-const PARTS: [(&str, u32, MapDef, u32, Insn, u8); 8] = [
-    ("sixteen maps",              16, ARRAY, 1,    Insn::Exit, 0),
-    ("seventeen maps",            17, ARRAY, 1,    Insn::Exit, 10),
-    ("a hash is not served yet",  1,  HASH,  1,    Insn::Exit, 11),
-    ("maps before instructions",  17, HASH,  0,    Insn::Exit, 10),
-    ("no instruction",            0,  ARRAY, 0,    Insn::Exit, 12),
-    ("4096 instructions",         0,  ARRAY, 4096, Insn::Exit, 0),
-    ("4097 instructions",         0,  ARRAY, 4097, Insn::Exit, 14),
-    ("2049 wide instructions",    0,  ARRAY, 2049, WIDE_MOVE,  14),
+const PARTS: [(&str, Version, u32, MapDef, u32, Insn, u8); 12] = [
+    ("sixteen maps",                     Version::V1, 16, ARRAY, 1,    Insn::Exit, 0),
+    ("seventeen maps",                   Version::V1, 17, ARRAY, 1,    Insn::Exit, 10),
+    ("a hash",                           Version::V1, 1,  HASH,  1,    Insn::Exit, 0),
+    ("a value of 72 bytes in version 1", Version::V1, 1,  WIDE_VALUE, 1, Insn::Exit, 11),
+    ("a value of 72 bytes in version 2", Version::V2, 1,  WIDE_VALUE, 1, Insn::Exit, 0),
+    ("maps before instructions",         Version::V1, 17, WIDE_VALUE, 0, Insn::Exit, 10),
+    ("no instruction",                   Version::V1, 0,  ARRAY, 0,    Insn::Exit, 12),
+    ("4096 instructions",                Version::V1, 0,  ARRAY, 4096, Insn::Exit, 0),
+    ("4097 instructions",                Version::V1, 0,  ARRAY, 4097, Insn::Exit, 14),
+    ("2049 wide instructions",           Version::V1, 0,  ARRAY, 2049, WIDE_MOVE,  14),
+    ("an address in version 1",          Version::V1, 0,  ARRAY, 2,    ADDRESS,    16),
+    ("an address in version 2",          Version::V2, 0,  ARRAY, 2,    ADDRESS,    0),
 ];
 
 #[test]
 fn images_of_parts(rt: HostRuntime) -> Result<(), Fail> {
-    for (name, maps, map, code, insn, want) in PARTS {
-        let number = part_fault(rt.alloc(), maps, map, code, insn)?;
+    for (name, version, maps, map, code, insn, want) in PARTS {
+        let number = part_fault(rt.alloc(), version, maps, map, code, insn)?;
         assert_eq!(rt; number, want, "{name}");
     }
     Ok(())

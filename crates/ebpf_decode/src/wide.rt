@@ -2,11 +2,12 @@
 
 ghost use Rattle.std.specs.Prelude.{◌≡◌, ◌+◌, ◌*◌, ◌^◌, IsTrue};
 ghost use Rattle.std.specs.Int.{w32, cast_unsigned};
-ghost use Rattle.ebpf_decode.specs.InstructionReading.{is_legacy_mode, is_legacy, exact_head, number_head_at, map_head_at, head_at, wide_insn, second_slot, second_at};
+ghost use Rattle.ebpf_decode.specs.InstructionReading.{is_legacy_mode, is_legacy, exact_head, number_head_at, map_head_at, value_head_at, head_at, wide_insn, second_slot, second_at};
 
 use crate::fault::SlotFault;
 use crate::insn::Insn;
 use crate::slot::Slot;
+use crate::version::Version;
 use crate::{codes, encoding};
 use isa::{Mode, Register, Size};
 
@@ -17,6 +18,8 @@ pub enum WideHead {
     Number { dst: Register, low: i32 },
     /// A map, by its place in the image's list.
     Map { dst: Register, map: i32 },
+    /// An address in a value of a map, the map by its place.
+    Value { dst: Register, map: i32 },
 }
 
 /// What one slot gives.
@@ -47,7 +50,7 @@ impl WideHead {
         ensures { result ≡ second_slot self slot }
     {
         let immediate = match self {
-            WideHead::Number { .. } => slot.immediate,
+            WideHead::Number { .. } | WideHead::Value { .. } => slot.immediate,
             WideHead::Map { .. } => 0,
         };
         Slot {
@@ -69,6 +72,11 @@ impl WideHead {
                 value: joined(slot.immediate, low),
             },
             WideHead::Map { dst, map } => Insn::Ldmap { dst, map },
+            WideHead::Value { dst, map } => Insn::Ldval {
+                dst,
+                map,
+                offset: slot.immediate.cast_unsigned(),
+            },
         }
     }
 }
@@ -91,17 +99,18 @@ fn is_legacy_mode(mode: Option<Mode>) -> bool
 }
 
 impl Slot {
-    /// The head of a wide instruction in a slot of class LD, or its first fault. The sources 2 to 6 and the legacy loads are
-    /// not in the profile.
+    /// The head of a wide instruction in a slot of class LD, or its first fault. The sources 3 to 6, in version 1 also 2, and
+    /// the legacy loads are not in the profile.
     #[tactic(auto, unfolding(crate::specs::InstructionReading::head_at))]
-    pub(crate) fn head(self) -> Result<WideHead, SlotFault>
-        ensures { result ≡ head_at self }
+    pub(crate) fn head(self, version: Version) -> Result<WideHead, SlotFault>
+        ensures { result ≡ head_at version self }
     {
         if self.opcode == encoding::wide_opcode() {
             match self.src {
                 0 => self.number_head(),
                 1 => self.map_head(),
-                2..=6 => Err(SlotFault::NotInProfile),
+                2 => self.value_head(version),
+                3..=6 => Err(SlotFault::NotInProfile),
                 _ => Err(SlotFault::UnknownOpcode),
             }
         } else if self.is_legacy() {
@@ -134,6 +143,27 @@ impl Slot {
     {
         let dst = codes::register_at(self.dst)?;
         self.exact_head(WideHead::Map {
+            dst,
+            map: self.immediate,
+        })
+    }
+
+    #[tactic(auto, unfolding(crate::specs::InstructionReading::value_head_at))]
+    fn value_head(self, version: Version) -> Result<WideHead, SlotFault>
+        ensures { result ≡ value_head_at version self }
+    {
+        match version {
+            Version::V1 => Err(SlotFault::NotInProfile),
+            Version::V2 => self.value_head_of_version_2(),
+        }
+    }
+
+    #[tactic(auto, unfolding(crate::specs::InstructionReading::value_head_at))]
+    fn value_head_of_version_2(self) -> Result<WideHead, SlotFault>
+        ensures { result ≡ value_head_at Version.V2 self }
+    {
+        let dst = codes::register_at(self.dst)?;
+        self.exact_head(WideHead::Value {
             dst,
             map: self.immediate,
         })

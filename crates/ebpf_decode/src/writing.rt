@@ -14,6 +14,7 @@ use crate::image::Image;
 use crate::insn::Insn;
 use crate::map::MapDef;
 use crate::slot::Slot;
+use crate::version::Version;
 use std::alloc::{AllocError, Global};
 
 fn put_word(out: &mut Vec<u8>, number: u32) -> Result<(), AllocError>
@@ -73,11 +74,11 @@ fn put_code(out: &mut Vec<u8>, code: &[Insn]) -> Result<(), AllocError>
     Ok(())
 }
 
-/// The first eight bytes of an image with so many maps.
-fn head(count: u8) -> [u8; 8]
-    ensures { result ≡ head_bytes count }
+/// The first eight bytes of an image of this version with so many maps.
+fn head(version: Version, count: u8) -> [u8; 8]
+    ensures { result ≡ head_bytes version count }
 {
-    [0x58, 0x4c, 0x42, 0x50, 1, count, 0, 0]
+    [0x58, 0x4c, 0x42, 0x50, version.number(), count, 0, 0]
 }
 
 /// The one encoding of an image. It fails only where memory is refused.
@@ -86,7 +87,7 @@ pub fn encode(alloc: Global, image: &Image) -> Result<Vec<u8>, AllocError>
 {
     let maps = image.maps();
     let mut out = Vec::new(alloc);
-    out.extend_from_slice(&head(maps.len() as u8))?;
+    out.extend_from_slice(&head(image.version(), maps.len() as u8))?;
     put_maps(&mut out, maps)?;
     put_code(&mut out, image.code())?;
     Ok(out)

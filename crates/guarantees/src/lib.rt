@@ -28,7 +28,7 @@ pub fn accepted_images_are_safe(verified: &Verified)
     ensures { IsSafeImage verified.now.maps verified.now.code }
 {
     accepted_is_safe();
-    let _ = verified.image().maps();
+    verified.image().served_parts();
 }
 
 /// A worker's run: `PlainPort::over` makes its port over shards that it is not inside of, `run` ends, and `finish` leaves the shards.

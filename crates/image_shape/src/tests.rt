@@ -1,7 +1,7 @@
 //! Programs and their first faults, worked out by hand.
 
 use super::*;
-use ebpf_decode::{Image, Insn, decode};
+use ebpf_decode::{Image, Insn, Version, decode};
 use isa::{AluOp, Register, Source, Test, Width};
 use std::alloc::{AllocError, Global};
 use std::test::Fail;
@@ -121,7 +121,7 @@ const REFUSED: [(&str, &[Insn], ShapeFault); 22] = [
 fn image_of(alloc: Global, code: &[Insn]) -> Result<Image, Fail> {
     let mut all = Vec::new(alloc);
     all.extend_from_slice(code)?;
-    Ok(Image::of(Vec::new(alloc), all)?)
+    Ok(Image::of(Version::V1, Vec::new(alloc), all)?)
 }
 
 #[test]
@@ -201,7 +201,7 @@ fn moves(alloc: Global, count: u32) -> Result<Image, Fail> {
         code.push(MOV)?;
     }
     code.push(EXIT)?;
-    Ok(Image::of(Vec::new(alloc), code)?)
+    Ok(Image::of(Version::V1, Vec::new(alloc), code)?)
 }
 
 #[test]

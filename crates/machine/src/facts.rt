@@ -1,7 +1,7 @@
 //! Facts of types, each brought into a proof by a function that does nothing and is named after the fact.
 
 ghost use Rattle.std.specs.Prelude.{◌≡◌, ◌≤◌, ◌<◌, ◌^◌, length, All};
-ghost use Rattle.ebpf_decode.specs.ImageContents.{IsEncodable};
+ghost use Rattle.ebpf_decode.specs.Served.{AreServedParts};
 ghost use Rattle.semantics.specs.System.{IsInputFrame};
 ghost use Rattle.verifier.specs.Dataflow.{Accepts};
 ghost use Rattle.machine.specs.Meaning.{IsWhole};
@@ -13,9 +13,9 @@ use wire::Frame;
 /// A verified image's program is let through by its entry states, and is one that the image format encodes.
 pub(crate) fn program_is_accepted(verified: &Verified)
     ensures accepted { Accepts verified.now.maps verified.now.code verified.now.states }
-    ensures encodable { IsEncodable verified.now.maps verified.now.code }
+    ensures encodable { AreServedParts verified.now.maps verified.now.code }
 {
-    let _ = verified.image().maps();
+    verified.image().served_parts();
 }
 
 /// A frame has at most 2304 bytes.

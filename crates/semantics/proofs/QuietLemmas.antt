@@ -1,5 +1,5 @@
 -- A run's own calls neither begin nor end a section: it looks up, loads, stores, changes, updates and deletes.
-use Rattle.std.proofs.Common.{◌≡◌, ℕ, ◌+◌, ◌%◌, ◌^◌, Bool, true, false, ℤ, pos, negsuc, ◌+ℤ◌, List, Option, Some, None, Ok, Err, refl, sym}
+use Rattle.std.proofs.Common.{◌≡◌, ℕ, ◌+◌, ◌*◌, ◌%◌, ◌^◌, Bool, true, false, ℤ, pos, negsuc, ◌+ℤ◌, List, Option, Some, None, Ok, Err, refl, sym}
 use Rattle.isa.specs.declared.operation.Width.{Width}
 use Rattle.isa.specs.declared.operation.Size.{Size}
 use Rattle.isa.specs.declared.operation.Extension.{Extension}
@@ -7,7 +7,7 @@ use Rattle.isa.specs.declared.operation.Register.{Register}
 use Rattle.isa.specs.declared.operation.Register.TheVariants.{R1, R2, R3, R4, R10}
 use Rattle.isa.specs.declared.operation.AtomicOp.{AtomicOp}
 use Rattle.ebpf_decode.specs.declared.insn.Insn.{Insn}
-use Rattle.ebpf_decode.specs.declared.insn.Insn.TheVariants.{Alu, Neg, Movsx, Movsx32, End, Ja, Ja32, JumpIf, Ldx, Ldxs, St, Stx, AtomicUpdate, Lddw, Ldmap, CallHelper, Exit}
+use Rattle.ebpf_decode.specs.declared.insn.Insn.TheVariants.{Alu, Neg, Movsx, Movsx32, End, Ja, Ja32, JumpIf, Ldx, Ldxs, St, Stx, AtomicUpdate, Lddw, Ldmap, Ldval, CallHelper, Exit}
 use Rattle.ebpf_decode.specs.declared.map.MapDef.{MapDef}
 use Rattle.ebpf_decode.specs.InstructionEncoding.{slot_count}
 use Rattle.isa.specs.InstructionCodes.{atomic_code, width_size, size_bytes}
@@ -24,7 +24,7 @@ use Rattle.semantics.specs.Helpers.{map_argument, map_at, bytes_argument, number
 use Rattle.semantics.specs.declared.linux.Helper.{Helper}
 use Rattle.semantics.specs.declared.linux.Helper.TheVariants.{MapLookupElem, MapUpdateElem, MapDeleteElem, KtimeGetNs, GetSmpProcessorId, XdpAdjustHead}
 use Rattle.semantics.specs.Linux.{helper_of}
-use Rattle.semantics.specs.Semantics.{word_value, stored_places, stored_number, with_fetched, expected_number, at_next_slot, jump_step, branch_step, written_register, write_step, load_cell_step, load_step, load_signed_step, store_step, after_fetch, fetched_register, atomic_step, exit_step, instruction_step, step_of, next_step}
+use Rattle.semantics.specs.Semantics.{first_key, value_address, value_address_step, word_value, stored_places, stored_number, with_fetched, expected_number, at_next_slot, jump_step, branch_step, written_register, write_step, load_cell_step, load_step, load_signed_step, store_step, after_fetch, fetched_register, atomic_step, exit_step, instruction_step, step_of, next_step}
 use Rattle.semantics.specs.declared.call.SectionChange.TheVariants.{Stays}
 use Rattle.semantics.specs.Sections.{section_change}
 
@@ -51,6 +51,12 @@ load_cell_quiet : (program : Program) (insn : Insn) (state : MachineState) (dst 
 load_cell_quiet program insn state dst map shard cell offset count convert =
     quiet_twice (cell_range program map offset count) (λ from. written_register state dst Uninitialized)
     (λ from checked. CallsMap (Load (cell_ref shard cell) from count) (λ reply. at_next_slot insn (with_register state dst (word_value convert reply)))) (λ from checked. refl)
+
+value_address_quiet : (program : Program) (insn : Insn) (state : MachineState) (dst : Register) (map : ℤ) (offset : ℕ) → IsQuiet (value_address_step program insn state dst map offset)
+value_address_quiet program insn state dst (pos map) offset =
+    quiet_twice (map_at program map) (λ definition. written_register state dst Uninitialized)
+    (λ definition checked. CallsMap (Lookup (map * program.shards) first_key) (λ reply. at_next_slot insn (with_register state dst (value_address map offset reply)))) (λ definition checked. refl)
+value_address_quiet program insn state dst (negsuc before) offset = tt
 
 load_quiet : (program : Program) (insn : Insn) (state : MachineState) (dst : Register) (base : RegisterValue) (offset : ℤ) (size : Size) → IsQuiet (load_step program insn state dst base offset size)
 load_quiet program insn state dst ContextPointer offset size = write_quiet insn state dst _
@@ -171,6 +177,7 @@ step_quiet program state (Stx size dst src offset) = store_quiet program (Stx si
 step_quiet program state (AtomicUpdate width op dst src offset) = atomic_quiet program (AtomicUpdate width op dst src offset) state width op _ src offset
 step_quiet program state (Lddw dst value) = write_quiet (Lddw dst value) state dst (Ok (Number value))
 step_quiet program state (Ldmap dst map) = write_quiet (Ldmap dst map) state dst _
+step_quiet program state (Ldval dst map offset) = value_address_quiet program (Ldval dst map offset) state dst map offset
 step_quiet program state (CallHelper helper) = helper_quiet program state helper
 step_quiet program state Exit = exit_quiet state _
 

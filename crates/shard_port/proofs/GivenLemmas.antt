@@ -9,8 +9,9 @@ use Rattle.std.proofs.lemmas.Bool.Decides.{nat_tests}
 use Rattle.ebpf_decode.specs.declared.map.MapDef.{MapDef}
 use Rattle.ebpf_decode.specs.declared.map.MapKind.{MapKind}
 use Rattle.ebpf_decode.specs.declared.map.MapKind.TheVariants.{Hash, Array, LruHash}
-use Rattle.ebpf_decode.specs.MapForm.{is_served, is_key_size, is_value_size, is_entry_count}
-use Rattle.ebpf_decode.specs.ImageContents.{IsAllowedMap}
+use Rattle.ebpf_decode.specs.declared.version.Version.TheVariants.{V1}
+use Rattle.ebpf_decode.specs.MapForm.{is_key_size, is_value_size, is_entry_count}
+use Rattle.ebpf_decode.specs.Served.{is_served_kind, IsServedMap}
 use Rattle.semantics.specs.declared.options.Options.{Options}
 use Rattle.semantics.specs.declared.plan.ShardPlan.{ShardPlan}
 use Rattle.semantics.specs.declared.call.Caller.TheVariants.{Worker}
@@ -35,17 +36,17 @@ use Rattle.shard_port.proofs.MayAskLemmas.{served_by, shard_of_known, few_parts}
 
 -- ---- arrays
 
-pub allowed_at : (maps : List MapDef) (map : ℕ) (definition : MapDef) → AllByRecursion IsAllowedMap maps → slice_get maps map ≡ Some definition → IsAllowedMap definition
+pub allowed_at : (maps : List MapDef) (map : ℕ) (definition : MapDef) → AllByRecursion IsServedMap maps → slice_get maps map ≡ Some definition → IsServedMap definition
 allowed_at [] map definition each known = cc
-allowed_at (first ∷ rest) zero definition each known = let same : first ≡ definition = cc in subst IsAllowedMap same each.0
+allowed_at (first ∷ rest) zero definition each known = let same : first ≡ definition = cc in subst IsServedMap same each.0
 allowed_at (first ∷ rest) (suc map) definition each known = allowed_at rest map definition each.1 known
 
-served_kind : (kind : MapKind) → IsTrue (is_served kind) → kind ≡ Array
+served_kind : (kind : MapKind) → IsTrue (is_served_kind kind) → kind ≡ Array
 served_kind Hash served = cc
 served_kind Array served = refl
 served_kind LruHash served = cc
 
-pub array_of : (definition : MapDef) → IsAllowedMap definition → definition.kind ≡ Array
+pub array_of : (definition : MapDef) → IsServedMap definition → definition.kind ≡ Array
 array_of definition allowed = served_kind definition.kind (first_true _ _ (first_true _ _ (first_true _ _ allowed)))
 
 four_bytes : (kind : MapKind) (size : ℕ) → kind ≡ Array → IsTrue (is_key_size kind size) → size ≡ 4
@@ -53,12 +54,12 @@ four_bytes Hash size is sized = cc
 four_bytes Array size is sized = grind (arith, nat_tests)
 four_bytes LruHash size is sized = cc
 
-pub key_bytes : (definition : MapDef) → IsAllowedMap definition → definition.key_size ≡ 4
+pub key_bytes : (definition : MapDef) → IsServedMap definition → definition.key_size ≡ 4
 key_bytes definition allowed = four_bytes definition.kind definition.key_size (array_of definition allowed) (second_true _ _ (first_true _ _ (first_true _ _ allowed)))
 
-pub few_entries : (definition : MapDef) → IsAllowedMap definition → definition.max_entries ≤ 131072
+pub few_entries : (definition : MapDef) → IsServedMap definition → definition.max_entries ≤ 131072
 few_entries definition allowed =
-    let counted : IsTrue (is_entry_count definition.max_entries) = second_true (is_served definition.kind && is_key_size definition.kind definition.key_size && is_value_size definition.value_size) (is_entry_count definition.max_entries) allowed in
+    let counted : IsTrue (is_entry_count definition.max_entries) = second_true (is_served_kind definition.kind && is_key_size definition.kind definition.key_size && is_value_size V1 definition.value_size) (is_entry_count definition.max_entries) allowed in
     grind (arith, nat_tests)
 
 pub array_shard_of : (maps : List MapDef) (options : Options) (worker : ℕ) (shards : List JournaledShard) (map : ℕ) (key : List ℕ) → IsReady maps options worker shards → IsKeyOf (served_by maps options) map key → shard_of (served_by maps options) map key ≡ map * options.shards + number_of_bytes key % options.shards
@@ -100,7 +101,7 @@ small_lookup maps options worker before number key reply after ready among =
     let plan : ShardPlan = among.shard.plan in
     let is : IsShardOf maps options number among.shard = ready.are_shards.each number among.shard among.known in
     let planned = plan_number options number (slice_get maps (number / options.shards)) plan is.planned in
-    let allowed : IsAllowedMap plan.definition = allowed_at maps (number / options.shards) plan.definition ready.allowed planned.4 in
+    let allowed : IsServedMap plan.definition = allowed_at maps (number / options.shards) plan.definition ready.allowed planned.4 in
     let within : number < length before = slice_get_within before number among.shard among.known in
     let few : length before ≤ 128 = few_shards maps options worker before ready in
     let numbered : plan.number ≡ number = planned.0 in

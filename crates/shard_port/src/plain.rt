@@ -1,6 +1,7 @@
 //! The port of a single caller: one worker, one run at a time, no lock.
 
 ghost use Rattle.std.specs.Prelude.{◌≡◌, ◌<◌, ◌≤◌, ◌+◌, ◌*◌, ◌%◌, ◌^◌, ℕ, pos, IsTrue, IfOk, IfErr, OnErr, length, slice_get, nat_lt, IsFalse, OnOk};
+ghost use Rattle.ebpf_decode.specs.Served.{IsServedImage};
 ghost use Rattle.semantics.specs.ShardPlan.{AreOptions};
 ghost use Rattle.semantics.specs.History.{shard_of_call, IsLegalJournal};
 ghost use Rattle.shard_port.specs.Asking.{may_ask_at, all_left, IsAnsweredAmong, IsTurnedAwayAmong, entered, left, can_enter, may_ask, IsAnswered, IsTurnedAway, IsWorkerOf};
@@ -41,6 +42,7 @@ impl<'a> PlainPort<'a> {
         shards: &'a mut Shards,
         worker: u8,
     ) -> PlainPort<'a>
+        requires served { IsServedImage image.now }
         requires options { AreOptions image.now.maps options }
         requires shards { ServesMaps image.now.maps options shards.old }
         requires worker { worker < options.workers }
@@ -50,7 +52,7 @@ impl<'a> PlainPort<'a> {
         ensures options { result.options ≡ options }
         ensures worker { result.worker ≡ worker }
     {
-        let _ = image.maps();
+        image.served_parts();
         PlainPort {
             shards,
             image,

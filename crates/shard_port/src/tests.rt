@@ -1,6 +1,7 @@
 //! Rows that call a port.
 
 ghost use Rattle.std.specs.Prelude.{◌≡◌, ◌<◌, ◌≤◌, IfOk, OnOk, All, length};
+ghost use Rattle.ebpf_decode.specs.Served.{IsServedImage};
 ghost use Rattle.semantics.specs.ShardPlan.{AreOptions};
 ghost use Rattle.map_port.specs.Served.{IsReadable};
 ghost use Rattle.shard_port.specs.PortView.{ServesMaps};
@@ -8,7 +9,7 @@ ghost use Rattle.shard_port.specs.ExampleMaps.{array_of, example_maps};
 
 use crate::laws::opened_serve;
 use crate::plain::PlainPort;
-use ebpf_decode::{Image, Insn, MapDef, MapKind};
+use ebpf_decode::{Image, Insn, MapDef, MapKind, Version};
 use isa::AtomicOp;
 use map_port::MapPort;
 use semantics::{Call, Caller, CellRef, Entry, JournalFull, Key, Options, Reply, Value};
@@ -45,14 +46,15 @@ type Row = (&'static str, Ask, Got);
 
 /// An image of two arrays.
 fn arrays(alloc: Global) -> Result<Image, Fail>
-    ensures { IfOk result (λ image. image.maps ≡ example_maps) }
+    ensures maps { IfOk result (λ image. image.maps ≡ example_maps) }
+    ensures served { IfOk result IsServedImage }
 {
     let mut maps = Vec::new(alloc);
     maps.push(array_of(1))?;
     maps.push(array_of(3))?;
     let mut code = Vec::new(alloc);
     code.push(Insn::Exit)?;
-    Ok(Image::of(maps, code)?)
+    Ok(Image::of(Version::V1, maps, code)?.served()?)
 }
 
 fn array_of(max_entries: u32) -> MapDef
@@ -217,6 +219,7 @@ fn run(
     shards: &mut Shards,
     rows: &[Row],
 ) -> Option<JournalFull>
+    requires served { IsServedImage image.now }
     requires maps { image.now.maps ≡ example_maps }
     requires options { AreOptions image.now.maps options }
     requires shards { ServesMaps image.now.maps options shards.old }
@@ -387,6 +390,7 @@ fn look_once(
     shards: &mut Shards,
     index: u32,
 ) -> Result<u64, JournalFull>
+    requires served { IsServedImage image.now }
     requires maps { image.now.maps ≡ example_maps }
     requires options { AreOptions image.now.maps options }
     requires shards { ServesMaps image.now.maps options shards.old }

@@ -2,7 +2,7 @@
 
 ghost use Rattle.std.specs.Prelude.{◌≡◌, ◌*◌, ◌<◌, ◌≤◌, Some, IfOk, IsTrue, length};
 ghost use Rattle.std.specs.List.{AllByRecursion};
-ghost use Rattle.ebpf_decode.specs.ImageContents.{IsAllowedMap};
+ghost use Rattle.ebpf_decode.specs.Served.{IsServedMap};
 ghost use Rattle.semantics.specs.ShardPlan.{plan_at};
 ghost use Rattle.shard_core.specs.ArrayShard.{IsArrayPlan};
 ghost use Rattle.shards.specs.Opening.{is_shard_count, are_equal_parts, are_served_options, AreOpened};
@@ -41,7 +41,7 @@ pub fn are_served(maps: &[MapDef], options: &Options) -> bool
 
 /// What the shard of a number is opened with.
 fn plan_at(maps: &[MapDef], options: &Options, number: u32) -> ShardPlan
-    requires allowed { AllByRecursion IsAllowedMap maps.now }
+    requires allowed { AllByRecursion IsServedMap maps.now }
     requires served { IsTrue (are_served_options maps.now options.now) }
     requires number { number < length maps.now * options.now.shards }
     ensures plan { Some result ≡ plan_at maps.now options.now number }
@@ -64,7 +64,7 @@ pub fn open_each(
     maps: &[MapDef],
     options: &Options,
 ) -> Result<Vec<Shard>, AllocError>
-    requires allowed { AllByRecursion IsAllowedMap maps.now }
+    requires allowed { AllByRecursion IsServedMap maps.now }
     requires few { length maps.now ≤ 16 }
     requires served { IsTrue (are_served_options maps.now options.now) }
     ensures { IfOk result (λ shards. AreOpened maps.now options.now shards.items) }

@@ -2,6 +2,7 @@
 
 ghost use Rattle.std.specs.Prelude.{◌≡◌, ◌<◌, ◌↔◌, Some, IfOk, OnOk, IsErrOf, IsFalse, length, slice_get};
 ghost use Rattle.std.specs.Borrow.{sem};
+ghost use Rattle.ebpf_decode.specs.Served.{IsServedImage};
 ghost use Rattle.semantics.specs.ShardPlan.{AreOptions};
 ghost use Rattle.shards.specs.Opening.{are_served_options, AreOpened};
 ghost use Rattle.shards.specs.declared.fault.OpenFault.TheVariants.{BadOptions};
@@ -34,10 +35,12 @@ impl Shards {
     /// The shards of the image's maps, in which nothing has happened. Takes all memory that they will ever need. Refused with
     /// 51 where the options are none that are served, and with 52 without memory.
     pub fn open(alloc: Global, image: &Image, options: Options) -> Result<Self, OpenFault>
+        requires served { IsServedImage image.now }
         ensures opened { IfOk result (λ shards. AreOpened image.now.maps options shards) }
         ensures options { OnOk result (AreOptions image.now.maps options) }
         ensures bad_options { IsErrOf result BadOptions ↔ IsFalse (are_served_options image.now.maps options) }
     {
+        image.served_parts();
         let maps = image.maps();
         if !are_served(maps, &options) {
             return Err(OpenFault::BadOptions);

@@ -1,15 +1,20 @@
 //! Rows that open shards.
 
+ghost use Rattle.std.specs.Prelude.{IfOk};
+ghost use Rattle.ebpf_decode.specs.Served.{IsServedImage};
+
 use crate::fault::OpenFault;
 use crate::shards::Shards;
-use ebpf_decode::{Image, Insn, MapDef, MapKind};
+use ebpf_decode::{Image, Insn, MapDef, MapKind, Version};
 use shard_core::{Call, Caller, CellRef, JournalFull, Key, Options, Reply, Shard};
 use std::alloc::Global;
 use std::process::Abort;
 use std::test::Fail;
 
 /// An image of two arrays.
-fn two_maps(alloc: Global) -> Result<Image, Fail> {
+fn two_maps(alloc: Global) -> Result<Image, Fail>
+    ensures { IfOk result IsServedImage }
+{
     let mut maps = Vec::new(alloc);
     for max_entries in [3, 4096] {
         maps.push(MapDef {
@@ -21,7 +26,7 @@ fn two_maps(alloc: Global) -> Result<Image, Fail> {
     }
     let mut code = Vec::new(alloc);
     code.push(Insn::Exit)?;
-    Ok(Image::of(maps, code)?)
+    Ok(Image::of(Version::V1, maps, code)?.served()?)
 }
 
 #[rattlefmt::skip]

@@ -4,7 +4,7 @@ use Rattle.std.specs.Prelude.{IsOk}
 use Rattle.std.proofs.lemmas.Bool.{cases_lt}
 use Rattle.isa.specs.declared.operation.Register.TheVariants.{R0}
 use Rattle.ebpf_decode.specs.declared.insn.Insn.{Insn}
-use Rattle.ebpf_decode.specs.declared.insn.Insn.TheVariants.{Alu, Neg, Movsx, Movsx32, End, Ja, Ja32, JumpIf, Ldx, Ldxs, St, Stx, AtomicUpdate, Lddw, Ldmap, CallHelper, Exit}
+use Rattle.ebpf_decode.specs.declared.insn.Insn.TheVariants.{Alu, Neg, Movsx, Movsx32, End, Ja, Ja32, JumpIf, Ldx, Ldxs, St, Stx, AtomicUpdate, Lddw, Ldmap, Ldval, CallHelper, Exit}
 use Rattle.ebpf_decode.specs.Jumps.{jump_distance}
 use Rattle.ebpf_decode.specs.declared.map.MapDef.{MapDef}
 use Rattle.ebpf_decode.specs.InstructionEncoding.{total_slots}
@@ -119,6 +119,7 @@ stays maps state slot (Ldxs extension dst src offset) flow none e = falls_on _ f
 stays maps state slot (St size dst offset immediate) flow none e = falls_on _ flow e
 stays maps state slot (Stx size dst src offset) flow none e = falls_on _ flow e
 stays maps state slot (AtomicUpdate width op dst src offset) flow none e = falls_on _ flow e
+stays maps state slot (Ldval dst map offset) flow none e = absurd cc
 stays maps state slot (CallHelper helper) flow none e = falls_on _ flow e
 stays maps state slot Exit flow none e = ends_so (reads state R0) (verdict_kind (kind_of state R0)) flow e
 

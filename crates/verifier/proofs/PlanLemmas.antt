@@ -6,7 +6,7 @@ use Rattle.std.proofs.lemmas.Option.{slice_get_cases, slice_get_within, get_or_f
 use Rattle.std.proofs.lemmas.List.Elements.{All-get_or}
 use Rattle.ebpf_decode.specs.declared.map.MapKind.{MapKind}
 use Rattle.ebpf_decode.specs.declared.map.MapKind.TheVariants.{Array, Hash, LruHash}
-use Rattle.ebpf_decode.specs.MapForm.{is_served, is_allowed_map}
+use Rattle.ebpf_decode.specs.Served.{is_served_kind, is_served_map}
 use Rattle.semantics.proofs.ConditionLemmas.{first_true, bytes_test}
 use Rattle.ebpf_decode.specs.declared.map.MapDef.{MapDef}
 use Rattle.ebpf_decode.specs.declared.insn.Insn.{Insn}
@@ -173,12 +173,12 @@ some_shards maps options fits = ⊎_elim
     (λ more. ⊎_elim (λ two. omega (arith, two)) (λ many. ⊎_elim (λ four. omega (arith, four)) (λ eight. omega (arith, eight)) many) more)
     fits.power_of_two
 
-array_served : (kind : MapKind) → is_served kind ≡ true → kind ≡ Array
+array_served : (kind : MapKind) → is_served_kind kind ≡ true → kind ≡ Array
 array_served Array served = refl
 array_served Hash served = absurd cc
 array_served LruHash served = absurd cc
 
-array_allowed : (definition : MapDef) → is_allowed_map definition ≡ true → definition.kind ≡ Array
+array_allowed : (definition : MapDef) → is_served_map definition ≡ true → definition.kind ≡ Array
 array_allowed definition allowed = array_served definition.kind (first_true _ _ (first_true _ _ (first_true _ _ allowed)))
 
 at_plan : (maps : List MapDef) (options : Options) (shard : ℕ) (plan : ShardPlan) (P : MapDef → Type 0) → plan_at maps options shard ≡ Some plan → All P maps → P plan.definition
@@ -188,10 +188,10 @@ at_plan maps options shard plan P planned all =
     (All-get_or P maps (shard / options.shards) plan.definition facts.within all)
 
 -- the plan of an allowed map is an array's
-pub plan_of_array : (maps : List MapDef) (options : Options) (shard : ℕ) (plan : ShardPlan) → All (λ map. is_allowed_map map ≡ true) maps →
+pub plan_of_array : (maps : List MapDef) (options : Options) (shard : ℕ) (plan : ShardPlan) → All (λ map. is_served_map map ≡ true) maps →
     plan_at maps options shard ≡ Some plan → plan.definition.kind ≡ Array
 plan_of_array maps options shard plan allowed planned =
-    array_allowed plan.definition (at_plan maps options shard plan (λ map. is_allowed_map map ≡ true) planned allowed)
+    array_allowed plan.definition (at_plan maps options shard plan (λ map. is_served_map map ≡ true) planned allowed)
 
 pub plan_in_equal_parts : (maps : List MapDef) (options : Options) (shard : ℕ) (plan : ShardPlan) → AreOptions maps options →
     plan_at maps options shard ≡ Some plan → plan.definition.max_entries % plan.parts ≡ 0

@@ -2,7 +2,7 @@
 use Rattle.std.proofs.Common.{◌≡◌, inl, inr, ℕ, zero, suc, ◌+◌, ◌-◌, ◌<◌, Bool, true, false, pos, List, Option, Some, None, Ok, Err, refl, sym, ap, subst, ◌∙◌, arith}
 use Rattle.std.specs.Prelude.{◌+ℤ◌, IsSome, IsTrue}
 use Rattle.ebpf_decode.specs.declared.insn.Insn.{Insn}
-use Rattle.ebpf_decode.specs.declared.insn.Insn.TheVariants.{Ja, Ja32, JumpIf, Exit}
+use Rattle.ebpf_decode.specs.declared.insn.Insn.TheVariants.{Ja, Ja32, JumpIf, Ldval, Exit}
 use Rattle.ebpf_decode.specs.declared.map.MapDef.{MapDef}
 use Rattle.ebpf_decode.specs.InstructionEncoding.{total_slots}
 use Rattle.isa.specs.declared.operation.Width.{Width}
@@ -139,6 +139,7 @@ flows_along maps state slot (JumpIf width test dst source distance) target flow 
     splits_along slot (JumpIf width test dst source distance) target (refine_state state width test dst source true) (refine_state state width test dst source false) flow
     (test_splits state width test dst source flow e) edge
 flows_along maps state slot Exit target flow e edge = absurd (no_edge slot target edge)
+flows_along maps state slot (Ldval dst map offset) target flow e edge = absurd cc
 flows_along maps state slot insn target flow e edge = falls_along slot insn target _ flow e refl edge
 
 -- ---- along a path

@@ -3,7 +3,7 @@
 use Rattle.std.proofs.Common.{◌≡◌, ℕ, ◌*◌, ◌<◌, ◌≤◌, true, List, [], length, Option, Some}
 use Rattle.std.specs.Prelude.{All}
 use Rattle.std.specs.List.{AllByRecursion}
-use Rattle.ebpf_decode.specs.MapForm.{is_allowed_map}
+use Rattle.ebpf_decode.specs.Served.{is_served_map}
 use Rattle.ebpf_decode.specs.InstructionEncoding.{total_slots, FieldsFit}
 use Rattle.semantics.specs.declared.call.Entry.{Entry}
 use Rattle.semantics.specs.MachineState.{MachineState}
@@ -41,7 +41,7 @@ pub record IsSoundShard (plan : ShardPlan) (history : List Entry) : Type 0 where
 -- what a setting is: an accepted program over maps that images may have, and options that fit them
 pub record IsSetting (setting : Setting) (states : List (Option State)) : Type 0 where
   pub options : AreOptions setting.maps setting.options
-  pub allowed : All (λ map. is_allowed_map map ≡ true) setting.maps
+  pub allowed : All (λ map. is_served_map map ≡ true) setting.maps
   pub accepted : Accepts setting.maps setting.code states
   pub some_code : 0 < total_slots setting.code
   pub fits : AllByRecursion FieldsFit setting.code

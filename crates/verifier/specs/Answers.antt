@@ -2,7 +2,7 @@
 use Rattle.std.specs.Prelude.{◌≡◌, ◌≢◌, ℕ, ◌<◌, List, Option, Some, None, IsSome}
 use Rattle.ebpf_decode.specs.declared.insn.Insn.{Insn}
 use Rattle.ebpf_decode.specs.declared.map.MapDef.{MapDef}
-use Rattle.ebpf_decode.specs.ImageContents.{IsEncodable}
+use Rattle.ebpf_decode.specs.Served.{AreServedParts}
 use Rattle.ebpf_decode.specs.Jumps.{jump_distance}
 use Rattle.semantics.specs.Program.{instruction_at}
 use Rattle.semantics.specs.Safety.{IsSafeImage}
@@ -41,4 +41,4 @@ EachInstructionHasState =
 -- a program of an image that some entry states let through is safe
 abbrev pub AcceptedIsSafe : Type 0
 AcceptedIsSafe =
-    (maps : List MapDef) (code : List Insn) (states : List (Option State)) → IsEncodable maps code → Accepts maps code states → IsSafeImage maps code
+    (maps : List MapDef) (code : List Insn) (states : List (Option State)) → AreServedParts maps code → Accepts maps code states → IsSafeImage maps code

@@ -1,7 +1,10 @@
 //! Programs that are accepted, and programs with their first reject, worked out by hand.
 
+ghost use Rattle.std.specs.Prelude.{IfOk};
+ghost use Rattle.ebpf_decode.specs.Served.{IsServedImage};
+
 use super::*;
-use ebpf_decode::{Image, Insn, MapDef, MapKind};
+use ebpf_decode::{Image, Insn, MapDef, MapKind, Version};
 use isa::{AluOp, Register, Size, Source, Test, Width};
 use std::alloc::Global;
 use std::test::Fail;
@@ -349,12 +352,14 @@ const REFUSED: [(&str, &[Insn], Reject); 25] = [
 ];
 
 /// An image of this program with one map.
-fn image_of(alloc: Global, code: &[Insn]) -> Result<Image, Fail> {
+fn image_of(alloc: Global, code: &[Insn]) -> Result<Image, Fail>
+    ensures { IfOk result IsServedImage }
+{
     let mut maps = Vec::new(alloc);
     maps.extend_from_slice(&MAPS)?;
     let mut all = Vec::new(alloc);
     all.extend_from_slice(code)?;
-    Ok(Image::of(maps, all)?)
+    Ok(Image::of(Version::V1, maps, all)?.served()?)
 }
 
 #[test]
@@ -386,7 +391,10 @@ fn refused(rt: HostRuntime) -> Result<(), Fail> {
 fn no_map_in_the_list(rt: HostRuntime) -> Result<(), Fail> {
     let mut code = Vec::new(rt.alloc());
     code.extend_from_slice(&[MAP, PASS, EXIT])?;
-    match verify(rt.alloc(), Image::of(Vec::new(rt.alloc()), code)?) {
+    match verify(
+        rt.alloc(),
+        Image::of(Version::V1, Vec::new(rt.alloc()), code)?.served()?,
+    ) {
         Ok(_) => assert!(rt; false, "a map that is none is accepted"),
         Err(reject) => assert_eq!(rt; reject, Reject::UnknownMap { slot: 0 }, "no map 0"),
     }
@@ -428,7 +436,10 @@ fn the_longest_program(rt: HostRuntime) -> Result<(), Fail> {
         code.push(PASS)?;
     }
     code.push(EXIT)?;
-    let longest = verify(rt.alloc(), Image::of(Vec::new(rt.alloc()), code)?);
+    let longest = verify(
+        rt.alloc(),
+        Image::of(Version::V1, Vec::new(rt.alloc()), code)?.served()?,
+    );
     assert!(rt; matches!(longest, Ok(_)), "4096 slots are accepted");
     Ok(())
 }

@@ -1,5 +1,6 @@
 //! What each command does with its files.
 
+ghost use Rattle.ebpf_decode.specs.declared.version.Version.TheVariants.{V1};
 ghost use Rattle.std.specs.Prelude.{◌≡◌, ◌==◌, ◌↔◌, ◌+◌, ◌-◌, ◌<◌, ◌≤◌, ◌^◌, ℕ, [], List, IfOk, OnOk, length, take, count_by, string_bytes};
 ghost use Rattle.semantics.specs.Safety.{IsSafeImage};
 ghost use Rattle.semantics.specs.ShardPlan.{AreOptions};
@@ -61,12 +62,15 @@ fn image_of<D: Folder>(alloc: Global, folder: &mut D, name: &str) -> Result<Imag
 /// The image of a file, if it may run.
 fn verified_of<D: Folder>(alloc: Global, folder: &mut D, name: &str) -> Result<Verified, Fault>
     requires { D.failure_count folder.old < 2 ^ 64 - 1 }
-    ensures file { IfOk result (λ verified. IsImageFile (D.holds folder.old) name.now (record { maps = verified.maps; code = verified.code })) }
+    ensures file { IfOk result (λ verified. IsImageFile (D.holds folder.old) name.now (record { version = V1; maps = verified.maps; code = verified.code })) }
     ensures safe { IfOk result (λ verified. IsSafeImage verified.maps verified.code) }
     ensures kept { AreKept (D.holds folder.old) (D.holds folder.new) }
     ensures steady { OnOk result (D.failure_count folder.new ≡ D.failure_count folder.old) }
 {
-    let image = image_of(alloc, folder, name)?;
+    let image = match image_of(alloc, folder, name)?.served() {
+        Ok(image) => image,
+        Err(fault) => return Err(Fault::Decode(fault)),
+    };
     match verify(alloc, image) {
         Ok(verified) => Ok(verified),
         Err(reject) => Err(Fault::Program(reject)),
@@ -135,7 +139,7 @@ fn run_over(
     requires options { AreOptions verified.now.maps run_options }
     requires headroom { frame.old.headroom ≡ 256 }
     requires worker { moment.now.worker < 8 }
-    ensures { IfOk result (λ exit. HasRun (record { maps = verified.now.maps; code = verified.now.code }) frame.old.bytes moment.now.now_ns moment.now.worker
+    ensures { IfOk result (λ exit. HasRun (record { version = V1; maps = verified.now.maps; code = verified.now.code }) frame.old.bytes moment.now.now_ns moment.now.worker
         exit.verdict exit.steps frame.new) }
 {
     opened_serve();

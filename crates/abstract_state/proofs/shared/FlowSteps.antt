@@ -12,7 +12,7 @@ use Rattle.isa.specs.declared.operation.Source.{Source}
 use Rattle.isa.specs.declared.operation.Source.TheVariants.{Imm, Reg}
 use Rattle.isa.specs.declared.operation.Register.{Register}
 use Rattle.ebpf_decode.specs.declared.insn.Insn.{Insn}
-use Rattle.ebpf_decode.specs.declared.insn.Insn.TheVariants.{Alu, Neg, Movsx, Movsx32, End, Ja, Ja32, JumpIf, Ldx, Ldxs, St, Stx, AtomicUpdate, Lddw, Ldmap, CallHelper, Exit}
+use Rattle.ebpf_decode.specs.declared.insn.Insn.TheVariants.{Alu, Neg, Movsx, Movsx32, End, Ja, Ja32, JumpIf, Ldx, Ldxs, St, Stx, AtomicUpdate, Lddw, Ldmap, Ldval, CallHelper, Exit}
 use Rattle.ebpf_decode.specs.declared.map.MapDef.{MapDef}
 use Rattle.ebpf_decode.specs.InstructionEncoding.{FieldsFit}
 use Rattle.semantics.specs.MachineState.{MachineState}
@@ -21,7 +21,7 @@ use Rattle.semantics.specs.Semantics.{fetched_register, instruction_step}
 use Rattle.abstract_state.specs.declared.kind.Kind.{Kind}
 use Rattle.abstract_state.specs.declared.kind.Kind.TheVariants.{Unset, Scalar, Ctx, Stack, Packet, PacketEnd, Map, ValueOrNull, Value}
 use Rattle.abstract_state.specs.declared.flow.Flow.{Flow}
-use Rattle.abstract_state.specs.declared.refusal.Refusal.TheVariants.{WrongKind}
+use Rattle.abstract_state.specs.declared.refusal.Refusal.TheVariants.{WrongKind, UnknownMap}
 use Rattle.abstract_state.specs.declared.state.State.{State}
 use Rattle.abstract_state.specs.States.{◌>>=◌, kind_of}
 use Rattle.abstract_state.specs.Access.{atomic_on, atomic_of}
@@ -120,5 +120,6 @@ flow_follows program held state machine (AtomicUpdate width op dst src offset) f
 flow_follows program held state machine (Lddw dst value) flow m a fits forward e =
     lddw_follows program held state machine dst value flow a (wide_value dst value fits) e
 flow_follows program held state machine (Ldmap dst map) flow m a fits forward e = ldmap_follows program held state machine dst map flow a e
+flow_follows program held state machine (Ldval dst map offset) flow m a fits forward e = absurd (err_not_ok UnknownMap flow e)
 flow_follows program held state machine (CallHelper number) flow m a fits forward e = m.call number e
 flow_follows program held state machine Exit flow m a fits forward e = exit_follows program held state machine flow a e

@@ -14,7 +14,7 @@ use Rattle.isa.specs.declared.operation.Source.TheVariants.{Reg}
 use Rattle.isa.specs.declared.operation.Register.{Register}
 use Rattle.isa.specs.declared.operation.Register.TheVariants.{R0}
 use Rattle.ebpf_decode.specs.declared.insn.Insn.{Insn}
-use Rattle.ebpf_decode.specs.declared.insn.Insn.TheVariants.{Alu, Neg, Movsx, Movsx32, End, Ja, Ja32, JumpIf, Ldx, Ldxs, St, Stx, AtomicUpdate, Lddw, Ldmap, CallHelper, Exit}
+use Rattle.ebpf_decode.specs.declared.insn.Insn.TheVariants.{Alu, Neg, Movsx, Movsx32, End, Ja, Ja32, JumpIf, Ldx, Ldxs, St, Stx, AtomicUpdate, Lddw, Ldmap, Ldval, CallHelper, Exit}
 use Rattle.ebpf_decode.specs.declared.map.MapDef.{MapDef}
 use Rattle.isa.specs.InstructionCodes.{register_number, size_bytes}
 use Rattle.semantics.specs.Semantics.{fetched_register}
@@ -32,7 +32,7 @@ use Rattle.abstract_state.specs.declared.helper.Helper.TheVariants.{LookupElem, 
 use Rattle.abstract_state.specs.declared.flow.Flow.{Flow}
 use Rattle.abstract_state.specs.declared.flow.Flow.TheVariants.{Ends, Falls, Jumps, Splits}
 use Rattle.abstract_state.specs.declared.refusal.Refusal.{Refusal}
-use Rattle.abstract_state.specs.declared.refusal.Refusal.TheVariants.{WrongKind, ContextAccess, Misaligned, StackBounds, PointerLeak}
+use Rattle.abstract_state.specs.declared.refusal.Refusal.TheVariants.{WrongKind, ContextAccess, Misaligned, StackBounds, PointerLeak, UnknownMap}
 use Rattle.abstract_state.specs.declared.state.State.{State}
 use Rattle.abstract_state.specs.States.{Checked, ◌>>=◌, kind_of, with_kind, word_of, with_word, no_bytes, stack_bytes, opening_state}
 use Rattle.abstract_state.specs.Join.{zip_with, spilled, bytes_of_kind, bytes_of_word, join_kind, join_word, join_of}
@@ -342,6 +342,7 @@ flow_shaped maps state slot (Lddw dst value) flow s e = falls_shaped (number_flo
     (λ _ f. keeps_ok (with_kind state dst (Scalar (constant_of value))) (kind_shaped state dst (Scalar (constant_of value)) s))) e
 flow_shaped maps state slot (Ldmap dst map) flow s e = falls_shaped (map_flow maps state dst map) flow
     (keeps_then (writable dst) (λ _. known_map maps map >>= (λ kind. Ok (with_kind state dst kind))) (λ _ f. kind_kept state dst (known_map maps map) s)) e
+flow_shaped maps state slot (Ldval dst map offset) flow s e = absurd (err_not_ok UnknownMap flow e)
 flow_shaped maps state slot (CallHelper number) flow s e = falls_shaped (call_flow maps state slot number) flow
     (keeps_then (served_helper number) (λ helper. reads_arguments state helper >>= (λ _. call_of maps state slot helper))
     (λ helper f. keeps_then (reads_arguments state helper) (λ _. call_of maps state slot helper) (λ _ g. call_kept maps state slot helper s))) e

@@ -1,6 +1,6 @@
 //! Instructions and programs, by the words of a listing, and the runs of them.
 
-use ebpf_decode::{Image, Insn, MapDef, MapKind};
+use ebpf_decode::{Image, Insn, MapDef, MapKind, Version};
 use isa::Register::{R1, R2, R10};
 use isa::{AluOp, Register, Size, Source, Test, Width};
 use machine::Moment;
@@ -122,5 +122,5 @@ pub(super) fn accepted(
     let mut code = Vec::new(alloc);
     code.extend_from_slice(head)?;
     code.extend_from_slice(tail)?;
-    Ok(verify(alloc, Image::of(all_maps, code)?)?)
+    Ok(verify(alloc, Image::of(Version::V1, all_maps, code)?.served()?)?)
 }

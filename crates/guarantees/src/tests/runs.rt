@@ -301,7 +301,7 @@ const FIRST_ROWS: [(&str, u8, Verdict); 3] = [
 
 #[test]
 fn the_first_image(rt: HostRuntime) -> Result<(), Fail> {
-    let verified = verify(rt.alloc(), decode(rt.alloc(), &FIRST_IMAGE)?)?;
+    let verified = verify(rt.alloc(), decode(rt.alloc(), &FIRST_IMAGE)?.served()?)?;
     let want = found_and_read(0, 8);
     for (name, last, verdict) in FIRST_ROWS {
         let mut bytes = [0; 14];

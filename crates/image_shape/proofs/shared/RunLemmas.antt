@@ -1,5 +1,5 @@
 -- Each step that goes on does so along an edge.
-use Rattle.std.proofs.Common.{◌≡◌, ℕ, ◌+◌, ◌%◌, ◌^◌, Bool, true, false, ℤ, pos, negsuc, ◌+ℤ◌, List, Option, Some, None, Ok, Err, refl, sym, inl, inr}
+use Rattle.std.proofs.Common.{◌≡◌, ℕ, ◌+◌, ◌%◌, ◌^◌, Bool, true, false, ℤ, pos, negsuc, ◌+ℤ◌, List, Option, Some, None, Ok, Err, refl, sym, inl, inr, ◌*◌}
 use Rattle.isa.specs.declared.operation.Width.{Width}
 use Rattle.isa.specs.declared.operation.Size.{Size}
 use Rattle.isa.specs.declared.operation.Extension.{Extension}
@@ -7,7 +7,7 @@ use Rattle.isa.specs.declared.operation.Register.{Register}
 use Rattle.isa.specs.declared.operation.Register.TheVariants.{R1, R2, R3, R4, R10}
 use Rattle.isa.specs.declared.operation.AtomicOp.{AtomicOp}
 use Rattle.ebpf_decode.specs.declared.insn.Insn.{Insn}
-use Rattle.ebpf_decode.specs.declared.insn.Insn.TheVariants.{Alu, Neg, Movsx, Movsx32, End, Ja, Ja32, JumpIf, Ldx, Ldxs, St, Stx, AtomicUpdate, Lddw, Ldmap, CallHelper, Exit}
+use Rattle.ebpf_decode.specs.declared.insn.Insn.TheVariants.{Alu, Neg, Movsx, Movsx32, End, Ja, Ja32, JumpIf, Ldx, Ldxs, St, Stx, AtomicUpdate, Lddw, Ldmap, Ldval, CallHelper, Exit}
 use Rattle.ebpf_decode.specs.declared.map.MapDef.{MapDef}
 use Rattle.ebpf_decode.specs.InstructionEncoding.{slot_count}
 use Rattle.isa.specs.InstructionCodes.{atomic_code, width_size, size_bytes}
@@ -24,7 +24,7 @@ use Rattle.semantics.specs.Helpers.{map_argument, map_at, bytes_argument, number
 use Rattle.semantics.specs.declared.linux.Helper.{Helper}
 use Rattle.semantics.specs.declared.linux.Helper.TheVariants.{MapLookupElem, MapUpdateElem, MapDeleteElem, KtimeGetNs, GetSmpProcessorId, XdpAdjustHead}
 use Rattle.semantics.specs.Linux.{helper_of}
-use Rattle.semantics.specs.Semantics.{word_value, stored_places, stored_number, with_fetched, expected_number, at_next_slot, jump_step, branch_step, written_register, write_step, load_cell_step, load_step, load_signed_step, store_step, after_fetch, fetched_register, atomic_step, exit_step, instruction_step}
+use Rattle.semantics.specs.Semantics.{first_key, value_address, value_address_step, word_value, stored_places, stored_number, with_fetched, expected_number, at_next_slot, jump_step, branch_step, written_register, write_step, load_cell_step, load_step, load_signed_step, store_step, after_fetch, fetched_register, atomic_step, exit_step, instruction_step}
 use Rattle.ebpf_decode.specs.Jumps.{jump_distance}
 use Rattle.image_shape.specs.Edges.{falls_through, IsEdge}
 use Rattle.image_shape.specs.Runs.{GoesTo, RunsFollowEdges}
@@ -50,6 +50,12 @@ load_cell_goes : (P : ℕ → Type 0) (program : Program) (insn : Insn) (state :
 load_cell_goes P program insn state dst map shard cell offset count convert next =
     goes_twice P (cell_range program map offset count) (λ from. written_register state dst Uninitialized)
     (λ from checked. CallsMap (Load (cell_ref shard cell) from count) (λ reply. at_next_slot insn (with_register state dst (word_value convert reply)))) (λ from checked reply. next)
+
+value_address_goes : (P : ℕ → Type 0) (program : Program) (insn : Insn) (state : MachineState) (dst : Register) (map : ℤ) (offset : ℕ) → P (state.slot + slot_count insn) → GoesTo P (value_address_step program insn state dst map offset)
+value_address_goes P program insn state dst (pos map) offset next =
+    goes_twice P (map_at program map) (λ definition. written_register state dst Uninitialized)
+    (λ definition checked. CallsMap (Lookup (map * program.shards) first_key) (λ reply. at_next_slot insn (with_register state dst (value_address map offset reply)))) (λ definition checked reply. next)
+value_address_goes P program insn state dst (negsuc before) offset next = tt
 
 load_goes : (P : ℕ → Type 0) (program : Program) (insn : Insn) (state : MachineState) (dst : Register) (base : RegisterValue) (offset : ℤ) (size : Size) → P (state.slot + slot_count insn)
     → GoesTo P (load_step program insn state dst base offset size)
@@ -180,6 +186,7 @@ step_goes program state (Stx size dst src offset) = store_goes (IsEdge state.slo
 step_goes program state (AtomicUpdate width op dst src offset) = atomic_goes (IsEdge state.slot (AtomicUpdate width op dst src offset)) program (AtomicUpdate width op dst src offset) state width op _ src offset (inl (refl, refl))
 step_goes program state (Lddw dst value) = write_goes (IsEdge state.slot (Lddw dst value)) (Lddw dst value) state dst (Ok (Number value)) (inl (refl, refl))
 step_goes program state (Ldmap dst map) = write_goes (IsEdge state.slot (Ldmap dst map)) (Ldmap dst map) state dst _ (inl (refl, refl))
+step_goes program state (Ldval dst map offset) = value_address_goes (IsEdge state.slot (Ldval dst map offset)) program (Ldval dst map offset) state dst map offset (inl (refl, refl))
 step_goes program state (CallHelper helper) = helper_goes (IsEdge state.slot (CallHelper helper)) program state helper (inl (refl, refl))
 step_goes program state Exit = exit_goes (IsEdge state.slot Exit) state _
 

@@ -4,7 +4,7 @@ use Rattle.std.specs.Prelude.{IsTrue}
 use Rattle.std.proofs.lemmas.List.{take-append-drop, append-nil, take_all}
 use Rattle.std.proofs.lemmas.List.Sums.{sum_by-cons, sum_by_more, sum_by_more_le}
 use Rattle.ebpf_decode.specs.declared.insn.Insn.{Insn}
-use Rattle.ebpf_decode.specs.declared.insn.Insn.TheVariants.{Lddw, Ldmap, Exit}
+use Rattle.ebpf_decode.specs.declared.insn.Insn.TheVariants.{Lddw, Ldmap, Ldval, Exit}
 use Rattle.ebpf_decode.specs.InstructionEncoding.{slot_count, total_slots}
 use Rattle.semantics.specs.Program.{past_instruction, instruction_at}
 use Rattle.image_shape.specs.Edges.{is_begin}
@@ -13,6 +13,7 @@ pub some_slots : (insn : Insn) → 1 ≤ slot_count insn
 unfolding slot_count
 some_slots (Lddw dst value) = omega arith
 some_slots (Ldmap dst map) = omega arith
+some_slots (Ldval dst map offset) = omega arith
 some_slots insn = omega arith
 
 -- ---- one instruction

@@ -4,7 +4,7 @@ ghost use Rattle.std.specs.Prelude.{◌<◌};
 
 use super::nothing::NothingPort;
 use crate::{Exit, Moment, run};
-use ebpf_decode::{Image, Insn, MapDef, MapKind};
+use ebpf_decode::{Image, Insn, MapDef, MapKind, Version};
 use isa::Register::{R0, R1, R2, R3, R4, R10};
 use isa::{AluOp, Register, Size, Source, Test, Width};
 use std::alloc::Global;
@@ -130,7 +130,7 @@ pub(super) fn accepted(
     let mut code = Vec::new(alloc);
     code.extend_from_slice(head)?;
     code.extend_from_slice(tail)?;
-    Ok(verify(alloc, Image::of(all_maps, code)?)?)
+    Ok(verify(alloc, Image::of(Version::V1, all_maps, code)?.served()?)?)
 }
 
 /// How a run ended, and the frame that it left.

@@ -5,7 +5,7 @@ use Rattle.std.specs.Prelude.{◌+ℤ◌}
 use Rattle.std.specs.List.{AllByRecursion}
 use Rattle.std.proofs.lemmas.Bool.Decides.{nat_tests}
 use Rattle.ebpf_decode.specs.declared.insn.Insn.{Insn}
-use Rattle.ebpf_decode.specs.declared.insn.Insn.TheVariants.{Lddw, Ldmap}
+use Rattle.ebpf_decode.specs.declared.insn.Insn.TheVariants.{Lddw, Ldmap, Ldval}
 use Rattle.ebpf_decode.specs.declared.map.MapDef.{MapDef}
 use Rattle.ebpf_decode.specs.InstructionEncoding.{slot_count, total_slots, FieldsFit}
 use Rattle.semantics.specs.declared.call.Call.{Call}
@@ -133,6 +133,7 @@ splits_in_one : (maps : List MapDef) (state : State) (slot : ℕ) (insn : Insn) 
 unfolding slot_count
 splits_in_one maps state slot (Lddw dst value) taken fallen e = absurd (no_split _ taken fallen e)
 splits_in_one maps state slot (Ldmap dst map) taken fallen e = absurd (no_split _ taken fallen e)
+splits_in_one maps state slot (Ldval dst map offset) taken fallen e = absurd cc
 splits_in_one maps state slot insn taken fallen e = refl
 
 falls_arrive : (maps : List MapDef) (held : Held) (state : MachineState) (insn : Insn) (there : State) (next : MachineState) →

@@ -6,9 +6,8 @@ use Rattle.std.proofs.lemmas.List.{length-replicate}
 use Rattle.std.proofs.lemmas.List.Sums.{sum_by-cons}
 use Rattle.ebpf_decode.specs.declared.insn.Insn.{Insn}
 use Rattle.ebpf_decode.specs.declared.map.MapDef.{MapDef}
-use Rattle.ebpf_decode.specs.ImageContents.{IsAllowedMap, IsEncodable}
+use Rattle.ebpf_decode.specs.Served.{IsServedMap, AreServedParts, is_served_map}
 use Rattle.ebpf_decode.specs.InstructionEncoding.{slot_count, total_slots}
-use Rattle.ebpf_decode.specs.MapForm.{is_allowed_map}
 use Rattle.image_shape.proofs.shared.SlotLemmas.{some_slots}
 use Rattle.semantics.specs.declared.plan.ShardPlan.{ShardPlan}
 use Rattle.semantics.specs.declared.call.Caller.TheVariants.{Worker, Controller, Reclaimer}
@@ -187,7 +186,7 @@ system_sound setting states (event ∷ earlier) good can =
 
 -- ---- an accepted image
 
-all_allowed : (maps : List MapDef) → AllByRecursion IsAllowedMap maps → All (λ map. is_allowed_map map ≡ true) maps
+all_allowed : (maps : List MapDef) → AllByRecursion IsServedMap maps → All (λ map. is_served_map map ≡ true) maps
 all_allowed [] h = search rules
 all_allowed (map ∷ maps) h = search (rules, h.0, all_allowed maps h.1)
 
@@ -195,7 +194,7 @@ pub some_slot : (code : List Insn) → 1 ≤ length code → 0 < total_slots cod
 some_slot [] h = absurd (omega arith)
 some_slot (insn ∷ code) h = omega (arith, sum_by-cons slot_count insn code, some_slots insn)
 
-setting_of : (maps : List MapDef) (code : List Insn) (states : List (Option State)) (options : Options) → IsEncodable maps code → Accepts maps code states → AreOptions maps options →
+setting_of : (maps : List MapDef) (code : List Insn) (states : List (Option State)) (options : Options) → AreServedParts maps code → Accepts maps code states → AreOptions maps options →
     IsSetting (record { maps = maps; code = code; options = options }) states
 setting_of maps code states options encodable accepted fit = record {
   options = fit;
@@ -205,14 +204,14 @@ setting_of maps code states options encodable accepted fit = record {
   fits = encodable.fields_fit;
 }
 
-pub safe_image : (maps : List MapDef) (code : List Insn) (states : List (Option State)) → IsEncodable maps code → Accepts maps code states → IsSafeImage maps code
+pub safe_image : (maps : List MapDef) (code : List Insn) (states : List (Option State)) → AreServedParts maps code → Accepts maps code states → IsSafeImage maps code
 safe_image maps code states encodable accepted options fit events can worker =
     let good : IsSetting (record { maps = maps; code = code; options = options }) states = setting_of maps code states options encodable accepted fit
     in safe_worker (record { maps = maps; code = code; options = options }) states (system_after (record { maps = maps; code = code; options = options }) events) worker good
     (system_sound (record { maps = maps; code = code; options = options }) states events good can)
 
 -- its entry states cover the runs that are reached
-pub cover_runs : (maps : List MapDef) (code : List Insn) (states : List (Option State)) → IsEncodable maps code → Accepts maps code states → CoverRuns maps code states
+pub cover_runs : (maps : List MapDef) (code : List Insn) (states : List (Option State)) → AreServedParts maps code → Accepts maps code states → CoverRuns maps code states
 cover_runs maps code states encodable accepted options fit events can worker machine entered runs =
     let good : IsSetting (record { maps = maps; code = code; options = options }) states = setting_of maps code states options encodable accepted fit
     in let system : SystemState = system_after (record { maps = maps; code = code; options = options }) events

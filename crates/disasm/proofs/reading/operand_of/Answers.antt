@@ -1,6 +1,6 @@
 use Rattle.std.proofs.Common.{◌≡◌, ◌++◌, ◌∷◌, ℕ, List, arith}
 use Rattle.std.proofs.lemmas.Str.Pattern.{split_after, split_parts, strip_prefix_char, starts_char}
-use Rattle.std.specs.Int.{w32}
+use Rattle.std.specs.Int.{w64}
 use Rattle.std.proofs.lemmas.Int.{to_z-of_z}
 use Rattle.std.proofs.lemmas.Bool.Decides.{not_from_Decides}
 use Rattle.disasm.specs.LineReading.{Lacks}
@@ -29,4 +29,4 @@ returns c =
     let begins = rw c.in_default-strip_prefix.is at (strip_prefix_char 91 c.args.text.now c.strip_prefix.result c.strip_prefix.ensures.cases (omega arith)) in
     let lacks = rw c.in_default.is at (split_parts 120 c.args.text.now c.split_once.result c.split_once.ensures.cases (omega arith)) in
     let other = not_from_Decides c.starts_with.result first c.if-starts_with.false in
-    number_case c.args.text.now _ other begins lacks (λ z fits is. rw (c.number_of.ensures.plain z fits is) (to_z-of_z w32 z fits)) (λ z fits is. rw (c.number_of.ensures.signed z fits is) (to_z-of_z w32 z fits))
+    number_case c.args.text.now _ other begins lacks (λ z fits is. rw (c.number_of.ensures.plain z fits is) (to_z-of_z w64 z fits)) (λ z fits is. rw (c.number_of.ensures.signed z fits is) (to_z-of_z w64 z fits))

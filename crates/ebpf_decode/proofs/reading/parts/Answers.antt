@@ -11,5 +11,5 @@ returns-in_err-code-clause-asked c =
     let short : length (drop 8 bytes) ≤ length bytes - 8 = omega (arith, length-drop 8 bytes) in
     let whole = take_all (length bytes - 8) (drop 8 bytes) short in
     let head = sym c.has_head.ensures ∙ c.if-not-has_head.false in
-    let read = rw whole at c.in_ok-maps.ensures.given in
+    let read = rw (whole, c.version_of-version.ensures) at c.in_ok-maps.ensures.given in
     rw (p.1, p.2) (λ memory. asks_for_code bytes c.in_ok-maps.rest.now c.in_ok-maps.maps.items head read (c.in_err-code.ensures.asked memory))

@@ -7,6 +7,6 @@ use Rattle.ebpf_decode.proofs.image.Image.of.Goals as goal
 
 pub new-requires : goal.new-requires
 new-requires c =
-    let none : first_part_fault c.args.maps.items c.args.code.items ≡ None = rw (← c.deref-2.ensures.value, ← c.deref-3.ensures.value) (sym c.in-None.ensures) in
+    let none : first_part_fault c.args.version c.args.maps.items c.args.code.items ≡ None = rw (← c.deref-2.ensures.value, ← c.deref-3.ensures.value) (sym c.in-None.ensures) in
     let fits : AllByRecursion FieldsFit c.args.code.items = rw (← c.deref.ensures.value) c.code_fields_fit.ensures in
-    encodable_parts c.args.maps.items c.args.code.items none fits
+    encodable_parts c.args.version c.args.maps.items c.args.code.items none fits
