@@ -43,7 +43,11 @@ Prints one line:
 A slot has eight bytes; an instruction takes one or two. A reader changes no
 map and does the same on each worker. A program that may not run is refused
 with the first rule that it breaks and the slot of the instruction, counted
-from 0.";
+from 0.
+An image of version 2 may besides take addresses in the values of its maps
+(the instruction ldval), and have values of up to 256 bytes. This build judges
+and runs version 1 with maps of arrays: it answers 10 to version 2, and 11 to
+a hash or LRU map.";
 
 const AFTER_RUN: &str = "\
 Prints three lines:
