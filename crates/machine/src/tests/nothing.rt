@@ -1,4 +1,4 @@
-//! A port of maps in which no key is found.
+//! A port of maps in which no key is found and every number is 0.
 
 ghost use Rattle.std.specs.Prelude.{◌≡◌};
 
@@ -7,7 +7,7 @@ use isa::AtomicOp;
 use map_port::MapPort;
 use semantics::{JournalFull, Key, Value};
 
-/// The port of an image's maps, one shard each: lookups find nothing, and updates and deletions are answered by -22.
+/// The port of an image's maps, one shard each: lookups find nothing, and updates and deletions are answered by -22. It would read 0 from any cell.
 #[derive(Drop)]
 pub(super) struct NothingPort<'a> {
     image: &'a Image,
@@ -23,7 +23,7 @@ impl<'a> NothingPort<'a> {
 }
 
 impl<'a> MapPort for NothingPort<'a> {
-    ghost use Rattle.std.specs.Prelude.{false};
+    ghost use Rattle.std.specs.Prelude.{true};
     ghost use Rattle.std.proofs.Common.{refl, ap};
     ghost use Rattle.semantics.specs.RunTrace.{IsReplyTo};
     ghost use Rattle.semantics.specs.ServedCalls.{IsHandedOut};
@@ -33,11 +33,11 @@ impl<'a> MapPort for NothingPort<'a> {
 
     ghost gives = { λ before call reply after. (after ≡ before)
         × IsReplyTo (program_over (record { maps = before.image.now.maps; shards = 1 })) call reply
-        × IsHandedOut (program_over (record { maps = before.image.now.maps; shards = 1 })) (λ map shard cell. false) call reply };
+        × IsHandedOut (program_over (record { maps = before.image.now.maps; shards = 1 })) (λ map shard cell. true) call reply };
 
     ghost refuses = { λ before call after. after ≡ before };
 
-    ghost has_handed_out = { λ port map shard cell. false };
+    ghost has_handed_out = { λ port map shard cell. true };
 
     ghost cell_of = { λ port handle. record { shard = 0; id = 0 } };
 
@@ -58,7 +58,7 @@ impl<'a> MapPort for NothingPort<'a> {
     }
 
     fn load(&mut self, _handle: u64, _offset: u64, _width: u64) -> Result<u64, JournalFull> {
-        unreachable!()
+        Ok(0)
     }
 
     fn store(
@@ -68,7 +68,7 @@ impl<'a> MapPort for NothingPort<'a> {
         _width: u64,
         _value: u64,
     ) -> Result<(), JournalFull> {
-        unreachable!()
+        Ok(())
     }
 
     fn atomic(
@@ -80,7 +80,7 @@ impl<'a> MapPort for NothingPort<'a> {
         _value: u64,
         _expected: u64,
     ) -> Result<u64, JournalFull> {
-        unreachable!()
+        Ok(0)
     }
 
     fn update(
