@@ -35,6 +35,8 @@ enum Ask {
     Store(u8, u64, u64, u64, u64),
     /// Worker, cell, operation, number, expected: on the first eight bytes.
     Change(u8, u64, u64, u64, u64),
+    /// Worker, cell, offset: adds one to the four bytes there.
+    Add(u8, u64, u64),
     /// By the controller: key, flags.
     Put(u8, u64),
     Remove(u8),
@@ -82,6 +84,7 @@ fn caller_of(ask: Ask) -> Caller {
         Ask::Load(number, _, _, _) => Caller::Worker { number },
         Ask::Store(number, _, _, _, _) => Caller::Worker { number },
         Ask::Change(number, _, _, _, _) => Caller::Worker { number },
+        Ask::Add(number, _, _) => Caller::Worker { number },
         Ask::Put(_, _) => Caller::Controller,
         Ask::Remove(_) => Caller::Controller,
         Ask::Reclaim => Caller::Reclaimer,
@@ -118,6 +121,14 @@ fn call_of(ask: Ask) -> Call {
             op,
             value,
             expected,
+        },
+        Ask::Add(_, id, offset) => Call::Atomic {
+            cell: cell(id),
+            offset,
+            width: 4,
+            op: 0,
+            value: 1,
+            expected: 0,
         },
         Ask::Put(key, flags) => Call::Update {
             shard: 0,
@@ -200,7 +211,7 @@ const TWO_USED: [Row; 9] = [
 ];
 
 #[rattlefmt::skip]
-const ARRAY_OF_TWO: [Row; 12] = [
+const ARRAY_OF_TWO: [Row; 15] = [
     ("an index out of range under NOEXIST",  Ask::Put(2, NOEXIST),   Reply::Answer { code: -7 }),
     ("an index is there under NOEXIST",      Ask::Put(0, NOEXIST),   Reply::Answer { code: -17 }),
     ("unknown flags",                        Ask::Put(0, 3),         Reply::Answer { code: -22 }),
@@ -211,8 +222,11 @@ const ARRAY_OF_TWO: [Row; 12] = [
     ("index 1 has cell 1",                   Ask::Look(0, 1),        Reply::Cell { cell: CellRef { shard: 0, id: 1 } }),
     ("a store of two bytes",                 Ask::Store(0, 1, 2, 2, 0xabcd), Reply::Done),
     ("bytes are little-endian",              Ask::Load(0, 1, 0, 8),  Reply::Word { value: 0x01010101_abcd0101 }),
-    ("an atomic addition replies the old number", Ask::Change(0, 1, 0x00, 0xff, 0), Reply::Word { value: 0x01010101_abcd0101 }),
-    ("and adds",                             Ask::Load(0, 1, 0, 8),  Reply::Word { value: 0x01010101_abcd0200 }),
+    ("a load at no multiple of its width",   Ask::Load(0, 1, 2, 4),  Reply::Word { value: 0x0101abcd }),
+    ("an atomic addition of four bytes",     Ask::Add(0, 1, 4),      Reply::Word { value: 0x01010101 }),
+    ("adds to these four alone",             Ask::Load(0, 1, 0, 8),  Reply::Word { value: 0x01010102_abcd0101 }),
+    ("an atomic addition replies the old number", Ask::Change(0, 1, 0x00, 0xff, 0), Reply::Word { value: 0x01010102_abcd0101 }),
+    ("and adds",                             Ask::Load(0, 1, 0, 8),  Reply::Word { value: 0x01010102_abcd0200 }),
 ];
 
 #[test]
@@ -277,7 +291,7 @@ const NOT_SERVED: [(&str, Ask); 14] = [
     ("a worker that the plan lacks",           Ask::Enter(2)),
     ("a cell that was not found is not held",  Ask::Load(0, 0, 0, 8)),
     ("a width of three",                       Ask::Load(0, 1, 0, 3)),
-    ("an offset that is no multiple",          Ask::Load(0, 1, 2, 4)),
+    ("an atomic addition at no multiple of four", Ask::Add(0, 1, 2)),
     ("bytes past the value",                   Ask::Load(0, 1, 8, 1)),
     ("an offset near 2^64",                    Ask::Load(0, 1, 0xffff_ffff_ffff_fff8, 8)),
     ("a number wider than its bytes",          Ask::Store(0, 1, 0, 1, 0x100)),
