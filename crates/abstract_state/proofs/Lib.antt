@@ -13,5 +13,7 @@ pub mod Branching
 pub mod Loading
 pub mod SignedLoading
 pub mod LookingUp
+pub mod Calling
 pub mod StackWriting
 pub mod Storing
+pub mod CellWriting

@@ -102,7 +102,7 @@ context_loads maps held state machine a count some U64 place kind e = cc
 
 -- ---- values of maps
 
-load_width : (size : Size) → IsTrue (is_load_width (size_bytes size))
+pub load_width : (size : Size) → IsTrue (is_load_width (size_bytes size))
 load_width U8 = refl
 load_width U16 = refl
 load_width U32 = refl

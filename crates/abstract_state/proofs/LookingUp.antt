@@ -1,13 +1,12 @@
--- Calls of helpers: what R0 is then known to have.
-use Rattle.std.proofs.Common.{◌≡◌, inl, inr, ℕ, ◌+◌, ◌*◌, ◌<◌, ◌≤◌, ◌-◌, ◌==◌, Bool, true, false, ℤ, pos, negsuc, List, length, take, drop, refl, sym, ◌∙◌, ap, arith, subst}
-use Rattle.std.specs.Prelude.{Ok, Err, IsTrue, Option, Some, None, slice_get, slice_index_or, if◌then◌else◌}
+-- Lookups, and what a call of a helper leaves: what R0 is then known to have.
+use Rattle.std.proofs.Common.{◌≡◌, inl, inr, ℕ, ◌+◌, ◌*◌, ◌<◌, ◌≤◌, ◌-◌, ◌==◌, true, false, ℤ, pos, List, length, take, drop, refl, sym, ◌∙◌, ap, arith, subst}
+use Rattle.std.specs.Prelude.{Ok, IsTrue, Option, Some, None, slice_get, slice_index_or, if◌then◌else◌}
 use Rattle.std.proofs.lemmas.Bool.{leb-true}
 use Rattle.std.proofs.lemmas.Bool.Decides.{nat_tests}
 use Rattle.std.proofs.lemmas.List.{get_or-drop, length-drop}
 use Rattle.std.proofs.lemmas.List.Elements.{All-from_recursion}
 use Rattle.isa.specs.declared.operation.Register.{Register}
 use Rattle.isa.specs.declared.operation.Register.TheVariants.{R0, R1, R2, R3, R4, R5, R6, R7, R8, R9, R10}
-use Rattle.isa.specs.declared.operation.Size.TheVariants.{U64}
 use Rattle.ebpf_decode.specs.declared.insn.Insn.{Insn}
 use Rattle.ebpf_decode.specs.declared.insn.Insn.TheVariants.{CallHelper}
 use Rattle.ebpf_decode.specs.declared.map.MapDef.{MapDef}
@@ -21,23 +20,20 @@ use Rattle.semantics.specs.MachineState.{MachineState, register_value}
 use Rattle.semantics.specs.Program.{Program, shard_of_key}
 use Rattle.semantics.specs.Step.{then_outcome, Step, Continues}
 use Rattle.semantics.specs.Memory.{stack_place, written_bytes}
-use Rattle.semantics.specs.Helpers.{map_at, bytes_argument, found_value, lookup_step, update_step, delete_step, adjust_head_step, found_helper_step, helper_step}
-use Rattle.semantics.specs.declared.linux.Helper.TheVariants as linux
+use Rattle.semantics.specs.Helpers.{map_at, bytes_argument, found_value, lookup_step}
 use Rattle.semantics.specs.Helpers as meaning
 use Rattle.semantics.specs.RunTrace.{IsReplyTo}
-use Rattle.semantics.specs.Semantics.{instruction_step}
-use Rattle.abstract_scalar.specs.Intervals.{interval_of}
 use Rattle.abstract_state.specs.declared.kind.Kind.{Kind}
 use Rattle.abstract_state.specs.declared.kind.Kind.TheVariants.{Unset, Scalar, Ctx, Stack, Packet, PacketEnd, Map, ValueOrNull, Value}
-use Rattle.abstract_state.specs.declared.helper.Helper.TheVariants.{LookupElem, UpdateElem, DeleteElem, KtimeGetNs, GetSmpProcessorId, AdjustHead}
-use Rattle.abstract_state.specs.declared.refusal.Refusal.TheVariants.{StackBounds, StackUnset, UnknownHelper}
+use Rattle.abstract_state.specs.declared.helper.Helper.TheVariants.{LookupElem}
+use Rattle.abstract_state.specs.declared.refusal.Refusal.TheVariants.{StackBounds, StackUnset}
 use Rattle.abstract_state.specs.declared.flow.Flow.{Flow}
 use Rattle.abstract_state.specs.declared.flow.Flow.TheVariants.{Falls}
 use Rattle.abstract_state.specs.declared.state.State.{State}
 use Rattle.abstract_state.specs.States.{◌>>=◌, kind_of, word_of, key_size_of}
 use Rattle.abstract_state.specs.Words.{are_bytes_set}
-use Rattle.abstract_state.specs.Calls.{map_argument, stack_argument, is_inside_stack, when_all, key_arguments, returned, any_number, call_of, is_served}
-use Rattle.abstract_state.specs.Flow.{reads_arguments, falls, flow_of}
+use Rattle.abstract_state.specs.Calls.{map_argument, stack_argument, is_inside_stack, when_all, key_arguments, returned, call_of}
+use Rattle.abstract_state.specs.Flow.{reads_arguments, falls}
 use Rattle.abstract_state.specs.Soundness.{GoesOn, FallsOn, Follows, HoldsAfter}
 use Rattle.abstract_state.specs.Abstraction.{Ids, Held, Setting, KindCovers, IsKnownMap, IsStackPlace, places_of, setting_of, Abstracts}
 use Rattle.abstract_state.proofs.shared.Writing.{Extends, covers_later, word_later}
@@ -45,7 +41,6 @@ use Rattle.abstract_state.proofs.shared.Checking.{ok_same, ok_then, ok_if, falls
 use Rattle.abstract_state.proofs.shared.ByteNumbers.{Reads}
 use Rattle.abstract_state.proofs.shared.StackReading.{set_bytes}
 use Rattle.abstract_state.proofs.shared.Accesses.{stack_reached}
-use Rattle.abstract_state.proofs.shared.LoadedNumbers.{in_full}
 
 -- ---- what a call leaves
 
@@ -105,7 +100,7 @@ returned_sound maps held held' state machine ids a more same_base same_found bas
 
 -- ---- the arguments
 
-map_kind : (kind : Kind) (map : ℕ) → map_argument kind R1 ≡ Ok map → kind ≡ Map map
+pub map_kind : (kind : Kind) (map : ℕ) → map_argument kind R1 ≡ Ok map → kind ≡ Map map
 map_kind (Map other) map e = ap Map (ok_same (Ok other) other map refl e)
 map_kind Unset map e = cc
 map_kind (Scalar i) map e = cc
@@ -116,16 +111,16 @@ map_kind PacketEnd map e = cc
 map_kind (ValueOrNull m id) map e = cc
 map_kind (Value m id off) map e = cc
 
-stack_kind : (kind : Kind) (place : ℕ) → stack_argument kind R2 ≡ Ok place → kind ≡ Stack place
-stack_kind (Stack other) place e = ap Stack (ok_same (Ok other) other place refl e)
-stack_kind Unset place e = cc
-stack_kind (Scalar i) place e = cc
-stack_kind Ctx place e = cc
-stack_kind (Map map) place e = cc
-stack_kind (Packet id off range) place e = cc
-stack_kind PacketEnd place e = cc
-stack_kind (ValueOrNull m id) place e = cc
-stack_kind (Value m id off) place e = cc
+pub stack_kind : (kind : Kind) (register : Register) (place : ℕ) → stack_argument kind register ≡ Ok place → kind ≡ Stack place
+stack_kind (Stack other) register place e = ap Stack (ok_same (Ok other) other place refl e)
+stack_kind Unset register place e = cc
+stack_kind (Scalar i) register place e = cc
+stack_kind Ctx register place e = cc
+stack_kind (Map map) register place e = cc
+stack_kind (Packet id off range) register place e = cc
+stack_kind PacketEnd register place e = cc
+stack_kind (ValueOrNull m id) register place e = cc
+stack_kind (Value m id off) register place e = cc
 
 pub record KnowsKey (maps : List MapDef) (state : State) (map : ℕ) : Type 0 where
   pub key : ℕ
@@ -134,7 +129,7 @@ pub record KnowsKey (maps : List MapDef) (state : State) (map : ℕ) : Type 0 wh
   pub inside : key + key_size_of (slice_get maps map) ≤ 512
   pub set : are_bytes_set state key (key_size_of (slice_get maps map)) ≡ true
 
-knows_key : (maps : List MapDef) (state : State) (map : ℕ) → key_arguments maps state ≡ Ok map → KnowsKey maps state map
+pub knows_key : (maps : List MapDef) (state : State) (map : ℕ) → key_arguments maps state ≡ Ok map → KnowsKey maps state map
 knows_key maps state map e =
     let first = ok_then (map_argument (kind_of state R1) R1) (λ map.
     stack_argument (kind_of state R2) R2 >>= (λ key.
@@ -157,17 +152,17 @@ knows_key maps state map e =
     in record {
       key = second.0;
       is_map = map_kind (kind_of state R1) first.0 first.1.0 ∙ ap Map same;
-      is_key = stack_kind (kind_of state R2) second.0 second.1.0;
+      is_key = stack_kind (kind_of state R2) R2 second.0 second.1.0;
       inside = subst (λ map. second.0 + key_size_of (slice_get maps map) ≤ 512) same (leb-true (second.0 + key_size_of (slice_get maps first.0)) 512 is_inside);
       set = subst (λ map. are_bytes_set state second.0 (key_size_of (slice_get maps map)) ≡ true) same are_set;
     }
 
 -- ---- a lookup
 
-map_known : (program : Program) (map : ℕ) (definition : MapDef) → slice_get program.maps map ≡ Some definition → map_at program map ≡ Ok definition
+pub map_known : (program : Program) (map : ℕ) (definition : MapDef) → slice_get program.maps map ≡ Some definition → map_at program map ≡ Ok definition
 map_known program map definition e = rw e refl
 
-key_read : (machine : MachineState) (v : RegisterValue) (at : ℤ) (key count : ℕ) → length machine.stack ≡ 512 → v ≡ StackPointer at → stack_place at ≡ pos key →
+pub key_read : (machine : MachineState) (v : RegisterValue) (at : ℤ) (key count : ℕ) → length machine.stack ≡ 512 → v ≡ StackPointer at → stack_place at ≡ pos key →
     key + count ≤ 512 → (r : Reads (take count (drop key machine.stack)) count) → bytes_argument machine v count ≡ Ok r.bytes
 key_read machine v at key count long is counted inside r =
     ap (λ v. bytes_argument machine v count) is
@@ -251,7 +246,7 @@ lookup_follows program held state machine a map k =
 
 -- ---- the helpers
 
-one_slot : (number : ℤ) → slot_count (CallHelper number) ≡ 1
+pub one_slot : (number : ℤ) → slot_count (CallHelper number) ≡ 1
 unfolding slot_count
 one_slot number = refl
 
@@ -265,14 +260,14 @@ number_follows program held state machine a kind v now = record {
   sound = returned_sound program.maps held held state machine a.ids a (λ map shard cell h. h) (λ id h. refl) (λ id h. refl) a.bases kind v now;
 }
 
-settled : (program : Program) (held : Held) (machine : MachineState) (insn : Insn) (step : Step) (flow : Flow) (s known : State) → flow ≡ Falls s → known ≡ s →
+pub settled : (program : Program) (held : Held) (machine : MachineState) (insn : Insn) (step : Step) (flow : Flow) (s known : State) → flow ≡ Falls s → known ≡ s →
     slot_count insn ≡ 1 → FallsOn program held known machine (machine.slot + 1) step → Follows program held flow machine insn step
 settled program held machine insn step flow s known is same one f =
     subst (λ flow. Follows program held flow machine insn step) (sym is)
     (subst (λ s. FallsOn program held s machine (machine.slot + slot_count insn) step) same
     (subst (λ count. FallsOn program held known machine (machine.slot + count) step) (sym one) f))
 
-lookup_sound : (program : Program) (held : Held) (state : State) (machine : MachineState) (number : ℤ) (flow : Flow) → Abstracts program.maps held state machine →
+pub lookup_sound : (program : Program) (held : Held) (state : State) (machine : MachineState) (number : ℤ) (flow : Flow) → Abstracts program.maps held state machine →
     falls (reads_arguments state LookupElem >>= (λ _. call_of program.maps state machine.slot LookupElem)) ≡ Ok flow →
     Follows program held flow machine (CallHelper number) (lookup_step program machine)
 lookup_sound program held state machine number flow a e =
@@ -285,7 +280,7 @@ lookup_sound program held state machine number flow a e =
     (lookup_follows program held state machine a second.0 (knows_key program.maps state second.0 second.1.0))
 
 -- a helper that gives a number
-number_sound : (program : Program) (held : Held) (state : State) (machine : MachineState) (a : Abstracts program.maps held state machine) (number : ℤ) (flow : Flow)
+pub number_sound : (program : Program) (held : Held) (state : State) (machine : MachineState) (a : Abstracts program.maps held state machine) (number : ℤ) (flow : Flow)
     (kind : Kind) (v : RegisterValue) → falls (Ok (returned kind state)) ≡ Ok flow → KindCovers (next_setting program.maps held a.ids machine 1) kind v →
     Follows program held flow machine (CallHelper number) (Continues (meaning.returned machine v))
 number_sound program held state machine a number flow kind v e now =
@@ -293,30 +288,3 @@ number_sound program held state machine a number flow kind v e now =
     in let same : returned kind state ≡ made.0 = ok_same (Ok (returned kind state)) (returned kind state) made.0 refl made.1.0
     in settled program held machine (CallHelper number) (Continues (meaning.returned machine v)) flow made.0 (returned kind state) made.1.1 same (one_slot number)
     (number_follows program held state machine a kind v now)
-
-served_sound : (program : Program) (held : Held) (state : State) (machine : MachineState) (n : ℕ) (flow : Flow) (a : Abstracts program.maps held state machine) →
-    (t1 t2 t3 t5 t8 t44 : Bool) →
-    falls (((if t1 then Ok LookupElem else (if t2 then Ok UpdateElem else (if t3 then Ok DeleteElem else (if t5 then Ok KtimeGetNs
-    else (if t8 then Ok GetSmpProcessorId else (if t44 then Ok AdjustHead else Err UnknownHelper))))))
-    >>= (λ helper. if is_served helper then Ok helper else Err UnknownHelper))
-    >>= (λ helper. reads_arguments state helper >>= (λ _. call_of program.maps state machine.slot helper))) ≡ Ok flow →
-    Follows program held flow machine (CallHelper (pos n))
-    (found_helper_step program machine (if t1 then Some linux.MapLookupElem else (if t2 then Some linux.MapUpdateElem else (if t3 then Some linux.MapDeleteElem
-    else (if t5 then Some linux.KtimeGetNs else (if t8 then Some linux.GetSmpProcessorId else (if t44 then Some linux.XdpAdjustHead else None)))))))
-served_sound program held state machine n flow a true t2 t3 t5 t8 t44 e = lookup_sound program held state machine (pos n) flow a e
-served_sound program held state machine n flow a false true t3 t5 t8 t44 e = cc
-served_sound program held state machine n flow a false false true t5 t8 t44 e = cc
-served_sound program held state machine n flow a false false false true t8 t44 e =
-    number_sound program held state machine a (pos n) flow any_number (Number machine.now) e (in_full U64 machine.now a.is_machine.time)
-served_sound program held state machine n flow a false false false false true t44 e =
-    number_sound program held state machine a (pos n) flow (Scalar (interval_of 0 7)) (Number machine.worker) e
-    (let small : machine.worker < 8 = a.is_machine.worker
-    in record { number = machine.worker; is = refl; within = record { above = omega arith; below = omega arith }; word = omega arith })
-served_sound program held state machine n flow a false false false false false true e = cc
-served_sound program held state machine n flow a false false false false false false e = cc
-
-pub call_sound : (program : Program) (held : Held) (state : State) (machine : MachineState) (number : ℤ) (flow : Flow) →
-    Abstracts program.maps held state machine → flow_of program.maps state machine.slot (CallHelper number) ≡ Ok flow →
-    Follows program held flow machine (CallHelper number) (instruction_step program (CallHelper number) machine)
-call_sound program held state machine (pos n) flow a e = served_sound program held state machine n flow a (n == 1) (n == 2) (n == 3) (n == 5) (n == 8) (n == 44) e
-call_sound program held state machine (negsuc below) flow a e = cc

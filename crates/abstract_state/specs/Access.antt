@@ -1,5 +1,5 @@
 -- Loads, stores and atomic operations on kinds (RFC 9669, section 5).
-use Rattle.std.specs.Prelude.{ℕ, ◌/◌, ◌%◌, ◌==◌, Bool, true, false, not, ℤ, pos, negsuc, List, Option, Some, None, Ok, Err, if◌then◌else◌}
+use Rattle.std.specs.Prelude.{ℕ, ◌/◌, ◌%◌, ◌==◌, Bool, true, false, ℤ, pos, negsuc, List, Option, Some, None, Ok, Err, if◌then◌else◌}
 use Rattle.isa.specs.Words.{width_bits}
 use Rattle.isa.specs.declared.operation.Width.{Width}
 use Rattle.isa.specs.declared.operation.Size.{Size}
@@ -17,13 +17,9 @@ use Rattle.abstract_state.specs.declared.kind.Kind.{Kind}
 use Rattle.abstract_state.specs.declared.kind.Kind.TheVariants.{Scalar, Ctx, Stack, Packet, PacketEnd, Value}
 use Rattle.abstract_state.specs.declared.refusal.Refusal.TheVariants.{WrongKind, ContextAccess}
 use Rattle.abstract_state.specs.declared.state.State.{State}
-use Rattle.abstract_state.specs.States.{Checked, ◌>>=◌, unless, kind_of, with_kind, word_of, with_word}
+use Rattle.abstract_state.specs.States.{Checked, ◌>>=◌, kind_of, with_kind, word_of, with_word}
 use Rattle.abstract_state.specs.Places.{stack_access, packet_access, value_access}
 use Rattle.abstract_state.specs.Words.{loaded_number, word_loaded, storable, narrow_storable, word_stored}
-
--- no store and no atomic operation on a value of a map is served as yet
-abbrev pub are_value_writes_served : Bool
-are_value_writes_served = false
 
 -- ---- loads
 
@@ -79,8 +75,7 @@ stored maps state size (Stack place) distance dst kind =
 stored maps state size (Packet id off range) distance dst kind =
     packet_access off range distance (size_bytes size) >>= (λ from. narrow_storable kind >>= (λ _. Ok state))
 stored maps state size (Value map id off) distance dst kind =
-    unless (not are_value_writes_served) (WrongKind dst)
-    (value_access maps map off distance (size_bytes size) >>= (λ from. narrow_storable kind >>= (λ _. Ok state)))
+    value_access maps map off distance (size_bytes size) >>= (λ from. narrow_storable kind >>= (λ _. Ok state))
 stored maps state size other distance dst kind = Err (WrongKind dst)
 
 abbrev pub store_of : List MapDef → State → Size → Register → ℤ → Kind → Checked State
@@ -103,11 +98,10 @@ expects op kind = Ok tt
 
 abbrev pub atomic_on : List MapDef → State → Width → AtomicOp → Kind → ℤ → Register → Register → Checked State
 atomic_on maps state width op (Value map id off) distance dst src =
-    unless (not are_value_writes_served) (WrongKind dst)
-    (value_access maps map off distance (size_bytes (width_size width)) >>= (λ from.
+    value_access maps map off distance (size_bytes (width_size width)) >>= (λ from.
     narrow_storable (kind_of state src) >>= (λ _.
     expects op (kind_of state R0) >>= (λ _.
-    Ok (with_fetched_kind state (fetched_register op src) width)))))
+    Ok (with_fetched_kind state (fetched_register op src) width))))
 atomic_on maps state width op other distance dst src = Err (WrongKind dst)
 
 abbrev pub atomic_of : List MapDef → State → Width → AtomicOp → Register → Register → ℤ → Checked State

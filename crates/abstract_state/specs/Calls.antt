@@ -1,5 +1,5 @@
 -- Calls of helpers on kinds (RFC 9669, section 4.3.1; numbers as in bpf(2)).
-use Rattle.std.specs.Prelude.{ℕ, ◌+◌, ◌==◌, Bool, true, false, ◌&&◌, ℤ, pos, negsuc, nat_le, List, ◌∷◌, Ok, Err, drop, slice_get, if◌then◌else◌}
+use Rattle.std.specs.Prelude.{ℕ, ◌+◌, ◌==◌, Bool, ◌&&◌, ℤ, pos, negsuc, nat_le, List, ◌∷◌, Ok, Err, drop, slice_get, if◌then◌else◌}
 use Rattle.isa.specs.declared.operation.Register.{Register}
 use Rattle.isa.specs.declared.operation.Register.TheVariants.{R1, R2, R3, R4}
 use Rattle.ebpf_decode.specs.declared.map.MapDef.{MapDef}
@@ -29,18 +29,6 @@ helper_at (pos number) =
     else (if number == 44 then Ok AdjustHead
     else Err UnknownHelper)))))
 helper_at (negsuc below) = Err UnknownHelper
-
--- the helpers that programs may call as yet
-abbrev pub is_served : Helper → Bool
-is_served LookupElem = true
-is_served UpdateElem = false
-is_served DeleteElem = false
-is_served KtimeGetNs = true
-is_served GetSmpProcessorId = true
-is_served AdjustHead = false
-
-abbrev pub served_helper : ℤ → Checked Helper
-served_helper number = helper_at number >>= (λ helper. if is_served helper then Ok helper else Err UnknownHelper)
 
 -- ---- arguments, of which R1 is the first
 

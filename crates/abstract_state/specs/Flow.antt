@@ -31,7 +31,7 @@ use Rattle.abstract_state.specs.States.{Checked, ◌>>=◌, kind_of, with_kind}
 use Rattle.abstract_state.specs.Arithmetic.{source_kind, after_alu_of}
 use Rattle.abstract_state.specs.Refinement.{allowed_test, refine_state}
 use Rattle.abstract_state.specs.Access.{load_of, signed_load_of, store_of, atomic_of}
-use Rattle.abstract_state.specs.Calls.{served_helper, call_of}
+use Rattle.abstract_state.specs.Calls.{helper_at, call_of}
 
 -- ---- the rules that come first: R10 is not written, the helper and the map are known, and no register that is read is unset
 
@@ -129,7 +129,7 @@ map_flow maps state dst map = writable dst >>= (λ _. known_map maps map >>= (λ
 
 abbrev pub call_flow : List MapDef → State → ℕ → ℤ → Checked State
 call_flow maps state slot number =
-    served_helper number >>= (λ helper. reads_arguments state helper >>= (λ _. call_of maps state slot helper))
+    helper_at number >>= (λ helper. reads_arguments state helper >>= (λ _. call_of maps state slot helper))
 
 -- a conditional jump
 abbrev pub test_flow : State → Width → Test → Register → Source → Checked Flow

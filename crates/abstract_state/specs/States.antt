@@ -1,5 +1,5 @@
 -- What is known of a run: the kinds of its registers and the words of its stack, and where a run begins.
-use Rattle.std.specs.Prelude.{ℕ, Bool, true, false, List, [], ◌∷◌, Result, Ok, Err, replicate, slice_index_or, slice_set, if◌then◌else◌}
+use Rattle.std.specs.Prelude.{ℕ, Bool, true, false, List, [], ◌∷◌, Result, Ok, Err, replicate, slice_index_or, slice_set}
 use Rattle.isa.specs.declared.operation.Register.{Register}
 use Rattle.isa.specs.InstructionCodes.{register_number}
 pub use Rattle.semantics.specs.Program.{value_size_of, key_size_of}
@@ -18,9 +18,6 @@ infixl 10 ◌>>=◌
 abbrev pub ◌>>=◌ : {A B : Type 0} → Checked A → (A → Checked B) → Checked B
 (Ok x) >>= go = go x
 (Err why) >>= go = Err why
-
-abbrev pub unless : {A : Type 0} → Bool → Refusal → Checked A → Checked A
-unless broken why go = if broken then Err why else go
 
 -- ---- registers
 

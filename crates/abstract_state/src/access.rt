@@ -5,7 +5,7 @@ ghost use Rattle.isa.specs.InstructionCodes.{size_bytes};
 ghost use Rattle.abstract_scalar.specs.Intervals.{full_of};
 ghost use Rattle.abstract_state.specs.Words.{loaded_number, is_byte_set, are_bytes_set, bytes_loaded, narrow_loaded, spilled_loaded, word_loaded, narrow_storable, storable};
 ghost use Rattle.abstract_state.specs.InPlace.{kept};
-ghost use Rattle.abstract_state.specs.Access.{are_value_writes_served, context_kind, context_loaded, loaded_kind, signed_loaded, stack_stored, stored};
+ghost use Rattle.abstract_state.specs.Access.{context_kind, context_loaded, loaded_kind, signed_loaded, stack_stored, stored};
 
 use crate::kind::{Kind, StackWord};
 use crate::places::{packet_access, stack_access, value_access};
@@ -14,13 +14,6 @@ use crate::site::{Address, Site};
 use crate::state::State;
 use abstract_scalar::Interval;
 use isa::{Extension, Size, Width};
-
-/// Whether programs may store to values of maps as yet.
-pub(crate) fn are_value_writes_served() -> bool
-    ensures { result ≡ are_value_writes_served }
-{
-    false
-}
 
 /// Every number that a zero-extending load gives.
 fn loaded_number(size: Size) -> Kind
@@ -212,9 +205,6 @@ impl State {
                 narrow_storable(kind)
             }
             Kind::Value { map, off, .. } => {
-                if !are_value_writes_served() {
-                    return Err(Refusal::WrongKind(to.register));
-                }
                 value_access(site.maps, map, off, to.offset, count)?;
                 narrow_storable(kind)
             }

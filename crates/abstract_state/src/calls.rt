@@ -2,7 +2,7 @@
 
 ghost use Rattle.std.specs.Prelude.{◌≡◌};
 ghost use Rattle.abstract_state.specs.InPlace.{kept};
-ghost use Rattle.abstract_state.specs.Calls.{helper_at, is_served, served_helper, map_argument, stack_argument, number_argument, context_argument, is_inside_stack, key_arguments, update_arguments, head_arguments, returned, any_number, call_of};
+ghost use Rattle.abstract_state.specs.Calls.{helper_at, map_argument, stack_argument, number_argument, context_argument, is_inside_stack, key_arguments, update_arguments, head_arguments, returned, any_number, call_of};
 
 use crate::fact::Fact;
 use crate::helper::Helper;
@@ -16,8 +16,8 @@ use ebpf_decode::MapDef;
 use isa::{Register, Width};
 
 impl Helper {
-    /// The helper of a number.
-    fn at(number: i32) -> Result<Helper, Refusal>
+    /// The helper of a number: 44 where there is none.
+    pub fn at(number: i32) -> Result<Helper, Refusal>
         ensures { result ≡ helper_at number }
     {
         match number {
@@ -28,32 +28,6 @@ impl Helper {
             8 => Ok(Helper::GetSmpProcessorId),
             44 => Ok(Helper::AdjustHead),
             _ => Err(Refusal::UnknownHelper),
-        }
-    }
-
-    /// Whether programs may call it as yet.
-    fn is_served(self) -> bool
-        ensures { result ≡ is_served self }
-    {
-        match self {
-            Helper::LookupElem => true,
-            Helper::UpdateElem => false,
-            Helper::DeleteElem => false,
-            Helper::KtimeGetNs => true,
-            Helper::GetSmpProcessorId => true,
-            Helper::AdjustHead => false,
-        }
-    }
-
-    /// The helper of a number that programs may call: else 44.
-    pub fn served(number: i32) -> Result<Helper, Refusal>
-        ensures { result ≡ served_helper number }
-    {
-        let helper = Helper::at(number)?;
-        if helper.is_served() {
-            Ok(helper)
-        } else {
-            Err(Refusal::UnknownHelper)
         }
     }
 }

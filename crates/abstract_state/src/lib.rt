@@ -11,6 +11,8 @@ mod helper;
 mod join;
 mod kind;
 pub mod laws;
+#[cfg(test)]
+mod map_tests;
 mod paths;
 mod places;
 mod refinement;

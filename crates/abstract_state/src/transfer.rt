@@ -41,7 +41,7 @@ ghost use Rattle.abstract_state.specs.Unary.{unary_change};
 ghost use Rattle.abstract_state.specs.InPlace.{kept, flow_kept, edge_state};
 ghost use Rattle.abstract_state.specs.Flow.{writable, fetch_writable, is_set, reads, reads_source, reads_both, reads_operands, reads_expected, reads_atomic, reads_arguments, alu_flow, number_of, operand_of, unary_flow, load_flow, store_flow, store_register_flow, atomic_flow, known_map, map_flow, number_flow, call_flow, verdict_kind, flow_of};
 
-use crate::access::{are_value_writes_served, narrow_storable};
+use crate::access::narrow_storable;
 use crate::flow::Way;
 use crate::helper::Helper;
 use crate::kind::Kind;
@@ -333,9 +333,6 @@ impl State {
     {
         match at.base {
             Kind::Value { map, off, .. } => {
-                if !are_value_writes_served() {
-                    return Err(Refusal::WrongKind(at.register));
-                }
                 value_access(site.maps, map, off, at.offset, width.size().bytes())?;
                 narrow_storable(self.kind(src))?;
                 expects(op, self.kind(Register::R0))?;
@@ -399,7 +396,7 @@ impl State {
     fn call(&mut self, site: Site<'_>, number: i32) -> Result<(), Refusal>
         ensures { kept result self.new ≡ call_flow site.entry.maps.now self.old site.entry.slot number }
     {
-        let helper = Helper::served(number)?;
+        let helper = Helper::at(number)?;
         self.reads_arguments(helper)?;
         self.call_helper(site, helper)
     }

@@ -4,7 +4,9 @@ ghost use Rattle.std.specs.Prelude.{◌≡◌, IfOk};
 ghost use Rattle.ebpf_decode.specs.ImageContents.{Contents};
 ghost use Rattle.ebpf_decode.specs.ImageFormat.{IsImageEncoding};
 ghost use Rattle.ebpf_decode.specs.declared.version.Version.TheVariants.{V1};
+ghost use Rattle.ebpf_decode.specs.Served.{IsServedImage};
 ghost use Rattle.semantics.specs.Safety.{IsSafeImage};
+ghost use Rattle.verifier.specs.Runnable.{IsRunnable};
 
 use ebpf_decode::{Image, decode};
 use std::alloc::Global;
@@ -24,6 +26,7 @@ pub fn decoded(alloc: Global, bytes: &[u8]) -> Result<Image, u8>
 pub fn accept(alloc: Global, bytes: &[u8]) -> Result<Verified, u8>
     ensures read { IfOk result (λ v. IsImageEncoding bytes.now (record { version = V1; maps = v.maps; code = v.code })) }
     ensures safe { IfOk result (λ v. IsSafeImage v.maps v.code) }
+    ensures served { IfOk result (λ v. IsServedImage (record { version = V1; maps = v.maps; code = v.code })) }
 {
     let image = match decoded(alloc, bytes)?.served() {
         Ok(image) => image,
@@ -32,5 +35,19 @@ pub fn accept(alloc: Global, bytes: &[u8]) -> Result<Verified, u8>
     match verify(alloc, image) {
         Ok(verified) => Ok(verified),
         Err(reject) => Err(reject.number()),
+    }
+}
+
+/// The same of an image that the machine of this build executes.
+pub fn accept_to_run(alloc: Global, bytes: &[u8]) -> Result<Verified, u8>
+    ensures read { IfOk result (λ v. IsImageEncoding bytes.now (record { version = V1; maps = v.maps; code = v.code })) }
+    ensures safe { IfOk result (λ v. IsSafeImage v.maps v.code) }
+    ensures served { IfOk result (λ v. IsServedImage (record { version = V1; maps = v.maps; code = v.code })) }
+    ensures runnable { IfOk result (λ v. IsRunnable v.code v.states) }
+{
+    let verified = accept(alloc, bytes)?;
+    match verified.unrun() {
+        Some(reject) => Err(reject.number()),
+        None => Ok(verified),
     }
 }

@@ -2,10 +2,11 @@
 //! Without that word it prints nothing.
 #![tactic(auto)]
 
-ghost use Rattle.std.specs.Prelude.{◌≡◌, ◌<◌, length};
+ghost use Rattle.std.specs.Prelude.{◌≡◌, ◌<◌, ℕ, List, None, length};
+ghost use Rattle.lru_maps.specs.LruTable.{cell_of_key};
 
 use anyhow::Error;
-use lru_maps::Recency;
+use lru_maps::LruShard;
 use plain_maps::HashShard;
 use std::alloc::{AllocError, Global};
 use std::env;
@@ -116,28 +117,65 @@ fn round(shard: &HashShard, keys: &[Key]) -> u64
     sum
 }
 
-/// Replaces keys one by one, as a full shard that evicts does: a look-up, the victim, a removal, an insertion, a use.
-fn updates(shard: &mut HashShard, recency: &mut Recency, old: &[Key], new: &[Key]) -> u64
+/// Evicts a key where there is no room for another.
+fn make_room(shard: &mut LruShard) -> u64
+    ensures size { shard.new.size ≡ shard.old.size }
+    ensures absent { (q : List ℕ) → cell_of_key shard.old q ≡ None → cell_of_key shard.new q ≡ None }
+{
+    if shard.len() == shard.capacity() {
+        return shard.evict();
+    }
+    0
+}
+
+/// An update of a key as an LRU shard makes it: a new key takes the place of the one that was used longest ago.
+fn update(shard: &mut LruShard, key: &Key, id: u64) -> u64
+    requires { shard.old.size ≡ 16 }
+    ensures { shard.new.size ≡ 16 }
+{
+    if let Some(old) = shard.touch(key) {
+        return old;
+    }
+    let gone = make_room(shard);
+    if shard.len() < shard.capacity() {
+        shard.insert(key, id);
+    }
+    gone
+}
+
+fn updates(shard: &mut LruShard, keys: &[Key]) -> u64
     requires { shard.old.size ≡ 16 }
     ensures { shard.new.size ≡ 16 }
 {
     let mut sum: u64 = 0;
-    for (gone, come) in old.iter().zip(new) {
-        if let Some(id) = shard.find(come) {
-            sum = sum.wrapping_add(id);
-        }
-        if let Some(number) = recency.oldest() {
-            sum = sum.wrapping_add(u64::from(number));
-            recency.touch(number);
-        }
-        if let Some(id) = shard.remove(gone) {
-            try_insert(shard, come, id);
-        }
+    for key in keys {
+        sum = sum.wrapping_add(update(shard, key, 1));
     }
     sum
 }
 
-/// Prints the rows of one size.
+/// Prints the rows of an LRU shard that is full: look-ups that find their key and use it, and updates of new keys.
+fn measure_uses(rt: &HostRuntime, count: u32, chosen: bool) -> Result<(), Error>
+    requires some { 0 < count }
+    requires few { count < 4294967295 }
+{
+    let name = if chosen { "chosen" } else { "any" };
+    let there = keys(rt.alloc(), count, 0, chosen)?;
+    let absent = keys(rt.alloc(), count, 1, chosen)?;
+    let mut shard = LruShard::new(rt.alloc(), 16, count)?;
+    let filled = updates(&mut shard, &there);
+    let start = Instant::now(rt)?;
+    let sum = updates(&mut shard, &there);
+    let time = start.elapsed(rt)?.as_nanos() * 10 / u128::from(count);
+    println!(rt; "{name}-use-{count} {time} {sum} {filled}")?;
+    let start = Instant::now(rt)?;
+    let sum = updates(&mut shard, &absent);
+    let time = start.elapsed(rt)?.as_nanos() * 10 / u128::from(count);
+    println!(rt; "{name}-update-{count} {time} {sum}")?;
+    Ok(())
+}
+
+/// Prints the rows of a hash shard of one size.
 fn measure(rt: &HostRuntime, count: u32, chosen: bool) -> Result<(), Error>
     requires some { 0 < count }
     requires few { count < 4294967295 }
@@ -155,11 +193,6 @@ fn measure(rt: &HostRuntime, count: u32, chosen: bool) -> Result<(), Error>
     let sum = finds(&shard, &absent);
     let time = start.elapsed(rt)?.as_micros() * 10_000 / u128::from(LOOKUPS);
     println!(rt; "{name}-absent-{count} {time} {sum}")?;
-    let mut recency = Recency::new(rt.alloc(), count)?;
-    let start = Instant::now(rt)?;
-    let sum = updates(&mut shard, &mut recency, &there, &absent);
-    let time = start.elapsed(rt)?.as_micros() * 10_000 / u128::from(count);
-    println!(rt; "{name}-update-{count} {time} {sum}")?;
     Ok(())
 }
 
@@ -172,5 +205,12 @@ fn main(rt: HostRuntime) -> Result<(), Error> {
     measure(&rt, 4096, false)?;
     measure(&rt, 131_072, false)?;
     measure(&rt, 64, true)?;
-    measure(&rt, 4096, true)
+    measure(&rt, 4096, true)?;
+    measure(&rt, 131_072, true)?;
+    measure_uses(&rt, 64, false)?;
+    measure_uses(&rt, 4096, false)?;
+    measure_uses(&rt, 131_072, false)?;
+    measure_uses(&rt, 64, true)?;
+    measure_uses(&rt, 4096, true)?;
+    measure_uses(&rt, 131_072, true)
 }

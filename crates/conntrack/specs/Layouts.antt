@@ -13,7 +13,7 @@ use Rattle.conntrack.specs.declared.records.TunnelRecord.{TunnelRecord}
 -- ---- keys
 
 abbrev pub service_of : FlowKey → Service
-service_of flow = record { address = record { 0 = flow.destination }; port = flow.destination_port; transport = flow.transport }
+service_of flow = record { address = flow.destination; port = flow.destination_port; transport = flow.transport }
 
 abbrev pub service_key : Service → List ℕ
 service_key service = service.address.0 ++ be_bytes service.port ++ protocol_number service.transport ∷ 0 ∷ []

@@ -9,7 +9,7 @@ use Rattle.semantics.specs.declared.verdict.Verdict.{Verdict}
 use Rattle.semantics.specs.declared.verdict.Verdict.TheVariants as V
 use Rattle.ipip.specs.PlainIpv4.{total_length, time_to_live}
 use Rattle.ipip.specs.Encapsulation.{encapsulated_frame}
-use Rattle.ipip.specs.declared.ends.Ipv4Address.{Ipv4Address}
+use Rattle.wire.specs.declared.ethernet.Ipv4Address.{Ipv4Address}
 use Rattle.ipip.specs.declared.ends.Tunnel.{Tunnel}
 use Rattle.conntrack.specs.declared.records.VipRecord.{VipRecord}
 use Rattle.conntrack.specs.declared.records.BackendRecord.{BackendRecord}

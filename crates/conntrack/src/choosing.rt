@@ -4,9 +4,9 @@ ghost use Rattle.std.specs.Prelude.{◌≡◌, ℕ, ◌≤◌, Bool, length};
 ghost use Rattle.conntrack.specs.SteeringRule.{IsSteered, fits_tunnel, choice_if_up, choice_of, tracked_choice, ring_choice, verdict_of_choice, tunnel_to, counted_verdict, is_set_up};
 
 use crate::records::{BackendRecord, TunnelRecord, VipRecord};
-use ipip::{Ipv4Address, Tunnel};
+use ipip::Tunnel;
 use semantics::Verdict;
-use wire::{Frame, flow_of};
+use wire::{Frame, Ipv4Address, flow_of};
 
 /// The most bytes of a packet that fits through the tunnel.
 const MOST: u16 = 1480;

@@ -4,8 +4,7 @@ ghost use Rattle.std.specs.Prelude.{◌≡◌};
 ghost use Rattle.semantics.specs.LittleEndian.{bytes_of_number};
 ghost use Rattle.conntrack.specs.Layouts.{service_key, service_of};
 
-use ipip::Ipv4Address;
-use wire::{FlowKey, Transport};
+use wire::{FlowKey, Ipv4Address, Transport};
 
 /// What clients of a service send to.
 #[derive(Clone, Copy, Debug, PartialEq, Eq)]
@@ -21,7 +20,7 @@ impl Service {
         ensures { result ≡ service_of flow.now }
     {
         Service {
-            address: Ipv4Address(flow.destination),
+            address: flow.destination,
             port: flow.destination_port,
             transport: flow.transport,
         }

@@ -16,7 +16,6 @@ mod tests;
 
 pub use choosing::{Assigned, Choice, Records, choose};
 pub use fault::SteerFault;
-pub use ipip::{Ipv4Address, MacAddress};
 pub use keys::{Service, index_key};
 pub use records::{BackendRecord, FlowRecord, RingRecord, TunnelRecord, VipRecord};
 pub use steering_maps::{SteeringMap, maps, table_size};

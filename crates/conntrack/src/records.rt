@@ -4,7 +4,7 @@ ghost use Rattle.std.specs.Prelude.{◌≡◌, ◌<◌, ◌^◌, ◌+◌, IfSome
 ghost use Rattle.conntrack.specs.Layouts.{padded_word, flag_number, owner_word, vip_bytes, flow_bytes, ring_bytes, backend_bytes, tunnel_bytes, vip_of, flow_of, ring_of, backend_of, tunnel_of, word_at, owner_of};
 ghost use Rattle.semantics.specs.LittleEndian.{bytes_of_number};
 
-use ipip::{Ipv4Address, MacAddress};
+use wire::{Ipv4Address, MacAddress};
 
 /// A service.
 #[derive(Clone, Copy, Debug, PartialEq, Eq)]

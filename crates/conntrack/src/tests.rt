@@ -1,11 +1,11 @@
 //! What no clause says: rows worked out elsewhere, and that maps are made with memory.
 
 use crate::{
-    Assigned, BackendRecord, Choice, FlowRecord, Ipv4Address, MacAddress, Records, RingRecord,
-    Service, SteerFault, TunnelRecord, VipRecord, choose, maps, table_size,
+    Assigned, BackendRecord, Choice, FlowRecord, Records, RingRecord, Service, SteerFault,
+    TunnelRecord, VipRecord, choose, maps, table_size,
 };
 use ipip::encapsulate;
-use wire::{Frame, Transport, flow_of};
+use wire::{Frame, Ipv4Address, MacAddress, Transport, flow_of};
 
 // A UDP datagram from 198.51.100.7 to 203.0.113.1, port 80.
 #[rattlefmt::skip]

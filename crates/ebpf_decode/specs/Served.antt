@@ -1,4 +1,5 @@
--- What this build verifies and runs as yet: images of version 1 whose maps are arrays. All images are read, written and spelled.
+-- What this build runs as yet: images of version 1 whose maps are arrays. All images are read, written and spelled, and those of version 1
+-- are judged.
 use Rattle.std.specs.Prelude.{◌≡◌, ◌≤◌, ℕ, ◌+◌, Bool, true, false, ◌&&◌, List, [], ◌∷◌, length, Option, Some, None, IsTrue, if◌then◌else◌}
 use Rattle.std.specs.List.{AllByRecursion}
 use Rattle.ebpf_decode.specs.declared.version.Version.{Version}

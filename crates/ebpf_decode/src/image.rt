@@ -91,7 +91,7 @@ impl Image {
         &self.code
     }
 
-    /// The image, where this build verifies and runs it, or the fault with which it is turned away: 10 for version 2, 11 for the
+    /// The image, where this build runs it, or the fault with which it is turned away: 10 for version 2, 11 for the
     /// first map that is no array with values of at most 64 bytes. It takes no memory; a refused image is dropped.
     pub fn served(self) -> Result<Image, DecodeFault>
         ensures taken { IfOk result (λ image. (image ≡ self) × IsServedImage image) }

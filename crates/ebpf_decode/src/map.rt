@@ -66,7 +66,7 @@ impl MapKind {
 }
 
 impl MapDef {
-    /// Whether this build verifies and runs images with the map: an array with values of at most 64 bytes.
+    /// Whether this build runs images with the map: an array with values of at most 64 bytes.
     pub fn is_served(self) -> bool
         ensures { result ≡ is_served_map self }
     {

@@ -94,7 +94,9 @@ stopped_is_beginning writes stays leaves verified options start before after sha
       exchanges = stopped.exchanges;
       refused = stopped.call;
       named = stopped.names_the_shard;
+      waiting = stopped.waiting;
       trace = stopped.trace;
+      kept_back = stopped.frame_left;
       written = written_but writes start.worker options before after was.port stopped.middle was.later stopped.exchanges stopped.call
           was.over stopped.chain stopped.refused was.finished outside;
       legal = are_legal was.later.image.now.maps was.later.options after was.finished.serve;
@@ -143,7 +145,7 @@ pub stopped_so : StoppedRunsAreBeginnings → (verified : Verified) (options : O
     IsOutside start.worker before → IsPortOver options start.worker before port →
     StopsSo PortGives PortRefuses (program_of verified port.options.shards) (state_at start) port later frame stop →
     IsFinished options later after →
-    IsStoppedBeginning (program_of verified options.shards) start before after stop
+    IsStoppedBeginning (program_of verified options.shards) start before after frame stop
 stopped_so runs verified options start before after port later (JournalFull shard) frame outside over stopped finished =
     runs verified options start before after shard frame outside (record {
       port = port;

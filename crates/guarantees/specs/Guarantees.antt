@@ -28,7 +28,7 @@ abbrev pub StoppedRunsAreBeginnings : Type 0
 StoppedRunsAreBeginnings =
     (verified : Verified) (options : Options) (start : Start) (before after : List JournaledShard) (shard : ℕ) (frame : FrameView) →
     IsOutside start.worker before → WasStopped verified options start before after shard frame →
-    IsTheBeginning (program_of verified options.shards) start before after shard
+    IsTheBeginning (program_of verified options.shards) start before after shard frame
 
 -- each entry of a legal journal is one step of the one-thread map, from what the entries before it lead to
 abbrev pub EntriesAreSteps : Type 0

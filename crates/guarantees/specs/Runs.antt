@@ -104,17 +104,20 @@ pub record IsTheMeaning (program : Program) (start : Start) (before after : List
   pub legal : ∥ AreLegal after ∥₁
   pub outside : IsOutside start.worker after
 
--- the run made the calls of its program up to the refused one, which no journal has; and it left every shard
-pub record IsTheBeginning (program : Program) (start : Start) (before after : List JournaledShard) (shard : ℕ) : Type 0 where
+-- the run made the calls of its program up to the refused one, which no journal has; the frame is that of the state in which it waits for
+-- the reply; and it left every shard
+pub record IsTheBeginning (program : Program) (start : Start) (before after : List JournaledShard) (shard : ℕ) (frame : FrameView) : Type 0 where
   pub exchanges : List Exchange
   pub refused : Call
   pub named : shard ≡ shard_of_call refused
+  pub waiting : MachineState
   pub trace :
       whole_trace program (state_at start) (replies_in exchanges) ≡
-      record { calls = calls_in exchanges ++ refused ∷ []; stand = Waits }
+      record { calls = calls_in exchanges ++ refused ∷ []; stand = Waits waiting }
+  pub kept_back : frame ≡ waiting.frame
   pub written : AreWrittenBut refused start.worker exchanges before after
   pub legal : ∥ AreLegal after ∥₁
   pub outside : IsOutside start.worker after
 
-abbrev pub IsStoppedBeginning : Program → Start → List JournaledShard → List JournaledShard → Stop → Type 0
-IsStoppedBeginning program start before after (JournalFull shard) = IsTheBeginning program start before after shard
+abbrev pub IsStoppedBeginning : Program → Start → List JournaledShard → List JournaledShard → FrameView → Stop → Type 0
+IsStoppedBeginning program start before after frame (JournalFull shard) = IsTheBeginning program start before after shard frame

@@ -28,7 +28,8 @@ pub fn accepted_images_are_safe(verified: &Verified)
     ensures { IsSafeImage verified.now.maps verified.now.code }
 {
     accepted_is_safe();
-    verified.image().served_parts();
+    let _ = verified.image();
+    verified.encodable();
 }
 
 /// A worker's run: `PlainPort::over` makes its port over shards that it is not inside of, `run` ends, and `finish` leaves the shards.
@@ -44,7 +45,8 @@ pub fn runs_are_their_meaning()
 }
 
 /// The same of a run that stopped because a shard's journal was full: its calls are those that the trace makes up to the refused one,
-/// and they stand in the journals. The refused call stands in none; its shard may have an Enter and a Leave with no call between.
+/// and they stand in the journals. The refused call stands in none; its shard may have an Enter and a Leave with no call between. The
+/// frame is that of the state in which the run waits for the reply.
 pub fn stopped_runs_are_beginnings()
     ensures { StoppedRunsAreBeginnings }
 {

@@ -1,8 +1,11 @@
 //! The calls of which the guarantees on runs speak, made in their order.
 
 ghost use Rattle.std.specs.Prelude.{◌≡◌, ◌<◌, IfOk, IfErr};
+ghost use Rattle.ebpf_decode.specs.declared.version.Version.TheVariants.{V1};
+ghost use Rattle.ebpf_decode.specs.Served.{IsServedImage};
 ghost use Rattle.semantics.specs.ShardPlan.{AreOptions};
 ghost use Rattle.semantics.specs.MachineState.{initial_state};
+ghost use Rattle.verifier.specs.Runnable.{IsRunnable};
 ghost use Rattle.machine.specs.Running.{program_of, Ends, StopsSo};
 ghost use Rattle.shard_port.specs.PlainPorts.{maps_of, PortGives, PortRefuses};
 ghost use Rattle.shard_port.specs.PortView.{ServesMaps};
@@ -25,6 +28,8 @@ fn run_at(
     port: &mut PlainPort,
 ) -> Result<Exit, Stop>
     requires maps { port.old.image.now.maps ≡ verified.now.maps }
+    requires arrays { IsServedImage (record { version = V1; maps = verified.now.maps; code = verified.now.code }) }
+    requires runnable { IsRunnable verified.now.code verified.now.states }
     requires headroom { frame.old.headroom ≡ 256 }
     requires worker { moment.now.worker < 8 }
     ensures exit { IfOk result (λ exit. Ends PortGives (program_of verified.now port.old.options.shards)
@@ -50,6 +55,8 @@ pub fn worker_run(
     frame: &mut Frame,
 ) -> Result<Exit, Stop>
     requires options { AreOptions verified.now.maps options }
+    requires arrays { IsServedImage (record { version = V1; maps = verified.now.maps; code = verified.now.code }) }
+    requires runnable { IsRunnable verified.now.code verified.now.states }
     requires shards { ServesMaps verified.now.maps options shards.old }
     requires outside { IsOutside moment.now.worker shards.old }
     requires worker { moment.now.worker < 8 }
@@ -57,12 +64,12 @@ pub fn worker_run(
     requires headroom { frame.old.headroom ≡ 256 }
     ensures exit { IfOk result (λ exit.
         IsTheMeaning (program_of verified.now options.shards) (start_of moment.now frame.old) shards.old shards.new exit.verdict exit.steps frame.new) }
-    ensures stop { IfErr result (IsStoppedBeginning (program_of verified.now options.shards) (start_of moment.now frame.old) shards.old shards.new) }
+    ensures stop { IfErr result (IsStoppedBeginning (program_of verified.now options.shards) (start_of moment.now frame.old) shards.old shards.new frame.new) }
     ensures serve { ServesMaps verified.now.maps options shards.new }
 {
     runs_are_their_meaning();
     stopped_runs_are_beginnings();
-    let mut port = PlainPort::over(verified.image(), options, shards, moment.worker);
+    let mut port = PlainPort::over(verified.served_image(), options, shards, moment.worker);
     let ended = run_at(verified, frame, moment, &mut port);
     port.finish();
     ended

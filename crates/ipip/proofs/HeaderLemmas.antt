@@ -27,8 +27,3 @@ outer_header-total service total tunnel = let whole : total / 256 * 256 + total 
 pub outer_header-time_to_live : (service total : ℕ) (tunnel : Tunnel) → get_or (outer_header service total tunnel) 8 0 ≡ 64
 unfolding outer_header
 outer_header-time_to_live service total tunnel = refl
-
--- the items of two lists of six, and two more
-pub two_addresses : (xs ys : List ℕ) → length xs ≡ 6 → length ys ≡ 6 → get_or xs 0 0 ∷ get_or xs 1 0 ∷ get_or xs 2 0 ∷ get_or xs 3 0 ∷ get_or xs 4 0 ∷ get_or xs 5 0 ∷ get_or ys 0 0 ∷ get_or ys 1 0 ∷ get_or ys 2 0 ∷ get_or ys 3 0 ∷ get_or ys 4 0 ∷ get_or ys 5 0 ∷ 8 ∷ 0 ∷ [] ≡ xs ++ ys ++ 8 ∷ 0 ∷ []
-two_addresses (x0 ∷ x1 ∷ x2 ∷ x3 ∷ x4 ∷ x5 ∷ []) (y0 ∷ y1 ∷ y2 ∷ y3 ∷ y4 ∷ y5 ∷ []) six six' = refl
-two_addresses _ _ six six' = absurd (omega arith)

@@ -4,6 +4,7 @@
 use Rattle.std.specs.Prelude.{ℕ, ◌+◌, ◌-◌, List, [], ◌∷◌, ◌++◌, drop}
 use Rattle.wire.specs.FrameView.{FrameView}
 use Rattle.wire.specs.FlowBytes.{be_bytes}
+use Rattle.wire.specs.EthernetBytes.{ethernet_bytes}
 use Rattle.wire.specs.Checksum.{ones_sum_of, ones_complement}
 use Rattle.ipip.specs.PlainIpv4.{type_of_service, total_length}
 use Rattle.ipip.specs.declared.ends.Tunnel.{Tunnel}
@@ -29,7 +30,7 @@ outer_header service total tunnel = header_with (header_checksum service total t
 
 -- the Ethernet header: the two addresses, destination first, and the type IPv4
 abbrev pub ethernet_header : Tunnel → List ℕ
-ethernet_header tunnel = tunnel.destination_mac.0 ++ tunnel.source_mac.0 ++ 0x08 ∷ 0x00 ∷ []
+ethernet_header tunnel = ethernet_bytes (record { destination = tunnel.destination_mac; source = tunnel.source_mac; ether_type = 0x0800 })
 
 -- the frame with these 34 bytes in place of its old Ethernet header, 20 of them out of the headroom
 abbrev pub with_headers : List ℕ → List ℕ → FrameView → FrameView

@@ -1,12 +1,6 @@
 //! The two ends of a tunnel.
 
-/// An IPv4 address: its bytes as they stand in a header (RFC 791, section 3.1).
-#[derive(Clone, Copy, Debug, PartialEq, Eq)]
-pub struct Ipv4Address(pub [u8; 4]);
-
-/// An Ethernet address: its bytes as they stand in a frame.
-#[derive(Clone, Copy, Debug, PartialEq, Eq)]
-pub struct MacAddress(pub [u8; 6]);
+use wire::{Ipv4Address, MacAddress};
 
 /// From where to where an encapsulated frame goes.
 #[derive(Clone, Copy, Debug, PartialEq, Eq)]

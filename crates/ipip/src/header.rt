@@ -1,19 +1,14 @@
 //! The two headers that go before a packet in a tunnel.
 
-ghost use Rattle.std.specs.Prelude.{◌≡◌, ◌/◌, ◌%◌, [], ◌∷◌, ◌++◌};
-ghost use Rattle.wire.specs.FlowBytes.{be_bytes};
+ghost use Rattle.std.specs.Prelude.{◌≡◌};
 ghost use Rattle.wire.specs.Checksum.{ones_sum_of};
 ghost use Rattle.ipip.specs.Encapsulation.{header_with, outer_header, ethernet_header};
 
 use crate::ends::Tunnel;
-use wire::ones_sum;
+use wire::{EthernetHeader, be_bytes, ones_sum};
 
-/// The two bytes of a number, high byte first.
-fn be_bytes(word: u16) -> [u8; 2]
-    ensures { result ≡ be_bytes word }
-{
-    [(word / 256) as u8, (word % 256) as u8]
-}
+/// The type of an Ethernet frame that carries IPv4.
+const IPV4: u16 = 0x0800;
 
 /// The outer header with this checksum: type of service and total length as given, identification 0,
 /// don't fragment, time to live 64, protocol 4 (RFC 791, section 3.1; RFC 2003, section 3.1).
@@ -40,11 +35,14 @@ pub(crate) fn outer_header(service: u8, total: u16, tunnel: &Tunnel) -> [u8; 20]
     header_with(checksum, service, total, tunnel)
 }
 
-/// The Ethernet header: destination, source, type IPv4.
+/// The Ethernet header: the tunnel's two addresses, type IPv4.
 pub(crate) fn ethernet_header(tunnel: &Tunnel) -> [u8; 14]
     ensures { result ≡ ethernet_header tunnel.now }
 {
-    let [d0, d1, d2, d3, d4, d5] = tunnel.destination_mac.0;
-    let [s0, s1, s2, s3, s4, s5] = tunnel.source_mac.0;
-    [d0, d1, d2, d3, d4, d5, s0, s1, s2, s3, s4, s5, 0x08, 0x00]
+    let header = EthernetHeader {
+        destination: tunnel.destination_mac,
+        source: tunnel.source_mac,
+        ether_type: IPV4,
+    };
+    header.bytes()
 }

@@ -10,5 +10,5 @@ mod packet;
 mod table_tests;
 
 pub use encapsulation::encapsulate;
-pub use ends::{Ipv4Address, MacAddress, Tunnel};
+pub use ends::Tunnel;
 pub use fault::IpipFault;

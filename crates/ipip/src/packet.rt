@@ -1,8 +1,9 @@
 //! The IPv4 packet in an Ethernet frame.
 
 ghost use Rattle.std.specs.Prelude.{◌≡◌, ◌+◌, ◌<◌, ◌↔◌, length, IsSome, IfSome};
-ghost use Rattle.wire.specs.FlowForm.{be_word_at};
 ghost use Rattle.ipip.specs.PlainIpv4.{type_of_service, total_length, time_to_live, IsPlainIpv4};
+
+use wire::word_at;
 
 /// What the encapsulation reads of a packet's header.
 #[derive(Clone, Copy, Debug, PartialEq, Eq)]
@@ -10,14 +11,6 @@ pub(crate) struct Packet {
     pub(crate) type_of_service: u8,
     pub(crate) total_length: u16,
     pub(crate) time_to_live: u8,
-}
-
-/// The 16-bit number at an index, high byte first.
-fn word_at(bytes: &[u8], at: usize) -> u16
-    requires { at + 1 < length bytes.now }
-    ensures { result ≡ be_word_at at bytes.now }
-{
-    u16::from(bytes[at]) * 256 + u16::from(bytes[at + 1])
 }
 
 /// The packet of a frame, where the frame holds a whole IPv4 packet without options.

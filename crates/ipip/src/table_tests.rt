@@ -1,9 +1,9 @@
 //! Rows worked out by hand from RFC 791 and RFC 2003.
 
-use crate::{IpipFault, Ipv4Address, MacAddress, Tunnel, encapsulate};
+use crate::{IpipFault, Tunnel, encapsulate};
 use std::alloc::{AllocError, Global};
 use std::test::Fail;
-use wire::Frame;
+use wire::{Frame, Ipv4Address, MacAddress};
 
 /// A UDP datagram of no payload from 198.51.100.7:40000 to 203.0.113.1:80.
 const UDP_FRAME: [u8; 42] = [

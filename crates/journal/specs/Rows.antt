@@ -99,7 +99,7 @@ journaled shard reserve key_size value_size rows bytes = record {
 -- the rows read within the bytes, and both rooms last for the reserve
 pub record IsKept (reserve key_size value_size : ℕ) (rows : List Row) (row_room : ℕ) (bytes : List ℕ) (byte_room : ℕ) : Type 0 where
   pub key : key_size ≤ 32
-  pub value : value_size ≤ 64
+  pub value : value_size ≤ 256
   pub within : AllByRecursion (IsWithin key_size value_size (length bytes)) rows
   -- no row took more bytes than one key and one value
   pub used : length bytes ≤ length rows * (key_size + value_size)

@@ -45,7 +45,7 @@ impl Journal {
         value_size: u32,
     ) -> Result<Self, AllocError>
         requires key { key_size ≤ 32 }
-        requires value { value_size ≤ 64 }
+        requires value { value_size ≤ 256 }
         ensures { IfOk result (λ journal. journal ≡ opened_journal shard reserve key_size value_size) }
     {
         let room = reserve as usize * (key_size as usize + value_size as usize);

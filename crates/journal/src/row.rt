@@ -81,7 +81,7 @@ impl Row {
     pub(crate) fn entry(&self, shape: &Shape, bytes: &[u8]) -> Entry
         requires within { IsWithin shape.now.key_size shape.now.value_size (length bytes.now) self.now }
         requires key { shape.now.key_size ≤ 32 }
-        requires value { shape.now.value_size ≤ 64 }
+        requires value { shape.now.value_size ≤ 256 }
         ensures { result ≡ entry_of shape.now.shard shape.now.key_size shape.now.value_size bytes.now self.now }
     {
         Entry {
@@ -131,7 +131,7 @@ impl Row {
     fn call(&self, shape: &Shape, bytes: &[u8]) -> Call
         requires within { IsWithin shape.now.key_size shape.now.value_size (length bytes.now) self.now }
         requires key { shape.now.key_size ≤ 32 }
-        requires value { shape.now.value_size ≤ 64 }
+        requires value { shape.now.value_size ≤ 256 }
         ensures { result ≡ call_of shape.now.shard shape.now.key_size shape.now.value_size bytes.now self.now }
     {
         let Shape { shard, key_size, value_size } = *shape;
@@ -181,7 +181,7 @@ fn key_at(bytes: &[u8], at: u64, size: u32) -> Key
 
 fn value_at(bytes: &[u8], at: u64, size: u32) -> Value
     requires within { at + size ≤ length bytes.now }
-    requires size { size ≤ 64 }
+    requires size { size ≤ 256 }
     ensures { result ≡ part at size bytes.now }
 {
     let mut value = Value::empty();

@@ -1,5 +1,5 @@
 -- What a use and a release leave of the order by last uses.
-use Rattle.std.proofs.Common.{◌≡◌, ℕ, zero, suc, ◌+◌, ◌-◌, ◌<◌, ◌≤◌, ◌≢◌, Bool, true, false, List, [], ◌∷◌, ◌++◌, length, Option, Some, None, slice_get, refl, sym, ap, ◌∙◌, inl, inr, arith, nat_eq, take, ne_eqb}
+use Rattle.std.proofs.Common.{◌≡◌, ℕ, zero, suc, ◌+◌, ◌-◌, ◌<◌, ◌≤◌, ◌≢◌, Bool, true, false, List, [], ◌∷◌, ◌++◌, length, Option, Some, None, slice_get, refl, sym, ap, ◌∙◌, inl, inr, arith, nat_eq, take, ne_eqb, eq-eqb}
 use Rattle.std.proofs.lemmas.List.{map-append, length-map}
 use Rattle.std.specs.List.{AllByRecursion, IsDistinct}
 use Rattle.std.specs.Option.{option_map_or}
@@ -11,7 +11,7 @@ use Rattle.std.proofs.lemmas.Map.Entries.{none_past_head}
 use Rattle.std.proofs.lemmas.Bool.{cases_Bool, eqb-true}
 use Rattle.lru.specs.LruCache.{promoted, demoted}
 use Rattle.lru.proofs.CallerLemmas.{Contains-lookup_entry}
-use Rattle.lru_maps.specs.Recency.{IsByLastUse, IsLeastRecent, used_at, without, is_listed, used, released, order_of, countdown}
+use Rattle.lru_maps.specs.Recency.{IsByLastUse, IsLeastRecent, used_at, without, is_listed, used, released, order_of, countdown, StandOnce}
 
 module _ {V : Type 0} where
   all_but_one : (P : ℕ × V → Type 0) (test : ℕ → Bool) (es : List (ℕ × V)) → AllByRecursion P es → AllByRecursion P (remove_entry test es)
@@ -188,3 +188,19 @@ module _ {V : Type 0} where
       let many : length (order_of es) ≡ n = rw is (length_countdown n) in
       let all : take (room - 1) es ≡ es = take_whole (room - 1) es (omega (arith, long, many)) in
       rw (absent, all) (ap (λ (rest : List ℕ). n ∷ rest) is)
+
+-- ---- no number stands behind itself
+
+module _ {V : Type 0} where
+  unlisted_apart : (n : ℕ) (es : List (ℕ × V)) → NonePasses (nat_eq n) es → is_listed n (order_of es) ≡ false
+  unlisted_apart n [] none = refl
+  unlisted_apart n (e ∷ es) none = rw none.0 (unlisted_apart n es none.1)
+
+  pub stand_once : (es : List (ℕ × V)) → IsDistinct nat_eq (keys_of es) → StandOnce (order_of es)
+  stand_once [] distinct = tt
+  stand_once (e ∷ es) distinct =
+      (unlisted_apart e.0 es (none_past_head nat_eq_equiv e.0 e es distinct (eq-eqb e.0 e.0 refl)), stand_once es (IsDistinct-tail nat_eq e.0 (keys_of es) distinct))
+
+-- the number that stands last, where the pairs are as many
+pub stands_last : {V : Type 0} (es : List (ℕ × V)) (n : ℕ) → Some n ≡ slice_get (order_of es) (length es - 1) → slice_get (order_of es) (length (order_of es) - 1) ≡ Some n
+stands_last es n last = (let many : length (order_of es) ≡ length es = length-map es (λ e. e.0) in rw many (sym last))

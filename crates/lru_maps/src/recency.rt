@@ -1,7 +1,10 @@
 //! Which entry number was used least recently.
 
 ghost use Rattle.std.specs.Prelude.{◌≡◌, ℕ, ◌<◌, ◌≤◌, ◌-◌, length, Some, nat_eq, IfSome, IfOk, slice_get};
-ghost use Rattle.lru_maps.specs.Recency.{IsByLastUse, IsLeastRecent, used_at, used, released, countdown, order_of, StaysByUse};
+ghost use Rattle.std.specs.Prelude.{option_map};
+ghost use Rattle.std.specs.Map.Iter.{deref_pair};
+ghost use Rattle.lru.specs.LruCache.{lru_cache, promoted, demoted, last_entry};
+ghost use Rattle.lru_maps.specs.Recency.{IsByLastUse, IsLeastRecent, used_at, used, released, countdown, order_of, StaysByUse, StandOnce};
 
 use lru::LruCache;
 use std::alloc::{AllocError, Global};
@@ -40,7 +43,7 @@ impl Recency {
         ensures by_use { StaysByUse number self.old.cache.entries self.new.cache.entries }
     {
         let _valid = self.cache.len();
-        self.cache.promote(&number);
+        put_first(&mut self.cache, number);
     }
 
     /// The number has no key any more: it stands last.
@@ -49,7 +52,14 @@ impl Recency {
         ensures by_use { (last : ℕ → ℕ) → IsByLastUse last self.old.cache.entries → IsByLastUse (used_at last number 0) self.new.cache.entries }
     {
         let _valid = self.cache.len();
-        self.cache.demote(&number);
+        put_last(&mut self.cache, number);
+    }
+
+    /// Does nothing: each number stands once.
+    pub fn numbers_differ(&self)
+        ensures { StandOnce (order_of self.now.cache.entries) }
+    {
+        let _valid = self.cache.len();
     }
 
     /// The last number: one with no key, or where each has one that whose last use is earliest.
@@ -57,9 +67,30 @@ impl Recency {
         ensures last { result ≡ slice_get (order_of self.now.cache.entries) (length self.now.cache.entries - 1) }
         ensures least { (last : ℕ → ℕ) → IsByLastUse last self.now.cache.entries → IfSome result (IsLeastRecent last self.now.cache.entries) }
     {
-        match self.cache.peek_lru() {
+        match last_of(&self.cache) {
             Some((number, _)) => Some(*number),
             None => None,
         }
     }
+}
+
+/// Puts a number before all others.
+fn put_first(cache: &mut LruCache<u32, ()>, number: u32)
+    ensures { cache.new ≡ lru_cache (promoted (nat_eq number) cache.old.entries) cache.old.cap }
+{
+    cache.promote(&number);
+}
+
+/// Puts a number behind all others.
+fn put_last(cache: &mut LruCache<u32, ()>, number: u32)
+    ensures { cache.new ≡ lru_cache (demoted (nat_eq number) cache.old.entries) cache.old.cap }
+{
+    cache.demote(&number);
+}
+
+/// The number behind all others.
+fn last_of(cache: &LruCache<u32, ()>) -> Option<(&u32, &())>
+    ensures { option_map deref_pair result ≡ last_entry cache.now.entries }
+{
+    cache.peek_lru()
 }

@@ -21,3 +21,4 @@ pub mod RunSteps
 pub mod AdvanceLaw
 pub mod RunObligations
 pub mod OpeningLemmas
+pub mod MaskLemmas

@@ -1,7 +1,9 @@
+pub mod Machine
 pub mod Opening
 pub mod Words
 pub mod Advance
 pub mod Ready
+pub mod Acting
 pub mod Meaning
 pub mod Running
 pub mod StopText

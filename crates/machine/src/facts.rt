@@ -1,21 +1,23 @@
 //! Facts of types, each brought into a proof by a function that does nothing and is named after the fact.
 
 ghost use Rattle.std.specs.Prelude.{◌≡◌, ◌≤◌, ◌<◌, ◌^◌, length, All};
-ghost use Rattle.ebpf_decode.specs.Served.{AreServedParts};
+ghost use Rattle.ebpf_decode.specs.declared.version.Version.TheVariants.{V1};
+ghost use Rattle.ebpf_decode.specs.ImageContents.{IsEncodable};
 ghost use Rattle.semantics.specs.System.{IsInputFrame};
 ghost use Rattle.verifier.specs.Dataflow.{Accepts};
 ghost use Rattle.machine.specs.Meaning.{IsWhole};
+ghost use Rattle.machine.specs.Acting.{machine_at};
 
-use crate::machine::Machine;
 use verifier::Verified;
 use wire::Frame;
 
 /// A verified image's program is let through by its entry states, and is one that the image format encodes.
 pub(crate) fn program_is_accepted(verified: &Verified)
     ensures accepted { Accepts verified.now.maps verified.now.code verified.now.states }
-    ensures encodable { AreServedParts verified.now.maps verified.now.code }
+    ensures encodable { IsEncodable V1 verified.now.maps verified.now.code }
 {
-    verified.image().served_parts();
+    let _ = verified.image();
+    verified.encodable();
 }
 
 /// A frame has at most 2304 bytes.
@@ -49,11 +51,13 @@ fn bytes_have_8_bits(bytes: &[u8])
 }
 
 /// Registers and stack have their lengths, and their parts their widths.
-pub(crate) fn machine_is_whole(machine: &Machine)
-    ensures { IsWhole machine.now }
+pub(crate) fn machine_is_whole(slot: usize, steps: usize, registers: &[u64; 11], stack: &[u8; 512])
+    ensures { IsWhole (machine_at slot steps registers.now stack.now) }
 {
-    words_have_64_bits(&machine.registers);
-    bytes_have_8_bits(&machine.stack);
+    let _ = slot;
+    let _ = steps;
+    words_have_64_bits(registers);
+    bytes_have_8_bits(stack);
 }
 
 /// A time has 64 bits.

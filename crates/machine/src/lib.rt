@@ -1,13 +1,17 @@
 //! The machine: runs an image that the verifier accepted, on one frame.
 #![tactic(auto)]
 
+mod act;
 mod advance;
+mod arms;
 mod exit;
 mod facts;
-mod machine;
 mod moment;
 mod next;
+mod onward;
+mod rare;
 mod runner;
+mod words;
 
 pub use exit::{Exit, Stop};
 pub use map_port::MapPort;

@@ -25,7 +25,7 @@ pub hashed_fit : (size : ℕ) (backends : List Backend) → IsRingSize size → 
 hashed_fit size backends served =
     let bounds = size_bounds size served in
     All-map (IsPreference size) (hashed_preference size) backends
-    (λ k d below. remainders_fit size (get_or backends k d).number (fnv1a64_of (1 ∷ (get_or backends k d).address)) (fnv1a64_of (2 ∷ (get_or backends k d).address)) (omega (arith, bounds)))
+    (λ k d below. remainders_fit size (get_or backends k d).number (fnv1a64_of (1 ∷ (get_or backends k d).address.0)) (fnv1a64_of (2 ∷ (get_or backends k d).address.0)) (omega (arith, bounds)))
 
 pub numbers_of-hashed : (size : ℕ) (backends : List Backend) → numbers_of (hashed_preferences size backends) ≡ map (λ backend. backend.number) backends
 numbers_of-hashed size [] = refl

@@ -7,8 +7,8 @@ use Rattle.maglev.specs.declared.preference.Preference.{Preference}
 abbrev pub hashed_preference : ℕ → Backend → Preference
 hashed_preference size backend = record {
   number = backend.number;
-  offset = fnv1a64_of (1 ∷ backend.address) % size;
-  skip = fnv1a64_of (2 ∷ backend.address) % (size - 1) + 1;
+  offset = fnv1a64_of (1 ∷ backend.address.0) % size;
+  skip = fnv1a64_of (2 ∷ backend.address.0) % (size - 1) + 1;
 }
 
 -- the preference lists of the backends, in the order of the list

@@ -5,22 +5,21 @@ ghost use Rattle.wire.specs.Fnv.{fnv1a64_of};
 ghost use Rattle.maglev.specs.Hashing.{hashed_preference};
 
 use crate::preference::Preference;
-use wire::fnv1a64;
+use wire::{Ipv4Address, fnv1a64};
 
 /// A server behind the load balancer.
 #[derive(Clone, Copy, Debug, PartialEq, Eq)]
 pub struct Backend {
     /// The number by which a ring names it.
     pub number: u32,
-    /// Its IPv4 address, in network byte order.
-    pub address: [u8; 4],
+    pub address: Ipv4Address,
 }
 
 /// The hash of a tag and the four bytes of an address.
-fn tagged_hash(tag: u8, address: [u8; 4]) -> u64
-    ensures { result ≡ fnv1a64_of (tag ∷ address) }
+fn tagged_hash(tag: u8, address: Ipv4Address) -> u64
+    ensures { result ≡ fnv1a64_of (tag ∷ address.0) }
 {
-    let [a, b, c, d] = address;
+    let [a, b, c, d] = address.0;
     fnv1a64(&[tag, a, b, c, d])
 }
 

@@ -5,6 +5,7 @@ ghost use Rattle.maglev.specs.Given.{given_numbers};
 ghost use Rattle.maglev.specs.Refusals.{HasRepeat, HaveRepeat};
 
 use crate::backend::Backend;
+use wire::Ipv4Address;
 
 /// Whether one of the given preferences has this number.
 fn is_given(earlier: &[(u32, u32, u32)], number: u32) -> bool
@@ -21,7 +22,7 @@ fn is_number_of(earlier: &[Backend], number: u32) -> bool
 }
 
 /// Whether one of the backends has this address.
-fn is_address_of(earlier: &[Backend], address: [u8; 4]) -> bool
+fn is_address_of(earlier: &[Backend], address: Ipv4Address) -> bool
     ensures { IsTrue result ↔ Any (λ backend. backend.address ≡ address) earlier.now }
 {
     earlier.iter().any(|backend| backend.address == address)

@@ -178,6 +178,13 @@ impl Ring {
         self.owners[slot as usize]
     }
 
+    /// The numbers of the owners, by slot.
+    pub fn owners(&self) -> &[u32]
+        ensures { result.now ≡ self.now }
+    {
+        &self.owners
+    }
+
     /// How many slots the ring has.
     pub fn size(&self) -> u32
         ensures { result ≡ length self.now }

@@ -6,6 +6,7 @@ use crate::{Backend, Ring, RingFault};
 use std::alloc::{AllocError, Global};
 use std::test::Fail;
 use std::time::Instant;
+use wire::Ipv4Address;
 
 type Given = (u32, u32, u32);
 
@@ -19,15 +20,15 @@ const TURNS: [(&str, &[Given], [u32; 7]); 3] = [
 const THREE: [Backend; 3] = [
     Backend {
         number: 0,
-        address: [192, 0, 2, 1],
+        address: Ipv4Address([192, 0, 2, 1]),
     },
     Backend {
         number: 1,
-        address: [192, 0, 2, 2],
+        address: Ipv4Address([192, 0, 2, 2]),
     },
     Backend {
         number: 2,
-        address: [10, 0, 0, 9],
+        address: Ipv4Address([10, 0, 0, 9]),
     },
 ];
 
@@ -50,10 +51,10 @@ const REFUSED_TURNS: [(&str, &[Given], u32, RingFault); 6] = [
 #[rattlefmt::skip]
 const REFUSED_BUILDS: [(&str, &[Backend], u32, RingFault); 5] = [
     ("no backend goes before a bad size", &[], 0, RingFault::NoBackend),
-    ("a number twice",                    &[Backend { number: 3, address: [1, 2, 3, 4] }, Backend { number: 3, address: [1, 2, 3, 5] }], 7, RingFault::Twice),
-    ("an address twice",                  &[Backend { number: 3, address: [1, 2, 3, 4] }, Backend { number: 4, address: [1, 2, 3, 4] }], 7, RingFault::Twice),
-    ("twice goes before a bad size",      &[Backend { number: 3, address: [1, 2, 3, 4] }, Backend { number: 3, address: [1, 2, 3, 4] }], 1, RingFault::Twice),
-    ("a bad size",                        &[Backend { number: 3, address: [1, 2, 3, 4] }], 65536, RingFault::BadSize),
+    ("a number twice",                    &[Backend { number: 3, address: Ipv4Address([1, 2, 3, 4]) }, Backend { number: 3, address: Ipv4Address([1, 2, 3, 5]) }], 7, RingFault::Twice),
+    ("an address twice",                  &[Backend { number: 3, address: Ipv4Address([1, 2, 3, 4]) }, Backend { number: 4, address: Ipv4Address([1, 2, 3, 4]) }], 7, RingFault::Twice),
+    ("twice goes before a bad size",      &[Backend { number: 3, address: Ipv4Address([1, 2, 3, 4]) }, Backend { number: 3, address: Ipv4Address([1, 2, 3, 4]) }], 1, RingFault::Twice),
+    ("a bad size",                        &[Backend { number: 3, address: Ipv4Address([1, 2, 3, 4]) }], 65536, RingFault::BadSize),
 ];
 
 #[rattlefmt::skip]
@@ -180,7 +181,7 @@ fn hundreds(alloc: Global, count: u32) -> Result<Vec<Backend>, AllocError> {
         let [_, high, middle, low] = number.to_be_bytes();
         backends.push(Backend {
             number,
-            address: [10, high, middle, low],
+            address: Ipv4Address([10, high, middle, low]),
         })?;
     }
     Ok(backends)

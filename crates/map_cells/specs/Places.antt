@@ -2,7 +2,7 @@
 use Rattle.std.specs.Prelude.{◌≡◌, ◌≢◌, ℕ, ◌+◌, ◌*◌, ◌==◌, ◌<◌, ◌≤◌, List, [], ◌∷◌, length, map, Option, Some, None, slice_index_or, if◌then◌else◌}
 use Rattle.map_cells.specs.declared.retired.Retired.{Retired}
 use Rattle.map_cells.specs.Blocks.{block_of}
-use Rattle.map_cells.specs.CellTable.{retired_at}
+use Rattle.map_cells.specs.CellTable.{CellTable, retired_at}
 
 -- what stands for the place of an id that was freed
 abbrev pub no_place : ℕ
@@ -17,6 +17,11 @@ cell_in size bytes place = if place == no_place then None else Some (block_of si
 
 abbrev pub cells_in : ℕ → List ℕ → List ℕ → List (Option (List ℕ))
 cells_in size bytes place_of = map (cell_in size bytes) place_of
+
+-- what a contract sees of the fields of a table
+abbrev pub cell_table : ℕ → ℕ → ℕ → List ℕ → List ℕ → List ℕ → List Retired → CellTable
+cell_table size places ids bytes place_of free retired =
+    record { value_size = size; places = places; ids = ids; free = length free; cells = cells_in size bytes place_of; retired = retired }
 
 -- how many ids have a place
 abbrev pub kept_one : ℕ → ℕ

@@ -1,9 +1,11 @@
 //! The table of cells.
 
-ghost use Rattle.std.specs.Prelude.{◌≡◌, ◌≢◌, ◌<◌, ◌≤◌, ◌+◌, ◌*◌, ◌^◌, ◌⊎◌, ℕ, IsTrue, IfOk, IfSome, Some, None, List, [], ◌∷◌, length, filter, vec_len, vec_capacity, slice_index_or};
+ghost use Rattle.std.specs.Prelude.{◌≡◌, ◌≢◌, ◌<◌, ◌≤◌, ◌+◌, ◌*◌, ◌^◌, ◌⊎◌, ℕ, IsTrue, IfOk, IfSome, Some, None};
+ghost use Rattle.std.specs.Prelude.{true, false, List, [], ◌∷◌, ◌++◌, length, filter, vec_len, vec_capacity, slice_index_or};
 ghost use Rattle.isa.specs.Atomic.{atomic_result};
 ghost use Rattle.map_cells.specs.Places.{place_at};
-ghost use Rattle.map_cells.specs.CellTable.{CellTable, empty_table, is_kept, bytes_at, number_at, with_new_cell, with_bytes, with_number, with_retired, is_below, freed_below, oldest_stamp, without_oldest, IsLowestStamp, IsNotRetired, IsLatestStamp};
+ghost use Rattle.map_cells.specs.CellTable.{CellTable, empty_table, is_kept, bytes_at, number_at, with_new_cell, with_bytes, with_number, with_retired};
+ghost use Rattle.map_cells.specs.CellTable.{is_below, freed_below, oldest_stamp, without_oldest, IsLowestStamp, IsNotRetired, IsLatestStamp};
 
 use crate::blocks::{block_at, write_at};
 use crate::retired::Retired;
@@ -33,16 +35,17 @@ pub struct Cells {
 }
 
 impl Model for Cells {
-    ghost use Rattle.std.specs.Prelude.{length, vec_capacity};
+    ghost use Rattle.std.specs.Prelude.{vec_capacity};
     ghost use Rattle.std.specs.VecDeque.{deque_capacity};
     ghost use Rattle.map_cells.specs.CellTable.{CellTable};
-    ghost use Rattle.map_cells.specs.Places.{IsTable, cells_in};
+    ghost use Rattle.map_cells.specs.Places.{IsTable, cell_table};
 
     ghost Value = { CellTable };
 
-    ghost view = { λ t. record { value_size = t.size; places = t.places; ids = t.ids; free = length t.free.items; cells = cells_in t.size t.bytes.items t.place_of.items; retired = t.retired.items } };
+    ghost view = { λ t. cell_table t.size t.places t.ids t.bytes.items t.place_of.items t.free.items t.retired.items };
 
-    ghost invariant = { λ t. IsTable t.size t.places t.ids t.bytes.items t.place_of.items t.free.items t.retired.items (vec_capacity t.place_of) (vec_capacity t.free) (deque_capacity t.retired) };
+    ghost invariant = { λ t. IsTable t.size t.places t.ids t.bytes.items t.place_of.items t.free.items t.retired.items
+        (vec_capacity t.place_of) (vec_capacity t.free) (deque_capacity t.retired) };
 }
 
 impl Cells {
@@ -79,9 +82,7 @@ impl Cells {
         ensures table { self.new ≡ with_new_cell self.old bytes.now }
     {
         let id = self.place_of.len();
-        let Some(place) = self.free.pop() else {
-            unreachable!()
-        };
+        let place = taken_place(&mut self.free);
         write_at(&mut self.bytes, self.size, place as usize, 0, bytes);
         self.place_of.push_reserved(place);
         id as u64
@@ -176,7 +177,7 @@ impl Cells {
         let _most = self.waiting();
         let mut count = 0;
         while let Some(stamp) = self.oldest() {
-            if stamp >= floor {
+            if may_be_held(stamp, floor) {
                 break;
             }
             self.free_oldest();
@@ -213,7 +214,7 @@ impl Cells {
         };
         let place = place_in(&self.place_of, one.id);
         self.place_of[one.id as usize] = NO_PLACE;
-        self.free.push_reserved(place as u32);
+        give_place(&mut self.free, place as u32);
     }
 }
 
@@ -230,6 +231,35 @@ fn changed(width: usize, operation: AtomicOp, old: u64, operand: u64, expected: 
     } else {
         atomic(operation, Width::Bits64, old, operand, expected)
     }
+}
+
+/// Whether a run may be inside that entered before the retirement with this stamp.
+fn may_be_held(stamp: u64, floor: u64) -> bool
+    ensures held { result ≡ true → floor ≤ stamp }
+    ensures free { result ≡ false → stamp < floor }
+{
+    stamp >= floor
+}
+
+/// Takes one of the free places.
+fn taken_place(free: &mut Vec<u32>) -> u32
+    requires { 0 < length free.old.items }
+    ensures items { free.old.items ≡ free.new.items ++ result ∷ [] }
+    ensures room { vec_capacity free.new ≡ vec_capacity free.old }
+{
+    let Some(place) = free.pop() else {
+        unreachable!()
+    };
+    place
+}
+
+/// Puts a place among the free ones, which have room for it.
+fn give_place(free: &mut Vec<u32>, freed: u32)
+    requires { length free.old.items < vec_capacity free.old }
+    ensures items { free.new.items ≡ free.old.items ++ freed ∷ [] }
+    ensures room { vec_capacity free.new ≡ vec_capacity free.old }
+{
+    free.push_reserved(freed);
 }
 
 /// The place of an id that was given.

@@ -17,9 +17,9 @@ key_size_met a b c held = let h : IsTrue (a == b) = first_true (a == b) c held i
 width_met : (width : ℕ) → IsTrue (is_load_width width) → width ≤ 8
 width_met width held = grind (arith, nat_tests)
 
-in_cell_met : (plan : ShardPlan) (offset width : ℕ) → IsWithinLimits plan → IsTrue (is_in_cell plan offset width) → offset + width ≤ 64
+in_cell_met : (plan : ShardPlan) (offset width : ℕ) → IsWithinLimits plan → IsTrue (is_in_cell plan offset width) → offset + width ≤ 256
 in_cell_met plan offset width limits held =
-    let most : plan.definition.value_size ≤ 64 = limits.value_size in
+    let most : plan.definition.value_size ≤ 256 = limits.value_size in
     grind (arith, nat_tests)
 
 fits_met : (value width : ℕ) → IsTrue (fits_width value width) → value < 256 ^ width

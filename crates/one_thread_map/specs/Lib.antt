@@ -1,1 +1,2 @@
 pub mod OneThread
+pub mod Standings

@@ -31,9 +31,9 @@ IsSized plan (Enter shard) = Unit {0}
 IsSized plan (Leave shard) = Unit {0}
 IsSized plan (Lookup shard key) = length key ≡ plan.definition.key_size
 IsSized plan (Load cell offset width) = width ≤ 8
-IsSized plan (Store cell offset width value) = (width ≤ 8) × (offset + width ≤ 64)
+IsSized plan (Store cell offset width value) = (width ≤ 8) × (offset + width ≤ 256)
 IsSized plan (Atomic cell offset width op value expected) =
-    IsTrue (is_atomic_width width) × (offset + width ≤ 64) × (value < 256 ^ width) × (expected < 256 ^ width)
+    IsTrue (is_atomic_width width) × (offset + width ≤ 256) × (value < 256 ^ width) × (expected < 256 ^ width)
 IsSized plan (Update shard key value flags) = length key ≡ plan.definition.key_size
 IsSized plan (Delete shard key) = length key ≡ plan.definition.key_size
 IsSized plan (Reclaim shard) = Unit {0}

@@ -21,7 +21,7 @@ use std::alloc::AllocError;
 /// Writes a number into a cell.
 fn write_number(state: &mut ShardState, cell: u64, offset: u64, width: u64, value: u64)
     requires width { width ≤ 8 }
-    requires inside { offset + width ≤ 64 }
+    requires inside { offset + width ≤ 256 }
     ensures { state_of state.new ≡ with_number_in_cell (state_of state.old) cell offset width value }
 {
     let number = bytes_of_number(width, value);

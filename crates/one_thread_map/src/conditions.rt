@@ -1,6 +1,9 @@
 //! Which calls a shard serves, and when its journal is full.
 
-ghost use Rattle.std.specs.Prelude.{◌≡◌, ◌<◌, ◌≤◌, ◌==◌, ◌+◌, ◌^◌, ◌&&◌, Bool, IsTrue, length, reverse, nat_lt, is_some};
+ghost use Rattle.std.specs.Prelude.{◌≡◌, ◌<◌, ◌≤◌, ◌==◌, ◌+◌, ◌^◌, ◌&&◌, Bool, List, IsTrue, length, reverse, nat_lt, is_some};
+ghost use Rattle.semantics.specs.declared.call.Entry.{Entry};
+ghost use Rattle.semantics.specs.declared.plan.ShardPlan.{ShardPlan};
+ghost use Rattle.one_thread_map.specs.Standings.{cell_of_call, IsStanding};
 ghost use Rattle.semantics.specs.PlanLimits.{IsWithinLimits, IsIndexSize};
 ghost use Rattle.semantics.specs.Reclamation.{inside_count};
 ghost use Rattle.semantics.specs.Program.{shard_number_of_key, part_of_key};
@@ -14,16 +17,13 @@ use semantics::little_endian::number_of_bytes;
 use semantics::{Call, Caller, CellRef, Entry, Key, SectionChange, ShardPlan, Value};
 use wire::fnv1a64;
 
-/// Whether the caller is a worker of the plan that is not inside.
-fn is_outside_worker(plan: &ShardPlan, journal: &[Entry], who: &Caller) -> bool
-    ensures { result ≡ is_outside_worker plan.now (reverse journal.now) who.now }
-{
-    match who {
-        Caller::Worker { number } => u32::from(*number) < plan.workers
-            && !is_inside(*number, journal),
-        Caller::Controller => false,
-        Caller::Reclaimer => false,
-    }
+/// What a shard knows of a caller before its call.
+#[derive(Clone, Copy, Debug, PartialEq, Eq)]
+pub struct Standing {
+    /// Whether it is a worker of the plan that is inside.
+    pub is_inside: bool,
+    /// Whether it is a worker of the plan that holds the cell that the call names.
+    pub is_holder: bool,
 }
 
 /// Whether the caller is a worker of the plan that is inside.
@@ -50,12 +50,55 @@ fn is_holder(plan: &ShardPlan, journal: &[Entry], who: &Caller, cell: &CellRef) 
     }
 }
 
-/// Whether the caller may change keys: a worker inside, and the controller always.
-fn may_change_keys(plan: &ShardPlan, journal: &[Entry], who: &Caller) -> bool
-    ensures { result ≡ may_change_keys plan.now (reverse journal.now) who.now }
+/// The cell whose bytes the call reads or writes.
+pub fn cell_of_call(call: &Call) -> Option<CellRef>
+    ensures { result ≡ cell_of_call call.now }
+{
+    match call {
+        Call::Load { cell, .. } => Some(*cell),
+        Call::Store { cell, .. } => Some(*cell),
+        Call::Atomic { cell, .. } => Some(*cell),
+        Call::Enter { .. } => None,
+        Call::Leave { .. } => None,
+        Call::Lookup { .. } => None,
+        Call::Update { .. } => None,
+        Call::Delete { .. } => None,
+        Call::Reclaim { .. } => None,
+    }
+}
+
+/// What the journal tells of a caller before its call.
+fn standing_in(plan: &ShardPlan, journal: &[Entry], who: &Caller, call: &Call) -> Standing
+    ensures { IsStanding plan.now (reverse journal.now) who.now call.now result }
+{
+    let is_inside = is_inside_worker(plan, journal, who);
+    let is_holder = match cell_of_call(call) {
+        Some(cell) => is_holder(plan, journal, who, &cell),
+        None => false,
+    };
+    Standing {
+        is_inside,
+        is_holder,
+    }
+}
+
+/// Whether the caller is a worker of the plan that is not inside.
+fn is_outside_worker(plan: &ShardPlan, who: &Caller, inside: bool) -> bool
+    ensures { (history : List Entry) → inside ≡ is_inside_worker plan.now history who.now → result ≡ is_outside_worker plan.now history who.now }
 {
     match who {
-        Caller::Worker { .. } => is_inside_worker(plan, journal, who),
+        Caller::Worker { number } => u32::from(*number) < plan.workers && !inside,
+        Caller::Controller => false,
+        Caller::Reclaimer => false,
+    }
+}
+
+/// Whether the caller may change keys: a worker inside, and the controller always.
+fn may_change_keys(who: &Caller, inside: bool) -> bool
+    ensures { (plan : ShardPlan) (history : List Entry) → inside ≡ is_inside_worker plan history who.now → result ≡ may_change_keys plan history who.now }
+{
+    match who {
+        Caller::Worker { .. } => inside,
         Caller::Controller => true,
         Caller::Reclaimer => false,
     }
@@ -172,45 +215,42 @@ fn is_atomic(plan: &ShardPlan, offset: u64, width: u64, op: u64, value: u64, exp
 }
 
 /// Whether the caller may make this call on this shard, apart from the shard's number.
-fn meets_part(plan: &ShardPlan, journal: &[Entry], who: &Caller, call: &Call) -> bool
+fn meets_part(plan: &ShardPlan, standing: Standing, who: &Caller, call: &Call) -> bool
     requires { IsWithinLimits plan.now }
-    ensures { result ≡ meets_part plan.now (reverse journal.now) who.now call.now }
+    ensures { (history : List Entry) → IsStanding plan.now history who.now call.now standing → result ≡ meets_part plan.now history who.now call.now }
 {
+    let Standing {
+        is_inside,
+        is_holder,
+    } = standing;
     match call {
-        Call::Enter { .. } => is_outside_worker(plan, journal, who),
-        Call::Leave { .. } => is_inside_worker(plan, journal, who),
-        Call::Lookup { key, .. } => is_inside_worker(plan, journal, who) && is_own_key(plan, key),
-        Call::Load {
-            cell,
-            offset,
-            width,
-        } => is_holder(plan, journal, who, cell) && is_load(plan, *offset, *width),
+        Call::Enter { .. } => is_outside_worker(plan, who, is_inside),
+        Call::Leave { .. } => is_inside,
+        Call::Lookup { key, .. } => is_inside && is_own_key(plan, key),
+        Call::Load { offset, width, .. } => is_holder && is_load(plan, *offset, *width),
         Call::Store {
-            cell,
             offset,
             width,
             value,
-        } => is_holder(plan, journal, who, cell)
-            && is_load(plan, *offset, *width)
-            && fits_width(*value, *width),
+            ..
+        } => is_holder && is_load(plan, *offset, *width) && fits_width(*value, *width),
         Call::Atomic {
-            cell,
             offset,
             width,
             op,
             value,
             expected,
-        } => is_holder(plan, journal, who, cell)
-            && is_atomic(plan, *offset, *width, *op, *value, *expected),
+            ..
+        } => is_holder && is_atomic(plan, *offset, *width, *op, *value, *expected),
         Call::Update {
             key,
             value,
             flags,
             ..
-        } => may_change_keys(plan, journal, who)
+        } => may_change_keys(who, is_inside)
             && is_own_key(plan, key)
             && (is_value(plan, value) && are_flags(*flags)),
-        Call::Delete { key, .. } => may_change_keys(plan, journal, who) && is_own_key(plan, key),
+        Call::Delete { key, .. } => may_change_keys(who, is_inside) && is_own_key(plan, key),
         Call::Reclaim { .. } => is_reclaimer(who),
     }
 }
@@ -231,12 +271,20 @@ fn are_flags(flags: u64) -> bool
     true
 }
 
+/// Whether a caller of this standing may make this call on this shard: the journal is not read.
+pub fn meets_with(plan: &ShardPlan, standing: Standing, who: &Caller, call: &Call) -> bool
+    requires { IsWithinLimits plan.now }
+    ensures { (history : List Entry) → IsStanding plan.now history who.now call.now standing → result ≡ meets plan.now history who.now call.now }
+{
+    call.shard() == plan.number && meets_part(plan, standing, who, call)
+}
+
 /// Whether the caller may make this call on this shard now.
 pub fn meets(plan: &ShardPlan, journal: &[Entry], who: &Caller, call: &Call) -> bool
     requires { IsWithinLimits plan.now }
     ensures { result ≡ meets plan.now (reverse journal.now) who.now call.now }
 {
-    call.shard() == plan.number && meets_part(plan, journal, who, call)
+    meets_with(plan, standing_in(plan, journal, who, call), who, call)
 }
 
 /// Whether the journal has no room for a call that is no Leave: for its entry, one more for each run inside, and one more

@@ -13,7 +13,7 @@ use semantics::{Call, Caller, Entry, Key, Reply, RetiredCell, SectionChange};
 const WORKER_NUMBERS: [u8; 8] = [0, 1, 2, 3, 4, 5, 6, 7];
 
 /// Whether the caller is the worker of this number.
-fn is_worker(worker: u8, who: &Caller) -> bool
+pub fn is_worker(worker: u8, who: &Caller) -> bool
     ensures { result ≡ is_worker worker who.now }
 {
     match who {
@@ -91,7 +91,7 @@ fn found_cell(reply: &Reply, cell: u64) -> bool
 }
 
 /// Where a worker's own entry decides whether it then holds the cell: the answer.
-fn held_by(call: &Call, reply: &Reply, cell: u64) -> Option<bool>
+pub fn held_by(call: &Call, reply: &Reply, cell: u64) -> Option<bool>
     ensures { (before : Bool) → unwrap_or result before ≡ held_by call.now reply.now cell before }
 {
     match call {

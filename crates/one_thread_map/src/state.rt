@@ -153,7 +153,7 @@ pub fn set_cell(cells: &mut Vec<Value>, cell: u64, value: Value)
 
 /// So many bytes of zeros.
 pub fn zeros(size: u32) -> Value
-    requires { size ≤ 64 }
+    requires { size ≤ 256 }
     ensures { result ≡ replicate size 0 }
 {
     let mut value = Value::empty();

@@ -4,5 +4,6 @@ pub mod Lookups
 pub mod Edits
 pub mod Homes
 pub mod Found
+pub mod Numbers
 pub mod Changes
 pub mod Tables

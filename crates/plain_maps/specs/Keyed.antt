@@ -1,5 +1,5 @@
 -- What a contract sees of an index of keys, and what holds of keys that stand in order.
-use Rattle.std.specs.Prelude.{◌≡◌, ℕ, suc, ◌*◌, ◌<◌, ◌≤◌, Bool, true, false, List, [], ◌∷◌, map, length, slice_index_or, Option, bytes_eq}
+use Rattle.std.specs.Prelude.{◌≡◌, ℕ, suc, ◌*◌, ◌<◌, ◌≤◌, ◌↔◌, Bool, true, false, cond, nat_eq, List, [], ◌∷◌, map, length, slice_index_or, Option, Some, None, bytes_eq}
 use Rattle.std.specs.Ordering.{nat_cmp}
 use Rattle.std.specs.declared.cmp.Ordering.TheVariants.{Less}
 use Rattle.std.specs.Cmp.Lexicographic.{slice_cmp}
@@ -15,6 +15,18 @@ pub record KeyMap : Type 0 where
 
 abbrev pub entry_of : KeyMap → List ℕ → Option ℕ
 entry_of m key = lookup (bytes_eq key) m.entries
+
+abbrev pub key_with : ℕ → List (List ℕ × ℕ) → Option (List ℕ)
+key_with n [] = None
+key_with n (entry ∷ entries) = cond (nat_eq n entry.1) (Some entry.0) (key_with n entries)
+
+-- the key that has an entry number
+abbrev pub key_of_number : KeyMap → ℕ → Option (List ℕ)
+key_of_number m n = key_with n m.entries
+
+-- a key has a number exactly where the number has the key
+abbrev pub AreInverse : (List ℕ → Option ℕ) → (ℕ → Option (List ℕ)) → Type 0
+AreInverse numbers keys = (key : List ℕ) (n : ℕ) → (numbers key ≡ Some n) ↔ (keys n ≡ Some key)
 
 -- the key of an entry number, in the block of all keys
 abbrev pub key_of : ℕ → List ℕ → ℕ → List ℕ

@@ -1,7 +1,7 @@
 //! The index.
 
 ghost use Rattle.std.specs.Prelude.{◌≡◌, ◌<◌, ◌≤◌, ◌+◌, ◌*◌, ◌^◌, ◌≢◌, ℕ, List, [], length, IfOk, IfSome, None, Some, cond, if◌then◌else◌, is_some, bytes_eq};
-ghost use Rattle.plain_maps.specs.Keyed.{KeyMap, entry_of};
+ghost use Rattle.plain_maps.specs.Keyed.{KeyMap, entry_of, key_of_number, AreInverse};
 ghost use Rattle.plain_maps.specs.Hashing.{home_of};
 ghost use Rattle.plain_maps.specs.Buckets.{bucket_at};
 
@@ -83,6 +83,14 @@ impl KeyIndex {
         ensures size { length result.now ≡ self.now.size }
     {
         key_at(&self.keys, self.size, number as usize)
+    }
+
+    /// Does nothing: a key has a number exactly where the number has the key, and each such number is below the capacity.
+    pub fn keys_and_numbers(&self)
+        ensures inverse { AreInverse (entry_of self.now) (key_of_number self.now) }
+        ensures small { (q : List ℕ) (n : ℕ) → entry_of self.now q ≡ Some n → n < self.now.capacity }
+    {
+        let _capacity = self.capacity;
     }
 
     /// Gives a new key an entry number that no key has.

@@ -3,6 +3,7 @@
 ghost use Rattle.std.specs.Prelude.{◌≡◌, length};
 
 use crate::{ArrayShard, HashShard, KeyIndex};
+use map_cells::Cells;
 use std::alloc::AllocError;
 
 #[test]
@@ -57,4 +58,39 @@ fn an_index_of_an_array_shard_has_its_cell(rt: HostRuntime) {
     assert_eq!(rt; shard.find(&[9, 0, 0, 0]), Some(2));
     assert!(rt; shard.find(&[12, 0, 0, 0]).is_none());
     assert!(rt; shard.find(&[9, 0, 0, 1]).is_none());
+}
+
+#[test]
+fn two_retired_cells_leave_none_for_a_new_key(rt: HostRuntime) -> Result<(), AllocError> {
+    let mut shard = HashShard::new(rt.alloc(), 1, 1)?;
+    let mut cells = Cells::new(rt.alloc(), 8, 2, 3)?;
+    shard.insert(b"A", cells.take(&[1; 8]));
+    assert_eq!(rt; shard.remove(b"A"), Some(0));
+    cells.retire(0, 0);
+    shard.insert(b"B", cells.take(&[2; 8]));
+    assert_eq!(rt; shard.remove(b"B"), Some(1));
+    cells.retire(1, 1);
+    // Both cells wait for their readers.
+    assert_eq!(rt; shard.len() + cells.waiting(), 2);
+    assert_eq!(rt; cells.free(2), 2);
+    shard.insert(b"C", cells.take(&[3; 8]));
+    assert_eq!(rt; shard.find(b"C"), Some(2));
+    Ok(())
+}
+
+#[test]
+fn a_held_cell_keeps_its_bytes_though_its_key_is_gone(rt: HostRuntime) -> Result<(), AllocError> {
+    let mut shard = HashShard::new(rt.alloc(), 1, 1)?;
+    let mut cells = Cells::new(rt.alloc(), 8, 2, 3)?;
+    shard.insert(b"A", cells.take(&[1; 8]));
+    assert_eq!(rt; shard.remove(b"A"), Some(0));
+    cells.retire(0, 0);
+    // A run is inside that entered before: the floor is 0.
+    assert_eq!(rt; cells.free(0), 0);
+    shard.insert(b"B", cells.take(&[2; 8]));
+    assert_eq!(rt; cells.load(0, 0, 8), 0x0101_0101_0101_0101);
+    assert_eq!(rt; cells.free(1), 1);
+    assert_eq!(rt; shard.find(b"B"), Some(1));
+    assert_eq!(rt; cells.load(1, 0, 8), 0x0202_0202_0202_0202);
+    Ok(())
 }

@@ -8,12 +8,12 @@ use std::alloc::Global;
 use std::sync::Wait;
 use std::thread;
 use std::thread::Threads;
-use wire::{FlowKey, Transport};
+use wire::{FlowKey, Ipv4Address, Transport};
 
 fn flow(source_port: u16, destination_port: u16, transport: Transport) -> FlowKey {
     FlowKey {
-        source: [198, 51, 100, 7],
-        destination: [203, 0, 113, 1],
+        source: Ipv4Address([198, 51, 100, 7]),
+        destination: Ipv4Address([203, 0, 113, 1]),
         source_port,
         destination_port,
         transport,

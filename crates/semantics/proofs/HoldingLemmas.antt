@@ -143,7 +143,7 @@ array_call plan history shard (Delete number key) kind none =
     subst at_kind (sym kind) refl ∙ none
 array_call plan history shard (Reclaim number) kind none = ap (λ gone. filter (λ (one : RetiredCell). not (is_reclaimable history one)) gone) none
 
-array_after : (plan : ShardPlan) (history : List Entry) → plan.definition.kind ≡ Array → (shard_after plan history).retired ≡ []
+pub array_after : (plan : ShardPlan) (history : List Entry) → plan.definition.kind ≡ Array → (shard_after plan history).retired ≡ []
 array_after plan [] kind = refl
 array_after plan (entry ∷ older) kind = array_call plan older (shard_after plan older) entry.call kind (array_after plan older kind)
 

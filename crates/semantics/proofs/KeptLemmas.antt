@@ -151,7 +151,7 @@ cells_stay plan history =
 
 -- ---- every kind
 
-found_kept : (kind : MapKind) (plan : ShardPlan) (history : List Entry) (key : List ℕ) (cell : ℕ) → plan.definition.kind ≡ kind → plan.definition.max_entries % plan.parts ≡ 0 → 0 < plan.parts →
+pub found_kept : (kind : MapKind) (plan : ShardPlan) (history : List Entry) (key : List ℕ) (cell : ℕ) → plan.definition.kind ≡ kind → plan.definition.max_entries % plan.parts ≡ 0 → 0 < plan.parts →
     cell_of_kind kind plan (shard_after plan history) key ≡ Some cell → is_kept_of_kind kind (shard_after plan history) cell ≡ true
 found_kept Array plan history key cell is equal some found =
     let below : cell < capacity plan = index_within plan (number_of_bytes key) cell (nat_lt (number_of_bytes key) plan.definition.max_entries) refl equal some found
@@ -195,7 +195,7 @@ held_now : (mine : Bool) (call : Call) (reply : Reply) (cell : ℕ) (before : Bo
 held_now true call reply cell before P held earlier found = held_own call reply cell before P held earlier found
 held_now false call reply cell before P held earlier found = earlier held
 
-held_is_kept : (plan : ShardPlan) (history : List Entry) (worker cell : ℕ) → plan.definition.max_entries % plan.parts ≡ 0 → 0 < plan.parts → worker < 8 → IsLegalHistory plan history →
+pub held_is_kept : (plan : ShardPlan) (history : List Entry) (worker cell : ℕ) → plan.definition.max_entries % plan.parts ≡ 0 → 0 < plan.parts → worker < 8 → IsLegalHistory plan history →
     holds worker cell history ≡ true → is_kept plan (shard_after plan history) cell ≡ true
 held_is_kept plan [] worker cell equal some few legal held = absurd cc
 held_is_kept plan (entry ∷ older) worker cell equal some few legal held =

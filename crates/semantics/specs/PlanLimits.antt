@@ -16,14 +16,14 @@ IsIndexSize kind size = Unit {0}
 pub record IsWithinLimits (plan : ShardPlan) : Type 0 where
   pub key_size : plan.definition.key_size ≤ 32
   pub index_size : IsIndexSize plan.definition.kind plan.definition.key_size
-  pub value_size : plan.definition.value_size ≤ 64
+  pub value_size : plan.definition.value_size ≤ 256
   pub some_part : 0 < plan.parts
 
 -- the sizes that the image format allows a map
 pub record HasImageSizes (definition : MapDef) : Type 0 where
   pub key_size : definition.key_size ≤ 32
   pub index_size : IsIndexSize definition.kind definition.key_size
-  pub value_size : definition.value_size ≤ 64
+  pub value_size : definition.value_size ≤ 256
   pub some_entries : 1 ≤ definition.max_entries
   pub most_entries : definition.max_entries ≤ 131072
 

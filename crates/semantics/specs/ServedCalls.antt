@@ -1,13 +1,14 @@
 -- Calls of maps that a run may make, by the maps that the program has and the cells that are held; and what a reply hands out.
-use Rattle.std.specs.Prelude.{◌≡◌, ℕ, ◌+◌, ◌<◌, ◌≤◌, Bool, List, length, All, IsTrue, Some, slice_get}
+use Rattle.std.specs.Prelude.{◌≡◌, ℕ, ◌+◌, ◌%◌, ◌^◌, ◌<◌, ◌≤◌, Bool, List, length, All, IsTrue, Some, slice_get, is_some}
+use Rattle.isa.specs.InstructionCodes.{atomic_op_of}
 use Rattle.ebpf_decode.specs.declared.map.MapDef.{MapDef}
 use Rattle.semantics.specs.declared.call.CellRef.{CellRef}
 use Rattle.semantics.specs.declared.call.Call.{Call}
-use Rattle.semantics.specs.declared.call.Call.TheVariants.{Lookup, Load}
+use Rattle.semantics.specs.declared.call.Call.TheVariants.{Lookup, Load, Store, Atomic, Update, Delete}
 use Rattle.semantics.specs.declared.call.Reply.{Reply}
 use Rattle.semantics.specs.declared.call.Reply.TheVariants.{Cell}
 use Rattle.semantics.specs.Program.{Program, shard_of_key, value_size_of}
-use Rattle.semantics.specs.History.{is_load_width}
+use Rattle.semantics.specs.History.{is_load_width, is_atomic_width, is_expected}
 
 -- which cells are held, by map, shard and cell id
 abbrev pub Held : Type 0
@@ -29,9 +30,38 @@ pub record IsServedLoad (program : Program) (held : Held) (cell : CellRef) (offs
   pub is_width : IsTrue (is_load_width width)
   pub inside : offset + width ≤ value_size_of (slice_get program.maps map)
 
+-- a store of a number of the width to such a place
+pub record IsServedStore (program : Program) (held : Held) (cell : CellRef) (offset width value : ℕ) : Type 0 where
+  pub at : IsServedLoad program held cell offset width
+  pub fits : value < 256 ^ width
+
+-- an atomic operation on a cell that is held, inside its value and at a multiple of its width; only compare-and-exchange has a number
+-- to compare with
+pub record IsServedAtomic (program : Program) (held : Held) (cell : CellRef) (offset width op value expected : ℕ) : Type 0 where
+  pub map : ℕ
+  pub holds : IsTrue (held map cell.shard cell.id)
+  pub is_width : IsTrue (is_atomic_width width)
+  pub inside : offset + width ≤ value_size_of (slice_get program.maps map)
+  pub aligned : offset % width ≡ 0
+  pub known : IsTrue (is_some (atomic_op_of op))
+  pub fits : value < 256 ^ width
+  pub expected_fits : expected < 256 ^ width
+  pub compares : IsTrue (is_expected op expected)
+
+-- an update of such a key with a value of the map's size; the map answers flags that it doesn't know
+pub record IsServedUpdate (program : Program) (shard : ℕ) (key value : List ℕ) (flags : ℕ) : Type 0 where
+  pub at : IsServedLookup program shard key
+  pub value_size : length value ≡ at.definition.value_size
+  pub value_bytes : All (λ byte. byte < 256) value
+  pub small_flags : flags < 2 ^ 64
+
 abbrev pub IsServed : Program → Held → Call → Type 0
 IsServed program held (Lookup shard key) = IsServedLookup program shard key
 IsServed program held (Load cell offset width) = IsServedLoad program held cell offset width
+IsServed program held (Store cell offset width value) = IsServedStore program held cell offset width value
+IsServed program held (Atomic cell offset width op value expected) = IsServedAtomic program held cell offset width op value expected
+IsServed program held (Update shard key value flags) = IsServedUpdate program shard key value flags
+IsServed program held (Delete shard key) = IsServedLookup program shard key
 IsServed program held call = ⊥
 
 -- a lookup gives the worker the cell that it found

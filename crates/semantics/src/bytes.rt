@@ -8,8 +8,8 @@ use std::marker::Model;
 /// A map's key: at most 32 bytes.
 pub type Key = Bytes<32>;
 
-/// A map's value: at most 64 bytes.
-pub type Value = Bytes<64>;
+/// A map's value: at most 256 bytes.
+pub type Value = Bytes<256>;
 
 /// At most `N` bytes. Contracts see the list of them.
 #[derive(Clone, Copy, Debug, PartialEq, Eq)]

@@ -10,7 +10,7 @@ use Rattle.semantics.specs.declared.call.Call.TheVariants.{Enter, Leave}
 use Rattle.semantics.specs.declared.call.Reply.{Reply}
 use Rattle.semantics.specs.declared.call.Entry.{Entry}
 use Rattle.semantics.specs.Reclamation.{is_worker, entered_by, entered_at, is_inside, worker_numbers, inside_count}
-use Rattle.shard_core.specs.ArrayShard.{inside_flags, with_flag}
+use Rattle.shard_core.specs.Sections.{inside_flags, with_flag}
 
 -- a call that neither begins nor ends a section changes no flag
 abbrev pub KeepsSections : Call → Type 0

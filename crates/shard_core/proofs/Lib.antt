@@ -1,3 +1,12 @@
 mod FlagLemmas
 mod RoomLemmas
+mod PlaceLemmas
+mod MirrorLemmas
+mod StateLemmas
+mod AskedLemmas
+mod ContentLemmas
+mod RetireLemmas
 mod StepLemmas
+mod ChangeLemmas
+mod OpeningLemmas
+mod NewestLemmas

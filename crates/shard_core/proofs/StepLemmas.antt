@@ -1,51 +1,88 @@
 -- What one step leaves of a shard.
-use Rattle.std.proofs.Common.{◌≡◌, ℕ, ◌≤◌, Bool, List, [], ◌∷◌, ◌++◌, reverse, arith, sym, ◌∙◌, ap, subst}
-use Rattle.std.specs.Prelude.{IsTrue, IsFalse}
-use Rattle.std.proofs.lemmas.List.{reverse-append}
+use Rattle.std.proofs.Common.{◌≡◌, ◌⊎◌, ℕ, ◌+◌, ◌*◌, ◌<◌, ◌≤◌, Bool, true, false, cond, nat_lt, nat_le, ℤ, pos, negsuc, List, [], ◌∷◌, ◌++◌, reverse, length, take, drop, Option, Some, None, arith, refl, sym, ◌∙◌, ap, subst}
+use Rattle.std.specs.Prelude.{◌==◌, ◌&&◌, IsTrue, IsFalse, count_by, is_some, find, option_map, bytes_eq, if◌then◌else◌}
+use Rattle.std.specs.List.{AllByRecursion}
+use Rattle.std.proofs.lemmas.List.{reverse-append, length-replicate}
+use Rattle.std.proofs.lemmas.Bool.Decides.{nat_tests}
+use Rattle.ebpf_decode.specs.declared.map.MapKind.{MapKind}
+use Rattle.ebpf_decode.specs.declared.map.MapKind.TheVariants.{Array, Hash, LruHash}
 use Rattle.semantics.specs.declared.call.Caller.{Caller}
 use Rattle.semantics.specs.declared.call.Call.{Call}
 use Rattle.semantics.specs.declared.call.Reply.{Reply}
 use Rattle.semantics.specs.declared.call.Entry.{Entry}
 use Rattle.semantics.specs.declared.plan.ShardPlan.{ShardPlan}
-use Rattle.semantics.specs.SequentialShard.{reply_of, shard_after_call, shard_after}
+use Rattle.semantics.specs.declared.plan.PresentKey.{PresentKey}
+use Rattle.semantics.specs.declared.plan.RetiredCell.{RetiredCell}
+use Rattle.wire.specs.FrameView.{overwritten_at}
+use Rattle.isa.specs.declared.operation.AtomicOp.{AtomicOp}
+use Rattle.isa.specs.Atomic.{atomic_result}
+use Rattle.isa.specs.InstructionCodes.{atomic_op_of}
+use Rattle.semantics.specs.LittleEndian.{number_of_bytes, bytes_of_number}
+use Rattle.semantics.specs.ShardPlan.{capacity}
+use Rattle.semantics.specs.PlanLimits.{IsPlan}
+use Rattle.semantics.specs.SequentialShard.{SequentialShard, opening_cells, cell_bytes, number_in_cell, with_number_in_cell, changed_by, reply_of, shard_after_call, shard_after, is_kept}
 use Rattle.semantics.specs.History.{meets, journal_is_full, IsLegalHistory}
-use Rattle.shard_core.specs.ArrayShard.{array_state, inside_flags, IsKept}
+use Rattle.journal.specs.Journaled.{Journaled, with_entry}
+use Rattle.map_cells.specs.CellTable.{CellTable, cell_at, bytes_of_cell, number_at, with_number}
+use Rattle.map_cells.specs.CellTable as T
+use Rattle.shard_core.specs.declared.keys.KeyTable.{KeyTable}
+use Rattle.shard_core.specs.Sections.{entered_places}
+use Rattle.shard_core.specs.ShardFields.{IsContents, IsShard}
+use Rattle.shard_core.proofs.FlagLemmas.{KeepsSections}
+use Rattle.shard_core.proofs.PlaceLemmas.{entered_kept}
+use Rattle.shard_core.proofs.ContentLemmas.{kept_bytes, contents_written}
 
--- what the code's parts left after a call
-pub record IsStep (plan : ShardPlan) (journal : List Entry) (cells cells_after : List (List ℕ)) (flags_after : List Bool) (who : Caller)
-    (call : Call) (reply : Reply) : Type 0 where
-  pub met : IsTrue (meets plan (reverse journal) who call)
-  pub has_room : IsFalse (journal_is_full plan (reverse journal) call)
-  pub replied : reply ≡ reply_of plan (reverse journal) (array_state cells) call
-  pub changed : array_state cells_after ≡ shard_after_call plan (reverse journal) (array_state cells) call
-  pub noted : flags_after ≡ inside_flags (record { who = who; call = call; reply = reply } ∷ reverse journal)
+newest_first : (journal : List Entry) (entry : Entry) → entry ∷ reverse journal ≡ reverse (journal ++ entry ∷ [])
+newest_first journal entry = sym (reverse-append journal (entry ∷ []))
 
-newest_first : (journal : List Entry) (entry : Entry) → reverse (journal ++ entry ∷ []) ≡ entry ∷ reverse journal
-newest_first journal entry = reverse-append journal (entry ∷ [])
+-- a step of a call that neither begins nor ends a section
+pub record IsStep (plan : ShardPlan) (history : List Entry) (who : Caller) (call : Call) (reply : Reply) (cells_after : CellTable) (keys_after : KeyTable) : Type 0 where
+  pub met : IsTrue (meets plan history who call)
+  pub has_room : IsFalse (journal_is_full plan history call)
+  pub replied : reply ≡ reply_of plan history (shard_after plan history) call
+  pub contents : IsContents plan (record { who = who; call = call; reply = reply } ∷ history) (shard_after_call plan history (shard_after plan history) call) cells_after keys_after
+  pub keeps : KeepsSections call
 
-pub IsKept-step : (plan : ShardPlan) (journal : List Entry) (room room_after : ℕ) (cells cells_after : List (List ℕ))
-    (flags flags_after : List Bool) (who : Caller) (call : Call) (reply : Reply) → IsKept plan journal room cells flags →
-    IsStep plan journal cells cells_after flags_after who call reply → room ≤ room_after →
-    IsKept plan (journal ++ record { who = who; call = call; reply = reply } ∷ []) room_after cells_after flags_after
-IsKept-step plan journal room room_after cells cells_after flags flags_after who call reply kept step grown =
-    let entry : Entry = record { who = who; call = call; reply = reply } in
-    let turned : entry ∷ reverse journal ≡ reverse (journal ++ entry ∷ []) = sym (newest_first journal entry) in
-    let replied : reply ≡ reply_of plan (reverse journal) (shard_after plan (reverse journal)) call = step.replied ∙
-    ap (λ state. reply_of plan (reverse journal) state call) kept.led in
-    let led : array_state cells_after ≡ shard_after plan (entry ∷ reverse journal) = step.changed ∙
-    ap (λ state. shard_after_call plan (reverse journal) state call) kept.led in
-    let legal : IsLegalHistory plan (entry ∷ reverse journal) = (
-      record {
-        step = record { met = step.met; replied = replied };
-        room =
-            step.has_room;
-      },
-      kept.legal,
-    ) in
-    record {
-      array = kept.array;
-      led = led ∙ ap (λ history. shard_after plan history) turned;
-      flags = step.noted ∙ ap (λ history. inside_flags history) turned;
+pub step_taken : (plan : ShardPlan) (journal : Journaled) (cells cells_after : CellTable) (keys keys_after : KeyTable) (entered : List (Option ℕ)) (inside : ℕ)
+    (who : Caller) (call : Call) (reply : Reply) (entry : Entry) → IsShard plan journal cells keys entered inside
+    → IsStep plan (reverse journal.entries) who call reply cells_after keys_after → entry ≡ record { who = who; call = call; reply = reply }
+    → IsShard plan (with_entry journal entry) cells_after keys_after entered inside
+step_taken plan journal cells cells_after keys keys_after entered inside who call reply entry shard step same =
+    let history : List Entry = reverse journal.entries in
+    let made : Entry = record { who = who; call = call; reply = reply } in
+    let turned : made ∷ history ≡ reverse (journal.entries ++ made ∷ []) = newest_first journal.entries made in
+    let legal : IsLegalHistory plan (made ∷ history) = (record { step = record { met = step.met; replied = step.replied }; room = step.has_room }, shard.legal) in
+    rw same (record {
+      plan_is = shard.plan_is;
+      journal_is = record { number = shard.journal_is.number; reserve = shard.journal_is.reserve; key_size = shard.journal_is.key_size; value_size = shard.journal_is.value_size };
       legal = subst (IsLegalHistory plan) turned legal;
-      reserved = omega (arith, grown, kept.reserved);
-    }
+      entered_is = shard.entered_is ∙ sym (entered_kept who call reply history step.keeps) ∙ ap entered_places turned;
+      inside_is = shard.inside_is;
+      contents = subst (λ newest. IsContents plan newest (shard_after plan newest) cells_after keys_after) turned step.contents;
+    })
+
+-- ---- kept cells
+
+pub table_keeps : (plan : ShardPlan) (history : List Entry) (state : SequentialShard) (cells : CellTable) (keys : KeyTable) (cell : ℕ) → IsContents plan history state cells keys → IsTrue (is_kept plan state cell) → IsTrue (T.is_kept cells cell)
+table_keeps plan history state cells keys cell contents kept = ap is_some (kept_bytes plan history state cells keys cell contents kept)
+
+pub kept_number : (plan : ShardPlan) (history : List Entry) (state : SequentialShard) (cells : CellTable) (keys : KeyTable) (cell offset width : ℕ) → IsContents plan history state cells keys → IsTrue (is_kept plan state cell)
+    → number_at cells cell offset width ≡ number_in_cell state cell offset width
+kept_number plan history state cells keys cell offset width contents kept =
+    ap (λ found. number_of_bytes (take width (drop offset (bytes_of_cell found)))) (kept_bytes plan history state cells keys cell contents kept)
+
+-- a number is written
+pub contents_stored : (plan : ShardPlan) (history later : List Entry) (state : SequentialShard) (cells : CellTable) (keys : KeyTable) (cell offset width value : ℕ) → IsTrue (is_kept plan state cell)
+    → IsContents plan history state cells keys → IsContents plan later (with_number_in_cell state cell offset width value) (with_number cells cell offset width value) keys
+contents_stored plan history later state cells keys cell offset width value kept contents =
+    let same : bytes_of_cell (cell_at cells cell) ≡ cell_bytes state cell = ap bytes_of_cell (kept_bytes plan history state cells keys cell contents kept) in
+    rw same (contents_written plan history later state cells keys cell (overwritten_at offset (bytes_of_number width value) (cell_bytes state cell)) kept contents)
+
+-- and changed by an atomic operation
+pub contents_changed : (plan : ShardPlan) (history later : List Entry) (state : SequentialShard) (cells : CellTable) (keys : KeyTable) (cell offset width op value expected : ℕ) (operation : AtomicOp) → IsTrue (is_kept plan state cell)
+    → atomic_op_of op ≡ Some operation → IsContents plan history state cells keys
+    → IsContents plan later (with_number_in_cell state cell offset width (changed_by (atomic_op_of op) width (number_in_cell state cell offset width) value expected))
+    (with_number cells cell offset width (atomic_result (8 * width) operation (number_at cells cell offset width) value expected)) keys
+contents_changed plan history later state cells keys cell offset width op value expected operation kept known contents =
+    rw (known, kept_number plan history state cells keys cell offset width contents kept)
+    (contents_stored plan history later state cells keys cell offset width (atomic_result (8 * width) operation (number_in_cell state cell offset width) value expected) kept contents)

@@ -5,7 +5,7 @@ use Rattle.semantics.specs.declared.call.Call.{Call}
 use Rattle.semantics.specs.declared.call.Reply.{Reply}
 use Rattle.semantics.specs.declared.call.Entry.{Entry}
 use Rattle.semantics.specs.declared.plan.ShardPlan.{ShardPlan}
-use Rattle.semantics.specs.SequentialShard.{reply_of, shard_after}
+use Rattle.semantics.specs.SequentialShard.{SequentialShard, reply_of, shard_after}
 
 pub record JournaledShard : Type 0 where
   pub plan : ShardPlan
@@ -15,9 +15,13 @@ pub record JournaledShard : Type 0 where
 abbrev pub opened_shard : ShardPlan → JournaledShard
 opened_shard plan = record { plan = plan; journal = [] }
 
--- what the one-thread shard replies to the call, in the state that the journal leads to
+-- the state that the journal leads to
+abbrev pub state_of : JournaledShard → SequentialShard
+state_of shard = shard_after shard.plan (reverse shard.journal)
+
+-- what the one-thread shard replies to the call in that state
 abbrev pub sequential_reply : JournaledShard → Call → Reply
-sequential_reply shard call = reply_of shard.plan (reverse shard.journal) (shard_after shard.plan (reverse shard.journal)) call
+sequential_reply shard call = reply_of shard.plan (reverse shard.journal) (state_of shard) call
 
 -- the shard with one entry more
 abbrev pub with_entry : JournaledShard → Entry → JournaledShard

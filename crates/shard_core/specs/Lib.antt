@@ -1,3 +1,7 @@
 pub mod JournaledShard
-pub mod ArrayShard
+pub mod Calls
+pub mod Sections
+pub mod KeyTables
+pub mod Contents
+pub mod ShardFields
 pub mod Laws

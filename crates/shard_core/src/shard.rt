@@ -1,72 +1,91 @@
-//! One shard of an array.
+//! One shard of a map.
 
-ghost use Rattle.std.specs.Prelude.{◌≡◌, ◌==◌, ◌+◌, ◌<◌, ◌≤◌, ◌↔◌, [], ◌∷◌, ◌++◌, IsErr, IfOk, IfErr, OnErr, reverse, length, nat_lt, vec_len, vec_capacity, ℕ, List, count_by, slice_index_or, false};
+ghost use Rattle.std.specs.Prelude.{◌≡◌, ◌+◌, ◌<◌, ◌↔◌, IsErr, IfOk, IfErr, OnErr, OnOk, reverse, length, nat_lt};
+ghost use Rattle.semantics.specs.declared.call.Reply.TheVariants.{Entered, Left, Word, Done, Answer, Freed};
 ghost use Rattle.semantics.specs.Reclamation.{is_inside, holds, inside_count};
-ghost use Rattle.semantics.specs.History.{meets, Meets, journal_is_full, IsJournalFull, IsLegalJournal};
-ghost use Rattle.shard_core.specs.ArrayShard.{IsArrayPlan, inside_flags, with_flag};
-ghost use Rattle.shard_core.specs.JournaledShard.{opened_shard, sequential_reply, with_entry};
-ghost use Rattle.semantics.specs.declared.call.Entry.{Entry};
-ghost use Rattle.semantics.specs.declared.call.Reply.{Reply};
+ghost use Rattle.semantics.specs.PlanLimits.{IsPlan};
+ghost use Rattle.semantics.specs.SequentialShard.{update_answer, delete_answer, number_in_cell, lookup_reply};
+ghost use Rattle.semantics.specs.History.{journal_is_full, IsLegalJournal};
+ghost use Rattle.shard_core.specs.KeyTables.{IsServedKind};
+ghost use Rattle.shard_core.specs.JournaledShard.{opened_shard, state_of, sequential_reply};
+ghost use Rattle.shard_core.specs.Calls.{MayCall, IsFullFor, after_call, enter_call, leave_call, lookup_call, load_call, store_call, atomic_call, update_call, delete_call, reclaim_call};
 
-use crate::array::{change, opening_cells, reply_of};
-use semantics::{Call, Caller, Entry, JournalFull, Reply, SectionChange, ShardPlan, Value};
+use crate::answers::{Counts, delete_answer, update_answer};
+use crate::contents::{open_cells, put_value, retire_key};
+use crate::keys::KeyTable;
+use crate::places::{Places, count, floor, set};
+use isa::AtomicOp;
+use journal::{AtomicChange, CellRange, Journal};
+use map_cells::Cells;
+use semantics::{Call, Caller, Errno, JournalFull, SectionChange, ShardPlan, UpdateFlags};
 use std::alloc::{AllocError, Global};
 use std::marker::Model;
 
-/// A shard of an array, with the journal of its calls. Contracts see its plan and its journal.
+/// A shard of a map, with the journal of its calls. Contracts see its plan and the list of its entries.
 #[derive(Drop)]
 pub struct Shard {
     plan: ShardPlan,
-    /// The oldest entry first.
-    entries: Vec<Entry>,
-    /// The value of each index, in the order of the indices.
-    cells: Vec<Value>,
-    /// Whether each worker is inside, by its number.
-    inside: Flags,
+    journal: Journal,
+    cells: Cells,
+    keys: KeyTable,
+    /// Of each worker inside, the place of its Enter in the journal.
+    entered: Places,
+    /// How many workers are inside.
+    inside: usize,
 }
 
 impl Model for Shard {
-    ghost use Rattle.std.specs.Prelude.{vec_capacity};
     ghost use Rattle.shard_core.specs.JournaledShard.{JournaledShard};
-    ghost use Rattle.shard_core.specs.ArrayShard.{IsKept};
+    ghost use Rattle.shard_core.specs.ShardFields.{IsShard};
 
     ghost Value = { JournaledShard };
 
-    ghost view = { λ shard. record { plan = shard.plan; journal = shard.entries.items } };
+    ghost view = { λ shard. record { plan = shard.plan; journal = shard.journal.entries } };
 
-    ghost invariant = { λ shard. IsKept shard.plan shard.entries.items (vec_capacity shard.entries) shard.cells.items shard.inside };
+    ghost invariant = { λ shard. IsShard shard.plan shard.journal shard.cells shard.keys shard.entered shard.inside };
 }
 
 impl Shard {
     /// A shard in which nothing has happened. Takes all memory that it will ever need, and fails only without memory.
     pub fn open(alloc: Global, plan: ShardPlan) -> Result<Self, AllocError>
-        requires { IsArrayPlan plan }
+        requires plan { IsPlan plan }
+        requires kind { IsServedKind plan.definition.kind }
         ensures { IfOk result (λ shard. shard ≡ opened_shard plan) }
     {
-        let entries = Vec::with_capacity(alloc, plan.reserve as usize)?;
-        let cells = opening_cells(alloc, &plan)?;
+        let definition = &plan.definition;
+        let journal = Journal::open(
+            alloc,
+            plan.number,
+            plan.reserve,
+            definition.key_size,
+            definition.value_size,
+        )?;
+        let cells = open_cells(alloc, &plan)?;
+        let keys = KeyTable::open(alloc, &plan)?;
         Ok(Shard {
             plan,
-            entries,
+            journal,
             cells,
-            inside: [false; 8],
+            keys,
+            entered: [None; 8],
+            inside: 0,
         })
     }
 
     /// What the shard was opened with.
     pub fn plan(&self) -> &ShardPlan
         ensures plan { result.now ≡ self.now.plan }
-        ensures array { IsArrayPlan self.now.plan }
+        ensures limits { IsPlan self.now.plan }
     {
         &self.plan
     }
 
     /// The entries of all calls that were served, the oldest first.
-    pub fn entries(&self) -> &[Entry]
-        ensures entries { result.now ≡ self.now.journal }
+    pub fn journal(&self) -> &Journal
+        ensures entries { result.now.entries ≡ self.now.journal }
         ensures legal { IsLegalJournal self.now.plan self.now.journal }
     {
-        self.entries.as_slice()
+        &self.journal
     }
 
     /// Whether the worker is inside a read-side section: it has an Enter with no later Leave.
@@ -74,22 +93,7 @@ impl Shard {
         requires { worker < 8 }
         ensures { result ≡ is_inside worker (reverse self.now.journal) }
     {
-        self.inside[worker as usize]
-    }
-
-    /// Whether the worker holds the cell of this id: since its last Enter, which no Leave follows, a Lookup of its own found
-    /// it. Reads the journal from its newest entry back to the worker's Enter or Leave.
-    pub fn holds(&self, worker: u8, cell: u64) -> bool
-        ensures { result ≡ holds worker cell (reverse self.now.journal) }
-    {
-        one_thread_map::history::holds(worker, cell, &self.entries)
-    }
-
-    /// Whether the caller may make this call now. May read the whole journal.
-    pub fn meets(&self, who: &Caller, call: &Call) -> bool
-        ensures { result ≡ meets self.now.plan (reverse self.now.journal) who.now call.now }
-    {
-        one_thread_map::conditions::meets(&self.plan, &self.entries, who, call)
+        self.entered[worker as usize].is_some()
     }
 
     /// Whether the journal has no room for a call that is no Leave: for its entry, one more for each run inside, and one more
@@ -97,10 +101,7 @@ impl Shard {
     fn lacks_room(&self, entering: u8) -> bool
         ensures { result ≡ nat_lt self.now.plan.reserve (length (reverse self.now.journal) + inside_count (reverse self.now.journal) + entering + 1) }
     {
-        let needed = self.entries.len() as u128
-            + count(&self.inside) as u128
-            + u128::from(entering)
-            + 1;
+        let needed = self.journal.len() as u128 + self.inside as u128 + u128::from(entering) + 1;
         u128::from(self.plan.reserve) < needed
     }
 
@@ -116,84 +117,220 @@ impl Shard {
         }
     }
 
-    /// Makes the call for a caller that may make it: one step of the one-thread shard, and one entry with its reply. Takes no
-    /// memory. Refused where the journal is full for the call, which it never is for a Leave; then nothing is changed.
-    pub fn apply(&mut self, who: Caller, call: &Call) -> Result<Reply, JournalFull>
-        requires { Meets self.old.plan (reverse self.old.journal) who call.now }
-        ensures replied { IfOk result (λ reply. reply ≡ sequential_reply self.old call.now) }
-        ensures entered { IfOk result (λ reply. self.new ≡ with_entry self.old (record { who = who; call = call.now; reply = reply })) }
-        ensures legal { IsLegalJournal self.new.plan self.new.journal }
+    /// The refusal of a full journal.
+    fn full(&self) -> JournalFull
+        ensures { result.shard ≡ self.now.plan.number }
+    {
+        JournalFull {
+            shard: self.plan.number,
+        }
+    }
 
-        ensures full { IsErr result ↔ IsJournalFull self.old.plan (reverse self.old.journal) call.now }
+    /// A worker enters: from now on it finds no cell that was retired before. Refused where the journal is full for an Enter; then nothing
+    /// is changed.
+    pub fn enter(&mut self, who: Caller) -> Result<(), JournalFull>
+        requires { MayCall self.old who (enter_call self.old) }
+        ensures entered { OnOk result (self.new ≡ after_call self.old who (enter_call self.old) Entered) }
+        ensures legal { IsLegalJournal self.new.plan self.new.journal }
+        ensures full { IsErr result ↔ IsFullFor self.old (enter_call self.old) }
         ensures names_the_shard { IfErr result (λ fault. fault.shard ≡ self.old.plan.number) }
         ensures refused_unchanged { OnErr result (self.new ≡ self.old) }
     {
-        if self.is_full(call) {
-            return Err(JournalFull {
-                shard: self.plan.number,
-            });
+        if self.lacks_room(1) {
+            return Err(self.full());
         }
-        let reply = reply_of(&self.plan, &self.cells, call);
-        change(&self.plan, &mut self.cells, call);
-        note(&mut self.inside, &who, call);
-        put_entry(
-            &mut self.entries,
-            Entry {
-                who,
-                call: *call,
-                reply,
-            },
-        );
-        Ok(reply)
+        let place = self.journal.len() as u64;
+        set(&mut self.entered, &who, Some(place));
+        self.inside = count(&self.entered);
+        self.journal.append_enter(who);
+        Ok(())
     }
-}
 
-/// Puts an entry behind the others, for which there is room.
-fn put_entry(entries: &mut Vec<Entry>, entry: Entry)
-    requires { vec_len entries.old < vec_capacity entries.old }
-    ensures items { entries.new.items ≡ entries.old.items ++ entry ∷ [] }
-    ensures room { vec_capacity entries.old ≤ vec_capacity entries.new }
-{
-    if entries.extend_from_slice(&[entry]).is_err() {
-        unreachable!()
+    /// A worker leaves, and lets its cells go. Never refused.
+    pub fn leave(&mut self, who: Caller)
+        requires { MayCall self.old who (leave_call self.old) }
+        ensures entered { self.new ≡ after_call self.old who (leave_call self.old) Left }
+        ensures legal { IsLegalJournal self.new.plan self.new.journal }
+    {
+        set(&mut self.entered, &who, None);
+        self.inside = count(&self.entered);
+        self.journal.append_leave(who);
     }
-}
 
-// Which workers are inside, kept beside the journal so that no call has to read it.
-
-/// A flag for each worker, by its number.
-type Flags = [bool; 8];
-
-/// How many flags are set.
-fn count(flags: &[bool]) -> usize
-    ensures { result ≡ count_by (λ flag. flag) flags.now }
-{
-    flags.iter().filter(|flag| **flag).count()
-}
-
-/// Sets one worker's flag.
-fn set(flags: &mut [bool], who: &Caller, flag: bool)
-    ensures { flags.new ≡ with_flag who.now flag flags.old }
-{
-    match who {
-        Caller::Worker { number } => {
-            let place = usize::from(*number);
-            if place < flags.len() {
-                flags[place] = flag;
-            }
+    /// The cell of a key, which the worker then holds; none where the key is absent. Refused where the journal is full; then nothing is
+    /// changed.
+    pub fn lookup(&mut self, who: Caller, key: &[u8]) -> Result<Option<u64>, JournalFull>
+        requires { MayCall self.old who (lookup_call self.old key.now) }
+        ensures replied { IfOk result (λ found. lookup_reply self.old.plan found ≡ sequential_reply self.old (lookup_call self.old key.now)) }
+        ensures entered { IfOk result (λ found. self.new ≡ after_call self.old who (lookup_call self.old key.now) (lookup_reply self.old.plan found)) }
+        ensures legal { IsLegalJournal self.new.plan self.new.journal }
+        ensures full { IsErr result ↔ IsFullFor self.old (lookup_call self.old key.now) }
+        ensures names_the_shard { IfErr result (λ fault. fault.shard ≡ self.old.plan.number) }
+        ensures refused_unchanged { OnErr result (self.new ≡ self.old) }
+    {
+        if self.lacks_room(0) {
+            return Err(self.full());
         }
-        Caller::Controller => {}
-        Caller::Reclaimer => {}
+        let found = self.keys.find(key);
+        self.journal.append_lookup(who, key, found);
+        Ok(found)
     }
-}
 
-/// Notes a call: an Enter or a Leave changes its worker's flag.
-fn note(flags: &mut [bool], who: &Caller, call: &Call)
-    ensures { (older : List Entry) (reply : Reply) → flags.old ≡ inside_flags older → flags.new ≡ inside_flags ((record { who = who.now; call = call.now; reply = reply }) ∷ older) }
-{
-    match call.section_change() {
-        SectionChange::Begins => set(flags, who, true),
-        SectionChange::Ends => set(flags, who, false),
-        SectionChange::Stays => {}
+    /// The number that some bytes of a held cell make, the lowest first. Refused where the journal is full; then nothing is changed.
+    pub fn load(&mut self, who: Caller, range: &CellRange) -> Result<u64, JournalFull>
+        requires { MayCall self.old who (load_call self.old range.now) }
+        ensures of_its_cell { IfOk result (λ value. value ≡ number_in_cell (state_of self.old) range.now.cell range.now.offset range.now.width) }
+        ensures entered { IfOk result (λ value. self.new ≡ after_call self.old who (load_call self.old range.now) (Word value)) }
+        ensures legal { IsLegalJournal self.new.plan self.new.journal }
+        ensures full { IsErr result ↔ IsFullFor self.old (load_call self.old range.now) }
+        ensures names_the_shard { IfErr result (λ fault. fault.shard ≡ self.old.plan.number) }
+        ensures refused_unchanged { OnErr result (self.new ≡ self.old) }
+    {
+        if self.lacks_room(0) {
+            return Err(self.full());
+        }
+        let value = self
+            .cells
+            .load(range.cell, range.offset as usize, range.width as usize);
+        self.journal.append_load(who, range, value);
+        Ok(value)
+    }
+
+    /// Writes a number into some bytes of a held cell, the lowest first. Refused where the journal is full; then nothing is changed.
+    pub fn store(&mut self, who: Caller, range: &CellRange, value: u64) -> Result<(), JournalFull>
+        requires { MayCall self.old who (store_call self.old range.now value) }
+        ensures entered { OnOk result (self.new ≡ after_call self.old who (store_call self.old range.now value) Done) }
+        ensures legal { IsLegalJournal self.new.plan self.new.journal }
+        ensures full { IsErr result ↔ IsFullFor self.old (store_call self.old range.now value) }
+        ensures names_the_shard { IfErr result (λ fault. fault.shard ≡ self.old.plan.number) }
+        ensures refused_unchanged { OnErr result (self.new ≡ self.old) }
+    {
+        if self.lacks_room(0) {
+            return Err(self.full());
+        }
+        let offset = range.offset as usize;
+        self.cells
+            .store(range.cell, offset, range.width as usize, value);
+        self.journal.append_store(who, range, value);
+        Ok(())
+    }
+
+    /// Changes the number in some bytes of a held cell in one step, and gives what it was. Refused where the journal is full; then nothing
+    /// is changed.
+    pub fn atomic(
+        &mut self,
+        who: Caller,
+        range: &CellRange,
+        change: &AtomicChange,
+    ) -> Result<u64, JournalFull>
+        requires { MayCall self.old who (atomic_call self.old range.now change.now) }
+        ensures of_its_cell { IfOk result (λ old. old ≡ number_in_cell (state_of self.old) range.now.cell range.now.offset range.now.width) }
+        ensures entered { IfOk result (λ old. self.new ≡ after_call self.old who (atomic_call self.old range.now change.now) (Word old)) }
+        ensures legal { IsLegalJournal self.new.plan self.new.journal }
+        ensures full { IsErr result ↔ IsFullFor self.old (atomic_call self.old range.now change.now) }
+        ensures names_the_shard { IfErr result (λ fault. fault.shard ≡ self.old.plan.number) }
+        ensures refused_unchanged { OnErr result (self.new ≡ self.old) }
+    {
+        if self.lacks_room(0) {
+            return Err(self.full());
+        }
+        let Some(op) = AtomicOp::of(change.op) else {
+            unreachable!()
+        };
+        let offset = range.offset as usize;
+        let width = range.width as usize;
+        let old = self.cells.atomic(range.cell, offset, width, op, change.value, change.expected);
+        self.journal.append_atomic(who, range, change, old);
+        Ok(old)
+    }
+
+    /// What an Update of a key answers now.
+    fn update_answer(&self, key: &[u8], flags: u64) -> i32
+        requires { length key.now ≡ self.now.plan.definition.key_size }
+        ensures { result ≡ update_answer self.now.plan (state_of self.now) key.now flags }
+    {
+        let counts = Counts {
+            present: self.keys.len(),
+            waiting: self.cells.waiting(),
+        };
+        match UpdateFlags::of(flags) {
+            None => Errno::Invalid.code(),
+            Some(flags) => update_answer(&self.plan, counts, flags, self.keys.find(key)),
+        }
+    }
+
+    /// What a Delete of a key answers now.
+    fn delete_answer(&self, key: &[u8]) -> i32
+        requires { length key.now ≡ self.now.plan.definition.key_size }
+        ensures { result ≡ delete_answer self.now.plan (state_of self.now) key.now }
+    {
+        delete_answer(self.plan.definition.kind, self.keys.find(key))
+    }
+
+    /// Sets the value of a key as bpf(2) has it, and gives its answer: 0, or Linux's error number, negated; then the value is not set.
+    /// Refused where the journal is full; then nothing is changed.
+    pub fn update(
+        &mut self,
+        who: Caller,
+        key: &[u8],
+        value: &[u8],
+        flags: u64,
+    ) -> Result<i32, JournalFull>
+        requires { MayCall self.old who (update_call self.old key.now value.now flags) }
+        ensures answered { IfOk result (λ code. code ≡ update_answer self.old.plan (state_of self.old) key.now flags) }
+        ensures entered { IfOk result (λ code. self.new ≡ after_call self.old who (update_call self.old key.now value.now flags) (Answer code)) }
+        ensures legal { IsLegalJournal self.new.plan self.new.journal }
+        ensures full { IsErr result ↔ IsFullFor self.old (update_call self.old key.now value.now flags) }
+        ensures names_the_shard { IfErr result (λ fault. fault.shard ≡ self.old.plan.number) }
+        ensures refused_unchanged { OnErr result (self.new ≡ self.old) }
+    {
+        if self.lacks_room(0) {
+            return Err(self.full());
+        }
+        let code = self.update_answer(key, flags);
+        put_value(code, &mut self.cells, &mut self.keys, key, value);
+        self.journal.append_update(who, key, value, flags, code);
+        Ok(code)
+    }
+
+    /// Takes a key out as bpf(2) has it, and gives its answer: 0, and then its cell waits for its readers; or Linux's error number,
+    /// negated, and then no key goes. Refused where the journal is full; then nothing is changed.
+    pub fn delete(&mut self, who: Caller, key: &[u8]) -> Result<i32, JournalFull>
+        requires { MayCall self.old who (delete_call self.old key.now) }
+        ensures answered { IfOk result (λ code. code ≡ delete_answer self.old.plan (state_of self.old) key.now) }
+        ensures entered { IfOk result (λ code. self.new ≡ after_call self.old who (delete_call self.old key.now) (Answer code)) }
+        ensures legal { IsLegalJournal self.new.plan self.new.journal }
+        ensures full { IsErr result ↔ IsFullFor self.old (delete_call self.old key.now) }
+        ensures names_the_shard { IfErr result (λ fault. fault.shard ≡ self.old.plan.number) }
+        ensures refused_unchanged { OnErr result (self.new ≡ self.old) }
+    {
+        if self.lacks_room(0) {
+            return Err(self.full());
+        }
+        let code = self.delete_answer(key);
+        let place = self.journal.len() as u64;
+        retire_key(code, &mut self.cells, &mut self.keys, key, place);
+        self.journal.append_delete(who, key, code);
+        Ok(code)
+    }
+
+    /// Frees the retired cells that no run inside can hold, since each entered after they were retired, and says how many they were. Refused
+    /// where the journal is full; then nothing is changed.
+    pub fn reclaim(&mut self, who: Caller) -> Result<u64, JournalFull>
+        requires { MayCall self.old who (reclaim_call self.old) }
+        ensures replied { IfOk result (λ count. Freed count ≡ sequential_reply self.old (reclaim_call self.old)) }
+        ensures entered { IfOk result (λ count. self.new ≡ after_call self.old who (reclaim_call self.old) (Freed count)) }
+        ensures legal { IsLegalJournal self.new.plan self.new.journal }
+        ensures full { IsErr result ↔ IsFullFor self.old (reclaim_call self.old) }
+        ensures names_the_shard { IfErr result (λ fault. fault.shard ≡ self.old.plan.number) }
+        ensures refused_unchanged { OnErr result (self.new ≡ self.old) }
+    {
+        if self.lacks_room(0) {
+            return Err(self.full());
+        }
+        let floor = floor(&self.entered, self.journal.len() as u64);
+        let count = self.cells.free(floor);
+        self.journal.append_reclaim(who, count);
+        Ok(count)
     }
 }

@@ -1,6 +1,8 @@
-//! Rows that run a shard of an array.
+//! Rows that run a shard.
 
-ghost use Rattle.shard_core.specs.ArrayShard.{IsArrayPlan};
+ghost use Rattle.std.specs.Prelude.{◌≡◌};
+ghost use Rattle.semantics.specs.PlanLimits.{IsPlan};
+ghost use Rattle.shard_core.specs.KeyTables.{IsServedKind};
 
 use crate::shard::Shard;
 use ebpf_decode::{MapDef, MapKind};
@@ -40,22 +42,30 @@ enum Ask {
 
 type Row = (&'static str, Ask, Reply);
 
-fn plan(value_size: u32, max_entries: u32, reserve: u32) -> ShardPlan
-    ensures { IsArrayPlan result }
+fn plan_of(kind: MapKind, value_size: u32, max_entries: u32, reserve: u32) -> ShardPlan
+    ensures plan { IsPlan result }
+    ensures kind { result.definition.kind ≡ kind }
 {
     ShardPlan {
         number: SHARD,
         part: 0,
         parts: 1,
         definition: MapDef {
-            kind: MapKind::Array,
+            kind,
             key_size: 4,
-            value_size: value_size.min(64),
-            max_entries,
+            value_size: value_size.min(256),
+            max_entries: max_entries.max(1).min(131_072),
         },
         workers: 2,
-        reserve,
+        reserve: reserve.max(16).min(1_048_576),
     }
+}
+
+fn plan(value_size: u32, max_entries: u32, reserve: u32) -> ShardPlan
+    ensures plan { IsPlan result }
+    ensures kind { IsServedKind result.definition.kind }
+{
+    plan_of(MapKind::Array, value_size, max_entries, reserve)
 }
 
 fn key_of(index: u32) -> Key {
@@ -138,15 +148,23 @@ fn make(
     shard.apply(who, &call)
 }
 
+/// Caller, call and reply of the newest entry.
+fn newest(shard: &Shard) -> Option<(Caller, Call, Reply)> {
+    let journal = shard.journal();
+    let count = journal.len();
+    if count == 0 {
+        return None;
+    }
+    let entry = journal.entry(count - 1);
+    Some((entry.who, entry.call, entry.reply))
+}
+
 /// Makes the calls of the rows in turn. Each is served, and its entry is the newest.
 fn serves(rt: &impl Abort, shard: &mut Shard, rows: &[Row]) {
     for (name, ask, want) in rows {
         let reply = make(rt, shard, *ask, name);
         assert_eq!(rt; reply, Ok(*want), "{name}");
-        let newest = shard
-            .entries()
-            .last()
-            .map(|entry| (entry.who, entry.call, entry.reply));
+        let newest = newest(shard);
         assert_eq!(rt;
             newest,
             Some((caller_of(*ask), call_of(*ask), *want)),
@@ -158,10 +176,10 @@ fn serves(rt: &impl Abort, shard: &mut Shard, rows: &[Row]) {
 /// A full journal refuses the call of each row, and nothing is changed.
 fn refuses(rt: &impl Abort, shard: &mut Shard, rows: &[(&'static str, Ask)]) {
     for (name, ask) in rows {
-        let before = shard.entries().len();
+        let before = shard.journal().len();
         let reply = make(rt, shard, *ask, name);
         assert_eq!(rt; reply, Err(JournalFull { shard: SHARD }), "{name}");
-        assert_eq!(rt; shard.entries().len(), before, "{name}");
+        assert_eq!(rt; shard.journal().len(), before, "{name}");
     }
 }
 
@@ -199,7 +217,7 @@ const ARRAY_OF_TWO: [Row; 26] = [
 fn array_of_two_entries(rt: HostRuntime) -> Result<(), Fail> {
     let mut shard = Shard::open(rt.alloc(), plan(8, 2, 64))?;
     serves(&rt, &mut shard, &ARRAY_OF_TWO);
-    assert_eq!(rt; shard.entries().len(), ARRAY_OF_TWO.len());
+    assert_eq!(rt; shard.journal().len(), ARRAY_OF_TWO.len());
     Ok(())
 }
 
@@ -235,6 +253,70 @@ fn arrays_of_each_size(rt: HostRuntime) -> Result<(), Fail> {
     Ok(())
 }
 
+#[rattlefmt::skip]
+const HASH_OF_ONE: [Row; 5] = [
+    ("a new key",                         Ask::Put(1, 1, ANY),     Reply::Answer { code: 0 }),
+    ("it is there under NOEXIST",         Ask::Put(1, 2, NOEXIST), Reply::Answer { code: -17 }),
+    ("the shard is full of keys",         Ask::Put(2, 1, ANY),     Reply::Answer { code: -7 }),
+    ("the key goes",                      Ask::Remove(1),          Reply::Answer { code: 0 }),
+    ("and is there no more",              Ask::Remove(1),          Reply::Answer { code: -2 }),
+];
+
+#[rattlefmt::skip]
+const CELLS_RUN_OUT: [Row; 8] = [
+    ("an absent key under EXIST",         Ask::Put(1, 1, EXIST),   Reply::Answer { code: -2 }),
+    ("a first key",                       Ask::Put(1, 1, ANY),     Reply::Answer { code: 0 }),
+    ("goes",                              Ask::Remove(1),          Reply::Answer { code: 0 }),
+    ("a second key",                      Ask::Put(2, 1, ANY),     Reply::Answer { code: 0 }),
+    ("goes",                              Ask::Remove(2),          Reply::Answer { code: 0 }),
+    ("two cells wait",                    Ask::Put(3, 1, ANY),     Reply::Answer { code: -12 }),
+    ("nobody is inside",                  Ask::Reclaim,            Reply::Freed { count: 2 }),
+    ("there is a cell again",             Ask::Put(3, 1, ANY),     Reply::Answer { code: 0 }),
+];
+
+#[rattlefmt::skip]
+const HELD_CELL_STAYS: [Row; 14] = [
+    ("a key",                             Ask::Put(1, 1, ANY),     Reply::Answer { code: 0 }),
+    ("a worker enters",                   Ask::Enter(0),           Reply::Entered),
+    ("an absent key",                     Ask::Look(0, 2),         Reply::Null),
+    ("the key's cell",                    Ask::Look(0, 1),         Reply::Cell { cell: CellRef { shard: SHARD, id: 0 } }),
+    ("the key goes",                      Ask::Remove(1),          Reply::Answer { code: 0 }),
+    ("its cell is held",                  Ask::Reclaim,            Reply::Freed { count: 0 }),
+    ("another key",                       Ask::Put(2, 2, ANY),     Reply::Answer { code: 0 }),
+    ("has another cell",                  Ask::Look(0, 2),         Reply::Cell { cell: CellRef { shard: SHARD, id: 1 } }),
+    ("the held cell has its bytes",       Ask::Load(0, 0, 0, 8),   Reply::Word { value: 0x01010101_01010101 }),
+    ("and takes others",                  Ask::Change(0, 0, 0x00, 1, 0), Reply::Word { value: 0x01010101_01010101 }),
+    ("for itself",                        Ask::Load(0, 1, 0, 8),   Reply::Word { value: 0x02020202_02020202 }),
+    ("the worker leaves",                 Ask::Leave(0),           Reply::Left),
+    ("its cell is freed",                 Ask::Reclaim,            Reply::Freed { count: 1 }),
+    ("and none is left to free",          Ask::Reclaim,            Reply::Freed { count: 0 }),
+];
+
+fn hash_plan(max_entries: u32) -> ShardPlan
+    ensures plan { IsPlan result }
+    ensures kind { IsServedKind result.definition.kind }
+{
+    plan_of(MapKind::Hash, 8, max_entries, 64)
+}
+
+#[test]
+fn hash_of_one_entry(rt: HostRuntime) -> Result<(), Fail> {
+    let mut shard = Shard::open(rt.alloc(), hash_plan(1))?;
+    serves(&rt, &mut shard, &HASH_OF_ONE);
+    let mut shard = Shard::open(rt.alloc(), hash_plan(1))?;
+    serves(&rt, &mut shard, &CELLS_RUN_OUT);
+    let mut shard = Shard::open(rt.alloc(), hash_plan(1))?;
+    serves(&rt, &mut shard, &HELD_CELL_STAYS);
+    Ok(())
+}
+
+#[test]
+fn large_hash(rt: HostRuntime) -> Result<(), Fail> {
+    let mut shard = Shard::open(rt.alloc(), hash_plan(131_072))?;
+    serves(&rt, &mut shard, &HELD_CELL_STAYS);
+    Ok(())
+}
+
 /// With one run inside and 15 entries, a journal of 16 has room for that run's Leave alone.
 #[test]
 fn last_entry_is_a_leave(rt: HostRuntime) -> Result<(), Fail> {
@@ -262,7 +344,7 @@ fn last_entry_is_a_leave(rt: HostRuntime) -> Result<(), Fail> {
         &mut shard,
         &[("the run leaves", Ask::Leave(0), Reply::Left)],
     );
-    assert_eq!(rt; shard.entries().len(), 16);
+    assert_eq!(rt; shard.journal().len(), 16);
     refuses(
         &rt,
         &mut shard,

@@ -305,7 +305,7 @@ fn enter(shard: &mut Shard, worker: u8) -> Result<(), JournalFull>
     ensures names_the_shard { IfErr result (λ fault. fault.shard ≡ shard.old.plan.number) }
 {
     let number = shard.plan().number;
-    let _ = shard.entries();
+    let _ = shard.journal();
     if shard.is_inside(worker) {
         return Ok(());
     }

@@ -234,15 +234,17 @@ fn run(
 /// The entries of a journal, each as what was asked and what was replied.
 fn says(rt: &impl Abort, shards: &mut Shards, number: u32, want: &[(Call, Reply)]) {
     assert!(rt; (number as usize) < shards.count());
-    let entries = shards.shard(number).entries();
-    assert_eq!(rt; entries.len(), want.len(), "shard {number}");
-    for (entry, (call, reply)) in entries.iter().zip(want) {
+    let journal = shards.shard(number).journal();
+    assert_eq!(rt; journal.len(), want.len(), "shard {number}");
+    for (place, (call, reply)) in want.iter().enumerate() {
+        assert!(rt; place < journal.len());
+        let entry = journal.entry(place);
         let wanted = Entry {
             who: Caller::Worker { number: 1 },
             call: *call,
             reply: *reply,
         };
-        assert_eq!(rt; *entry, wanted, "shard {number}");
+        assert_eq!(rt; entry, wanted, "shard {number}");
     }
 }
 

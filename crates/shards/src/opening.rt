@@ -4,7 +4,8 @@ ghost use Rattle.std.specs.Prelude.{◌≡◌, ◌*◌, ◌<◌, ◌≤◌, Some
 ghost use Rattle.std.specs.List.{AllByRecursion};
 ghost use Rattle.ebpf_decode.specs.Served.{IsServedMap};
 ghost use Rattle.semantics.specs.ShardPlan.{plan_at};
-ghost use Rattle.shard_core.specs.ArrayShard.{IsArrayPlan};
+ghost use Rattle.semantics.specs.PlanLimits.{IsPlan};
+ghost use Rattle.shard_core.specs.KeyTables.{IsServedKind};
 ghost use Rattle.shards.specs.Opening.{is_shard_count, are_equal_parts, are_served_options, AreOpened};
 
 use ebpf_decode::MapDef;
@@ -45,7 +46,8 @@ fn plan_at(maps: &[MapDef], options: &Options, number: u32) -> ShardPlan
     requires served { IsTrue (are_served_options maps.now options.now) }
     requires number { number < length maps.now * options.now.shards }
     ensures plan { Some result ≡ plan_at maps.now options.now number }
-    ensures array { IsArrayPlan result }
+    ensures limits { IsPlan result }
+    ensures kind { IsServedKind result.definition.kind }
 {
     let definition = &maps[(number / options.shards) as usize];
     ShardPlan {

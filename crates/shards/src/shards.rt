@@ -64,4 +64,12 @@ impl Shards {
     {
         &mut self.shards[number as usize]
     }
+
+    /// The shards by their numbers, for whoever has them shared.
+    pub fn into_list(self) -> Vec<Shard>
+        ensures { result.items ≡ self }
+    {
+        let Shards { shards } = self;
+        shards
+    }
 }

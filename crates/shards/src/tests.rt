@@ -101,14 +101,14 @@ fn one_shard_for_each_map(rt: HostRuntime) -> Result<(), Fail> {
         assert_eq!(rt; make(&rt, first, &look(0, 2)), Ok(cell(0, 2)));
         assert_eq!(rt; make(&rt, first, &look(0, 3)), Ok(Reply::Null));
         let second = shards.shard(1);
-        assert_eq!(rt; second.entries().len(), 0);
+        assert_eq!(rt; second.journal().len(), 0);
         assert_eq!(rt;
             make(&rt, second, &Call::Enter { shard: 1 }),
             Ok(Reply::Entered)
         );
         assert_eq!(rt; make(&rt, second, &look(1, 4095)), Ok(cell(1, 4095)));
         assert_eq!(rt; make(&rt, second, &look(1, 4096)), Ok(Reply::Null));
-        assert_eq!(rt; shards.shard(0).entries().len(), 3);
+        assert_eq!(rt; shards.shard(0).journal().len(), 3);
     }
     Ok(())
 }

@@ -1,6 +1,6 @@
--- A run's calls keep the system sound: it enters a shard, looks a key up, or loads from a cell that it holds.
+-- A run's calls keep the system sound: it enters a shard, and calls it.
 use Rattle.std.proofs.Common.{◌≡◌, ◌≢◌, ℕ, ◌<◌, ◌==◌, ◌*◌, ◌/◌, Bool, true, false, List, ◌∷◌, length, Option, Some, None, refl, sym, ap, subst, ◌∙◌, ⊎_elim, arith}
-use Rattle.std.specs.Prelude.{IsTrue, if◌then◌else◌}
+use Rattle.std.specs.Prelude.{IsTrue}
 use Rattle.std.proofs.lemmas.Bool.{cases_eq, ne_eqb}
 use Rattle.std.proofs.lemmas.Nat.{div-mul-add, mod_below}
 use Rattle.std.proofs.lemmas.Bool.Decides.{eqb_tells}
@@ -8,33 +8,35 @@ use Rattle.semantics.specs.declared.plan.ShardPlan.{ShardPlan}
 use Rattle.semantics.specs.declared.call.Caller.TheVariants.{Worker}
 use Rattle.semantics.specs.declared.call.CellRef.{CellRef}
 use Rattle.semantics.specs.declared.call.Call.{Call}
-use Rattle.semantics.specs.declared.call.Call.TheVariants.{Enter, Lookup, Load}
+use Rattle.semantics.specs.declared.call.Call.TheVariants.{Enter, Lookup}
+use Rattle.semantics.specs.declared.call.SectionChange.TheVariants.{Stays}
 use Rattle.semantics.specs.declared.call.Reply.{Reply}
 use Rattle.semantics.specs.declared.call.Reply.TheVariants.{Entered, Left, Cell, Null, Word, Done, Answer, Freed}
 use Rattle.semantics.specs.declared.call.Entry.{Entry}
 use Rattle.semantics.specs.MachineState.{MachineState}
 use Rattle.semantics.specs.Program.{part_of_key, shard_number_of_key}
+use Rattle.semantics.specs.Sections.{section_change}
 use Rattle.semantics.specs.Reclamation.{is_inside, holds}
+use Rattle.semantics.specs.Reclamation as history
 use Rattle.semantics.specs.RunTrace.{IsReplyTo}
 use Rattle.semantics.specs.ShardPlan.{plan_at}
-use Rattle.semantics.specs.History.{journal_is_full}
+use Rattle.semantics.specs.History.{Meets, journal_is_full}
 use Rattle.semantics.specs.System.{Setting, program_of, SystemState, Idle, Runs, worker_state, history_of, with_worker, with_entry, is_entered, entry_for, run_over, after_run_call}
 use Rattle.abstract_state.specs.declared.state.State.{State}
 use Rattle.abstract_state.specs.Soundness.{IsHandedOut, HoldsAfter}
 use Rattle.abstract_state.proofs.shared.Writing.{held_more}
 use Rattle.verifier.proofs.SystemInvariant.{entered_of, held_by, IsSoundRun, IsSoundWorker, IsSetting, IsSoundSystem}
-use Rattle.verifier.proofs.HistoryLemmas.{inside_enter, inside_lookup, inside_load, holds_load, still_held, found_held}
-use Rattle.verifier.proofs.PlanLemmas.{plan_facts, plan_within, some_shards}
-use Rattle.verifier.proofs.ShardLemmas.{IsPlainCall}
+use Rattle.verifier.proofs.HistoryLemmas.{inside_enter, inside_lookup, inside_stays, holds_still, still_held, found_held}
+use Rattle.verifier.proofs.PlanLemmas.{plan_facts, plan_within, some_shards, enter_meets}
 use Rattle.verifier.proofs.SettingLemmas.{held_facts}
 use Rattle.verifier.proofs.EntryLemmas.{history_there, history_elsewhere, local_change, own_entry}
-use Rattle.verifier.proofs.EventLemmas.{over_keeps, over_sound, is_counted}
+use Rattle.verifier.proofs.EventLemmas.{by_full, over_keeps, over_sound, is_counted}
 
 same_number : (n : ℕ) → (n == n) ≡ true
 same_number n = ⊎_elim (λ yes. yes.0) (λ no_more. absurd (no_more.1 refl)) (eqb_tells n n)
 
 -- the shards of a system with one more entry of a worker
-abbrev grown : SystemState → ShardPlan → ℕ → Call → SystemState
+abbrev pub grown : SystemState → ShardPlan → ℕ → Call → SystemState
 grown system plan worker call = with_entry system plan.number (entry_for plan system (Worker worker) call)
 
 -- the shard of a plan has a history
@@ -53,11 +55,6 @@ stopped setting states system worker state entered good sound is =
     local_change setting states system worker (run_over entered) good sound
     (is_counted setting states system worker sound (λ idle. let e : Idle ≡ Runs state entered = sym idle ∙ is in absurd cc))
     (over_keeps entered ∙ sym (ap entered_of is)) (over_sound setting states system worker entered)
-
-by_full : (setting : Setting) (states : List (Option State)) (one other : SystemState) (full : Bool) → IsSoundSystem setting states one → IsSoundSystem setting states other →
-    IsSoundSystem setting states (if full then one else other)
-by_full setting states one other true h k = h
-by_full setting states one other false h k = k
 
 -- ---- entering
 
@@ -88,9 +85,14 @@ enter_sound setting states system worker shard state entered (Some plan) good so
     in let within : plan.number < length system.histories = within_histories setting states system shard plan good sound planned
     in let inside_all : shard < length setting.maps * setting.options.shards = plan_within setting.maps setting.options shard plan (some_shards setting.maps setting.options good.options) planned
     in let run : IsSoundRun setting states system worker state entered = subst (IsSoundWorker setting states system worker) is (sound.workers worker)
+    in let known : worker < plan.workers = omega (arith, (plan_facts setting.maps setting.options shard plan planned).workers, few)
+    in let not_inside : is_inside worker (history_of system plan.number) ≡ false =
+    ap (λ n. is_inside worker (history_of system n)) at ∙ sound.inside worker shard ∙ ap (λ st. is_entered shard (entered_of st)) is ∙ outside
+    in let met : Meets plan (history_of system plan.number) (Worker worker) (Enter shard) =
+    subst (λ n. Meets plan (history_of system plan.number) (Worker worker) (Enter n)) at (enter_meets plan (history_of system plan.number) worker known not_inside)
     in by_full setting states (with_worker system worker (run_over entered)) (with_worker (grown system plan worker (Enter shard)) worker (Runs state (shard ∷ entered)))
     (journal_is_full plan (history_of system plan.number) (Enter shard)) (stopped setting states system worker state entered good sound is)
-    (own_entry setting states system shard plan worker (Enter shard) (Runs state (shard ∷ entered)) good sound planned tt few
+    (λ room. own_entry setting states system shard plan worker (Enter shard) (Runs state (shard ∷ entered)) good sound planned (record { met = met; room = room }) few
     (λ s. ⊎_elim
     (λ same.
     let now : is_inside worker (history_of (grown system plan worker (Enter shard)) plan.number) ≡ true =
@@ -113,26 +115,26 @@ enter_sound setting states system worker shard state entered (Some plan) good so
       few = run.few;
     }))
 
--- ---- lookups and loads
+-- ---- calls inside a shard
 
 -- a call by which a worker stays inside, and lets go of nothing
 pub record IsQuiet (plan : ShardPlan) (system : SystemState) (worker : ℕ) (call : Call) : Type 0 where
-  pub plain : IsPlainCall call
   pub inside : is_inside worker (entry_for plan system (Worker worker) call ∷ history_of system plan.number) ≡ is_inside worker (history_of system plan.number)
   pub kept : (cell : ℕ) → holds worker cell (history_of system plan.number) ≡ true → holds worker cell (entry_for plan system (Worker worker) call ∷ history_of system plan.number) ≡ true
 
 pub quiet_lookup : (plan : ShardPlan) (system : SystemState) (worker shard : ℕ) (key : List ℕ) → IsQuiet plan system worker (Lookup shard key)
 quiet_lookup plan system worker shard key = record {
-  plain = tt;
   inside = inside_lookup worker shard key (entry_for plan system (Worker worker) (Lookup shard key)) (history_of system plan.number) refl refl;
   kept = λ cell held. still_held worker cell shard key (entry_for plan system (Worker worker) (Lookup shard key)) (history_of system plan.number) refl refl held;
 }
 
-pub quiet_load : (plan : ShardPlan) (system : SystemState) (worker : ℕ) (cell : CellRef) (offset width : ℕ) → IsQuiet plan system worker (Load cell offset width)
-quiet_load plan system worker cell offset width = record {
-  plain = tt;
-  inside = inside_load worker cell offset width (entry_for plan system (Worker worker) (Load cell offset width)) (history_of system plan.number) refl refl;
-  kept = λ one held. holds_load worker one cell offset width (entry_for plan system (Worker worker) (Load cell offset width)) (history_of system plan.number) refl refl ∙ held;
+-- a call that hands out nothing, and lets go of nothing
+pub quiet_call : (plan : ShardPlan) (system : SystemState) (worker : ℕ) (call : Call) → section_change call ≡ Stays →
+    ((reply : Reply) (cell : ℕ) (before : Bool) → history.held_by call reply cell before ≡ before) → IsQuiet plan system worker call
+quiet_call plan system worker call stays same = record {
+  inside = inside_stays worker (entry_for plan system (Worker worker) call) (history_of system plan.number) refl stays;
+  kept = λ cell held. holds_still worker cell (entry_for plan system (Worker worker) call) (history_of system plan.number) refl
+      (same (entry_for plan system (Worker worker) call).reply cell) ∙ held;
 }
 
 -- what the worker held, it holds
@@ -151,15 +153,17 @@ held_grows setting system plan worker entered call quiet within map s cell held 
 
 -- the run goes on with the reply, which is told to it in full
 pub ask_sound : (setting : Setting) (states : List (Option State)) (system : SystemState) (worker shard : ℕ) (call : Call) (state : MachineState) (entered : List ℕ) (plan : ShardPlan) (next : Reply → MachineState) → IsSetting setting states →
-    IsSoundSystem setting states system → worker_state system worker ≡ Runs state entered → plan_at setting.maps setting.options shard ≡ Some plan → IsQuiet plan system worker call →
+    IsSoundSystem setting states system → worker_state system worker ≡ Runs state entered → plan_at setting.maps setting.options shard ≡ Some plan →
+    Meets plan (history_of system plan.number) (Worker worker) call → IsQuiet plan system worker call →
     IsSoundRun setting states (grown system plan worker call) worker (next (entry_for plan system (Worker worker) call).reply) entered →
     IsSoundSystem setting states (after_run_call (Some plan) system worker call entered (λ reply. Runs (next reply) entered))
-ask_sound setting states system worker shard call state entered plan next good sound is planned quiet run =
+ask_sound setting states system worker shard call state entered plan next good sound is planned met quiet run =
     let few : worker < setting.options.workers = is_counted setting states system worker sound (λ idle. let e : Idle ≡ Runs state entered = sym idle ∙ is in absurd cc)
     in let within : plan.number < length system.histories = within_histories setting states system shard plan good sound planned
     in by_full setting states (with_worker system worker (run_over entered)) (with_worker (grown system plan worker call) worker (Runs (next (entry_for plan system (Worker worker) call).reply) entered))
     (journal_is_full plan (history_of system plan.number) call) (stopped setting states system worker state entered good sound is)
-    (own_entry setting states system shard plan worker call (Runs (next (entry_for plan system (Worker worker) call).reply) entered) good sound planned quiet.plain few
+    (λ room. own_entry setting states system shard plan worker call (Runs (next (entry_for plan system (Worker worker) call).reply) entered) good sound planned
+    (record { met = met; room = room }) few
     (λ s. ⊎_elim
     (λ same. ap (λ n. is_inside worker (history_of (grown system plan worker call) n)) same
     ∙ ap (is_inside worker) (history_there system plan.number (entry_for plan system (Worker worker) call) within) ∙ quiet.inside
@@ -213,12 +217,13 @@ lookup_holds setting states system worker shard key entered plan good sound plan
       (plan_facts setting.maps setting.options shard plan planned).number (within_histories setting states system shard plan good sound planned) into refl fits;
 }
 
-pub load_holds : (setting : Setting) (states : List (Option State)) (system : SystemState) (worker : ℕ) (cell : CellRef) (offset width : ℕ) (entered : List ℕ) (plan : ShardPlan) → IsSetting setting states →
-    IsSoundSystem setting states system → plan_at setting.maps setting.options cell.shard ≡ Some plan →
-    HoldsAfter (program_of setting) (held_by setting system worker entered) (held_by setting (grown system plan worker (Load cell offset width)) worker entered) (Load cell offset width)
-    (entry_for plan system (Worker worker) (Load cell offset width)).reply
-load_holds setting states system worker cell offset width entered plan good sound planned = record {
-  kept = held_grows setting system plan worker entered (Load cell offset width) (quiet_load plan system worker cell offset width)
-      (within_histories setting states system cell.shard plan good sound planned);
-  handed_out = tt;
+-- a call that hands out nothing
+pub still_holds : (setting : Setting) (states : List (Option State)) (system : SystemState) (worker shard : ℕ) (call : Call) (entered : List ℕ) (plan : ShardPlan) → IsSetting setting states →
+    IsSoundSystem setting states system → plan_at setting.maps setting.options shard ≡ Some plan → IsQuiet plan system worker call →
+    IsHandedOut (program_of setting) (held_by setting (grown system plan worker call) worker entered) call (entry_for plan system (Worker worker) call).reply →
+    HoldsAfter (program_of setting) (held_by setting system worker entered) (held_by setting (grown system plan worker call) worker entered) call
+    (entry_for plan system (Worker worker) call).reply
+still_holds setting states system worker shard call entered plan good sound planned quiet nothing = record {
+  kept = held_grows setting system plan worker entered call quiet (within_histories setting states system shard plan good sound planned);
+  handed_out = nothing;
 }

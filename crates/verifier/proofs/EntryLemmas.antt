@@ -17,7 +17,7 @@ use Rattle.abstract_state.proofs.shared.Writing.{held_more}
 use Rattle.verifier.proofs.SystemInvariant.{entered_of, held_by, IsSoundWorker, IsSoundShard, IsSetting, IsSoundSystem}
 use Rattle.verifier.proofs.HistoryLemmas.{inside_other, holds_other, is_another}
 use Rattle.verifier.proofs.PlanLemmas.{plan_facts, plan_within, some_shards}
-use Rattle.verifier.proofs.ShardLemmas.{IsPlainCall}
+use Rattle.verifier.proofs.ShardLemmas.{IsPermitted}
 use Rattle.verifier.proofs.SettingLemmas.{entry_sound}
 
 -- ---- histories
@@ -66,14 +66,14 @@ run_kept setting states before after worker (Runs state entered) same run = reco
 -- ---- the shards
 
 each_kept : (setting : Setting) (states : List (Option State)) (system : SystemState) (number : ℕ) (plan : ShardPlan) (who : Caller) (call : Call) → IsSetting setting states →
-    IsSoundSystem setting states system → plan_at setting.maps setting.options number ≡ Some plan → IsPlainCall call → plan.number ≡ number → number < length system.histories →
+    IsSoundSystem setting states system → plan_at setting.maps setting.options number ≡ Some plan → IsPermitted plan (history_of system plan.number) who call → plan.number ≡ number → number < length system.histories →
     (shard : ℕ) (other : ShardPlan) → plan_at setting.maps setting.options shard ≡ Some other →
     IsSoundShard other (history_of (with_entry system plan.number (entry_for plan system who call)) shard)
-each_kept setting states system number plan who call good sound planned plain at within shard other found = ⊎_elim
+each_kept setting states system number plan who call good sound planned permitted at within shard other found = ⊎_elim
     (λ same.
     let one : other ≡ plan = (let e : Some other ≡ Some plan = sym found ∙ ap (plan_at setting.maps setting.options) (same ∙ at) ∙ planned in cc)
     in let now : IsSoundShard plan (entry_for plan system who call ∷ history_of system plan.number) =
-    entry_sound setting states number plan system who call good planned plain
+    entry_sound plan system who call permitted
     (subst (λ n. IsSoundShard plan (history_of system n)) (sym at) (sound.each_shard number plan planned))
     in rw (one, same, history_there system plan.number (entry_for plan system who call) (omega (arith, at, within))) now)
     (λ elsewhere. rw (history_elsewhere system plan.number shard (entry_for plan system who call) elsewhere) (sound.each_shard shard other found))
@@ -82,9 +82,9 @@ each_kept setting states system number plan who call good sound planned plain at
 -- ---- an entry of the controller or the reclaimer
 
 pub foreign_entry : (setting : Setting) (states : List (Option State)) (system : SystemState) (number : ℕ) (plan : ShardPlan) (who : Caller) (call : Call) → IsSetting setting states →
-    IsSoundSystem setting states system → plan_at setting.maps setting.options number ≡ Some plan → IsPlainCall call → ((worker : ℕ) → is_worker worker who ≡ false) →
+    IsSoundSystem setting states system → plan_at setting.maps setting.options number ≡ Some plan → IsPermitted plan (history_of system plan.number) who call → ((worker : ℕ) → is_worker worker who ≡ false) →
     IsSoundSystem setting states (with_entry system plan.number (entry_for plan system who call))
-foreign_entry setting states system number plan who call good sound planned plain nobody =
+foreign_entry setting states system number plan who call good sound planned permitted nobody =
     let entry : Entry = entry_for plan system who call
     in let at : plan.number ≡ number = (plan_facts setting.maps setting.options number plan planned).number
     in let total : length system.histories ≡ length setting.maps * setting.options.shards = sound.shards
@@ -99,7 +99,7 @@ foreign_entry setting states system number plan who call good sound planned plai
       numbers = sound.numbers;
       workers = λ worker. run_kept setting states system (with_entry system plan.number (entry_for plan system who call)) worker (worker_state system worker)
           (λ shard cell. holds_kept system plan.number shard worker cell (entry_for plan system who call) within_at (nobody worker)) (sound.workers worker);
-      each_shard = each_kept setting states system number plan who call good sound planned plain at within;
+      each_shard = each_kept setting states system number plan who call good sound planned permitted at within;
     }
 
 -- ---- a worker's state
@@ -145,12 +145,12 @@ local_change setting states system worker now good sound few same run =
 
 -- a worker's entry: what it has entered, and what its run knows, are told anew
 pub own_entry : (setting : Setting) (states : List (Option State)) (system : SystemState) (number : ℕ) (plan : ShardPlan) (worker : ℕ) (call : Call) (now : WorkerState) → IsSetting setting states →
-    IsSoundSystem setting states system → plan_at setting.maps setting.options number ≡ Some plan → IsPlainCall call → worker < setting.options.workers →
+    IsSoundSystem setting states system → plan_at setting.maps setting.options number ≡ Some plan → IsPermitted plan (history_of system plan.number) (Worker worker) call → worker < setting.options.workers →
     ((shard : ℕ) → is_inside worker (history_of (with_entry system plan.number (entry_for plan system (Worker worker) call)) shard) ≡ is_entered shard (entered_of now)) →
     ((shard : ℕ) → is_entered shard (entered_of now) ≡ true → shard < length setting.maps * setting.options.shards) →
     IsSoundWorker setting states (with_entry system plan.number (entry_for plan system (Worker worker) call)) worker now →
     IsSoundSystem setting states (with_worker (with_entry system plan.number (entry_for plan system (Worker worker) call)) worker now)
-own_entry setting states system number plan worker call now good sound planned plain few inside entered run =
+own_entry setting states system number plan worker call now good sound planned permitted few inside entered run =
     let at : plan.number ≡ number = (plan_facts setting.maps setting.options number plan planned).number
     in let total : length system.histories ≡ length setting.maps * setting.options.shards = sound.shards
     in let inside_all : number < length setting.maps * setting.options.shards = plan_within setting.maps setting.options number plan (some_shards setting.maps setting.options good.options) planned
@@ -183,5 +183,5 @@ own_entry setting states system number plan worker call now good sound planned p
           (λ shard cell. holds_kept system plan.number shard other cell (entry_for plan system (Worker worker) call) within_at
           (is_another other worker (entry_for plan system (Worker worker) call) refl (λ is. apart (sym is)))) (sound.workers other)))
           (cases_eq other worker);
-      each_shard = each_kept setting states system number plan (Worker worker) call good sound planned plain at within;
+      each_shard = each_kept setting states system number plan (Worker worker) call good sound planned permitted at within;
     }

@@ -1,5 +1,5 @@
 -- Events keep the system sound: those of the controller and the reclaimer, and a worker's leaving.
-use Rattle.std.proofs.Common.{◌≡◌, ◌≢◌, ℕ, ◌<◌, ◌==◌, ◌*◌, ◌||◌, Bool, true, false, not, List, [], ◌∷◌, length, Option, Some, None, refl, sym, ap, ◌∙◌, ⊎_elim, arith}
+use Rattle.std.proofs.Common.{◌≡◌, ◌≢◌, ℕ, ◌<◌, ◌==◌, ◌*◌, ◌||◌, Bool, true, false, not, List, [], ◌∷◌, length, Option, Some, None, refl, sym, ap, subst, ◌∙◌, ⊎_elim, arith}
 use Rattle.std.specs.Prelude.{if◌then◌else◌}
 use Rattle.std.proofs.lemmas.Bool.{cases_lt, cases_eq, ne_eqb, eqb-true}
 use Rattle.semantics.specs.declared.plan.ShardPlan.{ShardPlan}
@@ -9,29 +9,28 @@ use Rattle.semantics.specs.declared.call.Call.{Call}
 use Rattle.semantics.specs.declared.call.Call.TheVariants.{Leave}
 use Rattle.semantics.specs.Reclamation.{is_worker, is_inside}
 use Rattle.semantics.specs.ShardPlan.{plan_at}
-use Rattle.semantics.specs.History.{journal_is_full}
-use Rattle.semantics.specs.System.{Setting, SystemState, Idle, Leaves, worker_state, history_of, with_entry, is_entered, entry_for, run_over, without_shard, after_call, after_run_call}
+use Rattle.semantics.specs.History.{Meets, journal_is_full}
+use Rattle.semantics.specs.System.{Setting, SystemState, Idle, Leaves, worker_state, history_of, with_entry, is_entered, MayCall, entry_for, run_over, without_shard, after_call, after_run_call}
 use Rattle.abstract_state.specs.declared.state.State.{State}
 use Rattle.verifier.proofs.SystemInvariant.{entered_of, IsSoundWorker, IsSetting, IsSoundSystem}
 use Rattle.verifier.proofs.HistoryLemmas.{inside_leave}
-use Rattle.verifier.proofs.PlanLemmas.{plan_facts, plan_within, some_shards}
-use Rattle.verifier.proofs.ShardLemmas.{IsPlainCall}
+use Rattle.verifier.proofs.PlanLemmas.{plan_facts, plan_within, some_shards, leave_meets}
 use Rattle.verifier.proofs.EntryLemmas.{history_there, history_elsewhere, foreign_entry, own_entry}
 
 -- ---- the controller and the reclaimer
 
-by_full : (setting : Setting) (states : List (Option State)) (one other : SystemState) (full : Bool) → IsSoundSystem setting states one → IsSoundSystem setting states other →
-    IsSoundSystem setting states (if full then one else other)
+pub by_full : (setting : Setting) (states : List (Option State)) (one other : SystemState) (full : Bool) → IsSoundSystem setting states one →
+    (full ≡ false → IsSoundSystem setting states other) → IsSoundSystem setting states (if full then one else other)
 by_full setting states one other true h k = h
-by_full setting states one other false h k = k
+by_full setting states one other false h k = k refl
 
 pub call_sound : (setting : Setting) (states : List (Option State)) (system : SystemState) (number : ℕ) (found : Option ShardPlan) (who : Caller) (call : Call) → IsSetting setting states →
-    IsSoundSystem setting states system → plan_at setting.maps setting.options number ≡ found → IsPlainCall call → ((worker : ℕ) → is_worker worker who ≡ false) →
+    IsSoundSystem setting states system → plan_at setting.maps setting.options number ≡ found → MayCall found system who call → ((worker : ℕ) → is_worker worker who ≡ false) →
     IsSoundSystem setting states (after_call found system who call)
-call_sound setting states system number (Some plan) who call good sound planned plain nobody =
+call_sound setting states system number (Some plan) who call good sound planned may nobody =
     by_full setting states system (with_entry system plan.number (entry_for plan system who call)) (journal_is_full plan (history_of system plan.number) call) sound
-    (foreign_entry setting states system number plan who call good sound planned plain nobody)
-call_sound setting states system number None who call good sound planned plain nobody = sound
+    (λ room. foreign_entry setting states system number plan who call good sound planned (record { met = may; room = room }) nobody)
+call_sound setting states system number None who call good sound planned may nobody = sound
 
 -- ---- leaving
 
@@ -78,16 +77,21 @@ others_stay shard other (one ∷ entered) differ =
     other_by shard other one entered (one == shard) refl (apart_from shard other one differ) (others_stay shard other entered differ)
 
 pub leave_sound : (setting : Setting) (states : List (Option State)) (system : SystemState) (worker shard : ℕ) (entered : List ℕ) (found : Option ShardPlan) → IsSetting setting states →
-    IsSoundSystem setting states system → worker_state system worker ≡ Leaves entered → plan_at setting.maps setting.options shard ≡ found →
+    IsSoundSystem setting states system → worker_state system worker ≡ Leaves entered → is_entered shard entered ≡ true → plan_at setting.maps setting.options shard ≡ found →
     IsSoundSystem setting states (after_run_call found system worker (Leave shard) entered (λ reply. run_over (without_shard shard entered)))
-leave_sound setting states system worker shard entered None good sound is planned = sound
-leave_sound setting states system worker shard entered (Some plan) good sound is planned =
+leave_sound setting states system worker shard entered None good sound is into planned = sound
+leave_sound setting states system worker shard entered (Some plan) good sound is into planned =
     let few : worker < setting.options.workers = is_counted setting states system worker sound (λ idle. let e : Idle ≡ Leaves entered = sym idle ∙ is in absurd cc)
     in let at : plan.number ≡ shard = (plan_facts setting.maps setting.options shard plan planned).number
     in let total : length system.histories ≡ length setting.maps * setting.options.shards = sound.shards
     in let inside_all : shard < length setting.maps * setting.options.shards = plan_within setting.maps setting.options shard plan (some_shards setting.maps setting.options good.options) planned
     in let within : plan.number < length system.histories = omega arith
-    in own_entry setting states system shard plan worker (Leave shard) (run_over (without_shard shard entered)) good sound planned tt few
+    in let known : worker < plan.workers = omega (arith, (plan_facts setting.maps setting.options shard plan planned).workers, few)
+    in let inside_at : is_inside worker (history_of system plan.number) ≡ true =
+    ap (λ n. is_inside worker (history_of system n)) at ∙ sound.inside worker shard ∙ ap (λ st. is_entered shard (entered_of st)) is ∙ into
+    in let met : Meets plan (history_of system plan.number) (Worker worker) (Leave shard) =
+    subst (λ n. Meets plan (history_of system plan.number) (Worker worker) (Leave n)) at (leave_meets plan (history_of system plan.number) worker known inside_at)
+    in own_entry setting states system shard plan worker (Leave shard) (run_over (without_shard shard entered)) good sound planned (record { met = met; room = refl }) few
     (λ s. ⊎_elim
     (λ same.
     let now : is_inside worker (history_of (with_entry system plan.number (entry_for plan system (Worker worker) (Leave shard))) plan.number) ≡ false =

@@ -4,10 +4,12 @@ use Rattle.std.specs.Prelude.{◌⊎◌, is_some}
 use Rattle.std.proofs.lemmas.Bool.Decides.{nat_tests}
 use Rattle.semantics.specs.declared.call.Caller.TheVariants.{Worker}
 use Rattle.semantics.specs.declared.call.CellRef.{CellRef}
-use Rattle.semantics.specs.declared.call.Call.TheVariants.{Enter, Leave, Lookup, Load}
+use Rattle.semantics.specs.declared.call.Call.TheVariants.{Enter, Leave, Lookup}
 use Rattle.semantics.specs.declared.call.Reply.{Reply}
 use Rattle.semantics.specs.declared.call.Reply.TheVariants.{Cell}
 use Rattle.semantics.specs.declared.call.Entry.{Entry}
+use Rattle.semantics.specs.declared.call.SectionChange.TheVariants.{Stays}
+use Rattle.semantics.specs.Sections.{section_change}
 use Rattle.semantics.specs.Reclamation.{is_worker, entered_by, entered_at, is_inside, found_cell, held_by, holds}
 
 -- ---- entries of others
@@ -51,14 +53,15 @@ pub inside_lookup : (worker shard : ℕ) (key : List ℕ) (entry : Entry) (h : L
     is_inside worker (entry ∷ h) ≡ is_inside worker h
 inside_lookup worker shard key entry h who call = inside_own worker entry h who ∙ rw call refl
 
-pub inside_load : (worker : ℕ) (cell : CellRef) (offset width : ℕ) (entry : Entry) (h : List Entry) → entry.who ≡ Worker worker →
-    entry.call ≡ Load cell offset width → is_inside worker (entry ∷ h) ≡ is_inside worker h
-inside_load worker cell offset width entry h who call = inside_own worker entry h who ∙ rw call refl
+-- a call by which its worker stays inside
+pub inside_stays : (worker : ℕ) (entry : Entry) (h : List Entry) → entry.who ≡ Worker worker → section_change entry.call ≡ Stays →
+    is_inside worker (entry ∷ h) ≡ is_inside worker h
+inside_stays worker entry h who stays = inside_own worker entry h who ∙ rw stays refl
 
--- a load changes nothing of what is held
-pub holds_load : (worker one : ℕ) (cell : CellRef) (offset width : ℕ) (entry : Entry) (h : List Entry) → entry.who ≡ Worker worker →
-    entry.call ≡ Load cell offset width → holds worker one (entry ∷ h) ≡ holds worker one h
-holds_load worker one cell offset width entry h who call = holds_own worker one entry h who ∙ rw call refl
+-- a call that changes nothing of what is held
+pub holds_still : (worker one : ℕ) (entry : Entry) (h : List Entry) → entry.who ≡ Worker worker →
+    ((before : Bool) → held_by entry.call entry.reply one before ≡ before) → holds worker one (entry ∷ h) ≡ holds worker one h
+holds_still worker one entry h who same = holds_own worker one entry h who ∙ same (holds worker one h)
 
 -- a lookup adds the found cell
 pub holds_lookup : (worker one shard : ℕ) (key : List ℕ) (entry : Entry) (h : List Entry) → entry.who ≡ Worker worker →

@@ -16,5 +16,7 @@ pub mod SettingLemmas
 pub mod EntryLemmas
 pub mod EventLemmas
 pub mod AskingLemmas
+pub mod FlatLemmas
 pub mod ResolvingLemmas
 pub mod AnswerLemmas
+pub mod RunnableLemmas

@@ -1,28 +1,28 @@
 -- What the plan of a shard's number is, and which calls its workers may make.
-use Rattle.std.proofs.Common.{◌≡◌, ℕ, ◌+◌, ◌*◌, ◌/◌, ◌%◌, ◌<◌, ◌≤◌, ◌==◌, ◌&&◌, Bool, true, false, nat_lt, nat_le, List, length, Option, Some, None, slice_get, All, IsTrue, refl, sym, ◌∙◌, ap, subst, ⊎_elim, div-lt_iff_lt-mul, arith}
+use Rattle.std.proofs.Common.{◌≡◌, ℕ, ◌+◌, ◌*◌, ◌/◌, ◌%◌, ◌^◌, ◌<◌, ◌≤◌, ◌==◌, ◌&&◌, Bool, true, false, nat_lt, nat_le, List, length, Option, Some, None, slice_get, All, IsTrue, refl, sym, ◌∙◌, ap, subst, ⊎_elim, div-lt_iff_lt-mul, arith}
+use Rattle.std.specs.Prelude.{is_some}
+use Rattle.std.proofs.lemmas.Bool.{and_parts}
 use Rattle.std.proofs.lemmas.Bool.Decides.{nat_tests}
 use Rattle.std.proofs.lemmas.Nat.{div_below, mod_below, mod-mul-add, div-mul-add}
 use Rattle.std.proofs.lemmas.Option.{slice_get_cases, slice_get_within, get_or_from_slice_get}
 use Rattle.std.proofs.lemmas.List.Elements.{All-get_or}
-use Rattle.ebpf_decode.specs.declared.map.MapKind.{MapKind}
-use Rattle.ebpf_decode.specs.declared.map.MapKind.TheVariants.{Array, Hash, LruHash}
-use Rattle.ebpf_decode.specs.Served.{is_served_kind, is_served_map}
-use Rattle.semantics.proofs.ConditionLemmas.{first_true, bytes_test}
+use Rattle.semantics.proofs.ConditionLemmas.{bytes_test}
+use Rattle.isa.specs.InstructionCodes.{atomic_op_of}
 use Rattle.ebpf_decode.specs.declared.map.MapDef.{MapDef}
 use Rattle.ebpf_decode.specs.declared.insn.Insn.{Insn}
 use Rattle.semantics.specs.declared.options.Options.{Options}
 use Rattle.semantics.specs.declared.plan.ShardPlan.{ShardPlan}
 use Rattle.semantics.specs.declared.call.CellRef.{CellRef}
 use Rattle.semantics.specs.declared.call.Caller.TheVariants.{Worker}
-use Rattle.semantics.specs.declared.call.Call.TheVariants.{Enter, Leave, Lookup, Load}
+use Rattle.semantics.specs.declared.call.Call.TheVariants.{Enter, Leave, Lookup, Load, Store, Atomic, Update, Delete}
 use Rattle.semantics.specs.declared.call.Entry.{Entry}
 use Rattle.semantics.specs.Program.{shard_number_of_key}
 use Rattle.semantics.specs.Reclamation.{is_inside, holds}
 use Rattle.semantics.specs.ShardPlan.{plan_for_map, plan_at, AreOptions}
-use Rattle.semantics.specs.History.{is_load_width, Meets}
+use Rattle.semantics.specs.History.{is_holder, is_inside_worker, is_own_key, is_value, is_load_width, is_atomic_width, is_in_cell, is_aligned, fits_width, Meets}
 use Rattle.abstract_state.specs.States.{value_size_of}
 use Rattle.abstract_state.specs.Abstraction.{Held}
-use Rattle.abstract_state.specs.Soundness.{IsServedLookup, IsServedLoad}
+use Rattle.abstract_state.specs.Soundness.{IsServedLookup, IsServedLoad, IsServedAtomic}
 
 -- ---- the plan of a number
 
@@ -123,6 +123,7 @@ pub record IsPlannedLookup (maps : List MapDef) (options : Options) (shard : ℕ
   pub planned : plan_at maps options shard ≡ Some plan
   pub of_map : map ≡ shard / options.shards
   pub below : shard < length maps * options.shards
+  pub value_size : plan.definition.value_size ≡ value_size_of (slice_get maps map)
   pub meets : (h : List Entry) (worker : ℕ) → worker < options.workers → is_inside worker h ≡ true → Meets plan h (Worker worker) (Lookup shard key)
 
 -- a lookup of a key in its shard is one that the shard serves
@@ -141,6 +142,7 @@ lookup_plan maps code options shard key some served =
       planned = planned;
       of_map = sym of_map;
       below = plan_within maps options shard (plan_of options shard served.definition) some planned;
+      value_size = sym (ap value_size_of served.known);
       meets = λ h worker few inside.
           both (shard == shard) _ (same_true shard shard refl)
           (both (nat_lt worker options.workers && is_inside worker h) _ (both (nat_lt worker options.workers) _ (below_true worker options.workers few) inside)
@@ -165,6 +167,59 @@ load_meets maps code options held cell offset width plan h worker of_held served
     (both (nat_lt worker plan.workers && holds worker cell.id h) _ (both (nat_lt worker plan.workers) _ (below_true worker plan.workers known) of_map.1) served.is_width)
     (at_most_true (offset + width) plan.definition.value_size inside))
 
+-- a store of a number of the width to such a place
+pub store_meets : (plan : ShardPlan) (h : List Entry) (worker : ℕ) (cell : CellRef) (offset width value : ℕ) → Meets plan h (Worker worker) (Load cell offset width) → value < 256 ^ width →
+    Meets plan h (Worker worker) (Store cell offset width value)
+store_meets plan h worker cell offset width value loads fits =
+    let parts = and_parts (cell.shard == plan.number) (is_holder plan h (Worker worker) cell.id && is_load_width width && is_in_cell plan offset width) loads
+    in both (cell.shard == plan.number) _ parts.0
+    (both (is_holder plan h (Worker worker) cell.id && is_load_width width && is_in_cell plan offset width) _ parts.1 (below_true value (256 ^ width) fits))
+
+-- an atomic operation on a held cell is one that the cell's shard serves
+pub atomic_meets : (maps : List MapDef) (code : List Insn) (options : Options) (held : Held) (cell : CellRef) (offset width op value expected : ℕ) (plan : ShardPlan) (h : List Entry) (worker : ℕ) →
+    ((map : ℕ) → IsTrue (held map cell.shard cell.id) → (cell.shard / options.shards ≡ map) × (holds worker cell.id h ≡ true)) →
+    IsServedAtomic (record { code = code; maps = maps; shards = options.shards }) held cell offset width op value expected →
+    plan_at maps options cell.shard ≡ Some plan → worker < options.workers → Meets plan h (Worker worker) (Atomic cell offset width op value expected)
+atomic_meets maps code options held cell offset width op value expected plan h worker of_held served planned few =
+    let facts = plan_facts maps options cell.shard plan planned
+    in let of_map = of_held served.map served.holds
+    in let definition : slice_get maps served.map ≡ Some plan.definition = ap (slice_get maps) (sym of_map.0) ∙ facts.definition
+    in let size : value_size_of (slice_get maps served.map) ≡ plan.definition.value_size = ap value_size_of definition
+    in let inside : offset + width ≤ plan.definition.value_size = omega (arith, size, served.inside)
+    in let known : worker < plan.workers = omega (arith, facts.workers, few)
+    in let holder : is_holder plan h (Worker worker) cell.id ≡ true = both (nat_lt worker plan.workers) _ (below_true worker plan.workers known) of_map.1
+    in let place : (is_in_cell plan offset width && is_aligned offset width) ≡ true =
+    both (is_in_cell plan offset width) _ (at_most_true (offset + width) plan.definition.value_size inside) (same_true (offset % width) 0 served.aligned)
+    in let one : (is_holder plan h (Worker worker) cell.id && is_atomic_width width) ≡ true = both (is_holder plan h (Worker worker) cell.id) _ holder served.is_width
+    in let two : (is_holder plan h (Worker worker) cell.id && is_atomic_width width && (is_in_cell plan offset width && is_aligned offset width)) ≡ true =
+    both (is_holder plan h (Worker worker) cell.id && is_atomic_width width) _ one place
+    in let three : (is_holder plan h (Worker worker) cell.id && is_atomic_width width && (is_in_cell plan offset width && is_aligned offset width) && is_some (atomic_op_of op)) ≡ true =
+    both (is_holder plan h (Worker worker) cell.id && is_atomic_width width && (is_in_cell plan offset width && is_aligned offset width)) _ two served.known
+    in let four : (is_holder plan h (Worker worker) cell.id && is_atomic_width width && (is_in_cell plan offset width && is_aligned offset width) && is_some (atomic_op_of op) &&
+    fits_width value width) ≡ true =
+    both (is_holder plan h (Worker worker) cell.id && is_atomic_width width && (is_in_cell plan offset width && is_aligned offset width) && is_some (atomic_op_of op)) _ three
+    (below_true value (256 ^ width) served.fits)
+    in let five : (is_holder plan h (Worker worker) cell.id && is_atomic_width width && (is_in_cell plan offset width && is_aligned offset width) && is_some (atomic_op_of op) &&
+    fits_width value width && fits_width expected width) ≡ true =
+    both (is_holder plan h (Worker worker) cell.id && is_atomic_width width && (is_in_cell plan offset width && is_aligned offset width) && is_some (atomic_op_of op) &&
+    fits_width value width) _ four (below_true expected (256 ^ width) served.expected_fits)
+    in both (cell.shard == plan.number) _ (same_true cell.shard plan.number (sym facts.number))
+    (both (is_holder plan h (Worker worker) cell.id && is_atomic_width width && (is_in_cell plan offset width && is_aligned offset width) && is_some (atomic_op_of op) &&
+    fits_width value width && fits_width expected width) _ five served.compares)
+
+-- who may look a key up may delete it, and update it with a value of the map's size
+pub delete_meets : (plan : ShardPlan) (h : List Entry) (worker shard : ℕ) (key : List ℕ) → Meets plan h (Worker worker) (Lookup shard key) → Meets plan h (Worker worker) (Delete shard key)
+delete_meets plan h worker shard key looks = looks
+
+pub update_meets : (plan : ShardPlan) (h : List Entry) (worker shard : ℕ) (key value : List ℕ) (flags : ℕ) → Meets plan h (Worker worker) (Lookup shard key) →
+    length value ≡ plan.definition.value_size → All (λ byte. byte < 256) value → flags < 2 ^ 64 → Meets plan h (Worker worker) (Update shard key value flags)
+update_meets plan h worker shard key value flags looks size bytes small =
+    let parts = and_parts (shard == plan.number) (is_inside_worker plan h (Worker worker) && is_own_key plan key) looks
+    in both (shard == plan.number) _ parts.0
+    (both (is_inside_worker plan h (Worker worker) && is_own_key plan key) _ parts.1
+    (both (is_value plan value) _ (both (length value == plan.definition.value_size) _ (same_true (length value) plan.definition.value_size size) (bytes_test value bytes))
+    (below_true flags (2 ^ 64) small)))
+
 -- ---- plans of images that may be opened with the options
 
 pub some_shards : (maps : List MapDef) (options : Options) → AreOptions maps options → 0 < options.shards
@@ -173,25 +228,11 @@ some_shards maps options fits = ⊎_elim
     (λ more. ⊎_elim (λ two. omega (arith, two)) (λ many. ⊎_elim (λ four. omega (arith, four)) (λ eight. omega (arith, eight)) many) more)
     fits.power_of_two
 
-array_served : (kind : MapKind) → is_served_kind kind ≡ true → kind ≡ Array
-array_served Array served = refl
-array_served Hash served = absurd cc
-array_served LruHash served = absurd cc
-
-array_allowed : (definition : MapDef) → is_served_map definition ≡ true → definition.kind ≡ Array
-array_allowed definition allowed = array_served definition.kind (first_true _ _ (first_true _ _ (first_true _ _ allowed)))
-
 at_plan : (maps : List MapDef) (options : Options) (shard : ℕ) (plan : ShardPlan) (P : MapDef → Type 0) → plan_at maps options shard ≡ Some plan → All P maps → P plan.definition
 at_plan maps options shard plan P planned all =
     let facts = plan_facts maps options shard plan planned
     in subst P (get_or_from_slice_get maps (shard / options.shards) plan.definition plan.definition facts.definition)
     (All-get_or P maps (shard / options.shards) plan.definition facts.within all)
-
--- the plan of an allowed map is an array's
-pub plan_of_array : (maps : List MapDef) (options : Options) (shard : ℕ) (plan : ShardPlan) → All (λ map. is_served_map map ≡ true) maps →
-    plan_at maps options shard ≡ Some plan → plan.definition.kind ≡ Array
-plan_of_array maps options shard plan allowed planned =
-    array_allowed plan.definition (at_plan maps options shard plan (λ map. is_served_map map ≡ true) planned allowed)
 
 pub plan_in_equal_parts : (maps : List MapDef) (options : Options) (shard : ℕ) (plan : ShardPlan) → AreOptions maps options →
     plan_at maps options shard ≡ Some plan → plan.definition.max_entries % plan.parts ≡ 0

@@ -1,27 +1,28 @@
 -- The shards of a setting: what is held in them, which calls they serve, and that an entry leaves them sound.
-use Rattle.std.proofs.Common.{◌≡◌, ℕ, ◌/◌, ◌<◌, ◌==◌, ◌&&◌, Bool, true, false, List, [], ◌∷◌, length, Option, Some, None, IsTrue, refl, sym, ◌∙◌, subst, arith}
+use Rattle.std.proofs.Common.{◌≡◌, ℕ, ◌/◌, ◌<◌, ◌≤◌, ◌==◌, ◌&&◌, Bool, true, false, List, ◌∷◌, length, Option, Some, IsTrue, refl, sym, ◌∙◌, ap, subst, arith}
 use Rattle.std.specs.Prelude.{MatchBool}
 use Rattle.std.proofs.lemmas.Bool.{and_parts}
 use Rattle.std.proofs.lemmas.Bool.Decides.{nat_tests}
 use Rattle.semantics.specs.declared.plan.ShardPlan.{ShardPlan}
 use Rattle.semantics.specs.declared.call.Caller.{Caller}
-use Rattle.semantics.specs.declared.call.Caller.TheVariants.{Worker, Controller}
+use Rattle.semantics.specs.declared.call.Caller.TheVariants.{Worker}
 use Rattle.semantics.specs.declared.call.CellRef.{CellRef}
 use Rattle.semantics.specs.declared.call.Call.{Call}
-use Rattle.semantics.specs.declared.call.Call.TheVariants.{Enter, Leave, Lookup, Load, Store, Atomic, Update, Delete, Reclaim}
+use Rattle.semantics.specs.declared.call.Call.TheVariants.{Enter, Lookup, Load, Store, Atomic, Update, Delete}
 use Rattle.semantics.specs.declared.call.Reply.TheVariants.{Entered}
 use Rattle.semantics.specs.Reclamation.{is_inside, holds}
-use Rattle.semantics.proofs.ConditionLemmas.{tested_bytes}
 use Rattle.verifier.proofs.HistoryLemmas.{inside_enter}
 use Rattle.semantics.specs.ShardPlan.{plan_at}
-use Rattle.semantics.specs.History.{are_bytes, is_own_key, is_value, are_flags, Meets}
-use Rattle.semantics.specs.Safety.{IsServedAt, after_enter, IsServedCall}
-use Rattle.semantics.specs.System.{Setting, program_of, SystemState, history_of, is_entered, is_key_change, MayCall, entry_for}
+use Rattle.semantics.specs.SequentialShard.{shard_after, is_kept}
+use Rattle.semantics.specs.History.{Meets}
+use Rattle.semantics.specs.Safety.{IsOnKeptCell, IsServedAt, after_enter, IsServedCall}
+use Rattle.semantics.specs.System.{Setting, program_of, SystemState, history_of, is_entered, entry_for}
 use Rattle.abstract_state.specs.declared.state.State.{State}
-use Rattle.abstract_state.specs.Soundness.{IsServedLookup, IsServedLoad}
+use Rattle.abstract_state.specs.States.{value_size_of}
+use Rattle.abstract_state.specs.Soundness.{IsServedLookup, IsServedLoad, IsServedStore, IsServedAtomic, IsServedUpdate}
 use Rattle.verifier.proofs.SystemInvariant.{held_by, IsSoundShard, IsSetting}
-use Rattle.verifier.proofs.PlanLemmas.{plan_facts, plan_of_array, plan_in_equal_parts, plan_has_parts, some_shards, enter_meets, lookup_plan, load_meets}
-use Rattle.verifier.proofs.ShardLemmas.{IsPlainCall, sound_at_start, sound_after, held_is_kept}
+use Rattle.verifier.proofs.PlanLemmas.{plan_facts, plan_in_equal_parts, plan_has_parts, some_shards, enter_meets, lookup_plan, load_meets, store_meets, atomic_meets, delete_meets, update_meets}
+use Rattle.verifier.proofs.ShardLemmas.{IsPermitted, sound_after, held_cell_is_kept}
 
 -- ---- what is held
 
@@ -39,37 +40,10 @@ held_facts setting system worker entered map shard cell held =
 
 -- ---- sound shards
 
-pub opening_sound : (setting : Setting) (states : List (Option State)) (number : ℕ) (plan : ShardPlan) → IsSetting setting states →
-    plan_at setting.maps setting.options number ≡ Some plan → IsSoundShard plan []
-opening_sound setting states number plan good planned =
-    sound_at_start plan (plan_of_array setting.maps setting.options number plan good.allowed planned)
-
--- a served call that stores nothing leaves its shard sound
-pub entry_sound : (setting : Setting) (states : List (Option State)) (number : ℕ) (plan : ShardPlan) (system : SystemState) (who : Caller) (call : Call) → IsSetting setting states →
-    plan_at setting.maps setting.options number ≡ Some plan → IsPlainCall call → IsSoundShard plan (history_of system plan.number) →
-    IsSoundShard plan (entry_for plan system who call ∷ history_of system plan.number)
-entry_sound setting states number plan system who call good planned plain sound =
-    sound_after plan (history_of system plan.number) (entry_for plan system who call)
-    (plan_of_array setting.maps setting.options number plan good.allowed planned)
-    (plan_in_equal_parts setting.maps setting.options number plan good.options planned)
-    (plan_has_parts setting.maps setting.options number plan good.options planned) refl plain sound
-
--- what the controller does stores only bytes
-pub change_is_plain : (found : Option ShardPlan) (system : SystemState) (call : Call) → IsTrue (is_key_change call) → MayCall found system Controller call → IsPlainCall call
-change_is_plain None system call change may = absurd may
-change_is_plain (Some plan) system (Update shard key value flags) change may =
-    let parts = and_parts (shard == plan.number) (is_own_key plan key && (is_value plan value && are_flags flags)) may
-    in let more = and_parts (is_own_key plan key) (is_value plan value && are_flags flags) parts.1
-    in let of_value = and_parts (is_value plan value) (are_flags flags) more.1
-    in tested_bytes value (and_parts (length value == plan.definition.value_size) (are_bytes value) of_value.0).1
-change_is_plain (Some plan) system (Delete shard key) change may = tt
-change_is_plain (Some plan) system (Enter shard) change may = absurd cc
-change_is_plain (Some plan) system (Leave shard) change may = absurd cc
-change_is_plain (Some plan) system (Lookup shard key) change may = absurd cc
-change_is_plain (Some plan) system (Load cell offset width) change may = absurd cc
-change_is_plain (Some plan) system (Store cell offset width value) change may = absurd cc
-change_is_plain (Some plan) system (Atomic cell offset width op value expected) change may = absurd cc
-change_is_plain (Some plan) system (Reclaim shard) change may = absurd cc
+-- a permitted call leaves its shard sound
+pub entry_sound : (plan : ShardPlan) (system : SystemState) (who : Caller) (call : Call) → IsPermitted plan (history_of system plan.number) who call →
+    IsSoundShard plan (history_of system plan.number) → IsSoundShard plan (entry_for plan system who call ∷ history_of system plan.number)
+entry_sound plan system who call permitted sound = sound_after plan (history_of system plan.number) (entry_for plan system who call) refl permitted sound
 
 -- ---- served calls of a run
 
@@ -90,6 +64,10 @@ served_at plan system worker entered call found is few inside meets entering =
     (is_entered plan.number entered) meets
     (λ outside. (enter_meets plan (history_of system plan.number) worker few (inside ∙ outside), entering outside)))
 
+enters_inside : (plan : ShardPlan) (system : SystemState) (worker : ℕ) → is_inside worker (after_enter plan (history_of system plan.number) worker) ≡ true
+enters_inside plan system worker =
+    inside_enter worker plan.number (record { who = Worker worker; call = Enter plan.number; reply = Entered }) (history_of system plan.number) refl refl
+
 -- a lookup that the abstract state lets through
 pub lookup_served : (setting : Setting) (states : List (Option State)) (system : SystemState) (worker : ℕ) (entered : List ℕ) (shard : ℕ) (key : List ℕ) → IsSetting setting states →
     worker < setting.options.workers → is_inside worker (history_of system shard) ≡ is_entered shard entered → IsServedLookup (program_of setting) shard key →
@@ -102,28 +80,106 @@ lookup_served setting states system worker entered shard key good few inside ser
     in served_at is.plan system worker entered (Lookup shard key) (plan_at setting.maps setting.options shard) is.planned (omega (arith, few, facts.workers)) inside_at
     (λ into. (is.meets (history_of system is.plan.number) worker few (inside_at ∙ into), tt))
     (λ outside. (
-      is.meets (after_enter is.plan (history_of system is.plan.number) worker) worker few
-          (inside_enter worker is.plan.number (record { who = Worker worker; call = Enter is.plan.number; reply = Entered }) (history_of system is.plan.number) refl refl),
+      is.meets (after_enter is.plan (history_of system is.plan.number) worker) worker few (enters_inside is.plan system worker),
       tt,
     ))
 
--- a load that the abstract state lets through: its shard was entered
+-- an update or a deletion that the abstract state lets through
+pub delete_served : (setting : Setting) (states : List (Option State)) (system : SystemState) (worker : ℕ) (entered : List ℕ) (shard : ℕ) (key : List ℕ) → IsSetting setting states →
+    worker < setting.options.workers → is_inside worker (history_of system shard) ≡ is_entered shard entered → IsServedLookup (program_of setting) shard key →
+    IsServedCall (plan_at setting.maps setting.options shard) system worker entered (Delete shard key)
+delete_served setting states system worker entered shard key good few inside served =
+    let is = lookup_plan setting.maps setting.code setting.options shard key (some_shards setting.maps setting.options good.options) served
+    in let facts = plan_facts setting.maps setting.options shard is.plan is.planned
+    in let at : is.plan.number ≡ shard = facts.number
+    in let inside_at : is_inside worker (history_of system is.plan.number) ≡ is_entered is.plan.number entered = rw at inside
+    in served_at is.plan system worker entered (Delete shard key) (plan_at setting.maps setting.options shard) is.planned (omega (arith, few, facts.workers)) inside_at
+    (λ into. (delete_meets is.plan (history_of system is.plan.number) worker shard key (is.meets (history_of system is.plan.number) worker few (inside_at ∙ into)), tt))
+    (λ outside. (
+      delete_meets is.plan (after_enter is.plan (history_of system is.plan.number) worker) worker shard key
+          (is.meets (after_enter is.plan (history_of system is.plan.number) worker) worker few (enters_inside is.plan system worker)),
+      tt,
+    ))
+
+pub update_served : (setting : Setting) (states : List (Option State)) (system : SystemState) (worker : ℕ) (entered : List ℕ) (shard : ℕ) (key value : List ℕ) (flags : ℕ) → IsSetting setting states →
+    worker < setting.options.workers → is_inside worker (history_of system shard) ≡ is_entered shard entered → IsServedUpdate (program_of setting) shard key value flags →
+    IsServedCall (plan_at setting.maps setting.options shard) system worker entered (Update shard key value flags)
+update_served setting states system worker entered shard key value flags good few inside served =
+    let is = lookup_plan setting.maps setting.code setting.options shard key (some_shards setting.maps setting.options good.options) served.at
+    in let facts = plan_facts setting.maps setting.options shard is.plan is.planned
+    in let at : is.plan.number ≡ shard = facts.number
+    in let inside_at : is_inside worker (history_of system is.plan.number) ≡ is_entered is.plan.number entered = rw at inside
+    in let size : length value ≡ is.plan.definition.value_size = served.value_size ∙ sym (is.value_size ∙ ap value_size_of served.at.known)
+    in served_at is.plan system worker entered (Update shard key value flags) (plan_at setting.maps setting.options shard) is.planned (omega (arith, few, facts.workers)) inside_at
+    (λ into. (
+      update_meets is.plan (history_of system is.plan.number) worker shard key value flags (is.meets (history_of system is.plan.number) worker few (inside_at ∙ into))
+          size served.value_bytes served.small_flags,
+      tt,
+    ))
+    (λ outside. (
+      update_meets is.plan (after_enter is.plan (history_of system is.plan.number) worker) worker shard key value flags
+          (is.meets (after_enter is.plan (history_of system is.plan.number) worker) worker few (enters_inside is.plan system worker))
+          size served.value_bytes served.small_flags,
+      tt,
+    ))
+
+-- a call on a held cell that meets its condition is served: its shard was entered, and the cell is kept
+cell_served : (setting : Setting) (states : List (Option State)) (system : SystemState) (worker : ℕ) (entered : List ℕ) (map : ℕ) (cell : CellRef) (call : Call) → IsSetting setting states →
+    worker < setting.options.workers → is_inside worker (history_of system cell.shard) ≡ is_entered cell.shard entered →
+    (plan : ShardPlan) → plan_at setting.maps setting.options cell.shard ≡ Some plan → IsSoundShard plan (history_of system cell.shard) →
+    IsTrue (held_by setting system worker entered map cell.shard cell.id) →
+    (holds worker cell.id (history_of system plan.number) ≡ true → Meets plan (history_of system plan.number) (Worker worker) call) →
+    (IsTrue (is_kept plan (shard_after plan (history_of system plan.number)) cell.id) → IsOnKeptCell plan (history_of system plan.number) call) →
+    IsServedCall (plan_at setting.maps setting.options cell.shard) system worker entered call
+cell_served setting states system worker entered map cell call good few inside plan planned sound is_held meets on_kept =
+    let facts = plan_facts setting.maps setting.options cell.shard plan planned
+    in let at : plan.number ≡ cell.shard = facts.number
+    in let held = held_facts setting system worker entered map cell.shard cell.id is_held
+    in let inside_at : is_inside worker (history_of system plan.number) ≡ is_entered plan.number entered = rw at inside
+    in let sound_at : IsSoundShard plan (history_of system plan.number) = subst (λ number. IsSoundShard plan (history_of system number)) (sym at) sound
+    in let holds_at : holds worker cell.id (history_of system plan.number) ≡ true = subst (λ number. holds worker cell.id (history_of system number) ≡ true) (sym at) held.holds
+    in let most : setting.options.workers ≤ 8 = good.options.at_most_eight
+    in served_at plan system worker entered call (plan_at setting.maps setting.options cell.shard) planned (omega (arith, few, facts.workers)) inside_at
+    (λ into. (
+      meets holds_at,
+      on_kept (held_cell_is_kept plan (history_of system plan.number) worker cell.id (plan_in_equal_parts setting.maps setting.options cell.shard plan good.options planned)
+          (plan_has_parts setting.maps setting.options cell.shard plan good.options planned) (omega (arith, few, most)) sound_at holds_at),
+    ))
+    (λ outside. let entered_it : is_entered plan.number entered ≡ true = subst (λ number. is_entered number entered ≡ true) (sym at) held.was_entered in absurd cc)
+
+load_meets_held : (setting : Setting) (system : SystemState) (worker : ℕ) (entered : List ℕ) (cell : CellRef) (offset width : ℕ) → worker < setting.options.workers →
+    (plan : ShardPlan) → plan_at setting.maps setting.options cell.shard ≡ Some plan → IsServedLoad (program_of setting) (held_by setting system worker entered) cell offset width →
+    holds worker cell.id (history_of system plan.number) ≡ true → Meets plan (history_of system plan.number) (Worker worker) (Load cell offset width)
+load_meets_held setting system worker entered cell offset width few plan planned served holds_at =
+    load_meets setting.maps setting.code setting.options (held_by setting system worker entered) cell offset width plan (history_of system plan.number) worker
+    (λ map is. ((held_facts setting system worker entered map cell.shard cell.id is).of_map, holds_at)) served planned few
+
+-- loads, stores and atomic operations that the abstract state lets through
 pub load_served : (setting : Setting) (states : List (Option State)) (system : SystemState) (worker : ℕ) (entered : List ℕ) (cell : CellRef) (offset width : ℕ) → IsSetting setting states →
     worker < setting.options.workers → is_inside worker (history_of system cell.shard) ≡ is_entered cell.shard entered →
     (plan : ShardPlan) → plan_at setting.maps setting.options cell.shard ≡ Some plan → IsSoundShard plan (history_of system cell.shard) →
     IsServedLoad (program_of setting) (held_by setting system worker entered) cell offset width →
     IsServedCall (plan_at setting.maps setting.options cell.shard) system worker entered (Load cell offset width)
 load_served setting states system worker entered cell offset width good few inside plan planned sound served =
-    let facts = plan_facts setting.maps setting.options cell.shard plan planned
-    in let at : plan.number ≡ cell.shard = facts.number
-    in let held = held_facts setting system worker entered served.map cell.shard cell.id served.holds
-    in let inside_at : is_inside worker (history_of system plan.number) ≡ is_entered plan.number entered = rw at inside
-    in let sound_at : IsSoundShard plan (history_of system plan.number) = subst (λ number. IsSoundShard plan (history_of system number)) (sym at) sound
-    in let holds_at : holds worker cell.id (history_of system plan.number) ≡ true = subst (λ number. holds worker cell.id (history_of system number) ≡ true) (sym at) held.holds
-    in served_at plan system worker entered (Load cell offset width) (plan_at setting.maps setting.options cell.shard) planned (omega (arith, few, facts.workers)) inside_at
-    (λ into. (
-      load_meets setting.maps setting.code setting.options (held_by setting system worker entered) cell offset width plan (history_of system plan.number) worker
-          (λ map is. ((held_facts setting system worker entered map cell.shard cell.id is).of_map, holds_at)) served planned few,
-      held_is_kept plan (history_of system plan.number) worker cell.id (plan_of_array setting.maps setting.options cell.shard plan good.allowed planned) sound_at holds_at,
-    ))
-    (λ outside. let entered_it : is_entered plan.number entered ≡ true = subst (λ number. is_entered number entered ≡ true) (sym at) held.was_entered in absurd cc)
+    cell_served setting states system worker entered served.map cell (Load cell offset width) good few inside plan planned sound served.holds
+    (load_meets_held setting system worker entered cell offset width few plan planned served) (λ kept. kept)
+
+pub store_served : (setting : Setting) (states : List (Option State)) (system : SystemState) (worker : ℕ) (entered : List ℕ) (cell : CellRef) (offset width value : ℕ) → IsSetting setting states →
+    worker < setting.options.workers → is_inside worker (history_of system cell.shard) ≡ is_entered cell.shard entered →
+    (plan : ShardPlan) → plan_at setting.maps setting.options cell.shard ≡ Some plan → IsSoundShard plan (history_of system cell.shard) →
+    IsServedStore (program_of setting) (held_by setting system worker entered) cell offset width value →
+    IsServedCall (plan_at setting.maps setting.options cell.shard) system worker entered (Store cell offset width value)
+store_served setting states system worker entered cell offset width value good few inside plan planned sound served =
+    cell_served setting states system worker entered served.at.map cell (Store cell offset width value) good few inside plan planned sound served.at.holds
+    (λ holds_at. store_meets plan (history_of system plan.number) worker cell offset width value
+    (load_meets_held setting system worker entered cell offset width few plan planned served.at holds_at) served.fits) (λ kept. kept)
+
+pub atomic_served : (setting : Setting) (states : List (Option State)) (system : SystemState) (worker : ℕ) (entered : List ℕ) (cell : CellRef) (offset width op value expected : ℕ) → IsSetting setting states →
+    worker < setting.options.workers → is_inside worker (history_of system cell.shard) ≡ is_entered cell.shard entered →
+    (plan : ShardPlan) → plan_at setting.maps setting.options cell.shard ≡ Some plan → IsSoundShard plan (history_of system cell.shard) →
+    IsServedAtomic (program_of setting) (held_by setting system worker entered) cell offset width op value expected →
+    IsServedCall (plan_at setting.maps setting.options cell.shard) system worker entered (Atomic cell offset width op value expected)
+atomic_served setting states system worker entered cell offset width op value expected good few inside plan planned sound served =
+    cell_served setting states system worker entered served.map cell (Atomic cell offset width op value expected) good few inside plan planned sound served.holds
+    (λ holds_at. atomic_meets setting.maps setting.code setting.options (held_by setting system worker entered) cell offset width op value expected plan (history_of system plan.number) worker
+    (λ map is. ((held_facts setting system worker entered map cell.shard cell.id is).of_map, holds_at)) served planned few) (λ kept. kept)

@@ -1,164 +1,114 @@
--- A shard of an array stays sound: as many cells as at first, of bytes, and what a worker holds is one of them.
-use Rattle.std.proofs.Common.{◌≡◌, ℕ, ◌+◌, ◌*◌, ◌/◌, ◌%◌, ◌<◌, Bool, true, false, nat_lt, List, [], ◌∷◌, length, replicate, div-add-mod', Option, Some, None, All, IsTrue, if◌then◌else◌, refl, sym, ◌∙◌, ap, subst, arith}
-use Rattle.std.specs.Prelude.{slice_set}
-use Rattle.std.proofs.Math.Bool.{or-false}
-use Rattle.std.proofs.lemmas.Nat.{div_below}
-use Rattle.std.proofs.lemmas.Bool.Decides.{nat_tests}
-use Rattle.std.proofs.lemmas.List.{length-set, length-replicate}
-use Rattle.std.proofs.lemmas.List.Elements.{All-replicate, All-set}
+-- A shard stays sound: its history stays legal, and its cells stay of bytes, whatever its map's kind; so a held cell is kept.
+use Rattle.std.proofs.Common.{◌≡◌, ℕ, ◌+◌, ◌%◌, ◌<◌, ◌==◌, ◌&&◌, true, false, List, [], ◌∷◌, ◌++◌, length, take, drop, replicate, Option, Some, None, All, IsTrue, sym, subst, arith}
+use Rattle.std.proofs.lemmas.Bool.{and_parts}
+use Rattle.std.proofs.lemmas.List.Elements.{All-nil, All-replicate, All-set, All-append, All-push, All-take, All-drop, All-from_recursion}
+use Rattle.isa.specs.InstructionCodes.{atomic_op_of}
 use Rattle.ebpf_decode.specs.declared.map.MapKind.{MapKind}
-use Rattle.ebpf_decode.specs.declared.map.MapKind.TheVariants.{Array}
+use Rattle.ebpf_decode.specs.declared.map.MapKind.TheVariants.{Array, Hash, LruHash}
+use Rattle.wire.specs.FrameView.{overwritten_at}
 use Rattle.semantics.specs.declared.plan.ShardPlan.{ShardPlan}
+use Rattle.semantics.specs.declared.call.Caller.{Caller}
 use Rattle.semantics.specs.declared.call.Call.{Call}
 use Rattle.semantics.specs.declared.call.Call.TheVariants.{Enter, Leave, Lookup, Load, Store, Atomic, Update, Delete, Reclaim}
-use Rattle.semantics.specs.declared.call.Reply.{Reply}
 use Rattle.semantics.specs.declared.call.Entry.{Entry}
-use Rattle.semantics.specs.declared.linux.UpdateFlags.{UpdateFlags}
-use Rattle.semantics.specs.declared.linux.UpdateFlags.TheVariants.{Any, NoExist, Exist}
-use Rattle.semantics.specs.Linux.{update_flags_of}
-use Rattle.semantics.specs.LittleEndian.{number_of_bytes}
+use Rattle.semantics.specs.LittleEndian.{bytes_of_number}
 use Rattle.semantics.specs.ShardPlan.{capacity}
-use Rattle.semantics.specs.Reclamation.{is_worker, found_cell, held_by, holds}
-use Rattle.semantics.specs.SequentialShard.{SequentialShard, opening_cells, cell_of_kind, cell_of_key, with_value, updated_where, update_answer_by, delete_answer_of_kind, without_found, present_key, shard_after_call, shard_after, lookup_reply, reply_of, is_kept, is_kept_of_kind}
+use Rattle.semantics.specs.Reclamation.{holds}
+use Rattle.semantics.specs.History.{shard_of_call, may_change_keys, is_own_key, is_value, are_flags, are_bytes, Meets, journal_is_full, meets_part}
+use Rattle.semantics.specs.SequentialShard.{SequentialShard, opening_cells, cell_bytes, cell_of_key, number_in_cell, with_number_in_cell, changed_by, after_eviction, with_value, update_answer, delete_answer, without_found, present_key, shard_after_call, shard_after, reply_of, is_kept}
+use Rattle.semantics.proofs.ConditionLemmas.{tested_bytes}
+use Rattle.semantics.proofs.KeptLemmas.{held_is_kept}
+use Rattle.semantics.proofs.LawLemmas.{updated_where-keeps, same_cells_without, same_cells_evicted}
+use Rattle.abstract_state.proofs.shared.ByteNumbers.{bytes_small}
 use Rattle.verifier.proofs.SystemInvariant.{IsSoundShard}
+use Rattle.verifier.proofs.ReplyLemmas.{AreAllBytes, cell_all}
 
 abbrev pub AreAllCellsBytes : List (List ℕ) → Type 0
 AreAllCellsBytes cells = All (All (λ byte. byte < 256)) cells
 
--- ---- the opening shard: of zeros, as many as the plan's indices
+-- ---- the opening shard
 
-opening_bytes : (kind : MapKind) (plan : ShardPlan) → kind ≡ Array → AreAllCellsBytes (opening_cells kind plan)
-opening_bytes kind plan array =
-    rw array (All-replicate (All (λ byte. byte < 256)) (capacity plan) (replicate plan.definition.value_size 0)
-    (All-replicate (λ byte. byte < 256) plan.definition.value_size 0 (omega arith)))
+opening_bytes : (kind : MapKind) (plan : ShardPlan) → AreAllCellsBytes (opening_cells kind plan)
+opening_bytes Array plan =
+    All-replicate (All (λ byte. byte < 256)) (capacity plan) (replicate plan.definition.value_size 0)
+    (All-replicate (λ byte. byte < 256) plan.definition.value_size 0 (omega arith))
+opening_bytes Hash plan = All-nil (All (λ byte. byte < 256))
+opening_bytes LruHash plan = All-nil (All (λ byte. byte < 256))
 
-opening_count : (kind : MapKind) (plan : ShardPlan) → kind ≡ Array → length (opening_cells kind plan) ≡ plan.definition.max_entries / plan.parts
-opening_count kind plan array = rw array (length-replicate (capacity plan) (replicate plan.definition.value_size 0))
+pub sound_at_start : (plan : ShardPlan) → IsSoundShard plan []
+sound_at_start plan = record { legal = tt; bytes = opening_bytes plan.definition.kind plan }
 
-pub sound_at_start : (plan : ShardPlan) → plan.definition.kind ≡ Array → IsSoundShard plan []
-sound_at_start plan array = record {
-  bytes = opening_bytes plan.definition.kind plan array;
-  held = λ worker cell none. absurd cc;
-  count = refl;
+-- ---- what a call leaves
+
+-- the values that a call brings are bytes
+abbrev pub BringsBytes : Call → Type 0
+BringsBytes (Update shard key value flags) = AreAllBytes value
+BringsBytes call = Unit {0}
+
+number_bytes : (shard : SequentialShard) (cell offset width value : ℕ) → AreAllCellsBytes shard.cells → AreAllCellsBytes (with_number_in_cell shard cell offset width value).cells
+number_bytes shard cell offset width value all =
+    let before : AreAllBytes (cell_bytes shard cell) = cell_all shard.cells cell all
+    in let new : AreAllBytes (bytes_of_number width value) = All-from_recursion (λ byte. byte < 256) (bytes_of_number width value) (bytes_small width value)
+    in let after : ℕ = offset + length (bytes_of_number width value)
+    in All-set (All (λ byte. byte < 256)) shard.cells cell (overwritten_at offset (bytes_of_number width value) (cell_bytes shard cell))
+    (All-append (λ byte. byte < 256) (take offset (cell_bytes shard cell) ++ bytes_of_number width value) (drop after (cell_bytes shard cell))
+    (All-append (λ byte. byte < 256) (take offset (cell_bytes shard cell)) (bytes_of_number width value) (All-take (λ byte. byte < 256) offset (cell_bytes shard cell) before) new)
+    (All-drop (λ byte. byte < 256) after (cell_bytes shard cell) before))
+    all
+
+value_bytes : (plan : ShardPlan) (h : List Entry) (shard : SequentialShard) (key value : List ℕ) (cell : Option ℕ) → AreAllBytes value → AreAllCellsBytes shard.cells →
+    AreAllCellsBytes (with_value plan h shard key value cell).cells
+value_bytes plan h shard key value (Some cell) brings all = All-set (All (λ byte. byte < 256)) shard.cells cell value brings all
+value_bytes plan h shard key value None brings all =
+    All-push (All (λ byte. byte < 256)) (after_eviction plan h shard).cells value (subst AreAllCellsBytes (sym (same_cells_evicted plan h shard)) all) brings
+
+cells_after : (plan : ShardPlan) (h : List Entry) (shard : SequentialShard) (call : Call) → BringsBytes call → AreAllCellsBytes shard.cells →
+    AreAllCellsBytes (shard_after_call plan h shard call).cells
+cells_after plan h shard (Enter number) brings all = all
+cells_after plan h shard (Leave number) brings all = all
+cells_after plan h shard (Lookup number key) brings all = all
+cells_after plan h shard (Load cell offset width) brings all = all
+cells_after plan h shard (Store cell offset width value) brings all = number_bytes shard cell.id offset width value all
+cells_after plan h shard (Atomic cell offset width op value expected) brings all =
+    number_bytes shard cell.id offset width (changed_by (atomic_op_of op) width (number_in_cell shard cell.id offset width) value expected) all
+cells_after plan h shard (Update number key value flags) brings all =
+    updated_where-keeps (λ one. AreAllCellsBytes one.cells) (update_answer plan shard key flags) (with_value plan h shard key value (cell_of_key plan shard key)) shard
+    (value_bytes plan h shard key value (cell_of_key plan shard key) brings all) all
+cells_after plan h shard (Delete number key) brings all =
+    updated_where-keeps (λ one. AreAllCellsBytes one.cells) (delete_answer plan shard key) (without_found shard (length h) (present_key shard key)) shard
+    (subst AreAllCellsBytes (sym (same_cells_without shard (length h) (present_key shard key))) all) all
+cells_after plan h shard (Reclaim number) brings all = all
+
+-- ---- calls that are made
+
+-- a call that its caller may make, with room in the journal
+pub record IsPermitted (plan : ShardPlan) (h : List Entry) (who : Caller) (call : Call) : Type 0 where
+  pub met : Meets plan h who call
+  pub room : journal_is_full plan h call ≡ false
+
+brings_bytes : (plan : ShardPlan) (h : List Entry) (who : Caller) (call : Call) → IsTrue (meets_part plan h who call) → BringsBytes call
+brings_bytes plan h who (Update shard key value flags) may =
+    let parts = and_parts (may_change_keys plan h who && is_own_key plan key) (is_value plan value && are_flags flags) may
+    in let of_value = and_parts (is_value plan value) (are_flags flags) parts.1
+    in tested_bytes value (and_parts (length value == plan.definition.value_size) (are_bytes value) of_value.0).1
+brings_bytes plan h who (Enter shard) may = tt
+brings_bytes plan h who (Leave shard) may = tt
+brings_bytes plan h who (Lookup shard key) may = tt
+brings_bytes plan h who (Load cell offset width) may = tt
+brings_bytes plan h who (Store cell offset width value) may = tt
+brings_bytes plan h who (Atomic cell offset width op value expected) may = tt
+brings_bytes plan h who (Delete shard key) may = tt
+brings_bytes plan h who (Reclaim shard) may = tt
+
+pub sound_after : (plan : ShardPlan) (h : List Entry) (entry : Entry) → entry.reply ≡ reply_of plan h (shard_after plan h) entry.call →
+    IsPermitted plan h entry.who entry.call → IsSoundShard plan h → IsSoundShard plan (entry ∷ h)
+sound_after plan h entry replied permitted sound = record {
+  legal = (record { step = record { met = permitted.met; replied = replied }; room = permitted.room }, sound.legal);
+  bytes = cells_after plan h (shard_after plan h) entry.call
+      (brings_bytes plan h entry.who entry.call (and_parts (shard_of_call entry.call == plan.number) (meets_part plan h entry.who entry.call) permitted.met).1) sound.bytes;
 }
-
--- a sound shard has a cell for each of the plan's indices
-pub cell_count : (plan : ShardPlan) (h : List Entry) → plan.definition.kind ≡ Array → IsSoundShard plan h →
-    length (shard_after plan h).cells ≡ plan.definition.max_entries / plan.parts
-cell_count plan h array sound = sound.count ∙ opening_count plan.definition.kind plan array
-
--- ---- what an entry leaves
-
--- the calls that an array serves without a store: of a value only its bytes matter
-abbrev pub IsPlainCall : Call → Type 0
-IsPlainCall (Store cell offset width value) = ⊥
-IsPlainCall (Atomic cell offset width op value expected) = ⊥
-IsPlainCall (Update shard key value flags) = All (λ byte. byte < 256) value
-IsPlainCall call = Unit {0}
-
--- the cells are as many as before, of bytes
-pub record AreCellsKept (before after : List (List ℕ)) : Type 0 where
-  pub count : length after ≡ length before
-  pub bytes : AreAllCellsBytes before → AreAllCellsBytes after
-
-same_cells : (cells : List (List ℕ)) → AreCellsKept cells cells
-same_cells cells = record { count = refl; bytes = λ all. all }
-
-value_kept : (cells : List (List ℕ)) (cell : ℕ) (value : List ℕ) → All (λ byte. byte < 256) value → AreCellsKept cells (slice_set cells cell value)
-value_kept cells cell value all = record {
-  count = length-set cells cell value;
-  bytes = λ before. All-set (All (λ byte. byte < 256)) cells cell value all before;
-}
-
-array_update : (plan : ShardPlan) (h : List Entry) (shard : SequentialShard) (key value : List ℕ) (flags : Option UpdateFlags) (cell : Option ℕ) → All (λ byte. byte < 256) value →
-    AreCellsKept shard.cells (updated_where (update_answer_by Array plan shard flags cell) (with_value plan h shard key value cell) shard).cells
-array_update plan h shard key value None cell all = same_cells shard.cells
-array_update plan h shard key value (Some flags) None all = same_cells shard.cells
-array_update plan h shard key value (Some NoExist) (Some cell) all = same_cells shard.cells
-array_update plan h shard key value (Some Any) (Some cell) all = value_kept shard.cells cell value all
-array_update plan h shard key value (Some Exist) (Some cell) all = value_kept shard.cells cell value all
-
-cells_after : (plan : ShardPlan) (h : List Entry) (shard : SequentialShard) (call : Call) → plan.definition.kind ≡ Array → IsPlainCall call →
-    AreCellsKept shard.cells (shard_after_call plan h shard call).cells
-cells_after plan h shard (Enter number) array plain = same_cells shard.cells
-cells_after plan h shard (Leave number) array plain = same_cells shard.cells
-cells_after plan h shard (Lookup number key) array plain = same_cells shard.cells
-cells_after plan h shard (Load cell offset width) array plain = same_cells shard.cells
-cells_after plan h shard (Store cell offset width value) array plain = absurd plain
-cells_after plan h shard (Atomic cell offset width op value expected) array plain = absurd plain
-cells_after plan h shard (Update number key value flags) array plain =
-    subst (λ kind. AreCellsKept shard.cells (updated_where (update_answer_by kind plan shard (update_flags_of flags) (cell_of_key plan shard key)) (with_value plan h shard key value (cell_of_key plan shard key)) shard).cells)
-    (sym array) (array_update plan h shard key value (update_flags_of flags) (cell_of_key plan shard key) plain)
-cells_after plan h shard (Delete number key) array plain =
-    subst (λ kind. AreCellsKept shard.cells (updated_where (delete_answer_of_kind kind (cell_of_key plan shard key)) (without_found shard (length h) (present_key shard key)) shard).cells)
-    (sym array) (same_cells shard.cells)
-cells_after plan h shard (Reclaim number) array plain = same_cells shard.cells
-
--- ---- what is held is a cell of the shard
-
--- an index below the most entries has a cell below the parts' share
-index_cell : (plan : ShardPlan) (index cell : ℕ) (within : Bool) → nat_lt index plan.definition.max_entries ≡ within → plan.definition.max_entries % plan.parts ≡ 0 → 0 < plan.parts →
-    (if within then Some (index / plan.parts) else None) ≡ Some cell → cell < plan.definition.max_entries / plan.parts
-index_cell plan index cell true is equal some found =
-    let below : index < plan.definition.max_entries = grind (arith, nat_tests)
-    in let whole : plan.definition.max_entries / plan.parts * plan.parts + plan.definition.max_entries % plan.parts ≡ plan.definition.max_entries = div-add-mod' plan.definition.max_entries plan.parts
-    in let same : index / plan.parts ≡ cell = cc
-    in let here : index / plan.parts < plan.definition.max_entries / plan.parts = div_below index plan.parts (plan.definition.max_entries / plan.parts) some (omega (arith, below, whole, equal))
-    in omega (arith, same, here)
-index_cell plan index cell false is equal some found = absurd cc
-
-key_cell : (plan : ShardPlan) (shard : SequentialShard) (key : List ℕ) (cell : ℕ) (kind : MapKind) → kind ≡ Array → plan.definition.max_entries % plan.parts ≡ 0 → 0 < plan.parts →
-    cell_of_kind kind plan shard key ≡ Some cell → cell < plan.definition.max_entries / plan.parts
-key_cell plan shard key cell kind array equal some found =
-    index_cell plan (number_of_bytes key) cell (nat_lt (number_of_bytes key) plan.definition.max_entries) refl equal some
-    (sym (ap (λ one. cell_of_kind one plan shard key) array) ∙ found)
-
-reply_cell : (plan : ShardPlan) (found : Option ℕ) (cell : ℕ) → found_cell (lookup_reply plan found) cell ≡ true → found ≡ Some cell
-reply_cell plan None cell finds = absurd cc
-reply_cell plan (Some id) cell finds = let same : id ≡ cell = grind (arith, nat_tests) in ap Some same
-
-held_after_own : (plan : ShardPlan) (h : List Entry) (shard : SequentialShard) (call : Call) (reply : Reply) (cell : ℕ) (before : Bool) →
-    plan.definition.kind ≡ Array → plan.definition.max_entries % plan.parts ≡ 0 → 0 < plan.parts →
-    reply ≡ reply_of plan h shard call → (before ≡ true → cell < plan.definition.max_entries / plan.parts) →
-    held_by call reply cell before ≡ true → cell < plan.definition.max_entries / plan.parts
-held_after_own plan h shard (Enter number) reply cell before array equal some replied earlier held = absurd cc
-held_after_own plan h shard (Leave number) reply cell before array equal some replied earlier held = absurd cc
-held_after_own plan h shard (Lookup number key) reply cell true array equal some replied earlier held = earlier refl
-held_after_own plan h shard (Lookup number key) reply cell false array equal some replied earlier held =
-    key_cell plan shard key cell plan.definition.kind array equal some
-    (reply_cell plan (cell_of_key plan shard key) cell (sym (ap (λ one. found_cell one cell) replied) ∙ (sym (or-false (found_cell reply cell)) ∙ held)))
-held_after_own plan h shard call reply cell before array equal some replied earlier held = earlier held
-
-held_after : (plan : ShardPlan) (h : List Entry) (shard : SequentialShard) (entry : Entry) (cell : ℕ) (before own : Bool) →
-    plan.definition.kind ≡ Array → plan.definition.max_entries % plan.parts ≡ 0 → 0 < plan.parts →
-    entry.reply ≡ reply_of plan h shard entry.call → (before ≡ true → cell < plan.definition.max_entries / plan.parts) →
-    (if own then held_by entry.call entry.reply cell before else before) ≡ true → cell < plan.definition.max_entries / plan.parts
-held_after plan h shard entry cell before true array equal some replied earlier held =
-    held_after_own plan h shard entry.call entry.reply cell before array equal some replied earlier held
-held_after plan h shard entry cell before false array equal some replied earlier held = earlier held
-
--- ---- so it stays sound
-
-pub sound_after : (plan : ShardPlan) (h : List Entry) (entry : Entry) → plan.definition.kind ≡ Array → plan.definition.max_entries % plan.parts ≡ 0 → 0 < plan.parts →
-    entry.reply ≡ reply_of plan h (shard_after plan h) entry.call → IsPlainCall entry.call → IsSoundShard plan h → IsSoundShard plan (entry ∷ h)
-sound_after plan h entry array equal some replied plain sound =
-    let kept : AreCellsKept (shard_after plan h).cells (shard_after plan (entry ∷ h)).cells = cells_after plan h (shard_after plan h) entry.call array plain
-    in let share : length (shard_after plan h).cells ≡ plan.definition.max_entries / plan.parts = cell_count plan h array sound
-    in record {
-      bytes = kept.bytes sound.bytes;
-      held = λ worker cell now_held.
-          let below : cell < plan.definition.max_entries / plan.parts =
-          held_after plan h (shard_after plan h) entry cell (holds worker cell h) (is_worker worker entry.who) array equal some replied
-          (λ before. let earlier : cell < length (shard_after plan h).cells = sound.held worker cell before in omega (arith, share, earlier)) now_held
-          in let same : length (shard_after plan (entry ∷ h)).cells ≡ length (shard_after plan h).cells = kept.count
-          in omega (arith, below, same, share);
-      count = kept.count ∙ sound.count;
-    }
 
 -- a held cell is not freed
-pub held_is_kept : (plan : ShardPlan) (h : List Entry) (worker cell : ℕ) → plan.definition.kind ≡ Array → IsSoundShard plan h → holds worker cell h ≡ true →
-    IsTrue (is_kept plan (shard_after plan h) cell)
-held_is_kept plan h worker cell array sound held =
-    let below : cell < length (shard_after plan h).cells = sound.held worker cell held
-    in let there : nat_lt cell (length (shard_after plan h).cells) ≡ true = grind (arith, nat_tests)
-    in ap (λ kind. is_kept_of_kind kind (shard_after plan h) cell) array ∙ there
+pub held_cell_is_kept : (plan : ShardPlan) (h : List Entry) (worker cell : ℕ) → plan.definition.max_entries % plan.parts ≡ 0 → 0 < plan.parts → worker < 8 →
+    IsSoundShard plan h → holds worker cell h ≡ true → IsTrue (is_kept plan (shard_after plan h) cell)
+held_cell_is_kept plan h worker cell equal some few sound held = held_is_kept plan h worker cell equal some few sound.legal held

@@ -3,11 +3,11 @@
 use Rattle.std.proofs.Common.{◌≡◌, ℕ, ◌*◌, ◌<◌, ◌≤◌, true, List, [], length, Option, Some}
 use Rattle.std.specs.Prelude.{All}
 use Rattle.std.specs.List.{AllByRecursion}
-use Rattle.ebpf_decode.specs.Served.{is_served_map}
 use Rattle.ebpf_decode.specs.InstructionEncoding.{total_slots, FieldsFit}
 use Rattle.semantics.specs.declared.call.Entry.{Entry}
 use Rattle.semantics.specs.MachineState.{MachineState}
-use Rattle.semantics.specs.Reclamation.{is_inside, holds}
+use Rattle.semantics.specs.History.{IsLegalHistory}
+use Rattle.semantics.specs.Reclamation.{is_inside}
 use Rattle.semantics.specs.declared.plan.ShardPlan.{ShardPlan}
 use Rattle.semantics.specs.ShardPlan.{plan_at, AreOptions}
 use Rattle.semantics.specs.SequentialShard.{shard_after}
@@ -32,16 +32,14 @@ IsSoundWorker setting states system worker Idle = Unit {0}
 IsSoundWorker setting states system worker (Runs state entered) = IsSoundRun setting states system worker state entered
 IsSoundWorker setting states system worker (Leaves entered) = Unit {0}
 
--- a shard of an array: its cells are as many as at first, their bytes are bytes, and what a worker holds is one of them
+-- a shard of any kind: its history is legal, and its cells are of bytes
 pub record IsSoundShard (plan : ShardPlan) (history : List Entry) : Type 0 where
+  pub legal : IsLegalHistory plan history
   pub bytes : All (All (λ byte. byte < 256)) (shard_after plan history).cells
-  pub held : (worker cell : ℕ) → holds worker cell history ≡ true → cell < length (shard_after plan history).cells
-  pub count : length (shard_after plan history).cells ≡ length (shard_after plan []).cells
 
--- what a setting is: an accepted program over maps that images may have, and options that fit them
+-- what a setting is: an accepted program over maps, and options that fit them
 pub record IsSetting (setting : Setting) (states : List (Option State)) : Type 0 where
   pub options : AreOptions setting.maps setting.options
-  pub allowed : All (λ map. is_served_map map ≡ true) setting.maps
   pub accepted : Accepts setting.maps setting.code states
   pub some_code : 0 < total_slots setting.code
   pub fits : AllByRecursion FieldsFit setting.code

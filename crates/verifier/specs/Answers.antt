@@ -2,7 +2,8 @@
 use Rattle.std.specs.Prelude.{◌≡◌, ◌≢◌, ℕ, ◌<◌, List, Option, Some, None, IsSome}
 use Rattle.ebpf_decode.specs.declared.insn.Insn.{Insn}
 use Rattle.ebpf_decode.specs.declared.map.MapDef.{MapDef}
-use Rattle.ebpf_decode.specs.Served.{AreServedParts}
+use Rattle.ebpf_decode.specs.declared.version.Version.{Version}
+use Rattle.ebpf_decode.specs.ImageContents.{IsEncodable}
 use Rattle.ebpf_decode.specs.Jumps.{jump_distance}
 use Rattle.semantics.specs.Program.{instruction_at}
 use Rattle.semantics.specs.Safety.{IsSafeImage}
@@ -38,7 +39,8 @@ EachInstructionHasState =
     (maps : List MapDef) (code : List Insn) (states : List (Option State)) (slot : ℕ) (insn : Insn) → Accepts maps code states →
     instruction_at code slot ≡ Some insn → IsSome (known_at states slot)
 
--- a program of an image that some entry states let through is safe
+-- a program of an image, of any version and over maps of any kind, that some entry states let through is safe
 abbrev pub AcceptedIsSafe : Type 0
 AcceptedIsSafe =
-    (maps : List MapDef) (code : List Insn) (states : List (Option State)) → AreServedParts maps code → Accepts maps code states → IsSafeImage maps code
+    (version : Version) (maps : List MapDef) (code : List Insn) (states : List (Option State)) → IsEncodable version maps code → Accepts maps code states →
+    IsSafeImage maps code

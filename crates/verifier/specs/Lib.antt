@@ -4,6 +4,8 @@ pub mod Readers
 pub mod Coverage
 pub mod Verified
 pub mod Resolving
+pub mod Flat
 pub mod Pending
 pub mod Stops
 pub mod Answers
+pub mod Runnable

@@ -3,13 +3,16 @@
 
 mod advance;
 pub mod laws;
+mod op;
 mod pass;
 mod pending;
 mod reader;
 mod reject;
 pub mod resolved;
+mod runnable;
 mod verified;
 
+pub use op::Op;
 pub use reject::Reject;
 pub use resolved::{Memory, Resolved};
 pub use verified::{Verified, verify};

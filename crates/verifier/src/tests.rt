@@ -1,11 +1,11 @@
 //! Programs that are accepted, and programs with their first reject, worked out by hand.
 
-ghost use Rattle.std.specs.Prelude.{IfOk};
-ghost use Rattle.ebpf_decode.specs.Served.{IsServedImage};
+ghost use Rattle.std.specs.Prelude.{◌≡◌, IfOk};
+ghost use Rattle.ebpf_decode.specs.declared.version.Version.TheVariants.{V1};
 
 use super::*;
 use ebpf_decode::{Image, Insn, MapDef, MapKind, Version};
-use isa::{AluOp, Register, Size, Source, Test, Width};
+use isa::{AluOp, AtomicOp, Register, Size, Source, Test, Width};
 use std::alloc::Global;
 use std::test::Fail;
 
@@ -306,8 +306,108 @@ const CROOKED: Insn = Insn::St {
     immediate: 0,
 };
 
+// Helpers that change a map or move the packet's start, and what they take.
+const CHANGED_VALUE: Insn = Insn::St {
+    size: Size::U64,
+    dst: Register::R10,
+    offset: -16,
+    immediate: 2,
+};
+
+const VALUE_AT: Insn = Insn::Alu {
+    width: Width::Bits64,
+    op: AluOp::Mov,
+    dst: Register::R3,
+    source: Source::Reg(Register::R10),
+};
+
+const VALUE_DOWN: Insn = Insn::Alu {
+    width: Width::Bits64,
+    op: AluOp::Add,
+    dst: Register::R3,
+    source: Source::Imm(-16),
+};
+
+const FLAGS: Insn = Insn::Alu {
+    width: Width::Bits64,
+    op: AluOp::Mov,
+    dst: Register::R4,
+    source: Source::Imm(0),
+};
+
+const UPDATE: Insn = Insn::CallHelper { helper: 2 };
+
+const DELETE: Insn = Insn::CallHelper { helper: 3 };
+
+const ONE: Insn = Insn::Alu {
+    width: Width::Bits64,
+    op: AluOp::Mov,
+    dst: Register::R1,
+    source: Source::Imm(1),
+};
+
+const JEQ_NULL_3: Insn = Insn::JumpIf {
+    width: Width::Bits64,
+    test: Test::Eq,
+    dst: Register::R0,
+    source: Source::Imm(0),
+    distance: 3,
+};
+
+const FETCH_ADD: Insn = Insn::AtomicUpdate {
+    width: Width::Bits64,
+    op: AtomicOp::FetchAdd,
+    dst: Register::R0,
+    src: Register::R1,
+    offset: 0,
+};
+
+const STORE_VALUE: Insn = Insn::St {
+    size: Size::U64,
+    dst: Register::R0,
+    offset: 0,
+    immediate: 5,
+};
+
+const STORE_PAST: Insn = Insn::St {
+    size: Size::U64,
+    dst: Register::R0,
+    offset: 8,
+    immediate: 5,
+};
+
+const COUNT: Insn = Insn::Ldx {
+    size: Size::U64,
+    dst: Register::R0,
+    src: Register::R0,
+    offset: 0,
+};
+
+const BACK_20: Insn = Insn::Alu {
+    width: Width::Bits64,
+    op: AluOp::Mov,
+    dst: Register::R2,
+    source: Source::Imm(-20),
+};
+
+const MOVE_HEAD: Insn = Insn::CallHelper { helper: 44 };
+
+const KEPT_START: Insn = Insn::Ldx {
+    size: Size::U32,
+    dst: Register::R6,
+    src: Register::R1,
+    offset: 0,
+};
+
+const THROUGH_KEPT: Insn = Insn::Ldx {
+    size: Size::U8,
+    dst: Register::R0,
+    src: Register::R6,
+    offset: 0,
+};
+
 #[rattlefmt::skip]
-const ACCEPTED: [(&str, &[Insn], bool); 12] = [
+const ACCEPTED: [(&str, &[Insn], bool); 16] = [
     ("a verdict alone",                           &[PASS, EXIT], true),
     ("the byte that a test covers",               &[START, END, PLACE, ADD_14, PASS, JGT_1, BYTE_13, EXIT], true),
     ("one byte more by a strict test",            &[START, END, PLACE, ADD_14, PASS, JGE_1, BYTE_14, EXIT], true),
@@ -320,10 +420,26 @@ const ACCEPTED: [(&str, &[Insn], bool); 12] = [
     ("the time",                                  &[TIME, EXIT], true),
     ("the worker's number is no reader's",        &[WORKER, EXIT], false),
     ("nor is that of the receive queue",          &[QUEUE, EXIT], false),
+    ("an update and an atomic count",             &[KEY, CHANGED_VALUE, KEY_AT, KEY_DOWN, VALUE_AT, VALUE_DOWN, FLAGS, MAP, UPDATE, KEY_AT, KEY_DOWN, MAP, LOOKUP, JEQ_NULL_3, ONE, FETCH_ADD, COUNT, EXIT], false),
+    ("a store to a value",                        &[KEY, KEY_AT, KEY_DOWN, MAP, LOOKUP, JEQ_NULL, STORE_VALUE, PASS, EXIT], false),
+    ("a deletion",                                &[KEY, KEY_AT, KEY_DOWN, MAP, DELETE, EXIT], false),
+    ("a moved head only reads",                   &[BACK_20, MOVE_HEAD, PASS, EXIT], true),
+];
+
+/// The first instruction of an accepted program that this build does not execute.
+#[rattlefmt::skip]
+const UNRUN: [(&str, &[Insn], Option<Reject>); 7] = [
+    ("a lookup and a load are executed",  &[KEY, KEY_AT, KEY_DOWN, MAP, LOOKUP, JEQ_NULL, VALUE, PASS, EXIT], None),
+    ("the time and the worker",           &[TIME, WORKER, EXIT], None),
+    ("no update",                         &[KEY, CHANGED_VALUE, KEY_AT, KEY_DOWN, VALUE_AT, VALUE_DOWN, FLAGS, MAP, UPDATE, PASS, EXIT], Some(Reject::UnknownHelper { slot: 9 })),
+    ("no deletion",                       &[KEY, KEY_AT, KEY_DOWN, MAP, DELETE, EXIT], Some(Reject::UnknownHelper { slot: 5 })),
+    ("no moved head",                     &[BACK_20, MOVE_HEAD, PASS, EXIT], Some(Reject::UnknownHelper { slot: 1 })),
+    ("no store to a value",               &[KEY, KEY_AT, KEY_DOWN, MAP, LOOKUP, JEQ_NULL, STORE_VALUE, PASS, EXIT], Some(Reject::WrongKind { slot: 7, register: 0 })),
+    ("no atomic operation",               &[KEY, KEY_AT, KEY_DOWN, MAP, LOOKUP, JEQ_NULL_3, ONE, FETCH_ADD, COUNT, EXIT], Some(Reject::WrongKind { slot: 8, register: 0 })),
 ];
 
 #[rattlefmt::skip]
-const REFUSED: [(&str, &[Insn], Reject); 25] = [
+const REFUSED: [(&str, &[Insn], Reject); 28] = [
     ("no verdict",                          &[EXIT], Reject::UnsetRegister { slot: 0, register: 0 }),
     ("a packet byte without a test",        &[START, BYTE_0, EXIT], Reject::PacketBounds { slot: 1 }),
     ("past what the test covers",           &[START, END, PLACE, ADD_14, PASS, JGT_1, BYTE_14, EXIT], Reject::PacketBounds { slot: 6 }),
@@ -349,17 +465,27 @@ const REFUSED: [(&str, &[Insn], Reject); 25] = [
     ("the last instruction is no exit",     &[PASS], Reject::FallsOff { slot: 0 }),
     ("structure goes before kinds",         &[BYTE_0, JA_BACK, EXIT], Reject::JumpBackward { slot: 1 }),
     ("the first of two broken rules",       &[OVER_R10, CALL_99, EXIT], Reject::ReadOnlyFp { slot: 0 }),
+    ("a packet pointer over a moved head",  &[KEPT_START, BACK_20, MOVE_HEAD, THROUGH_KEPT, EXIT], Reject::UnsetRegister { slot: 3, register: 6 }),
+    ("a store past a value",                &[KEY, KEY_AT, KEY_DOWN, MAP, LOOKUP, JEQ_NULL, STORE_PAST, PASS, EXIT], Reject::ValueBounds { slot: 7 }),
+    ("an update of unset bytes",            &[KEY, KEY_AT, KEY_DOWN, VALUE_AT, VALUE_DOWN, FLAGS, MAP, UPDATE, PASS, EXIT], Reject::StackUnset { slot: 8 }),
 ];
 
 /// An image of this program with one map.
 fn image_of(alloc: Global, code: &[Insn]) -> Result<Image, Fail>
-    ensures { IfOk result IsServedImage }
+    ensures { IfOk result (λ image. image.version ≡ V1) }
 {
-    let mut maps = Vec::new(alloc);
-    maps.extend_from_slice(&MAPS)?;
+    image_over(alloc, &MAPS, code)
+}
+
+/// An image of this program with these maps.
+fn image_over(alloc: Global, maps: &[MapDef], code: &[Insn]) -> Result<Image, Fail>
+    ensures { IfOk result (λ image. image.version ≡ V1) }
+{
+    let mut all_maps = Vec::new(alloc);
+    all_maps.extend_from_slice(maps)?;
     let mut all = Vec::new(alloc);
     all.extend_from_slice(code)?;
-    Ok(Image::of(Version::V1, maps, all)?.served()?)
+    Ok(Image::of(Version::V1, all_maps, all)?)
 }
 
 #[test]
@@ -370,6 +496,64 @@ fn accepted(rt: HostRuntime) -> Result<(), Fail> {
                 assert_eq!(rt; verified.is_reader(), reads, "{name}");
                 assert_eq!(rt; verified.image().code().len(), code.len(), "{name}");
             }
+            Err(reject) => assert!(rt; false, "{name}: {reject}"),
+        }
+    }
+    Ok(())
+}
+
+/// Maps of every kind are accepted; keys have the map's size.
+#[test]
+fn maps_of_every_kind(rt: HostRuntime) -> Result<(), Fail> {
+    const COUNTED: [Insn; 18] = [
+        KEY,
+        CHANGED_VALUE,
+        KEY_AT,
+        KEY_DOWN,
+        VALUE_AT,
+        VALUE_DOWN,
+        FLAGS,
+        MAP,
+        UPDATE,
+        KEY_AT,
+        KEY_DOWN,
+        MAP,
+        LOOKUP,
+        JEQ_NULL_3,
+        ONE,
+        FETCH_ADD,
+        COUNT,
+        EXIT,
+    ];
+    #[rattlefmt::skip]
+    const ROWS: [(&str, MapKind, u32, Option<Reject>); 5] = [
+        ("an array",             MapKind::Array,   4, None),
+        ("a hash map",           MapKind::Hash,    4, None),
+        ("an LRU map",           MapKind::LruHash, 4, None),
+        ("a key of 5 bytes",     MapKind::Hash,    5, Some(Reject::StackBounds { slot: 9 })),
+        ("a key of 1 byte",      MapKind::LruHash, 1, None),
+    ];
+    for (name, kind, key_size, wanted) in ROWS {
+        let maps = [MapDef {
+            kind,
+            key_size,
+            value_size: 8,
+            max_entries: 8,
+        }];
+        let reject = match verify(rt.alloc(), image_over(rt.alloc(), &maps, &COUNTED)?) {
+            Ok(_) => None,
+            Err(reject) => Some(reject),
+        };
+        assert_eq!(rt; reject, wanted, "{name}");
+    }
+    Ok(())
+}
+
+#[test]
+fn unrun(rt: HostRuntime) -> Result<(), Fail> {
+    for (name, code, wanted) in UNRUN {
+        match verify(rt.alloc(), image_of(rt.alloc(), code)?) {
+            Ok(verified) => assert_eq!(rt; verified.unrun(), wanted, "{name}"),
             Err(reject) => assert!(rt; false, "{name}: {reject}"),
         }
     }
@@ -393,7 +577,7 @@ fn no_map_in_the_list(rt: HostRuntime) -> Result<(), Fail> {
     code.extend_from_slice(&[MAP, PASS, EXIT])?;
     match verify(
         rt.alloc(),
-        Image::of(Version::V1, Vec::new(rt.alloc()), code)?.served()?,
+        Image::of(Version::V1, Vec::new(rt.alloc()), code)?,
     ) {
         Ok(_) => assert!(rt; false, "a map that is none is accepted"),
         Err(reject) => assert_eq!(rt; reject, Reject::UnknownMap { slot: 0 }, "no map 0"),
@@ -401,27 +585,40 @@ fn no_map_in_the_list(rt: HostRuntime) -> Result<(), Fail> {
     Ok(())
 }
 
+/// What a flat instruction is, of those in the rows below.
+fn sort(op: &Op) -> &'static str {
+    match op {
+        Op::StoreStack64R { .. } => "to the stack",
+        Op::LoadStack64 { .. } => "from the stack",
+        Op::LoadPacket { .. } => "from the packet",
+        Op::Load { memory, .. } => match memory {
+            Memory::Context => "from the context",
+            Memory::Value => "from a value",
+            _ => "from elsewhere",
+        },
+        Op::Exit => "exit",
+        Op::Hole => "hole",
+        _ => "another",
+    }
+}
+
 #[test]
 fn resolved_instructions(rt: HostRuntime) -> Result<(), Fail> {
     #[rattlefmt::skip]
-    const ROWS: [(&str, &[Insn], usize, Option<Memory>); 8] = [
-        ("a spill goes to the stack",            &[SPILL, FILL, FIELD_12, EXIT], 0, Some(Memory::Stack)),
-        ("a fill comes from there",              &[SPILL, FILL, FIELD_12, EXIT], 1, Some(Memory::Stack)),
-        ("a field of the filled context",        &[SPILL, FILL, FIELD_12, EXIT], 2, Some(Memory::Context)),
-        ("an exit touches nothing",              &[SPILL, FILL, FIELD_12, EXIT], 3, Some(Memory::Nowhere)),
-        ("nothing past the end",                 &[SPILL, FILL, FIELD_12, EXIT], 4, None),
-        ("nothing inside a wide instruction",    &[NUMBER, EXIT], 1, None),
-        ("a byte of the packet",                 &[START, END, PLACE, ADD_14, PASS, JGT_1, BYTE_13, EXIT], 6, Some(Memory::Packet)),
-        ("a value of a map, behind a wide one",  &[KEY, KEY_AT, KEY_DOWN, MAP, LOOKUP, JEQ_NULL, VALUE, PASS, EXIT], 7, Some(Memory::Value)),
+    const ROWS: [(&str, &[Insn], usize, &str); 8] = [
+        ("a spill goes to the stack",            &[SPILL, FILL, FIELD_12, EXIT], 0, "to the stack"),
+        ("a fill comes from there",              &[SPILL, FILL, FIELD_12, EXIT], 1, "from the stack"),
+        ("a field of the filled context",        &[SPILL, FILL, FIELD_12, EXIT], 2, "from the context"),
+        ("an exit touches nothing",              &[SPILL, FILL, FIELD_12, EXIT], 3, "exit"),
+        ("nothing past the end",                 &[SPILL, FILL, FIELD_12, EXIT], 4, "none"),
+        ("nothing inside a wide instruction",    &[NUMBER, EXIT], 1, "hole"),
+        ("a byte of the packet",                 &[START, END, PLACE, ADD_14, PASS, JGT_1, BYTE_13, EXIT], 6, "from the packet"),
+        ("a value of a map, behind a wide one",  &[KEY, KEY_AT, KEY_DOWN, MAP, LOOKUP, JEQ_NULL, VALUE, PASS, EXIT], 7, "from a value"),
     ];
     for (name, code, slot, wanted) in ROWS {
         match verify(rt.alloc(), image_of(rt.alloc(), code)?) {
             Ok(verified) => {
-                let memory = match verified.resolved(slot) {
-                    Some(resolved) => Some(resolved.memory),
-                    None => None,
-                };
-                assert_eq!(rt; memory, wanted, "{name}");
+                assert_eq!(rt; verified.op(slot).map_or("none", sort), wanted, "{name}");
             }
             Err(reject) => assert!(rt; false, "{name}: {reject}"),
         }
@@ -438,7 +635,7 @@ fn the_longest_program(rt: HostRuntime) -> Result<(), Fail> {
     code.push(EXIT)?;
     let longest = verify(
         rt.alloc(),
-        Image::of(Version::V1, Vec::new(rt.alloc()), code)?.served()?,
+        Image::of(Version::V1, Vec::new(rt.alloc()), code)?,
     );
     assert!(rt; matches!(longest, Ok(_)), "4096 slots are accepted");
     Ok(())

@@ -2,6 +2,7 @@
 pub mod FrameView
 pub mod FlowForm
 pub mod FlowBytes
+pub mod EthernetBytes
 pub mod Checksum
 pub mod Fnv
 pub mod Device

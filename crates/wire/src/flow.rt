@@ -4,6 +4,9 @@ ghost use Rattle.std.specs.Prelude.{◌≡◌, ℕ, ◌+◌, ◌/◌, ◌%◌, �
 ghost use Rattle.wire.specs.FlowForm.{be_word_at, flow_bytes_of, HasFlow};
 ghost use Rattle.wire.specs.FlowBytes.{protocol_number, be_bytes, flow_key_bytes};
 
+use crate::big_endian::{be_bytes, word_at};
+use crate::ethernet::Ipv4Address;
+
 /// The transport protocols that a flow may have.
 #[derive(Clone, Copy, Debug, PartialEq, Eq)]
 pub enum Transport {
@@ -26,8 +29,8 @@ impl Transport {
 /// A flow: addresses and ports as they stand in the frame.
 #[derive(Clone, Copy, Debug, PartialEq, Eq)]
 pub struct FlowKey {
-    pub source: [u8; 4],
-    pub destination: [u8; 4],
+    pub source: Ipv4Address,
+    pub destination: Ipv4Address,
     pub source_port: u16,
     pub destination_port: u16,
     pub transport: Transport,
@@ -39,8 +42,8 @@ impl FlowKey {
     pub fn bytes(&self) -> [u8; 16]
         ensures { result ≡ flow_key_bytes self.now }
     {
-        let [s0, s1, s2, s3] = self.source;
-        let [d0, d1, d2, d3] = self.destination;
+        let [s0, s1, s2, s3] = self.source.0;
+        let [d0, d1, d2, d3] = self.destination.0;
         let [p0, p1] = be_bytes(self.source_port);
         let [q0, q1] = be_bytes(self.destination_port);
         let protocol = self.transport.number();
@@ -48,23 +51,6 @@ impl FlowKey {
             s0, s1, s2, s3, d0, d1, d2, d3, p0, p1, q0, q1, protocol, 0, 0, 0,
         ]
     }
-}
-
-/// The two bytes of a number, high byte first.
-fn be_bytes(word: u16) -> [u8; 2]
-    ensures { result ≡ be_bytes word }
-{
-    [(word / 256) as u8, (word % 256) as u8]
-}
-
-/// The 16-bit number at an index, high byte first.
-fn word_at(bytes: &[u8], at: usize) -> u16
-    requires { at + 1 < length bytes.now }
-    ensures word { result ≡ be_word_at at bytes.now }
-    ensures high { result / 256 ≡ slice_index bytes.now at }
-    ensures low { result % 256 ≡ slice_index bytes.now (at + 1) }
-{
-    u16::from(bytes[at]) * 256 + u16::from(bytes[at + 1])
 }
 
 /// The flow of an Ethernet frame, where it holds a whole IPv4 datagram without
@@ -86,8 +72,8 @@ pub fn flow_of(frame: &[u8]) -> Option<FlowKey>
         _ => return None,
     };
     Some(FlowKey {
-        source: [frame[26], frame[27], frame[28], frame[29]],
-        destination: [frame[30], frame[31], frame[32], frame[33]],
+        source: Ipv4Address([frame[26], frame[27], frame[28], frame[29]]),
+        destination: Ipv4Address([frame[30], frame[31], frame[32], frame[33]]),
         source_port: word_at(frame, 34),
         destination_port: word_at(frame, 36),
         transport,

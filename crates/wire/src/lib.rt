@@ -1,6 +1,7 @@
 //! Ethernet frames with their headroom, flow keys, checksums, hashes and devices.
 #![tactic(auto)]
 
+mod big_endian;
 mod capture_fault;
 mod capture_reader;
 #[cfg(test)]
@@ -8,6 +9,7 @@ mod capture_tests;
 mod capture_writer;
 mod checksum;
 mod device;
+mod ethernet;
 mod flow;
 mod frame_buffer;
 mod hash;
@@ -18,11 +20,13 @@ mod stream;
 mod table_tests;
 mod transfer;
 
+pub use big_endian::{be_bytes, word_at};
 pub use capture_fault::CaptureFault;
 pub use capture_reader::read_capture;
 pub use capture_writer::write_capture;
 pub use checksum::ones_sum;
 pub use device::{Failed, Sink, Source};
+pub use ethernet::{EthernetHeader, Ipv4Address, MacAddress};
 pub use flow::{FlowKey, Transport, flow_of};
 pub use frame_buffer::{Frame, FrameFault};
 pub use hash::fnv1a64;

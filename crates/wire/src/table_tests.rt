@@ -52,8 +52,8 @@ fn ones_sums(rt: HostRuntime) {
 fn udp_flow(rt: HostRuntime) -> Result<(), Fail> {
     let key = flow_of(&UDP_FRAME).ok_or("no flow")?;
     assert_eq!(rt; key.bytes().as_slice(), UDP_KEY.as_slice());
-    assert_eq!(rt; key.source, [198, 51, 100, 7]);
-    assert_eq!(rt; key.destination, [203, 0, 113, 1]);
+    assert_eq!(rt; key.source.0, [198, 51, 100, 7]);
+    assert_eq!(rt; key.destination.0, [203, 0, 113, 1]);
     assert_eq!(rt; key.source_port, 40000);
     assert_eq!(rt; key.destination_port, 80);
     assert_eq!(rt; key.transport, Transport::Udp);

@@ -7,13 +7,15 @@ ghost use Rattle.semantics.specs.ShardPlan.{AreOptions};
 ghost use Rattle.semantics.specs.System.{IsInputFrame};
 ghost use Rattle.shards.specs.Opening.{AreOpened};
 ghost use Rattle.disasm.specs.AssemblyText.{IsAssemblyText};
+ghost use Rattle.ebpf_decode.specs.Served.{IsServedImage};
+ghost use Rattle.verifier.specs.Runnable.{IsRunnable};
 ghost use Rattle.xlb.specs.Results.{AreKept, AreOthersKept, IsImageFile, IsChecked, HasRun, IsRun, run_options, IsDisassembled, IsAssembled};
 
 use crate::fault::Fault;
 use crate::folder::Folder;
 use crate::report::{accepted, outcome};
 use disasm::{AsmFault, assemble, text};
-use ebpf_decode::{Image, decode, encode};
+use ebpf_decode::{DecodeFault, Image, Version, decode, encode};
 use machine::{Exit, Moment, Stop, run};
 use shard_port::PlainPort;
 use shard_port::laws::opened_serve;
@@ -59,11 +61,31 @@ fn image_of<D: Folder>(alloc: Global, folder: &mut D, name: &str) -> Result<Imag
     }
 }
 
-/// The image of a file, if it may run.
+/// The image of a file, if the verifier accepts it: as yet of version 1, else 10.
+fn judged_of<D: Folder>(alloc: Global, folder: &mut D, name: &str) -> Result<Verified, Fault>
+    requires { D.failure_count folder.old < 2 ^ 64 - 1 }
+    ensures file { IfOk result (λ verified. IsImageFile (D.holds folder.old) name.now (record { version = V1; maps = verified.maps; code = verified.code })) }
+    ensures safe { IfOk result (λ verified. IsSafeImage verified.maps verified.code) }
+    ensures kept { AreKept (D.holds folder.old) (D.holds folder.new) }
+    ensures steady { OnOk result (D.failure_count folder.new ≡ D.failure_count folder.old) }
+{
+    let image = image_of(alloc, folder, name)?;
+    match image.version() {
+        Version::V1 => {}
+        Version::V2 => return Err(Fault::Decode(DecodeFault::BadHead)),
+    }
+    match verify(alloc, image) {
+        Ok(verified) => Ok(verified),
+        Err(reject) => Err(Fault::Program(reject)),
+    }
+}
+
+/// The image of a file, if it may run in this build.
 fn verified_of<D: Folder>(alloc: Global, folder: &mut D, name: &str) -> Result<Verified, Fault>
     requires { D.failure_count folder.old < 2 ^ 64 - 1 }
     ensures file { IfOk result (λ verified. IsImageFile (D.holds folder.old) name.now (record { version = V1; maps = verified.maps; code = verified.code })) }
     ensures safe { IfOk result (λ verified. IsSafeImage verified.maps verified.code) }
+    ensures served { IfOk result (λ verified. IsServedImage (record { version = V1; maps = verified.maps; code = verified.code })) }
     ensures kept { AreKept (D.holds folder.old) (D.holds folder.new) }
     ensures steady { OnOk result (D.failure_count folder.new ≡ D.failure_count folder.old) }
 {
@@ -124,7 +146,7 @@ pub fn check<D: Folder>(alloc: Global, folder: &mut D, image: &str) -> Result<St
     ensures done { IfOk result (λ text. IsChecked (D.holds folder.old) image.now (string_bytes text)) }
     ensures kept { AreKept (D.holds folder.old) (D.holds folder.new) }
 {
-    let verified = verified_of(alloc, folder, image)?;
+    let verified = judged_of(alloc, folder, image)?;
     Ok(accepted(alloc, &verified)?)
 }
 
@@ -137,13 +159,15 @@ fn run_over(
 ) -> Result<Exit, Stop>
     requires opened { AreOpened verified.now.maps run_options shards.old }
     requires options { AreOptions verified.now.maps run_options }
+    requires runnable { IsRunnable verified.now.code verified.now.states }
+    requires served { IsServedImage (record { version = V1; maps = verified.now.maps; code = verified.now.code }) }
     requires headroom { frame.old.headroom ≡ 256 }
     requires worker { moment.now.worker < 8 }
     ensures { IfOk result (λ exit. HasRun (record { version = V1; maps = verified.now.maps; code = verified.now.code }) frame.old.bytes moment.now.now_ns moment.now.worker
         exit.verdict exit.steps frame.new) }
 {
     opened_serve();
-    let mut port = PlainPort::over(verified.image(), OPTIONS, shards, moment.worker);
+    let mut port = PlainPort::over(verified.served_image(), OPTIONS, shards, moment.worker);
     let stopped = run(verified, frame, moment, &mut port);
     port.finish();
     stopped
@@ -163,9 +187,13 @@ pub fn run_once<D: Folder>(
     ensures kept { AreKept (D.holds folder.old) (D.holds folder.new) }
 {
     let verified = verified_of(alloc, folder, image)?;
+    match verified.unrun() {
+        Some(reject) => return Err(Fault::Program(reject)),
+        None => {}
+    }
     let mut frame = frame_of(alloc, folder, frame)?;
     let moment = moment_of(now, worker)?;
-    let mut shards = match Shards::open(alloc, verified.image(), OPTIONS) {
+    let mut shards = match Shards::open(alloc, verified.served_image(), OPTIONS) {
         Ok(shards) => shards,
         Err(fault) => return Err(Fault::Options(fault)),
     };

@@ -46,8 +46,9 @@ with the first rule that it breaks and the slot of the instruction, counted
 from 0.
 An image of version 2 may besides take addresses in the values of its maps
 (the instruction ldval), and have values of up to 256 bytes. This build judges
-and runs version 1 with maps of arrays: it answers 10 to version 2, and 11 to
-a hash or LRU map.";
+version 1 and answers 10 to version 2. It runs less than it accepts: run also
+answers 11 to a hash or LRU map, 36 to a store or an atomic operation on a
+value of a map, and 44 to the helpers 2, 3 and 44.";
 
 const AFTER_RUN: &str = "\
 Prints three lines:

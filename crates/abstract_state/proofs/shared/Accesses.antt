@@ -10,7 +10,7 @@ use Rattle.std.proofs.lemmas.List.Elements.{All-take, All-drop, recursion_from_A
 use Rattle.ebpf_decode.specs.declared.map.MapDef.{MapDef}
 use Rattle.semantics.specs.LittleEndian.{number_of_bytes}
 use Rattle.semantics.specs.MachineState.{MachineState, StackByte}
-use Rattle.semantics.specs.Memory.{stack_range, stack_place, packet_range, cell_range, value_size_of_map}
+use Rattle.semantics.specs.Memory.{stack_range, stack_place, packet_range, cell_range, aligned_range, aligned_cell_range, value_size_of_map}
 use Rattle.semantics.specs.Program.{Program}
 use Rattle.abstract_state.specs.declared.refusal.Refusal.{Refusal}
 use Rattle.abstract_state.specs.States.{◌>>=◌, value_size_of}
@@ -107,3 +107,9 @@ pub cell_reached : (program : Program) (map : ℕ) (place : ℤ) (from count : �
 cell_reached program map place from count found =
     let inside : from + count ≤ value_size_of_map program map = rw (map_value_size program map) found.inside
     in rw (found.at, within_true (from + count) (value_size_of_map program map) inside) refl
+
+-- an atomic operation's place is also at a multiple of its width
+pub aligned_cell_reached : (program : Program) (map : ℕ) (place : ℤ) (from count : ℕ) → IsAligned place count (value_size_of (slice_get program.maps map)) from →
+    aligned_cell_range program map place count ≡ Ok from
+aligned_cell_reached program map place from count found =
+    ap (λ range. aligned_range range count) (cell_reached program map place from count found) ∙ rw (zero_true (from % count) found.multiple) refl

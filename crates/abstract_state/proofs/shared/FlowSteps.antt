@@ -1,5 +1,5 @@
--- Every instruction: what flows out of it is sound, by what loads, stores and calls lead to.
-use Rattle.std.proofs.Common.{◌≡◌, ℕ, ◌<◌, ◌^◌, List, ℤ, pos, negsuc, Ok, w32, arith}
+-- Every instruction: what flows out of it is sound, by what loads, stores, atomic operations and calls lead to.
+use Rattle.std.proofs.Common.{◌≡◌, ℕ, ◌<◌, ◌^◌, ℤ, pos, negsuc, Ok, w32, arith}
 use Rattle.std.specs.Prelude.{FitsSigned}
 use Rattle.isa.specs.Words.{twos_complement}
 use Rattle.isa.specs.declared.operation.Width.{Width}
@@ -13,23 +13,18 @@ use Rattle.isa.specs.declared.operation.Source.TheVariants.{Imm, Reg}
 use Rattle.isa.specs.declared.operation.Register.{Register}
 use Rattle.ebpf_decode.specs.declared.insn.Insn.{Insn}
 use Rattle.ebpf_decode.specs.declared.insn.Insn.TheVariants.{Alu, Neg, Movsx, Movsx32, End, Ja, Ja32, JumpIf, Ldx, Ldxs, St, Stx, AtomicUpdate, Lddw, Ldmap, Ldval, CallHelper, Exit}
-use Rattle.ebpf_decode.specs.declared.map.MapDef.{MapDef}
 use Rattle.ebpf_decode.specs.InstructionEncoding.{FieldsFit}
 use Rattle.semantics.specs.MachineState.{MachineState}
 use Rattle.semantics.specs.Program.{Program}
-use Rattle.semantics.specs.Semantics.{fetched_register, instruction_step}
-use Rattle.abstract_state.specs.declared.kind.Kind.{Kind}
-use Rattle.abstract_state.specs.declared.kind.Kind.TheVariants.{Unset, Scalar, Ctx, Stack, Packet, PacketEnd, Map, ValueOrNull, Value}
+use Rattle.semantics.specs.Semantics.{instruction_step}
 use Rattle.abstract_state.specs.declared.flow.Flow.{Flow}
-use Rattle.abstract_state.specs.declared.refusal.Refusal.TheVariants.{WrongKind, UnknownMap}
+use Rattle.abstract_state.specs.declared.refusal.Refusal.TheVariants.{UnknownMap}
 use Rattle.abstract_state.specs.declared.state.State.{State}
-use Rattle.abstract_state.specs.States.{◌>>=◌, kind_of}
-use Rattle.abstract_state.specs.Access.{atomic_on, atomic_of}
-use Rattle.abstract_state.specs.Flow.{fetch_writable, reads_atomic, atomic_flow, flow_of}
+use Rattle.abstract_state.specs.Flow.{flow_of}
 use Rattle.abstract_state.specs.Abstraction.{Held, Abstracts}
 use Rattle.abstract_state.specs.Soundness.{JumpsForward, Follows}
-use Rattle.abstract_state.proofs.shared.Inverting.{err_not_ok, ok_then}
-use Rattle.abstract_state.proofs.shared.Following.{SourceFits, falls_follow}
+use Rattle.abstract_state.proofs.shared.Inverting.{err_not_ok}
+use Rattle.abstract_state.proofs.shared.Following.{SourceFits}
 use Rattle.abstract_state.proofs.RegisterSteps.{alu_follows, neg_follows, movsx_follows, movsx32_follows, end_follows, lddw_follows, ldmap_follows, exit_follows, ja_follows, ja32_follows}
 use Rattle.abstract_state.proofs.Branching.{jump_if_follows}
 
@@ -54,35 +49,9 @@ wide_value : (dst : Register) (value : ℕ) → FieldsFit (Lddw dst value) → v
 unfolding FieldsFit
 wide_value dst value fits = fits
 
--- ---- atomic operations are refused as yet
-
-no_atomic : (maps : List MapDef) (state after : State) (width : Width) (op : AtomicOp) (kind : Kind) (distance : ℤ) (dst src : Register) →
-    atomic_on maps state width op kind distance dst src ≡ Ok after → ⊥
-no_atomic maps state after width op Unset distance dst src e = err_not_ok (WrongKind dst) after e
-no_atomic maps state after width op (Scalar i) distance dst src e = err_not_ok (WrongKind dst) after e
-no_atomic maps state after width op Ctx distance dst src e = err_not_ok (WrongKind dst) after e
-no_atomic maps state after width op (Stack place) distance dst src e = err_not_ok (WrongKind dst) after e
-no_atomic maps state after width op (Packet id off range) distance dst src e = err_not_ok (WrongKind dst) after e
-no_atomic maps state after width op PacketEnd distance dst src e = err_not_ok (WrongKind dst) after e
-no_atomic maps state after width op (Map map) distance dst src e = err_not_ok (WrongKind dst) after e
-no_atomic maps state after width op (ValueOrNull map id) distance dst src e = err_not_ok (WrongKind dst) after e
-no_atomic maps state after width op (Value map id off) distance dst src e = err_not_ok (WrongKind dst) after e
-
-pub atomic_follows : (program : Program) (held : Held) (state : State) (machine : MachineState) (width : Width) (op : AtomicOp) (dst src : Register) (distance : ℤ)
-    (flow : Flow) → flow_of program.maps state machine.slot (AtomicUpdate width op dst src distance) ≡ Ok flow →
-    Follows program held flow machine (AtomicUpdate width op dst src distance) (instruction_step program (AtomicUpdate width op dst src distance) machine)
-atomic_follows program held state machine width op dst src distance flow e =
-    falls_follow program held machine (AtomicUpdate width op dst src distance) (instruction_step program (AtomicUpdate width op dst src distance) machine)
-    (atomic_flow program.maps state width op dst src distance) flow e
-    (λ after is.
-    let may = ok_then (fetch_writable (fetched_register op src))
-    (λ _. reads_atomic state op dst src >>= (λ _. atomic_of program.maps state width op dst src distance)) after is
-    in let read = ok_then (reads_atomic state op dst src) (λ _. atomic_of program.maps state width op dst src distance) after may.next
-    in absurd (no_atomic program.maps state after width op (kind_of state dst) distance dst src read.next))
-
 -- ---- every instruction
 
--- what loads, stores and calls lead to
+-- what loads, stores, atomic operations and calls lead to
 pub record MemoryFollows (program : Program) (held : Held) (state : State) (machine : MachineState) (flow : Flow) : Type 0 where
   pub load : (size : Size) (dst src : Register) (offset : ℤ) → flow_of program.maps state machine.slot (Ldx size dst src offset) ≡ Ok flow →
       Follows program held flow machine (Ldx size dst src offset) (instruction_step program (Ldx size dst src offset) machine)
@@ -94,6 +63,9 @@ pub record MemoryFollows (program : Program) (held : Held) (state : State) (mach
       Follows program held flow machine (St size dst offset immediate) (instruction_step program (St size dst offset immediate) machine)
   pub store_register : (size : Size) (dst src : Register) (offset : ℤ) → flow_of program.maps state machine.slot (Stx size dst src offset) ≡ Ok flow →
       Follows program held flow machine (Stx size dst src offset) (instruction_step program (Stx size dst src offset) machine)
+  pub atomic : (width : Width) (op : AtomicOp) (dst src : Register) (offset : ℤ) →
+      flow_of program.maps state machine.slot (AtomicUpdate width op dst src offset) ≡ Ok flow →
+      Follows program held flow machine (AtomicUpdate width op dst src offset) (instruction_step program (AtomicUpdate width op dst src offset) machine)
   pub call : (number : ℤ) → flow_of program.maps state machine.slot (CallHelper number) ≡ Ok flow →
       Follows program held flow machine (CallHelper number) (instruction_step program (CallHelper number) machine)
 
@@ -115,8 +87,7 @@ flow_follows program held state machine (Ldxs extension dst src offset) flow m a
 flow_follows program held state machine (St size dst offset immediate) flow m a fits forward e =
     m.store size dst offset immediate fits e
 flow_follows program held state machine (Stx size dst src offset) flow m a fits forward e = m.store_register size dst src offset e
-flow_follows program held state machine (AtomicUpdate width op dst src offset) flow m a fits forward e =
-    atomic_follows program held state machine width op dst src offset flow e
+flow_follows program held state machine (AtomicUpdate width op dst src offset) flow m a fits forward e = m.atomic width op dst src offset e
 flow_follows program held state machine (Lddw dst value) flow m a fits forward e =
     lddw_follows program held state machine dst value flow a (wide_value dst value fits) e
 flow_follows program held state machine (Ldmap dst map) flow m a fits forward e = ldmap_follows program held state machine dst map flow a e

@@ -3,7 +3,7 @@ use Rattle.std.proofs.Common.{◌≡◌, ℕ, ◌+◌, ◌-◌, ◌<◌, ◌≤�
 use Rattle.std.proofs.lemmas.Grind.{get_or-set_at}
 use Rattle.std.proofs.lemmas.List.{get_or-replicate, get_or-set_other, get_or-map, length-set, length-map, length-replicate, length-append, length-take-le, length-drop}
 use Rattle.std.proofs.lemmas.Bool.{cases_eq, eqb-true, leb-true}
-use Rattle.isa.specs.Words.{twos_complement}
+use Rattle.isa.specs.Words.{width_bits, twos_complement}
 use Rattle.isa.specs.declared.operation.Width.{Width}
 use Rattle.isa.specs.declared.operation.Size.{Size}
 use Rattle.isa.specs.declared.operation.Size.TheVariants.{U8, U16, U32, U64}
@@ -16,10 +16,10 @@ use Rattle.isa.specs.declared.operation.Register.TheVariants.{R0}
 use Rattle.ebpf_decode.specs.declared.insn.Insn.{Insn}
 use Rattle.ebpf_decode.specs.declared.insn.Insn.TheVariants.{Alu, Neg, Movsx, Movsx32, End, Ja, Ja32, JumpIf, Ldx, Ldxs, St, Stx, AtomicUpdate, Lddw, Ldmap, Ldval, CallHelper, Exit}
 use Rattle.ebpf_decode.specs.declared.map.MapDef.{MapDef}
-use Rattle.isa.specs.InstructionCodes.{register_number, size_bytes}
+use Rattle.isa.specs.InstructionCodes.{register_number, size_bytes, width_size}
 use Rattle.semantics.specs.Semantics.{fetched_register}
 use Rattle.abstract_scalar.specs.declared.interval.Interval.{Interval}
-use Rattle.abstract_scalar.specs.Intervals.{constant_of, interval_of}
+use Rattle.abstract_scalar.specs.Intervals.{constant_of, interval_of, full_of}
 use Rattle.abstract_scalar.specs.Transfer.{neg_of, movsx64_of, movsx32_of, swap_of}
 use Rattle.abstract_state.specs.declared.kind.Kind.{Kind}
 use Rattle.abstract_state.specs.declared.kind.Kind.TheVariants.{Unset, Scalar, Ctx, Stack, Packet, PacketEnd, Map, ValueOrNull, Value}
@@ -36,13 +36,13 @@ use Rattle.abstract_state.specs.declared.refusal.Refusal.TheVariants.{WrongKind,
 use Rattle.abstract_state.specs.declared.state.State.{State}
 use Rattle.abstract_state.specs.States.{Checked, ◌>>=◌, kind_of, with_kind, word_of, with_word, no_bytes, stack_bytes, opening_state}
 use Rattle.abstract_state.specs.Join.{zip_with, spilled, bytes_of_kind, bytes_of_word, join_kind, join_word, join_of}
-use Rattle.abstract_state.specs.Places.{range_within, aligned, stack_access, packet_access}
+use Rattle.abstract_state.specs.Places.{range_within, aligned, stack_access, packet_access, value_access}
 use Rattle.abstract_state.specs.Words.{storable, narrow_storable, with_set, word_stored}
 use Rattle.abstract_state.specs.Facts.{told_kind, told_word, told}
 use Rattle.abstract_state.specs.Arithmetic.{source_kind, blamed, alu_kind, after_alu_of}
 use Rattle.abstract_state.specs.Refinement.{allowed_test, number_cut, fact_of, refined, refine_state}
-use Rattle.abstract_state.specs.Access.{loaded_kind, load_of, signed_loaded, signed_load_of, stack_stored, stored, store_of, atomic_on, atomic_of}
-use Rattle.abstract_state.specs.Calls.{served_helper, key_arguments, update_arguments, head_arguments, any_number, returned, call_of}
+use Rattle.abstract_state.specs.Access.{loaded_kind, load_of, signed_loaded, signed_load_of, stack_stored, stored, store_of, with_fetched_kind, expects, atomic_on, atomic_of}
+use Rattle.abstract_state.specs.Calls.{helper_at, key_arguments, update_arguments, head_arguments, any_number, returned, call_of}
 use Rattle.abstract_state.specs.Flow.{writable, fetch_writable, reads, reads_both, reads_operands, reads_atomic, reads_arguments, alu_flow, operand_of, unary_flow, load_flow, store_flow, store_register_flow, atomic_flow, number_flow, known_map, map_flow, call_flow, test_flow, exit_kind, falls, flow_of}
 use Rattle.abstract_state.specs.Soundness.{IsShaped, FlowIsShaped, StatesAreShaped}
 use Rattle.abstract_state.proofs.shared.Inverting.{err_not_ok, ok_value, ok_then, ok_if}
@@ -230,24 +230,35 @@ store_kept maps state size (Stack place) distance dst kind s =
 store_kept maps state size (Packet id off range) distance dst kind s =
     keeps_then (packet_access off range distance (size_bytes size)) (λ from. narrow_storable kind >>= (λ _. Ok state))
     (λ from e. keeps_then (narrow_storable kind) (λ _. Ok state) (λ _ f. keeps_ok state s))
-store_kept maps state size (Value map id off) distance dst kind s = keeps_err (WrongKind dst)
+store_kept maps state size (Value map id off) distance dst kind s =
+    keeps_then (value_access maps map off distance (size_bytes size)) (λ from. narrow_storable kind >>= (λ _. Ok state))
+    (λ from e. keeps_then (narrow_storable kind) (λ _. Ok state) (λ _ f. keeps_ok state s))
 store_kept maps state size Unset distance dst kind s = keeps_err (WrongKind dst)
 store_kept maps state size (Scalar i) distance dst kind s = keeps_err (WrongKind dst)
 store_kept maps state size PacketEnd distance dst kind s = keeps_err (WrongKind dst)
 store_kept maps state size (Map map) distance dst kind s = keeps_err (WrongKind dst)
 store_kept maps state size (ValueOrNull map id) distance dst kind s = keeps_err (WrongKind dst)
 
-atomic_kept : (maps : List MapDef) (state : State) (width : Width) (op : AtomicOp) (target : Kind) (distance : ℤ) (dst src : Register) →
+fetched_shaped : (state : State) (register : Option Register) (width : Width) → IsShaped state → IsShaped (with_fetched_kind state register width)
+fetched_shaped state None width s = s
+fetched_shaped state (Some register) width s = kind_shaped state register (Scalar (full_of (width_bits width))) s
+
+atomic_kept : (maps : List MapDef) (state : State) (width : Width) (op : AtomicOp) (target : Kind) (distance : ℤ) (dst src : Register) → IsShaped state →
     Keeps (atomic_on maps state width op target distance dst src)
-atomic_kept maps state width op Unset distance dst src = keeps_err (WrongKind dst)
-atomic_kept maps state width op (Scalar i) distance dst src = keeps_err (WrongKind dst)
-atomic_kept maps state width op Ctx distance dst src = keeps_err (WrongKind dst)
-atomic_kept maps state width op (Stack place) distance dst src = keeps_err (WrongKind dst)
-atomic_kept maps state width op (Packet id off range) distance dst src = keeps_err (WrongKind dst)
-atomic_kept maps state width op PacketEnd distance dst src = keeps_err (WrongKind dst)
-atomic_kept maps state width op (Map map) distance dst src = keeps_err (WrongKind dst)
-atomic_kept maps state width op (ValueOrNull map id) distance dst src = keeps_err (WrongKind dst)
-atomic_kept maps state width op (Value map id off) distance dst src = keeps_err (WrongKind dst)
+atomic_kept maps state width op Unset distance dst src s = keeps_err (WrongKind dst)
+atomic_kept maps state width op (Scalar i) distance dst src s = keeps_err (WrongKind dst)
+atomic_kept maps state width op Ctx distance dst src s = keeps_err (WrongKind dst)
+atomic_kept maps state width op (Stack place) distance dst src s = keeps_err (WrongKind dst)
+atomic_kept maps state width op (Packet id off range) distance dst src s = keeps_err (WrongKind dst)
+atomic_kept maps state width op PacketEnd distance dst src s = keeps_err (WrongKind dst)
+atomic_kept maps state width op (Map map) distance dst src s = keeps_err (WrongKind dst)
+atomic_kept maps state width op (ValueOrNull map id) distance dst src s = keeps_err (WrongKind dst)
+atomic_kept maps state width op (Value map id off) distance dst src s =
+    keeps_then (value_access maps map off distance (size_bytes (width_size width))) (λ from.
+    narrow_storable (kind_of state src) >>= (λ _. expects op (kind_of state R0) >>= (λ _. Ok (with_fetched_kind state (fetched_register op src) width))))
+    (λ from e. keeps_then (narrow_storable (kind_of state src)) (λ _. expects op (kind_of state R0) >>= (λ _. Ok (with_fetched_kind state (fetched_register op src) width)))
+    (λ _ f. keeps_then (expects op (kind_of state R0)) (λ _. Ok (with_fetched_kind state (fetched_register op src) width))
+    (λ _ g. keeps_ok (with_fetched_kind state (fetched_register op src) width) (fetched_shaped state (fetched_register op src) width s))))
 
 -- ---- calls
 
@@ -336,7 +347,7 @@ flow_shaped maps state slot (Stx size dst src offset) flow s e = falls_shaped (s
 flow_shaped maps state slot (AtomicUpdate width op dst src offset) flow s e = falls_shaped (atomic_flow maps state width op dst src offset) flow
     (keeps_then (fetch_writable (fetched_register op src)) (λ _. reads_atomic state op dst src >>= (λ _. atomic_of maps state width op dst src offset))
     (λ _ f. keeps_then (reads_atomic state op dst src) (λ _. atomic_of maps state width op dst src offset)
-    (λ _ g. atomic_kept maps state width op (kind_of state dst) offset dst src))) e
+    (λ _ g. atomic_kept maps state width op (kind_of state dst) offset dst src s))) e
 flow_shaped maps state slot (Lddw dst value) flow s e = falls_shaped (number_flow state dst value) flow
     (keeps_then (writable dst) (λ _. Ok (with_kind state dst (Scalar (constant_of value))))
     (λ _ f. keeps_ok (with_kind state dst (Scalar (constant_of value))) (kind_shaped state dst (Scalar (constant_of value)) s))) e
@@ -344,7 +355,7 @@ flow_shaped maps state slot (Ldmap dst map) flow s e = falls_shaped (map_flow ma
     (keeps_then (writable dst) (λ _. known_map maps map >>= (λ kind. Ok (with_kind state dst kind))) (λ _ f. kind_kept state dst (known_map maps map) s)) e
 flow_shaped maps state slot (Ldval dst map offset) flow s e = absurd (err_not_ok UnknownMap flow e)
 flow_shaped maps state slot (CallHelper number) flow s e = falls_shaped (call_flow maps state slot number) flow
-    (keeps_then (served_helper number) (λ helper. reads_arguments state helper >>= (λ _. call_of maps state slot helper))
+    (keeps_then (helper_at number) (λ helper. reads_arguments state helper >>= (λ _. call_of maps state slot helper))
     (λ helper f. keeps_then (reads_arguments state helper) (λ _. call_of maps state slot helper) (λ _ g. call_kept maps state slot helper s))) e
 flow_shaped maps state slot Exit flow s e =
     let read = ok_then (reads state R0) (λ _. exit_kind (kind_of state R0)) flow e in end_shaped (kind_of state R0) flow read.next

@@ -1,39 +1,37 @@
--- Stores and atomic operations that break no rule.
+-- Stores that break no rule.
 use Rattle.std.proofs.Common.{◌≡◌, ℕ, ◌+◌, ◌/◌, ◌%◌, ◌^◌, ◌<◌, ℤ, pos, negsuc, refl, sym, arith, subst}
-use Rattle.std.specs.Prelude.{List, Ok, FitsSigned, ◌+ℤ◌}
+use Rattle.std.specs.Prelude.{Ok, FitsSigned, ◌+ℤ◌, slice_get}
 use Rattle.std.specs.Int.{w32}
 use Rattle.isa.specs.Words.{twos_complement}
-use Rattle.isa.specs.declared.operation.Width.{Width}
-use Rattle.isa.specs.declared.operation.AtomicOp.{AtomicOp}
 use Rattle.isa.specs.declared.operation.Size.{Size}
 use Rattle.isa.specs.declared.operation.Size.TheVariants.{U8, U16, U32, U64}
 use Rattle.isa.specs.declared.operation.Register.{Register}
 use Rattle.isa.specs.declared.operation.Source.TheVariants.{Reg}
 use Rattle.ebpf_decode.specs.declared.insn.Insn.{Insn}
-use Rattle.ebpf_decode.specs.declared.insn.Insn.TheVariants.{St, Stx, AtomicUpdate}
-use Rattle.ebpf_decode.specs.declared.map.MapDef.{MapDef}
+use Rattle.ebpf_decode.specs.declared.insn.Insn.TheVariants.{St, Stx}
 use Rattle.ebpf_decode.specs.InstructionEncoding.{slot_count, FieldsFit}
-use Rattle.semantics.specs.RegisterValue.{RegisterValue, Number, StackPointer, PacketPointer}
+use Rattle.semantics.specs.RegisterValue.{RegisterValue, Number, StackPointer, PacketPointer, CellPointer}
 use Rattle.semantics.specs.MachineState.{MachineState, register_value}
 use Rattle.semantics.specs.Program.{Program}
 use Rattle.isa.specs.InstructionCodes.{size_bytes}
-use Rattle.semantics.specs.Semantics.{fetched_register, store_step, instruction_step}
+use Rattle.semantics.specs.Semantics.{store_step, instruction_step}
 use Rattle.abstract_scalar.specs.Intervals.{constant_of}
 use Rattle.abstract_state.specs.declared.kind.Kind.{Kind}
 use Rattle.abstract_state.specs.declared.kind.Kind.TheVariants.{Unset, Scalar, Ctx, Stack, Packet, PacketEnd, Map, ValueOrNull, Value}
 use Rattle.abstract_state.specs.declared.kind.StackWord.TheVariants.{Bytes}
 use Rattle.abstract_state.specs.declared.flow.Flow.{Flow}
 use Rattle.abstract_state.specs.declared.state.State.{State}
-use Rattle.abstract_state.specs.States.{◌>>=◌, kind_of, word_of, with_word}
+use Rattle.abstract_state.specs.States.{◌>>=◌, kind_of, word_of, with_word, value_size_of}
 use Rattle.abstract_state.specs.Join.{bytes_of_word}
-use Rattle.abstract_state.specs.Places.{stack_access, packet_access}
+use Rattle.abstract_state.specs.Places.{stack_access, packet_access, value_access}
 use Rattle.abstract_state.specs.Words.{narrow_storable, with_set}
-use Rattle.abstract_state.specs.Access.{stack_stored, stored, store_of, atomic_on, atomic_of}
-use Rattle.abstract_state.specs.Flow.{is_set, reads, reads_both, reads_atomic, fetch_writable, store_flow, store_register_flow, atomic_flow, flow_of}
+use Rattle.abstract_state.specs.Access.{stack_stored, stored, store_of}
+use Rattle.abstract_state.specs.Flow.{is_set, reads, reads_both, store_flow, store_register_flow, flow_of}
 use Rattle.abstract_state.specs.Soundness.{FallsOn, Follows}
 use Rattle.abstract_state.specs.Abstraction.{Held, KindCovers, IsStackPlace, setting_of, Abstracts}
 use Rattle.abstract_state.proofs.shared.Checking.{ok_same, ok_then, falls_made}
-use Rattle.abstract_state.proofs.shared.Accesses.{IsAligned, range_found, stack_found}
+use Rattle.abstract_state.proofs.shared.Accesses.{IsAligned, range_found, stack_found, value_found}
+use Rattle.abstract_state.proofs.CellWriting.{cell_stored}
 use Rattle.abstract_state.proofs.Storing.{AreEight, narrow_is_number, whole_stored, part_stored, packet_stored}
 
 -- ---- stores to the stack, by their size
@@ -100,7 +98,18 @@ store_by_kind program held state machine a eight insn size offset dst Ctx v c ki
 store_by_kind program held state machine a eight insn size offset dst PacketEnd v c kind value set cv s e = cc
 store_by_kind program held state machine a eight insn size offset dst (Map map) v c kind value set cv s e = cc
 store_by_kind program held state machine a eight insn size offset dst (ValueOrNull map id) v c kind value set cv s e = cc
-store_by_kind program held state machine a eight insn size offset dst (Value map id off) v c kind value set cv s e = cc
+store_by_kind program held state machine a eight insn size offset dst (Value map id off) v c kind value set cv s e =
+    let first = ok_then (value_access program.maps map off offset (size_bytes size)) (λ from. narrow_storable kind >>= (λ _. Ok state)) s e
+    in let second = ok_then (narrow_storable kind) (λ _. Ok state) s first.1.1
+    in let same : state ≡ s = ok_same (Ok state) state s refl second.1.1
+    in let n = narrow_is_number (setting_of program.maps held a.ids machine) kind value second.0 second.1.0 cv
+    in let found : IsAligned (pos off +ℤ offset) (size_bytes size) (value_size_of (slice_get program.maps map)) first.0 =
+    value_found program.maps map off offset (size_bytes size) first.0 first.1.0
+    in subst (λ s. FallsOn program held s machine (machine.slot + slot_count insn) (store_step program insn machine v offset size value)) same
+    (subst (λ v. FallsOn program held state machine (machine.slot + slot_count insn) (store_step program insn machine v offset size value)) (sym c.is)
+    (subst (λ value. FallsOn program held state machine (machine.slot + slot_count insn)
+    (store_step program insn machine (CellPointer map c.cell.shard c.cell.id (pos off)) offset size value)) (sym n.1)
+    (cell_stored program held state machine a insn size map c.cell.shard c.cell.id (pos off) offset first.0 n.0 found c.held)))
 
 -- ---- the instructions
 
@@ -149,25 +158,3 @@ store_register_sound program held state machine size dst src offset flow eight a
     in subst (λ flow. Follows program held flow machine (Stx size dst src offset) (instruction_step program (Stx size dst src offset) machine)) (sym made.1.1)
     (store_by_kind program held state machine a eight (Stx size dst src offset) size offset dst (kind_of state dst) (register_value machine dst) (a.registers dst)
     (kind_of state src) (register_value machine src) (not_unset (kind_of state src) src first.0 second.1.1) (a.registers src) made.0 first.1.1)
-
-atomic_refused : (maps : List MapDef) (state : State) (width : Width) (op : AtomicOp) (kind : Kind) (distance : ℤ) (dst src : Register) (s : State) →
-    atomic_on maps state width op kind distance dst src ≡ Ok s → ⊥
-atomic_refused maps state width op (Value map id off) distance dst src s e = cc
-atomic_refused maps state width op Unset distance dst src s e = cc
-atomic_refused maps state width op (Scalar i) distance dst src s e = cc
-atomic_refused maps state width op Ctx distance dst src s e = cc
-atomic_refused maps state width op (Stack place) distance dst src s e = cc
-atomic_refused maps state width op (Packet id off range) distance dst src s e = cc
-atomic_refused maps state width op PacketEnd distance dst src s e = cc
-atomic_refused maps state width op (Map map) distance dst src s e = cc
-atomic_refused maps state width op (ValueOrNull map id) distance dst src s e = cc
-
--- no atomic operation is let through as yet
-pub atomic_sound : (program : Program) (held : Held) (state : State) (machine : MachineState) (width : Width) (op : AtomicOp) (dst src : Register) (offset : ℤ) (flow : Flow) →
-    flow_of program.maps state machine.slot (AtomicUpdate width op dst src offset) ≡ Ok flow →
-    Follows program held flow machine (AtomicUpdate width op dst src offset) (instruction_step program (AtomicUpdate width op dst src offset) machine)
-atomic_sound program held state machine width op dst src offset flow e =
-    let made = falls_made (atomic_flow program.maps state width op dst src offset) flow e
-    in let first = ok_then (fetch_writable (fetched_register op src)) (λ _. reads_atomic state op dst src >>= (λ _. atomic_of program.maps state width op dst src offset)) made.0 made.1.0
-    in let second = ok_then (reads_atomic state op dst src) (λ _. atomic_of program.maps state width op dst src offset) made.0 first.1.1
-    in absurd (atomic_refused program.maps state width op (kind_of state dst) offset dst src made.0 second.1.1)

@@ -1,5 +1,5 @@
 use Rattle.std.proofs.Common.{◌≡◌}
 use Rattle.bench_maps.proofs.updates.Given as goal
 
-abbrev pub invariant-loop-gone : goal.invariant-loop-gone
-invariant-loop-gone l = l.shard.size ≡ 16
+abbrev pub invariant-loop-key : goal.invariant-loop-key
+invariant-loop-key l = l.shard.size ≡ 16

@@ -1,5 +1,9 @@
 //! Instructions and programs, by the words of a listing, and the runs of them.
 
+ghost use Rattle.std.specs.Prelude.{IfOk};
+ghost use Rattle.ebpf_decode.specs.declared.version.Version.TheVariants.{V1};
+ghost use Rattle.ebpf_decode.specs.Served.{IsServedImage};
+
 use ebpf_decode::{Image, Insn, MapDef, MapKind, Version};
 use isa::Register::{R1, R2, R10};
 use isa::{AluOp, Register, Size, Source, Test, Width};
@@ -116,7 +120,9 @@ pub(super) fn accepted(
     maps: &[MapDef],
     head: &[Insn],
     tail: &[Insn],
-) -> Result<Verified, Fail> {
+) -> Result<Verified, Fail>
+    ensures { IfOk result (λ v. IsServedImage (record { version = V1; maps = v.maps; code = v.code })) }
+{
     let mut all_maps = Vec::new(alloc);
     all_maps.extend_from_slice(maps)?;
     let mut code = Vec::new(alloc);

@@ -1,6 +1,8 @@
 //! Programs that look keys up, and what they leave in the journals.
 
 ghost use Rattle.std.specs.Prelude.{◌<◌};
+ghost use Rattle.ebpf_decode.specs.declared.version.Version.TheVariants.{V1};
+ghost use Rattle.ebpf_decode.specs.Served.{IsServedImage};
 
 use super::programs::{
     ARRAY, EXIT, MOMENT, OPTIONS, SMALL, accepted, add, copy, jump_if, load, look_up, mov, put,
@@ -27,15 +29,17 @@ fn exit(verdict: Verdict, steps: u64) -> Exit {
 /// The entries of a shard's journal, each as what worker 2 asked and what was replied.
 fn says(rt: &impl Abort, shards: &mut Shards, number: u32, want: &[(Call, Reply)], name: &str) {
     assert!(rt; (number as usize) < shards.count());
-    let entries = shards.shard(number).entries();
-    assert_eq!(rt; entries.len(), want.len(), "{name}");
-    for (entry, (call, reply)) in entries.iter().zip(want) {
+    let journal = shards.shard(number).journal();
+    assert_eq!(rt; journal.len(), want.len(), "{name}");
+    for (place, (call, reply)) in want.iter().enumerate() {
+        assert!(rt; place < journal.len());
+        let entry = journal.entry(place);
         let wanted = Entry {
             who: Caller::Worker { number: 2 },
             call: *call,
             reply: *reply,
         };
-        assert_eq!(rt; *entry, wanted, "{name}");
+        assert_eq!(rt; entry, wanted, "{name}");
     }
 }
 
@@ -99,9 +103,14 @@ fn leaves(
     entries: &[(Call, Reply)],
     name: &str,
 ) -> Result<(), Fail>
-    requires { MOMENT.worker < options.workers }
+    requires worker { MOMENT.worker < options.workers }
+    requires served { IsServedImage (record { version = V1; maps = verified.now.maps; code = verified.now.code }) }
 {
-    let image = verified.image();
+    match verified.unrun() {
+        Some(reject) => return Err(Fail::from(reject)),
+        None => {}
+    }
+    let image = verified.served_image();
     let mut shards = Shards::open(alloc, image, options)?;
     opened_shards_are_ready();
     let mut frame = Frame::of(alloc, bytes)?;

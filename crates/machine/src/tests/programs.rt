@@ -1,6 +1,8 @@
 //! Instructions and programs, by the words of a listing, and the runs of them.
 
-ghost use Rattle.std.specs.Prelude.{◌<◌};
+ghost use Rattle.std.specs.Prelude.{◌<◌, IfOk};
+ghost use Rattle.ebpf_decode.specs.declared.version.Version.TheVariants.{V1};
+ghost use Rattle.ebpf_decode.specs.Served.{IsServedImage};
 
 use super::nothing::NothingPort;
 use crate::{Exit, Moment, run};
@@ -124,7 +126,9 @@ pub(super) fn accepted(
     maps: &[MapDef],
     head: &[Insn],
     tail: &[Insn],
-) -> Result<Verified, Fail> {
+) -> Result<Verified, Fail>
+    ensures { IfOk result (λ v. IsServedImage (record { version = V1; maps = v.maps; code = v.code })) }
+{
     let mut all_maps = Vec::new(alloc);
     all_maps.extend_from_slice(maps)?;
     let mut code = Vec::new(alloc);
@@ -147,8 +151,13 @@ pub(super) fn ran(
     moment: &Moment,
     bytes: &[u8],
 ) -> Result<Outcome, Fail>
-    requires { moment.now.worker < 8 }
+    requires worker { moment.now.worker < 8 }
+    requires arrays { IsServedImage (record { version = V1; maps = verified.now.maps; code = verified.now.code }) }
 {
+    match verified.unrun() {
+        Some(reject) => return Err(Fail::from(reject)),
+        None => {}
+    }
     let mut port = NothingPort::over(verified.image());
     let mut frame = Frame::of(alloc, bytes)?;
     let exit = run(verified, &mut frame, moment, &mut port)?;

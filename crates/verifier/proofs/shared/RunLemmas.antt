@@ -1,25 +1,28 @@
 -- A sound run's next instruction is one that its entry state lets through, so it does not trap.
-use Rattle.std.proofs.Common.{◌≡◌, ℕ, ◌<◌, true, List, Option, refl, ◌∙◌, ap, subst, ⊎_elim, arith}
+use Rattle.std.proofs.Common.{◌≡◌, ℕ, ◌<◌, true, List, Option, Some, IsTrue, refl, ◌∙◌, ap, subst, ⊎_elim, arith}
 use Rattle.std.proofs.lemmas.Bool.{cases_lt}
 use Rattle.ebpf_decode.specs.declared.insn.Insn.{Insn}
+use Rattle.semantics.specs.declared.plan.ShardPlan.{ShardPlan}
+use Rattle.semantics.specs.declared.call.CellRef.{CellRef}
 use Rattle.semantics.specs.declared.call.Call.{Call}
 use Rattle.semantics.specs.declared.call.Call.TheVariants.{Enter, Leave, Lookup, Load, Store, Atomic, Update, Delete, Reclaim}
 use Rattle.semantics.specs.MachineState.{MachineState}
 use Rattle.semantics.specs.Step.{Step, Continues, CallsMap, Exits, Traps}
 use Rattle.semantics.specs.Semantics.{next_step}
+use Rattle.semantics.specs.Reclamation.{is_inside}
 use Rattle.semantics.specs.ShardPlan.{plan_at}
 use Rattle.semantics.specs.History.{shard_of_call}
-use Rattle.semantics.specs.System.{Setting, program_of, SystemState, WorkerState, Idle, Runs, Leaves, worker_state, is_entered}
+use Rattle.semantics.specs.System.{Setting, program_of, SystemState, WorkerState, Idle, Runs, Leaves, worker_state, history_of, is_entered}
 use Rattle.semantics.specs.Safety.{IsServedCall, DoesNotTrap, IsSafeRun, IsSafeWorker}
 use Rattle.abstract_state.specs.declared.flow.Flow.{Flow}
 use Rattle.abstract_state.specs.declared.flow.Flow.TheVariants.{Ends, Falls, Jumps, Splits}
 use Rattle.abstract_state.specs.declared.state.State.{State}
 use Rattle.abstract_state.specs.Soundness.{IsServed, Follows}
-use Rattle.verifier.proofs.SystemInvariant.{entered_of, held_by, IsSoundRun, IsSoundWorker, IsSetting, IsSoundSystem}
+use Rattle.verifier.proofs.SystemInvariant.{entered_of, held_by, IsSoundRun, IsSoundWorker, IsSoundShard, IsSetting, IsSoundSystem}
 use Rattle.verifier.proofs.PlanLemmas.{some_shards, plan_exists}
 pub use Rattle.verifier.proofs.InstructionLemmas.{begins_within}
 use Rattle.verifier.proofs.shared.PlaceLemmas.{Here, here_of}
-use Rattle.verifier.proofs.SettingLemmas.{held_facts, lookup_served, load_served}
+use Rattle.verifier.proofs.SettingLemmas.{held_facts, lookup_served, load_served, store_served, atomic_served, update_served, delete_served}
 
 -- ---- its calls are served
 
@@ -29,25 +32,51 @@ pub is_worker : (setting : Setting) (states : List (Option State)) (system : Sys
 is_worker setting states system worker state entered sound runs =
     ⊎_elim (λ few. few) (λ more. absurd (let idle : worker_state system worker ≡ Idle = sound.numbers worker more in cc)) (cases_lt worker setting.options.workers)
 
-call_served : (setting : Setting) (states : List (Option State)) (system : SystemState) (worker : ℕ) (state : MachineState) (entered : List ℕ) → IsSetting setting states →
+-- the shard of a held cell
+record CellShard (setting : Setting) (system : SystemState) (worker : ℕ) (entered : List ℕ) (cell : CellRef) : Type 0 where
+  plan : ShardPlan
+  planned : plan_at setting.maps setting.options cell.shard ≡ Some plan
+  sound : IsSoundShard plan (history_of system cell.shard)
+  inside : is_inside worker (history_of system cell.shard) ≡ is_entered cell.shard entered
+
+cell_shard : (setting : Setting) (states : List (Option State)) (system : SystemState) (worker : ℕ) (state : MachineState) (entered : List ℕ) (map : ℕ) (cell : CellRef) → IsSetting setting states →
+    IsSoundSystem setting states system → worker_state system worker ≡ Runs state entered → IsTrue (held_by setting system worker entered map cell.shard cell.id) →
+    CellShard setting system worker entered cell
+cell_shard setting states system worker state entered map cell good sound runs is_held =
+    let was : is_entered cell.shard entered ≡ true = (held_facts setting system worker entered map cell.shard cell.id is_held).was_entered
+    in let below = sound.entered worker cell.shard (ap (λ one. is_entered cell.shard (entered_of one)) runs ∙ was)
+    in let planned = plan_exists setting.maps setting.options cell.shard below (some_shards setting.maps setting.options good.options)
+    in record {
+      plan = planned.0;
+      planned = planned.1;
+      sound = sound.each_shard cell.shard planned.0 planned.1;
+      inside = sound.inside worker cell.shard ∙ ap (λ one. is_entered cell.shard (entered_of one)) runs;
+    }
+
+pub call_served : (setting : Setting) (states : List (Option State)) (system : SystemState) (worker : ℕ) (state : MachineState) (entered : List ℕ) → IsSetting setting states →
     IsSoundSystem setting states system → worker_state system worker ≡ Runs state entered → (call : Call) → IsServed (program_of setting) (held_by setting system worker entered) call →
     IsServedCall (plan_at setting.maps setting.options (shard_of_call call)) system worker entered call
 call_served setting states system worker state entered good sound runs (Lookup shard key) served =
     lookup_served setting states system worker entered shard key good (is_worker setting states system worker state entered sound runs)
     (sound.inside worker shard ∙ ap (λ one. is_entered shard (entered_of one)) runs) served
 call_served setting states system worker state entered good sound runs (Load cell offset width) served =
-    let was : is_entered cell.shard entered ≡ true = (held_facts setting system worker entered served.map cell.shard cell.id served.holds).was_entered
-    in let below = sound.entered worker cell.shard (ap (λ one. is_entered cell.shard (entered_of one)) runs ∙ was)
-    in let planned = plan_exists setting.maps setting.options cell.shard below (some_shards setting.maps setting.options good.options)
-    in load_served setting states system worker entered cell offset width good (is_worker setting states system worker state entered sound runs)
-    (sound.inside worker cell.shard ∙ ap (λ one. is_entered cell.shard (entered_of one)) runs)
-    planned.0 planned.1 (sound.each_shard cell.shard planned.0 planned.1) served
+    let at = cell_shard setting states system worker state entered served.map cell good sound runs served.holds
+    in load_served setting states system worker entered cell offset width good (is_worker setting states system worker state entered sound runs) at.inside at.plan at.planned at.sound served
+call_served setting states system worker state entered good sound runs (Store cell offset width value) served =
+    let at = cell_shard setting states system worker state entered served.at.map cell good sound runs served.at.holds
+    in store_served setting states system worker entered cell offset width value good (is_worker setting states system worker state entered sound runs) at.inside at.plan at.planned at.sound served
+call_served setting states system worker state entered good sound runs (Atomic cell offset width op value expected) served =
+    let at = cell_shard setting states system worker state entered served.map cell good sound runs served.holds
+    in atomic_served setting states system worker entered cell offset width op value expected good (is_worker setting states system worker state entered sound runs)
+    at.inside at.plan at.planned at.sound served
+call_served setting states system worker state entered good sound runs (Update shard key value flags) served =
+    update_served setting states system worker entered shard key value flags good (is_worker setting states system worker state entered sound runs)
+    (sound.inside worker shard ∙ ap (λ one. is_entered shard (entered_of one)) runs) served
+call_served setting states system worker state entered good sound runs (Delete shard key) served =
+    delete_served setting states system worker entered shard key good (is_worker setting states system worker state entered sound runs)
+    (sound.inside worker shard ∙ ap (λ one. is_entered shard (entered_of one)) runs) served
 call_served setting states system worker state entered good sound runs (Enter shard) served = absurd served
 call_served setting states system worker state entered good sound runs (Leave shard) served = absurd served
-call_served setting states system worker state entered good sound runs (Store cell offset width value) served = absurd served
-call_served setting states system worker state entered good sound runs (Atomic cell offset width op value expected) served = absurd served
-call_served setting states system worker state entered good sound runs (Update shard key value flags) served = absurd served
-call_served setting states system worker state entered good sound runs (Delete shard key) served = absurd served
 call_served setting states system worker state entered good sound runs (Reclaim shard) served = absurd served
 
 -- ---- and it does not trap

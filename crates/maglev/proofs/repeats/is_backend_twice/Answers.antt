@@ -9,12 +9,12 @@ pub returns-then-is_number_of : goal.returns-then-is_number_of
 returns-then-is_number_of c =
     elim c.then-is_number_of.branch [
       | then-is_number_of-via-then-is_number_of w ↦ (
-        λ _. inl (HasRepeat-found (λ (backend : Backend). backend.number) c.args.backends.now c.backends.later (record { number = 0; address = [] })
+        λ _. inl (HasRepeat-found (λ (backend : Backend). backend.number) c.args.backends.now c.backends.later (record { number = 0; address = record { 0 = [] } })
             c.backends-test.true (c.is_number_of.ensures.0 w.if-is_number_of.true)),
         λ _. refl,
       )
       | then-is_number_of-via-else-is_number_of+then-is_address_of w ↦ (
-        λ _. inr (HasRepeat-found (λ (backend : Backend). backend.address) c.args.backends.now c.backends.later (record { number = 0; address = [] })
+        λ _. inr (HasRepeat-found (λ (backend : Backend). backend.address) c.args.backends.now c.backends.later (record { number = 0; address = record { 0 = [] } })
             c.backends-test.true (w.is_address_of.ensures.0 w.if-is_address_of.true)),
         λ _. refl,
       )
@@ -22,8 +22,8 @@ returns-then-is_number_of c =
 
 pub backends-preserved : goal.backends-preserved
 backends-preserved c = (
-  NoneBelow-next (λ (backend : Backend). backend.number) c.args.backends.now c.backends.later (record { number = 0; address = [] }) c.backends-test.true
+  NoneBelow-next (λ (backend : Backend). backend.number) c.args.backends.now c.backends.later (record { number = 0; address = record { 0 = [] } }) c.backends-test.true
       (λ found. true≢false (sym (c.is_number_of.ensures.1 found) ∙ c.if-is_number_of.false)) c.backends.invariant.0,
-  NoneBelow-next (λ (backend : Backend). backend.address) c.args.backends.now c.backends.later (record { number = 0; address = [] }) c.backends-test.true
+  NoneBelow-next (λ (backend : Backend). backend.address) c.args.backends.now c.backends.later (record { number = 0; address = record { 0 = [] } }) c.backends-test.true
       (λ found. true≢false (sym (c.is_address_of.ensures.1 found) ∙ c.if-is_address_of.false)) c.backends.invariant.1,
 )

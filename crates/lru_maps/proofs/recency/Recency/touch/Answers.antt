@@ -3,6 +3,6 @@ use Rattle.lru_maps.proofs.recency.Recency.touch.Goals as goal
 
 pub returns : goal.returns
 returns c = record {
-  order = rw c.promote.ensures.entries (order_promoted c.args.number c.args.self.now.cache.entries);
-  by_use = λ last now latest by_use. rw c.promote.ensures.entries (by_use_touched last c.args.number now latest c.args.self.now.cache.entries c.len-valid.ensures.valid.0 by_use);
+  order = rw c.put_first.ensures (order_promoted c.args.number c.args.self.now.cache.entries);
+  by_use = λ last now latest by_use. rw c.put_first.ensures (by_use_touched last c.args.number now latest c.args.self.now.cache.entries c.len-valid.ensures.valid.0 by_use);
 }

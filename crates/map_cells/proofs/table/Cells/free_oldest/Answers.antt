@@ -8,8 +8,8 @@ place_in-place-requires c =
     let waiting = rw c.in-Some.ensures.items at c.self.invariant.waiting in
     rw c.deref.ensures.value (given_id c.self.inside.place_of.items c.in-Some.one.id (waiting.kept 0 (omega arith)))
 
-pub push_reserved-requires : goal.push_reserved-requires
-push_reserved-requires c =
+pub give_place-requires : goal.give_place-requires
+give_place-requires c =
     let inside = c.self.inside in
     let waiting = rw c.in-Some.ensures.items at c.self.invariant.waiting in
     let room = room_for_freed inside.places c.self.invariant.few inside.place_of.items inside.free.items c.in-Some.one.id c.self.invariant.allotted (waiting.kept 0 (omega arith)) in
@@ -21,12 +21,12 @@ invariant_of-self c =
     let waiting = rw c.in-Some.ensures.items at c.self.invariant.waiting in
     let some = waiting.kept 0 (omega arith) in
     let place = rw c.deref.ensures.value at c.place_in-place.ensures in
-    rw (c.push_reserved.ensures.items, place) (record {
+    rw (c.give_place.ensures.items, place) (record {
       small_size = c.self.invariant.small_size;
       few = c.self.invariant.few;
       bytes_room = c.self.invariant.bytes_room;
       id_room = c.self.invariant.id_room;
-      free_room = omega (arith, c.self.invariant.free_room, c.push_reserved.ensures.capacity);
+      free_room = omega (arith, c.self.invariant.free_room, c.give_place.ensures.room);
       retired_room = omega (arith, c.self.invariant.retired_room, c.pop_front.ensures.capacity);
       allotted = freed inside.places c.self.invariant.few inside.place_of.items inside.free.items c.in-Some.one.id c.self.invariant.allotted some;
       waiting = waiting_freed inside.place_of.items c.in-Some.one c.pop_front.new.self.items waiting;
@@ -36,4 +36,4 @@ pub returns : goal.returns
 returns c =
     let inside = c.self.inside in
     let cells = cells_freed inside.size inside.bytes.items inside.place_of.items c.in-Some.one.id in
-    rw (← c.self.view_is, c.in-Some.ensures.items, c.push_reserved.ensures.items, cells, length-append inside.free.items (c.place_in-place.result ∷ [])) refl
+    rw (← c.self.view_is, c.in-Some.ensures.items, c.give_place.ensures.items, cells, length-append inside.free.items (c.place_in-place.result ∷ [])) refl

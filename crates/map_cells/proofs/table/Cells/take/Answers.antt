@@ -6,36 +6,36 @@ use Rattle.map_cells.proofs.table.Cells.take.Goals as goal
 pub write_at-requires-clause-within : goal.write_at-requires-clause-within
 write_at-requires-clause-within c =
     let inside = c.self.inside in
-    let p = c.in-Some.place in
-    let before = rw c.in-Some.ensures.items at c.self.invariant.allotted in
-    let ends = end_of_place p inside.places inside.size (taken_in_range inside.places c.self.invariant.few inside.place_of.items c.pop.new.self.items p before) in
+    let p = c.taken_place-place.result in
+    let before = rw c.taken_place-place.ensures.items at c.self.invariant.allotted in
+    let ends = end_of_place p inside.places inside.size (taken_in_range inside.places c.self.invariant.few inside.place_of.items c.taken_place-place.new.free.items p before) in
     omega (arith, ends, c.self.invariant.bytes_room)
 
 pub invariant_of-self : goal.invariant_of-self
 invariant_of-self c =
     let inside = c.self.inside in
-    let p = c.in-Some.place in
-    let before = rw c.in-Some.ensures.items at c.self.invariant.allotted in
+    let p = c.taken_place-place.result in
+    let before = rw c.taken_place-place.ensures.items at c.self.invariant.allotted in
     rw c.push_reserved.ensures.items (record {
       small_size = c.self.invariant.small_size;
       few = c.self.invariant.few;
       bytes_room = c.write_at.ensures.len ∙ c.self.invariant.bytes_room;
       id_room = omega (arith, c.self.invariant.id_room, c.push_reserved.ensures.capacity);
-      free_room = omega (arith, c.self.invariant.free_room, c.pop.ensures.capacity);
+      free_room = omega (arith, c.self.invariant.free_room, c.taken_place-place.ensures.room);
       retired_room = c.self.invariant.retired_room;
-      allotted = taken inside.places c.self.invariant.few inside.place_of.items c.pop.new.self.items p before;
+      allotted = taken inside.places c.self.invariant.few inside.place_of.items c.taken_place-place.new.free.items p before;
       waiting = waiting_taken inside.place_of.items p inside.retired.items c.self.invariant.waiting;
     })
 
 pub returns-clause-table : goal.returns-clause-table
 returns-clause-table c =
     let inside = c.self.inside in
-    let p = c.in-Some.place in
-    let before = rw c.in-Some.ensures.items at c.self.invariant.allotted in
-    let ends = end_of_place p inside.places inside.size (taken_in_range inside.places c.self.invariant.few inside.place_of.items c.pop.new.self.items p before) in
+    let p = c.taken_place-place.result in
+    let before = rw c.taken_place-place.ensures.items at c.self.invariant.allotted in
+    let ends = end_of_place p inside.places inside.size (taken_in_range inside.places c.self.invariant.few inside.place_of.items c.taken_place-place.new.free.items p before) in
     let size = rw (← c.self.view_is) at c.requires.size in
     let within : p * inside.size + inside.size ≤ length inside.bytes.items = omega (arith, ends, c.self.invariant.bytes_room) in
     let whole = overwritten_whole c.args.bytes.now _ (size ∙ sym (length_of_block inside.size inside.bytes.items p within)) in
-    let cells = cells_taken inside.places c.self.invariant.few inside.place_of.items c.pop.new.self.items p before inside.size inside.bytes.items c.write_at.new.bytes.items c.args.bytes.now c.write_at.ensures.elsewhere (c.write_at.ensures.here ∙ whole) in
-    let count : length inside.free.items - 1 ≡ length c.pop.new.self.items = rw c.in-Some.ensures.items (omega (arith, length-append c.pop.new.self.items (p ∷ []))) in
+    let cells = cells_taken inside.places c.self.invariant.few inside.place_of.items c.taken_place-place.new.free.items p before inside.size inside.bytes.items c.write_at.new.bytes.items c.args.bytes.now c.write_at.ensures.elsewhere (c.write_at.ensures.here ∙ whole) in
+    let count : length inside.free.items - 1 ≡ length c.taken_place-place.new.free.items = rw c.taken_place-place.ensures.items (omega (arith, length-append c.taken_place-place.new.free.items (p ∷ []))) in
     rw (← c.self.view_is, c.push_reserved.ensures.items, cells, count) refl

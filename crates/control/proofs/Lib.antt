@@ -1,0 +1,6 @@
+pub mod Bytes
+pub mod Words
+pub mod Scripts
+pub mod Serving
+pub mod Backends
+pub mod Updates

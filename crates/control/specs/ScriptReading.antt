@@ -1,0 +1,81 @@
+-- What is read of a script: its commands, or the first line that is none.
+use Rattle.std.specs.Prelude.{◌≡◌, ◌≢◌, ℕ, ◌+◌, ◌<◌, ◌≤◌, ◌⊎◌, ◌==◌, List, [], ◌∷◌, ◌++◌, length, take, slice_index, Option, Some, None, count_by}
+use Rattle.std.specs.List.{AllByRecursion}
+use Rattle.std.specs.Str.{IsUtf8, IsValidUpTo}
+use Rattle.control.specs.declared.command.Command.{Command}
+use Rattle.control.specs.declared.fault.ControlFault.{ControlFault}
+use Rattle.control.specs.declared.fault.ControlFault.TheVariants.{BadLine, Memory}
+use Rattle.control.specs.ScriptText.{CommandFits, IsCommandLine, NeverFalls, line_of, ended, script_text}
+
+-- no byte is the mark
+abbrev pub Lacks : ℕ → List ℕ → Type 0
+Lacks mark xs = (i : ℕ) → i < length xs → slice_index xs i ≢ mark
+
+-- the one command whose line this is, if it is one's
+abbrev pub TellsCommand : List ℕ → Option Command → Type 0
+TellsCommand line None = (command : Command) → ¬ IsCommandLine command line
+TellsCommand line (Some command) = IsCommandLine command line × ((other : Command) → IsCommandLine other line → other ≡ command)
+
+-- a command that no other one's line spells
+abbrev pub IsKnownCommand : Command → Type 0
+IsKnownCommand command = TellsCommand (line_of command) (Some command)
+
+-- the first line is no command's, or there is no whole line
+abbrev pub BeginsWithNoCommand : List ℕ → Type 0
+BeginsWithNoCommand text = (command : Command) (line more : List ℕ) → IsCommandLine command line → text ≢ line ++ 10 ∷ more
+
+-- nor one's whose frame is this one or later
+abbrev pub BeginsWithNoneFrom : ℕ → List ℕ → Type 0
+BeginsWithNoneFrom least text =
+    (command : Command) (line more : List ℕ) → IsCommandLine command line → least ≤ command.frame → text ≢ line ++ 10 ∷ more
+
+-- the first line is this command's
+pub record IsFirstCommand (text : List ℕ) (command : Command) (rest : List ℕ) : Type 0 where
+  pub known : IsKnownCommand command
+  pub text_is : text ≡ ended (line_of command) ++ rest
+
+-- the frame of the last command, or this one
+abbrev pub last_frame : ℕ → List Command → ℕ
+last_frame least [] = least
+last_frame least (command ∷ commands) = last_frame command.frame commands
+
+-- as many commands' lines as there are, and the rest
+pub record AreRead (text : List ℕ) (commands : List Command) (rest : List ℕ) : Type 0 where
+  pub known : AllByRecursion IsKnownCommand commands
+  pub never_falls : NeverFalls 0 commands
+  pub text_is : text ≡ script_text commands ++ rest
+  pub stops : BeginsWithNoneFrom (last_frame 0 commands) rest
+
+-- ---- which line is bad
+
+-- after these commands comes a line that is none, or one of an earlier frame
+pub record IsBadAfter (text : List ℕ) (line : ℕ) : Type 0 where
+  pub commands : List Command
+  pub rest : List ℕ
+  pub fit : AllByRecursion CommandFits commands
+  pub never_falls : NeverFalls 0 commands
+  pub line_is : line ≡ 1 + length commands
+  pub text_is : text ≡ script_text commands ++ rest
+  pub not_ended : 0 < length rest
+  pub stops : BeginsWithNoneFrom (last_frame 0 commands) rest
+
+-- the line of the first byte that is no UTF-8
+pub record IsNoText (bytes : List ℕ) (line : ℕ) : Type 0 where
+  pub valid : ℕ
+  pub not_utf8 : ¬ IsUtf8 bytes
+  pub valid_up_to : IsValidUpTo bytes valid
+  pub line_is : line ≡ 1 + count_by (λ byte. byte == 10) (take valid bytes)
+
+-- the line, counted from 1, for which the bytes are refused
+abbrev pub IsBadLine : List ℕ → ℕ → Type 0
+IsBadLine bytes line = IsNoText bytes line ⊎ (IsUtf8 bytes × IsBadAfter bytes line)
+
+-- why the bytes are no script
+pub record IsRefusedAt (bytes : List ℕ) (fault : ControlFault) : Type 0 where
+  pub line : ℕ
+  pub fault_is : fault ≡ BadLine line
+  pub bad : IsBadLine bytes line
+
+-- why the bytes were not read: a bad line, or memory was refused
+abbrev pub Explains : List ℕ → ControlFault → Type 0
+Explains bytes fault = IsRefusedAt bytes fault ⊎ (fault ≡ Memory)

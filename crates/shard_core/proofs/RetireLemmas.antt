@@ -1,0 +1,332 @@
+-- What a retirement and a Reclaim leave of cells and keys.
+use Rattle.std.proofs.Common.{◌≡◌, ◌≢◌, ◌⊎◌, ℕ, suc, ◌+◌, ◌-◌, ◌*◌, ◌<◌, ◌≤◌, Bool, true, false, cond, not, ◌||◌, nat_lt, nat_le, List, [], ◌∷◌, ◌++◌, map, reverse, length, get_or, Option, Some, None, arith, refl, sym, ◌∙◌, ap, subst, inl, inr}
+use Rattle.std.specs.Prelude.{◌==◌, IsTrue, filter, find, option_map, bytes_eq, is_some, if◌then◌else◌}
+use Rattle.std.specs.List.{AllByRecursion, list_any}
+use Rattle.std.proofs.lemmas.List.{length-reverse, length-append, reverse-append, get_or_append_left, get_or_push}
+use Rattle.std.proofs.lemmas.List.Elements.{filter-append}
+use Rattle.std.proofs.lemmas.List.Filters.{length-filter_both}
+use Rattle.std.proofs.lemmas.Bool.Decides.{nat_tests}
+use Rattle.ebpf_decode.specs.declared.map.MapKind.{MapKind}
+use Rattle.ebpf_decode.specs.declared.map.MapKind.TheVariants.{Array, Hash, LruHash}
+use Rattle.semantics.specs.declared.call.Entry.{Entry}
+use Rattle.semantics.specs.declared.plan.ShardPlan.{ShardPlan}
+use Rattle.semantics.specs.declared.plan.PresentKey.{PresentKey}
+use Rattle.semantics.specs.declared.plan.RetiredCell.{RetiredCell}
+use Rattle.semantics.specs.ShardPlan.{capacity}
+use Rattle.semantics.specs.Reclamation.{is_reclaimable}
+use Rattle.semantics.specs.SequentialShard.{SequentialShard, cell_of_present, without_key, is_kept, is_kept_of_kind}
+use Rattle.semantics.specs.UseLaws.{ArePairwise}
+use Rattle.semantics.proofs.HoldingLemmas.{each_weaker, IsSound}
+use Rattle.map_cells.specs.declared.retired.Retired.{Retired}
+use Rattle.map_cells.specs.CellTable.{CellTable, retired_at, unused_retired, with_retired, is_below, freed_below, without_cells, IsNotRetired, IsLatestStamp}
+use Rattle.plain_maps.specs.HashTable.{cell_of}
+use Rattle.shard_core.specs.declared.keys.KeyTable.{KeyTable}
+use Rattle.shard_core.specs.declared.keys.KeyTable.TheVariants.{Indices, Hashed}
+use Rattle.shard_core.specs.KeyTables.{cell_in, FitsPlan, HasKeys, IsKeyed, IsRemoved}
+use Rattle.shard_core.specs.ShardFields.{Mirrors, waiting, IsBalanced, IsContents}
+use Rattle.shard_core.proofs.MirrorLemmas.{mirrors_fewer, mirrors_without, length-without, IsNone}
+use Rattle.shard_core.proofs.StateLemmas.{IsApart, IsGone, key_gone}
+
+-- ---- the retired cells, the oldest first
+
+abbrev pub oldest_first : List RetiredCell → List Retired
+oldest_first gone = reverse (map waiting gone)
+
+oldest_cons : (one : RetiredCell) (others : List RetiredCell) → oldest_first (one ∷ others) ≡ oldest_first others ++ waiting one ∷ []
+oldest_cons one others = reverse-append (waiting one ∷ []) (map waiting others)
+
+same_count : (gone : List RetiredCell) → length (map waiting gone) ≡ length gone
+same_count [] = refl
+same_count (one ∷ others) = ap suc (same_count others)
+
+pub oldest_count : (gone : List RetiredCell) → length (oldest_first gone) ≡ length gone
+oldest_count gone = length-reverse (map waiting gone) ∙ same_count gone
+
+-- what holds of each holds at each place
+pub each_oldest : (P : Retired → Type 0) (gone : List RetiredCell) → AllByRecursion (λ one. P (waiting one)) gone → (k : ℕ) → k < length (oldest_first gone) → P (get_or (oldest_first gone) k unused_retired)
+each_oldest P [] each k within = absurd (omega (arith, within))
+each_oldest P (one ∷ others) each k within = rw (oldest_cons one others) (by_place (nat_lt k (length (oldest_first others))) refl (each_oldest P others each.1 k))
+  where
+    by_place : (test : Bool) → nat_lt k (length (oldest_first others)) ≡ test → (k < length (oldest_first others) → P (get_or (oldest_first others) k unused_retired))
+        → P (get_or (oldest_first others ++ waiting one ∷ []) k unused_retired)
+    by_place true is before =
+        let here : k < length (oldest_first others) = grind (arith, nat_tests) in
+        subst P (sym (get_or_append_left (oldest_first others) (waiting one ∷ []) unused_retired k here)) (before here)
+    by_place false is before =
+        let long : length (oldest_first (one ∷ others)) ≡ length (oldest_first others) + 1 = ap length (oldest_cons one others) ∙ length-append (oldest_first others) (waiting one ∷ []) in
+        let past : length (oldest_first others) ≤ k = grind (arith, nat_tests) in
+        let last : length (oldest_first others) ≡ k = omega (arith, long, past, within) in
+        subst P (sym (get_or_push (oldest_first others) (waiting one) unused_retired k last)) each.0
+
+-- ---- a retirement
+
+pub not_retired : (cell : ℕ) (cells : CellTable) (gone : List RetiredCell) → cells.retired ≡ oldest_first gone → AllByRecursion (λ (one : RetiredCell). one.cell ≡ cell → ⊥) gone → IsNotRetired cells cell
+not_retired cell cells gone same each =
+    subst (λ all. (k : ℕ) → k < length all → (retired_at all k).id ≢ cell) (sym same) (each_oldest (λ one. one.id ≢ cell) gone each)
+
+pub latest_stamp : (place : ℕ) (cells : CellTable) (gone : List RetiredCell) → cells.retired ≡ oldest_first gone → AllByRecursion (λ (one : RetiredCell). one.since < place) gone → IsLatestStamp cells place
+latest_stamp place cells gone same each =
+    subst (λ all. (k : ℕ) → k < length all → (retired_at all k).stamp ≤ place) (sym same)
+    (each_oldest (λ one. one.stamp ≤ place) gone (each_weaker (λ (one : RetiredCell). one.since < place) (λ (one : RetiredCell). one.since ≤ place) (λ one before. omega (arith, before)) gone each))
+
+second_or : (a b c : Bool) → (a ≡ true → b ≡ true) → (a || c) ≡ true → (b || c) ≡ true
+second_or true b c more is = rw (more refl) refl
+second_or false true c more is = refl
+second_or false false c more is = is
+
+any_first : (test keep : PresentKey → Bool) (xs : List PresentKey) → list_any test (filter keep xs) ≡ true → list_any test xs ≡ true
+any_first test keep [] found = found
+any_first test keep (x ∷ xs) found = by_keep (keep x) found (any_first test keep xs)
+  where
+    by_keep : (k : Bool) → list_any test (cond k (x ∷ filter keep xs) (filter keep xs)) ≡ true → (list_any test (filter keep xs) ≡ true → list_any test xs ≡ true) → (test x || list_any test xs) ≡ true
+    by_keep true found later = by_test (test x) found later
+      where
+        by_test : (t : Bool) → (t || list_any test (filter keep xs)) ≡ true → (list_any test (filter keep xs) ≡ true → list_any test xs ≡ true) → (t || list_any test xs) ≡ true
+        by_test true found later = refl
+        by_test false found later = later found
+    by_keep false found later = by_test (test x) (later found)
+      where
+        by_test : (t : Bool) → list_any test xs ≡ true → (t || list_any test xs) ≡ true
+        by_test true found = refl
+        by_test false found = found
+
+-- who is kept without a key was kept before: present, or the key's own cell
+kept_of_retired : (state : SequentialShard) (place : ℕ) (gone : PresentKey) (id : ℕ) → IsTrue (list_any (λ (one : PresentKey). one.cell == gone.cell) state.present) → IsTrue (is_kept_of_kind Hash (without_key state place gone) id) → IsTrue (is_kept_of_kind Hash state id)
+kept_of_retired state place gone id there kept =
+    by_own (gone.cell == id) refl kept
+  where
+    by_own : (own : Bool) → (gone.cell == id) ≡ own
+        → (list_any (λ (one : PresentKey). one.cell == id) (filter (λ (one : PresentKey). not (one.cell == gone.cell)) state.present) || (own || list_any (λ (one : RetiredCell). one.cell == id) state.retired)) ≡ true
+        → (list_any (λ (one : PresentKey). one.cell == id) state.present || list_any (λ (one : RetiredCell). one.cell == id) state.retired) ≡ true
+    by_own true is kept =
+        let same : gone.cell ≡ id = grind (arith, nat_tests) in
+        let here : list_any (λ (one : PresentKey). one.cell == id) state.present ≡ true = subst (λ cell. list_any (λ (one : PresentKey). one.cell == cell) state.present ≡ true) same there in
+        rw here refl
+    by_own false is kept =
+        second_or (list_any (λ (one : PresentKey). one.cell == id) (filter (λ (one : PresentKey). not (one.cell == gone.cell)) state.present))
+        (list_any (λ (one : PresentKey). one.cell == id) state.present) (list_any (λ (one : RetiredCell). one.cell == id) state.retired)
+        (any_first (λ (one : PresentKey). one.cell == id) (λ (one : PresentKey). not (one.cell == gone.cell)) state.present) kept
+
+pub found_any : (key : List ℕ) (gone : PresentKey) (present : List PresentKey) → find (λ (one : PresentKey). bytes_eq one.key key) present ≡ Some gone → list_any (λ (one : PresentKey). one.cell == gone.cell) present ≡ true
+found_any key gone [] found = cc
+found_any key gone (one ∷ rest) found = by_test (bytes_eq one.key key) found (found_any key gone rest)
+  where
+    by_test : (test : Bool) → cond test (Some one) (find (λ (other : PresentKey). bytes_eq other.key key) rest) ≡ Some gone
+        → (find (λ (other : PresentKey). bytes_eq other.key key) rest ≡ Some gone → list_any (λ (other : PresentKey). other.cell == gone.cell) rest ≡ true)
+        → ((one.cell == gone.cell) || list_any (λ (other : PresentKey). other.cell == gone.cell) rest) ≡ true
+    by_test true found later = let same : one.cell ≡ gone.cell = cc in let this : (one.cell == gone.cell) ≡ true = grind (arith, nat_tests) in rw this refl
+    by_test false found later = by_own (one.cell == gone.cell) (later found)
+      where
+        by_own : (own : Bool) → list_any (λ (other : PresentKey). other.cell == gone.cell) rest ≡ true → (own || list_any (λ (other : PresentKey). other.cell == gone.cell) rest) ≡ true
+        by_own true there = refl
+        by_own false there = there
+
+one_gone : (test : Bool) (count before : ℕ) → count + (if test then 1 else 0) ≡ before → test ≡ true → count + 1 ≡ before
+one_gone true count before same is = same
+one_gone false count before same is = cc
+
+pub contents_retired : (plan : ShardPlan) (history later : List Entry) (state : SequentialShard) (cells : CellTable) (keys keys_after : KeyTable) (key : List ℕ) (gone : PresentKey) (place : ℕ)
+    → find (λ (one : PresentKey). bytes_eq one.key key) state.present ≡ Some gone
+    → ArePairwise (λ (one other : PresentKey). one.key ≡ other.key → ⊥) state.present → ArePairwise (λ (one other : PresentKey). one.cell ≡ other.cell → ⊥) state.present
+    → IsRemoved key keys keys_after → IsContents plan history state cells keys
+    → IsContents plan later (without_key state place gone) (with_retired cells gone.cell place) keys_after
+contents_retired plan history later state cells (Indices indices) keys_after key gone place found differ apart removed contents = absurd removed.0
+contents_retired plan history later state cells (Hashed table) (Indices indices) key gone place found differ apart removed contents = absurd removed.0
+contents_retired plan history later state cells (Hashed table) (Hashed table_after) key gone place found differ apart removed contents =
+    let hash : plan.definition.kind ≡ Hash = contents.fits.0 in
+    let balance : IsBalanced Hash plan state cells = subst (λ kind. IsBalanced kind plan state cells) hash contents.balance in
+    let mirrored : Mirrors (is_kept_of_kind Hash state) cells.cells state.cells = subst (λ kind. Mirrors (is_kept_of_kind kind state) cells.cells state.cells) hash contents.mirrored in
+    let left : IsGone key gone state.present = key_gone key gone state.present found differ apart in
+    let there : cell_of table key ≡ Some gone.cell = contents.has.1 key ∙ ap (option_map (λ (one : PresentKey). one.cell)) found in
+    let counted : length table_after.entries + 1 ≡ length table.entries = one_gone (is_some (cell_of table key)) _ _ removed.1 (ap is_some there) in
+    record {
+      sized = contents.sized;
+      counted = contents.counted;
+      mirrored = subst (λ kind. Mirrors (is_kept_of_kind kind (without_key state place gone)) cells.cells state.cells) (sym hash)
+          (mirrors_fewer (is_kept_of_kind Hash state) (is_kept_of_kind Hash (without_key state place gone)) cells.cells state.cells
+          (λ id. kept_of_retired state place gone id (found_any key gone state.present found)) mirrored);
+      retired = ap (λ all. all ++ (record { id = gone.cell; stamp = place }) ∷ []) contents.retired ∙ sym (oldest_cons (record { cell = gone.cell; since = place }) state.retired);
+      id_room = contents.id_room;
+      balance = subst (λ kind. IsBalanced kind plan (without_key state place gone) (with_retired cells gone.cell place)) (sym hash) (balance.0, omega (arith, balance.1, left.count));
+      fits = (hash, removed.0.0 ∙ contents.fits.1, removed.0.1 ∙ contents.fits.2);
+      has = (omega (arith, counted, contents.has.0, left.count), λ q. removed.2 q ∙ ap (cond (bytes_eq key q) None) (contents.has.1 q) ∙ sym (left.finds q));
+    }
+
+-- ---- a Reclaim
+
+filter_oldest : (test : Retired → Bool) (gone : List RetiredCell) → filter test (oldest_first gone) ≡ oldest_first (filter (λ one. test (waiting one)) gone)
+filter_oldest test [] = refl
+filter_oldest test (one ∷ others) =
+    ap (filter test) (oldest_cons one others) ∙ filter-append test (oldest_first others) (waiting one ∷ []) ∙ by_test (test (waiting one)) (filter_oldest test others)
+  where
+    by_test : (t : Bool) → filter test (oldest_first others) ≡ oldest_first (filter (λ one. test (waiting one)) others)
+        → filter test (oldest_first others) ++ cond t (waiting one ∷ []) [] ≡ oldest_first (cond t (one ∷ filter (λ one. test (waiting one)) others) (filter (λ one. test (waiting one)) others))
+    by_test true before = ap (λ front. front ++ waiting one ∷ []) before ∙ sym (oldest_cons one (filter (λ one. test (waiting one)) others))
+    by_test false before = append_nothing (filter test (oldest_first others)) ∙ before
+      where
+        append_nothing : (xs : List Retired) → xs ++ [] ≡ xs
+        append_nothing [] = refl
+        append_nothing (x ∷ xs) = ap (λ rest. x ∷ rest) (append_nothing xs)
+
+filter_same : (first second : RetiredCell → Bool) (gone : List RetiredCell) → AllByRecursion (λ one. first one ≡ second one) gone → filter first gone ≡ filter second gone
+filter_same first second [] each = refl
+filter_same first second (one ∷ others) each = rw (each.0) (rw (filter_same first second others each.1) refl)
+
+-- the retired cells that stand below the floor are those that may be freed
+pub record IsFloorFor (floor : ℕ) (history : List Entry) (gone : List RetiredCell) : Type 0 where
+  pub tells : AllByRecursion (λ (one : RetiredCell). is_below floor (waiting one) ≡ is_reclaimable history one) gone
+
+pub freed_are : (floor : ℕ) (history : List Entry) (gone : List RetiredCell) → IsFloorFor floor history gone → filter (is_below floor) (oldest_first gone) ≡ oldest_first (filter (is_reclaimable history) gone)
+freed_are floor history gone is =
+    filter_oldest (is_below floor) gone ∙ ap oldest_first (filter_same (λ one. is_below floor (waiting one)) (is_reclaimable history) gone is.tells)
+
+left_are : (floor : ℕ) (history : List Entry) (gone : List RetiredCell) → IsFloorFor floor history gone
+    → filter (λ one. not (is_below floor one)) (oldest_first gone) ≡ oldest_first (filter (λ (one : RetiredCell). not (is_reclaimable history one)) gone)
+left_are floor history gone is =
+    filter_oldest (λ one. not (is_below floor one)) gone ∙
+    ap oldest_first (filter_same (λ one. not (is_below floor (waiting one))) (λ (one : RetiredCell). not (is_reclaimable history one)) gone
+    (each_weaker (λ (one : RetiredCell). is_below floor (waiting one) ≡ is_reclaimable history one) (λ (one : RetiredCell). not (is_below floor (waiting one)) ≡ not (is_reclaimable history one)) (λ one same. ap not same) gone is.tells))
+
+any_apart : (cell id : ℕ) (xs : List RetiredCell) → AllByRecursion (λ (other : RetiredCell). cell ≡ other.cell → ⊥) xs → list_any (λ (one : RetiredCell). one.cell == id) xs ≡ true → cell ≡ id → ⊥
+any_apart cell id [] each found same = cc
+any_apart cell id (x ∷ xs) each found same = by_test (x.cell == id) refl found (λ more. any_apart cell id xs each.1 more same)
+  where
+    by_test : (test : Bool) → (x.cell == id) ≡ test → (test || list_any (λ (one : RetiredCell). one.cell == id) xs) ≡ true → (list_any (λ (one : RetiredCell). one.cell == id) xs ≡ true → ⊥) → ⊥
+    by_test true is found later = let this : x.cell ≡ id = grind (arith, nat_tests) in each.0 (same ∙ sym this)
+    by_test false is found later = later found
+
+any_of_filter : (test keep : RetiredCell → Bool) (xs : List RetiredCell) → list_any test (filter keep xs) ≡ true → list_any test xs ≡ true
+any_of_filter test keep [] found = found
+any_of_filter test keep (x ∷ xs) found = by_keep (keep x) (test x) found (any_of_filter test keep xs)
+  where
+    by_keep : (k t : Bool) → list_any test (cond k (x ∷ filter keep xs) (filter keep xs)) ≡ true → (list_any test (filter keep xs) ≡ true → list_any test xs ≡ true) → (test x || list_any test xs) ≡ true
+    by_keep true t found later = by_test (test x) found
+      where
+        by_test : (t : Bool) → (t || list_any test (filter keep xs)) ≡ true → (t || list_any test xs) ≡ true
+        by_test true found = refl
+        by_test false found = later found
+    by_keep false t found later = by_test (test x)
+      where
+        by_test : (t : Bool) → (t || list_any test xs) ≡ true
+        by_test true = refl
+        by_test false = later found
+
+-- an id that waits on is none of those that are freed
+waiting_apart : (history : List Entry) (id : ℕ) (gone : List RetiredCell) → ArePairwise (λ (one other : RetiredCell). one.cell ≡ other.cell → ⊥) gone
+    → list_any (λ (one : RetiredCell). one.cell == id) (filter (λ (one : RetiredCell). not (is_reclaimable history one)) gone) ≡ true
+    → AllByRecursion (λ (one : RetiredCell). is_reclaimable history one ≡ true → one.cell ≡ id → ⊥) gone
+waiting_apart history id [] pairs found = tt
+waiting_apart history id (one ∷ others) pairs found = by_test (is_reclaimable history one) refl found (waiting_apart history id others pairs.1)
+  where
+    by_test : (freed : Bool) → is_reclaimable history one ≡ freed
+        → list_any (λ (other : RetiredCell). other.cell == id) (cond (not freed) (one ∷ filter (λ (other : RetiredCell). not (is_reclaimable history other)) others) (filter (λ (other : RetiredCell). not (is_reclaimable history other)) others)) ≡ true
+        → (list_any (λ (other : RetiredCell). other.cell == id) (filter (λ (other : RetiredCell). not (is_reclaimable history other)) others) ≡ true → AllByRecursion (λ (other : RetiredCell). is_reclaimable history other ≡ true → other.cell ≡ id → ⊥) others)
+        → AllByRecursion (λ (other : RetiredCell). is_reclaimable history other ≡ true → other.cell ≡ id → ⊥) (one ∷ others)
+    by_test true is found later = ((λ _ same. any_apart one.cell id others pairs.0 (any_of_filter (λ (other : RetiredCell). other.cell == id) (λ (other : RetiredCell). not (is_reclaimable history other)) others found) same), later found)
+    by_test false is found later = by_own (one.cell == id) refl found
+      where
+        by_own : (own : Bool) → (one.cell == id) ≡ own → (own || list_any (λ (other : RetiredCell). other.cell == id) (filter (λ (other : RetiredCell). not (is_reclaimable history other)) others)) ≡ true
+            → AllByRecursion (λ (other : RetiredCell). is_reclaimable history other ≡ true → other.cell ≡ id → ⊥) (one ∷ others)
+        by_own true this found =
+            let same : one.cell ≡ id = grind (arith, nat_tests) in
+            ((λ freed. absurd cc), each_weaker (λ (other : RetiredCell). one.cell ≡ other.cell → ⊥) (λ (other : RetiredCell). is_reclaimable history other ≡ true → other.cell ≡ id → ⊥) (λ other apart freed at. apart (same ∙ sym at)) others pairs.0)
+        by_own false this found = ((λ freed. absurd cc), later found)
+
+-- nor is a present one
+present_apart : (id : ℕ) (present : List PresentKey) (gone : List RetiredCell) → AllByRecursion (λ (one : PresentKey). AllByRecursion (λ (other : RetiredCell). one.cell ≡ other.cell → ⊥) gone) present
+    → list_any (λ (one : PresentKey). one.cell == id) present ≡ true → AllByRecursion (λ (other : RetiredCell). other.cell ≡ id → ⊥) gone
+present_apart id [] gone each found = cc
+present_apart id (one ∷ rest) gone each found = by_own (one.cell == id) refl found (present_apart id rest gone each.1)
+  where
+    by_own : (own : Bool) → (one.cell == id) ≡ own → (own || list_any (λ (other : PresentKey). other.cell == id) rest) ≡ true
+        → (list_any (λ (other : PresentKey). other.cell == id) rest ≡ true → AllByRecursion (λ (other : RetiredCell). other.cell ≡ id → ⊥) gone) → AllByRecursion (λ (other : RetiredCell). other.cell ≡ id → ⊥) gone
+    by_own true is found later =
+        let same : one.cell ≡ id = grind (arith, nat_tests) in
+        each_weaker (λ (other : RetiredCell). one.cell ≡ other.cell → ⊥) (λ (other : RetiredCell). other.cell ≡ id → ⊥) (λ other apart at. apart (same ∙ sym at)) gone each.0
+    by_own false is found later = later found
+
+none_append : (id : ℕ) (xs ys : List Retired) → IsNone id xs → IsNone id ys → IsNone id (xs ++ ys)
+none_append id [] ys none others = others
+none_append id (x ∷ xs) ys none others = (none.0, none_append id xs ys none.1 others)
+
+none_oldest : (id : ℕ) (gone : List RetiredCell) → AllByRecursion (λ (one : RetiredCell). one.cell ≡ id → ⊥) gone → IsNone id (oldest_first gone)
+none_oldest id [] each = tt
+none_oldest id (one ∷ others) each = subst (IsNone id) (sym (oldest_cons one others)) (none_append id (oldest_first others) (waiting one ∷ []) (none_oldest id others each.1) ((λ same. each.0 (sym same)), tt))
+
+each_passing : (P : RetiredCell → Type 0) (test : RetiredCell → Bool) (xs : List RetiredCell) → AllByRecursion (λ x. test x ≡ true → P x) xs → AllByRecursion P (filter test xs)
+each_passing P test [] each = tt
+each_passing P test (x ∷ xs) each = by_test (test x) refl (each_passing P test xs each.1)
+  where
+    by_test : (t : Bool) → test x ≡ t → AllByRecursion P (filter test xs) → AllByRecursion P (cond t (x ∷ filter test xs) (filter test xs))
+    by_test true is rest = (each.0 is, rest)
+    by_test false is rest = rest
+
+abbrev pub after_reclaim : List Entry → SequentialShard → SequentialShard
+after_reclaim history state = record state { retired = filter (λ retired. not (is_reclaimable history retired)) state.retired }
+
+kept_of_freed : (history : List Entry) (state : SequentialShard) (id : ℕ) → IsSound state → ArePairwise (λ (one other : RetiredCell). one.cell ≡ other.cell → ⊥) state.retired
+    → IsTrue (is_kept_of_kind Hash (after_reclaim history state) id) → IsTrue (is_kept_of_kind Hash state id) × IsNone id (oldest_first (filter (is_reclaimable history) state.retired))
+kept_of_freed history state id sound pairs kept = by_present (list_any (λ (one : PresentKey). one.cell == id) state.present) refl kept
+  where
+    by_present : (there : Bool) → list_any (λ (one : PresentKey). one.cell == id) state.present ≡ there
+        → (there || list_any (λ (one : RetiredCell). one.cell == id) (filter (λ (one : RetiredCell). not (is_reclaimable history one)) state.retired)) ≡ true
+        → ((list_any (λ (one : PresentKey). one.cell == id) state.present || list_any (λ (one : RetiredCell). one.cell == id) state.retired) ≡ true) × IsNone id (oldest_first (filter (is_reclaimable history) state.retired))
+    by_present true is kept = (
+      rw is refl,
+      none_oldest id (filter (is_reclaimable history) state.retired)
+          (each_passing (λ (one : RetiredCell). one.cell ≡ id → ⊥) (is_reclaimable history) state.retired
+          (each_weaker (λ (one : RetiredCell). one.cell ≡ id → ⊥) (λ (one : RetiredCell). is_reclaimable history one ≡ true → one.cell ≡ id → ⊥) (λ one apart freed. apart) state.retired (present_apart id state.present state.retired sound.apart is))),
+    )
+    by_present false is kept = (
+      rw is (any_of_filter (λ (one : RetiredCell). one.cell == id) (λ (one : RetiredCell). not (is_reclaimable history one)) state.retired kept),
+      none_oldest id (filter (is_reclaimable history) state.retired)
+          (each_passing (λ (one : RetiredCell). one.cell ≡ id → ⊥) (is_reclaimable history) state.retired (waiting_apart history id state.retired pairs kept)),
+    )
+
+balance_of_freed : (floor : ℕ) (history : List Entry) (plan : ShardPlan) (state : SequentialShard) (cells : CellTable) → length (filter (is_below floor) cells.retired) ≡ length (filter (is_reclaimable history) state.retired) → IsBalanced Hash plan state cells → IsBalanced Hash plan (after_reclaim history state) (freed_below floor cells)
+balance_of_freed floor history plan state cells same balance =
+    let both : length (filter (is_reclaimable history) state.retired) + length (filter (λ (one : RetiredCell). not (is_reclaimable history one)) state.retired) ≡ length state.retired =
+    length-filter_both (is_reclaimable history) (λ (one : RetiredCell). not (is_reclaimable history one)) (λ one. refl) state.retired in
+    (balance.0, omega (arith, balance.1, both, same))
+
+-- an array retires nothing
+no_change : (floor : ℕ) (history : List Entry) (plan : ShardPlan) (state : SequentialShard) (cells : CellTable) → state.retired ≡ [] → cells.retired ≡ [] → without_cells (filter (is_below floor) cells.retired) cells.cells ≡ cells.cells
+no_change floor history plan state cells none same = rw same refl
+
+pub contents_freed : (plan : ShardPlan) (history later : List Entry) (state : SequentialShard) (cells : CellTable) (keys : KeyTable) (floor : ℕ) → IsFloorFor floor history state.retired
+    → IsSound state → ArePairwise (λ (one other : RetiredCell). one.cell ≡ other.cell → ⊥) state.retired → (plan.definition.kind ≡ Array → state.retired ≡ [])
+    → IsContents plan history state cells keys → IsContents plan later (after_reclaim history state) (freed_below floor cells) keys
+contents_freed plan history later state cells (Indices indices) floor is sound pairs array contents =
+    let none : state.retired ≡ [] = array contents.fits.0 in
+    let same : cells.retired ≡ [] = contents.retired ∙ ap oldest_first none in
+    let kept : (id : ℕ) → IsTrue (is_kept plan (after_reclaim history state) id) → IsTrue (is_kept plan state id) = λ id. subst (λ kind. IsTrue (is_kept_of_kind kind (after_reclaim history state) id) → IsTrue (is_kept_of_kind kind state id)) (sym contents.fits.0) (λ held. held) in
+    record {
+      sized = contents.sized;
+      counted = ap length (no_change floor history plan state cells none same) ∙ contents.counted;
+      mirrored = subst (λ table. Mirrors (is_kept plan (after_reclaim history state)) table state.cells) (sym (no_change floor history plan state cells none same))
+          (mirrors_fewer (is_kept plan state) (is_kept plan (after_reclaim history state)) cells.cells state.cells kept contents.mirrored);
+      retired = ap (filter (λ one. not (is_below floor one))) contents.retired ∙ left_are floor history state.retired is;
+      id_room = contents.id_room;
+      balance = subst (λ kind. IsBalanced kind plan (after_reclaim history state) (freed_below floor cells)) (sym contents.fits.0) tt;
+      fits = contents.fits;
+      has = contents.has;
+    }
+contents_freed plan history later state cells (Hashed table) floor is sound pairs array contents =
+    let hash : plan.definition.kind ≡ Hash = contents.fits.0 in
+    let balance : IsBalanced Hash plan state cells = subst (λ kind. IsBalanced kind plan state cells) hash contents.balance in
+    let mirrored : Mirrors (is_kept_of_kind Hash state) cells.cells state.cells = subst (λ kind. Mirrors (is_kept_of_kind kind state) cells.cells state.cells) hash contents.mirrored in
+    let freed : filter (is_below floor) cells.retired ≡ oldest_first (filter (is_reclaimable history) state.retired) = ap (filter (is_below floor)) contents.retired ∙ freed_are floor history state.retired is in
+    record {
+      sized = contents.sized;
+      counted = length-without (filter (is_below floor) cells.retired) cells.cells ∙ contents.counted;
+      mirrored = subst (λ kind. Mirrors (is_kept_of_kind kind (after_reclaim history state)) (without_cells (filter (is_below floor) cells.retired) cells.cells) state.cells) (sym hash)
+          (subst (λ gone. Mirrors (is_kept_of_kind Hash (after_reclaim history state)) (without_cells gone cells.cells) state.cells) (sym freed)
+          (mirrors_without (is_kept_of_kind Hash state) (is_kept_of_kind Hash (after_reclaim history state)) (oldest_first (filter (is_reclaimable history) state.retired)) cells.cells state.cells
+          (λ id. kept_of_freed history state id sound pairs) mirrored));
+      retired = ap (filter (λ one. not (is_below floor one))) contents.retired ∙ left_are floor history state.retired is;
+      id_room = contents.id_room;
+      balance = subst (λ kind. IsBalanced kind plan (after_reclaim history state) (freed_below floor cells)) (sym hash)
+          (balance_of_freed floor history plan state cells (ap length freed ∙ oldest_count (filter (is_reclaimable history) state.retired)) balance);
+      fits = contents.fits;
+      has = contents.has;
+    }

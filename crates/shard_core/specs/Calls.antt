@@ -1,0 +1,64 @@
+-- A call on a shard, and what a call leaves that is served.
+use Rattle.std.specs.Prelude.{ℕ, ◌+◌, ◌≤◌, List, reverse, IsTrue}
+use Rattle.semantics.specs.declared.call.Caller.{Caller}
+use Rattle.semantics.specs.declared.call.CellRef.{CellRef}
+use Rattle.semantics.specs.declared.call.Call.{Call}
+use Rattle.semantics.specs.declared.call.Call.TheVariants.{Enter, Leave, Lookup, Load, Store, Atomic, Update, Delete, Reclaim}
+use Rattle.semantics.specs.declared.call.Reply.{Reply}
+use Rattle.semantics.specs.declared.call.Entry.{Entry}
+use Rattle.semantics.specs.declared.plan.ShardPlan.{ShardPlan}
+use Rattle.semantics.specs.SequentialShard.{is_kept, shard_after}
+use Rattle.semantics.specs.History.{Meets, IsJournalFull}
+use Rattle.journal.specs.declared.append.CellRange.{CellRange}
+use Rattle.journal.specs.declared.append.AtomicChange.{AtomicChange}
+use Rattle.shard_core.specs.JournaledShard.{JournaledShard, with_entry}
+
+-- the call of each kind on this shard
+
+abbrev pub cell_of_shard : JournaledShard → ℕ → CellRef
+cell_of_shard shard cell = record { shard = shard.plan.number; id = cell }
+
+abbrev pub enter_call : JournaledShard → Call
+enter_call shard = Enter shard.plan.number
+
+abbrev pub leave_call : JournaledShard → Call
+leave_call shard = Leave shard.plan.number
+
+abbrev pub lookup_call : JournaledShard → List ℕ → Call
+lookup_call shard key = Lookup shard.plan.number key
+
+abbrev pub load_call : JournaledShard → CellRange → Call
+load_call shard range = Load (cell_of_shard shard range.cell) range.offset range.width
+
+abbrev pub store_call : JournaledShard → CellRange → ℕ → Call
+store_call shard range value = Store (cell_of_shard shard range.cell) range.offset range.width value
+
+abbrev pub atomic_call : JournaledShard → CellRange → AtomicChange → Call
+atomic_call shard range change = Atomic (cell_of_shard shard range.cell) range.offset range.width change.op change.value change.expected
+
+abbrev pub update_call : JournaledShard → List ℕ → List ℕ → ℕ → Call
+update_call shard key value flags = Update shard.plan.number key value flags
+
+abbrev pub delete_call : JournaledShard → List ℕ → Call
+delete_call shard key = Delete shard.plan.number key
+
+abbrev pub reclaim_call : JournaledShard → Call
+reclaim_call shard = Reclaim shard.plan.number
+
+-- the caller may make the call now
+abbrev pub MayCall : JournaledShard → Caller → Call → Type 0
+MayCall shard who call = Meets shard.plan (reverse shard.journal) who call
+
+-- the journal has no room for the call
+abbrev pub IsFullFor : JournaledShard → Call → Type 0
+IsFullFor shard call = IsJournalFull shard.plan (reverse shard.journal) call
+
+-- the shard with one entry more, of this call and its reply
+abbrev pub after_call : JournaledShard → Caller → Call → Reply → JournaledShard
+after_call shard who call reply = with_entry shard (record { who = who; call = call; reply = reply })
+
+-- a caller that holds the cell asks for these bytes of it
+pub record IsRangeOf (plan : ShardPlan) (history : List Entry) (cell offset width : ℕ) : Type 0 where
+  pub kept : IsTrue (is_kept plan (shard_after plan history) cell)
+  pub narrow : width ≤ 8
+  pub within : offset + width ≤ plan.definition.value_size

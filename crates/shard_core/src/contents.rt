@@ -1,0 +1,82 @@
+//! Cells and keys of a shard, which change together.
+
+ghost use Rattle.std.specs.Prelude.{◌≡◌, ◌≢◌, pos, ◌+◌, ◌≤◌, ◌<◌, ℕ, IsTrue, IfOk, Some, None, length};
+ghost use Rattle.semantics.specs.PlanLimits.{IsPlan};
+ghost use Rattle.map_cells.specs.CellTable.{is_kept, with_retired};
+ghost use Rattle.shard_core.specs.KeyTables.{cell_in, IsAskedSize, IsKeyed, IsRemoved};
+ghost use Rattle.shard_core.specs.Contents.{opened_table, filled_table, CanCreate, CanRetire, IsPut};
+
+use crate::keys::KeyTable;
+use ebpf_decode::MapKind;
+use map_cells::Cells;
+use one_thread_map::state::zeros;
+use semantics::ShardPlan;
+use std::alloc::{AllocError, Global};
+
+/// The cells of a shard in which nothing has happened. Each key may have two, so that a retired one may wait for its readers; an array
+/// has one of zeros for each of its indices.
+pub(crate) fn open_cells(alloc: Global, plan: &ShardPlan) -> Result<Cells, AllocError>
+    requires { IsPlan plan.now }
+    ensures { IfOk result (λ cells. cells ≡ opened_table plan.now.definition.kind plan.now) }
+{
+    let size = plan.definition.value_size;
+    let capacity = plan.definition.max_entries / plan.parts;
+    match plan.definition.kind {
+        MapKind::Array => array_cells(alloc, capacity, plan.reserve, zeros(size).as_slice()),
+        MapKind::Hash => Cells::new(alloc, size as usize, 2 * capacity, plan.reserve as usize),
+        MapKind::LruHash => Cells::new(alloc, size as usize, 2 * capacity, plan.reserve as usize),
+    }
+}
+
+/// So many cells of one value, and no room for more.
+fn array_cells(alloc: Global, count: u32, reserve: u32, value: &[u8]) -> Result<Cells, AllocError>
+    requires size { length value.now ≤ 256 }
+    requires count { count ≤ 131072 }
+    ensures { IfOk result (λ cells. cells ≡ filled_table value.now count (count + reserve) count) }
+{
+    let ids = count as usize + reserve as usize;
+    let mut cells = Cells::new(alloc, value.len(), count, ids)?;
+    for _ in 0..count {
+        cells.take(value);
+    }
+    Ok(cells)
+}
+
+/// Writes the value of a key where its Update is answered 0: into the cell that the key has, or into a new one.
+pub(crate) fn put_value(code: i32, cells: &mut Cells, keys: &mut KeyTable, key: &[u8], value: &[u8])
+    requires size { IsAskedSize keys.old (length key.now) }
+    requires value { length value.now ≡ cells.old.value_size }
+    requires kept { (cell : ℕ) → cell_in keys.old key.now ≡ Some cell → IsTrue (is_kept cells.old cell) }
+    requires room { code ≡ pos 0 → cell_in keys.old key.now ≡ None → CanCreate cells.old keys.old }
+    ensures done { code ≡ pos 0 → IsPut (cell_in keys.old key.now) key.now value.now cells.old keys.old cells.new keys.new }
+    ensures refused { code ≢ pos 0 → (cells.new ≡ cells.old) × (keys.new ≡ keys.old) }
+{
+    if code != 0 {
+        return;
+    }
+    match keys.find(key) {
+        Some(cell) => cells.write(cell, value),
+        None => {
+            let id = cells.take(value);
+            keys.insert(key, id);
+        }
+    }
+}
+
+/// Takes out a key where its Delete is answered 0: its cell waits for its readers from this place of the journal on.
+pub(crate) fn retire_key(code: i32, cells: &mut Cells, keys: &mut KeyTable, key: &[u8], place: u64)
+    requires size { IsAskedSize keys.old (length key.now) }
+    requires keyed { code ≡ pos 0 → IsKeyed keys.old }
+    requires retired { (cell : ℕ) → code ≡ pos 0 → cell_in keys.old key.now ≡ Some cell → CanRetire cells.old cell place }
+    ensures cells { (cell : ℕ) → code ≡ pos 0 → cell_in keys.old key.now ≡ Some cell → cells.new ≡ with_retired cells.old cell place }
+    ensures keys { code ≡ pos 0 → IsRemoved key.now keys.old keys.new }
+    ensures refused { code ≢ pos 0 → (cells.new ≡ cells.old) × (keys.new ≡ keys.old) }
+{
+    if code != 0 {
+        return;
+    }
+    match keys.remove(key) {
+        Some(cell) => cells.retire(cell, place),
+        None => {}
+    }
+}

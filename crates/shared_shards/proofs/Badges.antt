@@ -1,0 +1,48 @@
+-- What a pass knows once the badge of one shard is another.
+use Rattle.std.proofs.Common.{◌≡◌, ◌≢◌, ℕ, zero, suc, ◌<◌, List, [], ◌∷◌, length, set, refl, sym, ap, ◌∙◌, arith}
+use Rattle.std.specs.Prelude.{map, slice_index_or, slice_set}
+use Rattle.atomic_table.specs.declared.badge.Badge.{Badge}
+use Rattle.semantics.specs.declared.call.Caller.{Caller}
+use Rattle.shared_shards.specs.declared.rule.Known.{Known}
+use Rattle.shared_shards.specs.CallerView.{CallerView, nothing_seen}
+use Rattle.shared_shards.specs.Passes.{PassView, view_at, IsElsewhereSame, blank, badge_at, view_of_badge, pass_view}
+
+set_here : (badges : List (Badge Known)) (number : ℕ) (badge : Badge Known) → number < length badges → badge_at (slice_set badges number badge) number ≡ badge
+set_here [] number badge within = absurd (omega arith)
+set_here (b ∷ bs) zero badge within = refl
+set_here (b ∷ bs) (suc number) badge within = set_here bs number badge (omega arith)
+
+set_else : (badges : List (Badge Known)) (number other : ℕ) (badge : Badge Known) → other ≢ number → badge_at (slice_set badges number badge) other ≡ badge_at badges other
+set_else [] number other badge apart = refl
+set_else (b ∷ bs) zero zero badge apart = absurd (apart refl)
+set_else (b ∷ bs) zero (suc other) badge apart = refl
+set_else (b ∷ bs) (suc number) zero badge apart = refl
+set_else (b ∷ bs) (suc number) (suc other) badge apart = set_else bs number other badge (λ same. apart (ap suc same))
+
+set_count : (badges : List (Badge Known)) (number : ℕ) (badge : Badge Known) → length (slice_set badges number badge) ≡ length badges
+set_count [] number badge = refl
+set_count (b ∷ bs) zero badge = refl
+set_count (b ∷ bs) (suc number) badge = ap suc (set_count bs number badge)
+
+views_count : (badges : List (Badge Known)) → length (map view_of_badge badges) ≡ length badges
+views_count [] = refl
+views_count (b ∷ bs) = ap suc (views_count bs)
+
+pub view_is : (who : Caller) (badges : List (Badge Known)) (number : ℕ) → view_at (pass_view who badges) number ≡ view_of_badge (badge_at badges number)
+view_is who [] number = refl
+view_is who (b ∷ bs) zero = refl
+view_is who (b ∷ bs) (suc number) = view_is who bs number
+
+-- one badge was taken out, and another is there now
+pub view_after : (who : Caller) (old taken : List (Badge Known)) (number : ℕ) (badge : Badge Known) → number < length old → length taken ≡ length old →
+    view_at (pass_view who (slice_set taken number badge)) number ≡ view_of_badge badge
+view_after who old taken number badge within same = view_is who (slice_set taken number badge) number ∙ ap view_of_badge (set_here taken number badge (omega (arith, same)))
+
+pub same_elsewhere : (who : Caller) (old taken : List (Badge Known)) (number : ℕ) (badge : Badge Known) → length taken ≡ length old →
+    ((other : ℕ) → other ≢ number → badge_at taken other ≡ badge_at old other) →
+    IsElsewhereSame number (pass_view who old) (pass_view who (slice_set taken number badge))
+same_elsewhere who old taken number badge same others = record {
+  who = refl;
+  count = views_count (slice_set taken number badge) ∙ set_count taken number badge ∙ same ∙ sym (views_count old);
+  others = λ other apart. view_is who (slice_set taken number badge) other ∙ ap view_of_badge (set_else taken number other badge apart ∙ others other apart) ∙ sym (view_is who old other);
+}

@@ -1,0 +1,71 @@
+-- A caller's seats are taken out of the rows: they make its pass, and the rows keep those of the others.
+use Rattle.std.proofs.Common.{◌≡◌, ◌≢◌, ◌⊎◌, ◌<◌, ◌≤◌, ℕ, zero, suc, Bool, true, false, true≢false, List, [], ◌∷◌, length, get_or, refl, sym, ap, ◌∙◌, subst, ⊎_elim, inl, inr, arith}
+use Rattle.std.specs.Prelude.{slice_set}
+use Rattle.atomic_table.specs.Seated.{TableId}
+use Rattle.atomic_table.specs.declared.badge.Badge.{Badge}
+use Rattle.semantics.specs.declared.call.Caller.{Caller}
+use Rattle.semantics.specs.declared.call.Caller.TheVariants.{Worker, Controller, Reclaimer}
+use Rattle.semantics.specs.declared.plan.ShardPlan.{ShardPlan}
+use Rattle.shared_shards.specs.declared.rule.Known.{Known}
+use Rattle.shared_shards.specs.CallerView.{nothing_seen}
+use Rattle.shared_shards.specs.LengthRule.{caller_at, place_of, pass_of}
+use Rattle.shared_shards.specs.Seats.{view_of}
+use Rattle.shared_shards.specs.Passes.{badge_at, blank, view_of_badge, known_in, view_at, pass_view, IsBadgeOf, IsPass}
+use Rattle.shared_shards.specs.NewShards.{IsNewBadge, row_at, is_dealt_at, IsRow, IsDealer}
+use Rattle.shared_shards.proofs.Badges.{view_is}
+use Rattle.shared_shards.proofs.Each.{or_set_here, or_set_else, or_past}
+
+caller_is : (who : Caller) → caller_at (place_of who) ≡ who
+caller_is (Worker number) = refl
+caller_is Controller = refl
+caller_is Reclaimer = refl
+
+badge_of_new : (table : TableId) (plan : ShardPlan) (who : Caller) (badge : Badge Known) → IsNewBadge table who badge → IsBadgeOf table plan who badge
+badge_of_new table plan who badge new = record { table_is = new.table_is; known = pass_of who [] []; one = new.fresh; acts = refl; caller = refl; legal = tt }
+
+view_of_new : (table : TableId) (who : Caller) (badge : Badge Known) → IsNewBadge table who badge → view_of_badge badge ≡ nothing_seen
+view_of_new table who badge new = ap (λ (ks : List Known). view_of (known_in ks)) new.fresh
+
+module _ (table : ℕ → TableId) (count : ℕ) (dealt : List Bool) (rows : List (List (Badge Known))) (place : ℕ) (who : Caller) (seats : List (Badge Known))
+    (dealer : IsDealer table count dealt rows) (waits : is_dealt_at dealt place ≡ false) (placed : place ≡ place_of who)
+    (same_count : length seats ≡ length rows) (taken : (number : ℕ) → number < length rows → badge_at seats number ≡ badge_at (row_at rows number) place) where
+  pub place_within : (number : ℕ) → number < length rows → place < length (row_at rows number)
+  place_within number below = (dealer.waiting number (let sized = dealer.sized in omega (arith, sized)) place waits).0
+
+  new_at_seat : (number : ℕ) → number < length rows → IsNewBadge (table number) who (badge_at seats number)
+  new_at_seat number below =
+      subst (IsNewBadge (table number) who) (sym (taken number below))
+      (subst (λ (w : Caller). IsNewBadge (table number) w (badge_at (row_at rows number) place)) (ap caller_at placed ∙ caller_is who)
+      (dealer.waiting number (let sized = dealer.sized in omega (arith, sized)) place waits).1)
+
+  pub new_pass : (plan : ℕ → ShardPlan) → IsPass table plan count who seats
+  new_pass plan = record {
+    sized = same_count ∙ dealer.sized;
+    each = λ number below. badge_of_new (table number) (plan number) who (badge_at seats number) (new_at_seat number (omega (arith, same_count)));
+  }
+
+  pub nothing_at : (number : ℕ) → view_at (pass_view who seats) number ≡ nothing_seen
+  nothing_at number = view_is who seats number ∙ ⊎_elim
+      (λ (below : number < length seats). view_of_new (table number) who (badge_at seats number) (new_at_seat number (omega (arith, same_count))))
+      (λ (past : length seats ≤ number). ap view_of_badge (or_past seats blank number past)) (below_or_past number (length seats))
+    where
+      below_or_past : (a b : ℕ) → (a < b) ⊎ (b ≤ a)
+      below_or_past a zero = inr (omega arith)
+      below_or_past zero (suc b) = inl (omega arith)
+      below_or_past (suc a) (suc b) = ⊎_elim (λ (h : a < b). inl (omega arith)) (λ (h : b ≤ a). inr (omega arith)) (below_or_past a b)
+
+pub rest_of_rows : (table : ℕ → TableId) (count : ℕ) (dealt : List Bool) (rows rows' : List (List (Badge Known))) (place : ℕ) →
+    IsDealer table count dealt rows → place < length dealt → length rows' ≡ length rows →
+    ((number other : ℕ) → other ≢ place → badge_at (row_at rows' number) other ≡ badge_at (row_at rows number) other) →
+    ((number : ℕ) → length (row_at rows' number) ≡ length (row_at rows number)) →
+    IsDealer table count (slice_set dealt place true) rows'
+rest_of_rows table count dealt rows rows' place dealer below same_count others lengths = record {
+  sized = same_count ∙ dealer.sized;
+  waiting = λ number within other waits.
+      let apart : other ≢ place = λ same. true≢false (sym (ap (is_dealt_at (slice_set dealt place true)) same ∙ or_set_here dealt place true true below) ∙ waits) in
+      let still : is_dealt_at dealt other ≡ false = sym (or_set_else dealt place other true true apart) ∙ waits in
+      let was = dealer.waiting number within other still in
+      let long = lengths number in
+      let here = was.0 in
+      (omega (arith, long, here), subst (IsNewBadge (table number) (caller_at other)) (sym (others number other apart)) was.1);
+}

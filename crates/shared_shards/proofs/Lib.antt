@@ -1,0 +1,9 @@
+pub mod Badges
+pub mod Callers
+pub mod Conditions
+pub mod Dealing
+pub mod Each
+pub mod Moves
+pub mod Openings
+pub mod Names
+pub mod Transport

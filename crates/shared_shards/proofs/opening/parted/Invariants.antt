@@ -1,0 +1,24 @@
+use Rattle.std.proofs.Common.{◌≡◌, ◌+◌, ◌≤◌, ℕ, List, length}
+use Rattle.std.specs.Prelude.{vec_capacity}
+use Rattle.atomic_table.specs.declared.badge.Badge.{Badge}
+use Rattle.shared_shards.specs.declared.rule.Known.{Known}
+use Rattle.shared_shards.specs.Each.{Each}
+use Rattle.shared_shards.specs.SharedMaps.{AreWords}
+use Rattle.shared_shards.specs.NewShards.{NewShardView, new_at, IsNamedAt, IsRowOf}
+use Rattle.shared_shards.proofs.opening.parted.Given as goal
+
+pub record Parted (g : goal.Over) (l : goal.Live-shards g) : Type 0 where
+  pub desks_made : length l.desks.items ≡ l._number
+  pub words_made : length l.words.items ≡ l._number
+  pub words_are : AreWords g.B.Naming.table l.words.items
+  pub rows_made : length l.rows.items ≡ l._number
+  pub rows_are : Each (λ (number : ℕ) (row : List (Badge Known)). IsRowOf g.B.Naming.table l.fn.shards.items number row) 0 l.rows.items
+  pub left : Each (λ (number : ℕ) (new : NewShardView). (new ≡ new_at l.fn.shards.items number) × IsNamedAt g.B.Naming.table g.B.Naming.plan number new) l._number l.shards.items
+  pub together : l._number + length l.shards.items ≡ length l.fn.shards.items
+  pub count_is : l.count ≡ length l.fn.shards.items
+  pub desks_room : l.count ≤ vec_capacity l.desks
+  pub words_room : l.count ≤ vec_capacity l.words
+  pub rows_room : l.count ≤ vec_capacity l.rows
+
+abbrev pub invariant-shards : goal.invariant-shards
+invariant-shards g l = Parted g l

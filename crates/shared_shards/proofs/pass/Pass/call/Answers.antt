@@ -1,0 +1,47 @@
+use Rattle.std.proofs.Common.{◌≡◌, ◌<◌, ℕ, List, slice_set, length, ap, sym, ◌∙◌, subst, arith}
+use Rattle.atomic_table.specs.declared.badge.Badge.{Badge}
+use Rattle.semantics.specs.History.{shard_of_call}
+use Rattle.shared_shards.specs.declared.rule.Known.{Known}
+use Rattle.shared_shards.specs.CallerView.{CallerView}
+use Rattle.shared_shards.specs.Seats.{view_of}
+use Rattle.shared_shards.specs.Passes.{PassView, view_at, view_of_badge, known_in, badge_at, pass_view, IsElsewhereSame}
+use Rattle.shared_shards.proofs.Badges.{view_is, view_after, same_elsewhere}
+use Rattle.shared_shards.proofs.Transport.{served_moves, refused_moves}
+use Rattle.shared_shards.proofs.pass.Pass.call.Goals as goal
+
+pub returns-clause-elsewhere : goal.returns-clause-elsewhere
+returns-clause-elsewhere g c =
+    let who = c.self.inside.who in
+    let now : List (Badge Known) = c.taken-badge.new.seats.items in
+    subst (λ (before : PassView). IsElsewhereSame (shard_of_call c.args.call.now) before (pass_view who (slice_set now c.shard-number.result c.into_badge.result)))
+    c.self.view_is
+    (subst (λ (n : ℕ). IsElsewhereSame n (pass_view who c.self.inside.seats.items) (pass_view who (slice_set now c.shard-number.result c.into_badge.result)))
+    c.shard-number.ensures
+    (same_elsewhere who c.self.inside.seats.items now c.shard-number.result c.into_badge.result c.taken-badge.ensures.count c.taken-badge.ensures.others))
+
+before_is : (g : _) (c : goal.After-drop-index_mut g) → view_of c.into_seat.result.me.0 ≡ view_at c.args.self.now (shard_of_call c.args.call.now)
+before_is g c =
+    let who = c.self.inside.who in
+    sym (ap (λ (vs : List Known). view_of (known_in vs)) c.into_seat.ensures.2)
+    ∙ ap view_of_badge c.taken-badge.ensures.badge
+    ∙ sym (view_is who c.self.inside.seats.items c.shard-number.result)
+    ∙ ap (λ (n : ℕ). view_at (pass_view who c.self.inside.seats.items) n) c.shard-number.ensures
+    ∙ ap (λ (p : PassView). view_at p (shard_of_call c.args.call.now)) c.self.view_is
+
+after_is : (g : _) (c : goal.After-drop-index_mut g) → view_of c.call-seat.result.0.me.0 ≡ view_at (pass_view c.self.inside.who (slice_set c.taken-badge.new.seats.items c.shard-number.result c.into_badge.result)) (shard_of_call c.args.call.now)
+after_is g c =
+    let who = c.self.inside.who in
+    let now : List (Badge Known) = c.taken-badge.new.seats.items in
+    let within : c.shard-number.result < length c.self.inside.seats.items =
+    (let number = c.shard-number.ensures in let sized = c.self.invariant.sized in let below = c.requires.number.1 in omega (arith, number, sized, below)) in
+    sym (ap (λ (vs : List Known). view_of (known_in vs)) c.into_badge.ensures.2)
+    ∙ sym (view_after who c.self.inside.seats.items now c.shard-number.result c.into_badge.result within c.taken-badge.ensures.count)
+    ∙ ap (λ (n : ℕ). view_at (pass_view who (slice_set now c.shard-number.result c.into_badge.result)) n) c.shard-number.ensures
+
+pub returns-clause-served : goal.returns-clause-served
+returns-clause-served g c =
+    served_moves c.call-seat.result.1 c.self.inside.who c.args.self.now.who c.args.call.now _ _ _ _ _ _ (ap (λ (p : PassView). p.who) c.self.view_is) (ap g.B.Naming.plan c.requires.number.0) (before_is g c) (after_is g c) c.call-seat.ensures.served
+
+pub returns-clause-refused : goal.returns-clause-refused
+returns-clause-refused g c =
+    refused_moves c.call-seat.result.1 c.args.call.now _ _ _ _ _ _ (ap g.B.Naming.plan c.requires.number.0) (before_is g c) (after_is g c) c.call-seat.ensures.refused

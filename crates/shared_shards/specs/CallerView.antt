@@ -1,0 +1,41 @@
+-- What a caller knows of a shard. Histories have the newest entry first.
+use Rattle.std.specs.Prelude.{◌≡◌, List, [], ◌∷◌, ◌++◌}
+use Rattle.semantics.specs.declared.call.Entry.{Entry}
+use Rattle.semantics.specs.declared.plan.ShardPlan.{ShardPlan}
+use Rattle.semantics.specs.History.{IsLegalHistory, IsJournalFull}
+use Rattle.semantics.specs.declared.call.Call.{Call}
+
+pub record CallerView : Type 0 where
+  -- a beginning of the shard's history
+  pub seen : List Entry
+  -- all entries that the caller made, which stand in what was seen
+  pub own : List Entry
+
+-- a history begins with an earlier one: newest first, so that one is left where the later entries are gone
+abbrev pub BeginsWith : List Entry → List Entry → Type 0
+BeginsWith history earlier = (later : List Entry) × (history ≡ later ++ earlier)
+
+abbrev pub nothing_seen : CallerView
+nothing_seen = record { seen = []; own = [] }
+
+-- a call was served: what was seen then is legal, begins with what was seen before, and ends with the call; and the call is one more of
+-- the caller's own
+pub record IsServed (plan : ShardPlan) (before after : CallerView) (entry : Entry) : Type 0 where
+  pub earlier : List Entry
+  pub seen : after.seen ≡ entry ∷ earlier
+  pub begins : BeginsWith earlier before.seen
+  pub legal : IsLegalHistory plan after.seen
+  pub own : after.own ≡ entry ∷ before.own
+
+-- a call was refused: what was seen then is legal, begins with what was seen before, and leaves the journal no room for the call
+pub record IsRefused (plan : ShardPlan) (before after : CallerView) (call : Call) : Type 0 where
+  pub begins : BeginsWith after.seen before.seen
+  pub legal : IsLegalHistory plan after.seen
+  pub full : IsJournalFull plan after.seen call
+  pub own : after.own ≡ before.own
+
+-- a look at the shard: what was seen then is legal, and begins with what was seen before
+pub record HasLooked (plan : ShardPlan) (before after : CallerView) : Type 0 where
+  pub begins : BeginsWith after.seen before.seen
+  pub legal : IsLegalHistory plan after.seen
+  pub own : after.own ≡ before.own

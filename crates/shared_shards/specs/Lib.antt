@@ -1,0 +1,9 @@
+-- The definitions that the contracts of this crate cite, in reading order.
+pub mod Each
+pub mod CallerView
+pub mod LengthRule
+pub mod Seats
+pub mod Passes
+pub mod SharedMaps
+pub mod NewShards
+pub mod FaultNumber

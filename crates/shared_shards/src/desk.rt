@@ -1,0 +1,103 @@
+//! A shard as it stands under its lock.
+
+ghost use Rattle.std.specs.Prelude.{◌≡◌, ◌<◌, IfOk, IfErr, OnErr, reverse};
+ghost use Rattle.semantics.specs.History.{Meets, meets};
+ghost use Rattle.shared_shards.specs.CallerView.{IsServed, IsRefused, HasLooked};
+ghost use Rattle.shared_shards.specs.Seats.{IsKeeper, IsSeatOf, view_of};
+
+use crate::naming::Naming;
+use crate::rule::{Length, LengthSeat};
+use crate::seats::{join, note, part};
+use semantics::{Call, Caller, JournalFull, Reply, laws};
+use shard_core::Shard;
+use std::marker::{Model, PhantomData};
+
+/// A shard, with the seat that knows its history. Contracts see the shard.
+#[derive(Drop)]
+pub struct Desk<B: Naming> {
+    shard: Shard,
+    keeper: LengthSeat,
+    names: PhantomData<B>,
+}
+
+impl<B: Naming> Model for Desk<B> {
+    ghost use Rattle.shard_core.specs.JournaledShard.{JournaledShard};
+    ghost use Rattle.shared_shards.specs.Seats.{IsDesk};
+
+    ghost Value = { JournaledShard };
+
+    ghost view = { λ desk. desk.shard };
+
+    ghost invariant = { λ desk. IsDesk (B.table desk.shard.plan.number) (B.plan desk.shard.plan.number) desk.shard desk.keeper };
+}
+
+impl<B: Naming> Desk<B> {
+    /// A shard as it was opened, with the seat of its word.
+    pub(crate) fn new(shard: Shard, keeper: LengthSeat) -> Self
+        requires plan { shard.plan ≡ B.plan shard.plan.number }
+        requires keeper { IsKeeper (B.table shard.plan.number) (reverse shard.journal) keeper }
+        ensures { result ≡ shard }
+    {
+        Desk {
+            shard,
+            keeper,
+            names: PhantomData,
+        }
+    }
+
+    /// The shard's number.
+    pub(crate) fn number(&self) -> u32
+        ensures { result ≡ self.now.plan.number }
+    {
+        self.shard.plan().number
+    }
+
+    /// Makes the call for the caller of a seat that may make it, and gives the seat back, which then knows it.
+    pub(crate) fn call(
+        &mut self,
+        word: &Length,
+        seat: LengthSeat,
+        who: Caller,
+        call: &Call,
+    ) -> (LengthSeat, Result<Reply, JournalFull>)
+        requires word { (word.now.shared.table_id ≡ B.table self.old.plan.number) × (0 < word.now.shared.table_id.words) }
+        requires seat { IsSeatOf (B.table self.old.plan.number) who seat }
+        requires met { Meets (B.plan self.old.plan.number) seat.me.0.own who call.now }
+        ensures number { self.new.plan.number ≡ self.old.plan.number }
+        ensures seat { IsSeatOf (B.table self.old.plan.number) who result.0 }
+        ensures served { IfOk result.1 (λ reply. IsServed (B.plan self.old.plan.number) (view_of seat.me.0) (view_of result.0.me.0) (record { who = who; call = call.now; reply = reply })) }
+        ensures refused { OnErr result.1 (IsRefused (B.plan self.old.plan.number) (view_of seat.me.0) (view_of result.0.me.0) call.now) }
+        ensures names_the_shard { IfErr result.1 (λ fault. fault.shard ≡ self.old.plan.number) }
+    {
+        laws::condition_is_own();
+        join(word, &mut self.keeper, seat, who);
+        let answer = self.shard.apply(who, call);
+        if answer.is_ok() {
+            let before = self.shard.journal().len() as u64 - 1;
+            note(word, &mut self.keeper, before, &self.shard, who);
+        }
+        (part(word, &mut self.keeper, who), answer)
+    }
+
+    /// Whether the caller of a seat may make the call now, by the shard's whole journal; the seat has then seen it.
+    pub(crate) fn may_call(
+        &mut self,
+        word: &Length,
+        seat: LengthSeat,
+        who: Caller,
+        call: &Call,
+    ) -> (LengthSeat, bool)
+        requires word { (word.now.shared.table_id ≡ B.table self.old.plan.number) × (0 < word.now.shared.table_id.words) }
+        requires seat { IsSeatOf (B.table self.old.plan.number) who seat }
+        ensures number { self.new.plan.number ≡ self.old.plan.number }
+        ensures seat { IsSeatOf (B.table self.old.plan.number) who result.0 }
+        ensures looked { HasLooked (B.plan self.old.plan.number) (view_of seat.me.0) (view_of result.0.me.0) }
+        ensures meets { result.1 ≡ meets (B.plan self.old.plan.number) seat.me.0.own who call.now }
+    {
+        laws::condition_is_own();
+        let _legal = self.shard.journal();
+        join(word, &mut self.keeper, seat, who);
+        let answer = self.shard.meets(&who, call);
+        (part(word, &mut self.keeper, who), answer)
+    }
+}

@@ -1,0 +1,45 @@
+//! Why a caller got no pass.
+
+use std::alloc::AllocError;
+use thiserror::Error;
+
+/// Why a caller got no pass. Nothing was changed: a caller that got none for lack of memory may ask again.
+#[derive(Clone, Copy, Debug, PartialEq, Eq, Error)]
+pub enum PassFault {
+    /// There is no such worker.
+    #[error("fault 51 BadOptions")]
+    BadOptions,
+    /// The allocator refused the pass.
+    #[error("fault 52 Memory")]
+    Memory,
+    /// The caller has its pass already.
+    #[error("fault 54 PassTaken")]
+    PassTaken,
+}
+
+impl PassFault {
+    ghost use Rattle.std.specs.Prelude.{◌≡◌};
+    ghost use Rattle.shared_shards.specs.FaultNumber.{pass_fault_number};
+
+    /// The number that the fault's text prints.
+    pub fn number(self) -> u8
+        ensures { result ≡ pass_fault_number self }
+    {
+        match self {
+            PassFault::BadOptions => 51,
+            PassFault::Memory => 52,
+            PassFault::PassTaken => 54,
+        }
+    }
+}
+
+impl From<AllocError> for PassFault {
+    ghost use Rattle.std.specs.Prelude.{◌≡◌};
+    ghost use Rattle.shared_shards.specs.declared.fault.PassFault.TheVariants.{Memory};
+
+    ghost from_gives = { λ _ fault. fault ≡ Memory };
+
+    fn from(_error: AllocError) -> PassFault {
+        PassFault::Memory
+    }
+}

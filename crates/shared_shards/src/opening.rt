@@ -1,0 +1,158 @@
+//! Shards as they were opened, before they have names and callers.
+
+ghost use Rattle.std.specs.Prelude.{◌≡◌, ◌≤◌, ◌<◌, ◌+◌, ◌↔◌, false, IfOk, IsErrOf, IsFalse, length, replicate};
+ghost use Rattle.ebpf_decode.specs.Served.{IsServedImage};
+ghost use Rattle.semantics.specs.declared.options.Options.{Options};
+ghost use Rattle.semantics.specs.ShardPlan.{AreOptions};
+ghost use Rattle.shards.specs.Opening.{are_served_options, AreOpened};
+ghost use Rattle.shards.specs.declared.fault.OpenFault.TheVariants.{BadOptions};
+ghost use Rattle.shared_shards.specs.Each.{Each};
+ghost use Rattle.shared_shards.specs.NewShards.{AreUnused, IsMadeOf, IsNamed, IsNamedAt, IsRowOf};
+ghost use Rattle.shared_shards.specs.SharedMaps.{AreWords};
+
+use crate::dealer::Dealer;
+use crate::desk::Desk;
+use crate::naming::Naming;
+use crate::new_shard::NewShard;
+use crate::rule::Length;
+use crate::sharing::Shards;
+use crate::waiting::Waiting;
+use ebpf_decode::{Image, MapDef};
+use semantics::Options;
+use shard_core::Shard;
+use shards::OpenFault;
+use std::alloc::{AllocError, Global};
+use std::marker::{Model, PhantomData};
+use std::sync::Mutex;
+
+/// The shards of an image's maps, in which nothing has happened. Contracts see the maps, the options, and of each shard its plan and the
+/// name of its length word.
+#[derive(Drop)]
+pub struct Opened {
+    pub(crate) shards: Vec<NewShard>,
+    pub(crate) maps: Vec<MapDef>,
+    pub(crate) options: Options,
+}
+
+impl Model for Opened {
+    ghost use Rattle.shared_shards.specs.Each.{Each};
+    ghost use Rattle.shared_shards.specs.NewShards.{OpenedShards, IsOpening};
+
+    ghost Value = { OpenedShards };
+
+    ghost view = { λ opened. record { maps = opened.maps.items; options = opened.options; shards = opened.shards.items } };
+
+    ghost invariant = { λ opened. IsOpening opened.maps.items opened.options opened.shards.items };
+}
+
+impl Opened {
+    /// Opens the shards of the image's maps. Takes all memory that they will ever need, but what `share` and `pass` say. Refused with 51
+    /// where the options are none that are served, and with 52 for lack of memory; then nothing is left.
+    pub fn open(alloc: Global, image: &Image, options: Options) -> Result<Self, OpenFault>
+        requires served { IsServedImage image.now }
+        ensures maps { IfOk result (λ opened. opened.maps ≡ image.now.maps) }
+        ensures options { IfOk result (λ opened. opened.options ≡ options) }
+        ensures bad_options { IsErrOf result BadOptions ↔ IsFalse (are_served_options image.now.maps options) }
+    {
+        let shards = shards::Shards::open(alloc, image, options)?.into_list();
+        let maps = copied(alloc, image.maps())?;
+        let shards = new_shards(alloc, shards, options.workers as usize + 2)?;
+        Ok(Opened {
+            shards,
+            maps,
+            options,
+        })
+    }
+
+    /// Lets callers share the shards, under names that the program picks for them, with the right to deal the passes. Takes memory for
+    /// the lists alone, and fails only for lack of it; then nothing is left.
+    pub fn share<B: Naming>(self, alloc: Global) -> Result<(Shards<B>, Dealer<B>), AllocError>
+        requires named { IsNamed B.count B.table B.plan self }
+        ensures maps { IfOk result (λ shared. shared.0 ≡ (record { maps = self.maps; options = self.options })) }
+        ensures dealer { IfOk result (λ shared. shared.1 ≡ replicate (self.options.workers + 2) false) }
+    {
+        let Opened {
+            shards,
+            maps,
+            options,
+        } = self;
+        let dealt = vec![in alloc; false; options.workers as usize + 2]?;
+        let (desks, words, rows) = parted::<B>(alloc, shards)?;
+        let shards = Shards {
+            desks,
+            words,
+            maps,
+            options,
+            names: PhantomData,
+        };
+        let dealer = Dealer {
+            rows,
+            dealt,
+            names: PhantomData,
+        };
+        Ok((shards, dealer))
+    }
+
+    /// How many shards there are.
+    pub fn count(&self) -> usize
+        ensures { result ≡ length self.now.shards }
+    {
+        self.shards.len()
+    }
+}
+
+/// A copy of the list of maps.
+fn copied(alloc: Global, maps: &[MapDef]) -> Result<Vec<MapDef>, AllocError>
+    ensures { IfOk result (λ copy. copy.items ≡ maps.now) }
+{
+    let mut copy = Vec::with_capacity(alloc, maps.len())?;
+    copy.extend_from_slice(maps)?;
+    Ok(copy)
+}
+
+/// Each shard with a word and with seats for so many callers.
+fn new_shards(
+    alloc: Global,
+    mut shards: Vec<Shard>,
+    callers: usize,
+) -> Result<Vec<NewShard>, AllocError>
+    requires { AreUnused shards.items }
+    ensures count { IfOk result (λ all. length all.items ≡ length shards.items) }
+    ensures made { IfOk result (λ all. Each (IsMadeOf shards.items callers) 0 all.items) }
+{
+    let count = shards.len();
+    let mut all = Vec::with_capacity(alloc, count)?;
+    'shards: for _number in 0..count {
+        let shard = shards.remove(0);
+        all.push_reserved(NewShard::of(alloc, shard, callers)?);
+    }
+    Ok(all)
+}
+
+/// Each shard under a lock, beside the list of the words, and of the seats that wait.
+fn parted<B: Naming>(
+    alloc: Global,
+    mut shards: Vec<NewShard>,
+) -> Result<(Vec<Mutex<Desk<B>>>, Vec<Length>, Vec<Waiting>), AllocError>
+    requires { Each (IsNamedAt B.table B.plan) 0 shards.items }
+    ensures desks { IfOk result (λ all. length all.0.items ≡ length shards.items) }
+    ensures words { IfOk result (λ all. (length all.1.items ≡ length shards.items) × AreWords B.table all.1.items) }
+    ensures rows { IfOk result (λ all. (length all.2.items ≡ length shards.items) × Each (IsRowOf B.table shards.items) 0 all.2.items) }
+{
+    let count = shards.len();
+    let mut desks = Vec::with_capacity(alloc, count)?;
+    let mut words = Vec::with_capacity(alloc, count)?;
+    let mut rows = Vec::with_capacity(alloc, count)?;
+    'shards: for _number in 0..count {
+        let NewShard {
+            shard,
+            word,
+            keeper,
+            seats,
+        } = shards.remove(0);
+        desks.push_reserved(Mutex::new(Desk::new(shard, keeper)));
+        words.push_reserved(word);
+        rows.push_reserved(Waiting::new(seats));
+    }
+    Ok((desks, words, rows))
+}

@@ -1,0 +1,84 @@
+//! What a caller has for its calls.
+
+ghost use Rattle.std.specs.Prelude.{◌≡◌, ◌≢◌, ◌<◌, ℕ, length, IfOk, IfErr, OnErr};
+ghost use Rattle.semantics.specs.History.{Meets, meets, shard_of_call};
+ghost use Rattle.shared_shards.specs.CallerView.{IsServed, IsRefused, HasLooked};
+ghost use Rattle.shared_shards.specs.Passes.{badge_at, view_at, own_at, IsElsewhereSame};
+
+use crate::desk::Desk;
+use crate::naming::Naming;
+use crate::rule::{Known, Length};
+use atomic_table::Badge;
+use semantics::{Call, Caller, JournalFull, Reply};
+use std::marker::{Model, PhantomData};
+use std::mem;
+
+/// A caller's right to call the shards. Contracts see, for each shard, a beginning of its history that the caller has seen, and in it the
+/// entries of the caller's own calls, which are all that this caller ever made there.
+#[derive(Drop)]
+pub struct Pass<B: Naming> {
+    pub(crate) who: Caller,
+    /// By the shards' numbers.
+    pub(crate) seats: Vec<Badge<Known>>,
+    pub(crate) names: PhantomData<B>,
+}
+
+impl<B: Naming> Model for Pass<B> {
+    ghost use Rattle.shared_shards.specs.Passes.{PassView, pass_view, IsPass};
+
+    ghost Value = { PassView };
+
+    ghost view = { λ pass. pass_view pass.who pass.seats.items };
+
+    ghost invariant = { λ pass. IsPass B.table B.plan B.count pass.who pass.seats.items };
+}
+
+impl<B: Naming> Pass<B> {
+    /// Makes the caller's call of a shard whose lock it has.
+    pub(crate) fn call(
+        &mut self,
+        desk: &mut Desk<B>,
+        word: &Length,
+        call: &Call,
+    ) -> Result<Reply, JournalFull>
+        requires number { (desk.old.plan.number ≡ shard_of_call call.now) × (shard_of_call call.now < B.count) }
+        requires word { (word.now.shared.table_id ≡ B.table (shard_of_call call.now)) × (0 < word.now.shared.table_id.words) }
+        requires met { Meets (B.plan (shard_of_call call.now)) (own_at self.old (shard_of_call call.now)) self.old.who call.now }
+        ensures number { desk.new.plan.number ≡ desk.old.plan.number }
+        ensures elsewhere { IsElsewhereSame (shard_of_call call.now) self.old self.new }
+        ensures served { IfOk result (λ reply. IsServed (B.plan (shard_of_call call.now)) (view_at self.old (shard_of_call call.now)) (view_at self.new (shard_of_call call.now)) (record { who = self.old.who; call = call.now; reply = reply })) }
+        ensures refused { OnErr result (IsRefused (B.plan (shard_of_call call.now)) (view_at self.old (shard_of_call call.now)) (view_at self.new (shard_of_call call.now)) call.now) }
+        ensures names_the_shard { IfErr result (λ fault. fault.shard ≡ shard_of_call call.now) }
+    {
+        let number = call.shard() as usize;
+        let badge = taken(&mut self.seats, number);
+        let (seat, answer) = desk.call(word, badge.into_seat(), self.who, call);
+        self.seats[number] = seat.into_badge();
+        answer
+    }
+
+    /// Whether the caller may make the call now.
+    pub(crate) fn may_call(&mut self, desk: &mut Desk<B>, word: &Length, call: &Call) -> bool
+        requires number { (desk.old.plan.number ≡ shard_of_call call.now) × (shard_of_call call.now < B.count) }
+        requires word { (word.now.shared.table_id ≡ B.table (shard_of_call call.now)) × (0 < word.now.shared.table_id.words) }
+        ensures elsewhere { IsElsewhereSame (shard_of_call call.now) self.old self.new }
+        ensures looked { HasLooked (B.plan (shard_of_call call.now)) (view_at self.old (shard_of_call call.now)) (view_at self.new (shard_of_call call.now)) }
+        ensures meets { result ≡ meets (B.plan (shard_of_call call.now)) (own_at self.new (shard_of_call call.now)) self.new.who call.now }
+    {
+        let number = call.shard() as usize;
+        let badge = taken(&mut self.seats, number);
+        let (seat, answer) = desk.may_call(word, badge.into_seat(), self.who, call);
+        self.seats[number] = seat.into_badge();
+        answer
+    }
+}
+
+/// Takes a badge out of its place.
+pub(crate) fn taken(seats: &mut Vec<Badge<Known>>, number: usize) -> Badge<Known>
+    requires { number < length seats.old.items }
+    ensures badge { result ≡ badge_at seats.old.items number }
+    ensures others { (other : ℕ) → other ≢ number → badge_at seats.new.items other ≡ badge_at seats.old.items other }
+    ensures count { length seats.new.items ≡ length seats.old.items }
+{
+    mem::replace(&mut seats[number], Badge::blank())
+}
