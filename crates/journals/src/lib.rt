@@ -1,0 +1,12 @@
+//! The journals of all shards of an image's maps, as whoever closes the shards gets them, a file has them and an audit reads them.
+#![tactic(auto)]
+
+mod all;
+mod options;
+mod shard_journal;
+#[cfg(test)]
+mod tests;
+
+pub use all::Journals;
+pub use options::are_options;
+pub use shard_journal::ShardJournal;
