@@ -4,6 +4,7 @@
 mod answers;
 mod apply;
 mod asked;
+mod closing;
 mod contents;
 pub mod keys;
 pub mod laws;

@@ -25,7 +25,7 @@ use std::marker::Model;
 #[derive(Drop)]
 pub struct Shard {
     plan: ShardPlan,
-    journal: Journal,
+    pub(crate) journal: Journal,
     cells: Cells,
     keys: KeyTable,
     /// Of each worker inside, the place of its Enter in the journal.
