@@ -1,8 +1,10 @@
 pub mod Badges
 pub mod Callers
+pub mod Settling
 pub mod Conditions
 pub mod Dealing
 pub mod Each
+pub mod ImageMaps
 pub mod Moves
 pub mod Openings
 pub mod Names

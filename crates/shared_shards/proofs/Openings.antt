@@ -7,6 +7,7 @@ use Rattle.semantics.specs.declared.plan.ShardPlan.{ShardPlan}
 use Rattle.semantics.specs.ShardPlan.{plan_at, AreOptions}
 use Rattle.shard_core.specs.JournaledShard.{JournaledShard, opened_shard}
 use Rattle.shards.specs.Opening.{AreOpened}
+use Rattle.journals.specs.JournalsView.{AreImageMaps}
 use Rattle.shared_shards.specs.Each.{Each}
 use Rattle.shared_shards.specs.Seats.{no_plan}
 use Rattle.shared_shards.specs.NewShards.{NewShardView, no_shard, new_at, shard_at, IsUnused, AreUnused, IsMadeOf, IsOpening}
@@ -47,12 +48,13 @@ unused_when_opened maps options shards opened place shard there =
     subst IsUnused (sym (at_or shards place shard (opened_shard no_plan) there)) (opened_at maps options shards opened place (within shards place shard there)).0
 
 pub is_opening : (maps copy : List MapDef) (options : Options) (shards : List JournaledShard) (callers : ℕ) (all : List NewShardView) →
-    AreOptions maps options → AreOpened maps options shards → copy ≡ maps → callers ≡ options.workers + 2 → length all ≡ length shards →
+    AreImageMaps maps → AreOptions maps options → AreOpened maps options shards → copy ≡ maps → callers ≡ options.workers + 2 → length all ≡ length shards →
     Each (IsMadeOf shards callers) 0 all → IsOpening copy options all
-is_opening maps copy options shards callers all fit opened same_maps enough same_count made =
+is_opening maps copy options shards callers all allowed fit opened same_maps enough same_count made =
     let made_at : (number : ℕ) → number < length all → IsMadeOf shards callers number (new_at all number) =
     λ number below. each_at (IsMadeOf shards callers) all number (new_at all number) made below (default_is number below) in
     subst (λ (ms : List MapDef). IsOpening ms options all) (sym same_maps) (record {
+      maps_are = allowed;
       options_fit = fit;
       count = same_count ∙ opened.count;
       plans = λ number below. (opened_at maps options shards opened number (omega (arith, same_count))).1 ∙ ap Some (sym (made_at number below).plan_is);

@@ -1,7 +1,9 @@
 -- What a caller knows of a shard. Histories have the newest entry first.
-use Rattle.std.specs.Prelude.{◌≡◌, List, [], ◌∷◌, ◌++◌}
+use Rattle.std.specs.Prelude.{◌≡◌, List, [], ◌∷◌, ◌++◌, reverse}
+use Rattle.semantics.specs.declared.call.Caller.{Caller}
 use Rattle.semantics.specs.declared.call.Entry.{Entry}
 use Rattle.semantics.specs.declared.plan.ShardPlan.{ShardPlan}
+use Rattle.semantics.specs.CallerLaws.{own_entries}
 use Rattle.semantics.specs.History.{IsLegalHistory, IsJournalFull}
 use Rattle.semantics.specs.declared.call.Call.{Call}
 
@@ -39,3 +41,8 @@ pub record HasLooked (plan : ShardPlan) (before after : CallerView) : Type 0 whe
   pub begins : BeginsWith after.seen before.seen
   pub legal : IsLegalHistory plan after.seen
   pub own : after.own ≡ before.own
+
+-- a caller's view, held against the shard's journal: what was seen is a beginning of it, and own are all of this caller's entries in it
+pub record IsSettled (who : Caller) (view : CallerView) (journal : List Entry) : Type 0 where
+  pub begins : BeginsWith (reverse journal) view.seen
+  pub own : view.own ≡ own_entries who (reverse journal)

@@ -9,6 +9,7 @@ use Rattle.semantics.specs.declared.options.Options.{Options}
 use Rattle.semantics.specs.declared.plan.ShardPlan.{ShardPlan}
 use Rattle.semantics.specs.ShardPlan.{plan_at, AreOptions}
 use Rattle.shard_core.specs.JournaledShard.{JournaledShard, opened_shard}
+use Rattle.journals.specs.JournalsView.{AreImageMaps}
 use Rattle.shared_shards.specs.declared.rule.Known.{Known}
 use Rattle.shared_shards.specs.LengthRule.{caller_at, pass_of, no_table}
 use Rattle.shared_shards.specs.Seats.{IsKeeper, no_plan}
@@ -55,6 +56,7 @@ pub record OpenedShards : Type 0 where
 
 -- each shard as its plan has it, with seats for controller, reclaimer and workers
 pub record IsOpening (maps : List MapDef) (options : Options) (shards : List NewShardView) : Type 0 where
+  pub maps_are : AreImageMaps maps
   pub options_fit : AreOptions maps options
   pub count : length shards ≡ length maps * options.shards
   pub plans : (number : ℕ) → number < length shards → plan_at maps options number ≡ Some (new_at shards number).plan

@@ -3,11 +3,13 @@ use Rattle.std.specs.Prelude.{◌≡◌, ◌≢◌, ◌<◌, ℕ, List, [], ◌�
 use Rattle.atomic_table.specs.Seated.{TableId}
 use Rattle.atomic_table.specs.declared.badge.Badge.{Badge}
 use Rattle.semantics.specs.declared.call.Caller.{Caller}
+use Rattle.semantics.specs.declared.call.Caller.TheVariants.{Reclaimer}
 use Rattle.semantics.specs.declared.call.Entry.{Entry}
 use Rattle.semantics.specs.declared.plan.ShardPlan.{ShardPlan}
 use Rattle.semantics.specs.History.{IsLegalHistory}
+use Rattle.journals.specs.JournalsView.{JournalsView, entries_at}
 use Rattle.shared_shards.specs.declared.rule.Known.{Known}
-use Rattle.shared_shards.specs.CallerView.{CallerView, nothing_seen}
+use Rattle.shared_shards.specs.CallerView.{CallerView, nothing_seen, IsSettled}
 use Rattle.shared_shards.specs.LengthRule.{nobody, no_table}
 use Rattle.shared_shards.specs.Seats.{view_of}
 
@@ -27,11 +29,22 @@ own_at pass number = (view_at pass number).own
 abbrev pub seen_at : PassView → ℕ → List Entry
 seen_at pass number = (view_at pass number).seen
 
+-- the pass of nobody, which stands past the end of a list
+abbrev pub no_pass : PassView
+no_pass = record { who = Reclaimer; views = [] }
+
+abbrev pub pass_at : List PassView → ℕ → PassView
+pass_at passes place = slice_index_or passes place no_pass
+
 -- one shard's view may have changed, and nothing else
 pub record IsElsewhereSame (number : ℕ) (before after : PassView) : Type 0 where
   pub who : after.who ≡ before.who
   pub count : length after.views ≡ length before.views
   pub others : (other : ℕ) → other ≢ number → view_at after other ≡ view_at before other
+
+-- a pass, held against the journals: on each of so many shards its view is settled
+abbrev pub AreSettled : ℕ → JournalsView → PassView → Type 0
+AreSettled count journals pass = (number : ℕ) → number < count → IsSettled pass.who (view_at pass number) (entries_at journals number)
 
 -- ---- how the fields stand for this
 

@@ -1,13 +1,14 @@
 //! A shard as it stands under its lock.
 
 ghost use Rattle.std.specs.Prelude.{◌≡◌, ◌<◌, IfOk, IfErr, OnErr, reverse};
-ghost use Rattle.semantics.specs.History.{Meets, meets};
-ghost use Rattle.shared_shards.specs.CallerView.{IsServed, IsRefused, HasLooked};
+ghost use Rattle.semantics.specs.History.{Meets, meets, IsLegalJournal};
+ghost use Rattle.shared_shards.specs.CallerView.{IsServed, IsRefused, HasLooked, IsSettled};
 ghost use Rattle.shared_shards.specs.Seats.{IsKeeper, IsSeatOf, view_of};
 
 use crate::naming::Naming;
 use crate::rule::{Length, LengthSeat};
 use crate::seats::{join, note, part};
+use journals::ShardJournal;
 use semantics::{Call, Caller, JournalFull, Reply, laws};
 use shard_core::Shard;
 use std::marker::{Model, PhantomData};
@@ -99,5 +100,28 @@ impl<B: Naming> Desk<B> {
         join(word, &mut self.keeper, seat, who);
         let answer = self.shard.meets(&who, call);
         (part(word, &mut self.keeper, who), answer)
+    }
+
+    /// Lets a caller's seat see the whole history; the shard stays as it is.
+    pub(crate) fn look(&mut self, word: &Length, seat: LengthSeat, who: Caller) -> LengthSeat
+        requires word { (word.now.shared.table_id ≡ B.table self.old.plan.number) × (0 < word.now.shared.table_id.words) }
+        requires seat { IsSeatOf (B.table self.old.plan.number) who seat }
+        ensures shard { self.new ≡ self.old }
+        ensures seat { IsSeatOf (B.table self.old.plan.number) who result }
+        ensures looked { HasLooked (B.plan self.old.plan.number) (view_of seat.me.0) (view_of result.me.0) }
+        ensures settled { IsSettled who (view_of seat.me.0) self.old.journal }
+    {
+        let _legal = self.shard.journal();
+        join(word, &mut self.keeper, seat, who);
+        part(word, &mut self.keeper, who)
+    }
+
+    /// The shard's journal, when nobody calls it any more.
+    pub(crate) fn close(self) -> ShardJournal
+        ensures journal { result ≡ self.journal }
+        ensures legal { IsLegalJournal (B.plan self.plan.number) result }
+    {
+        let Desk { shard, .. } = self;
+        ShardJournal::written(shard.into_journal())
     }
 }

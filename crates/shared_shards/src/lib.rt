@@ -1,6 +1,7 @@
 //! The shards of an image's maps, behind a lock each, called by many threads; and passes, which know what their callers did and saw.
 #![tactic(auto)]
 
+mod closing;
 mod dealer;
 mod desk;
 mod fault;

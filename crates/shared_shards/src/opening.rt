@@ -77,12 +77,14 @@ impl Opened {
             options,
         } = self;
         let dealt = vec![in alloc; false; options.workers as usize + 2]?;
+        let journals = Vec::with_capacity(alloc, shards.len())?;
         let (desks, words, rows) = parted::<B>(alloc, shards)?;
         let shards = Shards {
             desks,
             words,
             maps,
             options,
+            journals,
             names: PhantomData,
         };
         let dealer = Dealer {

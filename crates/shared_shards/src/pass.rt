@@ -2,7 +2,7 @@
 
 ghost use Rattle.std.specs.Prelude.{◌≡◌, ◌≢◌, ◌<◌, ℕ, length, IfOk, IfErr, OnErr};
 ghost use Rattle.semantics.specs.History.{Meets, meets, shard_of_call};
-ghost use Rattle.shared_shards.specs.CallerView.{IsServed, IsRefused, HasLooked};
+ghost use Rattle.shared_shards.specs.CallerView.{IsServed, IsRefused, HasLooked, IsSettled};
 ghost use Rattle.shared_shards.specs.Passes.{badge_at, view_at, own_at, IsElsewhereSame};
 
 use crate::desk::Desk;
@@ -70,6 +70,20 @@ impl<B: Naming> Pass<B> {
         let (seat, answer) = desk.may_call(word, badge.into_seat(), self.who, call);
         self.seats[number] = seat.into_badge();
         answer
+    }
+
+    /// Holds the caller's view of a shard against the shard's journal. The pass has then seen all of it; the shard stays as it is.
+    pub(crate) fn settle(&mut self, desk: &mut Desk<B>, word: &Length, number: u32)
+        requires number { (desk.old.plan.number ≡ number) × (number < B.count) }
+        requires word { (word.now.shared.table_id ≡ B.table number) × (0 < word.now.shared.table_id.words) }
+        ensures shard { desk.new ≡ desk.old }
+        ensures elsewhere { IsElsewhereSame number self.old self.new }
+        ensures settled { IsSettled self.old.who (view_at self.old number) desk.old.journal }
+    {
+        let number = number as usize;
+        let badge = taken(&mut self.seats, number);
+        let seat = desk.look(word, badge.into_seat(), self.who);
+        self.seats[number] = seat.into_badge();
     }
 }
 

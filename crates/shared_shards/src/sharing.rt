@@ -10,6 +10,7 @@ use crate::naming::Naming;
 use crate::pass::Pass;
 use crate::rule::Length;
 use ebpf_decode::MapDef;
+use journals::ShardJournal;
 use semantics::{Call, JournalFull, Options, Reply};
 use std::marker::{Model, PhantomData};
 use std::sync::{Mutex, Wait};
@@ -22,18 +23,20 @@ pub struct Shards<B: Naming> {
     pub(crate) words: Vec<Length>,
     pub(crate) maps: Vec<MapDef>,
     pub(crate) options: Options,
+    /// Room for the journals, which `close` hands out.
+    pub(crate) journals: Vec<ShardJournal>,
     pub(crate) names: PhantomData<B>,
 }
 
 impl<B: Naming> Model for Shards<B> {
-    ghost use Rattle.std.specs.Prelude.{length};
+    ghost use Rattle.std.specs.Prelude.{length, vec_capacity};
     ghost use Rattle.shared_shards.specs.SharedMaps.{SharedMaps, AreShared};
 
     ghost Value = { SharedMaps };
 
     ghost view = { λ shards. record { maps = shards.maps.items; options = shards.options } };
 
-    ghost invariant = { λ shards. AreShared B.table B.plan B.count (length shards.desks.items) shards.words.items shards.maps.items shards.options };
+    ghost invariant = { λ shards. AreShared B.table B.plan B.count (length shards.desks.items) shards.words.items shards.maps.items shards.options shards.journals.items (vec_capacity shards.journals) };
 }
 
 impl<B: Naming> Shards<B> {
@@ -90,12 +93,14 @@ impl<B: Naming> Shards<B> {
         pass.may_call(desk, &self.words[number as usize], call)
     }
 
-    /// Runs `f` under the lock of the shard of this number alone, and changes nothing. Waits for the lock, and takes no memory.
-    pub fn hold<F: FnOnce()>(&self, rt: &impl Wait, shard: u32, f: F)
+    /// Runs `f` under the lock of the shard of this number alone, hands on what it returns, and changes nothing. Waits for the lock, and
+    /// takes no memory.
+    pub fn hold<R, F: FnOnce() -> R>(&self, rt: &impl Wait, shard: u32, f: F) -> R
         requires shard { shard < B.count }
         requires callable { F.IsAlwaysCallable f }
+        ensures { F.post f result }
     {
         let _guard = self.desks[shard as usize].lock(rt);
-        f();
+        f()
     }
 }

@@ -6,6 +6,7 @@ ghost use Rattle.shared_shards.specs.NewShards.{IsNamed};
 
 use crate::{Naming, Opened, Pass, PassFault, Shards};
 use ebpf_decode::{Image, Insn, MapDef, MapKind, Version};
+use journals::Journals;
 use semantics::{Call, Caller, CellRef, Key, Options, Reply};
 use std::alloc::Global;
 use std::marker::Brand;
@@ -101,6 +102,15 @@ const IN_TURN: [(&str, bool, Step, Option<Reply>); 13] = [
     ("the other leaves",                   false, Step::Leave,                Some(Reply::Left)),
 ];
 
+/// How many entries the shard's journal has.
+fn length_of(journals: &Journals, number: usize) -> usize {
+    if number < journals.count() {
+        journals.journal(number).len()
+    } else {
+        0
+    }
+}
+
 fn in_turn<B: Naming, R: Abort + Wait>(rt: &R, alloc: Global, opened: Opened) -> Result<(), Fail>
     requires { IsNamed B.count B.table B.plan opened }
 {
@@ -115,6 +125,16 @@ fn in_turn<B: Naming, R: Abort + Wait>(rt: &R, alloc: Global, opened: Opened) ->
         };
         assert_eq!(rt; got, want, "{name}");
     }
+    let mut passes = Vec::with_capacity(alloc, 2)?;
+    passes.push(first)?;
+    passes.push(second)?;
+    let journals = shards.close(rt, passes);
+    assert_eq!(rt;
+        (0..journals.count())
+            .map(|number| length_of(&journals, number))
+            .eq([0, 8]),
+        true
+    );
     Ok(())
 }
 
@@ -191,4 +211,22 @@ fn by_two_threads<B: Naming + Send + Sync, R: Threads + Abort + Wait + Sync>(
 fn two_threads_on_one_shard(rt: HostRuntime) -> Result<(), Fail> {
     let opened = opened(rt.alloc(), 602)?;
     by_two_threads::<Brand, HostRuntime>(&rt, rt.alloc(), opened)
+}
+
+fn held<B: Naming, R: Abort + Wait>(rt: &R, alloc: Global, opened: Opened) -> Result<(), Fail>
+    requires { IsNamed B.count B.table B.plan opened }
+{
+    let (shards, mut dealer) = opened.share::<B>(alloc)?;
+    let mut pass = dealer.pass(alloc, Caller::Worker { number: 0 })?;
+    assert!(rt; 1 < shards.count());
+    let got = shards.hold(rt, 0, || attempt(rt, &shards, &mut pass, Step::Enter));
+    assert_eq!(rt; got, Some(Reply::Entered));
+    Ok(())
+}
+
+/// While one shard's lock is held, a call on the other is answered: each has a lock of its own, and what is to run under it runs.
+#[test]
+fn a_call_while_another_shard_is_held(rt: HostRuntime) -> Result<(), Fail> {
+    let opened = opened(rt.alloc(), 16)?;
+    held::<Brand, HostRuntime>(&rt, rt.alloc(), opened)
 }

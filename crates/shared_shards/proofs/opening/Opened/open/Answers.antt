@@ -1,6 +1,7 @@
 use Rattle.std.proofs.Common.{◌≡◌, ◌+◌, List, length, refl, sym, ap, ◌∙◌, subst, arith}
 use Rattle.shard_core.specs.JournaledShard.{JournaledShard}
 use Rattle.shards.specs.Opening.{AreOpened}
+use Rattle.shared_shards.proofs.ImageMaps.{image_maps}
 use Rattle.shared_shards.proofs.Openings.{unused_when_opened, is_opening}
 use Rattle.shared_shards.proofs.opening.Opened.open.Goals as goal
 
@@ -14,4 +15,4 @@ invariant_of-result c =
     let opened : AreOpened c.args.image.now.maps c.args.options c.into_list-shards.result.items =
     subst (λ (ss : List JournaledShard). AreOpened c.args.image.now.maps c.args.options ss) (sym c.into_list-shards.ensures) c.in_ok-open.ensures.opened in
     is_opening c.args.image.now.maps c.in_ok-maps.maps.items c.args.options c.into_list-shards.result.items _ c.in_ok-shards.shards.items
-    c.in_ok-open.ensures.options opened (c.in_ok-maps.ensures ∙ c.maps.ensures.maps) refl c.in_ok-shards.ensures.count c.in_ok-shards.ensures.made
+    (image_maps c.args.image.now.version c.args.image.now.maps c.args.image.now.code c.maps.ensures.encodable) c.in_ok-open.ensures.options opened (c.in_ok-maps.ensures ∙ c.maps.ensures.maps) refl c.in_ok-shards.ensures.count c.in_ok-shards.ensures.made
