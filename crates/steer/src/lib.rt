@@ -1,0 +1,10 @@
+//! The shipped program: the steering rule as an image over the six maps.
+#![tactic(auto)]
+
+mod blocks;
+mod image;
+pub mod laws;
+#[cfg(test)]
+mod tests;
+
+pub use image::shipped;
