@@ -28,7 +28,6 @@ fn run_at(
     port: &mut PlainPort,
 ) -> Result<Exit, Stop>
     requires maps { port.old.image.now.maps ≡ verified.now.maps }
-    requires arrays { IsServedImage (record { version = V1; maps = verified.now.maps; code = verified.now.code }) }
     requires runnable { IsRunnable verified.now.code verified.now.states }
     requires headroom { frame.old.headroom ≡ 256 }
     requires worker { moment.now.worker < 8 }

@@ -11,13 +11,17 @@ pub mod SteppingLemmas
 pub mod ReadLemmas
 pub mod StackLoadLemmas
 pub mod LoadLemmas
+pub mod CellLemmas
 pub mod StoreLemmas
+pub mod AtomicLemmas
 pub mod LookupLemmas
+pub mod UpdateLemmas
 pub mod ArithmeticLemmas
 pub mod ControlLemmas
 pub mod JumpLemmas
 pub mod AdvanceSteps
 pub mod RunSteps
+pub mod CallSteps
 pub mod AdvanceLaw
 pub mod RunObligations
 pub mod OpeningLemmas

@@ -8,3 +8,4 @@ pub mod Meaning
 pub mod Running
 pub mod StopText
 pub mod Along
+pub mod Asking

@@ -4,6 +4,8 @@
 mod act;
 mod advance;
 mod arms;
+mod ask;
+mod calls;
 mod exit;
 mod facts;
 mod moment;

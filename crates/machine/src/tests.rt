@@ -3,9 +3,11 @@
 ghost use Rattle.std.specs.Prelude.{◌<◌};
 
 mod arithmetic;
+mod asking;
 mod memory;
 mod nothing;
 mod programs;
+mod scripted;
 
 use crate::{Exit, Moment, Stop};
 use ebpf_decode::Insn;

@@ -126,15 +126,13 @@ pub(super) fn accepted(
     maps: &[MapDef],
     head: &[Insn],
     tail: &[Insn],
-) -> Result<Verified, Fail>
-    ensures { IfOk result (λ v. IsServedImage (record { version = V1; maps = v.maps; code = v.code })) }
-{
+) -> Result<Verified, Fail> {
     let mut all_maps = Vec::new(alloc);
     all_maps.extend_from_slice(maps)?;
     let mut code = Vec::new(alloc);
     code.extend_from_slice(head)?;
     code.extend_from_slice(tail)?;
-    Ok(verify(alloc, Image::of(Version::V1, all_maps, code)?.served()?)?)
+    Ok(verify(alloc, Image::of(Version::V1, all_maps, code)?)?)
 }
 
 /// How a run ended, and the frame that it left.
@@ -151,8 +149,7 @@ pub(super) fn ran(
     moment: &Moment,
     bytes: &[u8],
 ) -> Result<Outcome, Fail>
-    requires worker { moment.now.worker < 8 }
-    requires arrays { IsServedImage (record { version = V1; maps = verified.now.maps; code = verified.now.code }) }
+    requires { moment.now.worker < 8 }
 {
     match verified.unrun() {
         Some(reject) => return Err(Fail::from(reject)),
