@@ -1,11 +1,14 @@
 -- What a pass knows once the badge of one shard is another.
-use Rattle.std.proofs.Common.{◌≡◌, ◌≢◌, ℕ, zero, suc, ◌<◌, List, [], ◌∷◌, length, set, refl, sym, ap, ◌∙◌, arith}
+use Rattle.std.proofs.Common.{◌≡◌, ◌≢◌, ◌⊎◌, ℕ, zero, suc, ◌<◌, List, [], ◌∷◌, length, set, refl, sym, ap, ◌∙◌, subst, ⊎_elim, arith}
 use Rattle.std.specs.Prelude.{map, slice_index_or, slice_set}
+use Rattle.atomic_table.specs.Seated.{TableId}
 use Rattle.atomic_table.specs.declared.badge.Badge.{Badge}
 use Rattle.semantics.specs.declared.call.Caller.{Caller}
+use Rattle.semantics.specs.declared.plan.ShardPlan.{ShardPlan}
 use Rattle.shared_shards.specs.declared.rule.Known.{Known}
 use Rattle.shared_shards.specs.CallerView.{CallerView, nothing_seen}
-use Rattle.shared_shards.specs.Passes.{PassView, view_at, IsElsewhereSame, blank, badge_at, view_of_badge, pass_view}
+use Rattle.shared_shards.specs.Passes.{PassView, view_at, IsElsewhereSame, blank, badge_at, view_of_badge, pass_view, IsBadgeOf, IsPass}
+use Rattle.shared_shards.proofs.Settling.{same_or_other}
 
 set_here : (badges : List (Badge Known)) (number : ℕ) (badge : Badge Known) → number < length badges → badge_at (slice_set badges number badge) number ≡ badge
 set_here [] number badge within = absurd (omega arith)
@@ -45,4 +48,17 @@ same_elsewhere who old taken number badge same others = record {
   who = refl;
   count = views_count (slice_set taken number badge) ∙ set_count taken number badge ∙ same ∙ sym (views_count old);
   others = λ other apart. view_is who (slice_set taken number badge) other ∙ ap view_of_badge (set_else taken number other badge apart ∙ others other apart) ∙ sym (view_is who old other);
+}
+
+-- with the caller's seat back in its place, it is a pass again
+pub pass_after : (table : ℕ → TableId) (plan : ℕ → ShardPlan) (count : ℕ) (who : Caller) (old taken : List (Badge Known)) (number : ℕ) (badge : Badge Known) →
+    IsPass table plan count who old → length taken ≡ length old → ((other : ℕ) → other ≢ number → badge_at taken other ≡ badge_at old other) → number < count →
+    IsBadgeOf (table number) (plan number) who badge → IsPass table plan count who (slice_set taken number badge)
+pass_after table plan count who old taken number badge pass same others below is = record {
+  sized = set_count taken number badge ∙ same ∙ pass.sized;
+  each = λ k within. ⊎_elim
+      (λ (here : k ≡ number). subst (λ (n : ℕ). IsBadgeOf (table n) (plan n) who (badge_at (slice_set taken number badge) n)) (sym here)
+      (subst (IsBadgeOf (table number) (plan number) who) (sym (set_here taken number badge (let sized = pass.sized in omega (arith, same, sized, below)))) is))
+      (λ (apart : k ≢ number). subst (IsBadgeOf (table k) (plan k) who) (sym (set_else taken number k badge apart ∙ others k apart))
+      (pass.each k (let counted = set_count taken number badge in omega (arith, counted, same, within)))) (same_or_other k number);
 }

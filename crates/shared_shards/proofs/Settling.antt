@@ -9,7 +9,7 @@ use Rattle.shared_shards.specs.CallerView.{CallerView, IsSettled}
 use Rattle.shared_shards.specs.Passes.{PassView, no_pass, pass_at, view_at, IsElsewhereSame}
 use Rattle.shared_shards.proofs.Each.{or_set_here, or_set_else, or_push_here, or_push_else}
 
-same_or_other : (a b : ℕ) → (a ≡ b) ⊎ (a ≢ b)
+pub same_or_other : (a b : ℕ) → (a ≡ b) ⊎ (a ≢ b)
 same_or_other zero zero = inl refl
 same_or_other zero (suc b) = inr (λ same. omega (arith, same))
 same_or_other (suc a) zero = inr (λ same. omega (arith, same))

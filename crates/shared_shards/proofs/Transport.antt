@@ -1,5 +1,5 @@
--- What is said of one view is said of an equal one.
-use Rattle.std.proofs.Common.{◌≡◌, refl, subst}
+-- What is said of a seat's view is said of the pass that has the seat.
+use Rattle.std.proofs.Common.{◌≡◌, ℕ, List, ◌∷◌, refl, sym, ap, ◌∙◌, subst}
 use Rattle.std.specs.Prelude.{Result, Ok, Err, IfOk, OnErr}
 use Rattle.semantics.specs.declared.call.Caller.{Caller}
 use Rattle.semantics.specs.declared.call.Call.{Call}
@@ -8,41 +8,45 @@ use Rattle.semantics.specs.declared.full.JournalFull.{JournalFull}
 use Rattle.semantics.specs.declared.call.Entry.{Entry}
 use Rattle.semantics.specs.declared.plan.ShardPlan.{ShardPlan}
 use Rattle.shared_shards.specs.CallerView.{CallerView, IsServed, IsRefused, HasLooked}
+use Rattle.shared_shards.specs.Passes.{PassView, view_at, seen_at}
+use Rattle.shared_shards.specs.Asked.{IsAnswered, IsTurnedAway}
 
-served_at : (plan plan' : ShardPlan) (before before' after after' : CallerView) (entry : Entry) → plan ≡ plan' → before ≡ before' → after ≡ after' →
-    IsServed plan before after entry → IsServed plan' before' after' entry
-served_at plan plan' before before' after after' entry same same_before same_after is =
-    subst (λ (p : ShardPlan). IsServed p before' after' entry) same
-    (subst (λ (b : CallerView). IsServed plan b after' entry) same_before (subst (λ (a : CallerView). IsServed plan before a entry) same_after is))
+module _ {A : Type 0} (plan : ℕ → ShardPlan) (asks : ℕ → Call) (replies : ℕ → A → Reply) (n number : ℕ) (v w : CallerView) (inside now after : PassView)
+    (here : n ≡ number) (was : v ≡ view_at inside number) (is : w ≡ view_at after number) (same : inside ≡ now) where
+  served_one : (a : A) → IsServed (plan n) v w (record { who = inside.who; call = asks n; reply = replies n a }) →
+      IsAnswered (plan number) number now after (asks number) (replies number a)
+  served_one a served =
+      subst (λ (p : PassView). IsAnswered (plan number) number p after (asks number) (replies number a)) same
+      (subst (λ (k : ℕ). IsServed (plan k) (view_at inside number) (view_at after number) (record { who = inside.who; call = asks k; reply = replies k a })) here
+      (subst (λ (b : CallerView). IsServed (plan n) b (view_at after number) (record { who = inside.who; call = asks n; reply = replies n a })) was
+      (subst (λ (b : CallerView). IsServed (plan n) v b (record { who = inside.who; call = asks n; reply = replies n a })) is served)))
 
-refused_at : (plan plan' : ShardPlan) (before before' after after' : CallerView) (call : Call) → plan ≡ plan' → before ≡ before' → after ≡ after' →
-    IsRefused plan before after call → IsRefused plan' before' after' call
-refused_at plan plan' before before' after after' call same same_before same_after is =
-    subst (λ (p : ShardPlan). IsRefused p before' after' call) same
-    (subst (λ (b : CallerView). IsRefused plan b after' call) same_before (subst (λ (a : CallerView). IsRefused plan before a call) same_after is))
+  pub answered_moves : (answer : Result A JournalFull) →
+      IfOk answer (λ a. IsServed (plan n) v w (record { who = inside.who; call = asks n; reply = replies n a })) →
+      IfOk answer (λ a. IsAnswered (plan number) number now after (asks number) (replies number a))
+  answered_moves (Ok a) served = served_one a served
+  answered_moves (Err full) served = served
 
-served_same_caller : (answer : Result Reply JournalFull) (who : Caller) (call : Call) (plan plan' : ShardPlan) (before before' after after' : CallerView) →
-    plan ≡ plan' → before ≡ before' → after ≡ after' →
-    IfOk answer (λ reply. IsServed plan before after (record { who = who; call = call; reply = reply })) →
-    IfOk answer (λ reply. IsServed plan' before' after' (record { who = who; call = call; reply = reply }))
-served_same_caller (Ok reply) who call plan plan' before before' after after' same same_before same_after is =
-    served_at plan plan' before before' after after' (record { who = who; call = call; reply = reply }) same same_before same_after is
-served_same_caller (Err full) who call plan plan' before before' after after' same same_before same_after is = is
+  refused_one : IsRefused (plan n) v w (asks n) → IsTurnedAway (plan number) number now after (asks number)
+  refused_one refused =
+      subst (λ (p : PassView). IsTurnedAway (plan number) number p after (asks number)) same
+      (subst (λ (k : ℕ). IsRefused (plan k) (view_at inside number) (view_at after number) (asks k)) here
+      (subst (λ (b : CallerView). IsRefused (plan n) b (view_at after number) (asks n)) was
+      (subst (λ (b : CallerView). IsRefused (plan n) v b (asks n)) is refused)))
 
-pub served_moves : (answer : Result Reply JournalFull) (who who' : Caller) (call : Call) (plan plan' : ShardPlan) (before before' after after' : CallerView) →
-    who ≡ who' → plan ≡ plan' → before ≡ before' → after ≡ after' →
-    IfOk answer (λ reply. IsServed plan before after (record { who = who; call = call; reply = reply })) →
-    IfOk answer (λ reply. IsServed plan' before' after' (record { who = who'; call = call; reply = reply }))
-served_moves answer who who' call plan plan' before before' after after' same_caller same same_before same_after is =
-    subst (λ (w : Caller). IfOk answer (λ reply. IsServed plan' before' after' (record { who = w; call = call; reply = reply }))) same_caller
-    (served_same_caller answer who call plan plan' before before' after after' same same_before same_after is)
+  pub turned_away_moves : (answer : Result A JournalFull) → OnErr answer (IsRefused (plan n) v w (asks n)) →
+      OnErr answer (IsTurnedAway (plan number) number now after (asks number))
+  turned_away_moves (Ok a) refused = refused
+  turned_away_moves (Err full) refused = refused_one refused
 
-pub refused_moves : (answer : Result Reply JournalFull) (call : Call) (plan plan' : ShardPlan) (before before' after after' : CallerView) →
-    plan ≡ plan' → before ≡ before' → after ≡ after' →
-    OnErr answer (IsRefused plan before after call) → OnErr answer (IsRefused plan' before' after' call)
-refused_moves (Ok reply) call plan plan' before before' after after' same same_before same_after is = is
-refused_moves (Err full) call plan plan' before before' after after' same same_before same_after is =
-    refused_at plan plan' before before' after after' call same same_before same_after is
+  pub next_moves : (answer : Result A JournalFull) (older : List Entry) →
+      IfOk answer (λ a. w.seen ≡ (record { who = inside.who; call = asks n; reply = replies n a }) ∷ older) →
+      IfOk answer (λ a. seen_at after number ≡ (record { who = now.who; call = asks number; reply = replies number a }) ∷ older)
+  next_moves (Ok a) older next =
+      ap (λ (b : CallerView). b.seen) (sym is) ∙ next
+      ∙ ap (λ (k : ℕ). (record { who = inside.who; call = asks k; reply = replies k a }) ∷ older) here
+      ∙ ap (λ (p : PassView). (record { who = p.who; call = asks number; reply = replies number a }) ∷ older) same
+  next_moves (Err full) older next = next
 
 pub looked_at : (plan plan' : ShardPlan) (before before' after after' : CallerView) → plan ≡ plan' → before ≡ before' → after ≡ after' →
     HasLooked plan before after → HasLooked plan' before' after'

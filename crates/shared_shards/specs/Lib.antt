@@ -4,6 +4,7 @@ pub mod CallerView
 pub mod LengthRule
 pub mod Seats
 pub mod Passes
+pub mod Asked
 pub mod SharedMaps
 pub mod NewShards
 pub mod FaultNumber

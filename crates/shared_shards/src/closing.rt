@@ -34,24 +34,13 @@ impl<B: Naming> Shards<B> {
         } = self;
         let count = desks.len();
         'shards: for number in 0..count {
-            let desk = checked(rt, desks.remove(0).into_inner(), number as u32);
+            let desk = desks.remove(0).into_inner();
+            desk.wait_unless(rt, number as u32);
             let journal = settled(desk, &words[number], number as u32, &mut passes);
             journals.push_reserved(journal);
         }
         Journals::of(maps, options, journals)
     }
-}
-
-/// The shard of this number. A lock that held another shard would never be left.
-fn checked<B: Naming>(rt: &impl Wait, desk: Desk<B>, number: u32) -> Desk<B>
-    ensures shard { result ≡ desk }
-    ensures number { result.plan.number ≡ number }
-{
-    if desk.number() != number {
-        'never: for _ in rt.forever() {}
-        unreachable!()
-    }
-    desk
 }
 
 /// The journal of a shard that nobody calls any more, held against the passes.

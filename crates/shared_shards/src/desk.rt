@@ -1,17 +1,19 @@
 //! A shard as it stands under its lock.
 
-ghost use Rattle.std.specs.Prelude.{◌≡◌, ◌<◌, IfOk, IfErr, OnErr, reverse};
-ghost use Rattle.semantics.specs.History.{Meets, meets, IsLegalJournal};
+ghost use Rattle.std.specs.Prelude.{◌≡◌, ◌<◌, ◌∷◌, IfOk, IfErr, OnErr, reverse};
+ghost use Rattle.semantics.specs.History.{Meets, meets, IsLegalHistory, IsLegalJournal};
 ghost use Rattle.shared_shards.specs.CallerView.{IsServed, IsRefused, HasLooked, IsSettled};
 ghost use Rattle.shared_shards.specs.Seats.{IsKeeper, IsSeatOf, view_of};
 
+use crate::asks::Ask;
 use crate::naming::Naming;
 use crate::rule::{Length, LengthSeat};
 use crate::seats::{join, note, part};
 use journals::ShardJournal;
-use semantics::{Call, Caller, JournalFull, Reply, laws};
+use semantics::{Call, Caller, JournalFull, laws};
 use shard_core::Shard;
 use std::marker::{Model, PhantomData};
+use std::sync::Wait;
 
 /// A shard, with the seat that knows its history. Contracts see the shard.
 #[derive(Drop)]
@@ -53,26 +55,40 @@ impl<B: Naming> Desk<B> {
         self.shard.plan().number
     }
 
-    /// Makes the call for the caller of a seat that may make it, and gives the seat back, which then knows it.
-    pub(crate) fn call(
+    /// Waits for ever where this is a shard of another number: a lock does not tell which shard it holds, and whoever goes on knows.
+    pub(crate) fn wait_unless(&self, rt: &impl Wait, number: u32)
+        ensures { self.now.plan.number ≡ number }
+    {
+        if self.number() != number {
+            'never: for _ in rt.forever() {}
+            unreachable!()
+        }
+    }
+
+    /// Makes a call for the caller of a seat that may make it, and gives the seat back, which then knows it.
+    pub(crate) fn ask<C: Ask>(
         &mut self,
         word: &Length,
         seat: LengthSeat,
         who: Caller,
-        call: &Call,
-    ) -> (LengthSeat, Result<Reply, JournalFull>)
+        ask: C,
+    ) -> (LengthSeat, Result<C::Answer, JournalFull>)
         requires word { (word.now.shared.table_id ≡ B.table self.old.plan.number) × (0 < word.now.shared.table_id.words) }
         requires seat { IsSeatOf (B.table self.old.plan.number) who seat }
-        requires met { Meets (B.plan self.old.plan.number) seat.me.0.own who call.now }
+        requires met { Meets (B.plan self.old.plan.number) seat.me.0.own who (C.asks ask self.old.plan.number) }
         ensures number { self.new.plan.number ≡ self.old.plan.number }
         ensures seat { IsSeatOf (B.table self.old.plan.number) who result.0 }
-        ensures served { IfOk result.1 (λ reply. IsServed (B.plan self.old.plan.number) (view_of seat.me.0) (view_of result.0.me.0) (record { who = who; call = call.now; reply = reply })) }
-        ensures refused { OnErr result.1 (IsRefused (B.plan self.old.plan.number) (view_of seat.me.0) (view_of result.0.me.0) call.now) }
+        ensures served { IfOk result.1 (λ answer. IsServed (B.plan self.old.plan.number) (view_of seat.me.0) (view_of result.0.me.0) (record { who = who; call = C.asks ask self.old.plan.number; reply = C.replies self.old.plan.number answer })) }
+        ensures refused { OnErr result.1 (IsRefused (B.plan self.old.plan.number) (view_of seat.me.0) (view_of result.0.me.0) (C.asks ask self.old.plan.number)) }
         ensures names_the_shard { IfErr result.1 (λ fault. fault.shard ≡ self.old.plan.number) }
+        ensures legal { IsLegalHistory (B.plan self.old.plan.number) result.0.me.0.seen }
+        ensures seen { result.0.me.0.seen ≡ reverse self.new.journal }
+        ensures next { IfOk result.1 (λ answer. result.0.me.0.seen ≡ (record { who = who; call = C.asks ask self.old.plan.number; reply = C.replies self.old.plan.number answer }) ∷ reverse self.old.journal) }
+        ensures unchanged { OnErr result.1 (self.new ≡ self.old) }
     {
         laws::condition_is_own();
         join(word, &mut self.keeper, seat, who);
-        let answer = self.shard.apply(who, call);
+        let answer = ask.make(&mut self.shard, who);
         if answer.is_ok() {
             let before = self.shard.journal().len() as u64 - 1;
             note(word, &mut self.keeper, before, &self.shard, who);

@@ -1,6 +1,8 @@
 //! The shards of an image's maps, behind a lock each, called by many threads; and passes, which know what their callers did and saw.
 #![tactic(auto)]
 
+mod asks;
+mod calls;
 mod closing;
 mod dealer;
 mod desk;
@@ -12,13 +14,18 @@ mod pass;
 mod rule;
 mod seats;
 mod sharing;
+mod stopped;
 #[cfg(test)]
 mod tests;
 mod waiting;
 
+pub use asks::{
+    Ask, Calls, Changes, Deletes, Enters, Leaves, Loads, Looks, Reclaims, Stores, Updates,
+};
 pub use dealer::Dealer;
 pub use fault::PassFault;
 pub use naming::Naming;
 pub use opening::Opened;
 pub use pass::Pass;
 pub use sharing::Shards;
+pub use stopped::Stopped;

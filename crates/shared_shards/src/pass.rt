@@ -1,15 +1,19 @@
 //! What a caller has for its calls.
 
-ghost use Rattle.std.specs.Prelude.{◌≡◌, ◌≢◌, ◌<◌, ℕ, length, IfOk, IfErr, OnErr};
-ghost use Rattle.semantics.specs.History.{Meets, meets, shard_of_call};
-ghost use Rattle.shared_shards.specs.CallerView.{IsServed, IsRefused, HasLooked, IsSettled};
-ghost use Rattle.shared_shards.specs.Passes.{badge_at, view_at, own_at, IsElsewhereSame};
+ghost use Rattle.std.specs.Prelude.{◌≡◌, ◌≢◌, ◌<◌, ◌∷◌, ℕ, length, reverse, IfOk, IfErr, OnErr};
+ghost use Rattle.semantics.specs.History.{meets, shard_of_call};
+ghost use Rattle.shared_shards.specs.CallerView.{HasLooked, IsSettled};
+ghost use Rattle.shared_shards.specs.Passes.{badge_at, view_at, own_at, seen_at, IsElsewhereSame};
+ghost use Rattle.shared_shards.specs.Asked.{MayAsk, MayAskInside, IsAnswered, IsTurnedAway, EnteredAndAnswered, IsStopped};
+ghost use Rattle.semantics.specs.declared.call.Call.TheVariants.{Enter};
 
+use crate::asks::{Ask, Enters};
 use crate::desk::Desk;
 use crate::naming::Naming;
 use crate::rule::{Known, Length};
+use crate::stopped::Stopped;
 use atomic_table::Badge;
-use semantics::{Call, Caller, JournalFull, Reply};
+use semantics::{Call, Caller, JournalFull};
 use std::marker::{Model, PhantomData};
 use std::mem;
 
@@ -35,26 +39,58 @@ impl<B: Naming> Model for Pass<B> {
 
 impl<B: Naming> Pass<B> {
     /// Makes the caller's call of a shard whose lock it has.
-    pub(crate) fn call(
+    pub(crate) fn ask<C: Ask>(
         &mut self,
         desk: &mut Desk<B>,
         word: &Length,
-        call: &Call,
-    ) -> Result<Reply, JournalFull>
-        requires number { (desk.old.plan.number ≡ shard_of_call call.now) × (shard_of_call call.now < B.count) }
-        requires word { (word.now.shared.table_id ≡ B.table (shard_of_call call.now)) × (0 < word.now.shared.table_id.words) }
-        requires met { Meets (B.plan (shard_of_call call.now)) (own_at self.old (shard_of_call call.now)) self.old.who call.now }
-        ensures number { desk.new.plan.number ≡ desk.old.plan.number }
-        ensures elsewhere { IsElsewhereSame (shard_of_call call.now) self.old self.new }
-        ensures served { IfOk result (λ reply. IsServed (B.plan (shard_of_call call.now)) (view_at self.old (shard_of_call call.now)) (view_at self.new (shard_of_call call.now)) (record { who = self.old.who; call = call.now; reply = reply })) }
-        ensures refused { OnErr result (IsRefused (B.plan (shard_of_call call.now)) (view_at self.old (shard_of_call call.now)) (view_at self.new (shard_of_call call.now)) call.now) }
-        ensures names_the_shard { IfErr result (λ fault. fault.shard ≡ shard_of_call call.now) }
+        number: u32,
+        ask: C,
+    ) -> Result<C::Answer, JournalFull>
+        requires number { (desk.old.plan.number ≡ number) × (number < B.count) }
+        requires word { (word.now.shared.table_id ≡ B.table number) × (0 < word.now.shared.table_id.words) }
+        requires met { MayAsk (B.plan number) number self.old (C.asks ask number) }
+        ensures number { desk.new.plan.number ≡ number }
+        ensures elsewhere { IsElsewhereSame number self.old self.new }
+        ensures served { IfOk result (λ answer. IsAnswered (B.plan number) number self.old self.new (C.asks ask number) (C.replies number answer)) }
+        ensures refused { OnErr result (IsTurnedAway (B.plan number) number self.old self.new (C.asks ask number)) }
+        ensures names_the_shard { IfErr result (λ fault. fault.shard ≡ number) }
+        ensures seen { seen_at self.new number ≡ reverse desk.new.journal }
+        ensures next { IfOk result (λ answer. seen_at self.new number ≡ (record { who = self.old.who; call = C.asks ask number; reply = C.replies number answer }) ∷ reverse desk.old.journal) }
+        ensures unchanged { OnErr result (desk.new ≡ desk.old) }
     {
-        let number = call.shard() as usize;
-        let badge = taken(&mut self.seats, number);
-        let (seat, answer) = desk.call(word, badge.into_seat(), self.who, call);
-        self.seats[number] = seat.into_badge();
+        let place = number as usize;
+        let badge = taken(&mut self.seats, place);
+        let (seat, answer) = desk.ask(word, badge.into_seat(), self.who, ask);
+        self.seats[place] = seat.into_badge();
         answer
+    }
+
+    /// Enters a shard whose lock it has, and makes the caller's call there.
+    pub(crate) fn enter_then<C: Ask>(
+        &mut self,
+        desk: &mut Desk<B>,
+        word: &Length,
+        number: u32,
+        ask: C,
+    ) -> Result<C::Answer, Stopped>
+        requires number { (desk.old.plan.number ≡ number) × (number < B.count) }
+        requires word { (word.now.shared.table_id ≡ B.table number) × (0 < word.now.shared.table_id.words) }
+        requires may_enter { MayAsk (B.plan number) number self.old (Enter number) }
+        requires met { MayAskInside (B.plan number) number self.old (C.asks ask number) }
+        ensures elsewhere { IsElsewhereSame number self.old self.new }
+        ensures served { IfOk result (λ answer. EnteredAndAnswered (B.plan number) number self.old self.new (C.asks ask number) (C.replies number answer)) }
+        ensures refused { IfErr result (IsStopped (B.plan number) number self.old self.new (C.asks ask number)) }
+    {
+        match self.ask(desk, word, number, Enters) {
+            Ok(()) => match self.ask(desk, word, number, ask) {
+                Ok(answer) => Ok(answer),
+                Err(full) => Err(Stopped::AtCall { full }),
+            },
+            Err(full) => {
+                let _ = ask;
+                Err(Stopped::AtEnter { full })
+            }
+        }
     }
 
     /// Whether the caller may make the call now.

@@ -1,14 +1,18 @@
 //! The shards that many callers share.
 
 ghost use Rattle.std.specs.Prelude.{◌≡◌, ◌<◌, ◌≤◌, IfOk, IfErr, OnErr};
-ghost use Rattle.semantics.specs.History.{Meets, meets, shard_of_call};
-ghost use Rattle.shared_shards.specs.CallerView.{IsServed, IsRefused, HasLooked};
+ghost use Rattle.semantics.specs.History.{meets, shard_of_call};
+ghost use Rattle.shared_shards.specs.CallerView.{HasLooked};
 ghost use Rattle.shared_shards.specs.Passes.{view_at, own_at, IsElsewhereSame};
+ghost use Rattle.shared_shards.specs.Asked.{MayAsk, MayAskInside, IsAnswered, IsTurnedAway, EnteredAndAnswered, IsStopped};
+ghost use Rattle.semantics.specs.declared.call.Call.TheVariants.{Enter};
 
+use crate::asks::{Ask, Calls};
 use crate::desk::Desk;
 use crate::naming::Naming;
 use crate::pass::Pass;
 use crate::rule::Length;
+use crate::stopped::Stopped;
 use ebpf_decode::MapDef;
 use journals::ShardJournal;
 use semantics::{Call, JournalFull, Options, Reply};
@@ -47,11 +51,57 @@ impl<B: Naming> Shards<B> {
         self.desks.len()
     }
 
-    /// Makes a call that the pass's caller may make: one step of the one-thread shard and one entry of its journal, whatever other threads
-    /// do. The pass has then seen the shard's history up to this entry. Waits for the shard's lock, and takes no memory.
+    /// Makes a call of any kind that the pass's caller may make: one step of the one-thread shard and one entry of its journal, whatever
+    /// other threads do. The pass has then seen the shard's history up to this entry. Waits for the shard's lock, and takes no memory.
     ///
     /// Refused where the journal has no room for the call (never for a Leave); then nothing was changed, and the pass has seen the history
     /// whose journal is full.
+    pub fn ask<C: Ask>(
+        &self,
+        rt: &impl Wait,
+        pass: &mut Pass<B>,
+        shard: u32,
+        ask: C,
+    ) -> Result<C::Answer, JournalFull>
+        requires shard { shard < B.count }
+        requires met { MayAsk (B.plan shard) shard pass.old (C.asks ask shard) }
+        ensures elsewhere { IsElsewhereSame shard pass.old pass.new }
+        ensures served { IfOk result (λ answer. IsAnswered (B.plan shard) shard pass.old pass.new (C.asks ask shard) (C.replies shard answer)) }
+        ensures refused { OnErr result (IsTurnedAway (B.plan shard) shard pass.old pass.new (C.asks ask shard)) }
+        ensures names_the_shard { IfErr result (λ fault. fault.shard ≡ shard) }
+    {
+        let mut guard = self.desks[shard as usize].lock(rt);
+        let desk = &mut *guard;
+        desk.wait_unless(rt, shard);
+        pass.ask(desk, &self.words[shard as usize], shard, ask)
+    }
+
+    /// Enters the shard, and makes a call there at once: two steps and two entries, next to each other, under one hold of the lock. Takes
+    /// no memory.
+    ///
+    /// Refused where the journal has no room for the Enter, and then nothing was changed; or none for the call, and then the Enter stands.
+    /// Either way the pass has seen the history whose journal is full.
+    pub fn enter_then<C: Ask>(
+        &self,
+        rt: &impl Wait,
+        pass: &mut Pass<B>,
+        shard: u32,
+        ask: C,
+    ) -> Result<C::Answer, Stopped>
+        requires shard { shard < B.count }
+        requires may_enter { MayAsk (B.plan shard) shard pass.old (Enter shard) }
+        requires met { MayAskInside (B.plan shard) shard pass.old (C.asks ask shard) }
+        ensures elsewhere { IsElsewhereSame shard pass.old pass.new }
+        ensures served { IfOk result (λ answer. EnteredAndAnswered (B.plan shard) shard pass.old pass.new (C.asks ask shard) (C.replies shard answer)) }
+        ensures refused { IfErr result (IsStopped (B.plan shard) shard pass.old pass.new (C.asks ask shard)) }
+    {
+        let mut guard = self.desks[shard as usize].lock(rt);
+        let desk = &mut *guard;
+        desk.wait_unless(rt, shard);
+        pass.enter_then(desk, &self.words[shard as usize], shard, ask)
+    }
+
+    /// Makes a call on the shard that it names, as `ask` does.
     pub fn call(
         &self,
         rt: &impl Wait,
@@ -59,20 +109,13 @@ impl<B: Naming> Shards<B> {
         call: &Call,
     ) -> Result<Reply, JournalFull>
         requires shard { shard_of_call call.now < B.count }
-        requires met { Meets (B.plan (shard_of_call call.now)) (own_at pass.old (shard_of_call call.now)) pass.old.who call.now }
+        requires met { MayAsk (B.plan (shard_of_call call.now)) (shard_of_call call.now) pass.old call.now }
         ensures elsewhere { IsElsewhereSame (shard_of_call call.now) pass.old pass.new }
-        ensures served { IfOk result (λ reply. IsServed (B.plan (shard_of_call call.now)) (view_at pass.old (shard_of_call call.now)) (view_at pass.new (shard_of_call call.now)) (record { who = pass.old.who; call = call.now; reply = reply })) }
-        ensures refused { OnErr result (IsRefused (B.plan (shard_of_call call.now)) (view_at pass.old (shard_of_call call.now)) (view_at pass.new (shard_of_call call.now)) call.now) }
+        ensures served { IfOk result (λ reply. IsAnswered (B.plan (shard_of_call call.now)) (shard_of_call call.now) pass.old pass.new call.now reply) }
+        ensures refused { OnErr result (IsTurnedAway (B.plan (shard_of_call call.now)) (shard_of_call call.now) pass.old pass.new call.now) }
         ensures names_the_shard { IfErr result (λ fault. fault.shard ≡ shard_of_call call.now) }
     {
-        let number = call.shard();
-        let mut guard = self.desks[number as usize].lock(rt);
-        let desk = &mut *guard;
-        if desk.number() != number {
-            'never: for _ in rt.forever() {}
-            unreachable!()
-        }
-        pass.call(desk, &self.words[number as usize], call)
+        self.ask(rt, pass, call.shard(), Calls { call })
     }
 
     /// Whether the pass's caller may make the call now; the pass has then seen the shard's history. Waits for the shard's lock, takes no
@@ -86,10 +129,7 @@ impl<B: Naming> Shards<B> {
         let number = call.shard();
         let mut guard = self.desks[number as usize].lock(rt);
         let desk = &mut *guard;
-        if desk.number() != number {
-            'never: for _ in rt.forever() {}
-            unreachable!()
-        }
+        desk.wait_unless(rt, number);
         pass.may_call(desk, &self.words[number as usize], call)
     }
 

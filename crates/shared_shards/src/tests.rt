@@ -230,3 +230,61 @@ fn a_call_while_another_shard_is_held(rt: HostRuntime) -> Result<(), Fail> {
     let opened = opened(rt.alloc(), 16)?;
     held::<Brand, HostRuntime>(&rt, rt.alloc(), opened)
 }
+
+/// One run: Enter, so many Lookups, Leave. Says how many of the calls were served.
+fn run_of<B: Naming, R: Abort + Wait>(
+    rt: &R,
+    shards: &Shards<B>,
+    pass: &mut Pass<B>,
+    lookups: u32,
+) -> u32 {
+    let mut served: u32 = 0;
+    if attempt(rt, shards, pass, Step::Enter).is_some() {
+        served = served.wrapping_add(1);
+    }
+    for _ in 0..lookups {
+        if attempt(rt, shards, pass, Step::Look { index: 7 }).is_some() {
+            served = served.wrapping_add(1);
+        }
+    }
+    if attempt(rt, shards, pass, Step::Leave).is_some() {
+        served = served.wrapping_add(1);
+    }
+    served
+}
+
+/// Makes runs with so many Lookups, one after another in a journal of 16, and compares how many of their calls are served.
+fn filled<B: Naming, R: Abort + Wait>(
+    rt: &R,
+    alloc: Global,
+    opened: Opened,
+    runs: &[(u32, u32)],
+) -> Result<(), Fail>
+    requires { IsNamed B.count B.table B.plan opened }
+{
+    let (shards, mut dealer) = opened.share::<B>(alloc)?;
+    let mut pass = dealer.pass(alloc, Caller::Worker { number: 0 })?;
+    for (lookups, want) in runs {
+        assert_eq!(rt; run_of(rt, &shards, &mut pass, *lookups), *want);
+    }
+    Ok(())
+}
+
+/// Of 15 Lookups after an Enter 14 are served, and then the Leave.
+#[test]
+fn a_run_keeps_room_for_its_leave(rt: HostRuntime) -> Result<(), Fail> {
+    let opened = opened(rt.alloc(), 16)?;
+    filled::<Brand, HostRuntime>(&rt, rt.alloc(), opened, &[(15, 16)])
+}
+
+#[test]
+fn an_enter_after_14_entries_is_served(rt: HostRuntime) -> Result<(), Fail> {
+    let opened = opened(rt.alloc(), 16)?;
+    filled::<Brand, HostRuntime>(&rt, rt.alloc(), opened, &[(12, 14), (0, 2)])
+}
+
+#[test]
+fn an_enter_after_15_entries_is_refused(rt: HostRuntime) -> Result<(), Fail> {
+    let opened = opened(rt.alloc(), 16)?;
+    filled::<Brand, HostRuntime>(&rt, rt.alloc(), opened, &[(13, 15), (0, 0)])
+}

@@ -1,0 +1,73 @@
+use Rattle.std.proofs.Common.{◌≡◌, ◌<◌, ℕ, List, slice_set, length, ap, sym, ◌∙◌, subst, arith}
+use Rattle.std.specs.Prelude.{reverse}
+use Rattle.atomic_table.specs.declared.badge.Badge.{Badge}
+use Rattle.semantics.specs.declared.plan.ShardPlan.{ShardPlan}
+use Rattle.semantics.specs.History.{IsLegalHistory}
+use Rattle.shared_shards.specs.declared.rule.Known.{Known}
+use Rattle.shared_shards.specs.CallerView.{CallerView}
+use Rattle.shared_shards.specs.Seats.{view_of}
+use Rattle.shared_shards.specs.Passes.{PassView, view_at, view_of_badge, known_in, badge_at, pass_view, IsElsewhereSame}
+use Rattle.shared_shards.proofs.Badges.{view_is, view_after, same_elsewhere, pass_after}
+use Rattle.shared_shards.proofs.Transport.{answered_moves, turned_away_moves, next_moves}
+use Rattle.shared_shards.proofs.pass.Pass.ask.Goals as goal
+
+pub returns-clause-elsewhere : goal.returns-clause-elsewhere
+returns-clause-elsewhere g c =
+    let who = c.self.inside.who in
+    let now : List (Badge Known) = c.taken-badge.new.seats.items in
+    subst (λ (before : PassView). IsElsewhereSame c.args.number before (pass_view who (slice_set now c.args.number c.into_badge.result)))
+    c.self.view_is
+    (same_elsewhere who c.self.inside.seats.items now c.args.number c.into_badge.result c.taken-badge.ensures.count c.taken-badge.ensures.others)
+
+before_is : (g : _) (c : goal.After-drop-index_mut g) → view_of c.into_seat.result.me.0 ≡ view_at (pass_view c.self.inside.who c.self.inside.seats.items) c.args.number
+before_is g c =
+    sym (ap (λ (vs : List Known). view_of (known_in vs)) c.into_seat.ensures.2)
+    ∙ ap view_of_badge c.taken-badge.ensures.badge
+    ∙ sym (view_is c.self.inside.who c.self.inside.seats.items c.args.number)
+
+after_is : (g : _) (c : goal.After-drop-index_mut g) → view_of c.ask-seat.result.0.me.0 ≡ view_at (pass_view c.self.inside.who (slice_set c.taken-badge.new.seats.items c.args.number c.into_badge.result)) c.args.number
+after_is g c =
+    let who = c.self.inside.who in
+    let now : List (Badge Known) = c.taken-badge.new.seats.items in
+    let within : c.args.number < length c.self.inside.seats.items =
+    (let sized = c.self.invariant.sized in let below = c.requires.number.1 in omega (arith, sized, below)) in
+    sym (ap (λ (vs : List Known). view_of (known_in vs)) c.into_badge.ensures.2)
+    ∙ sym (view_after who c.self.inside.seats.items now c.args.number c.into_badge.result within c.taken-badge.ensures.count)
+
+pub returns-clause-served : goal.returns-clause-served
+returns-clause-served g c =
+    answered_moves g.B.Naming.plan (g.C.Ask.asks c.args.ask) g.C.Ask.replies c.args.desk.now.plan.number c.args.number _ _ (pass_view c.self.inside.who c.self.inside.seats.items) c.args.self.now
+    (pass_view c.self.inside.who (slice_set c.taken-badge.new.seats.items c.args.number c.into_badge.result))
+    c.requires.number.0 (before_is g c) (after_is g c) c.self.view_is c.ask-seat.result.1 c.ask-seat.ensures.served
+
+pub returns-clause-refused : goal.returns-clause-refused
+returns-clause-refused g c =
+    turned_away_moves g.B.Naming.plan (g.C.Ask.asks c.args.ask) g.C.Ask.replies c.args.desk.now.plan.number c.args.number _ _ (pass_view c.self.inside.who c.self.inside.seats.items) c.args.self.now
+    (pass_view c.self.inside.who (slice_set c.taken-badge.new.seats.items c.args.number c.into_badge.result))
+    c.requires.number.0 (before_is g c) (after_is g c) c.self.view_is c.ask-seat.result.1 c.ask-seat.ensures.refused
+
+pub returns-clause-seen : goal.returns-clause-seen
+returns-clause-seen g c = ap (λ (v : CallerView). v.seen) (sym (after_is g c)) ∙ c.ask-seat.ensures.seen
+
+pub returns-clause-next : goal.returns-clause-next
+returns-clause-next g c =
+    next_moves g.B.Naming.plan (g.C.Ask.asks c.args.ask) g.C.Ask.replies c.args.desk.now.plan.number c.args.number _ _ (pass_view c.self.inside.who c.self.inside.seats.items) c.args.self.now
+    (pass_view c.self.inside.who (slice_set c.taken-badge.new.seats.items c.args.number c.into_badge.result))
+    c.requires.number.0 (before_is g c) (after_is g c) c.self.view_is c.ask-seat.result.1 (reverse c.args.desk.now.journal) c.ask-seat.ensures.next
+
+pub invariant_of-self : goal.invariant_of-self
+invariant_of-self g c =
+    let number = c.args.number in
+    let seat = c.ask-seat.ensures.seat in
+    let badge = c.into_badge.ensures in
+    let here = c.requires.number.0 in
+    pass_after g.B.Naming.table g.B.Naming.plan g.B.Naming.count c.self.inside.who c.self.inside.seats.items c.taken-badge.new.seats.items number c.into_badge.result
+    c.self.invariant c.taken-badge.ensures.count c.taken-badge.ensures.others c.requires.number.1
+    (record {
+      table_is = badge.0 ∙ seat.table_is ∙ ap g.B.Naming.table here;
+      known = c.ask-seat.result.0.me.0;
+      one = badge.2;
+      acts = seat.acts;
+      caller = seat.caller;
+      legal = subst (λ (n : ℕ). IsLegalHistory (g.B.Naming.plan n) c.ask-seat.result.0.me.0.seen) here c.ask-seat.ensures.legal;
+    })

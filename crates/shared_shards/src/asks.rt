@@ -1,0 +1,241 @@
+//! What a caller asks of a shard: a type for each kind of call, with what it is answered.
+
+ghost use Rattle.std.specs.Prelude.{◌≡◌, ◌↔◌, ℕ, IsErr, IfOk, IfErr, OnErr};
+ghost use Rattle.semantics.specs.declared.call.Call.{Call};
+ghost use Rattle.semantics.specs.declared.call.Reply.{Reply};
+ghost use Rattle.semantics.specs.History.{IsLegalJournal};
+ghost use Rattle.shard_core.specs.Calls.{MayCall, IsFullFor, after_call};
+
+use journal::{AtomicChange, CellRange};
+use semantics::{Call, Caller, JournalFull, Reply};
+use shard_core::Shard;
+
+/// A call of one kind. It is one step of the shard and one entry of its journal.
+pub trait Ask: Copy {
+    /// What the shard answers, where the journal has room.
+    type Answer;
+
+    /// The call, on the shard of a number.
+    ghost asks: { Self → ℕ → Call };
+
+    /// The reply that an answer of the shard of a number stands for.
+    ghost replies: { ℕ → Self.Answer → Reply };
+
+    /// Makes the call for a caller that may make it. Refused where the journal is full; then nothing is changed.
+    fn make(self, shard: &mut Shard, who: Caller) -> Result<Self::Answer, JournalFull>
+        requires { MayCall shard.old who (asks self shard.old.plan.number) }
+        ensures entered { IfOk result (λ answer. shard.new ≡ after_call shard.old who (asks self shard.old.plan.number) (replies shard.old.plan.number answer)) }
+        ensures legal { IsLegalJournal shard.new.plan shard.new.journal }
+        ensures full { IsErr result ↔ IsFullFor shard.old (asks self shard.old.plan.number) }
+        ensures names_the_shard { IfErr result (λ fault. fault.shard ≡ shard.old.plan.number) }
+        ensures refused_unchanged { OnErr result (shard.new ≡ shard.old) };
+}
+
+/// An Enter.
+#[derive(Clone, Copy)]
+pub struct Enters;
+
+impl Ask for Enters {
+    ghost use Rattle.semantics.specs.declared.call.Call.TheVariants.{Enter};
+    ghost use Rattle.semantics.specs.declared.call.Reply.TheVariants.{Entered};
+
+    type Answer = ();
+
+    ghost asks = { λ ask number. Enter number };
+
+    ghost replies = { λ number answer. Entered };
+
+    fn make(self, shard: &mut Shard, who: Caller) -> Result<(), JournalFull> {
+        shard.enter(who)
+    }
+}
+
+/// A Leave, which is never refused.
+#[derive(Clone, Copy)]
+pub struct Leaves;
+
+impl Ask for Leaves {
+    ghost use Rattle.semantics.specs.declared.call.Call.TheVariants.{Leave};
+    ghost use Rattle.semantics.specs.declared.call.Reply.TheVariants.{Left};
+
+    type Answer = ();
+
+    ghost asks = { λ ask number. Leave number };
+
+    ghost replies = { λ number answer. Left };
+
+    fn make(self, shard: &mut Shard, who: Caller) -> Result<(), JournalFull> {
+        shard.leave(who);
+        Ok(())
+    }
+}
+
+/// A Lookup, answered with the id of the key's cell.
+#[derive(Clone, Copy)]
+pub struct Looks<'a> {
+    pub key: &'a [u8],
+}
+
+impl<'a> Ask for Looks<'a> {
+    ghost use Rattle.semantics.specs.declared.call.Call.TheVariants.{Lookup};
+    ghost use Rattle.journal.specs.Entries.{found_reply};
+
+    type Answer = Option<u64>;
+
+    ghost asks = { λ ask number. Lookup number ask.key.now };
+
+    ghost replies = { found_reply };
+
+    fn make(self, shard: &mut Shard, who: Caller) -> Result<Option<u64>, JournalFull> {
+        shard.lookup(who, self.key)
+    }
+}
+
+/// A Load of some bytes of a held cell.
+#[derive(Clone, Copy)]
+pub struct Loads<'a> {
+    pub range: &'a CellRange,
+}
+
+impl<'a> Ask for Loads<'a> {
+    ghost use Rattle.semantics.specs.declared.call.Call.TheVariants.{Load};
+    ghost use Rattle.semantics.specs.declared.call.Reply.TheVariants.{Word};
+    ghost use Rattle.journal.specs.Entries.{cell_of};
+
+    type Answer = u64;
+
+    ghost asks = { λ ask number. Load (cell_of number ask.range.now.cell) ask.range.now.offset ask.range.now.width };
+
+    ghost replies = { λ number value. Word value };
+
+    fn make(self, shard: &mut Shard, who: Caller) -> Result<u64, JournalFull> {
+        shard.load(who, self.range)
+    }
+}
+
+/// A Store of a number into some bytes of a held cell.
+#[derive(Clone, Copy)]
+pub struct Stores<'a> {
+    pub range: &'a CellRange,
+    pub value: u64,
+}
+
+impl<'a> Ask for Stores<'a> {
+    ghost use Rattle.semantics.specs.declared.call.Call.TheVariants.{Store};
+    ghost use Rattle.semantics.specs.declared.call.Reply.TheVariants.{Done};
+    ghost use Rattle.journal.specs.Entries.{cell_of};
+
+    type Answer = ();
+
+    ghost asks = { λ ask number. Store (cell_of number ask.range.now.cell) ask.range.now.offset ask.range.now.width ask.value };
+
+    ghost replies = { λ number answer. Done };
+
+    fn make(self, shard: &mut Shard, who: Caller) -> Result<(), JournalFull> {
+        shard.store(who, self.range, self.value)
+    }
+}
+
+/// An Atomic on some bytes of a held cell, answered with the number that was there.
+#[derive(Clone, Copy)]
+pub struct Changes<'a> {
+    pub range: &'a CellRange,
+    pub change: &'a AtomicChange,
+}
+
+impl<'a> Ask for Changes<'a> {
+    ghost use Rattle.semantics.specs.declared.call.Call.TheVariants.{Atomic};
+    ghost use Rattle.semantics.specs.declared.call.Reply.TheVariants.{Word};
+    ghost use Rattle.journal.specs.Entries.{cell_of};
+
+    type Answer = u64;
+
+    ghost asks = { λ ask number. Atomic (cell_of number ask.range.now.cell) ask.range.now.offset ask.range.now.width ask.change.now.op ask.change.now.value ask.change.now.expected };
+
+    ghost replies = { λ number old. Word old };
+
+    fn make(self, shard: &mut Shard, who: Caller) -> Result<u64, JournalFull> {
+        shard.atomic(who, self.range, self.change)
+    }
+}
+
+/// An Update of a key.
+#[derive(Clone, Copy)]
+pub struct Updates<'a> {
+    pub key: &'a [u8],
+    pub value: &'a [u8],
+    pub flags: u64,
+}
+
+impl<'a> Ask for Updates<'a> {
+    ghost use Rattle.semantics.specs.declared.call.Call.TheVariants.{Update};
+    ghost use Rattle.semantics.specs.declared.call.Reply.TheVariants.{Answer};
+
+    type Answer = i32;
+
+    ghost asks = { λ ask number. Update number ask.key.now ask.value.now ask.flags };
+
+    ghost replies = { λ number code. Answer code };
+
+    fn make(self, shard: &mut Shard, who: Caller) -> Result<i32, JournalFull> {
+        shard.update(who, self.key, self.value, self.flags)
+    }
+}
+
+/// A Delete of a key.
+#[derive(Clone, Copy)]
+pub struct Deletes<'a> {
+    pub key: &'a [u8],
+}
+
+impl<'a> Ask for Deletes<'a> {
+    ghost use Rattle.semantics.specs.declared.call.Call.TheVariants.{Delete};
+    ghost use Rattle.semantics.specs.declared.call.Reply.TheVariants.{Answer};
+
+    type Answer = i32;
+
+    ghost asks = { λ ask number. Delete number ask.key.now };
+
+    ghost replies = { λ number code. Answer code };
+
+    fn make(self, shard: &mut Shard, who: Caller) -> Result<i32, JournalFull> {
+        shard.delete(who, self.key)
+    }
+}
+
+/// A Reclaim, answered with how many cells it freed.
+#[derive(Clone, Copy)]
+pub struct Reclaims;
+
+impl Ask for Reclaims {
+    ghost use Rattle.semantics.specs.declared.call.Call.TheVariants.{Reclaim};
+    ghost use Rattle.semantics.specs.declared.call.Reply.TheVariants.{Freed};
+
+    type Answer = u64;
+
+    ghost asks = { λ ask number. Reclaim number };
+
+    ghost replies = { λ number count. Freed count };
+
+    fn make(self, shard: &mut Shard, who: Caller) -> Result<u64, JournalFull> {
+        shard.reclaim(who)
+    }
+}
+
+/// A call as a value, on the shard that it names.
+#[derive(Clone, Copy)]
+pub struct Calls<'a> {
+    pub call: &'a Call,
+}
+
+impl<'a> Ask for Calls<'a> {
+    type Answer = Reply;
+
+    ghost asks = { λ ask number. ask.call.now };
+
+    ghost replies = { λ number reply. reply };
+
+    fn make(self, shard: &mut Shard, who: Caller) -> Result<Reply, JournalFull> {
+        shard.apply(who, self.call)
+    }
+}
