@@ -1,0 +1,6 @@
+-- The lemmas that proofs of this crate share.
+pub mod Bytes
+pub mod Words
+pub mod Lines
+pub mod Headers
+pub mod Whole

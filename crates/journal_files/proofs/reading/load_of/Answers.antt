@@ -1,0 +1,16 @@
+use Rattle.std.proofs.Common.{◌≡◌, ◌++◌, ◌∷◌, ℕ, List, refl, arith}
+use Rattle.std.specs.Fmt.{decimal}
+use Rattle.hex.specs.Hex.{encode_lower}
+use Rattle.semantics.specs.declared.call.Reply.TheVariants.{Done}
+use Rattle.journal_files.specs.JournalText.{told_text, reply_text}
+use Rattle.journal_files.specs.ToldReading.{Reads}
+use Rattle.journal_files.proofs.Words.{hex_lacks}
+use Rattle.journal_files.proofs.reading.load_of.Goals as goal
+
+pub returns-clause-found : goal.returns-clause-found
+unfolding Reads told_text
+returns-clause-found c = λ id offset width reply f_id f_offset f_width replies is.
+    let at_id = c.field-id.ensures id (decimal offset ++ 32 ∷ (decimal width ++ 32 ∷ reply_text reply)) f_id is in
+    let at_offset = c.field-offset.ensures offset (decimal width ++ 32 ∷ reply_text reply) f_offset at_id.1 in
+    let at_width = c.field-width.ensures width (reply_text reply) f_width at_offset.1 in
+    rw (at_id.0, at_offset.0, at_width.0, c.word_of.ensures.found reply replies at_width.1) refl

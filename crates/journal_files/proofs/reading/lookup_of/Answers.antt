@@ -1,0 +1,14 @@
+use Rattle.std.proofs.Common.{◌≡◌, ◌++◌, ◌∷◌, ℕ, List, refl, arith}
+use Rattle.std.specs.Fmt.{decimal}
+use Rattle.hex.specs.Hex.{encode_lower}
+use Rattle.journal_files.specs.EntryForm.{CallFits, RepliesTo}
+use Rattle.journal_files.specs.JournalText.{told_text, reply_text}
+use Rattle.journal_files.specs.ToldReading.{Reads}
+use Rattle.journal_files.proofs.Words.{hex_lacks}
+use Rattle.journal_files.proofs.reading.lookup_of.Goals as goal
+
+pub returns-clause-found : goal.returns-clause-found
+unfolding Reads told_text
+returns-clause-found c = λ key reply fits replies is.
+    let parts = c.cut.ensures (encode_lower key) (reply_text reply) is (hex_lacks key fits.1) in
+    rw (c.key_of.ensures.found key fits parts.0, c.finding_of.ensures.found reply replies parts.1) refl

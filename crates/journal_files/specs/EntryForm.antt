@@ -1,0 +1,122 @@
+-- Which entries a file may have. A call may be one that no map serves, as a Load of three bytes: whether an entry is legal is not asked here.
+use Rattle.std.specs.Prelude.{◌≡◌, ℕ, ◌/◌, ◌<◌, ◌≤◌, ◌^◌, ℤ, FitsSigned, List, length, Some, slice_get, slice_index}
+use Rattle.std.specs.Int.{w32}
+use Rattle.ebpf_decode.specs.declared.map.MapDef.{MapDef}
+use Rattle.semantics.specs.declared.call.Caller.{Caller}
+use Rattle.semantics.specs.declared.call.Caller.TheVariants.{Worker}
+use Rattle.semantics.specs.declared.call.CellRef.{CellRef}
+use Rattle.semantics.specs.declared.call.Call.{Call}
+use Rattle.semantics.specs.declared.call.Call.TheVariants.{Enter, Leave, Lookup, Load, Store, Atomic, Update, Delete, Reclaim}
+use Rattle.semantics.specs.declared.call.Reply.{Reply}
+use Rattle.semantics.specs.declared.call.Reply.TheVariants.{Entered, Left, Cell, Null, Word, Done, Answer, Freed}
+use Rattle.semantics.specs.declared.call.Entry.{Entry}
+use Rattle.semantics.specs.declared.options.Options.{Options}
+use Rattle.semantics.specs.History.{shard_of_call}
+use Rattle.hex.specs.Hex.{IsBytes}
+
+-- a number of 64 bits
+abbrev pub IsNumber : ℕ → Type 0
+IsNumber number = number < 2 ^ 64
+
+abbrev pub IsShard : ℕ → Type 0
+IsShard shard = shard < 2 ^ 32
+
+abbrev pub IsCell : CellRef → Type 0
+IsCell cell = IsShard cell.shard × IsNumber cell.id
+
+abbrev pub IsKey : List ℕ → Type 0
+IsKey key = (length key ≤ 32) × IsBytes key
+
+abbrev pub IsValue : List ℕ → Type 0
+IsValue value = (length value ≤ 256) × IsBytes value
+
+abbrev pub CallerFits : Caller → Type 0
+CallerFits (Worker number) = number < 8
+CallerFits who = Unit {0}
+
+-- each number of the call fits its field
+unfoldable pub CallFits : Call → Type 0
+CallFits (Enter shard) = IsShard shard
+CallFits (Leave shard) = IsShard shard
+CallFits (Lookup shard key) = IsShard shard × IsKey key
+CallFits (Load cell offset width) = IsCell cell × IsNumber offset × IsNumber width
+CallFits (Store cell offset width value) = IsCell cell × IsNumber offset × IsNumber width × IsNumber value
+CallFits (Atomic cell offset width op value expected) =
+    IsCell cell × IsNumber offset × IsNumber width × IsNumber op × IsNumber value × IsNumber expected
+CallFits (Update shard key value flags) = IsShard shard × IsKey key × IsValue value × IsNumber flags
+CallFits (Delete shard key) = IsShard shard × IsKey key
+CallFits (Reclaim shard) = IsShard shard
+
+-- ---- which replies a call may have
+
+abbrev pub IsEntered : Reply → Type 0
+IsEntered Entered = Unit {0}
+IsEntered reply = ⊥
+
+abbrev pub IsLeft : Reply → Type 0
+IsLeft Left = Unit {0}
+IsLeft reply = ⊥
+
+abbrev pub IsDone : Reply → Type 0
+IsDone Done = Unit {0}
+IsDone reply = ⊥
+
+-- a cell of the shard, or none
+abbrev pub IsFinding : ℕ → Reply → Type 0
+IsFinding shard (Cell cell) = (cell.shard ≡ shard) × IsNumber cell.id
+IsFinding shard Null = Unit {0}
+IsFinding shard reply = ⊥
+
+abbrev pub IsWord : Reply → Type 0
+IsWord (Word value) = IsNumber value
+IsWord reply = ⊥
+
+abbrev pub IsAnswer : Reply → Type 0
+IsAnswer (Answer code) = FitsSigned w32 code
+IsAnswer reply = ⊥
+
+abbrev pub IsFreed : Reply → Type 0
+IsFreed (Freed count) = IsNumber count
+IsFreed reply = ⊥
+
+unfoldable pub RepliesTo : Call → Reply → Type 0
+RepliesTo (Enter shard) reply = IsEntered reply
+RepliesTo (Leave shard) reply = IsLeft reply
+RepliesTo (Lookup shard key) reply = IsFinding shard reply
+RepliesTo (Load cell offset width) reply = IsWord reply
+RepliesTo (Store cell offset width value) reply = IsDone reply
+RepliesTo (Atomic cell offset width op value expected) reply = IsWord reply
+RepliesTo (Update shard key value flags) reply = IsAnswer reply
+RepliesTo (Delete shard key) reply = IsAnswer reply
+RepliesTo (Reclaim shard) reply = IsFreed reply
+
+-- the entry is a call with a reply of its form
+pub record EntryFits (entry : Entry) : Type 0 where
+  pub who : CallerFits entry.who
+  pub call : CallFits entry.call
+  pub reply : RepliesTo entry.call entry.reply
+
+-- ---- which calls the maps have room for
+
+-- keys and values have the map's lengths
+unfoldable pub HasSizesOf : MapDef → Call → Type 0
+HasSizesOf definition (Enter shard) = Unit {0}
+HasSizesOf definition (Leave shard) = Unit {0}
+HasSizesOf definition (Lookup shard key) = length key ≡ definition.key_size
+HasSizesOf definition (Load cell offset width) = Unit {0}
+HasSizesOf definition (Store cell offset width value) = Unit {0}
+HasSizesOf definition (Atomic cell offset width op value expected) = Unit {0}
+HasSizesOf definition (Update shard key value flags) = (length key ≡ definition.key_size) × (length value ≡ definition.value_size)
+HasSizesOf definition (Delete shard key) = length key ≡ definition.key_size
+HasSizesOf definition (Reclaim shard) = Unit {0}
+
+-- the call is on a shard of one of the maps, with keys and values of its lengths
+pub record IsCallOn (maps : List MapDef) (options : Options) (call : Call) : Type 0 where
+  pub definition : MapDef
+  pub known : slice_get maps (shard_of_call call / options.shards) ≡ Some definition
+  pub sizes : HasSizesOf definition call
+
+-- the entry is one that a file of these maps and options may have
+pub record IsFileEntry (maps : List MapDef) (options : Options) (entry : Entry) : Type 0 where
+  pub fits : EntryFits entry
+  pub on : IsCallOn maps options entry.call

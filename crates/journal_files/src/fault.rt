@@ -1,0 +1,56 @@
+//! Why a file of journals was not read or not written.
+
+use std::alloc::{AllocError, AllocFailed};
+use thiserror::Error;
+
+/// Why journals were not read or not written.
+#[derive(Clone, Copy, Debug, PartialEq, Eq, Error)]
+pub enum FileFault {
+    /// A call of the device failed.
+    #[error("fault 7 Device")]
+    Device,
+    /// The allocator refused memory.
+    #[error("fault 52 Memory")]
+    Memory,
+    /// This line of the file, counted from 1, is the first that cannot stand there.
+    #[error("fault 55 BadJournalFile line {line}")]
+    BadJournalFile { line: usize },
+}
+
+impl FileFault {
+    ghost use Rattle.std.specs.Prelude.{◌≡◌};
+    ghost use Rattle.journal_files.specs.FaultNumber.{file_fault_number};
+
+    /// The number that the fault's text prints.
+    pub fn number(self) -> u8
+        ensures { result ≡ file_fault_number self }
+    {
+        match self {
+            FileFault::Device => 7,
+            FileFault::Memory => 52,
+            FileFault::BadJournalFile { .. } => 55,
+        }
+    }
+}
+
+impl From<AllocError> for FileFault {
+    ghost use Rattle.std.specs.Prelude.{◌≡◌};
+    ghost use Rattle.journal_files.specs.declared.fault.FileFault.TheVariants.{Memory};
+
+    ghost from_gives = { λ _ fault. fault ≡ Memory };
+
+    fn from(_error: AllocError) -> FileFault {
+        FileFault::Memory
+    }
+}
+
+impl<T: Drop> From<AllocFailed<T>> for FileFault {
+    ghost use Rattle.std.specs.Prelude.{◌≡◌};
+    ghost use Rattle.journal_files.specs.declared.fault.FileFault.TheVariants.{Memory};
+
+    ghost from_gives = { λ _ fault. fault ≡ Memory };
+
+    fn from(_error: AllocFailed<T>) -> FileFault {
+        FileFault::Memory
+    }
+}
