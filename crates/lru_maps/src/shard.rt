@@ -55,7 +55,8 @@ impl LruShard {
 
     /// How many keys are there.
     pub fn len(&self) -> usize
-        ensures { result ≡ length self.now.entries }
+        ensures count { result ≡ length self.now.entries }
+        ensures within { length self.now.entries ≤ self.now.capacity }
     {
         self.count
     }

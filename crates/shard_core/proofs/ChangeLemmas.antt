@@ -1,12 +1,14 @@
 -- What an Update and a Delete ask of cells and keys, and leave of them.
-use Rattle.std.proofs.Common.{◌≡◌, ◌≢◌, ◌⊎◌, ℕ, zero, suc, ◌+◌, ◌*◌, ◌<◌, ◌≤◌, Bool, true, false, cond, nat_lt, nat_le, ℤ, pos, negsuc, List, [], ◌∷◌, ◌++◌, length, Option, Some, None, arith, refl, sym, ◌∙◌, ap, subst, inl, inr}
+use Rattle.std.proofs.Common.{◌≡◌, ◌≢◌, ◌⊎◌, ℕ, zero, suc, ◌+◌, ◌*◌, ◌/◌, ◌%◌, ◌<◌, ◌≤◌, Bool, true, false, cond, not, nat_lt, nat_le, ℤ, pos, negsuc, List, [], ◌∷◌, ◌++◌, length, Option, Some, None, arith, refl, sym, ◌∙◌, ap, subst, inl, inr}
 use Rattle.std.specs.Prelude.{◌==◌, ◌&&◌, IsTrue, IsFalse, is_some, filter, find, option_map, bytes_eq, if◌then◌else◌}
 use Rattle.std.specs.List.{AllByRecursion}
+use Rattle.std.proofs.lemmas.Nat.{div-add-mod'}
 use Rattle.std.proofs.lemmas.Bool.Decides.{nat_tests}
 use Rattle.ebpf_decode.specs.declared.map.MapKind.{MapKind}
 use Rattle.ebpf_decode.specs.declared.map.MapKind.TheVariants.{Array, Hash, LruHash}
 use Rattle.semantics.specs.declared.call.Caller.{Caller}
 use Rattle.semantics.specs.declared.call.Call.TheVariants.{Update, Delete, Reclaim}
+use Rattle.semantics.specs.declared.call.Reply.TheVariants.{Answer}
 use Rattle.semantics.specs.declared.call.Entry.{Entry}
 use Rattle.semantics.specs.declared.plan.ShardPlan.{ShardPlan}
 use Rattle.semantics.specs.declared.plan.PresentKey.{PresentKey}
@@ -18,7 +20,9 @@ use Rattle.semantics.specs.Linux.{errno_code, success, update_flags_of}
 use Rattle.semantics.specs.ShardPlan.{capacity}
 use Rattle.semantics.specs.PlanLimits.{IsPlan}
 use Rattle.semantics.specs.Reclamation.{is_reclaimable}
-use Rattle.semantics.specs.SequentialShard.{SequentialShard, opening_cells, cell_of_present, cell_of_key, with_cell, with_new_key, with_value, without_key, without_found, after_eviction, updated_where, is_hash, is_full_of_keys, has_free_cell, update_answer_by, update_answer, delete_answer_of_kind, delete_answer, present_key, reclaimable_cells, shard_after_call, shard_after, is_kept}
+use Rattle.semantics.specs.LeastRecentlyUsed.{is_done, least_recently_used}
+use Rattle.semantics.specs.SequentialShard as S
+use Rattle.semantics.specs.SequentialShard.{SequentialShard, opening_cells, cell_of_present, cell_of_key, with_new_key, with_value, without_found, after_eviction, updated_where, is_hash, is_full_of_keys, has_free_cell, update_answer_by, update_answer, delete_answer_of_kind, delete_answer, present_key, reclaimable_cells, shard_after_call, shard_after, is_kept}
 use Rattle.semantics.specs.History.{IsLegalHistory}
 use Rattle.semantics.proofs.HoldingLemmas.{each_weaker, each_find, IsSound, sound_after, array_after}
 use Rattle.semantics.proofs.KeptLemmas.{found_kept}
@@ -26,15 +30,19 @@ use Rattle.semantics.proofs.IdLemmas.{ids_are_few}
 use Rattle.semantics.proofs.UseLemmas.{keys_differ}
 use Rattle.map_cells.specs.CellTable.{CellTable, with_retired, is_below, freed_below}
 use Rattle.map_cells.specs.CellTable as T
+use Rattle.lru_maps.specs.LruTable.{LruTable, last_of, without_victim}
+use Rattle.lru_maps.specs.ByUse.{IsByUse}
+use Rattle.lru_maps.proofs.shared.ByUse.{victim_found, victim_is_least, by_use_evicted, use_by_update, no_use_by_update}
 use Rattle.shard_core.specs.declared.keys.KeyTable.{KeyTable}
-use Rattle.shard_core.specs.declared.keys.KeyTable.TheVariants.{Indices, Hashed}
-use Rattle.shard_core.specs.KeyTables.{cell_in, IsKeyed, IsRemoved, IsInserted}
-use Rattle.shard_core.specs.Contents.{CanCreate, CanRetire, IsPut}
+use Rattle.shard_core.specs.declared.keys.KeyTable.TheVariants.{Indices, Hashed, Recent}
+use Rattle.shard_core.specs.KeyTables.{cell_in, FitsPlan, IsKeyed, IsRemoved, IsInserted, touched_in, is_full_of, victim_cell, without_victim_in}
+use Rattle.shard_core.specs.Contents.{CanCreate, CanRetire, IsPut, with_evicted}
 use Rattle.shard_core.specs.Sections.{entered_places, floor_of}
 use Rattle.shard_core.specs.ShardFields.{waiting, IsBalanced, IsContents}
 use Rattle.shard_core.proofs.PlaceLemmas.{floor_tells}
-use Rattle.shard_core.proofs.StateLemmas.{IsApart, apart_after, key_gone, IsGone}
-use Rattle.shard_core.proofs.ContentLemmas.{cell_in_is, contents_later, contents_written, contents_created}
+use Rattle.shard_core.proofs.StateLemmas.{IsApart, apart_after, key_gone, IsGone, each_first}
+use Rattle.shard_core.proofs.KeyLemmas.{IsNoUse, IsUseOf, keyed_kind, cell_in_is, cell_in_present, fits_touched, keys_touched, fits_removed, keys_removed}
+use Rattle.shard_core.proofs.ContentLemmas.{contents_on, contents_written, contents_created}
 use Rattle.shard_core.proofs.RetireLemmas.{oldest_first, oldest_count, not_retired, latest_stamp, contents_retired, contents_freed, after_reclaim, IsFloorFor, freed_are, found_any}
 use Rattle.shard_core.proofs.StepLemmas.{table_keeps}
 
@@ -56,6 +64,28 @@ new_zero true false true is answer = (refl, refl)
 new_zero true false false is answer = cc
 new_zero false full free is answer = cc
 
+new_free : (hash full free : Bool) → (if hash && full then errno_code TooBig else (if free then success else errno_code NoMemory)) ≡ pos 0 → free ≡ true
+new_free true true free answer = cc
+new_free true false true answer = refl
+new_free true false false answer = cc
+new_free false full true answer = refl
+new_free false full false answer = cc
+
+-- a new key had a free cell
+keyed_zero : (kind : MapKind) (plan : ShardPlan) (state : SequentialShard) (flags : UpdateFlags) → (kind ≡ Array → ⊥) → update_answer_by kind plan state (Some flags) None ≡ pos 0 → has_free_cell plan state ≡ true
+keyed_zero Array plan state flags keyed answer = absurd (keyed refl)
+keyed_zero Hash plan state Any keyed answer = new_free (is_hash plan.definition.kind) (is_full_of_keys plan state) (has_free_cell plan state) answer
+keyed_zero Hash plan state NoExist keyed answer = new_free (is_hash plan.definition.kind) (is_full_of_keys plan state) (has_free_cell plan state) answer
+keyed_zero Hash plan state Exist keyed answer = cc
+keyed_zero LruHash plan state Any keyed answer = new_free (is_hash plan.definition.kind) (is_full_of_keys plan state) (has_free_cell plan state) answer
+keyed_zero LruHash plan state NoExist keyed answer = new_free (is_hash plan.definition.kind) (is_full_of_keys plan state) (has_free_cell plan state) answer
+keyed_zero LruHash plan state Exist keyed answer = cc
+
+known_flags : (kind : MapKind) (plan : ShardPlan) (state : SequentialShard) (flags : Option UpdateFlags) → (kind ≡ Array → ⊥) → update_answer_by kind plan state flags None ≡ pos 0 → has_free_cell plan state ≡ true
+known_flags kind plan state None keyed answer = cc
+known_flags kind plan state (Some flags) keyed answer = keyed_zero kind plan state flags keyed answer
+
+-- a hash shard was not full
 hash_zero : (plan : ShardPlan) (state : SequentialShard) (flags : Option UpdateFlags) → plan.definition.kind ≡ Hash → update_answer_by Hash plan state flags None ≡ pos 0 → (is_full_of_keys plan state ≡ false) × (has_free_cell plan state ≡ true)
 hash_zero plan state None is answer = cc
 hash_zero plan state (Some Any) is answer = new_zero (is_hash plan.definition.kind) (is_full_of_keys plan state) (has_free_cell plan state) (ap is_hash is) answer
@@ -82,76 +112,6 @@ put_kept plan history cells keys key cell is contents found =
     table_keeps plan history (shard_after plan history) cells keys cell contents
     (found_kept plan.definition.kind plan history key cell refl is.equal_parts is.limits.some_part (sym (cell_in_is keys plan history (shard_after plan history) key contents.fits contents.has) ∙ found))
 
-room_by : (plan : ShardPlan) (history : List Entry) (cells : CellTable) (keys : KeyTable) (key : List ℕ) (flags : ℕ) → IsContents plan history (shard_after plan history) cells keys
-    → length history < plan.reserve → update_answer plan (shard_after plan history) key flags ≡ pos 0 → cell_of_key plan (shard_after plan history) key ≡ None → CanCreate cells keys
-room_by plan history cells (Indices indices) key flags contents room done absent =
-    absurd (array_zero plan (shard_after plan history) (update_flags_of flags) (sym (absent_answer Array plan (shard_after plan history) key flags contents.fits.0 absent) ∙ done))
-room_by plan history cells (Hashed table) key flags contents room done absent =
-    let state : SequentialShard = shard_after plan history in
-    let hash : plan.definition.kind ≡ Hash = contents.fits.0 in
-    let tests = hash_zero plan (shard_after plan history) (update_flags_of flags) contents.fits.0 (sym (absent_answer Hash plan (shard_after plan history) key flags contents.fits.0 absent) ∙ done) in
-    let balance : IsBalanced Hash plan (shard_after plan history) cells = subst (λ kind. IsBalanced kind plan (shard_after plan history) cells) contents.fits.0 contents.balance in
-    let below : length (shard_after plan history).present < capacity plan = grind (arith, nat_tests, tests.0) in
-    let unused : length (shard_after plan history).present + length (shard_after plan history).retired < 2 * capacity plan = grind (arith, nat_tests, tests.1) in
-    let few : length (shard_after plan history).cells ≤ length (opening_cells plan.definition.kind plan) + length history = ids_are_few plan history in
-    record {
-      free = omega (arith, balance.1, unused);
-      ids = omega (arith, few, room, contents.counted, contents.id_room);
-      room = omega (arith, below, contents.has.0, contents.fits.2);
-    }
-
-pub put_room : (plan : ShardPlan) (history : List Entry) (cells : CellTable) (keys : KeyTable) (key : List ℕ) (flags : ℕ) (code : ℤ) → IsContents plan history (shard_after plan history) cells keys
-    → length history < plan.reserve → code ≡ update_answer plan (shard_after plan history) key flags → code ≡ pos 0 → cell_in keys key ≡ None → CanCreate cells keys
-put_room plan history cells keys key flags code contents room answered done absent =
-    room_by plan history cells keys key flags contents room (sym answered ∙ done) (sym (cell_in_is keys plan history (shard_after plan history) key contents.fits contents.has) ∙ absent)
-
-not_full : (plan : ShardPlan) (history : List Entry) (state : SequentialShard) → is_full_of_keys plan state ≡ false → after_eviction plan history state ≡ state
-not_full plan history state is = rw is refl
-
-updated_by : (plan : ShardPlan) (history later : List Entry) (cells cells_after : CellTable) (keys keys_after : KeyTable) (key value : List ℕ) (flags : ℕ) (found : Option ℕ) → IsPlan plan
-    → IsContents plan history (shard_after plan history) cells keys → length history < plan.reserve → update_answer plan (shard_after plan history) key flags ≡ pos 0
-    → cell_in keys key ≡ found → IsPut found key value cells keys cells_after keys_after
-    → IsContents plan later (with_value plan history (shard_after plan history) key value found) cells_after keys_after
-updated_by plan history later cells cells_after keys keys_after key value flags (Some cell) is contents room done found put =
-    let kept : IsTrue (is_kept plan (shard_after plan history) cell) = found_kept plan.definition.kind plan history key cell refl is.equal_parts is.limits.some_part (sym (cell_in_is keys plan history (shard_after plan history) key contents.fits contents.has) ∙ found) in
-    rw (put.0, put.1) (contents_written plan history later (shard_after plan history) cells keys cell value kept contents)
-updated_by plan history later cells cells_after (Indices indices) keys_after key value flags None is contents room done found put = absurd put.1.0
-updated_by plan history later cells cells_after (Hashed table) keys_after key value flags None is contents room done found put =
-    let absent : cell_of_key plan (shard_after plan history) key ≡ None = sym (cell_in_is (Hashed table) plan history (shard_after plan history) key contents.fits contents.has) ∙ found in
-    let tests = hash_zero plan (shard_after plan history) (update_flags_of flags) contents.fits.0 (sym (absent_answer Hash plan (shard_after plan history) key flags contents.fits.0 absent) ∙ done) in
-    let can : CanCreate cells (Hashed table) = room_by plan history cells (Hashed table) key flags contents room done absent in
-    rw (put.0) (subst (λ state. IsContents plan later (with_new_key state key value) (T.with_new_cell cells value) keys_after) (sym (not_full plan history (shard_after plan history) tests.0))
-    (contents_created plan history later (shard_after plan history) cells (Hashed table) keys_after key value can.free put.1 contents))
-
-pub contents_updated : (plan : ShardPlan) (history later : List Entry) (cells cells_after : CellTable) (keys keys_after : KeyTable) (number : ℕ) (key value : List ℕ) (flags : ℕ) (code : ℤ) → IsPlan plan
-    → IsContents plan history (shard_after plan history) cells keys → length history < plan.reserve → code ≡ update_answer plan (shard_after plan history) key flags
-    → (code ≡ pos 0 → IsPut (cell_in keys key) key value cells keys cells_after keys_after) → (code ≢ pos 0 → (cells_after ≡ cells) × (keys_after ≡ keys))
-    → IsContents plan later (shard_after_call plan history (shard_after plan history) (Update number key value flags)) cells_after keys_after
-contents_updated plan history later cells cells_after keys keys_after number key value flags code is contents room answered done refused = by_answer (zero_or_other code)
-  where
-    by_answer : (code ≡ pos 0) ⊎ (code ≢ pos 0) → IsContents plan later (shard_after_call plan history (shard_after plan history) (Update number key value flags)) cells_after keys_after
-    by_answer (inl is_zero) =
-        let zero_answer : update_answer plan (shard_after plan history) key flags ≡ pos 0 = sym answered ∙ is_zero in
-        let same : cell_in keys key ≡ cell_of_key plan (shard_after plan history) key = cell_in_is keys plan history (shard_after plan history) key contents.fits contents.has in
-        let after : SequentialShard = with_value plan history (shard_after plan history) key value (cell_of_key plan (shard_after plan history) key) in
-        subst (λ answer. IsContents plan later (updated_where answer (with_value plan history (shard_after plan history) key value (cell_of_key plan (shard_after plan history) key)) (shard_after plan history)) cells_after keys_after) (sym zero_answer)
-        (subst (λ found. IsContents plan later (with_value plan history (shard_after plan history) key value found) cells_after keys_after) same
-        (updated_by plan history later cells cells_after keys keys_after key value flags (cell_in keys key) is contents room zero_answer refl (done is_zero)))
-    by_answer (inr other_than) =
-        let other : update_answer plan (shard_after plan history) key flags ≢ pos 0 = λ same. other_than (answered ∙ same) in
-        rw (none_left (update_answer plan (shard_after plan history) key flags) (with_value plan history (shard_after plan history) key value (cell_of_key plan (shard_after plan history) key)) (shard_after plan history) other)
-        (rw ((refused other_than).0, (refused other_than).1) (contents_later plan history later (shard_after plan history) cells keys contents))
-
--- ---- a Delete
-
-pub deleted_keyed : (plan : ShardPlan) (history : List Entry) (cells : CellTable) (keys : KeyTable) (key : List ℕ) (code : ℤ) → IsContents plan history (shard_after plan history) cells keys
-    → code ≡ delete_answer plan (shard_after plan history) key → code ≡ pos 0 → IsKeyed keys
-deleted_keyed plan history cells (Hashed table) key code contents answered done = tt
-deleted_keyed plan history cells (Indices indices) key code contents answered done =
-    let invalid : delete_answer plan (shard_after plan history) key ≡ errno_code Invalid = ap (λ kind. delete_answer_of_kind kind (cell_of_key plan (shard_after plan history) key)) contents.fits.0 in
-    let none : errno_code Invalid ≡ pos 0 = sym invalid ∙ sym answered ∙ done in
-    absurd cc
-
 -- a key that is found is present
 found_by : (cell : ℕ) (found : Option PresentKey) → option_map (λ (one : PresentKey). one.cell) found ≡ Some cell → (gone : PresentKey) × (found ≡ Some gone) × (gone.cell ≡ cell)
 found_by cell None is = absurd cc
@@ -161,67 +121,277 @@ some_present : (key : List ℕ) (gone : PresentKey) (present : List PresentKey) 
 some_present key gone [] found = absurd cc
 some_present key gone (one ∷ rest) found = omega arith
 
-can_retire_by : (plan : ShardPlan) (history : List Entry) (cells : CellTable) (table : KeyTable) (key : List ℕ) (cell place : ℕ) → IsKeyed table → IsPlan plan → IsContents plan history (shard_after plan history) cells table → place ≡ length history
-    → cell_in table key ≡ Some cell → CanRetire cells cell place
-can_retire_by plan history cells (Indices indices) key cell place keyed is contents at found = absurd keyed
-can_retire_by plan history cells (Hashed table) key cell place keyed is contents at found =
-    let balance : IsBalanced Hash plan (shard_after plan history) cells = subst (λ kind. IsBalanced kind plan (shard_after plan history) cells) contents.fits.0 contents.balance in
-    let by = found_by cell (find (λ (one : PresentKey). bytes_eq one.key key) (shard_after plan history).present) (sym (contents.has.1 key) ∙ found) in
+keyed_balance : (kind : MapKind) (plan : ShardPlan) (state : SequentialShard) (cells : CellTable) → (kind ≡ Array → ⊥) → IsBalanced kind plan state cells
+    → (cells.places ≡ 2 * capacity plan) × (cells.free + (length state.present + length state.retired) ≡ 2 * capacity plan)
+keyed_balance Array plan state cells keyed balance = absurd (keyed refl)
+keyed_balance Hash plan state cells keyed balance = balance
+keyed_balance LruHash plan state cells keyed balance = balance
+
+-- the cell of a key that is there can be retired
+can_retire_by : (plan : ShardPlan) (history : List Entry) (cells : CellTable) (keys : KeyTable) (key : List ℕ) (cell place : ℕ) → IsKeyed keys → IsPlan plan → IsContents plan history (shard_after plan history) cells keys → place ≡ length history
+    → cell_in keys key ≡ Some cell → CanRetire cells cell place
+can_retire_by plan history cells keys key cell place keyed is contents at found =
+    let balance = keyed_balance plan.definition.kind plan (shard_after plan history) cells (keyed_kind keys plan keyed contents.fits) contents.balance in
+    let by = found_by cell (find (λ (one : PresentKey). bytes_eq one.key key) (shard_after plan history).present) (sym (cell_in_present keys history (shard_after plan history).present key keyed contents.has) ∙ found) in
     let some : 1 ≤ length (shard_after plan history).present = some_present key by.0 (shard_after plan history).present by.1 in
     let apart : AllByRecursion (λ (old : RetiredCell). by.0.cell ≡ old.cell → ⊥) (shard_after plan history).retired =
     each_find (λ (one : PresentKey). AllByRecursion (λ (old : RetiredCell). one.cell ≡ old.cell → ⊥) (shard_after plan history).retired) (λ (one : PresentKey). bytes_eq one.key key) (shard_after plan history).present by.0 (sound_after plan history).apart by.1 in
     let waits : length cells.retired ≡ length (shard_after plan history).retired = ap length contents.retired ∙ oldest_count (shard_after plan history).retired in
     record {
-      kept = put_kept plan history cells (Hashed table) key cell is contents found;
+      kept = put_kept plan history cells keys key cell is contents found;
       once = not_retired cell cells (shard_after plan history).retired contents.retired
           (each_weaker (λ (old : RetiredCell). by.0.cell ≡ old.cell → ⊥) (λ (old : RetiredCell). old.cell ≡ cell → ⊥) (λ old other same. other (by.2 ∙ sym same)) (shard_after plan history).retired apart);
       room = omega (arith, waits, some, balance.0, balance.1);
       latest = rw at (latest_stamp (length history) cells (shard_after plan history).retired contents.retired (apart_after plan history).since);
     }
 
+free_by : (plan : ShardPlan) (history : List Entry) (cells : CellTable) (keys : KeyTable) (key : List ℕ) (flags : ℕ) → IsKeyed keys → IsContents plan history (shard_after plan history) cells keys
+    → update_answer plan (shard_after plan history) key flags ≡ pos 0 → cell_of_key plan (shard_after plan history) key ≡ None → 0 < cells.free
+free_by plan history cells keys key flags keyed contents done absent =
+    let kind : plan.definition.kind ≡ Array → ⊥ = keyed_kind keys plan keyed contents.fits in
+    let balance = keyed_balance plan.definition.kind plan (shard_after plan history) cells kind contents.balance in
+    let free : has_free_cell plan (shard_after plan history) ≡ true = known_flags plan.definition.kind plan (shard_after plan history) (update_flags_of flags) kind
+    (sym (absent_answer plan.definition.kind plan (shard_after plan history) key flags refl absent) ∙ done) in
+    let unused : length (shard_after plan history).present + length (shard_after plan history).retired < 2 * capacity plan = grind (arith, nat_tests) in
+    omega (arith, balance.1, unused)
+
+ids_by : (plan : ShardPlan) (history : List Entry) (cells : CellTable) (keys : KeyTable) → IsContents plan history (shard_after plan history) cells keys → length history < plan.reserve → length cells.cells < cells.ids
+ids_by plan history cells keys contents room =
+    let few : length (shard_after plan history).cells ≤ length (opening_cells plan.definition.kind plan) + length history = ids_are_few plan history in
+    omega (arith, few, room, contents.counted, contents.id_room)
+
+-- what goes for a new key is the last key
+victim_is : (keys : LruTable) (cell : ℕ) → victim_cell (Recent keys) ≡ Some cell → (key : List ℕ) × (last_of keys.entries ≡ Some (key, cell))
+victim_is keys cell found = by_full (is_full_of keys) found
+  where
+    by_last : (last : Option (List ℕ × ℕ)) → last_of keys.entries ≡ last → option_map (λ (entry : List ℕ × ℕ). entry.1) last ≡ Some cell → (key : List ℕ) × (last_of keys.entries ≡ Some (key, cell))
+    by_last None is found = absurd cc
+    by_last (Some entry) is found = let same : entry.1 ≡ cell = cc in (entry.0, is ∙ ap (λ id. Some (entry.0, id)) same)
+
+    by_full : (full : Bool) → (if full then option_map (λ (entry : List ℕ × ℕ). entry.1) (last_of keys.entries) else None) ≡ Some cell → (key : List ℕ) × (last_of keys.entries ≡ Some (key, cell))
+    by_full true found = by_last (last_of keys.entries) refl found
+    by_full false found = absurd cc
+
+-- the last key is found with its cell
+last_cell : (keys : LruTable) (history : List Entry) (present : List PresentKey) (key : List ℕ) (id : ℕ) → IsByUse history present keys.entries → last_of keys.entries ≡ Some (key, id) → cell_in (Recent keys) key ≡ Some id
+last_cell keys history present key id has last = sym (has.cells key) ∙ ap (option_map (λ (one : PresentKey). one.cell)) (victim_found history present keys.entries has key id last)
+
+room_by : (plan : ShardPlan) (history : List Entry) (cells : CellTable) (keys : KeyTable) (key : List ℕ) (flags place : ℕ) → IsPlan plan → IsContents plan history (shard_after plan history) cells keys
+    → length history < plan.reserve → place ≡ length history → update_answer plan (shard_after plan history) key flags ≡ pos 0 → cell_of_key plan (shard_after plan history) key ≡ None → CanCreate cells keys place
+room_by plan history cells (Indices indices) key flags place is contents room at done absent =
+    absurd (array_zero plan (shard_after plan history) (update_flags_of flags) (sym (absent_answer Array plan (shard_after plan history) key flags contents.fits.0 absent) ∙ done))
+room_by plan history cells (Hashed table) key flags place is contents room at done absent =
+    let tests = hash_zero plan (shard_after plan history) (update_flags_of flags) contents.fits.0 (sym (absent_answer Hash plan (shard_after plan history) key flags contents.fits.0 absent) ∙ done) in
+    let below : length (shard_after plan history).present < capacity plan = grind (arith, nat_tests, tests.0) in
+    record {
+      free = free_by plan history cells (Hashed table) key flags tt contents done absent;
+      ids = ids_by plan history cells (Hashed table) contents room;
+      room = omega (arith, below, contents.has.0, contents.fits.2);
+      victim = (λ cell none. absurd cc);
+    }
+room_by plan history cells (Recent table) key flags place is contents room at done absent = record {
+  free = free_by plan history cells (Recent table) key flags tt contents done absent;
+  ids = ids_by plan history cells (Recent table) contents room;
+  room = tt;
+  victim = (λ cell found. let last = victim_is table cell found in
+      can_retire_by plan history cells (Recent table) last.0 cell place tt is contents at (last_cell table history (shard_after plan history).present last.0 cell contents.has last.1));
+}
+
+pub put_room : (plan : ShardPlan) (history : List Entry) (cells : CellTable) (keys : KeyTable) (key : List ℕ) (flags place : ℕ) (code : ℤ) → IsPlan plan → IsContents plan history (shard_after plan history) cells keys
+    → length history < plan.reserve → place ≡ length history → code ≡ update_answer plan (shard_after plan history) key flags → code ≡ pos 0 → cell_in keys key ≡ None → CanCreate cells keys place
+put_room plan history cells keys key flags place code is contents room at answered done absent =
+    room_by plan history cells keys key flags place is contents room at (sym answered ∙ done) (sym (cell_in_is keys plan history (shard_after plan history) key contents.fits contents.has) ∙ absent)
+
+-- ---- a new key in a full LRU shard
+
+abbrev of_last : List ℕ → ℕ → PresentKey
+of_last key id = record { key = key; cell = id }
+
+contents_evicted : (plan : ShardPlan) (history : List Entry) (state : SequentialShard) (cells : CellTable) (keys : LruTable) (key : List ℕ) (id place : ℕ) → last_of keys.entries ≡ Some (key, id) → IsContents plan history state cells (Recent keys)
+    → IsContents plan history (S.without_key state place (of_last key id)) (with_retired cells id place) (Recent (without_victim keys))
+contents_evicted plan history state cells keys key id place last contents =
+    contents_retired plan history state cells (Recent keys) (Recent (without_victim keys)) key (of_last key id) place tt (victim_found history state.present keys.entries contents.has key id last)
+    contents.has.keys_apart contents.has.cells_apart contents contents.fits (by_use_evicted history state.present keys.entries contents.has key id last)
+
+some_last : (entries : List (List ℕ × ℕ)) → 0 < length entries → (key : List ℕ) × (id : ℕ) × (last_of entries ≡ Some (key, id))
+some_last [] some = absurd (omega (arith, some))
+some_last (entry ∷ []) some = (entry.0, entry.1, refl)
+some_last (entry ∷ other ∷ entries) some = some_last (other ∷ entries) (omega arith)
+
+some_capacity : (plan : ShardPlan) → IsPlan plan → 0 < capacity plan
+some_capacity plan is =
+    let whole : plan.definition.max_entries / plan.parts * plan.parts + plan.definition.max_entries % plan.parts ≡ plan.definition.max_entries = div-add-mod' plan.definition.max_entries plan.parts in
+    by_zero (plan.definition.max_entries / plan.parts) whole
+  where
+    by_zero : (count : ℕ) → count * plan.parts + plan.definition.max_entries % plan.parts ≡ plan.definition.max_entries → 0 < count
+    by_zero zero whole = let equal = is.equal_parts in let some = is.some_entries in absurd (omega (arith, whole, equal, some))
+    by_zero (suc count) whole = omega arith
+
+same_full : (plan : ShardPlan) (history : List Entry) (state : SequentialShard) (keys : LruTable) → FitsPlan (Recent keys) plan → IsByUse history state.present keys.entries → is_full_of_keys plan state ≡ is_full_of keys
+same_full plan history state keys fits has = ap (λ count. nat_le (capacity plan) count) has.count ∙ ap (λ most. nat_le most (length keys.entries)) (sym fits.2)
+
+not_full : (plan : ShardPlan) (history : List Entry) (state : SequentialShard) → is_full_of_keys plan state ≡ false → after_eviction plan history state ≡ state
+not_full plan history state is = rw is refl
+
+evicted_is : (plan : ShardPlan) (history : List Entry) (state : SequentialShard) (gone : PresentKey) → is_full_of_keys plan state ≡ true → least_recently_used history state.present ≡ Some gone
+    → after_eviction plan history state ≡ S.without_key state (length history) gone
+evicted_is plan history state gone full least = rw (full, least) refl
+
+others_below : (shard : SequentialShard) → IsSound shard → AllByRecursion (λ (one : PresentKey). length shard.cells ≡ one.cell → ⊥) shard.present
+others_below shard sound = each_weaker (λ (one : PresentKey). one.cell < length shard.cells) (λ (one : PresentKey). length shard.cells ≡ one.cell → ⊥) (λ one under same. omega (arith, under, same)) shard.present sound.present
+
+none_gone : (test : Bool) (before : Option ℕ) → before ≡ None → cond test None before ≡ None
+none_gone true before none = refl
+none_gone false before none = none
+
+-- what the code has made of cells and keys is what the definition says of the state
+created_recent : (plan : ShardPlan) (entry : Entry) (history : List Entry) (cells cells_after : CellTable) (table : LruTable) (keys_after : KeyTable) (key value : List ℕ) → IsPlan plan
+    → IsContents plan history (shard_after plan history) cells (Recent table) → 0 < cells.free → IsUseOf entry key → cell_of_present (shard_after plan history).present key ≡ None
+    → IsPut None key value (length history) cells (Recent table) cells_after keys_after
+    → IsContents plan (entry ∷ history) (with_new_key (after_eviction plan history (shard_after plan history)) key value) cells_after keys_after
+created_recent plan entry history cells cells_after table keys_after key value is contents free used absent put = by_full (is_full_of table) refl
+  where
+    full_is : is_full_of_keys plan (shard_after plan history) ≡ is_full_of table
+    full_is = same_full plan history (shard_after plan history) table contents.fits contents.has
+
+    by_full : (full : Bool) → is_full_of table ≡ full → IsContents plan (entry ∷ history) (with_new_key (after_eviction plan history (shard_after plan history)) key value) cells_after keys_after
+    by_full false not_yet =
+        let none : victim_cell (Recent table) ≡ None = rw not_yet refl in
+        let stays : without_victim_in (Recent table) ≡ Recent table = rw not_yet refl in
+        let inserted : IsInserted key (length cells.cells) (Recent table) keys_after = subst (λ keys. IsInserted key (length cells.cells) keys keys_after) stays put.1 in
+        let made : cells_after ≡ T.with_new_cell cells value = put.0 ∙ ap (λ victim. T.with_new_cell (with_evicted victim (length history) cells) value) none in
+        rw (not_full plan history (shard_after plan history) (full_is ∙ not_yet), made)
+        (contents_created plan entry history (shard_after plan history) cells (Recent table) keys_after key value free used absent (others_below (shard_after plan history) (sound_after plan history)) inserted contents)
+    by_full true full =
+        let long : capacity plan ≤ length table.entries = (let test : nat_le table.capacity (length table.entries) ≡ true = full in let fits = contents.fits.2 in grind (arith, nat_tests)) in
+        let last = some_last table.entries (let some : 0 < capacity plan = some_capacity plan is in omega (arith, some, long)) in
+        let gone : PresentKey = of_last last.0 last.1 in
+        let found = victim_found history (shard_after plan history).present table.entries contents.has last.0 last.1 last.2 in
+        let least : least_recently_used history (shard_after plan history).present ≡ Some (of_last last.0 last.1) = victim_is_least history (shard_after plan history).present table.entries contents.has last.0 last.1 last.2 in
+        let goes : victim_cell (Recent table) ≡ Some last.1 = rw (full, last.2) refl in
+        let fewer : without_victim_in (Recent table) ≡ Recent (without_victim table) = rw full refl in
+        let inserted : IsInserted key (length cells.cells) (Recent (without_victim table)) keys_after = subst (λ keys. IsInserted key (length cells.cells) keys keys_after) fewer put.1 in
+        let made : cells_after ≡ T.with_new_cell (with_retired cells last.1 (length history)) value = put.0 ∙ ap (λ victim. T.with_new_cell (with_evicted victim (length history) cells) value) goes in
+        let left : IsGone last.0 (of_last last.0 last.1) (shard_after plan history).present = key_gone last.0 (of_last last.0 last.1) (shard_after plan history).present found contents.has.keys_apart contents.has.cells_apart in
+        let others : AllByRecursion (λ (one : PresentKey). length (shard_after plan history).cells ≡ one.cell → ⊥) (filter (λ (one : PresentKey). not (one.cell == last.1)) (shard_after plan history).present) =
+        each_first (λ (one : PresentKey). length (shard_after plan history).cells ≡ one.cell → ⊥) (λ (one : PresentKey). not (one.cell == last.1)) (shard_after plan history).present (others_below (shard_after plan history) (sound_after plan history)) in
+        rw (evicted_is plan history (shard_after plan history) (of_last last.0 last.1) (full_is ∙ full) least, made)
+        (contents_created plan entry history (S.without_key (shard_after plan history) (length history) (of_last last.0 last.1)) (with_retired cells last.1 (length history)) (Recent (without_victim table)) keys_after key value free used
+        (left.finds key ∙ none_gone (bytes_eq last.0 key) (cell_of_present (shard_after plan history).present key) absent) others inserted
+        (contents_evicted plan history (shard_after plan history) cells table last.0 last.1 (length history) last.2 contents))
+
+-- ---- what an Update leaves
+
+updated_by : (plan : ShardPlan) (entry : Entry) (history : List Entry) (cells cells_after : CellTable) (keys keys_after : KeyTable) (key value : List ℕ) (flags : ℕ) (found : Option ℕ) → IsPlan plan
+    → IsContents plan history (shard_after plan history) cells keys → update_answer plan (shard_after plan history) key flags ≡ pos 0 → IsUseOf entry key
+    → cell_in keys key ≡ found → IsPut found key value (length history) cells keys cells_after keys_after
+    → IsContents plan (entry ∷ history) (with_value plan history (shard_after plan history) key value found) cells_after keys_after
+updated_by plan entry history cells cells_after keys keys_after key value flags (Some cell) is contents done used found put =
+    let kept : IsTrue (is_kept plan (shard_after plan history) cell) = found_kept plan.definition.kind plan history key cell refl is.equal_parts is.limits.some_part (sym (cell_in_is keys plan history (shard_after plan history) key contents.fits contents.has) ∙ found) in
+    rw (put.0, put.1) (contents_written plan history (entry ∷ history) (shard_after plan history) cells keys (touched_in key keys) cell value kept contents
+    (fits_touched keys plan key contents.fits) (keys_touched keys entry history (shard_after plan history).present key cell used found contents.has))
+updated_by plan entry history cells cells_after (Indices indices) keys_after key value flags None is contents done used found put = absurd put.1
+updated_by plan entry history cells cells_after (Hashed table) keys_after key value flags None is contents done used found put =
+    let absent : cell_of_key plan (shard_after plan history) key ≡ None = sym (cell_in_is (Hashed table) plan history (shard_after plan history) key contents.fits contents.has) ∙ found in
+    let tests = hash_zero plan (shard_after plan history) (update_flags_of flags) contents.fits.0 (sym (absent_answer Hash plan (shard_after plan history) key flags contents.fits.0 absent) ∙ done) in
+    rw (put.0) (subst (λ state. IsContents plan (entry ∷ history) (with_new_key state key value) (T.with_new_cell cells value) keys_after) (sym (not_full plan history (shard_after plan history) tests.0))
+    (contents_created plan entry history (shard_after plan history) cells (Hashed table) keys_after key value (free_by plan history cells (Hashed table) key flags tt contents done absent) used
+    (sym (contents.has.1 key) ∙ found) (others_below (shard_after plan history) (sound_after plan history)) put.1 contents))
+updated_by plan entry history cells cells_after (Recent table) keys_after key value flags None is contents done used found put =
+    let absent : cell_of_key plan (shard_after plan history) key ≡ None = sym (cell_in_is (Recent table) plan history (shard_after plan history) key contents.fits contents.has) ∙ found in
+    created_recent plan entry history cells cells_after table keys_after key value is contents (free_by plan history cells (Recent table) key flags tt contents done absent) used
+    (contents.has.cells key ∙ found) put
+
+-- the entry of an Update with this answer
+abbrev pub update_entry : Caller → ℕ → List ℕ → List ℕ → ℕ → ℤ → Entry
+update_entry who number key value flags code = record { who = who; call = Update number key value flags; reply = Answer code }
+
+refused_use : (code : ℤ) → code ≢ pos 0 → is_done (Answer code) ≡ false
+refused_use (pos zero) other = absurd (other refl)
+refused_use (pos (suc n)) other = (let some : (suc n == 0) ≡ false = grind (arith, nat_tests) in some)
+refused_use (negsuc n) other = refl
+
+pub contents_updated : (plan : ShardPlan) (who : Caller) (history : List Entry) (cells cells_after : CellTable) (keys keys_after : KeyTable) (number : ℕ) (key value : List ℕ) (flags place : ℕ) (code : ℤ) → IsPlan plan
+    → IsContents plan history (shard_after plan history) cells keys → place ≡ length history → code ≡ update_answer plan (shard_after plan history) key flags
+    → (code ≡ pos 0 → IsPut (cell_in keys key) key value place cells keys cells_after keys_after) → (code ≢ pos 0 → (cells_after ≡ cells) × (keys_after ≡ keys))
+    → IsContents plan (update_entry who number key value flags code ∷ history) (shard_after_call plan history (shard_after plan history) (Update number key value flags)) cells_after keys_after
+contents_updated plan who history cells cells_after keys keys_after number key value flags place code is contents at answered done refused = by_answer (zero_or_other code)
+  where
+    by_answer : (code ≡ pos 0) ⊎ (code ≢ pos 0) → IsContents plan (update_entry who number key value flags code ∷ history) (shard_after_call plan history (shard_after plan history) (Update number key value flags)) cells_after keys_after
+    by_answer (inl is_zero) =
+        let zero_answer : update_answer plan (shard_after plan history) key flags ≡ pos 0 = sym answered ∙ is_zero in
+        let same : cell_in keys key ≡ cell_of_key plan (shard_after plan history) key = cell_in_is keys plan history (shard_after plan history) key contents.fits contents.has in
+        let used : IsUseOf (update_entry who number key value flags code) key = (λ q. use_by_update q key value number flags (Answer code) (ap (λ answer. is_done (Answer answer)) is_zero)) in
+        subst (λ answer. IsContents plan (update_entry who number key value flags code ∷ history) (updated_where answer (with_value plan history (shard_after plan history) key value (cell_of_key plan (shard_after plan history) key)) (shard_after plan history)) cells_after keys_after) (sym zero_answer)
+        (subst (λ found. IsContents plan (update_entry who number key value flags code ∷ history) (with_value plan history (shard_after plan history) key value found) cells_after keys_after) same
+        (updated_by plan (update_entry who number key value flags code) history cells cells_after keys keys_after key value flags (cell_in keys key) is contents zero_answer used refl
+        (subst (λ from. IsPut (cell_in keys key) key value from cells keys cells_after keys_after) at (done is_zero))))
+    by_answer (inr other_than) =
+        let other : update_answer plan (shard_after plan history) key flags ≢ pos 0 = λ same. other_than (answered ∙ same) in
+        rw (none_left (update_answer plan (shard_after plan history) key flags) (with_value plan history (shard_after plan history) key value (cell_of_key plan (shard_after plan history) key)) (shard_after plan history) other)
+        (rw ((refused other_than).0, (refused other_than).1) (contents_on plan (update_entry who number key value flags code) history (shard_after plan history) cells keys
+        (λ q. no_use_by_update q key value number flags (Answer code) (refused_use code other_than)) contents))
+
+-- ---- a Delete
+
+pub deleted_keyed : (plan : ShardPlan) (history : List Entry) (cells : CellTable) (keys : KeyTable) (key : List ℕ) (code : ℤ) → IsContents plan history (shard_after plan history) cells keys
+    → code ≡ delete_answer plan (shard_after plan history) key → code ≡ pos 0 → IsKeyed keys
+deleted_keyed plan history cells (Hashed table) key code contents answered done = tt
+deleted_keyed plan history cells (Recent table) key code contents answered done = tt
+deleted_keyed plan history cells (Indices indices) key code contents answered done =
+    let invalid : delete_answer plan (shard_after plan history) key ≡ errno_code Invalid = ap (λ kind. delete_answer_of_kind kind (cell_of_key plan (shard_after plan history) key)) contents.fits.0 in
+    let none : errno_code Invalid ≡ pos 0 = sym invalid ∙ sym answered ∙ done in
+    absurd cc
+
 pub can_retire : (plan : ShardPlan) (history : List Entry) (cells : CellTable) (keys : KeyTable) (key : List ℕ) (cell place : ℕ) (code : ℤ) → IsPlan plan → IsContents plan history (shard_after plan history) cells keys → place ≡ length history
     → code ≡ delete_answer plan (shard_after plan history) key → code ≡ pos 0 → cell_in keys key ≡ Some cell → CanRetire cells cell place
 can_retire plan history cells keys key cell place code is contents at answered done found =
     can_retire_by plan history cells keys key cell place (deleted_keyed plan history cells keys key code contents answered done) is contents at found
 
-found_cell : (plan : ShardPlan) (state : SequentialShard) (key : List ℕ) → plan.definition.kind ≡ Hash → delete_answer plan state key ≡ pos 0 → (gone : PresentKey) × (present_key state key ≡ Some gone)
-found_cell plan state key is done = by_found (present_key state key) refl (sym (ap (λ kind. delete_answer_of_kind kind (cell_of_key plan state key)) is ∙ ap (delete_answer_of_kind Hash) (hash_cell plan state key is)) ∙ done)
-  where
-    hash_cell : (plan : ShardPlan) (state : SequentialShard) (key : List ℕ) → plan.definition.kind ≡ Hash → cell_of_key plan state key ≡ option_map (λ (one : PresentKey). one.cell) (present_key state key)
-    hash_cell plan state key is = rw is refl
+keyed_answer : (kind : MapKind) (cell : Option ℕ) → (kind ≡ Array → ⊥) → delete_answer_of_kind kind cell ≡ pos 0 → is_some cell ≡ true
+keyed_answer Array cell keyed answer = absurd (keyed refl)
+keyed_answer Hash None keyed answer = cc
+keyed_answer Hash (Some cell) keyed answer = refl
+keyed_answer LruHash None keyed answer = cc
+keyed_answer LruHash (Some cell) keyed answer = refl
 
-    by_found : (found : Option PresentKey) → present_key state key ≡ found → delete_answer_of_kind Hash (option_map (λ (one : PresentKey). one.cell) (present_key state key)) ≡ pos 0 → (gone : PresentKey) × (present_key state key ≡ Some gone)
-    by_found (Some gone) same answer = (gone, same)
-    by_found None same answer = absurd (let none : delete_answer_of_kind Hash None ≡ pos 0 = sym (ap (λ found. delete_answer_of_kind Hash (option_map (λ (one : PresentKey). one.cell) found)) same) ∙ answer in cc)
+found_one : (found : Option PresentKey) → is_some (option_map (λ (one : PresentKey). one.cell) found) ≡ true → (gone : PresentKey) × (found ≡ Some gone)
+found_one (Some gone) is = (gone, refl)
+found_one None is = absurd cc
 
-deleted_by : (plan : ShardPlan) (history later : List Entry) (cells cells_after : CellTable) (keys keys_after : KeyTable) (key : List ℕ) → IsKeyed keys → IsLegalHistory plan history
+deleted_by : (plan : ShardPlan) (history : List Entry) (cells cells_after : CellTable) (keys keys_after : KeyTable) (key : List ℕ) → IsKeyed keys → IsLegalHistory plan history
     → IsContents plan history (shard_after plan history) cells keys → delete_answer plan (shard_after plan history) key ≡ pos 0
     → ((cell : ℕ) → cell_in keys key ≡ Some cell → cells_after ≡ with_retired cells cell (length history)) → IsRemoved key keys keys_after
-    → IsContents plan later (without_found (shard_after plan history) (length history) (present_key (shard_after plan history) key)) cells_after keys_after
-deleted_by plan history later cells cells_after (Indices indices) keys_after key keyed legal contents done retired removed = absurd keyed
-deleted_by plan history later cells cells_after (Hashed table) keys_after key keyed legal contents done retired removed =
-    let by = found_cell plan (shard_after plan history) key contents.fits.0 done in
-    let there : cell_in (Hashed table) key ≡ Some by.0.cell = contents.has.1 key ∙ ap (option_map (λ (one : PresentKey). one.cell)) by.1 in
-    rw (by.1, retired by.0.cell there)
-    (contents_retired plan history later (shard_after plan history) cells (Hashed table) keys_after key by.0 (length history) by.1 (keys_differ plan history legal) (apart_after plan history).present removed contents)
+    → IsContents plan history (without_found (shard_after plan history) (length history) (present_key (shard_after plan history) key)) cells_after keys_after
+deleted_by plan history cells cells_after keys keys_after key keyed legal contents done retired removed =
+    let there : is_some (cell_of_key plan (shard_after plan history) key) ≡ true = keyed_answer plan.definition.kind (cell_of_key plan (shard_after plan history) key) (keyed_kind keys plan keyed contents.fits) done in
+    let in_table : cell_in keys key ≡ cell_of_key plan (shard_after plan history) key = cell_in_is keys plan history (shard_after plan history) key contents.fits contents.has in
+    let in_present : cell_in keys key ≡ cell_of_present (shard_after plan history).present key = cell_in_present keys history (shard_after plan history).present key keyed contents.has in
+    let by = found_one (present_key (shard_after plan history) key) (ap is_some (sym in_present ∙ in_table) ∙ there) in
+    let cell : cell_in keys key ≡ Some by.0.cell = in_present ∙ ap (option_map (λ (one : PresentKey). one.cell)) by.1 in
+    rw (by.1, retired by.0.cell cell)
+    (contents_retired plan history (shard_after plan history) cells keys keys_after key by.0 (length history) keyed by.1 (keys_differ plan history legal) (apart_after plan history).present contents
+    (fits_removed keys keys_after plan key removed contents.fits)
+    (keys_removed keys keys_after history (shard_after plan history).present key by.0 by.1 (keys_differ plan history legal) (apart_after plan history).present removed contents.has))
 
-pub contents_deleted : (plan : ShardPlan) (history later : List Entry) (cells cells_after : CellTable) (keys keys_after : KeyTable) (number : ℕ) (key : List ℕ) (place : ℕ) (code : ℤ) → IsLegalHistory plan history
+pub contents_deleted : (plan : ShardPlan) (entry : Entry) (history : List Entry) (cells cells_after : CellTable) (keys keys_after : KeyTable) (number : ℕ) (key : List ℕ) (place : ℕ) (code : ℤ) → IsNoUse entry → IsLegalHistory plan history
     → IsContents plan history (shard_after plan history) cells keys → place ≡ length history → code ≡ delete_answer plan (shard_after plan history) key
     → ((cell : ℕ) → code ≡ pos 0 → cell_in keys key ≡ Some cell → cells_after ≡ with_retired cells cell place) → (code ≡ pos 0 → IsRemoved key keys keys_after)
     → (code ≢ pos 0 → (cells_after ≡ cells) × (keys_after ≡ keys))
-    → IsContents plan later (shard_after_call plan history (shard_after plan history) (Delete number key)) cells_after keys_after
-contents_deleted plan history later cells cells_after keys keys_after number key place code legal contents at answered retired removed refused = by_answer (zero_or_other code)
+    → IsContents plan (entry ∷ history) (shard_after_call plan history (shard_after plan history) (Delete number key)) cells_after keys_after
+contents_deleted plan entry history cells cells_after keys keys_after number key place code no_use legal contents at answered retired removed refused = by_answer (zero_or_other code)
   where
-    by_answer : (code ≡ pos 0) ⊎ (code ≢ pos 0) → IsContents plan later (shard_after_call plan history (shard_after plan history) (Delete number key)) cells_after keys_after
+    by_answer : (code ≡ pos 0) ⊎ (code ≢ pos 0) → IsContents plan (entry ∷ history) (shard_after_call plan history (shard_after plan history) (Delete number key)) cells_after keys_after
     by_answer (inl is_zero) =
         let zero_answer : delete_answer plan (shard_after plan history) key ≡ pos 0 = sym answered ∙ is_zero in
-        subst (λ answer. IsContents plan later (updated_where answer (without_found (shard_after plan history) (length history) (present_key (shard_after plan history) key)) (shard_after plan history)) cells_after keys_after) (sym zero_answer)
-        (deleted_by plan history later cells cells_after keys keys_after key (deleted_keyed plan history cells keys key code contents answered is_zero) legal contents zero_answer
-        (λ cell found. retired cell is_zero found ∙ ap (with_retired cells cell) at) (removed is_zero))
+        subst (λ answer. IsContents plan (entry ∷ history) (updated_where answer (without_found (shard_after plan history) (length history) (present_key (shard_after plan history) key)) (shard_after plan history)) cells_after keys_after) (sym zero_answer)
+        (contents_on plan entry history (without_found (shard_after plan history) (length history) (present_key (shard_after plan history) key)) cells_after keys_after no_use
+        (deleted_by plan history cells cells_after keys keys_after key (deleted_keyed plan history cells keys key code contents answered is_zero) legal contents zero_answer
+        (λ cell found. retired cell is_zero found ∙ ap (with_retired cells cell) at) (removed is_zero)))
     by_answer (inr other_than) =
         let other : delete_answer plan (shard_after plan history) key ≢ pos 0 = λ same. other_than (answered ∙ same) in
         rw (none_left (delete_answer plan (shard_after plan history) key) (without_found (shard_after plan history) (length history) (present_key (shard_after plan history) key)) (shard_after plan history) other)
-        (rw ((refused other_than).0, (refused other_than).1) (contents_later plan history later (shard_after plan history) cells keys contents))
+        (rw ((refused other_than).0, (refused other_than).1) (contents_on plan entry history (shard_after plan history) cells keys no_use contents))
 
 -- ---- a Reclaim
 
@@ -236,8 +406,8 @@ freed_count plan history cells keys floor contents same =
     rw (same, contents.retired) (ap length (freed_are (floor_of (entered_places history) (length history)) history (shard_after plan history).retired (floor_is plan history))
     ∙ oldest_count (filter (is_reclaimable history) (shard_after plan history).retired))
 
-pub contents_reclaimed : (plan : ShardPlan) (history later : List Entry) (cells : CellTable) (keys : KeyTable) (number floor : ℕ) → IsContents plan history (shard_after plan history) cells keys → floor ≡ floor_of (entered_places history) (length history)
-    → IsContents plan later (shard_after_call plan history (shard_after plan history) (Reclaim number)) (freed_below floor cells) keys
-contents_reclaimed plan history later cells keys number floor contents same =
-    rw same (contents_freed plan history later (shard_after plan history) cells keys (floor_of (entered_places history) (length history)) (floor_is plan history)
+pub contents_reclaimed : (plan : ShardPlan) (entry : Entry) (history : List Entry) (cells : CellTable) (keys : KeyTable) (number floor : ℕ) → IsNoUse entry → IsContents plan history (shard_after plan history) cells keys → floor ≡ floor_of (entered_places history) (length history)
+    → IsContents plan (entry ∷ history) (shard_after_call plan history (shard_after plan history) (Reclaim number)) (freed_below floor cells) keys
+contents_reclaimed plan entry history cells keys number floor none contents same =
+    rw same (contents_freed plan entry history (shard_after plan history) cells keys (floor_of (entered_places history) (length history)) none (floor_is plan history)
     (sound_after plan history) (apart_after plan history).retired (array_after plan history) contents)

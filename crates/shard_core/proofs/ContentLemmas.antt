@@ -1,30 +1,28 @@
 -- What each change leaves of cells and keys.
-use Rattle.std.proofs.Common.{◌≡◌, ◌≢◌, ◌⊎◌, ℕ, suc, ◌+◌, ◌-◌, ◌*◌, ◌<◌, ◌≤◌, Bool, true, false, cond, not, ◌||◌, nat_lt, nat_le, ℤ, pos, negsuc, List, [], ◌∷◌, ◌++◌, map, reverse, length, replicate, set, get_or, Option, Some, None, arith, refl, sym, ◌∙◌, ap, subst, inl, inr}
-use Rattle.std.specs.Prelude.{◌==◌, IsTrue, filter, find, option_map, bytes_eq, is_some, if◌then◌else◌}
+use Rattle.std.proofs.Common.{◌≡◌, ◌⊎◌, ℕ, ◌+◌, ◌-◌, ◌*◌, ◌<◌, ◌≤◌, Bool, true, false, ◌||◌, nat_lt, List, [], ◌∷◌, ◌++◌, length, replicate, Option, Some, None, arith, refl, sym, ◌∙◌, ap, subst, inl, inr}
+use Rattle.std.specs.Prelude.{◌==◌, IsTrue}
 use Rattle.std.specs.List.{AllByRecursion, list_any}
-use Rattle.std.proofs.lemmas.List.{replicate_more, length-set, length-append, length-replicate, length-reverse, length-map, reverse-append, get_or_append_left, get_or_push, get_or-replicate}
+use Rattle.std.proofs.lemmas.List.{replicate_more, length-set, length-append}
 use Rattle.std.proofs.lemmas.Bool.Decides.{nat_tests}
 use Rattle.ebpf_decode.specs.declared.map.MapKind.{MapKind}
 use Rattle.ebpf_decode.specs.declared.map.MapKind.TheVariants.{Array, Hash, LruHash}
+use Rattle.semantics.specs.declared.call.Caller.{Caller}
+use Rattle.semantics.specs.declared.call.Call.TheVariants.{Lookup}
+use Rattle.semantics.specs.declared.call.Reply.{Reply}
+use Rattle.semantics.specs.declared.call.Reply.TheVariants.{Null}
 use Rattle.semantics.specs.declared.call.Entry.{Entry}
 use Rattle.semantics.specs.declared.plan.ShardPlan.{ShardPlan}
 use Rattle.semantics.specs.declared.plan.PresentKey.{PresentKey}
 use Rattle.semantics.specs.declared.plan.RetiredCell.{RetiredCell}
-use Rattle.semantics.specs.LittleEndian.{number_of_bytes}
-use Rattle.semantics.specs.ShardPlan.{capacity}
-use Rattle.semantics.specs.SequentialShard.{SequentialShard, opening_cells, opening_shard, cell_of_present, cell_of_kind, cell_of_key, cell_bytes, with_cell, with_new_key, without_key, is_kept, is_kept_of_kind}
-use Rattle.semantics.specs.UseLaws.{ArePairwise}
-use Rattle.semantics.proofs.HoldingLemmas.{each_weaker, IsSound}
-use Rattle.map_cells.specs.declared.retired.Retired.{Retired}
-use Rattle.map_cells.specs.CellTable.{CellTable, cell_at, bytes_at, bytes_of_cell, with_new_cell, with_bytes, with_retired, is_below, freed_below, without_cells}
-use Rattle.plain_maps.specs.HashTable.{cell_of}
+use Rattle.semantics.specs.SequentialShard.{SequentialShard, cell_of_present, cell_bytes, with_cell, with_new_key, is_kept, is_kept_of_kind, lookup_reply}
+use Rattle.map_cells.specs.CellTable.{CellTable, cell_at, with_new_cell, with_bytes}
+use Rattle.lru_maps.proofs.shared.ByUse.{use_by_lookup, no_use_by_lookup}
 use Rattle.shard_core.specs.declared.keys.KeyTable.{KeyTable}
-use Rattle.shard_core.specs.declared.keys.KeyTable.TheVariants.{Indices, Hashed}
-use Rattle.shard_core.specs.KeyTables.{cell_in, count_in, FitsPlan, HasKeys, HasShape, IsInserted, IsRemoved}
-use Rattle.shard_core.specs.Contents.{filled_table, opened_table}
-use Rattle.shard_core.specs.ShardFields.{Mirrors, waiting, IsBalanced, IsContents}
-use Rattle.shard_core.proofs.MirrorLemmas.{within_table, mirrors_fewer, mirrors_set, mirrors_push, mirrors_without, length-without, IsNone}
-use Rattle.shard_core.proofs.StateLemmas.{IsApart, IsGone, key_gone}
+use Rattle.shard_core.specs.KeyTables.{cell_in, touched_in, FitsPlan, HasKeys, IsInserted}
+use Rattle.shard_core.specs.Contents.{filled_table}
+use Rattle.shard_core.specs.ShardFields.{IsBalanced, IsContents}
+use Rattle.shard_core.proofs.MirrorLemmas.{within_table, mirrors_set, mirrors_push}
+use Rattle.shard_core.proofs.KeyLemmas.{IsNoUse, IsUseOf, keyed_kind, keys_on, fits_touched, keys_touched, inserted_keyed, fits_inserted, keys_inserted}
 
 -- ---- the opening
 
@@ -33,28 +31,36 @@ one_more_filled value places ids count =
     let left : places - count - 1 ≡ places - (count + 1) = omega arith in
     rw (left, replicate_more count (Some value)) refl
 
--- ---- the cell of a key
+-- ---- the same cells
 
-pub cell_in_is : (keys : KeyTable) (plan : ShardPlan) (history : List Entry) (state : SequentialShard) (key : List ℕ) → FitsPlan keys plan → HasKeys keys history state.present → cell_in keys key ≡ cell_of_key plan state key
-cell_in_is (Indices indices) plan history state key fits has = rw (fits.0, fits.1, fits.2) refl
-cell_in_is (Hashed keys) plan history state key fits has = rw fits.0 (has.1 key)
-
--- keys of these kinds are the same after any history
-has_later : (keys : KeyTable) (history later : List Entry) (present : List PresentKey) → HasKeys keys history present → HasKeys keys later present
-has_later (Indices indices) history later present has = has
-has_later (Hashed keys) history later present has = has
-
-pub contents_later : (plan : ShardPlan) (history later : List Entry) (state : SequentialShard) (cells : CellTable) (keys : KeyTable) → IsContents plan history state cells keys → IsContents plan later state cells keys
-contents_later plan history later state cells keys contents = record {
+pub contents_with : (plan : ShardPlan) (history later : List Entry) (state : SequentialShard) (cells : CellTable) (keys keys_after : KeyTable) → IsContents plan history state cells keys → FitsPlan keys_after plan → HasKeys keys_after later state.present
+    → IsContents plan later state cells keys_after
+contents_with plan history later state cells keys keys_after contents fits has = record {
   sized = contents.sized;
   counted = contents.counted;
   mirrored = contents.mirrored;
   retired = contents.retired;
   id_room = contents.id_room;
   balance = contents.balance;
-  fits = contents.fits;
-  has = has_later keys history later state.present contents.has;
+  fits = fits;
+  has = has;
 }
+
+-- after an entry that uses no key
+pub contents_on : (plan : ShardPlan) (entry : Entry) (history : List Entry) (state : SequentialShard) (cells : CellTable) (keys : KeyTable) → IsNoUse entry → IsContents plan history state cells keys → IsContents plan (entry ∷ history) state cells keys
+contents_on plan entry history state cells keys none contents =
+    contents_with plan history (entry ∷ history) state cells keys keys contents contents.fits (keys_on keys entry history state.present none contents.has)
+
+-- and after a Lookup
+pub contents_looked : (plan : ShardPlan) (who : Caller) (number : ℕ) (key : List ℕ) (found : Option ℕ) (history : List Entry) (state : SequentialShard) (cells : CellTable) (keys keys_after : KeyTable) → found ≡ cell_in keys key → keys_after ≡ touched_in key keys
+    → (found ≡ None → keys_after ≡ keys) → IsContents plan history state cells keys → IsContents plan (record { who = who; call = Lookup number key; reply = lookup_reply plan found } ∷ history) state cells keys_after
+contents_looked plan who number key None history state cells keys keys_after is touched unchanged contents =
+    rw (unchanged refl) (contents_on plan (record { who = who; call = Lookup number key; reply = Null }) history state cells keys (λ q. no_use_by_lookup q key number Null refl) contents)
+contents_looked plan who number key (Some cell) history state cells keys keys_after is touched unchanged contents =
+    let reply : Reply = lookup_reply plan (Some cell) in
+    let entry : Entry = record { who = who; call = Lookup number key; reply = lookup_reply plan (Some cell) } in
+    rw touched (contents_with plan history (entry ∷ history) state cells keys (touched_in key keys) contents (fits_touched keys plan key contents.fits)
+    (keys_touched keys entry history state.present key cell (λ q. use_by_lookup q key number reply refl) (sym is) contents.has))
 
 -- ---- a kept cell is read
 
@@ -73,9 +79,9 @@ balance_of_written Array plan state cells cell bytes balance = tt
 balance_of_written Hash plan state cells cell bytes balance = balance
 balance_of_written LruHash plan state cells cell bytes balance = balance
 
-pub contents_written : (plan : ShardPlan) (history later : List Entry) (state : SequentialShard) (cells : CellTable) (keys : KeyTable) (cell : ℕ) (bytes : List ℕ) → IsTrue (is_kept plan state cell) → IsContents plan history state cells keys
-    → IsContents plan later (with_cell state cell bytes) (with_bytes cells cell bytes) keys
-contents_written plan history later state cells keys cell bytes kept contents =
+pub contents_written : (plan : ShardPlan) (history later : List Entry) (state : SequentialShard) (cells : CellTable) (keys keys_after : KeyTable) (cell : ℕ) (bytes : List ℕ) → IsTrue (is_kept plan state cell) → IsContents plan history state cells keys
+    → FitsPlan keys_after plan → HasKeys keys_after later state.present → IsContents plan later (with_cell state cell bytes) (with_bytes cells cell bytes) keys_after
+contents_written plan history later state cells keys keys_after cell bytes kept contents fits has =
     let within : cell < length cells.cells = within_table cells.cells cell (cell_bytes state cell) (contents.mirrored cell kept) in
     record {
       sized = contents.sized;
@@ -85,18 +91,14 @@ contents_written plan history later state cells keys cell bytes kept contents =
       retired = contents.retired;
       id_room = contents.id_room;
       balance = balance_of_written plan.definition.kind plan state cells cell bytes contents.balance;
-      fits = contents.fits;
-      has = has_later keys history later state.present contents.has;
+      fits = fits;
+      has = has;
     }
 
 -- ---- a new key
 
-first_or : (a b : Bool) → (a || b) ≡ true → (a ≡ true) ⊎ (b ≡ true)
-first_or true b is = inl refl
-first_or false b is = inr is
-
-kept_of_created : (state : SequentialShard) (key value : List ℕ) (id : ℕ) → IsTrue (is_kept_of_kind Hash (with_new_key state key value) id) → IsTrue (is_kept_of_kind Hash state id) ⊎ (id ≡ length state.cells)
-kept_of_created state key value id kept = by_test (length state.cells == id) refl kept
+kept_of_new : (state : SequentialShard) (key value : List ℕ) (id : ℕ) → IsTrue (is_kept_of_kind Hash (with_new_key state key value) id) → IsTrue (is_kept_of_kind Hash state id) ⊎ (id ≡ length state.cells)
+kept_of_new state key value id kept = by_test (length state.cells == id) refl kept
   where
     by_test : (test : Bool) → (length state.cells == id) ≡ test
         → ((test || list_any (λ (one : PresentKey). one.cell == id) state.present) || list_any (λ (one : RetiredCell). one.cell == id) state.retired) ≡ true
@@ -104,33 +106,31 @@ kept_of_created state key value id kept = by_test (length state.cells == id) ref
     by_test true is kept = inr (grind (arith, nat_tests))
     by_test false is kept = inl kept
 
-inserted_finds : (key q : List ℕ) (cell : ℕ) (test : Bool) (present : List PresentKey) (before : Option ℕ) → before ≡ cell_of_present present q →
-    cond test (Some cell) before ≡ option_map (λ (found : PresentKey). found.cell) (cond test (Some (record { key = key; cell = cell })) (find (λ (one : PresentKey). bytes_eq one.key q) present))
-inserted_finds key q cell true present before same = refl
-inserted_finds key q cell false present before same = same
+kept_of_created : (kind : MapKind) (state : SequentialShard) (key value : List ℕ) (id : ℕ) → (kind ≡ Array → ⊥) → IsTrue (is_kept_of_kind kind (with_new_key state key value) id) → IsTrue (is_kept_of_kind kind state id) ⊎ (id ≡ length state.cells)
+kept_of_created Array state key value id keyed kept = absurd (keyed refl)
+kept_of_created Hash state key value id keyed kept = kept_of_new state key value id kept
+kept_of_created LruHash state key value id keyed kept = kept_of_new state key value id kept
 
-pub contents_created : (plan : ShardPlan) (history later : List Entry) (state : SequentialShard) (cells : CellTable) (keys keys_after : KeyTable) (key value : List ℕ) → 0 < cells.free
+balance_of_created : (kind : MapKind) (plan : ShardPlan) (state : SequentialShard) (cells : CellTable) (key value : List ℕ) → (kind ≡ Array → ⊥) → 0 < cells.free → IsBalanced kind plan state cells
+    → IsBalanced kind plan (with_new_key state key value) (with_new_cell cells value)
+balance_of_created Array plan state cells key value keyed free balance = absurd (keyed refl)
+balance_of_created Hash plan state cells key value keyed free balance = (balance.0, omega (arith, free, balance.1))
+balance_of_created LruHash plan state cells key value keyed free balance = (balance.0, omega (arith, free, balance.1))
+
+pub contents_created : (plan : ShardPlan) (entry : Entry) (history : List Entry) (state : SequentialShard) (cells : CellTable) (keys keys_after : KeyTable) (key value : List ℕ) → 0 < cells.free → IsUseOf entry key
+    → cell_of_present state.present key ≡ None → AllByRecursion (λ (one : PresentKey). length state.cells ≡ one.cell → ⊥) state.present
     → IsInserted key (length cells.cells) keys keys_after → IsContents plan history state cells keys
-    → IsContents plan later (with_new_key state key value) (with_new_cell cells value) keys_after
-contents_created plan history later state cells (Indices indices) keys_after key value free inserted contents = absurd inserted.0
-contents_created plan history later state cells (Hashed table) (Indices indices) key value free inserted contents = absurd inserted.0
-contents_created plan history later state cells (Hashed table) (Hashed table_after) key value free inserted contents =
-    let hash : plan.definition.kind ≡ Hash = contents.fits.0 in
-    let balance : IsBalanced Hash plan state cells = subst (λ kind. IsBalanced kind plan state cells) hash contents.balance in
-    let mirrored : Mirrors (is_kept_of_kind Hash state) cells.cells state.cells = subst (λ kind. Mirrors (is_kept_of_kind kind state) cells.cells state.cells) hash contents.mirrored in
+    → IsContents plan (entry ∷ history) (with_new_key state key value) (with_new_cell cells value) keys_after
+contents_created plan entry history state cells keys keys_after key value free used absent other inserted contents =
+    let keyed : plan.definition.kind ≡ Array → ⊥ = keyed_kind keys plan (inserted_keyed keys keys_after key (length cells.cells) inserted) contents.fits in
     record {
       sized = contents.sized;
       counted = length-append cells.cells (Some value ∷ []) ∙ ap (λ n. n + 1) contents.counted ∙ sym (length-append state.cells (value ∷ []));
-      mirrored = subst (λ kind. Mirrors (is_kept_of_kind kind (with_new_key state key value)) (cells.cells ++ Some value ∷ []) (state.cells ++ value ∷ [])) (sym hash)
-          (mirrors_push (is_kept_of_kind Hash state) (is_kept_of_kind Hash (with_new_key state key value)) cells.cells state.cells value contents.counted
-          (kept_of_created state key value) mirrored);
+      mirrored = mirrors_push (is_kept plan state) (is_kept plan (with_new_key state key value)) cells.cells state.cells value contents.counted
+          (λ id. kept_of_created plan.definition.kind state key value id keyed) contents.mirrored;
       retired = contents.retired;
       id_room = contents.id_room;
-      balance = subst (λ kind. IsBalanced kind plan (with_new_key state key value) (with_new_cell cells value)) (sym hash) (balance.0, omega (arith, free, balance.1));
-      fits = (hash, inserted.0.0 ∙ contents.fits.1, inserted.0.1 ∙ contents.fits.2);
-      has = (
-        inserted.1 ∙ ap (λ n. n + 1) contents.has.0 ∙ omega arith,
-        λ q. inserted.2 q ∙ ap (λ cell. cond (bytes_eq key q) (Some cell) (cell_of table q)) contents.counted
-            ∙ inserted_finds key q (length state.cells) (bytes_eq key q) state.present (cell_of table q) (contents.has.1 q),
-      );
+      balance = balance_of_created plan.definition.kind plan state cells key value keyed free contents.balance;
+      fits = fits_inserted keys keys_after plan key (length cells.cells) inserted contents.fits;
+      has = keys_inserted keys keys_after entry history state.present key (length state.cells) used absent other (subst (λ id. IsInserted key id keys keys_after) contents.counted inserted) contents.has;
     }

@@ -3,6 +3,7 @@ mod RoomLemmas
 mod PlaceLemmas
 mod MirrorLemmas
 mod StateLemmas
+mod KeyLemmas
 mod AskedLemmas
 mod ContentLemmas
 mod RetireLemmas

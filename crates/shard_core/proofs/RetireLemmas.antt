@@ -19,13 +19,12 @@ use Rattle.semantics.specs.UseLaws.{ArePairwise}
 use Rattle.semantics.proofs.HoldingLemmas.{each_weaker, IsSound}
 use Rattle.map_cells.specs.declared.retired.Retired.{Retired}
 use Rattle.map_cells.specs.CellTable.{CellTable, retired_at, unused_retired, with_retired, is_below, freed_below, without_cells, IsNotRetired, IsLatestStamp}
-use Rattle.plain_maps.specs.HashTable.{cell_of}
 use Rattle.shard_core.specs.declared.keys.KeyTable.{KeyTable}
-use Rattle.shard_core.specs.declared.keys.KeyTable.TheVariants.{Indices, Hashed}
-use Rattle.shard_core.specs.KeyTables.{cell_in, FitsPlan, HasKeys, IsKeyed, IsRemoved}
+use Rattle.shard_core.specs.KeyTables.{FitsPlan, HasKeys, IsKeyed}
 use Rattle.shard_core.specs.ShardFields.{Mirrors, waiting, IsBalanced, IsContents}
 use Rattle.shard_core.proofs.MirrorLemmas.{mirrors_fewer, mirrors_without, length-without, IsNone}
 use Rattle.shard_core.proofs.StateLemmas.{IsApart, IsGone, key_gone}
+use Rattle.shard_core.proofs.KeyLemmas.{IsNoUse, keyed_kind, keys_on}
 
 -- ---- the retired cells, the oldest first
 
@@ -121,35 +120,35 @@ found_any key gone (one ∷ rest) found = by_test (bytes_eq one.key key) found (
         by_own true there = refl
         by_own false there = there
 
-one_gone : (test : Bool) (count before : ℕ) → count + (if test then 1 else 0) ≡ before → test ≡ true → count + 1 ≡ before
-one_gone true count before same is = same
-one_gone false count before same is = cc
+kept_of_one_less : (kind : MapKind) (state : SequentialShard) (place : ℕ) (gone : PresentKey) (id : ℕ) → (kind ≡ Array → ⊥) → IsTrue (list_any (λ (one : PresentKey). one.cell == gone.cell) state.present) → IsTrue (is_kept_of_kind kind (without_key state place gone) id) → IsTrue (is_kept_of_kind kind state id)
+kept_of_one_less Array state place gone id keyed there kept = absurd (keyed refl)
+kept_of_one_less Hash state place gone id keyed there kept = kept_of_retired state place gone id there kept
+kept_of_one_less LruHash state place gone id keyed there kept = kept_of_retired state place gone id there kept
 
-pub contents_retired : (plan : ShardPlan) (history later : List Entry) (state : SequentialShard) (cells : CellTable) (keys keys_after : KeyTable) (key : List ℕ) (gone : PresentKey) (place : ℕ)
+balance_of_retired : (kind : MapKind) (plan : ShardPlan) (state : SequentialShard) (cells : CellTable) (place : ℕ) (gone : PresentKey) → (kind ≡ Array → ⊥) → length (filter (λ (one : PresentKey). not (one.cell == gone.cell)) state.present) + 1 ≡ length state.present
+    → IsBalanced kind plan state cells → IsBalanced kind plan (without_key state place gone) (with_retired cells gone.cell place)
+balance_of_retired Array plan state cells place gone keyed fewer balance = absurd (keyed refl)
+balance_of_retired Hash plan state cells place gone keyed fewer balance = (balance.0, omega (arith, balance.1, fewer))
+balance_of_retired LruHash plan state cells place gone keyed fewer balance = (balance.0, omega (arith, balance.1, fewer))
+
+pub contents_retired : (plan : ShardPlan) (history : List Entry) (state : SequentialShard) (cells : CellTable) (keys keys_after : KeyTable) (key : List ℕ) (gone : PresentKey) (place : ℕ) → IsKeyed keys
     → find (λ (one : PresentKey). bytes_eq one.key key) state.present ≡ Some gone
     → ArePairwise (λ (one other : PresentKey). one.key ≡ other.key → ⊥) state.present → ArePairwise (λ (one other : PresentKey). one.cell ≡ other.cell → ⊥) state.present
-    → IsRemoved key keys keys_after → IsContents plan history state cells keys
-    → IsContents plan later (without_key state place gone) (with_retired cells gone.cell place) keys_after
-contents_retired plan history later state cells (Indices indices) keys_after key gone place found differ apart removed contents = absurd removed.0
-contents_retired plan history later state cells (Hashed table) (Indices indices) key gone place found differ apart removed contents = absurd removed.0
-contents_retired plan history later state cells (Hashed table) (Hashed table_after) key gone place found differ apart removed contents =
-    let hash : plan.definition.kind ≡ Hash = contents.fits.0 in
-    let balance : IsBalanced Hash plan state cells = subst (λ kind. IsBalanced kind plan state cells) hash contents.balance in
-    let mirrored : Mirrors (is_kept_of_kind Hash state) cells.cells state.cells = subst (λ kind. Mirrors (is_kept_of_kind kind state) cells.cells state.cells) hash contents.mirrored in
+    → IsContents plan history state cells keys → FitsPlan keys_after plan → HasKeys keys_after history (filter (λ (one : PresentKey). not (one.cell == gone.cell)) state.present)
+    → IsContents plan history (without_key state place gone) (with_retired cells gone.cell place) keys_after
+contents_retired plan history state cells keys keys_after key gone place keyed found differ apart contents fits has =
     let left : IsGone key gone state.present = key_gone key gone state.present found differ apart in
-    let there : cell_of table key ≡ Some gone.cell = contents.has.1 key ∙ ap (option_map (λ (one : PresentKey). one.cell)) found in
-    let counted : length table_after.entries + 1 ≡ length table.entries = one_gone (is_some (cell_of table key)) _ _ removed.1 (ap is_some there) in
+    let kind : plan.definition.kind ≡ Array → ⊥ = keyed_kind keys plan keyed contents.fits in
     record {
       sized = contents.sized;
       counted = contents.counted;
-      mirrored = subst (λ kind. Mirrors (is_kept_of_kind kind (without_key state place gone)) cells.cells state.cells) (sym hash)
-          (mirrors_fewer (is_kept_of_kind Hash state) (is_kept_of_kind Hash (without_key state place gone)) cells.cells state.cells
-          (λ id. kept_of_retired state place gone id (found_any key gone state.present found)) mirrored);
+      mirrored = mirrors_fewer (is_kept plan state) (is_kept plan (without_key state place gone)) cells.cells state.cells
+          (λ id. kept_of_one_less plan.definition.kind state place gone id kind (found_any key gone state.present found)) contents.mirrored;
       retired = ap (λ all. all ++ (record { id = gone.cell; stamp = place }) ∷ []) contents.retired ∙ sym (oldest_cons (record { cell = gone.cell; since = place }) state.retired);
       id_room = contents.id_room;
-      balance = subst (λ kind. IsBalanced kind plan (without_key state place gone) (with_retired cells gone.cell place)) (sym hash) (balance.0, omega (arith, balance.1, left.count));
-      fits = (hash, removed.0.0 ∙ contents.fits.1, removed.0.1 ∙ contents.fits.2);
-      has = (omega (arith, counted, contents.has.0, left.count), λ q. removed.2 q ∙ ap (cond (bytes_eq key q) None) (contents.has.1 q) ∙ sym (left.finds q));
+      balance = balance_of_retired plan.definition.kind plan state cells place gone kind left.count contents.balance;
+      fits = fits;
+      has = has;
     }
 
 -- ---- a Reclaim
@@ -293,40 +292,41 @@ balance_of_freed floor history plan state cells same balance =
 no_change : (floor : ℕ) (history : List Entry) (plan : ShardPlan) (state : SequentialShard) (cells : CellTable) → state.retired ≡ [] → cells.retired ≡ [] → without_cells (filter (is_below floor) cells.retired) cells.cells ≡ cells.cells
 no_change floor history plan state cells none same = rw same refl
 
-pub contents_freed : (plan : ShardPlan) (history later : List Entry) (state : SequentialShard) (cells : CellTable) (keys : KeyTable) (floor : ℕ) → IsFloorFor floor history state.retired
+mirrored_freed : (floor : ℕ) (history : List Entry) (state : SequentialShard) (cells : CellTable) → filter (is_below floor) cells.retired ≡ oldest_first (filter (is_reclaimable history) state.retired)
+    → IsSound state → ArePairwise (λ (one other : RetiredCell). one.cell ≡ other.cell → ⊥) state.retired
+    → Mirrors (is_kept_of_kind Hash state) cells.cells state.cells → Mirrors (is_kept_of_kind Hash (after_reclaim history state)) (without_cells (filter (is_below floor) cells.retired) cells.cells) state.cells
+mirrored_freed floor history state cells freed sound pairs mirrored =
+    subst (λ gone. Mirrors (is_kept_of_kind Hash (after_reclaim history state)) (without_cells gone cells.cells) state.cells) (sym freed)
+    (mirrors_without (is_kept_of_kind Hash state) (is_kept_of_kind Hash (after_reclaim history state)) (oldest_first (filter (is_reclaimable history) state.retired)) cells.cells state.cells
+    (λ id. kept_of_freed history state id sound pairs) mirrored)
+
+mirrored_of_freed : (kind : MapKind) (floor : ℕ) (history : List Entry) (plan : ShardPlan) (state : SequentialShard) (cells : CellTable) → filter (is_below floor) cells.retired ≡ oldest_first (filter (is_reclaimable history) state.retired)
+    → IsSound state → ArePairwise (λ (one other : RetiredCell). one.cell ≡ other.cell → ⊥) state.retired → (kind ≡ Array → state.retired ≡ []) → cells.retired ≡ oldest_first state.retired
+    → Mirrors (is_kept_of_kind kind state) cells.cells state.cells → Mirrors (is_kept_of_kind kind (after_reclaim history state)) (without_cells (filter (is_below floor) cells.retired) cells.cells) state.cells
+mirrored_of_freed Array floor history plan state cells freed sound pairs array retired mirrored =
+    let none : state.retired ≡ [] = array refl in
+    subst (λ table. Mirrors (is_kept_of_kind Array state) table state.cells) (sym (no_change floor history plan state cells none (retired ∙ ap oldest_first none))) mirrored
+mirrored_of_freed Hash floor history plan state cells freed sound pairs array retired mirrored = mirrored_freed floor history state cells freed sound pairs mirrored
+mirrored_of_freed LruHash floor history plan state cells freed sound pairs array retired mirrored = mirrored_freed floor history state cells freed sound pairs mirrored
+
+balance_of_kind_freed : (kind : MapKind) (floor : ℕ) (history : List Entry) (plan : ShardPlan) (state : SequentialShard) (cells : CellTable) → length (filter (is_below floor) cells.retired) ≡ length (filter (is_reclaimable history) state.retired)
+    → IsBalanced kind plan state cells → IsBalanced kind plan (after_reclaim history state) (freed_below floor cells)
+balance_of_kind_freed Array floor history plan state cells same balance = tt
+balance_of_kind_freed Hash floor history plan state cells same balance = balance_of_freed floor history plan state cells same balance
+balance_of_kind_freed LruHash floor history plan state cells same balance = balance_of_freed floor history plan state cells same balance
+
+pub contents_freed : (plan : ShardPlan) (entry : Entry) (history : List Entry) (state : SequentialShard) (cells : CellTable) (keys : KeyTable) (floor : ℕ) → IsNoUse entry → IsFloorFor floor history state.retired
     → IsSound state → ArePairwise (λ (one other : RetiredCell). one.cell ≡ other.cell → ⊥) state.retired → (plan.definition.kind ≡ Array → state.retired ≡ [])
-    → IsContents plan history state cells keys → IsContents plan later (after_reclaim history state) (freed_below floor cells) keys
-contents_freed plan history later state cells (Indices indices) floor is sound pairs array contents =
-    let none : state.retired ≡ [] = array contents.fits.0 in
-    let same : cells.retired ≡ [] = contents.retired ∙ ap oldest_first none in
-    let kept : (id : ℕ) → IsTrue (is_kept plan (after_reclaim history state) id) → IsTrue (is_kept plan state id) = λ id. subst (λ kind. IsTrue (is_kept_of_kind kind (after_reclaim history state) id) → IsTrue (is_kept_of_kind kind state id)) (sym contents.fits.0) (λ held. held) in
-    record {
-      sized = contents.sized;
-      counted = ap length (no_change floor history plan state cells none same) ∙ contents.counted;
-      mirrored = subst (λ table. Mirrors (is_kept plan (after_reclaim history state)) table state.cells) (sym (no_change floor history plan state cells none same))
-          (mirrors_fewer (is_kept plan state) (is_kept plan (after_reclaim history state)) cells.cells state.cells kept contents.mirrored);
-      retired = ap (filter (λ one. not (is_below floor one))) contents.retired ∙ left_are floor history state.retired is;
-      id_room = contents.id_room;
-      balance = subst (λ kind. IsBalanced kind plan (after_reclaim history state) (freed_below floor cells)) (sym contents.fits.0) tt;
-      fits = contents.fits;
-      has = contents.has;
-    }
-contents_freed plan history later state cells (Hashed table) floor is sound pairs array contents =
-    let hash : plan.definition.kind ≡ Hash = contents.fits.0 in
-    let balance : IsBalanced Hash plan state cells = subst (λ kind. IsBalanced kind plan state cells) hash contents.balance in
-    let mirrored : Mirrors (is_kept_of_kind Hash state) cells.cells state.cells = subst (λ kind. Mirrors (is_kept_of_kind kind state) cells.cells state.cells) hash contents.mirrored in
+    → IsContents plan history state cells keys → IsContents plan (entry ∷ history) (after_reclaim history state) (freed_below floor cells) keys
+contents_freed plan entry history state cells keys floor none is sound pairs array contents =
     let freed : filter (is_below floor) cells.retired ≡ oldest_first (filter (is_reclaimable history) state.retired) = ap (filter (is_below floor)) contents.retired ∙ freed_are floor history state.retired is in
     record {
       sized = contents.sized;
       counted = length-without (filter (is_below floor) cells.retired) cells.cells ∙ contents.counted;
-      mirrored = subst (λ kind. Mirrors (is_kept_of_kind kind (after_reclaim history state)) (without_cells (filter (is_below floor) cells.retired) cells.cells) state.cells) (sym hash)
-          (subst (λ gone. Mirrors (is_kept_of_kind Hash (after_reclaim history state)) (without_cells gone cells.cells) state.cells) (sym freed)
-          (mirrors_without (is_kept_of_kind Hash state) (is_kept_of_kind Hash (after_reclaim history state)) (oldest_first (filter (is_reclaimable history) state.retired)) cells.cells state.cells
-          (λ id. kept_of_freed history state id sound pairs) mirrored));
+      mirrored = mirrored_of_freed plan.definition.kind floor history plan state cells freed sound pairs array contents.retired contents.mirrored;
       retired = ap (filter (λ one. not (is_below floor one))) contents.retired ∙ left_are floor history state.retired is;
       id_room = contents.id_room;
-      balance = subst (λ kind. IsBalanced kind plan (after_reclaim history state) (freed_below floor cells)) (sym hash)
-          (balance_of_freed floor history plan state cells (ap length freed ∙ oldest_count (filter (is_reclaimable history) state.retired)) balance);
+      balance = balance_of_kind_freed plan.definition.kind floor history plan state cells (ap length freed ∙ oldest_count (filter (is_reclaimable history) state.retired)) contents.balance;
       fits = contents.fits;
-      has = contents.has;
+      has = keys_on keys entry history state.present none contents.has;
     }

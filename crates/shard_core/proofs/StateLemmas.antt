@@ -19,7 +19,7 @@ use Rattle.semantics.proofs.HoldingLemmas.{each_weaker, each_filter, each_find, 
 
 -- ---- lists
 
-each_first : {A : Type 0} (P : A → Type 0) (test : A → Bool) → (xs : List A) → AllByRecursion P xs → AllByRecursion P (filter test xs)
+pub each_first : {A : Type 0} (P : A → Type 0) (test : A → Bool) → (xs : List A) → AllByRecursion P xs → AllByRecursion P (filter test xs)
 each_first P test xs each = each_weaker (λ x. P x × (test x ≡ true)) P (λ x held. held.0) (filter test xs) (each_filter P test xs each)
 
 pairs_filter : {A : Type 0} (R : A → A → Type 0) (test : A → Bool) (xs : List A) → ArePairwise R xs → ArePairwise R (filter test xs)

@@ -30,7 +30,8 @@ use Rattle.shard_core.specs.Sections.{entered_places}
 use Rattle.shard_core.specs.ShardFields.{IsContents, IsShard}
 use Rattle.shard_core.proofs.FlagLemmas.{KeepsSections}
 use Rattle.shard_core.proofs.PlaceLemmas.{entered_kept}
-use Rattle.shard_core.proofs.ContentLemmas.{kept_bytes, contents_written}
+use Rattle.shard_core.proofs.KeyLemmas.{IsNoUse, keys_on}
+use Rattle.shard_core.proofs.ContentLemmas.{kept_bytes, contents_on, contents_written}
 
 newest_first : (journal : List Entry) (entry : Entry) → entry ∷ reverse journal ≡ reverse (journal ++ entry ∷ [])
 newest_first journal entry = sym (reverse-append journal (entry ∷ []))
@@ -61,6 +62,32 @@ step_taken plan journal cells cells_after keys keys_after entered inside who cal
       contents = subst (λ newest. IsContents plan newest (shard_after plan newest) cells_after keys_after) turned step.contents;
     })
 
+-- a step that begins or ends a section: the places of those inside are others
+pub section_taken : (plan : ShardPlan) (journal : Journaled) (cells : CellTable) (keys : KeyTable) (entered entered_after : List (Option ℕ)) (inside inside_after : ℕ)
+    (who : Caller) (call : Call) (reply : Reply) (entry : Entry) → IsShard plan journal cells keys entered inside
+    → IsTrue (meets plan (reverse journal.entries) who call) → IsFalse (journal_is_full plan (reverse journal.entries) call)
+    → reply ≡ reply_of plan (reverse journal.entries) (shard_after plan (reverse journal.entries)) call
+    → ((cells_after : SequentialShard) → cells_after ≡ shard_after_call plan (reverse journal.entries) (shard_after plan (reverse journal.entries)) call → cells_after ≡ shard_after plan (reverse journal.entries))
+    → IsNoUse (record { who = who; call = call; reply = reply })
+    → entered_after ≡ entered_places (record { who = who; call = call; reply = reply } ∷ reverse journal.entries) → inside_after ≡ count_by is_some entered_after
+    → entry ≡ record { who = who; call = call; reply = reply }
+    → IsShard plan (with_entry journal entry) cells keys entered_after inside_after
+section_taken plan journal cells keys entered entered_after inside inside_after who call reply entry shard met has_room replied stays none entered_is inside_is same =
+    let history : List Entry = reverse journal.entries in
+    let made : Entry = record { who = who; call = call; reply = reply } in
+    let turned : made ∷ history ≡ reverse (journal.entries ++ made ∷ []) = newest_first journal.entries made in
+    let legal : IsLegalHistory plan (made ∷ history) = (record { step = record { met = met; replied = replied }; room = has_room }, shard.legal) in
+    let before : IsContents plan (made ∷ history) (shard_after plan history) cells keys = contents_on plan made history (shard_after plan history) cells keys none shard.contents in
+    let contents : IsContents plan (made ∷ history) (shard_after plan (made ∷ history)) cells keys = subst (λ state. IsContents plan (made ∷ history) state cells keys) (sym (stays (shard_after plan (made ∷ history)) refl)) before in
+    rw same (record {
+      plan_is = shard.plan_is;
+      journal_is = record { number = shard.journal_is.number; reserve = shard.journal_is.reserve; key_size = shard.journal_is.key_size; value_size = shard.journal_is.value_size };
+      legal = subst (IsLegalHistory plan) turned legal;
+      entered_is = entered_is ∙ ap entered_places turned;
+      inside_is = inside_is;
+      contents = subst (λ newest. IsContents plan newest (shard_after plan newest) cells keys) turned contents;
+    })
+
 -- ---- kept cells
 
 pub table_keeps : (plan : ShardPlan) (history : List Entry) (state : SequentialShard) (cells : CellTable) (keys : KeyTable) (cell : ℕ) → IsContents plan history state cells keys → IsTrue (is_kept plan state cell) → IsTrue (T.is_kept cells cell)
@@ -72,17 +99,18 @@ kept_number plan history state cells keys cell offset width contents kept =
     ap (λ found. number_of_bytes (take width (drop offset (bytes_of_cell found)))) (kept_bytes plan history state cells keys cell contents kept)
 
 -- a number is written
-pub contents_stored : (plan : ShardPlan) (history later : List Entry) (state : SequentialShard) (cells : CellTable) (keys : KeyTable) (cell offset width value : ℕ) → IsTrue (is_kept plan state cell)
-    → IsContents plan history state cells keys → IsContents plan later (with_number_in_cell state cell offset width value) (with_number cells cell offset width value) keys
-contents_stored plan history later state cells keys cell offset width value kept contents =
+pub contents_stored : (plan : ShardPlan) (entry : Entry) (history : List Entry) (state : SequentialShard) (cells : CellTable) (keys : KeyTable) (cell offset width value : ℕ) → IsNoUse entry → IsTrue (is_kept plan state cell)
+    → IsContents plan history state cells keys → IsContents plan (entry ∷ history) (with_number_in_cell state cell offset width value) (with_number cells cell offset width value) keys
+contents_stored plan entry history state cells keys cell offset width value none kept contents =
     let same : bytes_of_cell (cell_at cells cell) ≡ cell_bytes state cell = ap bytes_of_cell (kept_bytes plan history state cells keys cell contents kept) in
-    rw same (contents_written plan history later state cells keys cell (overwritten_at offset (bytes_of_number width value) (cell_bytes state cell)) kept contents)
+    rw same (contents_written plan history (entry ∷ history) state cells keys keys cell (overwritten_at offset (bytes_of_number width value) (cell_bytes state cell)) kept contents
+    contents.fits (keys_on keys entry history state.present none contents.has))
 
 -- and changed by an atomic operation
-pub contents_changed : (plan : ShardPlan) (history later : List Entry) (state : SequentialShard) (cells : CellTable) (keys : KeyTable) (cell offset width op value expected : ℕ) (operation : AtomicOp) → IsTrue (is_kept plan state cell)
+pub contents_changed : (plan : ShardPlan) (entry : Entry) (history : List Entry) (state : SequentialShard) (cells : CellTable) (keys : KeyTable) (cell offset width op value expected : ℕ) (operation : AtomicOp) → IsNoUse entry → IsTrue (is_kept plan state cell)
     → atomic_op_of op ≡ Some operation → IsContents plan history state cells keys
-    → IsContents plan later (with_number_in_cell state cell offset width (changed_by (atomic_op_of op) width (number_in_cell state cell offset width) value expected))
+    → IsContents plan (entry ∷ history) (with_number_in_cell state cell offset width (changed_by (atomic_op_of op) width (number_in_cell state cell offset width) value expected))
     (with_number cells cell offset width (atomic_result (8 * width) operation (number_at cells cell offset width) value expected)) keys
-contents_changed plan history later state cells keys cell offset width op value expected operation kept known contents =
+contents_changed plan entry history state cells keys cell offset width op value expected operation none kept known contents =
     rw (known, kept_number plan history state cells keys cell offset width contents kept)
-    (contents_stored plan history later state cells keys cell offset width (atomic_result (8 * width) operation (number_in_cell state cell offset width) value expected) kept contents)
+    (contents_stored plan entry history state cells keys cell offset width (atomic_result (8 * width) operation (number_in_cell state cell offset width) value expected) none kept contents)

@@ -1,5 +1,5 @@
 -- Which key of a shard has which cell, by the kind of its map.
-use Rattle.std.specs.Prelude.{◌≡◌, ℕ, ◌+◌, ◌<◌, ◌≤◌, List, [], length, Option, Some, None, cond, is_some, if◌then◌else◌, bytes_eq}
+use Rattle.std.specs.Prelude.{◌≡◌, ℕ, ◌+◌, ◌<◌, ◌≤◌, Bool, nat_le, List, [], length, Option, Some, None, option_map, cond, is_some, if◌then◌else◌, bytes_eq}
 use Rattle.ebpf_decode.specs.declared.map.MapKind.{MapKind}
 use Rattle.ebpf_decode.specs.declared.map.MapKind.TheVariants.{Array, Hash, LruHash}
 use Rattle.semantics.specs.declared.call.Entry.{Entry}
@@ -9,24 +9,29 @@ use Rattle.semantics.specs.declared.plan.ShardPlan.{ShardPlan}
 use Rattle.semantics.specs.ShardPlan.{capacity}
 use Rattle.semantics.specs.SequentialShard.{cell_of_present}
 use Rattle.plain_maps.specs.ArrayTable.{cell_of_index}
-use Rattle.plain_maps.specs.HashTable.{cell_of}
+use Rattle.plain_maps.specs.HashTable.{HashTable, cell_of}
+use Rattle.lru_maps.specs.LruTable.{LruTable, cell_of_key, touched, with_new_key, without_key, victim, without_victim}
+use Rattle.lru_maps.specs.ByUse.{IsByUse}
 use Rattle.shard_core.specs.declared.keys.KeyTable.{KeyTable}
-use Rattle.shard_core.specs.declared.keys.KeyTable.TheVariants.{Indices, Hashed}
+use Rattle.shard_core.specs.declared.keys.KeyTable.TheVariants.{Indices, Hashed, Recent}
 
 -- the cell of a key
 abbrev pub cell_in : KeyTable → List ℕ → Option ℕ
 cell_in (Indices indices) key = cell_of_index indices.max_entries indices.parts (number_of_bytes key)
 cell_in (Hashed keys) key = cell_of keys key
+cell_in (Recent keys) key = cell_of_key keys key
 
 -- how many keys are there; of an array none is counted
 abbrev pub count_in : KeyTable → ℕ
 count_in (Indices indices) = 0
 count_in (Hashed keys) = length keys.entries
+count_in (Recent keys) = length keys.entries
 
 -- how many bytes a key has that may be asked for
 abbrev pub IsAskedSize : KeyTable → ℕ → Type 0
 IsAskedSize (Indices indices) size = size ≤ 8
 IsAskedSize (Hashed keys) size = size ≡ keys.size
+IsAskedSize (Recent keys) size = size ≡ keys.size
 
 -- the table is one for the shard's plan
 abbrev pub FitsPlan : KeyTable → ShardPlan → Type 0
@@ -34,43 +39,80 @@ FitsPlan (Indices indices) plan =
     (plan.definition.kind ≡ Array) × (indices.max_entries ≡ plan.definition.max_entries) × (indices.parts ≡ plan.parts)
 FitsPlan (Hashed keys) plan =
     (plan.definition.kind ≡ Hash) × (keys.size ≡ plan.definition.key_size) × (keys.capacity ≡ capacity plan)
+FitsPlan (Recent keys) plan =
+    (plan.definition.kind ≡ LruHash) × (keys.size ≡ plan.definition.key_size) × (keys.capacity ≡ capacity plan)
 
--- its keys are those that are present after this history, each with its cell; an array's indices are always there
+-- its keys are those that are present after this history, each with its cell; an array's indices are always there, and those of an LRU map
+-- stand in the order of their last uses
 abbrev pub HasKeys : KeyTable → List Entry → List PresentKey → Type 0
 HasKeys (Indices indices) history present = present ≡ []
 HasKeys (Hashed keys) history present =
     (length keys.entries ≡ length present) × ((key : List ℕ) → cell_of keys key ≡ cell_of_present present key)
 
--- ---- changes
-
-abbrev pub IsServedKind : MapKind → Type 0
-IsServedKind Array = Unit {0}
-IsServedKind Hash = Unit {0}
-IsServedKind LruHash = ⊥
+HasKeys (Recent keys) history present = IsByUse history present keys.entries
 
 -- keys come and go
 abbrev pub IsKeyed : KeyTable → Type 0
 IsKeyed (Indices indices) = ⊥
 IsKeyed (Hashed keys) = Unit {0}
+IsKeyed (Recent keys) = Unit {0}
 
--- there may be one more key
+-- there may be one more key now
 abbrev pub HasRoom : KeyTable → Type 0
 HasRoom (Indices indices) = ⊥
 HasRoom (Hashed keys) = length keys.entries < keys.capacity
+HasRoom (Recent keys) = length keys.entries < keys.capacity
 
--- the same table but for its keys
-abbrev pub HasShape : KeyTable → KeyTable → Type 0
-HasShape (Hashed old) (Hashed new) = (new.size ≡ old.size) × (new.capacity ≡ old.capacity)
-HasShape old new = ⊥
+-- or once the key is gone that was used longest ago
+abbrev pub MayGrow : KeyTable → Type 0
+MayGrow (Indices indices) = ⊥
+MayGrow (Hashed keys) = length keys.entries < keys.capacity
+MayGrow (Recent keys) = Unit {0}
 
--- a new key got this cell
+-- ---- changes
+
+-- a key was used: of an LRU map it stands first, if it is there
+abbrev pub touched_in : List ℕ → KeyTable → KeyTable
+touched_in key (Indices indices) = Indices indices
+touched_in key (Hashed keys) = Hashed keys
+touched_in key (Recent keys) = Recent (touched key keys)
+
+abbrev pub is_full_of : LruTable → Bool
+is_full_of keys = nat_le keys.capacity (length keys.entries)
+
+-- the cell of the key that a full LRU map gives up for a new one
+abbrev pub victim_cell : KeyTable → Option ℕ
+victim_cell (Indices indices) = None
+victim_cell (Hashed keys) = None
+victim_cell (Recent keys) = if is_full_of keys then option_map (λ entry. entry.1) (victim keys) else None
+
+-- the keys without it
+abbrev pub without_victim_in : KeyTable → KeyTable
+without_victim_in (Indices indices) = Indices indices
+without_victim_in (Hashed keys) = Hashed keys
+without_victim_in (Recent keys) = Recent (if is_full_of keys then without_victim keys else keys)
+
+-- a new key got this cell; of an LRU map it stands first
+abbrev pub IsInsertedInto : List ℕ → ℕ → HashTable → KeyTable → Type 0
+IsInsertedInto key id old (Hashed new) =
+    (new.size ≡ old.size) × (new.capacity ≡ old.capacity) × (length new.entries ≡ length old.entries + 1)
+    × ((q : List ℕ) → cell_of new q ≡ cond (bytes_eq key q) (Some id) (cell_of old q))
+IsInsertedInto key id old new = ⊥
+
 abbrev pub IsInserted : List ℕ → ℕ → KeyTable → KeyTable → Type 0
-IsInserted key id old new =
-    HasShape old new × (count_in new ≡ count_in old + 1)
-    × ((q : List ℕ) → cell_in new q ≡ cond (bytes_eq key q) (Some id) (cell_in old q))
+IsInserted key id (Indices old) new = ⊥
+IsInserted key id (Hashed old) new = IsInsertedInto key id old new
+IsInserted key id (Recent old) new = new ≡ Recent (with_new_key key id old)
 
 -- a key is there no more
+abbrev pub IsRemovedFrom : List ℕ → HashTable → KeyTable → Type 0
+IsRemovedFrom key old (Hashed new) =
+    (new.size ≡ old.size) × (new.capacity ≡ old.capacity)
+    × (length new.entries + (if is_some (cell_of old key) then 1 else 0) ≡ length old.entries)
+    × ((q : List ℕ) → cell_of new q ≡ cond (bytes_eq key q) None (cell_of old q))
+IsRemovedFrom key old new = ⊥
+
 abbrev pub IsRemoved : List ℕ → KeyTable → KeyTable → Type 0
-IsRemoved key old new =
-    HasShape old new × (count_in new + (if is_some (cell_in old key) then 1 else 0) ≡ count_in old)
-    × ((q : List ℕ) → cell_in new q ≡ cond (bytes_eq key q) None (cell_in old q))
+IsRemoved key (Indices old) new = ⊥
+IsRemoved key (Hashed old) new = IsRemovedFrom key old new
+IsRemoved key (Recent old) new = new ≡ Recent (without_key key old)

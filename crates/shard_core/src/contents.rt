@@ -1,10 +1,10 @@
 //! Cells and keys of a shard, which change together.
 
-ghost use Rattle.std.specs.Prelude.{◌≡◌, ◌≢◌, pos, ◌+◌, ◌≤◌, ◌<◌, ℕ, IsTrue, IfOk, Some, None, length};
+ghost use Rattle.std.specs.Prelude.{◌≡◌, ◌≢◌, pos, ◌+◌, ◌≤◌, ◌<◌, ℕ, IsTrue, IfOk, Some, None, List, length};
 ghost use Rattle.semantics.specs.PlanLimits.{IsPlan};
 ghost use Rattle.map_cells.specs.CellTable.{is_kept, with_retired};
-ghost use Rattle.shard_core.specs.KeyTables.{cell_in, IsAskedSize, IsKeyed, IsRemoved};
-ghost use Rattle.shard_core.specs.Contents.{opened_table, filled_table, CanCreate, CanRetire, IsPut};
+ghost use Rattle.shard_core.specs.KeyTables.{cell_in, victim_cell, without_victim_in, IsAskedSize, IsKeyed, HasRoom, MayGrow, IsRemoved};
+ghost use Rattle.shard_core.specs.Contents.{opened_table, filled_table, with_evicted, CanCreate, CanRetire, IsPut};
 
 use crate::keys::KeyTable;
 use ebpf_decode::MapKind;
@@ -42,24 +42,51 @@ fn array_cells(alloc: Global, count: u32, reserve: u32, value: &[u8]) -> Result<
     Ok(cells)
 }
 
-/// Writes the value of a key where its Update is answered 0: into the cell that the key has, or into a new one.
-pub(crate) fn put_value(code: i32, cells: &mut Cells, keys: &mut KeyTable, key: &[u8], value: &[u8])
+/// Writes the value of a key where its Update is answered 0: into the cell that the key has, or into a new one. In a full LRU shard another
+/// key goes first, whose cell waits for its readers from this place of the journal on.
+pub(crate) fn put_value(
+    code: i32,
+    cells: &mut Cells,
+    keys: &mut KeyTable,
+    key: &[u8],
+    value: &[u8],
+    place: u64,
+)
     requires size { IsAskedSize keys.old (length key.now) }
     requires value { length value.now ≡ cells.old.value_size }
     requires kept { (cell : ℕ) → cell_in keys.old key.now ≡ Some cell → IsTrue (is_kept cells.old cell) }
-    requires room { code ≡ pos 0 → cell_in keys.old key.now ≡ None → CanCreate cells.old keys.old }
-    ensures done { code ≡ pos 0 → IsPut (cell_in keys.old key.now) key.now value.now cells.old keys.old cells.new keys.new }
+    requires room { code ≡ pos 0 → cell_in keys.old key.now ≡ None → CanCreate cells.old keys.old place }
+    ensures done { code ≡ pos 0 → IsPut (cell_in keys.old key.now) key.now value.now place cells.old keys.old cells.new keys.new }
     ensures refused { code ≢ pos 0 → (cells.new ≡ cells.old) × (keys.new ≡ keys.old) }
 {
     if code != 0 {
         return;
     }
-    match keys.find(key) {
+    match keys.touch(key) {
         Some(cell) => cells.write(cell, value),
         None => {
+            make_room(cells, keys, place);
             let id = cells.take(value);
             keys.insert(key, id);
         }
+    }
+}
+
+/// Makes room for one more key: in a full LRU shard the key goes that was used longest ago, and its cell waits for its readers from this
+/// place of the journal on.
+fn make_room(cells: &mut Cells, keys: &mut KeyTable, place: u64)
+    requires room { MayGrow keys.old }
+    requires victim { (cell : ℕ) → victim_cell keys.old ≡ Some cell → CanRetire cells.old cell place }
+    ensures cells { cells.new ≡ with_evicted (victim_cell keys.old) place cells.old }
+    ensures keys { keys.new ≡ without_victim_in keys.old }
+    ensures shape { (cells.new.value_size ≡ cells.old.value_size) × (cells.new.free ≡ cells.old.free) × (cells.new.ids ≡ cells.old.ids) }
+    ensures count { length cells.new.cells ≡ length cells.old.cells }
+    ensures room { HasRoom keys.new }
+    ensures size { (size : ℕ) → IsAskedSize keys.old size → IsAskedSize keys.new size }
+    ensures absent { (q : List ℕ) → cell_in keys.old q ≡ None → cell_in keys.new q ≡ None }
+{
+    if let Some(cell) = keys.evict_if_full() {
+        cells.retire(cell, place);
     }
 }
 

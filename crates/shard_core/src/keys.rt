@@ -1,13 +1,15 @@
 //! Which key of a shard has which cell.
 
-ghost use Rattle.std.specs.Prelude.{◌≡◌, ◌<◌, ◌≤◌, ℕ, List, [], ◌∷◌, length, IfOk, None};
+ghost use Rattle.std.specs.Prelude.{◌≡◌, ◌<◌, ◌≤◌, ℕ, List, [], ◌∷◌, length, IfOk, None, option_map, if◌then◌else◌};
 ghost use Rattle.semantics.specs.declared.call.Entry.{Entry};
 ghost use Rattle.semantics.specs.declared.plan.ShardPlan.{ShardPlan};
 ghost use Rattle.semantics.specs.declared.plan.PresentKey.{PresentKey};
 ghost use Rattle.semantics.specs.PlanLimits.{IsPlan};
-ghost use Rattle.shard_core.specs.KeyTables.{cell_in, count_in, IsAskedSize, IsServedKind, IsInserted, IsRemoved, FitsPlan, HasKeys, IsKeyed, HasRoom};
+ghost use Rattle.shard_core.specs.KeyTables.{cell_in, count_in, IsAskedSize, touched_in, victim_cell, without_victim_in, IsInserted, IsRemoved, FitsPlan, HasKeys, IsKeyed, HasRoom, MayGrow, is_full_of};
+ghost use Rattle.lru_maps.specs.LruTable.{cell_of_key, victim, without_victim};
 
 use ebpf_decode::MapKind;
+use lru_maps::LruShard;
 use plain_maps::{ArrayShard, HashShard};
 use semantics::ShardPlan;
 use std::alloc::{AllocError, Global};
@@ -19,13 +21,14 @@ pub enum KeyTable {
     Indices { indices: ArrayShard },
     /// Of a hash map.
     Hashed { keys: HashShard },
+    /// Of an LRU map: by their last uses.
+    Recent { keys: LruShard },
 }
 
 impl KeyTable {
     /// The keys of a shard in which nothing has happened. Fails only for lack of memory; no other call takes any.
     pub(crate) fn open(alloc: Global, plan: &ShardPlan) -> Result<Self, AllocError>
         requires plan { IsPlan plan.now }
-        requires kind { IsServedKind plan.now.definition.kind }
         ensures fits { IfOk result (λ keys. FitsPlan keys plan.now) }
         ensures none { IfOk result (λ keys. HasKeys keys [] []) }
     {
@@ -41,11 +44,17 @@ impl KeyTable {
                     definition.max_entries / plan.parts,
                 )?,
             }),
-            MapKind::LruHash => unreachable!(),
+            MapKind::LruHash => Ok(KeyTable::Recent {
+                keys: recent(
+                    alloc,
+                    definition.key_size,
+                    definition.max_entries / plan.parts,
+                )?,
+            }),
         }
     }
 
-    /// The cell of a key.
+    /// The cell of a key. This is no use of the key.
     pub(crate) fn find(&self, key: &[u8]) -> Option<u64>
         requires { IsAskedSize self.now (length key.now) }
         ensures { result ≡ cell_in self.now key.now }
@@ -53,6 +62,21 @@ impl KeyTable {
         match self {
             KeyTable::Indices { indices } => indices.find(key),
             KeyTable::Hashed { keys } => keys.find(key),
+            KeyTable::Recent { keys } => keys.find(key),
+        }
+    }
+
+    /// The cell of a key, which is used. Where the key is absent nothing is changed.
+    pub(crate) fn touch(&mut self, key: &[u8]) -> Option<u64>
+        requires { IsAskedSize self.old (length key.now) }
+        ensures cell { result ≡ cell_in self.old key.now }
+        ensures table { self.new ≡ touched_in key.now self.old }
+        ensures unchanged { result ≡ None → self.new ≡ self.old }
+    {
+        match self {
+            KeyTable::Indices { indices } => indices.find(key),
+            KeyTable::Hashed { keys } => keys.find(key),
+            KeyTable::Recent { keys } => keys.touch(key),
         }
     }
 
@@ -63,6 +87,23 @@ impl KeyTable {
         match self {
             KeyTable::Indices { .. } => 0,
             KeyTable::Hashed { keys } => keys.len(),
+            KeyTable::Recent { keys } => keys.len(),
+        }
+    }
+
+    /// Takes the key out of a full LRU table that was used longest ago, and gives the cell that it had. No other table gives up a key.
+    pub(crate) fn evict_if_full(&mut self) -> Option<u64>
+        requires { MayGrow self.old }
+        ensures cell { result ≡ victim_cell self.old }
+        ensures table { self.new ≡ without_victim_in self.old }
+        ensures room { HasRoom self.new }
+        ensures size { (size : ℕ) → IsAskedSize self.old size → IsAskedSize self.new size }
+        ensures absent { (q : List ℕ) → cell_in self.old q ≡ None → cell_in self.new q ≡ None }
+    {
+        match self {
+            KeyTable::Indices { .. } => None,
+            KeyTable::Hashed { .. } => None,
+            KeyTable::Recent { keys } => evict_if_full(keys),
         }
     }
 
@@ -76,6 +117,7 @@ impl KeyTable {
         match self {
             KeyTable::Indices { .. } => unreachable!(),
             KeyTable::Hashed { keys } => keys.insert(key, id),
+            KeyTable::Recent { keys } => keys.insert(key, id),
         }
     }
 
@@ -89,6 +131,7 @@ impl KeyTable {
         match self {
             KeyTable::Indices { .. } => unreachable!(),
             KeyTable::Hashed { keys } => keys.remove(key),
+            KeyTable::Recent { keys } => keys.remove(key),
         }
     }
 }
@@ -100,4 +143,28 @@ fn hashed(alloc: Global, size: u32, capacity: u32) -> Result<HashShard, AllocErr
     ensures { IfOk result (λ keys. keys ≡ record { size = size; capacity = capacity; entries = [] }) }
 {
     HashShard::new(alloc, size as usize, capacity)
+}
+
+/// The keys of an LRU map's shard, none as yet.
+fn recent(alloc: Global, size: u32, capacity: u32) -> Result<LruShard, AllocError>
+    requires size { size ≤ 32 }
+    requires some { 0 < capacity }
+    requires capacity { capacity ≤ 131072 }
+    ensures { IfOk result (λ keys. keys ≡ record { size = size; capacity = capacity; entries = [] }) }
+{
+    LruShard::new(alloc, size as usize, capacity)
+}
+
+/// Takes the key out of a full table that was used longest ago.
+fn evict_if_full(keys: &mut LruShard) -> Option<u64>
+    ensures cell { result ≡ (if is_full_of keys.old then option_map (λ entry. entry.1) (victim keys.old) else None) }
+    ensures table { keys.new ≡ (if is_full_of keys.old then without_victim keys.old else keys.old) }
+    ensures room { length keys.new.entries < keys.new.capacity }
+    ensures absent { (q : List ℕ) → cell_of_key keys.old q ≡ None → cell_of_key keys.new q ≡ None }
+{
+    if keys.len() < keys.capacity() {
+        None
+    } else {
+        Some(keys.evict())
+    }
 }

@@ -6,7 +6,6 @@ ghost use Rattle.semantics.specs.Reclamation.{is_inside, holds, inside_count};
 ghost use Rattle.semantics.specs.PlanLimits.{IsPlan};
 ghost use Rattle.semantics.specs.SequentialShard.{update_answer, delete_answer, number_in_cell, lookup_reply};
 ghost use Rattle.semantics.specs.History.{journal_is_full, IsLegalJournal};
-ghost use Rattle.shard_core.specs.KeyTables.{IsServedKind};
 ghost use Rattle.shard_core.specs.JournaledShard.{opened_shard, state_of, sequential_reply};
 ghost use Rattle.shard_core.specs.Calls.{MayCall, IsFullFor, after_call, enter_call, leave_call, lookup_call, load_call, store_call, atomic_call, update_call, delete_call, reclaim_call};
 
@@ -48,8 +47,7 @@ impl Model for Shard {
 impl Shard {
     /// A shard in which nothing has happened. Takes all memory that it will ever need, and fails only without memory.
     pub fn open(alloc: Global, plan: ShardPlan) -> Result<Self, AllocError>
-        requires plan { IsPlan plan }
-        requires kind { IsServedKind plan.definition.kind }
+        requires { IsPlan plan }
         ensures { IfOk result (λ shard. shard ≡ opened_shard plan) }
     {
         let definition = &plan.definition;
@@ -171,7 +169,7 @@ impl Shard {
         if self.lacks_room(0) {
             return Err(self.full());
         }
-        let found = self.keys.find(key);
+        let found = self.keys.touch(key);
         self.journal.append_lookup(who, key, found);
         Ok(found)
     }
@@ -288,7 +286,8 @@ impl Shard {
             return Err(self.full());
         }
         let code = self.update_answer(key, flags);
-        put_value(code, &mut self.cells, &mut self.keys, key, value);
+        let place = self.journal.len() as u64;
+        put_value(code, &mut self.cells, &mut self.keys, key, value, place);
         self.journal.append_update(who, key, value, flags, code);
         Ok(code)
     }

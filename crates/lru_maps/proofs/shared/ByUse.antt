@@ -466,7 +466,7 @@ module _ (history : List Entry) (present : List PresentKey) (gone : PresentKey) 
       past false differ later is = is
 
 module _ (history : List Entry) (present : List PresentKey) (entries : List (List ℕ × ℕ)) (before : IsByUse history present entries) (key : List ℕ) (id : ℕ) (last : last_of entries ≡ Some (key, id)) where
-  victim_found : find (λ (one : PresentKey). bytes_eq one.key key) present ≡ Some (record { key = key; cell = id })
+  pub victim_found : find (λ (one : PresentKey). bytes_eq one.key key) present ≡ Some (record { key = key; cell = id })
   victim_found = go (find (λ (one : PresentKey). bytes_eq one.key key) present) refl (before.cells key ∙ last_found history key id entries before.falling last)
     where
       go : (o : Option PresentKey) → find (λ (one : PresentKey). bytes_eq one.key key) present ≡ o → option_map (λ (found : PresentKey). found.cell) o ≡ Some id → o ≡ Some (record { key = key; cell = id })

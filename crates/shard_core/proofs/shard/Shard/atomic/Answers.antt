@@ -86,7 +86,7 @@ invariant_of-self c =
       met = met;
       has_room = has_room;
       replied = ap Word (c.atomic-old.ensures.old ∙ number);
-      contents = contents_changed inside.plan (reverse inside.journal.entries) _ (shard_after inside.plan (reverse inside.journal.entries)) inside.cells inside.keys range.cell range.offset range.width change.op change.value change.expected c.in-Some.op asked.range.kept (sym c.in-Some.ensures) c.self.invariant.contents;
+      contents = contents_changed inside.plan _ (reverse inside.journal.entries) (shard_after inside.plan (reverse inside.journal.entries)) inside.cells inside.keys range.cell range.offset range.width change.op change.value change.expected c.in-Some.op (λ q. refl) asked.range.kept (sym c.in-Some.ensures) c.self.invariant.contents;
       keeps = λ _ _. refl;
     }) (ap (λ shard. atomic_entry shard c.args.who range change c.atomic-old.result) c.self.invariant.journal_is.number))
 
@@ -119,6 +119,6 @@ returns-clause-legal c =
       met = met;
       has_room = has_room;
       replied = ap Word (c.atomic-old.ensures.old ∙ number);
-      contents = contents_changed inside.plan (reverse inside.journal.entries) _ (shard_after inside.plan (reverse inside.journal.entries)) inside.cells inside.keys range.cell range.offset range.width change.op change.value change.expected c.in-Some.op asked.range.kept (sym c.in-Some.ensures) c.self.invariant.contents;
+      contents = contents_changed inside.plan _ (reverse inside.journal.entries) (shard_after inside.plan (reverse inside.journal.entries)) inside.cells inside.keys range.cell range.offset range.width change.op change.value change.expected c.in-Some.op (λ q. refl) asked.range.kept (sym c.in-Some.ensures) c.self.invariant.contents;
       keeps = λ _ _. refl;
     }) (ap (λ shard. atomic_entry shard c.args.who range change c.atomic-old.result) c.self.invariant.journal_is.number)).legal)

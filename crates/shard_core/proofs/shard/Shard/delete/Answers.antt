@@ -45,7 +45,7 @@ invariant_of-self c =
       met = met;
       has_room = has_room;
       replied = ap Answer (rw (← c.self.view_is) at c.delete_answer-code.ensures);
-      contents = contents_deleted inside.plan (reverse inside.journal.entries) _ inside.cells c.retire_key.new.cells inside.keys c.retire_key.new.keys inside.plan.number c.args.key.now c.len-place.result c.delete_answer-code.result
-          c.self.invariant.legal c.self.invariant.contents here (rw (← c.self.view_is) at c.delete_answer-code.ensures) (rw same at c.retire_key.ensures.cells) (rw same at c.retire_key.ensures.keys) (rw same at c.retire_key.ensures.refused);
+      contents = contents_deleted inside.plan _ (reverse inside.journal.entries) inside.cells c.retire_key.new.cells inside.keys c.retire_key.new.keys inside.plan.number c.args.key.now c.len-place.result c.delete_answer-code.result
+          (λ q. refl) c.self.invariant.legal c.self.invariant.contents here (rw (← c.self.view_is) at c.delete_answer-code.ensures) (rw same at c.retire_key.ensures.cells) (rw same at c.retire_key.ensures.keys) (rw same at c.retire_key.ensures.refused);
       keeps = λ _ _. refl;
     }) (ap (λ shard. delete_entry shard c.args.who c.args.key.now c.delete_answer-code.result) c.self.invariant.journal_is.number))

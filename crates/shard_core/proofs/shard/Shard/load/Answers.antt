@@ -8,7 +8,7 @@ use Rattle.map_cells.specs.CellTable.{number_at}
 use Rattle.journal.specs.Entries.{load_entry}
 use Rattle.shard_core.specs.Calls.{IsRangeOf}
 use Rattle.shard_core.proofs.AskedLemmas.{load_asked}
-use Rattle.shard_core.proofs.ContentLemmas.{contents_later}
+use Rattle.shard_core.proofs.ContentLemmas.{contents_on}
 use Rattle.shard_core.proofs.StepLemmas.{step_taken, table_keeps, kept_number}
 use Rattle.shard_core.proofs.shard.Shard.load.Goals as goal
 
@@ -36,7 +36,7 @@ invariant_of-self c =
       met = met;
       has_room = has_room;
       replied = ap Word (c.load-value.ensures.number ∙ number);
-      contents = contents_later inside.plan (reverse inside.journal.entries) _ (shard_after inside.plan (reverse inside.journal.entries)) inside.cells inside.keys c.self.invariant.contents;
+      contents = contents_on inside.plan _ (reverse inside.journal.entries) (shard_after inside.plan (reverse inside.journal.entries)) inside.cells inside.keys (λ q. refl) c.self.invariant.contents;
       keeps = λ _ _. refl;
     }) (ap (λ shard. load_entry shard c.args.who c.args.range.now c.load-value.result) c.self.invariant.journal_is.number))
 
@@ -65,6 +65,6 @@ returns-clause-legal c =
       met = met;
       has_room = has_room;
       replied = ap Word (c.load-value.ensures.number ∙ number);
-      contents = contents_later inside.plan (reverse inside.journal.entries) _ (shard_after inside.plan (reverse inside.journal.entries)) inside.cells inside.keys c.self.invariant.contents;
+      contents = contents_on inside.plan _ (reverse inside.journal.entries) (shard_after inside.plan (reverse inside.journal.entries)) inside.cells inside.keys (λ q. refl) c.self.invariant.contents;
       keeps = λ _ _. refl;
     }) (ap (λ shard. load_entry shard c.args.who c.args.range.now c.load-value.result) c.self.invariant.journal_is.number)).legal)

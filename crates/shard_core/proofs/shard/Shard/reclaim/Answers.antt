@@ -26,7 +26,7 @@ invariant_of-self c =
       met = met;
       has_room = has_room;
       replied = ap Freed (c.free-count.ensures.count ∙ freed_count inside.plan (reverse inside.journal.entries) inside.cells inside.keys c.floor-floor.result c.self.invariant.contents floor);
-      contents = contents_reclaimed inside.plan (reverse inside.journal.entries) _ inside.cells inside.keys inside.plan.number c.floor-floor.result c.self.invariant.contents floor;
+      contents = contents_reclaimed inside.plan _ (reverse inside.journal.entries) inside.cells inside.keys inside.plan.number c.floor-floor.result (λ q. refl) c.self.invariant.contents floor;
       keeps = λ _ _. refl;
     }) (ap (λ shard. reclaim_entry shard c.args.who c.free-count.result) c.self.invariant.journal_is.number))
 
@@ -53,6 +53,6 @@ returns-clause-legal c =
       met = met;
       has_room = has_room;
       replied = ap Freed (c.free-count.ensures.count ∙ freed_count inside.plan (reverse inside.journal.entries) inside.cells inside.keys c.floor-floor.result c.self.invariant.contents floor);
-      contents = contents_reclaimed inside.plan (reverse inside.journal.entries) _ inside.cells inside.keys inside.plan.number c.floor-floor.result c.self.invariant.contents floor;
+      contents = contents_reclaimed inside.plan _ (reverse inside.journal.entries) inside.cells inside.keys inside.plan.number c.floor-floor.result (λ q. refl) c.self.invariant.contents floor;
       keeps = λ _ _. refl;
     }) (ap (λ shard. reclaim_entry shard c.args.who c.free-count.result) c.self.invariant.journal_is.number)).legal)

@@ -35,6 +35,6 @@ invariant_of-self c =
       met = met;
       has_room = has_room;
       replied = refl;
-      contents = contents_stored inside.plan (reverse inside.journal.entries) _ (shard_after inside.plan (reverse inside.journal.entries)) inside.cells inside.keys c.args.range.now.cell c.args.range.now.offset c.args.range.now.width c.args.value asked.kept c.self.invariant.contents;
+      contents = contents_stored inside.plan _ (reverse inside.journal.entries) (shard_after inside.plan (reverse inside.journal.entries)) inside.cells inside.keys c.args.range.now.cell c.args.range.now.offset c.args.range.now.width c.args.value (λ q. refl) asked.kept c.self.invariant.contents;
       keeps = λ _ _. refl;
     }) (ap (λ shard. store_entry shard c.args.who c.args.range.now c.args.value) c.self.invariant.journal_is.number))
