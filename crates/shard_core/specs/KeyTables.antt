@@ -48,7 +48,6 @@ abbrev pub HasKeys : KeyTable → List Entry → List PresentKey → Type 0
 HasKeys (Indices indices) history present = present ≡ []
 HasKeys (Hashed keys) history present =
     (length keys.entries ≡ length present) × ((key : List ℕ) → cell_of keys key ≡ cell_of_present present key)
-
 HasKeys (Recent keys) history present = IsByUse history present keys.entries
 
 -- keys come and go

@@ -59,9 +59,20 @@ pub(crate) fn put_value(
     ensures done { code ≡ pos 0 → IsPut (cell_in keys.old key.now) key.now value.now place cells.old keys.old cells.new keys.new }
     ensures refused { code ≢ pos 0 → (cells.new ≡ cells.old) × (keys.new ≡ keys.old) }
 {
-    if code != 0 {
-        return;
+    if code == 0 {
+        write_value(cells, keys, key, value, place);
     }
+}
+
+/// Writes the value of a key into the cell that the key has, or into a new one. In a full LRU shard another key goes first, whose cell waits
+/// for its readers from this place of the journal on.
+fn write_value(cells: &mut Cells, keys: &mut KeyTable, key: &[u8], value: &[u8], place: u64)
+    requires size { IsAskedSize keys.old (length key.now) }
+    requires value { length value.now ≡ cells.old.value_size }
+    requires kept { (cell : ℕ) → cell_in keys.old key.now ≡ Some cell → IsTrue (is_kept cells.old cell) }
+    requires room { cell_in keys.old key.now ≡ None → CanCreate cells.old keys.old place }
+    ensures { IsPut (cell_in keys.old key.now) key.now value.now place cells.old keys.old cells.new keys.new }
+{
     match keys.touch(key) {
         Some(cell) => cells.write(cell, value),
         None => {

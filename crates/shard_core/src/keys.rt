@@ -73,10 +73,10 @@ impl KeyTable {
         ensures table { self.new ≡ touched_in key.now self.old }
         ensures unchanged { result ≡ None → self.new ≡ self.old }
     {
-        match self {
-            KeyTable::Indices { indices } => indices.find(key),
-            KeyTable::Hashed { keys } => keys.find(key),
-            KeyTable::Recent { keys } => keys.touch(key),
+        if let KeyTable::Recent { keys } = self {
+            keys.touch(key)
+        } else {
+            self.find(key)
         }
     }
 

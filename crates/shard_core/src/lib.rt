@@ -9,6 +9,7 @@ mod contents;
 pub mod keys;
 pub mod laws;
 mod places;
+mod ranges;
 pub mod shard;
 
 pub use journal::{AtomicChange, CellRange, Journal};

@@ -13,6 +13,7 @@ use crate::answers::{Counts, delete_answer, update_answer};
 use crate::contents::{open_cells, put_value, retire_key};
 use crate::keys::KeyTable;
 use crate::places::{Places, count, floor, set};
+use crate::ranges::{change_number, number_in, put_number};
 use isa::AtomicOp;
 use journal::{AtomicChange, CellRange, Journal};
 use map_cells::Cells;
@@ -187,9 +188,7 @@ impl Shard {
         if self.lacks_room(0) {
             return Err(self.full());
         }
-        let value = self
-            .cells
-            .load(range.cell, range.offset as usize, range.width as usize);
+        let value = number_in(&self.cells, range);
         self.journal.append_load(who, range, value);
         Ok(value)
     }
@@ -206,9 +205,7 @@ impl Shard {
         if self.lacks_room(0) {
             return Err(self.full());
         }
-        let offset = range.offset as usize;
-        self.cells
-            .store(range.cell, offset, range.width as usize, value);
+        put_number(&mut self.cells, range, value);
         self.journal.append_store(who, range, value);
         Ok(())
     }
@@ -235,9 +232,7 @@ impl Shard {
         let Some(op) = AtomicOp::of(change.op) else {
             unreachable!()
         };
-        let offset = range.offset as usize;
-        let width = range.width as usize;
-        let old = self.cells.atomic(range.cell, offset, width, op, change.value, change.expected);
+        let old = change_number(&mut self.cells, range, op, change);
         self.journal.append_atomic(who, range, change, old);
         Ok(old)
     }

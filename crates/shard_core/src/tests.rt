@@ -1,14 +1,16 @@
 //! Rows that run a shard.
 
-ghost use Rattle.std.specs.Prelude.{◌≡◌};
 ghost use Rattle.semantics.specs.PlanLimits.{IsPlan};
-ghost use Rattle.shard_core.specs.KeyTables.{IsServedKind};
 
 use crate::shard::Shard;
 use ebpf_decode::{MapDef, MapKind};
 use semantics::{Call, Caller, CellRef, JournalFull, Key, Reply, ShardPlan, Value};
 use std::process::Abort;
 use std::test::Fail;
+
+mod parts;
+mod recent;
+mod wide;
 
 const ANY: u64 = 0;
 
@@ -43,8 +45,7 @@ enum Ask {
 type Row = (&'static str, Ask, Reply);
 
 fn plan_of(kind: MapKind, value_size: u32, max_entries: u32, reserve: u32) -> ShardPlan
-    ensures plan { IsPlan result }
-    ensures kind { result.definition.kind ≡ kind }
+    ensures { IsPlan result }
 {
     ShardPlan {
         number: SHARD,
@@ -62,8 +63,7 @@ fn plan_of(kind: MapKind, value_size: u32, max_entries: u32, reserve: u32) -> Sh
 }
 
 fn plan(value_size: u32, max_entries: u32, reserve: u32) -> ShardPlan
-    ensures plan { IsPlan result }
-    ensures kind { IsServedKind result.definition.kind }
+    ensures { IsPlan result }
 {
     plan_of(MapKind::Array, value_size, max_entries, reserve)
 }
@@ -293,8 +293,7 @@ const HELD_CELL_STAYS: [Row; 14] = [
 ];
 
 fn hash_plan(max_entries: u32) -> ShardPlan
-    ensures plan { IsPlan result }
-    ensures kind { IsServedKind result.definition.kind }
+    ensures { IsPlan result }
 {
     plan_of(MapKind::Hash, 8, max_entries, 64)
 }

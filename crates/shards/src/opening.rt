@@ -1,11 +1,9 @@
 //! Options, and the shards that are opened with them.
 
-ghost use Rattle.std.specs.Prelude.{◌≡◌, ◌*◌, ◌<◌, ◌≤◌, Some, IfOk, IsTrue, length};
+ghost use Rattle.std.specs.Prelude.{◌≡◌, ◌*◌, ◌<◌, ◌≤◌, Some, IfOk, IsTrue, true, length};
 ghost use Rattle.std.specs.List.{AllByRecursion};
-ghost use Rattle.ebpf_decode.specs.Served.{IsServedMap};
 ghost use Rattle.semantics.specs.ShardPlan.{plan_at};
-ghost use Rattle.semantics.specs.PlanLimits.{IsPlan};
-ghost use Rattle.shard_core.specs.KeyTables.{IsServedKind};
+ghost use Rattle.semantics.specs.PlanLimits.{HasImageSizes, IsPlan};
 ghost use Rattle.shards.specs.Opening.{is_shard_count, are_equal_parts, are_served_options, AreOpened};
 
 use ebpf_decode::MapDef;
@@ -16,7 +14,7 @@ use std::alloc::{AllocError, Global};
 fn is_shard_count(count: u32) -> bool
     ensures { result ≡ is_shard_count count }
 {
-    count == 1
+    count == 1 || count == 2 || count == 4 || count == 8
 }
 
 /// Whether each map's entries can be divided so.
@@ -30,7 +28,8 @@ fn are_equal_parts(maps: &[MapDef], parts: u32) -> bool
 
 /// Whether the shards of these maps are opened with these options.
 pub fn are_served(maps: &[MapDef], options: &Options) -> bool
-    ensures { result ≡ are_served_options maps.now options.now }
+    ensures served { result ≡ are_served_options maps.now options.now }
+    ensures shards { result ≡ true → (0 < options.now.shards) × (options.now.shards ≤ 8) }
 {
     1 <= options.workers
         && options.workers <= 8
@@ -42,12 +41,12 @@ pub fn are_served(maps: &[MapDef], options: &Options) -> bool
 
 /// What the shard of a number is opened with.
 fn plan_at(maps: &[MapDef], options: &Options, number: u32) -> ShardPlan
-    requires allowed { AllByRecursion IsServedMap maps.now }
+    requires allowed { AllByRecursion HasImageSizes maps.now }
     requires served { IsTrue (are_served_options maps.now options.now) }
+    requires shards { 0 < options.now.shards }
     requires number { number < length maps.now * options.now.shards }
     ensures plan { Some result ≡ plan_at maps.now options.now number }
     ensures limits { IsPlan result }
-    ensures kind { IsServedKind result.definition.kind }
 {
     let definition = &maps[(number / options.shards) as usize];
     ShardPlan {
@@ -66,8 +65,9 @@ pub fn open_each(
     maps: &[MapDef],
     options: &Options,
 ) -> Result<Vec<Shard>, AllocError>
-    requires allowed { AllByRecursion IsServedMap maps.now }
+    requires allowed { AllByRecursion HasImageSizes maps.now }
     requires few { length maps.now ≤ 16 }
+    requires shards { (0 < options.now.shards) × (options.now.shards ≤ 8) }
     requires served { IsTrue (are_served_options maps.now options.now) }
     ensures { IfOk result (λ shards. AreOpened maps.now options.now shards.items) }
 {

@@ -1,15 +1,16 @@
 //! The shards of all maps.
 
-ghost use Rattle.std.specs.Prelude.{◌≡◌, ◌<◌, ◌↔◌, Some, IfOk, OnOk, IsErrOf, IsFalse, length, slice_get};
+ghost use Rattle.std.specs.Prelude.{◌≡◌, ◌<◌, ◌≤◌, ◌↔◌, Some, IfOk, OnOk, IsErrOf, IsFalse, length, slice_get};
 ghost use Rattle.std.specs.Borrow.{sem};
-ghost use Rattle.ebpf_decode.specs.Served.{IsServedImage};
+ghost use Rattle.std.specs.List.{AllByRecursion};
+ghost use Rattle.semantics.specs.PlanLimits.{HasImageSizes};
 ghost use Rattle.semantics.specs.ShardPlan.{AreOptions};
 ghost use Rattle.shards.specs.Opening.{are_served_options, AreOpened};
 ghost use Rattle.shards.specs.declared.fault.OpenFault.TheVariants.{BadOptions};
 
 use crate::fault::OpenFault;
 use crate::opening::{are_served, open_each};
-use ebpf_decode::Image;
+use ebpf_decode::{Image, MapDef};
 use shard_core::{Options, Shard};
 use std::alloc::Global;
 use std::marker::Model;
@@ -33,15 +34,13 @@ impl Shards {
     ghost use Rattle.shards.specs.Lending.{LendsShard};
 
     /// The shards of the image's maps, in which nothing has happened. Takes all memory that they will ever need. Refused with
-    /// 51 where the options are none that are served, and with 52 without memory.
+    /// 51 where the maps can't be opened with these options, and with 52 without memory.
     pub fn open(alloc: Global, image: &Image, options: Options) -> Result<Self, OpenFault>
-        requires served { IsServedImage image.now }
         ensures opened { IfOk result (λ shards. AreOpened image.now.maps options shards) }
         ensures options { OnOk result (AreOptions image.now.maps options) }
         ensures bad_options { IsErrOf result BadOptions ↔ IsFalse (are_served_options image.now.maps options) }
     {
-        image.served_parts();
-        let maps = image.maps();
+        let maps = maps_of(image);
         if !are_served(maps, &options) {
             return Err(OpenFault::BadOptions);
         }
@@ -72,4 +71,13 @@ impl Shards {
         let Shards { shards } = self;
         shards
     }
+}
+
+/// The maps of an image, whose sizes its format allows.
+fn maps_of(image: &Image) -> &[MapDef]
+    ensures maps { result.now ≡ image.now.maps }
+    ensures few { length image.now.maps ≤ 16 }
+    ensures sizes { AllByRecursion HasImageSizes image.now.maps }
+{
+    image.maps()
 }

@@ -9,8 +9,8 @@ use Rattle.shard_core.proofs.AskedLemmas.{IsAtomicOf, atomic_asked}
 use Rattle.shard_core.proofs.StepLemmas.{step_taken, table_keeps, kept_number, contents_changed}
 use Rattle.shard_core.proofs.shard.Shard.atomic.Goals as goal
 
-pub atomic-old-requires-clause-kept : goal.atomic-old-requires-clause-kept
-atomic-old-requires-clause-kept c =
+pub change_number-old-requires-clause-kept : goal.change_number-old-requires-clause-kept
+change_number-old-requires-clause-kept c =
     let inside = c.self.inside in
     let range = c.args.range.now in
     let change = c.args.change.now in
@@ -18,8 +18,8 @@ atomic-old-requires-clause-kept c =
     c.self.invariant.plan_is c.self.invariant.legal (rw (← c.self.view_is) at c.requires) in
     table_keeps inside.plan (reverse inside.journal.entries) (shard_after inside.plan (reverse inside.journal.entries)) inside.cells inside.keys range.cell c.self.invariant.contents asked.range.kept
 
-pub atomic-old-requires-clause-within : goal.atomic-old-requires-clause-within
-atomic-old-requires-clause-within c =
+pub change_number-old-requires-clause-within : goal.change_number-old-requires-clause-within
+change_number-old-requires-clause-within c =
     let inside = c.self.inside in
     let range = c.args.range.now in
     let change = c.args.change.now in
@@ -28,8 +28,8 @@ atomic-old-requires-clause-within c =
     let within : range.offset + range.width ≤ inside.plan.definition.value_size = asked.range.within in
     omega (arith, within, c.self.invariant.contents.sized)
 
-pub atomic-old-requires-clause-width : goal.atomic-old-requires-clause-width
-atomic-old-requires-clause-width c =
+pub change_number-old-requires-clause-width : goal.change_number-old-requires-clause-width
+change_number-old-requires-clause-width c =
     let inside = c.self.inside in
     let range = c.args.range.now in
     let change = c.args.change.now in
@@ -37,8 +37,8 @@ atomic-old-requires-clause-width c =
     c.self.invariant.plan_is c.self.invariant.legal (rw (← c.self.view_is) at c.requires) in
     asked.width_is
 
-pub atomic-old-requires-clause-operand : goal.atomic-old-requires-clause-operand
-atomic-old-requires-clause-operand c =
+pub change_number-old-requires-clause-operand : goal.change_number-old-requires-clause-operand
+change_number-old-requires-clause-operand c =
     let inside = c.self.inside in
     let range = c.args.range.now in
     let change = c.args.change.now in
@@ -46,8 +46,8 @@ atomic-old-requires-clause-operand c =
     c.self.invariant.plan_is c.self.invariant.legal (rw (← c.self.view_is) at c.requires) in
     asked.value_fits
 
-pub atomic-old-requires-clause-expected : goal.atomic-old-requires-clause-expected
-atomic-old-requires-clause-expected c =
+pub change_number-old-requires-clause-expected : goal.change_number-old-requires-clause-expected
+change_number-old-requires-clause-expected c =
     let inside = c.self.inside in
     let range = c.args.range.now in
     let change = c.args.change.now in
@@ -79,16 +79,16 @@ invariant_of-self c =
     let asked = atomic_asked inside.plan (reverse inside.journal.entries) c.args.who inside.plan.number range.cell range.offset range.width change.op change.value change.expected
     c.self.invariant.plan_is c.self.invariant.legal met in
     let number = kept_number inside.plan (reverse inside.journal.entries) (shard_after inside.plan (reverse inside.journal.entries)) inside.cells inside.keys range.cell range.offset range.width c.self.invariant.contents asked.range.kept in
-    rw (c.append_atomic.ensures, c.atomic-old.ensures.table) (step_taken inside.plan inside.journal inside.cells _ inside.keys inside.keys inside.entered inside.inside c.args.who
-    (Atomic (record { shard = inside.plan.number; id = range.cell }) range.offset range.width change.op change.value change.expected) (Word c.atomic-old.result)
-    (atomic_entry inside.journal.shard c.args.who range change c.atomic-old.result) c.self.invariant
+    rw (c.append_atomic.ensures, c.change_number-old.ensures.table) (step_taken inside.plan inside.journal inside.cells _ inside.keys inside.keys inside.entered inside.inside c.args.who
+    (Atomic (record { shard = inside.plan.number; id = range.cell }) range.offset range.width change.op change.value change.expected) (Word c.change_number-old.result)
+    (atomic_entry inside.journal.shard c.args.who range change c.change_number-old.result) c.self.invariant
     (record {
       met = met;
       has_room = has_room;
-      replied = ap Word (c.atomic-old.ensures.old ∙ number);
+      replied = ap Word (c.change_number-old.ensures.old ∙ number);
       contents = contents_changed inside.plan _ (reverse inside.journal.entries) (shard_after inside.plan (reverse inside.journal.entries)) inside.cells inside.keys range.cell range.offset range.width change.op change.value change.expected c.in-Some.op (λ q. refl) asked.range.kept (sym c.in-Some.ensures) c.self.invariant.contents;
       keeps = λ _ _. refl;
-    }) (ap (λ shard. atomic_entry shard c.args.who range change c.atomic-old.result) c.self.invariant.journal_is.number))
+    }) (ap (λ shard. atomic_entry shard c.args.who range change c.change_number-old.result) c.self.invariant.journal_is.number))
 
 pub returns-clause-of_its_cell : goal.returns-clause-of_its_cell
 returns-clause-of_its_cell c =
@@ -98,7 +98,7 @@ returns-clause-of_its_cell c =
     let asked = atomic_asked inside.plan (reverse inside.journal.entries) c.args.who inside.plan.number range.cell range.offset range.width change.op change.value change.expected
     c.self.invariant.plan_is c.self.invariant.legal (rw (← c.self.view_is) at c.requires) in
     let number = kept_number inside.plan (reverse inside.journal.entries) (shard_after inside.plan (reverse inside.journal.entries)) inside.cells inside.keys range.cell range.offset range.width c.self.invariant.contents asked.range.kept in
-    rw (← c.self.view_is) (c.atomic-old.ensures.old ∙ number)
+    rw (← c.self.view_is) (c.change_number-old.ensures.old ∙ number)
 
 pub returns-clause-legal : goal.returns-clause-legal
 returns-clause-legal c =
@@ -113,12 +113,12 @@ returns-clause-legal c =
     c.self.invariant.plan_is c.self.invariant.legal met in
     let number = kept_number inside.plan (reverse inside.journal.entries) (shard_after inside.plan (reverse inside.journal.entries)) inside.cells inside.keys range.cell range.offset range.width c.self.invariant.contents asked.range.kept in
     rw c.append_atomic.ensures ((step_taken inside.plan inside.journal inside.cells _ inside.keys inside.keys inside.entered inside.inside c.args.who
-    (Atomic (record { shard = inside.plan.number; id = range.cell }) range.offset range.width change.op change.value change.expected) (Word c.atomic-old.result)
-    (atomic_entry inside.journal.shard c.args.who range change c.atomic-old.result) c.self.invariant
+    (Atomic (record { shard = inside.plan.number; id = range.cell }) range.offset range.width change.op change.value change.expected) (Word c.change_number-old.result)
+    (atomic_entry inside.journal.shard c.args.who range change c.change_number-old.result) c.self.invariant
     (record {
       met = met;
       has_room = has_room;
-      replied = ap Word (c.atomic-old.ensures.old ∙ number);
+      replied = ap Word (c.change_number-old.ensures.old ∙ number);
       contents = contents_changed inside.plan _ (reverse inside.journal.entries) (shard_after inside.plan (reverse inside.journal.entries)) inside.cells inside.keys range.cell range.offset range.width change.op change.value change.expected c.in-Some.op (λ q. refl) asked.range.kept (sym c.in-Some.ensures) c.self.invariant.contents;
       keeps = λ _ _. refl;
-    }) (ap (λ shard. atomic_entry shard c.args.who range change c.atomic-old.result) c.self.invariant.journal_is.number)).legal)
+    }) (ap (λ shard. atomic_entry shard c.args.who range change c.change_number-old.result) c.self.invariant.journal_is.number)).legal)

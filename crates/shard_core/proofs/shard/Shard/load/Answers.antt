@@ -12,8 +12,8 @@ use Rattle.shard_core.proofs.ContentLemmas.{contents_on}
 use Rattle.shard_core.proofs.StepLemmas.{step_taken, table_keeps, kept_number}
 use Rattle.shard_core.proofs.shard.Shard.load.Goals as goal
 
-pub load-value-requires-clause-kept : goal.load-value-requires-clause-kept
-load-value-requires-clause-kept c =
+pub number_in-value-requires-clause-kept : goal.number_in-value-requires-clause-kept
+number_in-value-requires-clause-kept c =
     let inside = c.self.inside in
     let asked = load_asked inside.plan (reverse inside.journal.entries) c.args.who inside.plan.number c.args.range.now.cell c.args.range.now.offset c.args.range.now.width
     c.self.invariant.plan_is c.self.invariant.legal (rw (← c.self.view_is) at c.requires) in
@@ -30,15 +30,15 @@ invariant_of-self c =
     c.self.invariant.plan_is c.self.invariant.legal met in
     let number = kept_number inside.plan (reverse inside.journal.entries) (shard_after inside.plan (reverse inside.journal.entries)) inside.cells inside.keys c.args.range.now.cell c.args.range.now.offset c.args.range.now.width c.self.invariant.contents asked.kept in
     rw c.append_load.ensures (step_taken inside.plan inside.journal inside.cells inside.cells inside.keys inside.keys inside.entered inside.inside c.args.who
-    (Load (record { shard = inside.plan.number; id = c.args.range.now.cell }) c.args.range.now.offset c.args.range.now.width) (Word c.load-value.result)
-    (load_entry inside.journal.shard c.args.who c.args.range.now c.load-value.result) c.self.invariant
+    (Load (record { shard = inside.plan.number; id = c.args.range.now.cell }) c.args.range.now.offset c.args.range.now.width) (Word c.number_in-value.result)
+    (load_entry inside.journal.shard c.args.who c.args.range.now c.number_in-value.result) c.self.invariant
     (record {
       met = met;
       has_room = has_room;
-      replied = ap Word (c.load-value.ensures.number ∙ number);
+      replied = ap Word (c.number_in-value.ensures ∙ number);
       contents = contents_on inside.plan _ (reverse inside.journal.entries) (shard_after inside.plan (reverse inside.journal.entries)) inside.cells inside.keys (λ q. refl) c.self.invariant.contents;
       keeps = λ _ _. refl;
-    }) (ap (λ shard. load_entry shard c.args.who c.args.range.now c.load-value.result) c.self.invariant.journal_is.number))
+    }) (ap (λ shard. load_entry shard c.args.who c.args.range.now c.number_in-value.result) c.self.invariant.journal_is.number))
 
 pub returns-clause-of_its_cell : goal.returns-clause-of_its_cell
 returns-clause-of_its_cell c =
@@ -46,7 +46,7 @@ returns-clause-of_its_cell c =
     let asked = load_asked inside.plan (reverse inside.journal.entries) c.args.who inside.plan.number c.args.range.now.cell c.args.range.now.offset c.args.range.now.width
     c.self.invariant.plan_is c.self.invariant.legal (rw (← c.self.view_is) at c.requires) in
     let number = kept_number inside.plan (reverse inside.journal.entries) (shard_after inside.plan (reverse inside.journal.entries)) inside.cells inside.keys c.args.range.now.cell c.args.range.now.offset c.args.range.now.width c.self.invariant.contents asked.kept in
-    rw (← c.self.view_is) (c.load-value.ensures.number ∙ number)
+    rw (← c.self.view_is) (c.number_in-value.ensures ∙ number)
 
 pub returns-clause-legal : goal.returns-clause-legal
 returns-clause-legal c =
@@ -59,12 +59,12 @@ returns-clause-legal c =
     c.self.invariant.plan_is c.self.invariant.legal met in
     let number = kept_number inside.plan (reverse inside.journal.entries) (shard_after inside.plan (reverse inside.journal.entries)) inside.cells inside.keys c.args.range.now.cell c.args.range.now.offset c.args.range.now.width c.self.invariant.contents asked.kept in
     rw c.append_load.ensures ((step_taken inside.plan inside.journal inside.cells inside.cells inside.keys inside.keys inside.entered inside.inside c.args.who
-    (Load (record { shard = inside.plan.number; id = c.args.range.now.cell }) c.args.range.now.offset c.args.range.now.width) (Word c.load-value.result)
-    (load_entry inside.journal.shard c.args.who c.args.range.now c.load-value.result) c.self.invariant
+    (Load (record { shard = inside.plan.number; id = c.args.range.now.cell }) c.args.range.now.offset c.args.range.now.width) (Word c.number_in-value.result)
+    (load_entry inside.journal.shard c.args.who c.args.range.now c.number_in-value.result) c.self.invariant
     (record {
       met = met;
       has_room = has_room;
-      replied = ap Word (c.load-value.ensures.number ∙ number);
+      replied = ap Word (c.number_in-value.ensures ∙ number);
       contents = contents_on inside.plan _ (reverse inside.journal.entries) (shard_after inside.plan (reverse inside.journal.entries)) inside.cells inside.keys (λ q. refl) c.self.invariant.contents;
       keeps = λ _ _. refl;
-    }) (ap (λ shard. load_entry shard c.args.who c.args.range.now c.load-value.result) c.self.invariant.journal_is.number)).legal)
+    }) (ap (λ shard. load_entry shard c.args.who c.args.range.now c.number_in-value.result) c.self.invariant.journal_is.number)).legal)

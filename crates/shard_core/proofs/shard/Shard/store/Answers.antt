@@ -12,8 +12,8 @@ use Rattle.shard_core.proofs.AskedLemmas.{store_asked}
 use Rattle.shard_core.proofs.StepLemmas.{step_taken, table_keeps, contents_stored}
 use Rattle.shard_core.proofs.shard.Shard.store.Goals as goal
 
-pub store-requires-clause-kept : goal.store-requires-clause-kept
-store-requires-clause-kept c =
+pub put_number-requires-clause-kept : goal.put_number-requires-clause-kept
+put_number-requires-clause-kept c =
     let inside = c.self.inside in
     let asked = store_asked inside.plan (reverse inside.journal.entries) c.args.who inside.plan.number c.args.range.now.cell c.args.range.now.offset c.args.range.now.width c.args.value
     c.self.invariant.plan_is c.self.invariant.legal (rw (← c.self.view_is) at c.requires) in
@@ -28,7 +28,7 @@ invariant_of-self c =
     sym (rw (← c.self.view_is) at c.lacks_room.ensures) ∙ c.if-lacks_room.false in
     let asked = store_asked inside.plan (reverse inside.journal.entries) c.args.who inside.plan.number c.args.range.now.cell c.args.range.now.offset c.args.range.now.width c.args.value
     c.self.invariant.plan_is c.self.invariant.legal met in
-    rw (c.append_store.ensures, c.store.ensures) (step_taken inside.plan inside.journal inside.cells _ inside.keys inside.keys inside.entered inside.inside c.args.who
+    rw (c.append_store.ensures, c.put_number.ensures) (step_taken inside.plan inside.journal inside.cells _ inside.keys inside.keys inside.entered inside.inside c.args.who
     (Store (record { shard = inside.plan.number; id = c.args.range.now.cell }) c.args.range.now.offset c.args.range.now.width c.args.value) Done
     (store_entry inside.journal.shard c.args.who c.args.range.now c.args.value) c.self.invariant
     (record {

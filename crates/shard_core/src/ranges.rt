@@ -1,0 +1,51 @@
+//! Numbers in some bytes of a kept cell, the lowest byte first.
+
+ghost use Rattle.std.specs.Prelude.{◌≡◌, ◌⊎◌, ◌+◌, ◌*◌, ◌≤◌, ◌<◌, ◌^◌, IsTrue};
+ghost use Rattle.isa.specs.Atomic.{atomic_result};
+ghost use Rattle.map_cells.specs.CellTable.{is_kept, number_at, with_number};
+
+use isa::AtomicOp;
+use journal::{AtomicChange, CellRange};
+use map_cells::Cells;
+
+/// The number that these bytes make.
+pub(crate) fn number_in(cells: &Cells, range: &CellRange) -> u64
+    requires kept { IsTrue (is_kept cells.now range.now.cell) }
+    requires within { range.now.offset + range.now.width ≤ cells.now.value_size }
+    requires narrow { range.now.width ≤ 8 }
+    ensures { result ≡ number_at cells.now range.now.cell range.now.offset range.now.width }
+{
+    cells.load(range.cell, range.offset as usize, range.width as usize)
+}
+
+/// Writes a number into these bytes.
+pub(crate) fn put_number(cells: &mut Cells, range: &CellRange, value: u64)
+    requires kept { IsTrue (is_kept cells.old range.now.cell) }
+    requires within { range.now.offset + range.now.width ≤ cells.old.value_size }
+    requires narrow { range.now.width ≤ 8 }
+    ensures { cells.new ≡ with_number cells.old range.now.cell range.now.offset range.now.width value }
+{
+    let offset = range.offset as usize;
+    let width = range.width as usize;
+    cells.store(range.cell, offset, width, value);
+}
+
+/// Changes the number in these bytes, which are four or eight, by an atomic operation, and gives what it was.
+pub(crate) fn change_number(
+    cells: &mut Cells,
+    range: &CellRange,
+    op: AtomicOp,
+    change: &AtomicChange,
+) -> u64
+    requires kept { IsTrue (is_kept cells.old range.now.cell) }
+    requires within { range.now.offset + range.now.width ≤ cells.old.value_size }
+    requires width { (range.now.width ≡ 4) ⊎ (range.now.width ≡ 8) }
+    requires operand { change.now.value < 256 ^ range.now.width }
+    requires expected { change.now.expected < 256 ^ range.now.width }
+    ensures old { result ≡ number_at cells.old range.now.cell range.now.offset range.now.width }
+    ensures table { cells.new ≡ with_number cells.old range.now.cell range.now.offset range.now.width (atomic_result (8 * range.now.width) op (number_at cells.old range.now.cell range.now.offset range.now.width) change.now.value change.now.expected) }
+{
+    let offset = range.offset as usize;
+    let width = range.width as usize;
+    cells.atomic(range.cell, offset, width, op, change.value, change.expected)
+}
