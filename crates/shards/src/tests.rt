@@ -1,8 +1,5 @@
 //! Rows that open shards.
 
-ghost use Rattle.std.specs.Prelude.{IfOk};
-ghost use Rattle.ebpf_decode.specs.Served.{IsServedImage};
-
 use crate::fault::OpenFault;
 use crate::shards::Shards;
 use ebpf_decode::{Image, Insn, MapDef, MapKind, Version};
@@ -12,9 +9,7 @@ use std::process::Abort;
 use std::test::Fail;
 
 /// An image of two arrays.
-fn two_maps(alloc: Global) -> Result<Image, Fail>
-    ensures { IfOk result IsServedImage }
-{
+fn two_maps(alloc: Global) -> Result<Image, Fail> {
     let mut maps = Vec::new(alloc);
     for max_entries in [3, 4096] {
         maps.push(MapDef {
@@ -26,7 +21,7 @@ fn two_maps(alloc: Global) -> Result<Image, Fail>
     }
     let mut code = Vec::new(alloc);
     code.push(Insn::Exit)?;
-    Ok(Image::of(Version::V1, maps, code)?.served()?)
+    Ok(Image::of(Version::V1, maps, code)?)
 }
 
 #[rattlefmt::skip]
@@ -36,7 +31,7 @@ const OPTIONS: [(&str, u32, u32, u32, Option<OpenFault>); 11] = [
     ("no worker",                 0, 1, 16,        Some(OpenFault::BadOptions)),
     ("nine workers",              9, 1, 16,        Some(OpenFault::BadOptions)),
     ("no shard",                  1, 0, 16,        Some(OpenFault::BadOptions)),
-    ("two shards to a map",       1, 2, 16,        Some(OpenFault::BadOptions)),
+    ("two shards to a map of 3",  1, 2, 16,        Some(OpenFault::BadOptions)),
     ("three shards to a map",     1, 3, 16,        Some(OpenFault::BadOptions)),
     ("a journal of 15",           1, 1, 15,        Some(OpenFault::BadOptions)),
     ("a journal of 1,048,577",    1, 1, 1_048_577, Some(OpenFault::BadOptions)),
@@ -109,6 +104,82 @@ fn one_shard_for_each_map(rt: HostRuntime) -> Result<(), Fail> {
         assert_eq!(rt; make(&rt, second, &look(1, 4095)), Ok(cell(1, 4095)));
         assert_eq!(rt; make(&rt, second, &look(1, 4096)), Ok(Reply::Null));
         assert_eq!(rt; shards.shard(0).journal().len(), 3);
+    }
+    Ok(())
+}
+
+/// An array, a hash map and an LRU map, whose values have 256 bytes.
+fn three_kinds(alloc: Global) -> Result<Image, Fail> {
+    let mut maps = Vec::new(alloc);
+    for kind in [MapKind::Array, MapKind::Hash, MapKind::LruHash] {
+        maps.push(MapDef {
+            kind,
+            key_size: 4,
+            value_size: 256,
+            max_entries: 16,
+        })?;
+    }
+    let mut code = Vec::new(alloc);
+    code.push(Insn::Exit)?;
+    Ok(Image::of(Version::V2, maps, code)?)
+}
+
+/// Shards to a map, and how many there are of three maps; none where the options are refused.
+const COUNTS: [(u32, Option<usize>); 8] = [
+    (1, Some(3)),
+    (2, Some(6)),
+    (4, Some(12)),
+    (8, Some(24)),
+    (0, None),
+    (3, None),
+    (6, None),
+    (16, None),
+];
+
+#[test]
+fn shards_to_a_map(rt: HostRuntime) -> Result<(), Fail> {
+    let image = three_kinds(rt.alloc())?;
+    for (shards, want) in COUNTS {
+        let options = Options {
+            workers: 1,
+            shards,
+            journal: 16,
+        };
+        let count = Shards::open(rt.alloc(), &image, options)
+            .ok()
+            .map(|all| all.count());
+        assert_eq!(rt; count, want);
+    }
+    Ok(())
+}
+
+/// A number, with its map's kind and its part of four.
+const PLACES: [(u32, MapKind, u32); 5] = [
+    (0, MapKind::Array, 0),
+    (3, MapKind::Array, 3),
+    (4, MapKind::Hash, 0),
+    (9, MapKind::LruHash, 1),
+    (11, MapKind::LruHash, 3),
+];
+
+/// Shards stand map after map, part after part.
+#[test]
+fn places_of_shards(rt: HostRuntime) -> Result<(), Fail> {
+    let image = three_kinds(rt.alloc())?;
+    let options = Options {
+        workers: 1,
+        shards: 4,
+        journal: 16,
+    };
+    let mut shards = Shards::open(rt.alloc(), &image, options)?;
+    for (number, kind, part) in PLACES {
+        assert!(rt; (number as usize) < shards.count());
+        let plan = *shards.shard(number).plan();
+        assert_eq!(rt;
+            (plan.number, plan.definition.kind, plan.part),
+            (number, kind, part)
+        );
+        assert_eq!(rt; plan.parts, 4);
     }
     Ok(())
 }
