@@ -1,13 +1,16 @@
 -- What a pass knows once the badge of one shard is another.
-use Rattle.std.proofs.Common.{◌≡◌, ◌≢◌, ◌⊎◌, ℕ, zero, suc, ◌<◌, List, [], ◌∷◌, length, set, refl, sym, ap, ◌∙◌, subst, ⊎_elim, arith}
+use Rattle.std.proofs.Common.{◌≡◌, ◌≢◌, ◌⊎◌, ℕ, zero, suc, ◌<◌, Bool, true, List, [], ◌∷◌, length, set, refl, sym, ap, ◌∙◌, subst, ⊎_elim, arith}
 use Rattle.std.specs.Prelude.{map, slice_index_or, slice_set}
 use Rattle.atomic_table.specs.Seated.{TableId}
 use Rattle.atomic_table.specs.declared.badge.Badge.{Badge}
 use Rattle.semantics.specs.declared.call.Caller.{Caller}
 use Rattle.semantics.specs.declared.plan.ShardPlan.{ShardPlan}
 use Rattle.shared_shards.specs.declared.rule.Known.{Known}
-use Rattle.shared_shards.specs.CallerView.{CallerView, nothing_seen}
-use Rattle.shared_shards.specs.Passes.{PassView, view_at, IsElsewhereSame, blank, badge_at, view_of_badge, pass_view, IsBadgeOf, IsPass}
+use Rattle.semantics.specs.declared.call.Entry.{Entry}
+use Rattle.semantics.specs.History.{IsLegalHistory}
+use Rattle.shared_shards.specs.CallerView.{CallerView, nothing_seen, HasLooked}
+use Rattle.shared_shards.specs.Seats.{view_of}
+use Rattle.shared_shards.specs.Passes.{PassView, view_at, IsElsewhereSame, blank, badge_at, view_of_badge, known_in, pass_view, IsBadgeOf, IsPass, IsFlagOf, flag_at}
 use Rattle.shared_shards.proofs.Settling.{same_or_other}
 
 set_here : (badges : List (Badge Known)) (number : ℕ) (badge : Badge Known) → number < length badges → badge_at (slice_set badges number badge) number ≡ badge
@@ -50,15 +53,38 @@ same_elsewhere who old taken number badge same others = record {
   others = λ other apart. view_is who (slice_set taken number badge) other ∙ ap view_of_badge (set_else taken number other badge apart ∙ others other apart) ∙ sym (view_is who old other);
 }
 
--- with the caller's seat back in its place, it is a pass again
-pub pass_after : (table : ℕ → TableId) (plan : ℕ → ShardPlan) (count : ℕ) (who : Caller) (old taken : List (Badge Known)) (number : ℕ) (badge : Badge Known) →
-    IsPass table plan count who old → length taken ≡ length old → ((other : ℕ) → other ≢ number → badge_at taken other ≡ badge_at old other) → number < count →
-    IsBadgeOf (table number) (plan number) who badge → IsPass table plan count who (slice_set taken number badge)
-pass_after table plan count who old taken number badge pass same others below is = record {
+-- with the caller's seat back in its place, and its flag, it is a pass again
+pub pass_after : (table : ℕ → TableId) (plan : ℕ → ShardPlan) (count : ℕ) (who : Caller) (old taken : List (Badge Known)) (flags flags' : List Bool) (number : ℕ) (badge : Badge Known) →
+    IsPass table plan count who old flags → length taken ≡ length old → ((other : ℕ) → other ≢ number → badge_at taken other ≡ badge_at old other) → number < count →
+    IsBadgeOf (table number) (plan number) who badge →
+    length flags' ≡ length flags → ((other : ℕ) → other ≢ number → flag_at flags' other ≡ flag_at flags other) →
+    IsFlagOf who (view_of_badge badge).own (flag_at flags' number) → IsPass table plan count who (slice_set taken number badge) flags'
+pass_after table plan count who old taken flags flags' number badge pass same others below is same_count other_flags flag = record {
   sized = set_count taken number badge ∙ same ∙ pass.sized;
   each = λ k within. ⊎_elim
       (λ (here : k ≡ number). subst (λ (n : ℕ). IsBadgeOf (table n) (plan n) who (badge_at (slice_set taken number badge) n)) (sym here)
       (subst (IsBadgeOf (table number) (plan number) who) (sym (set_here taken number badge (let sized = pass.sized in omega (arith, same, sized, below)))) is))
       (λ (apart : k ≢ number). subst (IsBadgeOf (table k) (plan k) who) (sym (set_else taken number k badge apart ∙ others k apart))
       (pass.each k (let counted = set_count taken number badge in omega (arith, counted, same, within)))) (same_or_other k number);
+  flagged = same_count ∙ pass.flagged;
+  flags_are = λ k within. ⊎_elim
+      (λ (here : k ≡ number). subst (λ (n : ℕ). IsFlagOf who (view_at (pass_view who (slice_set taken number badge)) n).own (flag_at flags' n)) (sym here)
+      (subst (λ (v : CallerView). IsFlagOf who v.own (flag_at flags' number))
+      (sym (view_after who old taken number badge (let sized = pass.sized in omega (arith, sized, below)) same)) flag))
+      (λ (apart : k ≢ number). subst (λ (v : CallerView). IsFlagOf who v.own (flag_at flags' k)) (sym ((same_elsewhere who old taken number badge same others).others k apart))
+      (subst (IsFlagOf who (view_at (pass_view who old) k).own) (sym (other_flags k apart)) (pass.flags_are k within))) (same_or_other k number);
 }
+
+-- the same where the caller only looked
+pub pass_still : (table : ℕ → TableId) (plan : ℕ → ShardPlan) (count : ℕ) (who : Caller) (old taken : List (Badge Known)) (flags : List Bool) (n number : ℕ) (badge badge' : Badge Known) (before after : Known) →
+    IsPass table plan count who old flags → length taken ≡ length old → ((other : ℕ) → other ≢ number → badge_at taken other ≡ badge_at old other) → number < count → n ≡ number →
+    badge ≡ badge_at old number → badge.views ≡ before ∷ [] → badge'.views ≡ after ∷ [] → badge'.table_id ≡ table n → after.acts ≡ true → after.who ≡ who →
+    HasLooked (plan n) (view_of before) (view_of after) → IsPass table plan count who (slice_set taken number badge') flags
+pass_still table plan count who old taken flags n number badge badge' before after pass same others below here taken_is views views' named acts caller looked =
+    pass_after table plan count who old taken flags flags number badge' pass same others below
+    (record { table_is = named ∙ ap table here; known = after; one = views'; acts = acts; caller = caller; legal = subst (λ (k : ℕ). IsLegalHistory (plan k) after.seen) here looked.legal })
+    refl (λ other apart. refl)
+    (subst (λ (own : List Entry). IsFlagOf who own (flag_at flags number))
+    (ap (λ (v : CallerView). v.own) (view_is who old number ∙ ap view_of_badge (sym taken_is)) ∙ ap (λ (ks : List Known). (view_of (known_in ks)).own) views
+    ∙ sym looked.own ∙ sym (ap (λ (ks : List Known). (view_of (known_in ks)).own) views'))
+    (pass.flags_are number below))

@@ -1,16 +1,16 @@
 -- A caller's seats are taken out of the rows: they make its pass, and the rows keep those of the others.
 use Rattle.std.proofs.Common.{◌≡◌, ◌≢◌, ◌⊎◌, ◌<◌, ◌≤◌, ℕ, zero, suc, Bool, true, false, true≢false, List, [], ◌∷◌, length, get_or, refl, sym, ap, ◌∙◌, subst, ⊎_elim, inl, inr, arith}
-use Rattle.std.specs.Prelude.{slice_set}
+use Rattle.std.specs.Prelude.{slice_set, replicate}
 use Rattle.atomic_table.specs.Seated.{TableId}
 use Rattle.atomic_table.specs.declared.badge.Badge.{Badge}
 use Rattle.semantics.specs.declared.call.Caller.{Caller}
 use Rattle.semantics.specs.declared.call.Caller.TheVariants.{Worker, Controller, Reclaimer}
 use Rattle.semantics.specs.declared.plan.ShardPlan.{ShardPlan}
 use Rattle.shared_shards.specs.declared.rule.Known.{Known}
-use Rattle.shared_shards.specs.CallerView.{nothing_seen}
+use Rattle.shared_shards.specs.CallerView.{CallerView, nothing_seen}
 use Rattle.shared_shards.specs.LengthRule.{caller_at, place_of, pass_of}
 use Rattle.shared_shards.specs.Seats.{view_of}
-use Rattle.shared_shards.specs.Passes.{badge_at, blank, view_of_badge, known_in, view_at, pass_view, IsBadgeOf, IsPass}
+use Rattle.shared_shards.specs.Passes.{badge_at, blank, view_of_badge, known_in, view_at, pass_view, IsBadgeOf, IsPass, IsFlagOf, flag_at}
 use Rattle.shared_shards.specs.NewShards.{IsNewBadge, row_at, is_dealt_at, IsRow, IsDealer}
 use Rattle.shared_shards.proofs.Badges.{view_is}
 use Rattle.shared_shards.proofs.Each.{or_set_here, or_set_else, or_past}
@@ -22,6 +22,20 @@ caller_is Reclaimer = refl
 
 badge_of_new : (table : TableId) (plan : ShardPlan) (who : Caller) (badge : Badge Known) → IsNewBadge table who badge → IsBadgeOf table plan who badge
 badge_of_new table plan who badge new = record { table_is = new.table_is; known = pass_of who [] []; one = new.fresh; acts = refl; caller = refl; legal = tt }
+
+count_of_falses : (n : ℕ) → length (replicate n false) ≡ n
+count_of_falses zero = refl
+count_of_falses (suc n) = ap suc (count_of_falses n)
+
+false_at : (n place : ℕ) → flag_at (replicate n false) place ≡ false
+false_at zero place = refl
+false_at (suc n) zero = refl
+false_at (suc n) (suc place) = false_at n place
+
+flag_of_none : (who : Caller) → IsFlagOf who [] false
+flag_of_none (Worker number) = refl
+flag_of_none Controller = tt
+flag_of_none Reclaimer = tt
 
 view_of_new : (table : TableId) (who : Caller) (badge : Badge Known) → IsNewBadge table who badge → view_of_badge badge ≡ nothing_seen
 view_of_new table who badge new = ap (λ (ks : List Known). view_of (known_in ks)) new.fresh
@@ -38,12 +52,6 @@ module _ (table : ℕ → TableId) (count : ℕ) (dealt : List Bool) (rows : Lis
       (subst (λ (w : Caller). IsNewBadge (table number) w (badge_at (row_at rows number) place)) (ap caller_at placed ∙ caller_is who)
       (dealer.waiting number (let sized = dealer.sized in omega (arith, sized)) place waits).1)
 
-  pub new_pass : (plan : ℕ → ShardPlan) → IsPass table plan count who seats
-  new_pass plan = record {
-    sized = same_count ∙ dealer.sized;
-    each = λ number below. badge_of_new (table number) (plan number) who (badge_at seats number) (new_at_seat number (omega (arith, same_count)));
-  }
-
   pub nothing_at : (number : ℕ) → view_at (pass_view who seats) number ≡ nothing_seen
   nothing_at number = view_is who seats number ∙ ⊎_elim
       (λ (below : number < length seats). view_of_new (table number) who (badge_at seats number) (new_at_seat number (omega (arith, same_count))))
@@ -53,6 +61,15 @@ module _ (table : ℕ → TableId) (count : ℕ) (dealt : List Bool) (rows : Lis
       below_or_past a zero = inr (omega arith)
       below_or_past zero (suc b) = inl (omega arith)
       below_or_past (suc a) (suc b) = ⊎_elim (λ (h : a < b). inl (omega arith)) (λ (h : b ≤ a). inr (omega arith)) (below_or_past a b)
+
+  pub new_pass : (plan : ℕ → ShardPlan) (flags : List Bool) → flags ≡ replicate (length rows) false → IsPass table plan count who seats flags
+  new_pass plan flags flags_are = record {
+    sized = same_count ∙ dealer.sized;
+    each = λ number below. badge_of_new (table number) (plan number) who (badge_at seats number) (new_at_seat number (omega (arith, same_count)));
+    flagged = ap (λ (fs : List Bool). length fs) flags_are ∙ count_of_falses (length rows) ∙ dealer.sized;
+    flags_are = λ number below. subst (λ (v : CallerView). IsFlagOf who v.own (flag_at flags number)) (sym (nothing_at number))
+        (subst (IsFlagOf who []) (sym (ap (λ (fs : List Bool). flag_at fs number) flags_are ∙ false_at (length rows) number)) (flag_of_none who));
+  }
 
 pub rest_of_rows : (table : ℕ → TableId) (count : ℕ) (dealt : List Bool) (rows rows' : List (List (Badge Known))) (place : ℕ) →
     IsDealer table count dealt rows → place < length dealt → length rows' ≡ length rows →

@@ -4,6 +4,7 @@ pub mod Settling
 pub mod Conditions
 pub mod Dealing
 pub mod Each
+pub mod Flags
 pub mod ImageMaps
 pub mod Moves
 pub mod Openings

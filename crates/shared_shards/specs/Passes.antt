@@ -1,9 +1,13 @@
 -- A caller's pass: for each shard, by its number, what the caller has seen of the shard's history, and its own entries there.
-use Rattle.std.specs.Prelude.{◌≡◌, ◌≢◌, ◌<◌, ℕ, List, [], ◌∷◌, map, length, slice_index_or, true}
+use Rattle.std.specs.Prelude.{◌≡◌, ◌≢◌, ◌<◌, ℕ, List, [], ◌∷◌, map, length, slice_index_or, Bool, true, false, Result, Ok, Err}
 use Rattle.atomic_table.specs.Seated.{TableId}
 use Rattle.atomic_table.specs.declared.badge.Badge.{Badge}
 use Rattle.semantics.specs.declared.call.Caller.{Caller}
-use Rattle.semantics.specs.declared.call.Caller.TheVariants.{Reclaimer}
+use Rattle.semantics.specs.declared.call.Caller.TheVariants.{Worker, Reclaimer}
+use Rattle.semantics.specs.declared.call.SectionChange.{SectionChange}
+use Rattle.semantics.specs.declared.call.SectionChange.TheVariants.{Begins, Ends, Stays}
+use Rattle.semantics.specs.declared.full.JournalFull.{JournalFull}
+use Rattle.semantics.specs.Reclamation.{is_inside}
 use Rattle.semantics.specs.declared.call.Entry.{Entry}
 use Rattle.semantics.specs.declared.plan.ShardPlan.{ShardPlan}
 use Rattle.semantics.specs.History.{IsLegalHistory}
@@ -46,6 +50,31 @@ pub record IsElsewhereSame (number : ℕ) (before after : PassView) : Type 0 whe
 abbrev pub AreSettled : ℕ → JournalsView → PassView → Type 0
 AreSettled count journals pass = (number : ℕ) → number < count → IsSettled pass.who (view_at pass number) (entries_at journals number)
 
+-- ---- whether the caller is inside a shard, by its own entries
+
+abbrev pub is_inside_of : Caller → List Entry → Bool
+is_inside_of (Worker number) own = is_inside number own
+is_inside_of who own = false
+
+-- what a call makes of it
+abbrev pub after_section : SectionChange → Bool → Bool
+after_section Begins before = true
+after_section Ends before = false
+after_section Stays before = before
+
+-- and a call that may be refused
+abbrev pub flag_after : {A : Type 0} → Result A JournalFull → SectionChange → Bool → Bool
+flag_after (Ok answer) change before = after_section change before
+flag_after (Err full) change before = before
+
+-- a worker's flag tells it; what the others' flags say is nobody's concern, since they are inside no shard
+abbrev pub IsFlagOf : Caller → List Entry → Bool → Type 0
+IsFlagOf (Worker number) own flag = flag ≡ is_inside number own
+IsFlagOf who own flag = Unit {0}
+
+abbrev pub flag_at : List Bool → ℕ → Bool
+flag_at flags number = slice_index_or flags number false
+
 -- ---- how the fields stand for this
 
 abbrev pub known_in : List Known → Known
@@ -76,7 +105,9 @@ AreBadges table plan who badges = (number : ℕ) → number < length badges → 
 abbrev pub pass_view : Caller → List (Badge Known) → PassView
 pass_view who badges = record { who = who; views = map view_of_badge badges }
 
--- one seat for each shard
-pub record IsPass (table : ℕ → TableId) (plan : ℕ → ShardPlan) (count : ℕ) (who : Caller) (badges : List (Badge Known)) : Type 0 where
+-- one seat for each shard, and a flag
+pub record IsPass (table : ℕ → TableId) (plan : ℕ → ShardPlan) (count : ℕ) (who : Caller) (badges : List (Badge Known)) (flags : List Bool) : Type 0 where
   pub sized : length badges ≡ count
   pub each : AreBadges table plan who badges
+  pub flagged : length flags ≡ count
+  pub flags_are : (number : ℕ) → number < count → IsFlagOf who (own_at (pass_view who badges) number) (flag_at flags number)

@@ -3,11 +3,12 @@
 ghost use Rattle.std.specs.Prelude.{◌≡◌, ◌↔◌, ℕ, IsErr, IfOk, IfErr, OnErr};
 ghost use Rattle.semantics.specs.declared.call.Call.{Call};
 ghost use Rattle.semantics.specs.declared.call.Reply.{Reply};
+ghost use Rattle.semantics.specs.Sections.{section_change};
 ghost use Rattle.semantics.specs.History.{IsLegalJournal};
 ghost use Rattle.shard_core.specs.Calls.{MayCall, IsFullFor, after_call};
 
 use journal::{AtomicChange, CellRange};
-use semantics::{Call, Caller, JournalFull, Reply};
+use semantics::{Call, Caller, JournalFull, Reply, SectionChange};
 use shard_core::Shard;
 
 /// A call of one kind. It is one step of the shard and one entry of its journal.
@@ -20,6 +21,10 @@ pub trait Ask: Copy {
 
     /// The reply that an answer of the shard of a number stands for.
     ghost replies: { ℕ → Self.Answer → Reply };
+
+    /// What the call does to its worker's section of the shard.
+    fn section(&self) -> SectionChange
+        ensures { (number : ℕ) → result ≡ section_change (asks self.now number) };
 
     /// Makes the call for a caller that may make it. Refused where the journal is full; then nothing is changed.
     fn make(self, shard: &mut Shard, who: Caller) -> Result<Self::Answer, JournalFull>
@@ -45,6 +50,10 @@ impl Ask for Enters {
 
     ghost replies = { λ number answer. Entered };
 
+    fn section(&self) -> SectionChange {
+        SectionChange::Begins
+    }
+
     fn make(self, shard: &mut Shard, who: Caller) -> Result<(), JournalFull> {
         shard.enter(who)
     }
@@ -63,6 +72,10 @@ impl Ask for Leaves {
     ghost asks = { λ ask number. Leave number };
 
     ghost replies = { λ number answer. Left };
+
+    fn section(&self) -> SectionChange {
+        SectionChange::Ends
+    }
 
     fn make(self, shard: &mut Shard, who: Caller) -> Result<(), JournalFull> {
         shard.leave(who);
@@ -86,6 +99,10 @@ impl<'a> Ask for Looks<'a> {
 
     ghost replies = { found_reply };
 
+    fn section(&self) -> SectionChange {
+        SectionChange::Stays
+    }
+
     fn make(self, shard: &mut Shard, who: Caller) -> Result<Option<u64>, JournalFull> {
         shard.lookup(who, self.key)
     }
@@ -107,6 +124,10 @@ impl<'a> Ask for Loads<'a> {
     ghost asks = { λ ask number. Load (cell_of number ask.range.now.cell) ask.range.now.offset ask.range.now.width };
 
     ghost replies = { λ number value. Word value };
+
+    fn section(&self) -> SectionChange {
+        SectionChange::Stays
+    }
 
     fn make(self, shard: &mut Shard, who: Caller) -> Result<u64, JournalFull> {
         shard.load(who, self.range)
@@ -131,6 +152,10 @@ impl<'a> Ask for Stores<'a> {
 
     ghost replies = { λ number answer. Done };
 
+    fn section(&self) -> SectionChange {
+        SectionChange::Stays
+    }
+
     fn make(self, shard: &mut Shard, who: Caller) -> Result<(), JournalFull> {
         shard.store(who, self.range, self.value)
     }
@@ -153,6 +178,10 @@ impl<'a> Ask for Changes<'a> {
     ghost asks = { λ ask number. Atomic (cell_of number ask.range.now.cell) ask.range.now.offset ask.range.now.width ask.change.now.op ask.change.now.value ask.change.now.expected };
 
     ghost replies = { λ number old. Word old };
+
+    fn section(&self) -> SectionChange {
+        SectionChange::Stays
+    }
 
     fn make(self, shard: &mut Shard, who: Caller) -> Result<u64, JournalFull> {
         shard.atomic(who, self.range, self.change)
@@ -177,6 +206,10 @@ impl<'a> Ask for Updates<'a> {
 
     ghost replies = { λ number code. Answer code };
 
+    fn section(&self) -> SectionChange {
+        SectionChange::Stays
+    }
+
     fn make(self, shard: &mut Shard, who: Caller) -> Result<i32, JournalFull> {
         shard.update(who, self.key, self.value, self.flags)
     }
@@ -198,6 +231,10 @@ impl<'a> Ask for Deletes<'a> {
 
     ghost replies = { λ number code. Answer code };
 
+    fn section(&self) -> SectionChange {
+        SectionChange::Stays
+    }
+
     fn make(self, shard: &mut Shard, who: Caller) -> Result<i32, JournalFull> {
         shard.delete(who, self.key)
     }
@@ -217,6 +254,10 @@ impl Ask for Reclaims {
 
     ghost replies = { λ number count. Freed count };
 
+    fn section(&self) -> SectionChange {
+        SectionChange::Stays
+    }
+
     fn make(self, shard: &mut Shard, who: Caller) -> Result<u64, JournalFull> {
         shard.reclaim(who)
     }
@@ -234,6 +275,10 @@ impl<'a> Ask for Calls<'a> {
     ghost asks = { λ ask number. ask.call.now };
 
     ghost replies = { λ number reply. reply };
+
+    fn section(&self) -> SectionChange {
+        self.call.section_change()
+    }
 
     fn make(self, shard: &mut Shard, who: Caller) -> Result<Reply, JournalFull> {
         shard.apply(who, self.call)

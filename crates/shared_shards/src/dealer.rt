@@ -56,12 +56,14 @@ impl<B: Naming> Dealer<B> {
         if self.dealt[place] {
             return Err(PassFault::PassTaken);
         }
+        let inside = vec![in alloc; false; self.rows.len()]?;
         let seats = Vec::with_capacity(alloc, self.rows.len())?;
         self.dealt[place] = true;
         let seats = column(&mut self.rows, place, seats);
         Ok(Pass {
             who,
             seats,
+            inside,
             names: PhantomData,
         })
     }

@@ -3,7 +3,7 @@
 ghost use Rattle.std.specs.Prelude.{◌≡◌, ◌≢◌, ◌<◌, ◌∷◌, ℕ, length, reverse, IfOk, IfErr, OnErr};
 ghost use Rattle.semantics.specs.History.{meets, shard_of_call};
 ghost use Rattle.shared_shards.specs.CallerView.{HasLooked, IsSettled};
-ghost use Rattle.shared_shards.specs.Passes.{badge_at, view_at, own_at, seen_at, IsElsewhereSame};
+ghost use Rattle.shared_shards.specs.Passes.{badge_at, view_at, own_at, seen_at, IsElsewhereSame, is_inside_of, flag_at, flag_after};
 ghost use Rattle.shared_shards.specs.Asked.{MayAsk, MayAskInside, IsAnswered, IsTurnedAway, EnteredAndAnswered, IsStopped};
 ghost use Rattle.semantics.specs.declared.call.Call.TheVariants.{Enter};
 
@@ -13,7 +13,7 @@ use crate::naming::Naming;
 use crate::rule::{Known, Length};
 use crate::stopped::Stopped;
 use atomic_table::Badge;
-use semantics::{Call, Caller, JournalFull};
+use semantics::{Call, Caller, JournalFull, SectionChange};
 use std::marker::{Model, PhantomData};
 use std::mem;
 
@@ -24,6 +24,8 @@ pub struct Pass<B: Naming> {
     pub(crate) who: Caller,
     /// By the shards' numbers.
     pub(crate) seats: Vec<Badge<Known>>,
+    /// Of a worker, whether it is inside.
+    pub(crate) inside: Vec<bool>,
     pub(crate) names: PhantomData<B>,
 }
 
@@ -34,10 +36,23 @@ impl<B: Naming> Model for Pass<B> {
 
     ghost view = { λ pass. pass_view pass.who pass.seats.items };
 
-    ghost invariant = { λ pass. IsPass B.table B.plan B.count pass.who pass.seats.items };
+    ghost invariant = { λ pass. IsPass B.table B.plan B.count pass.who pass.seats.items pass.inside.items };
 }
 
 impl<B: Naming> Pass<B> {
+    /// Whether the caller is inside the shard: it is a worker with an Enter that no Leave of its own follows. Asks nobody, takes no memory
+    /// and cannot fail.
+    pub fn is_inside(&self, shard: u32) -> bool
+        requires { shard < B.count }
+        ensures { result ≡ is_inside_of self.now.who (own_at self.now shard) }
+    {
+        match self.who {
+            Caller::Worker { .. } => self.inside[shard as usize],
+            Caller::Controller => false,
+            Caller::Reclaimer => false,
+        }
+    }
+
     /// Makes the caller's call of a shard whose lock it has.
     pub(crate) fn ask<C: Ask>(
         &mut self,
@@ -62,6 +77,7 @@ impl<B: Naming> Pass<B> {
         let badge = taken(&mut self.seats, place);
         let (seat, answer) = desk.ask(word, badge.into_seat(), self.who, ask);
         self.seats[place] = seat.into_badge();
+        change(&mut self.inside, place, ask.section(), &answer);
         answer
     }
 
@@ -131,4 +147,25 @@ pub(crate) fn taken(seats: &mut Vec<Badge<Known>>, number: usize) -> Badge<Known
     ensures count { length seats.new.items ≡ length seats.old.items }
 {
     mem::replace(&mut seats[number], Badge::blank())
+}
+
+/// Notes what a call that was served does to the caller's section.
+fn change<A>(
+    flags: &mut Vec<bool>,
+    place: usize,
+    section: SectionChange,
+    answer: &Result<A, JournalFull>,
+)
+    requires { place < length flags.old.items }
+    ensures count { length flags.new.items ≡ length flags.old.items }
+    ensures here { flag_at flags.new.items place ≡ flag_after answer.now section (flag_at flags.old.items place) }
+    ensures others { (other : ℕ) → other ≢ place → flag_at flags.new.items other ≡ flag_at flags.old.items other }
+{
+    if answer.is_ok() {
+        match section {
+            SectionChange::Begins => flags[place] = true,
+            SectionChange::Ends => flags[place] = false,
+            SectionChange::Stays => {}
+        }
+    }
 }

@@ -85,21 +85,22 @@ fn attempt<B: Naming, R: Abort + Wait>(
     }
 }
 
+/// What each call replies, and whether its caller is inside afterwards.
 #[rattlefmt::skip]
-const IN_TURN: [(&str, bool, Step, Option<Reply>); 13] = [
-    ("nobody leaves who is outside",       true,  Step::Leave,                None),
-    ("a worker enters",                    true,  Step::Enter,                Some(Reply::Entered)),
-    ("it enters once",                     true,  Step::Enter,                None),
-    ("it loads nothing that it has not",   true,  Step::Load { id: 4095 },    None),
-    ("it finds the last index",            true,  Step::Look { index: 4095 }, Some(Reply::Cell { cell: CellRef { shard: 1, id: 4095 } })),
-    ("it loads what it found",             true,  Step::Load { id: 4095 },    Some(Reply::Word { value: 0 })),
-    ("no index past the end",              true,  Step::Look { index: 4096 }, Some(Reply::Null)),
-    ("another enters",                     false, Step::Enter,                Some(Reply::Entered)),
-    ("the other has not found it",         false, Step::Load { id: 4095 },    None),
-    ("the first still has it",             true,  Step::Load { id: 4095 },    Some(Reply::Word { value: 0 })),
-    ("the first leaves",                   true,  Step::Leave,                Some(Reply::Left)),
-    ("and lets its cell go",               true,  Step::Load { id: 4095 },    None),
-    ("the other leaves",                   false, Step::Leave,                Some(Reply::Left)),
+const IN_TURN: [(&str, bool, Step, Option<Reply>, bool); 13] = [
+    ("nobody leaves who is outside",       true,  Step::Leave,                None, false),
+    ("a worker enters",                    true,  Step::Enter,                Some(Reply::Entered), true),
+    ("it enters once",                     true,  Step::Enter,                None, true),
+    ("it loads nothing that it has not",   true,  Step::Load { id: 4095 },    None, true),
+    ("it finds the last index",            true,  Step::Look { index: 4095 }, Some(Reply::Cell { cell: CellRef { shard: 1, id: 4095 } }), true),
+    ("it loads what it found",             true,  Step::Load { id: 4095 },    Some(Reply::Word { value: 0 }), true),
+    ("no index past the end",              true,  Step::Look { index: 4096 }, Some(Reply::Null), true),
+    ("another enters",                     false, Step::Enter,                Some(Reply::Entered), true),
+    ("the other has not found it",         false, Step::Load { id: 4095 },    None, true),
+    ("the first still has it",             true,  Step::Load { id: 4095 },    Some(Reply::Word { value: 0 }), true),
+    ("the first leaves",                   true,  Step::Leave,                Some(Reply::Left), false),
+    ("and lets its cell go",               true,  Step::Load { id: 4095 },    None, false),
+    ("the other leaves",                   false, Step::Leave,                Some(Reply::Left), false),
 ];
 
 /// How many entries the shard's journal has.
@@ -117,13 +118,17 @@ fn in_turn<B: Naming, R: Abort + Wait>(rt: &R, alloc: Global, opened: Opened) ->
     let (shards, mut dealer) = opened.share::<B>(alloc)?;
     let mut first = dealer.pass(alloc, Caller::Worker { number: 0 })?;
     let mut second = dealer.pass(alloc, Caller::Worker { number: 1 })?;
-    for (name, is_first, step, want) in IN_TURN {
-        let got = if is_first {
-            attempt(rt, &shards, &mut first, step)
+    assert!(rt; 1 < shards.count());
+    for (name, is_first, step, want, inside) in IN_TURN {
+        let (got, is_inside) = if is_first {
+            let got = attempt(rt, &shards, &mut first, step);
+            (got, first.is_inside(1))
         } else {
-            attempt(rt, &shards, &mut second, step)
+            let got = attempt(rt, &shards, &mut second, step);
+            (got, second.is_inside(1))
         };
         assert_eq!(rt; got, want, "{name}");
+        assert_eq!(rt; is_inside, inside, "{name}");
     }
     let mut passes = Vec::with_capacity(alloc, 2)?;
     passes.push(first)?;

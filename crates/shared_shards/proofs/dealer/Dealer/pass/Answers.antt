@@ -1,4 +1,4 @@
-use Rattle.std.proofs.Common.{◌≡◌, ◌<◌, Bool, true, false, length, refl, sym, ap, ◌∙◌, subst, arith}
+use Rattle.std.proofs.Common.{rules, ◌≡◌, ◌<◌, Bool, true, false, length, refl, sym, ap, ◌∙◌, subst, arith}
 use Rattle.shared_shards.specs.NewShards.{is_dealt_at, row_at}
 use Rattle.shared_shards.specs.Passes.{badge_at}
 use Rattle.shared_shards.proofs.Each.{or_within}
@@ -18,7 +18,7 @@ invariant_of-result g c =
     let waits : is_dealt_at c.self.inside.dealt.items c.place_of-place.result ≡ false =
     or_within c.self.inside.dealt.items true c.index.result.now c.place_of-place.result below ∙ sym c.index.ensures ∙ c.if-index.false in
     new_pass g.B.Naming.table g.B.Naming.count c.self.inside.dealt.items c.self.inside.rows.items c.place_of-place.result c.args.who c.column-seats.result.items
-    c.self.invariant waits c.place_of-place.ensures c.column-seats.ensures.count.0 c.column-seats.ensures.taken g.B.Naming.plan
+    c.self.invariant waits c.place_of-place.ensures c.column-seats.ensures.count.0 c.column-seats.ensures.taken g.B.Naming.plan c.in_ok-inside.inside.items (search rules)
 
 pub invariant_of-self : goal.invariant_of-self
 invariant_of-self g c =

@@ -1,13 +1,16 @@
-use Rattle.std.proofs.Common.{◌≡◌, ◌<◌, ℕ, List, slice_set, length, ap, sym, ◌∙◌, subst, arith}
+use Rattle.std.proofs.Common.{◌≡◌, ◌<◌, ℕ, Bool, List, slice_set, length, ap, sym, ◌∙◌, subst, arith}
 use Rattle.std.specs.Prelude.{reverse}
 use Rattle.atomic_table.specs.declared.badge.Badge.{Badge}
 use Rattle.semantics.specs.declared.plan.ShardPlan.{ShardPlan}
+use Rattle.semantics.specs.declared.call.SectionChange.{SectionChange}
+use Rattle.semantics.specs.Sections.{section_change}
 use Rattle.semantics.specs.History.{IsLegalHistory}
 use Rattle.shared_shards.specs.declared.rule.Known.{Known}
 use Rattle.shared_shards.specs.CallerView.{CallerView}
 use Rattle.shared_shards.specs.Seats.{view_of}
-use Rattle.shared_shards.specs.Passes.{PassView, view_at, view_of_badge, known_in, badge_at, pass_view, IsElsewhereSame}
+use Rattle.shared_shards.specs.Passes.{PassView, view_at, view_of_badge, known_in, badge_at, pass_view, IsElsewhereSame, IsFlagOf, flag_at, flag_after}
 use Rattle.shared_shards.proofs.Badges.{view_is, view_after, same_elsewhere, pass_after}
+use Rattle.shared_shards.proofs.Flags.{flag_moves}
 use Rattle.shared_shards.proofs.Transport.{answered_moves, turned_away_moves, next_moves}
 use Rattle.shared_shards.proofs.pass.Pass.ask.Goals as goal
 
@@ -19,13 +22,13 @@ returns-clause-elsewhere g c =
     c.self.view_is
     (same_elsewhere who c.self.inside.seats.items now c.args.number c.into_badge.result c.taken-badge.ensures.count c.taken-badge.ensures.others)
 
-before_is : (g : _) (c : goal.After-drop-index_mut g) → view_of c.into_seat.result.me.0 ≡ view_at (pass_view c.self.inside.who c.self.inside.seats.items) c.args.number
+before_is : (g : _) (c : goal.After-change g) → view_of c.into_seat.result.me.0 ≡ view_at (pass_view c.self.inside.who c.self.inside.seats.items) c.args.number
 before_is g c =
     sym (ap (λ (vs : List Known). view_of (known_in vs)) c.into_seat.ensures.2)
     ∙ ap view_of_badge c.taken-badge.ensures.badge
     ∙ sym (view_is c.self.inside.who c.self.inside.seats.items c.args.number)
 
-after_is : (g : _) (c : goal.After-drop-index_mut g) → view_of c.ask-seat.result.0.me.0 ≡ view_at (pass_view c.self.inside.who (slice_set c.taken-badge.new.seats.items c.args.number c.into_badge.result)) c.args.number
+after_is : (g : _) (c : goal.After-change g) → view_of c.ask-seat.result.0.me.0 ≡ view_at (pass_view c.self.inside.who (slice_set c.taken-badge.new.seats.items c.args.number c.into_badge.result)) c.args.number
 after_is g c =
     let who = c.self.inside.who in
     let now : List (Badge Known) = c.taken-badge.new.seats.items in
@@ -58,10 +61,18 @@ returns-clause-next g c =
 pub invariant_of-self : goal.invariant_of-self
 invariant_of-self g c =
     let number = c.args.number in
+    let who = c.self.inside.who in
     let seat = c.ask-seat.ensures.seat in
     let badge = c.into_badge.ensures in
     let here = c.requires.number.0 in
-    pass_after g.B.Naming.table g.B.Naming.plan g.B.Naming.count c.self.inside.who c.self.inside.seats.items c.taken-badge.new.seats.items number c.into_badge.result
+    let before = view_at (pass_view who c.self.inside.seats.items) number in
+    let flag = flag_at c.self.inside.inside.items number in
+    let was : IsFlagOf who (view_of c.into_seat.result.me.0).own flag =
+    subst (λ (v : CallerView). IsFlagOf who v.own flag) (sym (before_is g c)) (c.self.invariant.flags_are number c.requires.number.1) in
+    let moved : IsFlagOf who (view_of c.ask-seat.result.0.me.0).own (flag_after c.ask-seat.result.1 (section_change (g.C.Ask.asks c.args.ask c.args.desk.now.plan.number)) flag) =
+    flag_moves c.ask-seat.result.1 (g.B.Naming.plan c.args.desk.now.plan.number) who (g.C.Ask.asks c.args.ask c.args.desk.now.plan.number) (g.C.Ask.replies c.args.desk.now.plan.number) (view_of c.into_seat.result.me.0)
+    (view_of c.ask-seat.result.0.me.0) flag c.ask-seat.ensures.served c.ask-seat.ensures.refused was in
+    pass_after g.B.Naming.table g.B.Naming.plan g.B.Naming.count who c.self.inside.seats.items c.taken-badge.new.seats.items c.self.inside.inside.items c.change.new.flags.items number c.into_badge.result
     c.self.invariant c.taken-badge.ensures.count c.taken-badge.ensures.others c.requires.number.1
     (record {
       table_is = badge.0 ∙ seat.table_is ∙ ap g.B.Naming.table here;
@@ -71,3 +82,6 @@ invariant_of-self g c =
       caller = seat.caller;
       legal = subst (λ (n : ℕ). IsLegalHistory (g.B.Naming.plan n) c.ask-seat.result.0.me.0.seen) here c.ask-seat.ensures.legal;
     })
+    c.change.ensures.count c.change.ensures.others
+    (subst (λ (b : Bool). IsFlagOf who (view_of_badge c.into_badge.result).own b) (sym (c.change.ensures.here ∙ ap (λ (s : SectionChange). flag_after c.ask-seat.result.1 s flag) (c.section.ensures c.args.desk.now.plan.number)))
+    (subst (λ (vs : List Known). IsFlagOf who (view_of (known_in vs)).own (flag_after c.ask-seat.result.1 (section_change (g.C.Ask.asks c.args.ask c.args.desk.now.plan.number)) flag)) (sym badge.2) moved))

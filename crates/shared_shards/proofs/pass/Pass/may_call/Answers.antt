@@ -5,7 +5,7 @@ use Rattle.shared_shards.specs.declared.rule.Known.{Known}
 use Rattle.shared_shards.specs.CallerView.{CallerView}
 use Rattle.shared_shards.specs.Seats.{view_of}
 use Rattle.shared_shards.specs.Passes.{PassView, view_at, view_of_badge, known_in, badge_at, pass_view, IsElsewhereSame}
-use Rattle.shared_shards.proofs.Badges.{view_is, view_after, same_elsewhere}
+use Rattle.shared_shards.proofs.Badges.{view_is, view_after, same_elsewhere, pass_still}
 use Rattle.semantics.specs.History.{meets}
 use Rattle.shared_shards.proofs.Transport.{looked_at}
 use Rattle.shared_shards.proofs.pass.Pass.may_call.Goals as goal
@@ -49,3 +49,13 @@ returns-clause-meets g c =
     ∙ ap (λ p. meets p c.into_seat.result.me.0.own c.self.inside.who c.args.call.now) (ap g.B.Naming.plan c.requires.number.0)
     ∙ ap (λ own. meets (g.B.Naming.plan (shard_of_call c.args.call.now)) own c.self.inside.who c.args.call.now)
     (sym c.may_call-seat.ensures.looked.own ∙ ap (λ (v : CallerView). v.own) (after_is g c))
+
+pub invariant_of-self : goal.invariant_of-self
+invariant_of-self g c =
+    let seat = c.may_call-seat.ensures.seat in
+    pass_still g.B.Naming.table g.B.Naming.plan g.B.Naming.count c.self.inside.who c.self.inside.seats.items c.taken-badge.new.seats.items c.self.inside.inside.items
+    c.args.desk.now.plan.number c.shard-number.result c.taken-badge.result c.into_badge.result c.into_seat.result.me.0 c.may_call-seat.result.0.me.0
+    c.self.invariant c.taken-badge.ensures.count c.taken-badge.ensures.others
+    (let number = c.shard-number.ensures in let below = c.requires.number.1 in omega (arith, number, below))
+    (c.requires.number.0 ∙ sym c.shard-number.ensures)
+    c.taken-badge.ensures.badge c.into_seat.ensures.2 c.into_badge.ensures.2 (c.into_badge.ensures.0 ∙ seat.table_is) seat.acts seat.caller c.may_call-seat.ensures.looked
