@@ -278,8 +278,8 @@ beside t generation size (Packet id off range) v c = tt
 beside t generation size PacketEnd v c = tt
 beside t generation size (Map map) v c = record { is = c.is; definition = c.definition; known = c.known }
 beside t generation size (ValueOrNull map id) v (inl c) = inl (record { found = c.found; is = c.is; earlier = c.earlier })
-beside t generation size (ValueOrNull map id) v (inr c) = inr (record { cell = c.cell; found = c.found; is = c.is; held = c.held; earlier = c.earlier })
-beside t generation size (Value map id off) v c = record { cell = c.cell; found = c.found; is = c.is; held = c.held; earlier = c.earlier }
+beside t generation size (ValueOrNull map id) v (inr c) = inr (record { cell = c.cell; found = c.found; at = c.at; least = c.least; most = c.most; is = c.is; held = c.held; earlier = c.earlier })
+beside t generation size (Value map id off) v c = record { cell = c.cell; found = c.found; at = c.at; least = c.least; most = c.most; is = c.is; held = c.held; earlier = c.earlier }
 
 word_beside : (t : Setting) (generation size : ℕ) (word : StackWord) (places : List StackByte) → WordCovers (record t { generation = generation; size = size }) word places →
     WordCovers t (told_word HeadMoved word) places

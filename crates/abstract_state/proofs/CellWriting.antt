@@ -32,7 +32,7 @@ use Rattle.abstract_state.specs.declared.kind.Kind.TheVariants.{Unset, Scalar, C
 use Rattle.abstract_state.specs.declared.flow.Flow.{Flow}
 use Rattle.abstract_state.specs.declared.state.State.{State}
 use Rattle.abstract_state.specs.States.{◌>>=◌, kind_of, value_size_of}
-use Rattle.abstract_state.specs.Places.{value_access}
+use Rattle.abstract_state.specs.Places.{atomic_access}
 use Rattle.abstract_state.specs.Words.{narrow_storable}
 use Rattle.abstract_state.specs.Access.{with_fetched_kind, expects, atomic_on, atomic_of}
 use Rattle.abstract_state.specs.Flow.{fetch_writable, reads_atomic, atomic_flow, flow_of}
@@ -41,7 +41,7 @@ use Rattle.abstract_state.specs.Abstraction.{Held, KindCovers, IsNumberIn, setti
 use Rattle.abstract_state.proofs.shared.Writing.{held_more}
 use Rattle.abstract_state.proofs.shared.Following.{moved_on}
 use Rattle.abstract_state.proofs.shared.Checking.{ok_same, ok_then, falls_made, written_ok, put}
-use Rattle.abstract_state.proofs.shared.Accesses.{IsAligned, value_found, cell_reached, aligned_cell_reached}
+use Rattle.abstract_state.proofs.shared.Accesses.{IsAligned, IsWithin, atomic_found, cell_reached, aligned_cell_reached}
 use Rattle.abstract_state.proofs.shared.LoadedNumbers.{in_full}
 use Rattle.abstract_state.proofs.Loading.{load_width}
 use Rattle.abstract_state.proofs.Storing.{narrow_is_number}
@@ -71,7 +71,7 @@ goes_on_as program held held' state machine a insn more = record {
 -- ---- stores
 
 pub cell_stored : (program : Program) (held : Held) (state : State) (machine : MachineState) (a : Abstracts program.maps held state machine) (insn : Insn) (size : Size)
-    (map shard cell : ℕ) (at offset : ℤ) (from n : ℕ) → IsAligned (at +ℤ offset) (size_bytes size) (value_size_of (slice_get program.maps map)) from →
+    (map shard cell : ℕ) (at offset : ℤ) (from n : ℕ) → IsWithin (at +ℤ offset) (size_bytes size) (value_size_of (slice_get program.maps map)) from →
     IsTrue (held map shard cell) →
     FallsOn program held state machine (machine.slot + slot_count insn) (store_step program insn machine (CellPointer map shard cell at) offset size (Number n))
 cell_stored program held state machine a insn size map shard cell at offset from n found holds =
@@ -218,19 +218,19 @@ atomic_by_kind : (program : Program) (held : Held) (state : State) (machine : Ma
     KindCovers (setting_of program.maps held a.ids machine) known v → (s : State) → atomic_on program.maps state width op known offset dst src ≡ Ok s →
     FallsOn program held s machine (machine.slot + slot_count insn) (atomic_step program insn machine width op v src offset)
 atomic_by_kind program held state machine a insn width op dst src offset done may (Value map id off) v c s e =
-    let first = ok_then (value_access program.maps map off offset (size_bytes (width_size width))) (λ from. narrow_storable (kind_of state src) >>= (λ _.
+    let first = ok_then (atomic_access program.maps map off offset (size_bytes (width_size width))) (λ from. narrow_storable (kind_of state src) >>= (λ _.
     expects op (kind_of state R0) >>= (λ _. Ok (with_fetched_kind state (fetched_register op src) width)))) s e
     in let second = ok_then (narrow_storable (kind_of state src)) (λ _. expects op (kind_of state R0) >>= (λ _. Ok (with_fetched_kind state (fetched_register op src) width))) s first.1.1
     in let third = ok_then (expects op (kind_of state R0)) (λ _. Ok (with_fetched_kind state (fetched_register op src) width)) s second.1.1
     in let same : with_fetched_kind state (fetched_register op src) width ≡ s =
     ok_same (Ok (with_fetched_kind state (fetched_register op src) width)) (with_fetched_kind state (fetched_register op src) width) s refl third.1.1
-    in let found : IsAligned (pos off +ℤ offset) (size_bytes (width_size width)) (value_size_of (slice_get program.maps map)) first.0 =
-    value_found program.maps map off offset (size_bytes (width_size width)) first.0 first.1.0
+    in let found : IsAligned (pos c.at +ℤ offset) (size_bytes (width_size width)) (value_size_of (slice_get program.maps map)) first.0 =
+    atomic_found program.maps map off offset (size_bytes (width_size width)) first.0 c.at c.least c.most first.1.0
     in let n = narrow_is_number (setting_of program.maps held a.ids machine) (kind_of state src) (register_value machine src) second.0 second.1.0 (a.registers src)
     in subst (λ s. FallsOn program held s machine (machine.slot + slot_count insn) (atomic_step program insn machine width op v src offset)) same
     (subst (λ v. FallsOn program held (with_fetched_kind state (fetched_register op src) width) machine (machine.slot + slot_count insn)
     (atomic_step program insn machine width op v src offset)) (sym c.is)
-    (cell_changed program held state machine a insn width op src map c.cell.shard c.cell.id (pos off) offset first.0 n.0 found c.held n.1
+    (cell_changed program held state machine a insn width op src map c.cell.shard c.cell.id (pos c.at) offset first.0 n.0 found c.held n.1
     (compared program held state machine a op third.0 third.1.0) done may))
 atomic_by_kind program held state machine a insn width op dst src offset done may Unset v c s e = cc
 atomic_by_kind program held state machine a insn width op dst src offset done may (Scalar i) v c s e = cc

@@ -1,13 +1,15 @@
 -- The joint kind stands for what either kind stands for.
-use Rattle.std.proofs.Common.{◌≡◌, ℕ, ◌+◌, ◌≤◌, Bool, true, false, if◌then◌else◌, ◌==◌, ◌&&◌, min, refl, arith}
+use Rattle.std.proofs.Common.{◌≡◌, ℕ, ◌+◌, ◌≤◌, Bool, true, false, if◌then◌else◌, ◌==◌, ◌&&◌, min, max, refl, arith}
 use Rattle.std.proofs.lemmas.Bool.{eqb-true, and_parts}
 use Rattle.semantics.specs.RegisterValue.{RegisterValue}
 use Rattle.abstract_scalar.specs.declared.interval.Interval.{Interval}
 use Rattle.abstract_scalar.proofs.shared.Soundness.{hull_covers_left, hull_covers_right}
+use Rattle.ebpf_decode.specs.declared.version.Version.{Version}
 use Rattle.abstract_state.specs.declared.kind.Kind.{Kind}
+use Rattle.abstract_state.specs.declared.kind.Offsets.{Offsets}
 use Rattle.abstract_state.specs.declared.kind.Kind.TheVariants.{Unset, Scalar, Ctx, Stack, Packet, PacketEnd, Map, ValueOrNull, Value}
-use Rattle.abstract_state.specs.Join.{join_scalar, join_ctx, join_stack, join_packet, join_end, join_map, join_nullable, join_value, join_kind}
-use Rattle.abstract_state.specs.Abstraction.{Setting, KindCovers, IsNumberIn, IsPacketPlace}
+use Rattle.abstract_state.specs.Join.{join_scalar, join_ctx, join_stack, join_packet, join_end, join_map, join_nullable, hull_of_offsets, may_join, join_value, join_kind}
+use Rattle.abstract_state.specs.Abstraction.{Setting, KindCovers, IsNumberIn, IsPacketPlace, IsLiveCell}
 
 -- of a kind that stays where a test holds
 kept : (s : Setting) (t : Bool) (kind : Kind) (v : RegisterValue) → (t ≡ true → KindCovers s kind v) → KindCovers s (if t then kind else Unset) v
@@ -21,6 +23,14 @@ nearer s id off range less v h c = record {
   earlier = c.earlier;
   near = c.near;
 }
+
+-- more offsets
+wider : (s : Setting) (map id : ℕ) (off more : Offsets) (v : RegisterValue) → more.low ≤ off.low → off.high ≤ more.high → IsLiveCell s map id off v →
+    IsLiveCell s map id more v
+wider s map id off more v l h c =
+    let least : off.low ≤ c.at = c.least
+    in let most : c.at ≤ off.high = c.most
+    in record { cell = c.cell; found = c.found; at = c.at; least = omega arith; most = omega arith; is = c.is; held = c.held; earlier = c.earlier }
 
 -- ---- the first
 
@@ -102,27 +112,28 @@ nullable_left s map id (Map other) v c = tt
 nullable_left s map id (ValueOrNull other found) v c = kept s ((map == other) && (id == found)) (ValueOrNull map id) v (λ t. c)
 nullable_left s map id (Value other found off) v c = tt
 
-value_left : (s : Setting) (map id off : ℕ) (b : Kind) (v : RegisterValue) → KindCovers s (Value map id off) v → KindCovers s (join_value map id off b) v
-value_left s map id off Unset v c = tt
-value_left s map id off (Scalar j) v c = tt
-value_left s map id off Ctx v c = tt
-value_left s map id off (Stack place) v c = tt
-value_left s map id off (Packet other place range) v c = tt
-value_left s map id off PacketEnd v c = tt
-value_left s map id off (Map other) v c = tt
-value_left s map id off (ValueOrNull other found) v c = tt
-value_left s map id off (Value other found place) v c = kept s ((map == other) && (id == found) && (off == place)) (Value map id off) v (λ t. c)
+value_left : (s : Setting) (version : Version) (map id : ℕ) (off : Offsets) (b : Kind) (v : RegisterValue) → KindCovers s (Value map id off) v → KindCovers s (join_value version map id off b) v
+value_left s version map id off Unset v c = tt
+value_left s version map id off (Scalar j) v c = tt
+value_left s version map id off Ctx v c = tt
+value_left s version map id off (Stack place) v c = tt
+value_left s version map id off (Packet other place range) v c = tt
+value_left s version map id off PacketEnd v c = tt
+value_left s version map id off (Map other) v c = tt
+value_left s version map id off (ValueOrNull other found) v c = tt
+value_left s version map id off (Value other found place) v c = kept s ((map == other) && (id == found) && may_join version off place) (Value map id (hull_of_offsets off place)) v
+    (λ t. wider s map id off (hull_of_offsets off place) v (omega arith) (omega arith) c)
 
-pub join_left : (s : Setting) (a b : Kind) (v : RegisterValue) → KindCovers s a v → KindCovers s (join_kind a b) v
-join_left s Unset b v c = tt
-join_left s (Scalar i) b v c = scalar_left s i b v c
-join_left s Ctx b v c = ctx_left s b v c
-join_left s (Stack place) b v c = stack_left s place b v c
-join_left s (Packet id off range) b v c = packet_left s id off range b v c
-join_left s PacketEnd b v c = end_left s b v c
-join_left s (Map map) b v c = map_left s map b v c
-join_left s (ValueOrNull map id) b v c = nullable_left s map id b v c
-join_left s (Value map id off) b v c = value_left s map id off b v c
+pub join_left : (s : Setting) (version : Version) (a b : Kind) (v : RegisterValue) → KindCovers s a v → KindCovers s (join_kind version a b) v
+join_left s version Unset b v c = tt
+join_left s version (Scalar i) b v c = scalar_left s i b v c
+join_left s version Ctx b v c = ctx_left s b v c
+join_left s version (Stack place) b v c = stack_left s place b v c
+join_left s version (Packet id off range) b v c = packet_left s id off range b v c
+join_left s version PacketEnd b v c = end_left s b v c
+join_left s version (Map map) b v c = map_left s map b v c
+join_left s version (ValueOrNull map id) b v c = nullable_left s map id b v c
+join_left s version (Value map id off) b v c = value_left s version map id off b v c
 
 -- ---- the second
 
@@ -180,23 +191,22 @@ nullable_right s map id (ValueOrNull other found) v c =
     in rw (e, f) c)
 nullable_right s map id (Value other found off) v c = tt
 
-value_right : (s : Setting) (map id off : ℕ) (b : Kind) (v : RegisterValue) → KindCovers s b v → KindCovers s (join_value map id off b) v
-value_right s map id off Unset v c = tt
-value_right s map id off (Scalar j) v c = tt
-value_right s map id off Ctx v c = tt
-value_right s map id off (Stack place) v c = tt
-value_right s map id off (Packet other place range) v c = tt
-value_right s map id off PacketEnd v c = tt
-value_right s map id off (Map other) v c = tt
-value_right s map id off (ValueOrNull other found) v c = tt
-value_right s map id off (Value other found place) v c =
-    kept s ((map == other) && (id == found) && (off == place)) (Value map id off) v
-    (λ t. let parts = and_parts ((map == other) && (id == found)) (off == place) t
+value_right : (s : Setting) (version : Version) (map id : ℕ) (off : Offsets) (b : Kind) (v : RegisterValue) → KindCovers s b v → KindCovers s (join_value version map id off b) v
+value_right s version map id off Unset v c = tt
+value_right s version map id off (Scalar j) v c = tt
+value_right s version map id off Ctx v c = tt
+value_right s version map id off (Stack place) v c = tt
+value_right s version map id off (Packet other place range) v c = tt
+value_right s version map id off PacketEnd v c = tt
+value_right s version map id off (Map other) v c = tt
+value_right s version map id off (ValueOrNull other found) v c = tt
+value_right s version map id off (Value other found place) v c =
+    kept s ((map == other) && (id == found) && may_join version off place) (Value map id (hull_of_offsets off place)) v
+    (λ t. let parts = and_parts ((map == other) && (id == found)) (may_join version off place) t
     in let first = and_parts (map == other) (id == found) parts.0
     in let e : map ≡ other = eqb-true map other first.0
     in let f : id ≡ found = eqb-true id found first.1
-    in let g : off ≡ place = eqb-true off place parts.1
-    in rw (e, f, g) c)
+    in rw (e, f) (wider s other found place (hull_of_offsets off place) v (omega arith) (omega arith) c))
 
 scalar_right : (s : Setting) (i : Interval) (b : Kind) (v : RegisterValue) → KindCovers s b v → KindCovers s (join_scalar i b) v
 scalar_right s i Unset v c = tt
@@ -231,13 +241,13 @@ end_right s (Map map) v c = tt
 end_right s (ValueOrNull map id) v c = tt
 end_right s (Value map id off) v c = tt
 
-pub join_right : (s : Setting) (a b : Kind) (v : RegisterValue) → KindCovers s b v → KindCovers s (join_kind a b) v
-join_right s Unset b v c = tt
-join_right s (Scalar i) b v c = scalar_right s i b v c
-join_right s Ctx b v c = ctx_right s b v c
-join_right s (Stack place) b v c = stack_right s place b v c
-join_right s (Packet id off range) b v c = packet_right s id off range b v c
-join_right s PacketEnd b v c = end_right s b v c
-join_right s (Map map) b v c = map_right s map b v c
-join_right s (ValueOrNull map id) b v c = nullable_right s map id b v c
-join_right s (Value map id off) b v c = value_right s map id off b v c
+pub join_right : (s : Setting) (version : Version) (a b : Kind) (v : RegisterValue) → KindCovers s b v → KindCovers s (join_kind version a b) v
+join_right s version Unset b v c = tt
+join_right s version (Scalar i) b v c = scalar_right s i b v c
+join_right s version Ctx b v c = ctx_right s b v c
+join_right s version (Stack place) b v c = stack_right s place b v c
+join_right s version (Packet id off range) b v c = packet_right s id off range b v c
+join_right s version PacketEnd b v c = end_right s b v c
+join_right s version (Map map) b v c = map_right s map b v c
+join_right s version (ValueOrNull map id) b v c = nullable_right s map id b v c
+join_right s version (Value map id off) b v c = value_right s version map id off b v c

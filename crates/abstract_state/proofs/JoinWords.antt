@@ -12,6 +12,7 @@ use Rattle.semantics.specs.Memory.{as_written}
 use Rattle.semantics.specs.Semantics.{stored_places}
 use Rattle.semantics.specs.Step.{Outcome}
 use Rattle.abstract_scalar.specs.declared.interval.Interval.{Interval}
+use Rattle.ebpf_decode.specs.declared.version.Version.{Version}
 use Rattle.abstract_state.specs.declared.kind.Kind.{Kind}
 use Rattle.abstract_state.specs.declared.kind.Kind.TheVariants.{Unset, Scalar, Ctx, Stack, Packet, PacketEnd, Map, ValueOrNull, Value}
 use Rattle.abstract_state.specs.declared.kind.StackWord.{StackWord}
@@ -97,16 +98,16 @@ spilled_covers s (Map map) places c = c
 spilled_covers s (ValueOrNull map id) places c = c
 spilled_covers s (Value map id off) places c = c
 
-pub word_left : (s : Setting) (a b : StackWord) (places : List StackByte) → WordCovers s a places → WordCovers s (join_word a b) places
-word_left s (Spilled kind) (Spilled other) places c =
-    spilled_covers s (join_kind kind other) places (record { value = c.value; covered = join_left s kind other c.value c.covered; stored = c.stored })
-word_left s (Spilled kind) (Bytes set) places c = both_written_left (bytes_of_kind kind) set places (kind_written s kind places c)
-word_left s (Bytes set) (Spilled other) places c = both_written_left set (bytes_of_kind other) places c
-word_left s (Bytes set) (Bytes other) places c = both_written_left set other places c
+pub word_left : (s : Setting) (version : Version) (a b : StackWord) (places : List StackByte) → WordCovers s a places → WordCovers s (join_word version a b) places
+word_left s version (Spilled kind) (Spilled other) places c =
+    spilled_covers s (join_kind version kind other) places (record { value = c.value; covered = join_left s version kind other c.value c.covered; stored = c.stored })
+word_left s version (Spilled kind) (Bytes set) places c = both_written_left (bytes_of_kind kind) set places (kind_written s kind places c)
+word_left s version (Bytes set) (Spilled other) places c = both_written_left set (bytes_of_kind other) places c
+word_left s version (Bytes set) (Bytes other) places c = both_written_left set other places c
 
-pub word_right : (s : Setting) (a b : StackWord) (places : List StackByte) → WordCovers s b places → WordCovers s (join_word a b) places
-word_right s (Spilled kind) (Spilled other) places c =
-    spilled_covers s (join_kind kind other) places (record { value = c.value; covered = join_right s kind other c.value c.covered; stored = c.stored })
-word_right s (Spilled kind) (Bytes set) places c = both_written_right (bytes_of_kind kind) set places c
-word_right s (Bytes set) (Spilled other) places c = both_written_right set (bytes_of_kind other) places (kind_written s other places c)
-word_right s (Bytes set) (Bytes other) places c = both_written_right set other places c
+pub word_right : (s : Setting) (version : Version) (a b : StackWord) (places : List StackByte) → WordCovers s b places → WordCovers s (join_word version a b) places
+word_right s version (Spilled kind) (Spilled other) places c =
+    spilled_covers s (join_kind version kind other) places (record { value = c.value; covered = join_right s version kind other c.value c.covered; stored = c.stored })
+word_right s version (Spilled kind) (Bytes set) places c = both_written_right (bytes_of_kind kind) set places c
+word_right s version (Bytes set) (Spilled other) places c = both_written_right set (bytes_of_kind other) places (kind_written s other places c)
+word_right s version (Bytes set) (Bytes other) places c = both_written_right set other places c

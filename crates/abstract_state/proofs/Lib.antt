@@ -17,3 +17,4 @@ pub mod Calling
 pub mod StackWriting
 pub mod Storing
 pub mod CellWriting
+pub mod Addressing

@@ -37,7 +37,7 @@ use Rattle.abstract_state.specs.Flow.{writable, reads, load_flow, flow_of}
 use Rattle.abstract_state.specs.Soundness.{GoesOn, FallsOn, Follows, HoldsAfter}
 use Rattle.abstract_state.specs.Abstraction.{Held, Setting, KindCovers, IsNumberIn, setting_of, Abstracts}
 use Rattle.abstract_state.proofs.shared.Checking.{ok_same, ok_then, falls_made, written_ok, next_setting, covers_next, put, write_follows}
-use Rattle.abstract_state.proofs.shared.Accesses.{IsAligned, range_found, stack_found, value_found, cell_reached}
+use Rattle.abstract_state.proofs.shared.Accesses.{IsAligned, IsWithin, range_found, stack_found, value_found, cell_reached}
 use Rattle.abstract_state.proofs.shared.LoadedNumbers.{Loads, size_fits, in_full, number_loads, word_loads, stack_value_is, packet_number}
 
 -- ---- a register that a load writes
@@ -111,7 +111,7 @@ load_width U64 = refl
 -- a load from a cell is served, and every word that comes is covered
 pub cell_follows : (program : Program) (held : Held) (state : State) (machine : MachineState) (a : Abstracts program.maps held state machine)
     (insn : Insn) (dst : Register) (done : Unit {0}) → writable dst ≡ Ok done → (map shard cell : ℕ) (place : ℤ) (from : ℕ) (size : Size) (convert : ℕ → ℕ) (i : Interval) →
-    IsAligned place (size_bytes size) (value_size_of (slice_get program.maps map)) from → IsTrue (held map shard cell) →
+    IsWithin place (size_bytes size) (value_size_of (slice_get program.maps map)) from → IsTrue (held map shard cell) →
     ((n : ℕ) → n < 256 ^ size_bytes size → IsNumberIn i (Number (convert n))) →
     FallsOn program held (with_kind state dst (Scalar i)) machine (machine.slot + slot_count insn)
     (load_cell_step program insn machine dst map shard cell place (size_bytes size) convert)
@@ -166,12 +166,12 @@ load_by_kind program held state machine a insn some size dst done w src offset (
     (number_loads (setting_of program.maps held a.ids machine) size (packet_value machine machine.generation (pos (a.ids.base id + off) +ℤ offset) (size_bytes size)) kind n same))
 load_by_kind program held state machine a insn some size dst done w src offset (Value map id off) v c kind e =
     let parts = ok_then (value_access program.maps map off offset (size_bytes size)) (λ from. Ok (loaded_number size)) kind e
-    in let found = value_found program.maps map off offset (size_bytes size) parts.0 parts.1.0
+    in let there = value_found program.maps map off offset (size_bytes size) parts.0 c.at c.least c.most parts.1.0
     in let same : loaded_number size ≡ kind = ok_same (Ok (loaded_number size)) (loaded_number size) kind refl parts.1.1
     in subst (λ v. FallsOn program held (with_kind state dst kind) machine (machine.slot + slot_count insn) (load_step program insn machine dst v offset size)) (sym c.is)
     (subst (λ kind. FallsOn program held (with_kind state dst kind) machine (machine.slot + slot_count insn)
-    (load_step program insn machine dst (CellPointer map c.cell.shard c.cell.id (pos off)) offset size)) same
-    (cell_follows program held state machine a insn dst done w map c.cell.shard c.cell.id (pos off +ℤ offset) parts.0 size (λ n. n) (full_of (size_bits size)) found c.held
+    (load_step program insn machine dst (CellPointer map c.cell.shard c.cell.id (pos c.at)) offset size)) same
+    (cell_follows program held state machine a insn dst done w map c.cell.shard c.cell.id (pos c.at +ℤ offset) there.from size (λ n. n) (full_of (size_bits size)) there.found c.held
     (λ n h. in_full size n (size_fits size n h))))
 load_by_kind program held state machine a insn some size dst done w src offset Unset v c kind e = cc
 load_by_kind program held state machine a insn some size dst done w src offset (Scalar i) v c kind e = cc

@@ -176,13 +176,13 @@ earlier : (n m : ℕ) → n < m → (n == m) ≡ false
 earlier n m h = grind (arith, nat_tests)
 
 -- the slot stands for what the lookup found
-abbrev with_found : Ids → ℕ → Option CellRef → Ids
+abbrev pub with_found : Ids → ℕ → Option CellRef → Ids
 with_found ids slot cell = record { base = ids.base; found = λ id. if id == slot then cell else ids.found id }
 
-kept_found : (ids : Ids) (slot : ℕ) (cell : Option CellRef) (id : ℕ) → id < slot → (with_found ids slot cell).found id ≡ ids.found id
+pub kept_found : (ids : Ids) (slot : ℕ) (cell : Option CellRef) (id : ℕ) → id < slot → (with_found ids slot cell).found id ≡ ids.found id
 kept_found ids slot cell id h = rw (earlier id slot h) refl
 
-now_found : (ids : Ids) (slot : ℕ) (cell : Option CellRef) → (with_found ids slot cell).found slot ≡ cell
+pub now_found : (ids : Ids) (slot : ℕ) (cell : Option CellRef) → (with_found ids slot cell).found slot ≡ cell
 now_found ids slot cell = rw (itself slot) refl
 
 given : (program : Program) (held : Held) (state : State) (machine : MachineState) (a : Abstracts program.maps held state machine)
@@ -198,6 +198,9 @@ given program held state machine a map definition known key (Cell cell) is held'
       (inr (record {
         cell = cell;
         found = now_found a.ids machine.slot (Some cell);
+        at = 0;
+        least = omega arith;
+        most = omega arith;
         is = refl;
         held = after.handed_out map definition known refl;
         earlier = omega arith;

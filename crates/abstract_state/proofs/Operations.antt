@@ -15,6 +15,7 @@ use Rattle.abstract_scalar.specs.declared.interval.Interval.{Interval}
 use Rattle.abstract_scalar.specs.Intervals.{Covers}
 use Rattle.abstract_scalar.specs.Transfer.{transfer_of}
 use Rattle.abstract_scalar.proofs.shared.Soundness.{transfer_covers}
+use Rattle.ebpf_decode.specs.declared.version.Version.{Version}
 use Rattle.abstract_state.specs.declared.kind.Kind.{Kind}
 use Rattle.abstract_state.specs.declared.kind.Kind.TheVariants.{Unset, Scalar, Ctx, Stack, Packet, PacketEnd, Map, ValueOrNull, Value}
 use Rattle.abstract_state.specs.declared.refusal.Refusal.TheVariants.{WrongKind, UnsetRegister}
@@ -24,7 +25,7 @@ use Rattle.abstract_state.specs.Flow.{is_set}
 use Rattle.abstract_state.specs.Abstraction.{Setting, KindCovers, IsNumberIn}
 use Rattle.abstract_state.proofs.shared.Inverting.{err_not_ok, ok_value}
 use Rattle.abstract_state.proofs.shared.Following.{Gives, gives}
-use Rattle.abstract_state.proofs.Pointers.{pointer_combined}
+use Rattle.abstract_state.proofs.Pointers.{SmallValues, pointer_combined}
 
 -- where an instruction stands: the setting at it, and the slot where the run goes on
 pub record Stands (s : Setting) (slot : ℕ) : Type 0 where
@@ -94,7 +95,7 @@ number_moved s slot width i v kind st c e =
 
 looked_up_moved : (s : Setting) (map id : ℕ) (v : RegisterValue) → KindCovers s (ValueOrNull map id) v → moved_value Bits64 v ≡ Ok v
 looked_up_moved s map id v (inl c) = copied v (Number 0) c.is refl
-looked_up_moved s map id v (inr c) = copied v (CellPointer map c.cell.shard c.cell.id (pos 0)) c.is refl
+looked_up_moved s map id v (inr c) = copied v (CellPointer map c.cell.shard c.cell.id (pos c.at)) c.is refl
 
 -- what is set and no number is copied by a move of 64 bits alone
 pointer_moved : (s : Setting) (slot : ℕ) (width : Width) (old kind : Kind) (v : RegisterValue) (source : Register) → Stands s slot → KindCovers s old v →
@@ -121,26 +122,26 @@ moved s slot width (ValueOrNull map id) kind v source st set c e =
     pointer_moved s slot width (ValueOrNull map id) kind v source st c (looked_up_moved s map id v c) refl refl e
 moved s slot width (Value map id off) kind v source st set c e =
     pointer_moved s slot width (Value map id off) kind v source st c
-    (copied v (CellPointer map c.cell.shard c.cell.id (pos off)) c.is refl) refl refl e
+    (copied v (CellPointer map c.cell.shard c.cell.id (pos c.at)) c.is refl) refl refl e
 
 -- ---- the table
 
-combined : (s : Setting) (slot : ℕ) (width : Width) (op : AluOp) (first second kind : Kind) (u v : RegisterValue) (dst source : Register) → Stands s slot →
-    KindCovers s first u → KindCovers s second v → combined_kind s.maps s.slot width op first second dst source ≡ Ok kind →
+combined : (s : Setting) (version : Version) (slot : ℕ) → SmallValues s → (width : Width) (op : AluOp) (first second kind : Kind) (u v : RegisterValue) (dst source : Register) → Stands s slot →
+    KindCovers s first u → KindCovers s second v → combined_kind s.maps version s.slot width op first second dst source ≡ Ok kind →
     Gives s slot kind (combined_value width op u v)
-combined s slot width op Unset second kind u v dst source st c d e = pointer_combined s slot width op Unset second u v dst source kind c d st.later st.bases e
-combined s slot width op (Scalar i) second kind u v dst source st c d e = numbers_combined s slot width op i second u v source kind st c d e
-combined s slot width op Ctx second kind u v dst source st c d e = pointer_combined s slot width op Ctx second u v dst source kind c d st.later st.bases e
-combined s slot width op (Stack place) second kind u v dst source st c d e = pointer_combined s slot width op (Stack place) second u v dst source kind c d st.later st.bases e
-combined s slot width op (Packet id off range) second kind u v dst source st c d e = pointer_combined s slot width op (Packet id off range) second u v dst source kind c d st.later st.bases e
-combined s slot width op PacketEnd second kind u v dst source st c d e = pointer_combined s slot width op PacketEnd second u v dst source kind c d st.later st.bases e
-combined s slot width op (Map map) second kind u v dst source st c d e = pointer_combined s slot width op (Map map) second u v dst source kind c d st.later st.bases e
-combined s slot width op (ValueOrNull map id) second kind u v dst source st c d e = pointer_combined s slot width op (ValueOrNull map id) second u v dst source kind c d st.later st.bases e
-combined s slot width op (Value map id off) second kind u v dst source st c d e = pointer_combined s slot width op (Value map id off) second u v dst source kind c d st.later st.bases e
+combined s version slot small width op Unset second kind u v dst source st c d e = pointer_combined s version slot small width op Unset second u v dst source kind c d st.later st.bases e
+combined s version slot small width op (Scalar i) second kind u v dst source st c d e = numbers_combined s slot width op i second u v source kind st c d e
+combined s version slot small width op Ctx second kind u v dst source st c d e = pointer_combined s version slot small width op Ctx second u v dst source kind c d st.later st.bases e
+combined s version slot small width op (Stack place) second kind u v dst source st c d e = pointer_combined s version slot small width op (Stack place) second u v dst source kind c d st.later st.bases e
+combined s version slot small width op (Packet id off range) second kind u v dst source st c d e = pointer_combined s version slot small width op (Packet id off range) second u v dst source kind c d st.later st.bases e
+combined s version slot small width op PacketEnd second kind u v dst source st c d e = pointer_combined s version slot small width op PacketEnd second u v dst source kind c d st.later st.bases e
+combined s version slot small width op (Map map) second kind u v dst source st c d e = pointer_combined s version slot small width op (Map map) second u v dst source kind c d st.later st.bases e
+combined s version slot small width op (ValueOrNull map id) second kind u v dst source st c d e = pointer_combined s version slot small width op (ValueOrNull map id) second u v dst source kind c d st.later st.bases e
+combined s version slot small width op (Value map id off) second kind u v dst source st c d e = pointer_combined s version slot small width op (Value map id off) second u v dst source kind c d st.later st.bases e
 
 -- any operation on operands that are set
-pub operation_gives : (s : Setting) (slot : ℕ) (width : Width) (op : AluOp) (first second kind : Kind) (u v : RegisterValue) (dst source : Register) → Stands s slot →
-    is_set second source ≡ Ok tt → KindCovers s first u → KindCovers s second v → alu_kind s.maps s.slot width op first second dst source ≡ Ok kind →
+pub operation_gives : (s : Setting) (version : Version) (slot : ℕ) → SmallValues s → (width : Width) (op : AluOp) (first second kind : Kind) (u v : RegisterValue) (dst source : Register) → Stands s slot →
+    is_set second source ≡ Ok tt → KindCovers s first u → KindCovers s second v → alu_kind s.maps version s.slot width op first second dst source ≡ Ok kind →
     Gives s slot kind (alu_outcome width op u v)
-operation_gives s slot width Mov first second kind u v dst source st set c d e = moved s slot width second kind v source st set d e
-operation_gives s slot width op first second kind u v dst source st set c d e = combined s slot width op first second kind u v dst source st c d e
+operation_gives s version slot small width Mov first second kind u v dst source st set c d e = moved s slot width second kind v source st set d e
+operation_gives s version slot small width op first second kind u v dst source st set c d e = combined s version slot small width op first second kind u v dst source st c d e

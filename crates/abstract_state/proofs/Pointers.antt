@@ -1,6 +1,6 @@
 -- A pointer that is moved, by a single number or by one of an interval.
 use Rattle.std.proofs.Common.{◌≡◌, ℕ, ◌+◌, ◌*◌, ◌<◌, ◌≤◌, ◌^◌, Bool, true, false, if◌then◌else◌, ◌==◌, nat_le, ℤ, pos, ◌+ℤ◌, Ok, Err, refl, sym, ◌∙◌, ap, subst, arith}
-use Rattle.std.specs.Prelude.{slice_get}
+use Rattle.std.specs.Prelude.{List, slice_get}
 use Rattle.std.proofs.Math.IntN.{+ℤ_assoc, pos-+ℤ-pos}
 use Rattle.std.proofs.lemmas.Bool.{leb-true, eqb-true, false≢true}
 use Rattle.std.proofs.Common.{lt-ltb, ne_eqb, eq-eqb}
@@ -16,13 +16,18 @@ use Rattle.semantics.specs.Arithmetic.{pointer_distance, at_distance, combined_v
 use Rattle.abstract_scalar.specs.declared.interval.Interval.{Interval}
 use Rattle.abstract_scalar.specs.Intervals.{is_single}
 use Rattle.abstract_scalar.proofs.shared.Soundness.{single_is}
+use Rattle.ebpf_decode.specs.declared.map.MapDef.{MapDef}
+use Rattle.ebpf_decode.specs.declared.version.Version.{Version}
+use Rattle.ebpf_decode.specs.declared.version.Version.TheVariants.{V1, V2}
 use Rattle.abstract_state.specs.declared.kind.Kind.{Kind}
+use Rattle.abstract_state.specs.declared.kind.Offsets.{Offsets}
 use Rattle.abstract_state.specs.declared.kind.Kind.TheVariants.{Unset, Scalar, Ctx, Stack, Packet, PacketEnd, Map, ValueOrNull, Value}
 use Rattle.abstract_state.specs.declared.refusal.Refusal.TheVariants.{WrongKind, PacketBounds, StackBounds, ValueBounds}
-use Rattle.abstract_state.specs.States.{Checked, stack_bytes, value_size_of}
-use Rattle.abstract_state.specs.Places.{place_within}
-use Rattle.abstract_state.specs.Arithmetic.{distance_of, moves_pointers, moved_pointer, moved_far, pointer_sum, is_movable, combined_pointer}
+use Rattle.abstract_state.specs.States.{Checked, ◌>>=◌, stack_bytes, value_size_of}
+use Rattle.abstract_state.specs.Places.{place_within, offsets_within}
+use Rattle.abstract_state.specs.Arithmetic.{distance_of, moves_pointers, moved_pointer, moved_value, moved_far, pointer_sum, is_movable, combined_pointer}
 use Rattle.abstract_state.specs.Abstraction.{Ids, Setting, KindCovers, IsNumberIn, IsStackPlace, IsPacketPlace, IsLiveCell}
+use Rattle.abstract_state.proofs.shared.Between.{IsBetween, between}
 use Rattle.abstract_state.proofs.shared.Inverting.{err_not_ok, ok_value, ok_then, ok_if, place_is}
 use Rattle.abstract_state.proofs.shared.Following.{Gives, gives}
 
@@ -93,36 +98,105 @@ packet_gives s slot width op i u v id off range dst kind c m single e =
       near = to.within;
     }))
 
-value_gives : (s : Setting) (slot : ℕ) (width : Width) (op : AluOp) (i : Interval) (u v : RegisterValue) (map id off : ℕ) (dst : Register) (kind : Kind) →
+-- both ends of what was moved
+record AreMoved (s : Setting) (map : ℕ) (low high : ℤ) (to : Offsets) : Type 0 where
+  low_is : low ≡ pos to.low
+  high_is : high ≡ pos to.high
+  within : to.high ≤ value_size_of (slice_get s.maps map)
+
+ends_moved : (s : Setting) (map : ℕ) (low high : ℤ) (to : Offsets) → offsets_within s.maps map low high ≡ Ok to → AreMoved s map low high to
+ends_moved s map low high to e =
+    let first = ok_then (place_within low (value_size_of (slice_get s.maps map)) ValueBounds) (λ from.
+    place_within high (value_size_of (slice_get s.maps map)) ValueBounds >>= (λ last. Ok (record { low = from; high = last }))) to e
+    in let second = ok_then (place_within high (value_size_of (slice_get s.maps map)) ValueBounds) (λ last. Ok (record { low = first.value; high = last })) to first.next
+    in let same : record { low = first.value; high = second.value } ≡ to = ok_value (record { low = first.value; high = second.value }) to second.next
+    in let a = place_is low (value_size_of (slice_get s.maps map)) ValueBounds first.value first.is
+    in let b = place_is high (value_size_of (slice_get s.maps map)) ValueBounds second.value second.is
+    in record {
+      low_is = a.is ∙ ap (λ (one : Offsets). pos one.low) same;
+      high_is = b.is ∙ ap (λ (one : Offsets). pos one.high) same;
+      within = subst (λ (one : Offsets). one.high ≤ value_size_of (slice_get s.maps map)) same b.within;
+    }
+
+value_gives : (s : Setting) (slot : ℕ) (width : Width) (op : AluOp) (i : Interval) (u v : RegisterValue) (map id : ℕ) (off : Offsets) (dst : Register) (kind : Kind) →
     IsLiveCell s map id off u → Moves s slot width op i v → is_single i ≡ true →
     moved_pointer s.maps (Value map id off) (distance_of op i.low) dst ≡ Ok kind → Gives s slot kind (combined_value width op u v)
 value_gives s slot width op i u v map id off dst kind c m single e =
-    let p = ok_then (place_within (pos off +ℤ distance_of op i.low) (value_size_of (slice_get s.maps map)) ValueBounds) (λ to. Ok (Value map id to)) kind e
-    in let to = place_is (pos off +ℤ distance_of op i.low) (value_size_of (slice_get s.maps map)) ValueBounds p.value p.is
+    let p = ok_then (offsets_within s.maps map (pos off.low +ℤ distance_of op i.low) (pos off.high +ℤ distance_of op i.low)) (λ to. Ok (Value map id to)) kind e
+    in let to = ends_moved s map (pos off.low +ℤ distance_of op i.low) (pos off.high +ℤ distance_of op i.low) p.value p.is
+    in let there : IsBetween c.at (distance_of op i.low) p.value.low p.value.high =
+    between off.low off.high c.at p.value.low p.value.high (distance_of op i.low) c.least c.most to.low_is to.high_is
     in let n : m.number.number ≡ i.low = single_is i m.number.number single m.number.within
-    in let made : combined_value width op u v ≡ Ok (CellPointer map c.cell.shard c.cell.id (pos off +ℤ distance_of op i.low)) =
-    moved_by width op i.low u v (λ d. CellPointer map c.cell.shard c.cell.id (pos off +ℤ d)) m.moves (m.number.is ∙ ap Number n) (rw (c.is) refl)
+    in let made : combined_value width op u v ≡ Ok (CellPointer map c.cell.shard c.cell.id (pos c.at +ℤ distance_of op i.low)) =
+    moved_by width op i.low u v (λ d. CellPointer map c.cell.shard c.cell.id (pos c.at +ℤ d)) m.moves (m.number.is ∙ ap Number n) (rw (c.is) refl)
     in subst (λ k. Gives s slot k (combined_value width op u v)) (ok_value (Value map id p.value) kind p.next)
     (let later : s.slot < slot = m.later in
     gives s slot (Value map id p.value) (combined_value width op u v)
-    (CellPointer map c.cell.shard c.cell.id (pos off +ℤ distance_of op i.low)) (omega arith) m.bases made
+    (CellPointer map c.cell.shard c.cell.id (pos c.at +ℤ distance_of op i.low)) (omega arith) m.bases made
     (record {
       cell = c.cell;
       found = c.found;
-      is = ap (CellPointer map c.cell.shard c.cell.id) to.is;
+      at = there.place;
+      least = there.least;
+      most = there.most;
+      is = ap (CellPointer map c.cell.shard c.cell.id) there.is;
       held = c.held;
       earlier = c.earlier;
     }))
 
 -- ---- by a number of an interval
 
-stays_near : (op : AluOp) (slot place : ℕ) (i : Interval) (source : Register) (kind : Kind) → moved_far slot op (Stack place) i source ≡ Ok kind → ⊥
-stays_near Add slot place i source kind e = err_not_ok (WrongKind source) kind e
-stays_near op slot place i source kind e = err_not_ok (WrongKind source) kind e
+stays_near : (maps : List MapDef) (version : Version) (op : AluOp) (slot place : ℕ) (i : Interval) (source : Register) (kind : Kind) →
+    moved_far maps version slot op (Stack place) i source ≡ Ok kind → ⊥
+stays_near maps version Add slot place i source kind e = err_not_ok (WrongKind source) kind e
+stays_near maps version op slot place i source kind e = err_not_ok (WrongKind source) kind e
 
-value_stays_near : (op : AluOp) (slot map id off : ℕ) (i : Interval) (source : Register) (kind : Kind) → moved_far slot op (Value map id off) i source ≡ Ok kind → ⊥
-value_stays_near Add slot map id off i source kind e = err_not_ok (WrongKind source) kind e
-value_stays_near op slot map id off i source kind e = err_not_ok (WrongKind source) kind e
+-- no value has more bytes than an image can say
+abbrev pub SmallValues : Setting → Type 0
+SmallValues s = (map : ℕ) → value_size_of (slice_get s.maps map) ≤ 256
+
+-- in version 2 an address in a value moves by each end of the interval
+value_far : (s : Setting) (version : Version) (slot : ℕ) → SmallValues s → (i : Interval) (u v : RegisterValue) (map id : ℕ) (off : Offsets) (source : Register) (kind : Kind) →
+    IsLiveCell s map id off u → Moves s slot Bits64 Add i v → moved_value s.maps version map id off i source ≡ Ok kind →
+    Gives s slot kind (combined_value Bits64 Add u v)
+value_far s V1 slot small i u v map id off source kind c m e = absurd (err_not_ok (WrongKind source) kind e)
+value_far s V2 slot small i u v map id off source kind c m e =
+    let p = ok_then (offsets_within s.maps map (pos (off.low + i.low)) (pos (off.high + i.high))) (λ to. Ok (Value map id to)) kind e
+    in let to = ends_moved s map (pos (off.low + i.low)) (pos (off.high + i.high)) p.value p.is
+    in let low : off.low + i.low ≡ p.value.low = (let both : pos (off.low + i.low) ≡ pos p.value.low = to.low_is in cc)
+    in let high : off.high + i.high ≡ p.value.high = (let both : pos (off.high + i.high) ≡ pos p.value.high = to.high_is in cc)
+    in let within : p.value.high ≤ value_size_of (slice_get s.maps map) = to.within
+    in let size : value_size_of (slice_get s.maps map) ≤ 256 = small map
+    in let above : i.low ≤ m.number.number = m.number.within.above
+    in let below : m.number.number ≤ i.high = m.number.within.below
+    in let least : off.low ≤ c.at = c.least
+    in let most : c.at ≤ off.high = c.most
+    in let n : m.number.number ≤ 65535 = omega arith
+    in let made : combined_value Bits64 Add u v ≡ Ok (CellPointer map c.cell.shard c.cell.id (pos c.at +ℤ signed_value 64 m.number.number)) =
+    moved_by Bits64 Add m.number.number u v (λ d. CellPointer map c.cell.shard c.cell.id (pos c.at +ℤ d)) refl m.number.is (rw (c.is) refl)
+    in let place : pos c.at +ℤ signed_value 64 m.number.number ≡ pos (c.at + m.number.number) =
+    ap (λ z. pos c.at +ℤ z) (small_distance m.number.number n) ∙ pos-+ℤ-pos c.at m.number.number
+    in subst (λ k. Gives s slot k (combined_value Bits64 Add u v)) (ok_value (Value map id p.value) kind p.next)
+    (let later : s.slot < slot = m.later in
+    gives s slot (Value map id p.value) (combined_value Bits64 Add u v)
+    (CellPointer map c.cell.shard c.cell.id (pos c.at +ℤ signed_value 64 m.number.number)) (omega arith) m.bases made
+    (record {
+      cell = c.cell;
+      found = c.found;
+      at = c.at + m.number.number;
+      least = omega arith;
+      most = omega arith;
+      is = ap (CellPointer map c.cell.shard c.cell.id) place;
+      held = c.held;
+      earlier = c.earlier;
+    }))
+
+value_far_by : (s : Setting) (version : Version) (slot : ℕ) → SmallValues s → (width : Width) (op : AluOp) (i : Interval) (u v : RegisterValue) (map id : ℕ) (off : Offsets)
+    (source : Register) (kind : Kind) → IsLiveCell s map id off u → Moves s slot width op i v → moved_far s.maps version s.slot op (Value map id off) i source ≡ Ok kind →
+    Gives s slot kind (combined_value width op u v)
+value_far_by s version slot small Bits64 Add i u v map id off source kind c m e = value_far s version slot small i u v map id off source kind c m e
+value_far_by s version slot small Bits64 op i u v map id off source kind c m e = absurd (err_not_ok (WrongKind source) kind e)
+value_far_by s version slot small Bits32 op i u v map id off source kind c m e = absurd (false≢true m.moves)
 
 -- the ids with the base of a slot
 abbrev with_base : Ids → ℕ → ℕ → Ids
@@ -138,10 +212,10 @@ other_base id slot place base h = rw (ne_eqb id slot (λ e. absurd (omega arith)
 own_base : (slot place base : ℕ) → (if slot == slot then place else base) ≡ place
 own_base slot place base = rw (eq-eqb slot slot refl) refl
 
-packet_far : (s : Setting) (slot : ℕ) (i : Interval) (u v : RegisterValue) (id off range : ℕ) (source : Register) (kind : Kind) →
-    IsPacketPlace s id off range u → Moves s slot Bits64 Add i v → moved_far s.slot Add (Packet id off range) i source ≡ Ok kind →
+packet_far : (s : Setting) (version : Version) (slot : ℕ) (i : Interval) (u v : RegisterValue) (id off range : ℕ) (source : Register) (kind : Kind) →
+    IsPacketPlace s id off range u → Moves s slot Bits64 Add i v → moved_far s.maps version s.slot Add (Packet id off range) i source ≡ Ok kind →
     Gives s slot kind (combined_value Bits64 Add u v)
-packet_far s slot i u v id off range source kind c m e =
+packet_far s version slot i u v id off range source kind c m e =
     let chosen = ok_if (nat_le i.high 65535) (Ok (Packet s.slot 0 0)) PacketBounds kind e
     in let least : i.high ≤ 65535 = leb-true i.high 65535 chosen.holds
     in let below : m.number.number ≤ i.high = m.number.within.below
@@ -173,12 +247,12 @@ packet_far s slot i u v id off range source kind c m e =
       };
     })
 
-packet_far_by : (s : Setting) (slot : ℕ) (width : Width) (op : AluOp) (i : Interval) (u v : RegisterValue) (id off range : ℕ) (source : Register) (kind : Kind) →
-    IsPacketPlace s id off range u → Moves s slot width op i v → moved_far s.slot op (Packet id off range) i source ≡ Ok kind →
+packet_far_by : (s : Setting) (version : Version) (slot : ℕ) (width : Width) (op : AluOp) (i : Interval) (u v : RegisterValue) (id off range : ℕ) (source : Register) (kind : Kind) →
+    IsPacketPlace s id off range u → Moves s slot width op i v → moved_far s.maps version s.slot op (Packet id off range) i source ≡ Ok kind →
     Gives s slot kind (combined_value width op u v)
-packet_far_by s slot Bits64 Add i u v id off range source kind c m e = packet_far s slot i u v id off range source kind c m e
-packet_far_by s slot Bits64 op i u v id off range source kind c m e = absurd (err_not_ok (WrongKind source) kind e)
-packet_far_by s slot Bits32 op i u v id off range source kind c m e = absurd (false≢true m.moves)
+packet_far_by s version slot Bits64 Add i u v id off range source kind c m e = packet_far s version slot i u v id off range source kind c m e
+packet_far_by s version slot Bits64 op i u v id off range source kind c m e = absurd (err_not_ok (WrongKind source) kind e)
+packet_far_by s version slot Bits32 op i u v id off range source kind c m e = absurd (false≢true m.moves)
 
 -- ---- together
 
@@ -187,53 +261,53 @@ by_single true a b x P e f g = f refl e
 by_single false a b x P e f g = g e
 
 -- a pointer plus or minus a number
-pointer_by : (s : Setting) (slot : ℕ) (width : Width) (op : AluOp) (i : Interval) (pointer : Kind) (u v : RegisterValue) (dst source : Register) (kind : Kind) →
+pointer_by : (s : Setting) (version : Version) (slot : ℕ) → SmallValues s → (width : Width) (op : AluOp) (i : Interval) (pointer : Kind) (u v : RegisterValue) (dst source : Register) (kind : Kind) →
     KindCovers s pointer u → Moves s slot width op i v → is_movable pointer ≡ true →
-    (if is_single i then moved_pointer s.maps pointer (distance_of op i.low) dst else moved_far s.slot op pointer i source) ≡ Ok kind →
+    (if is_single i then moved_pointer s.maps pointer (distance_of op i.low) dst else moved_far s.maps version s.slot op pointer i source) ≡ Ok kind →
     Gives s slot kind (combined_value width op u v)
-pointer_by s slot width op i (Stack place) u v dst source kind c m movable e =
-    by_single (is_single i) (moved_pointer s.maps (Stack place) (distance_of op i.low) dst) (moved_far s.slot op (Stack place) i source) kind
+pointer_by s version slot small width op i (Stack place) u v dst source kind c m movable e =
+    by_single (is_single i) (moved_pointer s.maps (Stack place) (distance_of op i.low) dst) (moved_far s.maps version s.slot op (Stack place) i source) kind
     (Gives s slot kind (combined_value width op u v)) e
     (λ single one. stack_gives s slot width op i u v place dst kind c m single one)
-    (λ far. absurd (stays_near op s.slot place i source kind far))
-pointer_by s slot width op i (Packet id off range) u v dst source kind c m movable e =
-    by_single (is_single i) (moved_pointer s.maps (Packet id off range) (distance_of op i.low) dst) (moved_far s.slot op (Packet id off range) i source) kind
+    (λ far. absurd (stays_near s.maps version op s.slot place i source kind far))
+pointer_by s version slot small width op i (Packet id off range) u v dst source kind c m movable e =
+    by_single (is_single i) (moved_pointer s.maps (Packet id off range) (distance_of op i.low) dst) (moved_far s.maps version s.slot op (Packet id off range) i source) kind
     (Gives s slot kind (combined_value width op u v)) e
     (λ single one. packet_gives s slot width op i u v id off range dst kind c m single one)
-    (λ far. packet_far_by s slot width op i u v id off range source kind c m far)
-pointer_by s slot width op i (Value map id off) u v dst source kind c m movable e =
-    by_single (is_single i) (moved_pointer s.maps (Value map id off) (distance_of op i.low) dst) (moved_far s.slot op (Value map id off) i source) kind
+    (λ far. packet_far_by s version slot width op i u v id off range source kind c m far)
+pointer_by s version slot small width op i (Value map id off) u v dst source kind c m movable e =
+    by_single (is_single i) (moved_pointer s.maps (Value map id off) (distance_of op i.low) dst) (moved_far s.maps version s.slot op (Value map id off) i source) kind
     (Gives s slot kind (combined_value width op u v)) e
     (λ single one. value_gives s slot width op i u v map id off dst kind c m single one)
-    (λ far. absurd (value_stays_near op s.slot map id off i source kind far))
-pointer_by s slot width op i Unset u v dst source kind c m movable e = absurd (false≢true movable)
-pointer_by s slot width op i (Scalar j) u v dst source kind c m movable e = absurd (false≢true movable)
-pointer_by s slot width op i Ctx u v dst source kind c m movable e = absurd (false≢true movable)
-pointer_by s slot width op i PacketEnd u v dst source kind c m movable e = absurd (false≢true movable)
-pointer_by s slot width op i (Map map) u v dst source kind c m movable e = absurd (false≢true movable)
-pointer_by s slot width op i (ValueOrNull map id) u v dst source kind c m movable e = absurd (false≢true movable)
+    (λ far. value_far_by s version slot small width op i u v map id off source kind c m far)
+pointer_by s version slot small width op i Unset u v dst source kind c m movable e = absurd (false≢true movable)
+pointer_by s version slot small width op i (Scalar j) u v dst source kind c m movable e = absurd (false≢true movable)
+pointer_by s version slot small width op i Ctx u v dst source kind c m movable e = absurd (false≢true movable)
+pointer_by s version slot small width op i PacketEnd u v dst source kind c m movable e = absurd (false≢true movable)
+pointer_by s version slot small width op i (Map map) u v dst source kind c m movable e = absurd (false≢true movable)
+pointer_by s version slot small width op i (ValueOrNull map id) u v dst source kind c m movable e = absurd (false≢true movable)
 
-pointer_sum_by : (s : Setting) (slot : ℕ) (width : Width) (op : AluOp) (pointer other : Kind) (u v : RegisterValue) (dst source : Register) (kind : Kind) →
+pointer_sum_by : (s : Setting) (version : Version) (slot : ℕ) → SmallValues s → (width : Width) (op : AluOp) (pointer other : Kind) (u v : RegisterValue) (dst source : Register) (kind : Kind) →
     KindCovers s pointer u → KindCovers s other v → moves_pointers width op ≡ true → is_movable pointer ≡ true → s.slot < slot →
-    ((id : ℕ) → s.ids.base id ≤ 131070 * id) → pointer_sum s.maps s.slot op pointer other dst source ≡ Ok kind →
+    ((id : ℕ) → s.ids.base id ≤ 131070 * id) → pointer_sum s.maps version s.slot op pointer other dst source ≡ Ok kind →
     Gives s slot kind (combined_value width op u v)
-pointer_sum_by s slot width op pointer (Scalar i) u v dst source kind c d moves movable later bases e =
-    pointer_by s slot width op i pointer u v dst source kind c (record { moves = moves; number = d; later = later; bases = bases }) movable e
-pointer_sum_by s slot width op pointer Unset u v dst source kind c d moves movable later bases e = absurd (err_not_ok (WrongKind source) kind e)
-pointer_sum_by s slot width op pointer Ctx u v dst source kind c d moves movable later bases e = absurd (err_not_ok (WrongKind source) kind e)
-pointer_sum_by s slot width op pointer (Stack place) u v dst source kind c d moves movable later bases e = absurd (err_not_ok (WrongKind source) kind e)
-pointer_sum_by s slot width op pointer (Packet id off range) u v dst source kind c d moves movable later bases e = absurd (err_not_ok (WrongKind source) kind e)
-pointer_sum_by s slot width op pointer PacketEnd u v dst source kind c d moves movable later bases e = absurd (err_not_ok (WrongKind source) kind e)
-pointer_sum_by s slot width op pointer (Map map) u v dst source kind c d moves movable later bases e = absurd (err_not_ok (WrongKind source) kind e)
-pointer_sum_by s slot width op pointer (ValueOrNull map id) u v dst source kind c d moves movable later bases e = absurd (err_not_ok (WrongKind source) kind e)
-pointer_sum_by s slot width op pointer (Value map id off) u v dst source kind c d moves movable later bases e = absurd (err_not_ok (WrongKind source) kind e)
+pointer_sum_by s version slot small width op pointer (Scalar i) u v dst source kind c d moves movable later bases e =
+    pointer_by s version slot small width op i pointer u v dst source kind c (record { moves = moves; number = d; later = later; bases = bases }) movable e
+pointer_sum_by s version slot small width op pointer Unset u v dst source kind c d moves movable later bases e = absurd (err_not_ok (WrongKind source) kind e)
+pointer_sum_by s version slot small width op pointer Ctx u v dst source kind c d moves movable later bases e = absurd (err_not_ok (WrongKind source) kind e)
+pointer_sum_by s version slot small width op pointer (Stack place) u v dst source kind c d moves movable later bases e = absurd (err_not_ok (WrongKind source) kind e)
+pointer_sum_by s version slot small width op pointer (Packet id off range) u v dst source kind c d moves movable later bases e = absurd (err_not_ok (WrongKind source) kind e)
+pointer_sum_by s version slot small width op pointer PacketEnd u v dst source kind c d moves movable later bases e = absurd (err_not_ok (WrongKind source) kind e)
+pointer_sum_by s version slot small width op pointer (Map map) u v dst source kind c d moves movable later bases e = absurd (err_not_ok (WrongKind source) kind e)
+pointer_sum_by s version slot small width op pointer (ValueOrNull map id) u v dst source kind c d moves movable later bases e = absurd (err_not_ok (WrongKind source) kind e)
+pointer_sum_by s version slot small width op pointer (Value map id off) u v dst source kind c d moves movable later bases e = absurd (err_not_ok (WrongKind source) kind e)
 
 -- a pointer as the first operand
-pub pointer_combined : (s : Setting) (slot : ℕ) (width : Width) (op : AluOp) (pointer other : Kind) (u v : RegisterValue) (dst source : Register) (kind : Kind) →
+pub pointer_combined : (s : Setting) (version : Version) (slot : ℕ) → SmallValues s → (width : Width) (op : AluOp) (pointer other : Kind) (u v : RegisterValue) (dst source : Register) (kind : Kind) →
     KindCovers s pointer u → KindCovers s other v → s.slot < slot → ((id : ℕ) → s.ids.base id ≤ 131070 * id) →
-    combined_pointer s.maps s.slot width op pointer other dst source ≡ Ok kind → Gives s slot kind (combined_value width op u v)
-pointer_combined s slot width op pointer other u v dst source kind c d later bases e =
+    combined_pointer s.maps version s.slot width op pointer other dst source ≡ Ok kind → Gives s slot kind (combined_value width op u v)
+pointer_combined s version slot small width op pointer other u v dst source kind c d later bases e =
     let moves = ok_if (moves_pointers width op)
-    (if is_movable pointer then pointer_sum s.maps s.slot op pointer other dst source else Err (WrongKind dst)) (WrongKind dst) kind e
-    in let movable = ok_if (is_movable pointer) (pointer_sum s.maps s.slot op pointer other dst source) (WrongKind dst) kind moves.next
-    in pointer_sum_by s slot width op pointer other u v dst source kind c d moves.holds movable.holds later bases movable.next
+    (if is_movable pointer then pointer_sum s.maps version s.slot op pointer other dst source else Err (WrongKind dst)) (WrongKind dst) kind e
+    in let movable = ok_if (is_movable pointer) (pointer_sum s.maps version s.slot op pointer other dst source) (WrongKind dst) kind moves.next
+    in pointer_sum_by s version slot small width op pointer other u v dst source kind c d moves.holds movable.holds later bases movable.next

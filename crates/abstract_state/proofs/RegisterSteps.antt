@@ -1,6 +1,7 @@
 -- The instructions that change one register alone, and those that change none.
-use Rattle.std.proofs.Common.{◌≡◌, ℕ, ◌+◌, ◌<◌, ◌^◌, ℤ, pos, negsuc, Option, Some, None, Ok, Err, refl, sym, ◌∙◌, ap, subst, arith}
+use Rattle.std.proofs.Common.{◌≡◌, ℕ, ◌+◌, ◌<◌, ◌≤◌, ◌^◌, List, zero-le, ℤ, pos, negsuc, Option, Some, None, Ok, Err, refl, sym, ◌∙◌, ap, subst, arith}
 use Rattle.std.specs.Prelude.{slice_get}
+use Rattle.std.specs.List.{AllByRecursion}
 use Rattle.isa.specs.Alu.{neg_value, sign_extended, short_extension_bits}
 use Rattle.isa.specs.Swap.{swap_result, swap_bits}
 use Rattle.isa.proofs.Bounds.{width_fits, neg_value-lt, movsx64-lt, movsx32-lt, swap_result-lt}
@@ -23,6 +24,8 @@ use Rattle.ebpf_decode.specs.InstructionEncoding.{slot_count}
 use Rattle.semantics.specs.RegisterValue.{RegisterValue, Number, MapPointer}
 use Rattle.semantics.specs.MachineState.{MachineState, register_value}
 use Rattle.semantics.specs.Program.{Program}
+use Rattle.semantics.specs.PlanLimits.{HasImageSizes}
+use Rattle.semantics.proofs.PlanLemmas.{each_at}
 use Rattle.semantics.specs.Arithmetic.{changed_number, source_value, alu_outcome}
 use Rattle.semantics.specs.Semantics.{write_step, extended, map_pointer, exit_step, jump_step, instruction_step}
 use Rattle.abstract_scalar.specs.declared.interval.Interval.{Interval}
@@ -35,7 +38,7 @@ use Rattle.abstract_state.specs.declared.flow.Flow.{Flow}
 use Rattle.abstract_state.specs.declared.flow.Flow.TheVariants.{Ends, Falls, Jumps}
 use Rattle.abstract_state.specs.declared.refusal.Refusal.TheVariants.{WrongKind, PointerLeak, UnknownMap}
 use Rattle.abstract_state.specs.declared.state.State.{State}
-use Rattle.abstract_state.specs.States.{◌>>=◌, kind_of, with_kind}
+use Rattle.abstract_state.specs.States.{◌>>=◌, kind_of, with_kind, value_size_of}
 use Rattle.abstract_state.specs.Arithmetic.{source_kind, blamed, alu_kind, after_alu_of}
 use Rattle.abstract_state.specs.Flow.{writable, is_set, reads, reads_operands, alu_flow, number_of, operand_of, unary_flow, number_flow, known_map, map_flow, exit_kind, falls, flow_of}
 use Rattle.abstract_state.specs.Abstraction.{Held, Setting, KindCovers, IsNumberIn, setting_of, Abstracts}
@@ -58,23 +61,32 @@ source_set state Mov dst (Reg register) e = e
 source_set state op dst (Reg register) e =
     let p = ok_then (reads state dst) (λ _. reads state register) tt e in p.next
 
+small_values : (maps : List MapDef) → AllByRecursion HasImageSizes maps → (map : ℕ) → value_size_of (slice_get maps map) ≤ 256
+small_values maps sizes map = by_found (slice_get maps map) refl
+  where
+    by_found : (found : Option MapDef) → slice_get maps map ≡ found → value_size_of found ≤ 256
+    by_found None is = zero-le
+    by_found (Some definition) is = (each_at HasImageSizes maps map definition sizes is).value_size
+
 pub alu_follows : (program : Program) (held : Held) (state : State) (machine : MachineState) (width : Width) (op : AluOp) (dst : Register) (source : Source) (flow : Flow) →
-    Abstracts program.maps held state machine → SourceFits source → flow_of program.maps state machine.slot (Alu width op dst source) ≡ Ok flow →
+    Abstracts program.maps held state machine → AllByRecursion HasImageSizes program.maps → SourceFits source →
+    flow_of program.maps state machine.slot (Alu width op dst source) ≡ Ok flow →
     Follows program held flow machine (Alu width op dst source) (instruction_step program (Alu width op dst source) machine)
 unfolding slot_count
-alu_follows program held state machine width op dst source flow a fits e =
+alu_follows program held state machine width op dst source flow a sizes fits e =
     falls_follow program held machine (Alu width op dst source) (instruction_step program (Alu width op dst source) machine)
     (alu_flow program.maps state machine.slot width op dst source) flow e
     (λ after is.
     let may = ok_then (writable dst) (λ _. reads_operands state op dst source >>= (λ _. after_alu_of program.maps state machine.slot width op dst source)) after is
     in let read = ok_then (reads_operands state op dst source) (λ _. after_alu_of program.maps state machine.slot width op dst source) after may.next
-    in let made = ok_then (alu_kind program.maps machine.slot width op (kind_of state dst) (source_kind state source) dst (blamed dst source))
+    in let made = ok_then (alu_kind program.maps state.version machine.slot width op (kind_of state dst) (source_kind state source) dst (blamed dst source))
     (λ kind. Ok (with_kind state dst kind)) after read.next
     in subst (λ x. Follows program held (Falls x) machine (Alu width op dst source) (instruction_step program (Alu width op dst source) machine))
     (ok_value (with_kind state dst made.value) after made.next)
     (wrote program held state machine (Alu width op dst source) dst made.value
     (alu_outcome width op (register_value machine dst) (source_value machine source)) a may.is
-    (operation_gives (setting_of program.maps held a.ids machine) (machine.slot + slot_count (Alu width op dst source)) width op
+    (operation_gives (setting_of program.maps held a.ids machine) state.version (machine.slot + slot_count (Alu width op dst source))
+    (small_values program.maps sizes) width op
     (kind_of state dst) (source_kind state source) made.value (register_value machine dst) (source_value machine source) dst (blamed dst source)
     (stands program held state machine a (Alu width op dst source) (omega arith)) (source_set state op dst source read.is)
     (a.registers dst) (source_covers program.maps held state machine a source fits) made.is)))

@@ -78,9 +78,9 @@ signed_by_kind program held state machine a insn extension dst done w src offset
     (signed_loads (setting_of program.maps held a.ids machine) extension (packet_value machine machine.generation (pos (a.ids.base id + off) +ℤ offset) (size_bytes (extension_size extension))) n.number n.is))
 signed_by_kind program held state machine a insn extension dst done w src offset (Value map id off) v c loaded e other =
     let parts = ok_then (value_access program.maps map off offset (size_bytes (extension_size extension))) (λ from. Ok (loaded_number (extension_size extension))) loaded e
-    in let found = value_found program.maps map off offset (size_bytes (extension_size extension)) parts.0 parts.1.0
+    in let there = value_found program.maps map off offset (size_bytes (extension_size extension)) parts.0 c.at c.least c.most parts.1.0
     in subst (λ v. FallsOn program held (with_kind state dst (Scalar (full_of 64))) machine (machine.slot + slot_count insn) (load_signed_step program insn machine dst v offset extension)) (sym c.is)
-    (cell_follows program held state machine a insn dst done w map c.cell.shard c.cell.id (pos off +ℤ offset) parts.0 (extension_size extension) (extended extension) (full_of 64) found c.held
+    (cell_follows program held state machine a insn dst done w map c.cell.shard c.cell.id (pos c.at +ℤ offset) there.from (extension_size extension) (extended extension) (full_of 64) there.found c.held
     (λ n h. signed_in_full extension n))
 signed_by_kind program held state machine a insn extension dst done w src offset Unset v c loaded e other = cc
 signed_by_kind program held state machine a insn extension dst done w src offset (Scalar i) v c loaded e other = cc

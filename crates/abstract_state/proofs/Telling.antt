@@ -11,6 +11,7 @@ use Rattle.semantics.specs.MachineState.{MachineState, StackByte, register_value
 use Rattle.abstract_scalar.specs.Intervals.{constant_of}
 use Rattle.abstract_scalar.proofs.shared.Soundness.{constant_covers}
 use Rattle.abstract_state.specs.declared.kind.Kind.{Kind}
+use Rattle.abstract_state.specs.Places.{at_offset}
 use Rattle.abstract_state.specs.declared.kind.Kind.TheVariants.{Unset, Scalar, Ctx, Stack, Packet, PacketEnd, Map, ValueOrNull, Value}
 use Rattle.abstract_state.specs.declared.kind.StackWord.{StackWord}
 use Rattle.abstract_state.specs.declared.kind.StackWord.TheVariants.{Spilled, Bytes}
@@ -41,7 +42,7 @@ null_found : (s : Setting) (map found : ℕ) (v : RegisterValue) → s.ids.found
 null_found s map found v none (inl c) = record { number = 0; is = c.is; within = constant_covers 0 0 refl; word = omega arith }
 null_found s map found v none (inr c) = absurd (none-some c.cell (sym none ∙ c.found))
 
-cell_found : (s : Setting) (map found : ℕ) (v : RegisterValue) (cell : CellRef) → s.ids.found found ≡ Some cell → IsLookedUp s map found v → KindCovers s (Value map found 0) v
+cell_found : (s : Setting) (map found : ℕ) (v : RegisterValue) (cell : CellRef) → s.ids.found found ≡ Some cell → IsLookedUp s map found v → KindCovers s (Value map found (at_offset 0)) v
 cell_found s map found v cell some (inl c) = absurd (none-some cell (sym c.found ∙ some))
 cell_found s map found v cell some (inr c) = c
 
@@ -51,7 +52,7 @@ null_told s id true map found v h c =
     where_equal s (id == found) (Scalar (constant_of 0)) (ValueOrNull map found) v
     (λ t. let e : id ≡ found = eqb-true id found t in null_found s map found v (subst (λ x. s.ids.found x ≡ None) e h) c) c
 null_told s id false map found v h c =
-    where_equal s (id == found) (Value map found 0) (ValueOrNull map found) v
+    where_equal s (id == found) (Value map found (at_offset 0)) (ValueOrNull map found) v
     (λ t. let e : id ≡ found = eqb-true id found t in cell_found s map found v h.0 (subst (λ x. s.ids.found x ≡ Some h.0) e h.1) c) c
 
 -- a range that is known to lie in the packet, and another

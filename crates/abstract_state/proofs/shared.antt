@@ -1,5 +1,6 @@
 -- Lemmas that other crates cite.
 pub mod Accesses
+pub mod Between
 pub mod ByteNumbers
 pub mod Checking
 pub mod FlowLaw

@@ -15,10 +15,12 @@ use Rattle.abstract_scalar.specs.declared.interval.Interval.{Interval}
 use Rattle.abstract_scalar.specs.Intervals.{Covers}
 use Rattle.abstract_state.specs.declared.kind.Kind.{Kind}
 use Rattle.abstract_state.specs.declared.kind.Kind.TheVariants.{Unset, Scalar, Ctx, Stack, Packet, PacketEnd, Map, ValueOrNull, Value}
+use Rattle.abstract_state.specs.declared.kind.Offsets.{Offsets}
 use Rattle.abstract_state.specs.declared.kind.StackWord.{StackWord}
 use Rattle.abstract_state.specs.declared.kind.StackWord.TheVariants.{Spilled, Bytes}
 use Rattle.abstract_state.specs.declared.state.State.{State}
 use Rattle.abstract_state.specs.States.{kind_of, word_of}
+use Rattle.abstract_state.specs.Places.{at_offset}
 
 -- ---- what the ids of a state stand for
 
@@ -65,11 +67,14 @@ pub record IsKnownMap (setting : Setting) (map : ℕ) (value : RegisterValue) : 
   pub definition : MapDef
   pub known : slice_get setting.maps map ≡ Some definition
 
--- a byte of a cell that the lookup of an earlier slot found, and that is held
-pub record IsLiveCell (setting : Setting) (map id off : ℕ) (value : RegisterValue) : Type 0 where
+-- a byte of a cell that the lookup of an earlier slot found, and that is held: at one of the offsets
+pub record IsLiveCell (setting : Setting) (map id : ℕ) (off : Offsets) (value : RegisterValue) : Type 0 where
   pub cell : CellRef
   pub found : setting.ids.found id ≡ Some cell
-  pub is : value ≡ CellPointer map cell.shard cell.id (pos off)
+  pub at : ℕ
+  pub least : off.low ≤ at
+  pub most : at ≤ off.high
+  pub is : value ≡ CellPointer map cell.shard cell.id (pos at)
   pub held : IsTrue (setting.held map cell.shard cell.id)
   pub earlier : id < setting.slot
 
@@ -80,7 +85,7 @@ pub record IsNoCell (setting : Setting) (id : ℕ) (value : RegisterValue) : Typ
   pub earlier : id < setting.slot
 
 abbrev pub IsLookedUp : Setting → ℕ → ℕ → RegisterValue → Type 0
-IsLookedUp setting map id value = IsNoCell setting id value ⊎ IsLiveCell setting map id 0 value
+IsLookedUp setting map id value = IsNoCell setting id value ⊎ IsLiveCell setting map id (at_offset 0) value
 
 -- the value is one that the kind stands for
 abbrev pub KindCovers : Setting → Kind → RegisterValue → Type 0

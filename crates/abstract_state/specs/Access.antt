@@ -18,7 +18,7 @@ use Rattle.abstract_state.specs.declared.kind.Kind.TheVariants.{Scalar, Ctx, Sta
 use Rattle.abstract_state.specs.declared.refusal.Refusal.TheVariants.{WrongKind, ContextAccess}
 use Rattle.abstract_state.specs.declared.state.State.{State}
 use Rattle.abstract_state.specs.States.{Checked, ◌>>=◌, kind_of, with_kind, word_of, with_word}
-use Rattle.abstract_state.specs.Places.{stack_access, packet_access, value_access}
+use Rattle.abstract_state.specs.Places.{stack_access, packet_access, value_access, atomic_access}
 use Rattle.abstract_state.specs.Words.{loaded_number, word_loaded, storable, narrow_storable, word_stored}
 
 -- ---- loads
@@ -98,7 +98,7 @@ expects op kind = Ok tt
 
 abbrev pub atomic_on : List MapDef → State → Width → AtomicOp → Kind → ℤ → Register → Register → Checked State
 atomic_on maps state width op (Value map id off) distance dst src =
-    value_access maps map off distance (size_bytes (width_size width)) >>= (λ from.
+    atomic_access maps map off distance (size_bytes (width_size width)) >>= (λ from.
     narrow_storable (kind_of state src) >>= (λ _.
     expects op (kind_of state R0) >>= (λ _.
     Ok (with_fetched_kind state (fetched_register op src) width))))

@@ -1,5 +1,5 @@
 -- What arithmetic makes of kinds: intervals by their table; a pointer moves by a number (RFC 9669, section 4.1).
-use Rattle.std.specs.Prelude.{ℕ, Bool, true, false, ℤ, pos, neg_ℤ, ◌+ℤ◌, nat_le, List, Ok, Err, slice_get, if◌then◌else◌}
+use Rattle.std.specs.Prelude.{ℕ, Bool, true, false, ℤ, pos, neg_ℤ, ◌+ℤ◌, nat_le, List, Ok, Err, ◌+◌, if◌then◌else◌}
 use Rattle.isa.specs.Words.{signed_value, twos_complement}
 use Rattle.isa.specs.declared.operation.Width.{Width}
 use Rattle.isa.specs.declared.operation.Width.TheVariants.{Bits32, Bits64}
@@ -9,15 +9,18 @@ use Rattle.isa.specs.declared.operation.Register.{Register}
 use Rattle.isa.specs.declared.operation.Source.{Source}
 use Rattle.isa.specs.declared.operation.Source.TheVariants.{Imm, Reg}
 use Rattle.ebpf_decode.specs.declared.map.MapDef.{MapDef}
+use Rattle.ebpf_decode.specs.declared.version.Version.{Version}
+use Rattle.ebpf_decode.specs.declared.version.Version.TheVariants.{V1, V2}
 use Rattle.abstract_scalar.specs.declared.interval.Interval.{Interval}
 use Rattle.abstract_scalar.specs.Intervals.{constant_of, is_single}
 use Rattle.abstract_scalar.specs.Transfer.{transfer_of}
 use Rattle.abstract_state.specs.declared.kind.Kind.{Kind}
 use Rattle.abstract_state.specs.declared.kind.Kind.TheVariants.{Scalar, Stack, Packet, Value}
-use Rattle.abstract_state.specs.declared.refusal.Refusal.TheVariants.{WrongKind, PacketBounds, StackBounds, ValueBounds}
+use Rattle.abstract_state.specs.declared.kind.Offsets.{Offsets}
+use Rattle.abstract_state.specs.declared.refusal.Refusal.TheVariants.{WrongKind, PacketBounds, StackBounds}
 use Rattle.abstract_state.specs.declared.state.State.{State}
-use Rattle.abstract_state.specs.States.{Checked, ◌>>=◌, kind_of, with_kind, stack_bytes, value_size_of}
-use Rattle.abstract_state.specs.Places.{place_within}
+use Rattle.abstract_state.specs.States.{Checked, ◌>>=◌, kind_of, with_kind, stack_bytes}
+use Rattle.abstract_state.specs.Places.{place_within, offsets_within}
 
 -- an immediate is a single number, sign-extended to 64 bits
 abbrev pub source_kind : State → Source → Kind
@@ -60,19 +63,26 @@ moved_pointer maps (Stack place) distance dst =
 moved_pointer maps (Packet id off range) distance dst =
     place_within (pos off +ℤ distance) 65535 PacketBounds >>= (λ to. Ok (Packet id to range))
 moved_pointer maps (Value map id off) distance dst =
-    place_within (pos off +ℤ distance) (value_size_of (slice_get maps map)) ValueBounds >>= (λ to. Ok (Value map id to))
+    offsets_within maps map (pos off.low +ℤ distance) (pos off.high +ℤ distance) >>= (λ to. Ok (Value map id to))
 moved_pointer maps other distance dst = Err (WrongKind dst)
 
--- by a number of which only an interval is known: a packet pointer gets a base of its own, of which no range is known
-abbrev pub moved_far : ℕ → AluOp → Kind → Interval → Register → Checked Kind
-moved_far slot Add (Packet id off range) i source =
-    if nat_le i.high 65535 then Ok (Packet slot 0 0) else Err PacketBounds
-moved_far slot op other i source = Err (WrongKind source)
+-- by a number of which only an interval is known, an address in a value moves in version 2 alone: by each end of it
+abbrev pub moved_value : List MapDef → Version → ℕ → ℕ → Offsets → Interval → Register → Checked Kind
+moved_value maps V1 map id off i source = Err (WrongKind source)
+moved_value maps V2 map id off i source =
+    offsets_within maps map (pos (off.low + i.low)) (pos (off.high + i.high)) >>= (λ to. Ok (Value map id to))
 
-abbrev pub pointer_sum : List MapDef → ℕ → AluOp → Kind → Kind → Register → Register → Checked Kind
-pointer_sum maps slot op pointer (Scalar i) dst source =
-    if is_single i then moved_pointer maps pointer (distance_of op i.low) dst else moved_far slot op pointer i source
-pointer_sum maps slot op pointer other dst source = Err (WrongKind source)
+-- a packet pointer gets a base of its own, of which no range is known
+abbrev pub moved_far : List MapDef → Version → ℕ → AluOp → Kind → Interval → Register → Checked Kind
+moved_far maps version slot Add (Packet id off range) i source =
+    if nat_le i.high 65535 then Ok (Packet slot 0 0) else Err PacketBounds
+moved_far maps version slot Add (Value map id off) i source = moved_value maps version map id off i source
+moved_far maps version slot op other i source = Err (WrongKind source)
+
+abbrev pub pointer_sum : List MapDef → Version → ℕ → AluOp → Kind → Kind → Register → Register → Checked Kind
+pointer_sum maps version slot op pointer (Scalar i) dst source =
+    if is_single i then moved_pointer maps pointer (distance_of op i.low) dst else moved_far maps version slot op pointer i source
+pointer_sum maps version slot op pointer other dst source = Err (WrongKind source)
 
 -- the pointers that can be moved
 abbrev pub is_movable : Kind → Bool
@@ -82,21 +92,21 @@ is_movable (Value map id off) = true
 is_movable other = false
 
 -- a pointer as the first operand
-abbrev pub combined_pointer : List MapDef → ℕ → Width → AluOp → Kind → Kind → Register → Register → Checked Kind
-combined_pointer maps slot width op pointer other dst source =
-    if moves_pointers width op then (if is_movable pointer then pointer_sum maps slot op pointer other dst source else Err (WrongKind dst))
+abbrev pub combined_pointer : List MapDef → Version → ℕ → Width → AluOp → Kind → Kind → Register → Register → Checked Kind
+combined_pointer maps version slot width op pointer other dst source =
+    if moves_pointers width op then (if is_movable pointer then pointer_sum maps version slot op pointer other dst source else Err (WrongKind dst))
     else Err (WrongKind dst)
 
 -- an operation that reads its destination
-abbrev pub combined_kind : List MapDef → ℕ → Width → AluOp → Kind → Kind → Register → Register → Checked Kind
-combined_kind maps slot width op (Scalar i) other dst source = number_kind other source (transfer_of width op i)
-combined_kind maps slot width op pointer other dst source = combined_pointer maps slot width op pointer other dst source
+abbrev pub combined_kind : List MapDef → Version → ℕ → Width → AluOp → Kind → Kind → Register → Register → Checked Kind
+combined_kind maps version slot width op (Scalar i) other dst source = number_kind other source (transfer_of width op i)
+combined_kind maps version slot width op pointer other dst source = combined_pointer maps version slot width op pointer other dst source
 
-abbrev pub alu_kind : List MapDef → ℕ → Width → AluOp → Kind → Kind → Register → Register → Checked Kind
-alu_kind maps slot width Mov first second dst source = moved_kind width second source
-alu_kind maps slot width op first second dst source = combined_kind maps slot width op first second dst source
+abbrev pub alu_kind : List MapDef → Version → ℕ → Width → AluOp → Kind → Kind → Register → Register → Checked Kind
+alu_kind maps version slot width Mov first second dst source = moved_kind width second source
+alu_kind maps version slot width op first second dst source = combined_kind maps version slot width op first second dst source
 
 abbrev pub after_alu_of : List MapDef → State → ℕ → Width → AluOp → Register → Source → Checked State
 after_alu_of maps state slot width op dst source =
-    alu_kind maps slot width op (kind_of state dst) (source_kind state source) dst (blamed dst source) >>=
+    alu_kind maps state.version slot width op (kind_of state dst) (source_kind state source) dst (blamed dst source) >>=
     (λ kind. Ok (with_kind state dst kind))

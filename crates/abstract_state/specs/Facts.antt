@@ -8,12 +8,13 @@ use Rattle.abstract_state.specs.declared.kind.StackWord.TheVariants.{Spilled, By
 use Rattle.abstract_state.specs.declared.fact.Fact.{Fact}
 use Rattle.abstract_state.specs.declared.fact.Fact.TheVariants.{Nothing, Null, Range, HeadMoved}
 use Rattle.abstract_state.specs.declared.state.State.{State}
+use Rattle.abstract_state.specs.Places.{at_offset}
 use Rattle.abstract_state.specs.Join.{spilled}
 
 -- a value that is not 0 is live from its first byte on
 abbrev pub told_null : ℕ → Bool → Kind → Kind
 told_null id is_null (ValueOrNull map found) =
-    if id == found then (if is_null then Scalar (constant_of 0) else Value map found 0) else ValueOrNull map found
+    if id == found then (if is_null then Scalar (constant_of 0) else Value map found (at_offset 0)) else ValueOrNull map found
 told_null id is_null kind = kind
 
 abbrev pub told_range : ℕ → ℕ → Kind → Kind
@@ -42,7 +43,7 @@ told_start HeadMoved known = 0
 told_start fact known = known
 
 abbrev pub told : Fact → State → State
-told fact state = record {
+told fact state = record state {
   registers = map (told_kind fact) state.registers;
   stack = map (told_word fact) state.stack;
   start_range = told_start fact state.start_range;

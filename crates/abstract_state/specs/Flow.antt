@@ -15,19 +15,22 @@ use Rattle.isa.specs.declared.operation.Register.TheVariants.{R0, R1, R2, R3, R4
 use Rattle.ebpf_decode.specs.declared.insn.Insn.{Insn}
 use Rattle.ebpf_decode.specs.declared.insn.Insn.TheVariants.{Alu, Neg, Movsx, Movsx32, End, Ja, Ja32, JumpIf, Ldx, Ldxs, St, Stx, AtomicUpdate, Lddw, Ldmap, Ldval, CallHelper, Exit}
 use Rattle.ebpf_decode.specs.declared.map.MapDef.{MapDef}
+use Rattle.ebpf_decode.specs.declared.map.MapKind.{MapKind}
+use Rattle.ebpf_decode.specs.declared.map.MapKind.TheVariants.{Array}
 use Rattle.semantics.specs.Semantics.{fetched_register}
 use Rattle.abstract_scalar.specs.declared.interval.Interval.{Interval}
 use Rattle.abstract_scalar.specs.Intervals.{constant_of}
 use Rattle.abstract_scalar.specs.Transfer.{neg_of, movsx64_of, movsx32_of, swap_of}
 use Rattle.abstract_state.specs.declared.kind.Kind.{Kind}
-use Rattle.abstract_state.specs.declared.kind.Kind.TheVariants.{Unset, Scalar, Map}
+use Rattle.abstract_state.specs.declared.kind.Kind.TheVariants.{Unset, Scalar, Map, Value}
 use Rattle.abstract_state.specs.declared.helper.Helper.{Helper}
 use Rattle.abstract_state.specs.declared.helper.Helper.TheVariants.{LookupElem, UpdateElem, DeleteElem, KtimeGetNs, GetSmpProcessorId, AdjustHead}
 use Rattle.abstract_state.specs.declared.flow.Flow.{Flow}
 use Rattle.abstract_state.specs.declared.flow.Flow.TheVariants.{Ends, Falls, Jumps, Splits}
-use Rattle.abstract_state.specs.declared.refusal.Refusal.TheVariants.{UnsetRegister, WrongKind, ReadOnlyFp, PointerLeak, UnknownMap}
+use Rattle.abstract_state.specs.declared.refusal.Refusal.TheVariants.{UnsetRegister, WrongKind, ValueBounds, ReadOnlyFp, PointerLeak, UnknownMap, NotArrayMap}
 use Rattle.abstract_state.specs.declared.state.State.{State}
 use Rattle.abstract_state.specs.States.{Checked, ◌>>=◌, kind_of, with_kind}
+use Rattle.abstract_state.specs.Places.{place_within, at_offset}
 use Rattle.abstract_state.specs.Arithmetic.{source_kind, after_alu_of}
 use Rattle.abstract_state.specs.Refinement.{allowed_test, refine_state}
 use Rattle.abstract_state.specs.Access.{load_of, signed_load_of, store_of, atomic_of}
@@ -127,6 +130,26 @@ known_map maps (negsuc below) = Err UnknownMap
 abbrev pub map_flow : List MapDef → State → Register → ℤ → Checked State
 map_flow maps state dst map = writable dst >>= (λ _. known_map maps map >>= (λ kind. Ok (with_kind state dst kind)))
 
+-- the size of an array's values; the element 0 of an array alone is always there
+abbrev pub array_size : MapKind → ℕ → Checked ℕ
+array_size Array size = Ok size
+array_size kind size = Err NotArrayMap
+
+-- an address in the value of an array's element 0
+abbrev pub address_in : Option MapDef → ℕ → ℕ → ℕ → Checked Kind
+address_in (Some definition) map slot offset =
+    array_size definition.kind definition.value_size >>= (λ size.
+    place_within (pos offset) size ValueBounds >>= (λ at. Ok (Value map slot (at_offset at))))
+address_in None map slot offset = Err UnknownMap
+
+abbrev pub value_address : List MapDef → ℕ → ℤ → ℕ → Checked Kind
+value_address maps slot (pos map) offset = address_in (slice_get maps map) map slot offset
+value_address maps slot (negsuc below) offset = Err UnknownMap
+
+abbrev pub address_flow : List MapDef → State → ℕ → Register → ℤ → ℕ → Checked State
+address_flow maps state slot dst map offset =
+    writable dst >>= (λ _. value_address maps slot map offset >>= (λ kind. Ok (with_kind state dst kind)))
+
 abbrev pub call_flow : List MapDef → State → ℕ → ℤ → Checked State
 call_flow maps state slot number =
     helper_at number >>= (λ helper. reads_arguments state helper >>= (λ _. call_of maps state slot helper))
@@ -162,8 +185,7 @@ flow_of maps state slot (Movsx32 extension dst src) = falls (unary_flow state ds
 flow_of maps state slot (End order width dst) = falls (unary_flow state dst dst (swap_of order width))
 flow_of maps state slot (Lddw dst value) = falls (number_flow state dst value)
 flow_of maps state slot (Ldmap dst map) = falls (map_flow maps state dst map)
--- no address in a value is served as yet
-flow_of maps state slot (Ldval dst map offset) = Err UnknownMap
+flow_of maps state slot (Ldval dst map offset) = falls (address_flow maps state slot dst map offset)
 flow_of maps state slot (Ldx size dst src offset) = falls (load_flow state dst src (load_of maps state size dst src offset))
 flow_of maps state slot (Ldxs extension dst src offset) = falls (load_flow state dst src (signed_load_of maps state extension dst src offset))
 flow_of maps state slot (St size dst offset immediate) = falls (store_flow maps state size dst offset immediate)

@@ -1,6 +1,7 @@
 -- Where an access may go: inside what is known to be there, and, on the stack and in values, at a multiple of its width.
 use Rattle.std.specs.Prelude.{ℕ, ◌+◌, ◌%◌, ◌==◌, nat_le, ℤ, pos, negsuc, ◌+ℤ◌, List, Ok, Err, slice_get, if◌then◌else◌}
 use Rattle.ebpf_decode.specs.declared.map.MapDef.{MapDef}
+use Rattle.abstract_state.specs.declared.kind.Offsets.{Offsets}
 use Rattle.abstract_state.specs.declared.refusal.Refusal.{Refusal}
 use Rattle.abstract_state.specs.declared.refusal.Refusal.TheVariants.{PacketBounds, StackBounds, ValueBounds, Misaligned}
 use Rattle.abstract_state.specs.States.{Checked, ◌>>=◌, stack_bytes, value_size_of}
@@ -25,6 +26,31 @@ stack_access place distance count =
 abbrev pub packet_access : ℕ → ℕ → ℤ → ℕ → Checked ℕ
 packet_access off range distance count = range_within (pos off +ℤ distance) count range PacketBounds
 
-abbrev pub value_access : List MapDef → ℕ → ℕ → ℤ → ℕ → Checked ℕ
+-- ---- values of maps: an address may lie at any offset of an interval
+
+abbrev pub at_offset : ℕ → Offsets
+at_offset off = record { low = off; high = off }
+
+-- both ends of what was moved, from 0 to the value's size
+abbrev pub offsets_within : List MapDef → ℕ → ℤ → ℤ → Checked Offsets
+offsets_within maps map low high =
+    place_within low (value_size_of (slice_get maps map)) ValueBounds >>= (λ from.
+    place_within high (value_size_of (slice_get maps map)) ValueBounds >>= (λ to.
+    Ok (record { low = from; high = to })))
+
+-- from the lowest offset and from the highest so many bytes lie in the value: where the first begin
+abbrev pub value_range : List MapDef → ℕ → Offsets → ℤ → ℕ → Checked ℕ
+value_range maps map off distance count =
+    range_within (pos off.low +ℤ distance) count (value_size_of (slice_get maps map)) ValueBounds >>= (λ from.
+    range_within (pos off.high +ℤ distance) count (value_size_of (slice_get maps map)) ValueBounds >>= (λ last.
+    Ok from))
+
+-- a load or a store at a single offset is at a multiple of its width
+abbrev pub value_access : List MapDef → ℕ → Offsets → ℤ → ℕ → Checked ℕ
 value_access maps map off distance count =
-    range_within (pos off +ℤ distance) count (value_size_of (slice_get maps map)) ValueBounds >>= (λ from. aligned from count)
+    value_range maps map off distance count >>= (λ from. if off.low == off.high then aligned from count else Ok from)
+
+-- and an atomic operation always, so that its offset is a single one
+abbrev pub atomic_access : List MapDef → ℕ → Offsets → ℤ → ℕ → Checked ℕ
+atomic_access maps map off distance count =
+    value_range maps map off distance count >>= (λ from. if off.low == off.high then aligned from count else Err Misaligned)

@@ -1,14 +1,17 @@
 -- Where an instruction leads a run, by what flows out of it: it does not trap, and what is known there is sound.
+use Rattle.std.specs.List.{AllByRecursion}
 use Rattle.std.specs.Prelude.{◌≡◌, ◌⊎◌, ℕ, ◌+◌, ◌<◌, ◌^◌, ℤ, pos, ◌+ℤ◌, List, length, IsTrue, Ok}
 use Rattle.ebpf_decode.specs.declared.insn.Insn.{Insn}
 use Rattle.ebpf_decode.specs.declared.insn.Insn.TheVariants.{Ja, Ja32, JumpIf}
 use Rattle.ebpf_decode.specs.declared.map.MapDef.{MapDef}
+use Rattle.ebpf_decode.specs.declared.version.Version.{Version}
 use Rattle.ebpf_decode.specs.InstructionEncoding.{slot_count, FieldsFit}
 use Rattle.semantics.specs.declared.call.Reply.{Reply}
 use Rattle.semantics.specs.MachineState.{MachineState, initial_state}
 use Rattle.semantics.specs.Program.{Program}
 use Rattle.semantics.specs.Step.{Step, Continues, CallsMap, Exits}
 pub use Rattle.semantics.specs.ServedCalls.{IsServedLookup, IsServedLoad, IsServedStore, IsServedAtomic, IsServedUpdate, IsServed, IsHandedOut, HoldsAfter}
+use Rattle.semantics.specs.PlanLimits.{HasImageSizes}
 use Rattle.semantics.specs.System.{IsInputFrame, input_frame}
 use Rattle.semantics.specs.RunTrace.{IsReplyTo}
 use Rattle.semantics.specs.Semantics.{instruction_step}
@@ -86,12 +89,13 @@ pub record IsShaped (state : State) : Type 0 where
   pub words : length state.stack ≡ 64
   pub eight : (word : ℕ) → word < 64 → length (bytes_of_word (word_of state word)) ≡ 8
 
--- an instruction whose fields hold its numbers, and that breaks no rule, does not trap in any state that is known soundly, and
--- where it leads, what flows there is sound
+-- an instruction whose fields hold its numbers, over maps of sizes that an image can have, and that breaks no rule, does not trap in any
+-- state that is known soundly, and where it leads, what flows there is sound
 abbrev pub FlowIsSound : Type 0
 FlowIsSound =
     (program : Program) (held : Held) (state : State) (machine : MachineState) (insn : Insn) (flow : Flow) →
-    IsShaped state → Abstracts program.maps held state machine → FieldsFit insn → JumpsForward insn → flow_of program.maps state machine.slot insn ≡ Ok flow →
+    IsShaped state → Abstracts program.maps held state machine → AllByRecursion HasImageSizes program.maps → FieldsFit insn → JumpsForward insn →
+    flow_of program.maps state machine.slot insn ≡ Ok flow →
     Follows program held flow machine insn (instruction_step program insn machine)
 
 -- what both paths know is sound for a run that came by either
@@ -111,8 +115,8 @@ HoldingMoreIsSound =
 -- a run begins in a state that the opening state is sound for
 abbrev pub OpeningIsSound : Type 0
 OpeningIsSound =
-    (maps : List MapDef) (held : Held) (bytes : List ℕ) (worker now : ℕ) → IsInputFrame bytes → worker < 8 → now < 2 ^ 64 →
-    Abstracts maps held opening_state (initial_state (input_frame bytes) worker now)
+    (version : Version) (maps : List MapDef) (held : Held) (bytes : List ℕ) (worker now : ℕ) → IsInputFrame bytes → worker < 8 → now < 2 ^ 64 →
+    Abstracts maps held (opening_state version) (initial_state (input_frame bytes) worker now)
 
 -- the state in which a run begins has its shape, and so has each that flows out of an instruction or is known where paths meet
 abbrev pub FlowIsShaped : Flow → Type 0
@@ -122,7 +126,7 @@ FlowIsShaped (Jumps state) = IsShaped state
 FlowIsShaped (Splits taken fallen) = IsShaped taken × IsShaped fallen
 
 pub record StatesAreShaped : Type 0 where
-  pub opening : IsShaped opening_state
+  pub opening : (version : Version) → IsShaped (opening_state version)
   pub joined : (a b : State) → IsShaped a → IsShaped b → IsShaped (join_of a b)
   pub flowed : (maps : List MapDef) (state : State) (slot : ℕ) (insn : Insn) (flow : Flow) → IsShaped state →
       flow_of maps state slot insn ≡ Ok flow → FlowIsShaped flow

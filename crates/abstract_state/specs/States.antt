@@ -3,6 +3,7 @@ use Rattle.std.specs.Prelude.{ℕ, Bool, true, false, List, [], ◌∷◌, Resul
 use Rattle.isa.specs.declared.operation.Register.{Register}
 use Rattle.isa.specs.InstructionCodes.{register_number}
 pub use Rattle.semantics.specs.Program.{value_size_of, key_size_of}
+use Rattle.ebpf_decode.specs.declared.version.Version.{Version}
 use Rattle.abstract_state.specs.declared.kind.Kind.{Kind}
 use Rattle.abstract_state.specs.declared.kind.Kind.TheVariants.{Unset, Ctx, Stack}
 use Rattle.abstract_state.specs.declared.kind.StackWord.{StackWord}
@@ -46,8 +47,9 @@ all_bytes = replicate 8 true
 
 -- ---- where a run begins: R1 is the context, R10 the frame pointer
 
-abbrev pub opening_state : State
-opening_state = record {
+abbrev pub opening_state : Version → State
+opening_state version = record {
+  version = version;
   registers = Unset ∷ Ctx ∷ Unset ∷ Unset ∷ Unset ∷ Unset ∷ Unset ∷ Unset ∷ Unset ∷ Unset ∷ Stack stack_bytes ∷ [];
   stack = replicate 64 (Bytes no_bytes);
   start_range = 0;

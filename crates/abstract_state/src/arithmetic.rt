@@ -5,15 +5,15 @@ ghost use Rattle.std.specs.Int.RustNames.{int_le};
 ghost use Rattle.isa.specs.Words.{signed_value};
 ghost use Rattle.abstract_scalar.specs.Transfer.{transfer_of};
 ghost use Rattle.abstract_state.specs.InPlace.{kept};
-ghost use Rattle.abstract_state.specs.Arithmetic.{source_kind, blamed, number_kind, moved_kind, distance_of, moves_pointers, moved_pointer, moved_far, pointer_sum, is_movable, combined_pointer, combined_kind, alu_kind, after_alu_of};
+ghost use Rattle.abstract_state.specs.Arithmetic.{source_kind, blamed, number_kind, moved_kind, distance_of, moves_pointers, moved_pointer, moved_value, moved_far, pointer_sum, is_movable, combined_pointer, combined_kind, alu_kind, after_alu_of};
 
-use crate::kind::Kind;
-use crate::places::{STACK_BYTES, place_within, value_size};
+use crate::kind::{Kind, Offsets};
+use crate::places::{STACK_BYTES, offsets_within, place_within};
 use crate::refusal::Refusal;
 use crate::site::{Operands, Site};
 use crate::state::State;
 use abstract_scalar::Interval;
-use ebpf_decode::MapDef;
+use ebpf_decode::{MapDef, Version};
 use isa::{AluOp, Register, Source, Width};
 
 /// The register that a source of a wrong kind is blamed on; with an immediate that is the destination.
@@ -90,30 +90,48 @@ fn moved_pointer(
             })
         }
         Kind::Value { map, id, off } => {
-            let size = value_size(maps, map);
-            let off = place_within(i128::from(off) + distance, size, Refusal::ValueBounds)?;
+            let low = i128::from(off.low) + distance;
+            let high = i128::from(off.high) + distance;
+            let off = offsets_within(maps, map, low, high)?;
             Ok(Kind::Value { map, id, off })
         }
         _ => Err(Refusal::WrongKind(dst)),
     }
 }
 
-/// A pointer moved by a number of which only an interval is known: a packet pointer gets a base of its own, of which no range
-/// is known.
-fn moved_far(
-    slot: u16,
-    op: AluOp,
-    pointer: Kind,
+/// An address in a value moved by a number of which only an interval is known, in version 2 alone: by each end of it.
+fn moved_value(
+    maps: &[MapDef],
+    version: Version,
+    map: u32,
+    id: u16,
+    off: Offsets,
     i: Interval,
     source: Register,
 ) -> Result<Kind, Refusal>
-    ensures { result ≡ moved_far slot op pointer i source }
+    ensures { result ≡ moved_value maps.now version map id off i source }
 {
-    match (op, pointer) {
+    match version {
+        Version::V1 => Err(Refusal::WrongKind(source)),
+        Version::V2 => {
+            let low = i128::from(off.low) + i128::from(i.low);
+            let high = i128::from(off.high) + i128::from(i.high);
+            let off = offsets_within(maps, map, low, high)?;
+            Ok(Kind::Value { map, id, off })
+        }
+    }
+}
+
+/// A pointer moved by a number of which only an interval is known: a packet pointer gets a base of its own, of which no range
+/// is known, and an address in a value an interval of offsets.
+fn moved_far(site: Site<'_>, op: AluOp, on: Operands, i: Interval) -> Result<Kind, Refusal>
+    ensures { result ≡ moved_far site.entry.maps.now on.version site.entry.slot op on.first i on.source }
+{
+    match (op, on.first) {
         (AluOp::Add, Kind::Packet { .. }) => {
             if i.high <= 65535 {
                 Ok(Kind::Packet {
-                    id: slot,
+                    id: site.slot,
                     off: 0,
                     range: 0,
                 })
@@ -121,20 +139,23 @@ fn moved_far(
                 Err(Refusal::PacketBounds)
             }
         }
-        _ => Err(Refusal::WrongKind(source)),
+        (AluOp::Add, Kind::Value { map, id, off }) => {
+            moved_value(site.maps, on.version, map, id, off, i, on.source)
+        }
+        _ => Err(Refusal::WrongKind(on.source)),
     }
 }
 
 /// A pointer moved by what another register holds.
 fn pointer_sum(site: Site<'_>, op: AluOp, on: Operands) -> Result<Kind, Refusal>
-    ensures { result ≡ pointer_sum site.entry.maps.now site.entry.slot op on.first on.second on.dst on.source }
+    ensures { result ≡ pointer_sum site.entry.maps.now on.version site.entry.slot op on.first on.second on.dst on.source }
 {
     match on.second {
         Kind::Scalar(i) => {
             if i.is_constant() {
                 moved_pointer(site.maps, on.first, distance(op, i.low), on.dst)
             } else {
-                moved_far(site.slot, op, on.first, i, on.source)
+                moved_far(site, op, on, i)
             }
         }
         _ => Err(Refusal::WrongKind(on.source)),
@@ -153,7 +174,7 @@ fn is_movable(kind: Kind) -> bool
 
 /// An operation whose first operand is a pointer.
 fn combined_pointer(site: Site<'_>, width: Width, op: AluOp, on: Operands) -> Result<Kind, Refusal>
-    ensures { result ≡ combined_pointer site.entry.maps.now site.entry.slot width op on.first on.second on.dst on.source }
+    ensures { result ≡ combined_pointer site.entry.maps.now on.version site.entry.slot width op on.first on.second on.dst on.source }
 {
     if moves_pointers(width, op) && is_movable(on.first) {
         pointer_sum(site, op, on)
@@ -164,7 +185,7 @@ fn combined_pointer(site: Site<'_>, width: Width, op: AluOp, on: Operands) -> Re
 
 /// An operation that reads its destination.
 fn combined(site: Site<'_>, width: Width, op: AluOp, on: Operands) -> Result<Kind, Refusal>
-    ensures { result ≡ combined_kind site.entry.maps.now site.entry.slot width op on.first on.second on.dst on.source }
+    ensures { result ≡ combined_kind site.entry.maps.now on.version site.entry.slot width op on.first on.second on.dst on.source }
 {
     match on.first {
         Kind::Scalar(i) => match on.second {
@@ -177,7 +198,7 @@ fn combined(site: Site<'_>, width: Width, op: AluOp, on: Operands) -> Result<Kin
 
 /// The kind of what an arithmetic operation leaves in its destination.
 fn alu_kind(site: Site<'_>, width: Width, op: AluOp, on: Operands) -> Result<Kind, Refusal>
-    ensures { result ≡ alu_kind site.entry.maps.now site.entry.slot width op on.first on.second on.dst on.source }
+    ensures { result ≡ alu_kind site.entry.maps.now on.version site.entry.slot width op on.first on.second on.dst on.source }
 {
     match op {
         AluOp::Mov => moved(width, on.second, on.source),
@@ -199,8 +220,8 @@ impl State {
     }
 
     /// The state after an arithmetic instruction whose operands are set (RFC 9669, section 4.1). A pointer to the stack, the packet
-    /// or a value moves by a single number, and one to the packet also by an interval; otherwise 36, and 37, 38 or 40 where the
-    /// pointer would leave what it points to.
+    /// or a value moves by a single number, and one to the packet, in version 2 also one to a value, by an interval; otherwise 36,
+    /// and 37, 38 or 40 where the pointer would leave what it points to.
     pub fn after_alu(
         mut self,
         site: Site<'_>,
@@ -231,6 +252,7 @@ impl State {
             second: self.source(source),
             dst,
             source: blamed(dst, source),
+            version: self.version,
         };
         let kind = alu_kind(site, width, op, on)?;
         self.set(dst, kind);

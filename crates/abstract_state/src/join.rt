@@ -3,14 +3,15 @@
 ghost use Rattle.std.specs.Prelude.{◌≡◌};
 ghost use Rattle.abstract_state.specs.Join.{join_scalar, join_ctx, join_stack, join_packet, join_end, join_map, join_nullable, join_value, join_kind};
 
-use crate::kind::Kind;
+use crate::kind::{Kind, Offsets};
 use abstract_scalar::Interval;
+use ebpf_decode::Version;
 
 impl Kind {
-    /// What both kinds know: of two numbers the hull of their intervals, of equal kinds the kind, a packet pointer's with the
-    /// smaller range, and of any other pair nothing.
-    pub fn join(self, other: Kind) -> Kind
-        ensures { result ≡ join_kind self other }
+    /// What both kinds know: of two numbers the hull of their intervals, in version 2 also of two addresses in one value, of equal
+    /// kinds the kind, a packet pointer's with the smaller range, and of any other pair nothing.
+    pub fn join(self, version: Version, other: Kind) -> Kind
+        ensures { result ≡ join_kind version self other }
     {
         match self {
             Kind::Unset => Kind::Unset,
@@ -21,7 +22,7 @@ impl Kind {
             Kind::PacketEnd => join_end(other),
             Kind::Map(map) => join_map(map, other),
             Kind::ValueOrNull { map, id } => join_nullable(map, id, other),
-            Kind::Value { map, id, off } => join_value(map, id, off, other),
+            Kind::Value { map, id, off } => join_value(version, map, id, off, other),
         }
     }
 }
@@ -124,8 +125,8 @@ fn join_nullable(map: u32, id: u16, other: Kind) -> Kind
     }
 }
 
-fn join_value(map: u32, id: u16, off: u32, other: Kind) -> Kind
-    ensures { result ≡ join_value map id off other }
+fn join_value(version: Version, map: u32, id: u16, off: Offsets, other: Kind) -> Kind
+    ensures { result ≡ join_value version map id off other }
 {
     match other {
         Kind::Value {
@@ -133,8 +134,12 @@ fn join_value(map: u32, id: u16, off: u32, other: Kind) -> Kind
             id: found,
             off: place,
         } => {
-            if map == same && id == found && off == place {
-                Kind::Value { map, id, off }
+            if map == same && id == found && off.may_join(place, version) {
+                Kind::Value {
+                    map,
+                    id,
+                    off: off.hull(place),
+                }
             } else {
                 Kind::Unset
             }

@@ -28,7 +28,7 @@ mod transfer;
 pub use fact::Fact;
 pub use flow::{Flow, Way};
 pub use helper::Helper;
-pub use kind::{Kind, StackWord};
+pub use kind::{Kind, Offsets, StackWord};
 pub use refusal::Refusal;
 pub use site::Site;
 pub use state::State;

@@ -3,7 +3,7 @@
 use crate::table_tests::{
     add, jump, known_after, load, lookup, mov, number, packet, scalar, spill, store,
 };
-use crate::{Kind, Refusal};
+use crate::{Kind, Offsets, Refusal};
 use abstract_scalar::Interval;
 use ebpf_decode::Insn;
 use isa::Register::{R0, R1, R2, R3, R4, R6, R7, R10};
@@ -17,7 +17,7 @@ const ANY: Kind = Kind::Scalar(Interval {
 const VALUE: Kind = Kind::Value {
     map: 0,
     id: 4,
-    off: 0,
+    off: Offsets { low: 0, high: 0 },
 };
 
 const UPDATE: Insn = Insn::CallHelper { helper: 2 };

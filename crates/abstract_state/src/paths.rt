@@ -7,22 +7,23 @@ ghost use Rattle.abstract_state.specs.Facts.{told_kind, told_word, told};
 use crate::fact::Fact;
 use crate::kind::{Kind, StackWord};
 use crate::state::State;
+use ebpf_decode::Version;
 
 /// Leaves of the registers what both paths know.
-fn join_registers(both: &mut [Kind; 11], second: &[Kind; 11])
-    ensures { both.new ≡ zip_with join_kind both.old second.now }
+fn join_registers(version: Version, both: &mut [Kind; 11], second: &[Kind; 11])
+    ensures { both.new ≡ zip_with (join_kind version) both.old second.now }
 {
     'registers: for i in 0..11 {
-        both[i] = both[i].join(second[i]);
+        both[i] = both[i].join(version, second[i]);
     }
 }
 
 /// Leaves of the stack what both paths know.
-fn join_stack(both: &mut [StackWord; 64], second: &[StackWord; 64])
-    ensures { both.new ≡ zip_with join_word both.old second.now }
+fn join_stack(version: Version, both: &mut [StackWord; 64], second: &[StackWord; 64])
+    ensures { both.new ≡ zip_with (join_word version) both.old second.now }
 {
     'words: for i in 0..64 {
-        both[i] = both[i].join(second[i]);
+        both[i] = both[i].join(version, second[i]);
     }
 }
 
@@ -58,8 +59,8 @@ impl State {
     pub fn join_with(&mut self, other: &State)
         ensures { self.new ≡ join_of self.old other.now }
     {
-        join_registers(&mut self.registers, &other.registers);
-        join_stack(&mut self.stack, &other.stack);
+        join_registers(self.version, &mut self.registers, &other.registers);
+        join_stack(self.version, &mut self.stack, &other.stack);
         self.start_range = self.start_range.min(other.start_range);
     }
 

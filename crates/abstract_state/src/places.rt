@@ -2,8 +2,9 @@
 
 ghost use Rattle.std.specs.Prelude.{◌≡◌, ◌≤◌, slice_get};
 ghost use Rattle.abstract_state.specs.States.{value_size_of, key_size_of};
-ghost use Rattle.abstract_state.specs.Places.{place_within, range_within, aligned, stack_access, packet_access, value_access};
+ghost use Rattle.abstract_state.specs.Places.{place_within, range_within, aligned, stack_access, packet_access, offsets_within, value_range, value_access, atomic_access};
 
+use crate::kind::Offsets;
 use crate::refusal::Refusal;
 use ebpf_decode::MapDef;
 
@@ -70,24 +71,83 @@ pub(crate) fn packet_access(off: u16, range: u32, distance: i16, count: u32) -> 
     )
 }
 
-/// Where an access of a map's value begins.
+/// Both ends of what was moved, from 0 to the value's size.
+pub(crate) fn offsets_within(
+    maps: &[MapDef],
+    map: u32,
+    low: i128,
+    high: i128,
+) -> Result<Offsets, Refusal>
+    ensures { result ≡ offsets_within maps.now map low high }
+{
+    let size = value_size(maps, map);
+    let low = place_within(low, size, Refusal::ValueBounds)?;
+    let high = place_within(high, size, Refusal::ValueBounds)?;
+    Ok(Offsets { low, high })
+}
+
+/// From the lowest offset and from the highest so many bytes lie in the map's value: where the first begin.
+fn value_range(
+    maps: &[MapDef],
+    map: u32,
+    off: Offsets,
+    distance: i16,
+    count: u32,
+) -> Result<u32, Refusal>
+    ensures { result ≡ value_range maps.now map off distance count }
+{
+    let size = value_size(maps, map);
+    let from = range_within(
+        i64::from(off.low) + i64::from(distance),
+        count,
+        size,
+        Refusal::ValueBounds,
+    )?;
+    range_within(
+        i64::from(off.high) + i64::from(distance),
+        count,
+        size,
+        Refusal::ValueBounds,
+    )?;
+    Ok(from)
+}
+
+/// Where a load from a map's value or a store to it begins: at a single offset, at a multiple of its width.
 pub(crate) fn value_access(
     maps: &[MapDef],
     map: u32,
-    off: u32,
+    off: Offsets,
     distance: i16,
     count: u32,
 ) -> Result<u32, Refusal>
     requires { 1 ≤ count }
     ensures { result ≡ value_access maps.now map off distance count }
 {
-    let from = range_within(
-        i64::from(off) + i64::from(distance),
-        count,
-        value_size(maps, map),
-        Refusal::ValueBounds,
-    )?;
-    aligned(from, count)
+    let from = value_range(maps, map, off, distance, count)?;
+    if off.low == off.high {
+        aligned(from, count)
+    } else {
+        Ok(from)
+    }
+}
+
+/// Where an atomic operation on a map's value begins: at a single offset, and a multiple of its width.
+pub(crate) fn atomic_access(
+    maps: &[MapDef],
+    map: u32,
+    off: Offsets,
+    distance: i16,
+    count: u32,
+) -> Result<u32, Refusal>
+    requires { 1 ≤ count }
+    ensures { result ≡ atomic_access maps.now map off distance count }
+{
+    let from = value_range(maps, map, off, distance, count)?;
+    if off.low == off.high {
+        aligned(from, count)
+    } else {
+        Err(Refusal::Misaligned)
+    }
 }
 
 /// How many bytes the values of a map have.

@@ -31,4 +31,6 @@ pub enum Refusal {
     PointerLeak,
     /// 47: no map at this place of the image's list.
     UnknownMap,
+    /// 49: the map in whose value an address is loaded is no array.
+    NotArrayMap,
 }

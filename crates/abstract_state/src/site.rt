@@ -1,7 +1,7 @@
 //! Where an instruction is judged, and what it works on.
 
 use crate::kind::Kind;
-use ebpf_decode::MapDef;
+use ebpf_decode::{MapDef, Version};
 use isa::Register;
 
 /// Where an instruction is judged: the maps of its image, and its slot.
@@ -11,13 +11,14 @@ pub struct Site<'a> {
     pub slot: u16,
 }
 
-/// Two operands, with the registers that a refusal names.
+/// Two operands, with the registers that a refusal names, and the version whose rules hold.
 #[derive(Clone, Copy)]
 pub(crate) struct Operands {
     pub(crate) first: Kind,
     pub(crate) second: Kind,
     pub(crate) dst: Register,
     pub(crate) source: Register,
+    pub(crate) version: Version,
 }
 
 /// Where a load, a store or an atomic operation goes: an offset from what a register holds.

@@ -6,6 +6,7 @@ ghost use Rattle.abstract_state.specs.Join.{zip_with, spilled, bytes_of_kind, by
 ghost use Rattle.abstract_state.specs.Words.{with_set, word_stored};
 
 use crate::kind::{Kind, StackWord};
+use ebpf_decode::Version;
 use isa::Size;
 
 /// Whether a byte is set on both paths.
@@ -58,11 +59,11 @@ impl StackWord {
     }
 
     /// What both words know: of two spilled registers what both kinds know; else the bytes that are set in both.
-    pub fn join(self, other: StackWord) -> StackWord
-        ensures { result ≡ join_word self other }
+    pub fn join(self, version: Version, other: StackWord) -> StackWord
+        ensures { result ≡ join_word version self other }
     {
         match self {
-            StackWord::Spilled(kind) => join_spilled(kind, other),
+            StackWord::Spilled(kind) => join_spilled(version, kind, other),
             StackWord::Bytes(set) => StackWord::Bytes(set_on_both(set, other.bytes())),
         }
     }
@@ -90,11 +91,11 @@ fn bytes_of_kind(kind: Kind) -> [bool; 8]
 }
 
 /// What a spilled register and another word both know.
-fn join_spilled(kind: Kind, other: StackWord) -> StackWord
-    ensures { result ≡ join_spilled kind other }
+fn join_spilled(version: Version, kind: Kind, other: StackWord) -> StackWord
+    ensures { result ≡ join_spilled version kind other }
 {
     match other {
-        StackWord::Spilled(same) => StackWord::of_kind(kind.join(same)),
+        StackWord::Spilled(same) => StackWord::of_kind(kind.join(version, same)),
         StackWord::Bytes(set) => StackWord::Bytes(set_on_both(bytes_of_kind(kind), set)),
     }
 }

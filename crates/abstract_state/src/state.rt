@@ -4,11 +4,14 @@ ghost use Rattle.std.specs.Prelude.{◌≡◌};
 ghost use Rattle.abstract_state.specs.States.{kind_of, with_kind, opening_state};
 
 use crate::kind::{Kind, StackWord};
+use ebpf_decode::Version;
 use isa::Register;
 
 /// What is known of a run's registers and stack before the instruction at a slot, whichever way led there.
 #[derive(Clone, Copy)]
 pub struct State {
+    /// The version of the program's image, whose rules hold.
+    pub version: Version,
     /// R0 first.
     pub registers: [Kind; 11],
     /// The 512 bytes of the stack as words, the lowest first.
@@ -19,11 +22,12 @@ pub struct State {
 
 impl State {
     /// What is known where a run begins: R1 is the context, R10 the frame pointer, and nothing else is written.
-    pub fn opening() -> State
-        ensures { result ≡ opening_state }
+    pub fn opening(version: Version) -> State
+        ensures { result ≡ opening_state version }
     {
         let unset = Kind::Unset;
         State {
+            version,
             registers: [
                 unset,
                 Kind::Ctx,

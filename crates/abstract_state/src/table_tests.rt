@@ -1,9 +1,9 @@
 //! Rows of what a verifier may conclude from straight code, and of what it refuses. A conditional jump goes on where it isn't taken,
 //! unless the row says otherwise.
 
-use crate::{Kind, Refusal, Site, State, Way};
+use crate::{Kind, Offsets, Refusal, Site, State, Way};
 use abstract_scalar::Interval;
-use ebpf_decode::{Insn, MapDef, MapKind};
+use ebpf_decode::{Insn, MapDef, MapKind, Version};
 use isa::{AluOp, AtomicOp, Extension, Register, Size, Source, Test, Width};
 use std::test::Fail;
 
@@ -21,7 +21,7 @@ fn site(slot: u16) -> Site<'static> {
 
 /// The kind of a register after some instructions, or the first rule that one of them breaks.
 pub(crate) fn known_after(code: &[Insn], taken: bool, register: Register) -> Result<Kind, Refusal> {
-    let mut state = State::opening();
+    let mut state = State::opening(Version::V1);
     let mut slot: u16 = 0;
     for insn in code {
         match state.step(site(slot), *insn)? {
@@ -172,7 +172,7 @@ fn edges_of_tests(rt: HostRuntime) {
     let value = Kind::Value {
         map: 0,
         id: 4,
-        off: 0,
+        off: Offsets { low: 0, high: 0 },
     };
     #[rattlefmt::skip]
     let rows: [(&str, &[Insn], bool, Register, Kind); 12] = [
@@ -255,18 +255,45 @@ fn joins(rt: HostRuntime) {
         ("places of the stack differ", Kind::Stack(504), Kind::Stack(496), Kind::Unset),
         ("of two ranges the smaller", far, near, near),
         ("packet pointers of two bases", near, Kind::Packet { id: 4, off: 2, range: 10 }, Kind::Unset),
-        ("a value is no value or null", Kind::Value { map: 0, id: 4, off: 0 }, Kind::ValueOrNull { map: 0, id: 4 }, Kind::Unset),
+        ("a value is no value or null", Kind::Value { map: 0, id: 4, off: Offsets { low: 0, high: 0 } }, Kind::ValueOrNull { map: 0, id: 4 }, Kind::Unset),
         ("two lookups", Kind::ValueOrNull { map: 0, id: 4 }, Kind::ValueOrNull { map: 0, id: 5 }, Kind::Unset),
     ];
     for (name, first, second, wanted) in rows {
-        assert_eq!(rt; first.join(second), wanted, "{name}");
+        assert_eq!(rt; first.join(Version::V1, second), wanted, "{name}");
+    }
+}
+
+/// In version 2 two addresses in one value give the interval of both; in version 1 they disagree.
+#[test]
+fn joined_offsets(rt: HostRuntime) {
+    let value = |low, high| Kind::Value {
+        map: 0,
+        id: 4,
+        off: Offsets { low, high },
+    };
+    let other = Kind::Value {
+        map: 0,
+        id: 5,
+        off: Offsets { low: 0, high: 8 },
+    };
+    #[rattlefmt::skip]
+    let rows: [(&str, Version, Kind, Kind, Kind); 6] = [
+        ("version 1: one offset stays",      Version::V1, value(8, 8),  value(8, 8),  value(8, 8)),
+        ("version 1: two offsets disagree",  Version::V1, value(0, 0),  value(8, 8),  Kind::Unset),
+        ("version 2: the higher second",     Version::V2, value(0, 0),  value(8, 8),  value(0, 8)),
+        ("version 2: the lower second",      Version::V2, value(8, 16), value(4, 9),  value(4, 16)),
+        ("version 2: one inside the other",  Version::V2, value(0, 16), value(4, 9),  value(0, 16)),
+        ("version 2: of two lookups",        Version::V2, value(0, 8),  other,        Kind::Unset),
+    ];
+    for (name, version, first, second, wanted) in rows {
+        assert_eq!(rt; first.join(version, second), wanted, "{name}");
     }
 }
 
 #[test]
 fn joined_states(rt: HostRuntime) {
-    let mut spilled = State::opening();
-    let mut numbered = State::opening();
+    let mut spilled = State::opening(Version::V1);
+    let mut numbered = State::opening(Version::V1);
     let spill = spilled.step(site(0), spill(Size::U64, -8, Register::R1));
     assert_eq!(rt; spill, Ok(Way::Falls), "a context is spilled");
     let number = numbered.step(site(0), store(Size::U64, Register::R10, -8, 5));
@@ -294,12 +321,18 @@ fn joined_states(rt: HostRuntime) {
 #[test]
 fn states_by_value(rt: HostRuntime) -> Result<(), Fail> {
     use Register::{R0, R1, R10};
-    let down = State::opening().after_alu(site(0), Width::Bits64, AluOp::Add, R10, Source::Imm(-8));
+    let down = State::opening(Version::V1).after_alu(
+        site(0),
+        Width::Bits64,
+        AluOp::Add,
+        R10,
+        Source::Imm(-8),
+    );
     match down {
         Ok(state) => assert_eq!(rt; state.kind(R10), Kind::Stack(504), "eight bytes down"),
         Err(_) => assert!(rt; false, "a stack pointer moves down"),
     }
-    let mut queue = State::opening();
+    let mut queue = State::opening(Version::V1);
     let read = queue.step(site(0), load(Size::U32, R0, R1, 16));
     assert_eq!(rt; read, Ok(Way::Falls), "the receive queue is read");
     let high = queue.refine(Width::Bits64, Test::Gt, R0, Source::Imm(3), true);

@@ -4,7 +4,7 @@ ghost use Rattle.std.specs.Prelude.{◌≡◌};
 ghost use Rattle.abstract_state.specs.Facts.{told_null, told_range, told_moved, told_kind, told_word, told_start};
 
 use crate::fact::Fact;
-use crate::kind::{Kind, StackWord};
+use crate::kind::{Kind, Offsets, StackWord};
 use abstract_scalar::Interval;
 
 /// What the lookup of an id gave is 0, or isn't.
@@ -21,7 +21,7 @@ fn told_null(id: u16, is_null: bool, kind: Kind) -> Kind
                 Kind::Value {
                     map,
                     id: found,
-                    off: 0,
+                    off: Offsets::at(0),
                 }
             }
         }

@@ -16,7 +16,8 @@
 //!   readable as a number, in the packet, in a part of a stack word or as the verdict (46);
 //! - touch memory past what a test showed to be in the packet (37), outside the stack (38) or outside a map's value (40), on the stack
 //!   and in values at no multiple of the width (41), or a part of the context that is no field (42);
-//! - call what is no helper (44) or with arguments that it does not take (45), or name a map that the image does not have (47).
+//! - call what is no helper (44) or with arguments that it does not take (45), name a map that the image does not have (47), or load
+//!   an address in a value of a map that is no array (49).
 //!
 //! Where two ways meet, `State::join` keeps what both know. A conditional jump has two edges, and `State::follow` takes the state along
 //! one of them, with what its test tells there: a number is cut to the part of its interval that can pass; what a lookup gave is null,
@@ -33,25 +34,25 @@
 //! The order of rules within an instruction is part of the promise, since the first that is broken is told: a write of R10; then an
 //! unknown helper or map; then an unset register, the destination before the source; then the rule of the instruction's class.
 
-ghost use Rattle.std.specs.Prelude.{◌≡◌};
+ghost use Rattle.std.specs.Prelude.{◌≡◌, Some};
 ghost use Rattle.semantics.specs.Semantics.{fetched_register};
 ghost use Rattle.abstract_state.specs.Access.{load_of, signed_load_of, with_fetched_kind, expects, atomic_on};
 ghost use Rattle.abstract_state.specs.States.{kind_of};
 ghost use Rattle.abstract_state.specs.Unary.{unary_change};
 ghost use Rattle.abstract_state.specs.InPlace.{kept, flow_kept, edge_state};
-ghost use Rattle.abstract_state.specs.Flow.{writable, fetch_writable, is_set, reads, reads_source, reads_both, reads_operands, reads_expected, reads_atomic, reads_arguments, alu_flow, number_of, operand_of, unary_flow, load_flow, store_flow, store_register_flow, atomic_flow, known_map, map_flow, number_flow, call_flow, verdict_kind, flow_of};
+ghost use Rattle.abstract_state.specs.Flow.{writable, fetch_writable, is_set, reads, reads_source, reads_both, reads_operands, reads_expected, reads_atomic, reads_arguments, alu_flow, number_of, operand_of, unary_flow, load_flow, store_flow, store_register_flow, atomic_flow, known_map, map_flow, array_size, address_in, value_address, address_flow, number_flow, call_flow, verdict_kind, flow_of};
 
 use crate::access::narrow_storable;
 use crate::flow::Way;
 use crate::helper::Helper;
-use crate::kind::Kind;
-use crate::places::value_access;
+use crate::kind::{Kind, Offsets};
+use crate::places::{atomic_access, place_within};
 use crate::refinement::allowed_test;
 use crate::refusal::Refusal;
 use crate::site::{Address, Site};
 use crate::state::State;
 use abstract_scalar::Interval;
-use ebpf_decode::{Insn, MapDef};
+use ebpf_decode::{Insn, MapDef, MapKind};
 use isa::{
     AluOp, AtomicOp, ByteOrder, Extension, Register, ShortExtension, Size, Source, SwapWidth, Test,
     Width,
@@ -123,6 +124,42 @@ fn known_map(maps: &[MapDef], map: i32) -> Result<Kind, Refusal>
     }
     match maps.get(map as usize) {
         Some(_) => Ok(Kind::Map(map as u32)),
+        None => Err(Refusal::UnknownMap),
+    }
+}
+
+/// The size of an array's values: the element 0 of an array alone is always there.
+fn array_size(kind: MapKind, size: u32) -> Result<u32, Refusal>
+    ensures { result ≡ array_size kind size }
+{
+    match kind {
+        MapKind::Array => Ok(size),
+        _ => Err(Refusal::NotArrayMap),
+    }
+}
+
+/// An address in the value of an array's element 0.
+fn address_in(definition: &MapDef, map: u32, slot: u16, offset: u32) -> Result<Kind, Refusal>
+    ensures { result ≡ address_in (Some definition.now) map slot offset }
+{
+    let size = array_size(definition.kind, definition.value_size)?;
+    let off = place_within(i128::from(offset), size, Refusal::ValueBounds)?;
+    Ok(Kind::Value {
+        map,
+        id: slot,
+        off: Offsets::at(off),
+    })
+}
+
+/// The same by the map's place in the image's list.
+fn value_address(site: Site<'_>, map: i32, offset: u32) -> Result<Kind, Refusal>
+    ensures { result ≡ value_address site.entry.maps.now site.entry.slot map offset }
+{
+    if map < 0 {
+        return Err(Refusal::UnknownMap);
+    }
+    match site.maps.get(map as usize) {
+        Some(definition) => address_in(definition, map as u32, site.slot, offset),
         None => Err(Refusal::UnknownMap),
     }
 }
@@ -333,7 +370,7 @@ impl State {
     {
         match at.base {
             Kind::Value { map, off, .. } => {
-                value_access(site.maps, map, off, at.offset, width.size().bytes())?;
+                atomic_access(site.maps, map, off, at.offset, width.size().bytes())?;
                 narrow_storable(self.kind(src))?;
                 expects(op, self.kind(Register::R0))?;
                 self.fetch(fetched_register(op, src), width);
@@ -368,6 +405,22 @@ impl State {
     {
         writable(dst)?;
         let kind = known_map(site.maps, map)?;
+        self.set(dst, kind);
+        Ok(())
+    }
+
+    /// A wide load of an address in a map's value.
+    fn load_address(
+        &mut self,
+        site: Site<'_>,
+        dst: Register,
+        map: i32,
+        offset: u32,
+    ) -> Result<(), Refusal>
+        ensures { kept result self.new ≡ address_flow site.entry.maps.now self.old site.entry.slot dst map offset }
+    {
+        writable(dst)?;
+        let kind = value_address(site, map, offset)?;
         self.set(dst, kind);
         Ok(())
     }
@@ -417,7 +470,7 @@ impl State {
             Insn::End { order, swap_width, dst } => self.unary(dst, dst, Unary::Swap(order, swap_width))?,
             Insn::Lddw { dst, value } => self.load_number(dst, value)?,
             Insn::Ldmap { dst, map } => self.load_map(site, dst, map)?,
-            Insn::Ldval { .. } => return Err(Refusal::UnknownMap),
+            Insn::Ldval { dst, map, offset } => self.load_address(site, dst, map, offset)?,
             Insn::Ldx { size, dst, src, offset } => self.load(site, size, dst, src, offset)?,
             Insn::Ldxs { extension, dst, src, offset } => self.signed_load(site, extension, dst, src, offset)?,
             Insn::St { size, dst, offset, immediate } => self.store(site, size, dst, offset, immediate)?,

@@ -3,7 +3,6 @@
 ghost use Rattle.std.specs.Prelude.{◌≡◌, IfOk};
 ghost use Rattle.ebpf_decode.specs.ImageContents.{Contents};
 ghost use Rattle.ebpf_decode.specs.ImageFormat.{IsImageEncoding};
-ghost use Rattle.ebpf_decode.specs.declared.version.Version.TheVariants.{V1};
 ghost use Rattle.ebpf_decode.specs.Served.{IsServedImage};
 ghost use Rattle.semantics.specs.Safety.{IsSafeImage};
 ghost use Rattle.verifier.specs.Runnable.{IsRunnable};
@@ -24,9 +23,9 @@ pub fn decoded(alloc: Global, bytes: &[u8]) -> Result<Image, u8>
 
 /// The image that the bytes encode, accepted, or the number of the fault.
 pub fn accept(alloc: Global, bytes: &[u8]) -> Result<Verified, u8>
-    ensures read { IfOk result (λ v. IsImageEncoding bytes.now (record { version = V1; maps = v.maps; code = v.code })) }
+    ensures read { IfOk result (λ v. IsImageEncoding bytes.now (record { version = v.version; maps = v.maps; code = v.code })) }
     ensures safe { IfOk result (λ v. IsSafeImage v.maps v.code) }
-    ensures served { IfOk result (λ v. IsServedImage (record { version = V1; maps = v.maps; code = v.code })) }
+    ensures served { IfOk result (λ v. IsServedImage (record { version = v.version; maps = v.maps; code = v.code })) }
 {
     let image = match decoded(alloc, bytes)?.served() {
         Ok(image) => image,
@@ -40,9 +39,9 @@ pub fn accept(alloc: Global, bytes: &[u8]) -> Result<Verified, u8>
 
 /// The same of an image that the machine of this build executes.
 pub fn accept_to_run(alloc: Global, bytes: &[u8]) -> Result<Verified, u8>
-    ensures read { IfOk result (λ v. IsImageEncoding bytes.now (record { version = V1; maps = v.maps; code = v.code })) }
+    ensures read { IfOk result (λ v. IsImageEncoding bytes.now (record { version = v.version; maps = v.maps; code = v.code })) }
     ensures safe { IfOk result (λ v. IsSafeImage v.maps v.code) }
-    ensures served { IfOk result (λ v. IsServedImage (record { version = V1; maps = v.maps; code = v.code })) }
+    ensures served { IfOk result (λ v. IsServedImage (record { version = v.version; maps = v.maps; code = v.code })) }
     ensures runnable { IfOk result (λ v. IsRunnable v.code v.states) }
 {
     let verified = accept(alloc, bytes)?;

@@ -1,7 +1,6 @@
 //! Runs of an accepted image, each over shards of its own.
 
 ghost use Rattle.std.specs.Prelude.{◌≡◌, ◌≤◌, IfOk, length};
-ghost use Rattle.ebpf_decode.specs.declared.version.Version.TheVariants.{V1};
 ghost use Rattle.ebpf_decode.specs.Served.{IsServedImage};
 ghost use Rattle.shard_port.specs.Sessions.{OpenedServe};
 ghost use Rattle.verifier.specs.Runnable.{IsRunnable};
@@ -65,7 +64,7 @@ fn frame_of(alloc: Global, bytes: &[u8]) -> Result<Frame, u8>
 /// Opens shards and runs the program on a frame of these bytes, or tells the number of the fault.
 pub fn run_once(alloc: Global, verified: &Verified, bytes: &[u8], journal: u32) -> Result<Ran, u8>
     requires runnable { IsRunnable verified.now.code verified.now.states }
-    requires served { IsServedImage (record { version = V1; maps = verified.now.maps; code = verified.now.code }) }
+    requires served { IsServedImage (record { version = verified.now.version; maps = verified.now.maps; code = verified.now.code }) }
 {
     opened_serve();
     let options = options(journal);
@@ -94,7 +93,7 @@ pub fn prepare_once(
     bytes: &[u8],
     journal: u32,
 ) -> Result<u64, u8>
-    requires { IsServedImage (record { version = V1; maps = verified.now.maps; code = verified.now.code }) }
+    requires { IsServedImage (record { version = verified.now.version; maps = verified.now.maps; code = verified.now.code }) }
 {
     let shards = match Shards::open(alloc, verified.served_image(), options(journal)) {
         Ok(shards) => shards,

@@ -1,2 +1,4 @@
 pub mod JournalLemmas
 pub mod RunLemmas
+pub mod SameSteps
+pub mod ReaderTraces

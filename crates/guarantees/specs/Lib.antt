@@ -1,2 +1,3 @@
 pub mod Runs
 pub mod Guarantees
+pub mod SameRuns

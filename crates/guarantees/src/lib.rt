@@ -13,6 +13,8 @@ pub mod running;
 mod tests;
 
 ghost use Rattle.semantics.specs.Safety.{IsSafeImage};
+ghost use Rattle.verifier.specs.Readers.{IsReader};
+ghost use Rattle.guarantees.specs.SameRuns.{RunsTheSame};
 ghost use Rattle.guarantees.specs.Guarantees.{RunsAreTheirMeaning, StoppedRunsAreBeginnings, EntriesAreSteps, OpenedShardsAreReady, RunsLeaveOthersAlone};
 
 use shard_port::laws::{
@@ -28,6 +30,17 @@ pub fn accepted_images_are_safe(verified: &Verified)
     ensures { IsSafeImage verified.now.maps verified.now.code }
 {
     accepted_is_safe();
+    let _ = verified.image();
+    verified.encodable();
+}
+
+/// A run of an accepted program that only reads (`Verified::is_reader`) is the same on whichever worker: on the same frame at the same
+/// time, where it is given the same replies, it makes the same calls, ends with the same verdict after as many instructions, and
+/// leaves the same frame.
+pub fn readers_run_the_same(verified: &Verified)
+    requires reads { IsReader verified.now.code verified.now.states }
+    ensures { RunsTheSame verified.now.maps verified.now.code }
+{
     let _ = verified.image();
     verified.encodable();
 }

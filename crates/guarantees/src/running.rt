@@ -1,7 +1,6 @@
 //! The calls of which the guarantees on runs speak, made in their order.
 
 ghost use Rattle.std.specs.Prelude.{◌≡◌, ◌<◌, IfOk, IfErr};
-ghost use Rattle.ebpf_decode.specs.declared.version.Version.TheVariants.{V1};
 ghost use Rattle.ebpf_decode.specs.Served.{IsServedImage};
 ghost use Rattle.semantics.specs.ShardPlan.{AreOptions};
 ghost use Rattle.semantics.specs.MachineState.{initial_state};
@@ -54,7 +53,7 @@ pub fn worker_run(
     frame: &mut Frame,
 ) -> Result<Exit, Stop>
     requires options { AreOptions verified.now.maps options }
-    requires arrays { IsServedImage (record { version = V1; maps = verified.now.maps; code = verified.now.code }) }
+    requires arrays { IsServedImage (record { version = verified.now.version; maps = verified.now.maps; code = verified.now.code }) }
     requires runnable { IsRunnable verified.now.code verified.now.states }
     requires shards { ServesMaps verified.now.maps options shards.old }
     requires outside { IsOutside moment.now.worker shards.old }

@@ -1,7 +1,6 @@
 //! Facts of types, each brought into a proof by a function that does nothing and is named after the fact.
 
 ghost use Rattle.std.specs.Prelude.{◌≡◌, ◌≤◌, ◌<◌, ◌^◌, length, All};
-ghost use Rattle.ebpf_decode.specs.declared.version.Version.TheVariants.{V1};
 ghost use Rattle.ebpf_decode.specs.ImageContents.{IsEncodable};
 ghost use Rattle.semantics.specs.System.{IsInputFrame};
 ghost use Rattle.verifier.specs.Dataflow.{Accepts};
@@ -13,8 +12,8 @@ use wire::Frame;
 
 /// A verified image's program is let through by its entry states, and is one that the image format encodes.
 pub(crate) fn program_is_accepted(verified: &Verified)
-    ensures accepted { Accepts verified.now.maps verified.now.code verified.now.states }
-    ensures encodable { IsEncodable V1 verified.now.maps verified.now.code }
+    ensures accepted { Accepts verified.now.version verified.now.maps verified.now.code verified.now.states }
+    ensures encodable { IsEncodable verified.now.version verified.now.maps verified.now.code }
 {
     let _ = verified.image();
     verified.encodable();

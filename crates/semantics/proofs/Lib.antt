@@ -12,3 +12,5 @@ pub mod SystemLemmas
 pub mod RowLemmas
 pub mod TraceRowLemmas
 pub mod PlanLemmas
+pub mod FirstElement
+pub mod ImageSizes

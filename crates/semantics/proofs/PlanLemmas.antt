@@ -9,7 +9,7 @@ use Rattle.semantics.specs.declared.options.Options.{Options}
 use Rattle.semantics.specs.ShardPlan.{ShardPlan, plan_for_map, plan_at, AreOptions}
 use Rattle.semantics.specs.PlanLimits.{HasImageSizes, IsPlan}
 
-each_at : (P : MapDef → Type 0) (maps : List MapDef) (place : ℕ) (definition : MapDef) → AllByRecursion P maps → slice_get maps place ≡ Some definition → P definition
+pub each_at : (P : MapDef → Type 0) (maps : List MapDef) (place : ℕ) (definition : MapDef) → AllByRecursion P maps → slice_get maps place ≡ Some definition → P definition
 each_at P [] place definition each is = absurd cc
 each_at P (first ∷ maps) zero definition each is = let same : first ≡ definition = cc in subst P same each.0
 each_at P (first ∷ maps) (suc place) definition each is = each_at P maps place definition each.1 is

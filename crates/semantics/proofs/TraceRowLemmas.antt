@@ -2,7 +2,7 @@
 use Rattle.std.proofs.Common.{refl}
 use Rattle.ebpf_decode.specs.InstructionEncoding.{slot_count}
 use Rattle.semantics.specs.RegisterValue.{Uninitialized, Number, ContextPointer, StackPointer, PacketPointer, PacketEnd, MapPointer, CellPointer}
-use Rattle.semantics.specs.TraceRows.{StoresAsk, AtomicsAsk, ShortAtomicsAsk, HelpersAsk, SpilledPointersComeBack}
+use Rattle.semantics.specs.TraceRows.{StoresAsk, AtomicsAsk, ShortAtomicsAsk, HelpersAsk, AddressesAsk, SpilledPointersComeBack}
 
 pub stores_ask : StoresAsk
 unfolding slot_count
@@ -43,6 +43,10 @@ short_atomics_ask = record {
 pub helpers_ask : HelpersAsk
 unfolding slot_count
 helpers_ask = record { delete_calls = refl; delete_absent = refl; delete_done = refl; head_moved = refl; head_verdict = refl; head_stays = refl }
+
+pub addresses_ask : AddressesAsk
+unfolding slot_count
+addresses_ask = record { asked = refl; verdict = refl; address = refl }
 
 pub spilled_come_back : SpilledPointersComeBack
 unfolding slot_count

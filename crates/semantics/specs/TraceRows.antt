@@ -8,13 +8,13 @@ use Rattle.isa.specs.declared.operation.AluOp.TheVariants.{Add, Mov}
 use Rattle.isa.specs.declared.operation.AtomicOp.TheVariants.{AtomicAdd, AtomicOr, AtomicAnd, AtomicXor, FetchAdd, FetchOr, FetchAnd, FetchXor, Exchange, CompareExchange}
 use Rattle.isa.specs.declared.operation.Register.TheVariants.{R0, R1, R2, R3, R10}
 use Rattle.ebpf_decode.specs.declared.insn.Insn.{Insn}
-use Rattle.ebpf_decode.specs.declared.insn.Insn.TheVariants.{Alu, Ldx, St, Stx, AtomicUpdate, Ldmap, CallHelper, Exit}
-use Rattle.ebpf_decode.specs.declared.map.MapKind.TheVariants.{Hash}
+use Rattle.ebpf_decode.specs.declared.insn.Insn.TheVariants.{Alu, Ldx, St, Stx, AtomicUpdate, Ldmap, Ldval, CallHelper, Exit}
+use Rattle.ebpf_decode.specs.declared.map.MapKind.TheVariants.{Hash, Array}
 use Rattle.wire.specs.FrameView.{FrameView}
 use Rattle.semantics.specs.declared.call.Call.{Call}
-use Rattle.semantics.specs.declared.call.Call.TheVariants.{Store, Atomic, Delete}
+use Rattle.semantics.specs.declared.call.Call.TheVariants.{Lookup, Store, Atomic, Delete}
 use Rattle.semantics.specs.declared.call.Reply.{Reply}
-use Rattle.semantics.specs.declared.call.Reply.TheVariants.{Word, Done, Answer}
+use Rattle.semantics.specs.declared.call.Reply.TheVariants.{Cell, Word, Done, Answer}
 use Rattle.semantics.specs.declared.verdict.Verdict.{Verdict}
 use Rattle.semantics.specs.declared.verdict.Verdict.TheVariants.{Aborted, Drop, Pass, Tx}
 use Rattle.semantics.specs.RegisterValue.{RegisterValue, Uninitialized, Number, StackPointer, CellPointer}
@@ -79,6 +79,11 @@ pub record ShortAtomicsAsk : Type 0 where
   pub compare_equal : Asks (AtomicUpdate Bits32 CompareExchange R1 R2 (pos 4)) 4294967298 4294967301 (Atomic (cell_at 0) 4 4 0xf1 5 2) (Word 2) 2 4294967301 Pass
   pub compare_unequal : Asks (AtomicUpdate Bits32 CompareExchange R1 R2 (pos 4)) 4294967298 4294967301 (Atomic (cell_at 0) 4 4 0xf1 5 2) (Word 3) 3 4294967301 Tx
 
+-- what a run leaves in R2
+abbrev pub second_left : RunStand → Option RegisterValue
+second_left (HasExited verdict last) = Some (register_value last R2)
+second_left stand = None
+
 -- ---- helpers
 
 -- what a run ends with
@@ -112,6 +117,20 @@ pub record HelpersAsk : Type 0 where
   pub head_moved : frame_left (trace_from_start 4 (moving_head (negsuc 19)) []).stand ≡ Some (record { bytes = replicate 20 0 ++ frame_of 0; headroom = 236 })
   pub head_verdict : verdict_left (trace_from_start 4 (moving_head (negsuc 19)) []).stand ≡ Some Tx
   pub head_stays : frame_left (trace_from_start 4 (moving_head (negsuc 256)) []).stand ≡ Some (record { bytes = frame_of 0; headroom = 256 })
+
+-- ---- an address in a map's first value: its first shard is asked for key 0
+
+abbrev pub over_two_arrays : List Insn → Program
+over_two_arrays code = record { code = code; maps = one_map Array ++ one_map Array; shards = 2 }
+
+-- of the second of two maps with two shards each, byte 4
+abbrev pub addressing : RunTrace
+addressing = trace_of 2 (over_two_arrays (Ldval R2 (pos 1) 4 ∷ Exit ∷ [])) (run_with (Number 2) (Number 0)) (Cell (record { shard = 2; id = 0 }) ∷ [])
+
+pub record AddressesAsk : Type 0 where
+  pub asked : addressing.calls ≡ Lookup 2 (0 ∷ 0 ∷ 0 ∷ 0 ∷ []) ∷ []
+  pub verdict : verdict_left addressing.stand ≡ Some Pass
+  pub address : second_left addressing.stand ≡ Some (CellPointer 1 2 0 (pos 4))
 
 -- ---- spilled pointers
 

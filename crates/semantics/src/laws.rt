@@ -3,7 +3,7 @@
 ghost use Rattle.semantics.specs.CallerLaws.{ConditionIsOwn};
 ghost use Rattle.semantics.specs.SystemLaws.{ReachedHistoriesAreLegal};
 ghost use Rattle.semantics.specs.SystemRows.{RunOverAnArray, RunOverAHashMap, HeldCellOutlivesItsKey, FullJournalHasRoomForLeave, UnsafeProgramIsRefused};
-ghost use Rattle.semantics.specs.TraceRows.{StoresAsk, AtomicsAsk, ShortAtomicsAsk, HelpersAsk, SpilledPointersComeBack};
+ghost use Rattle.semantics.specs.TraceRows.{StoresAsk, AtomicsAsk, ShortAtomicsAsk, HelpersAsk, AddressesAsk, SpilledPointersComeBack};
 ghost use Rattle.semantics.specs.PlanLimits.{ShardsHavePlans};
 ghost use Rattle.semantics.specs.UseLaws.{PresentKeysWereUsed, PresentKeysDiffer, LastUsesDiffer};
 ghost use Rattle.semantics.specs.IdLaws.{IdsCountCreations, IdsAreFew};
@@ -70,12 +70,13 @@ pub fn unsafe_program_is_refused()
     ensures { UnsafeProgramIsRefused }
 {}
 
-/// What stores, atomic operations and helpers ask of a map, and what its replies make of the registers.
+/// What stores, atomic operations, helpers and addresses in values ask of a map, and what its replies make of the registers.
 pub fn instructions_ask()
     ensures stores { StoresAsk }
     ensures atomics { AtomicsAsk }
     ensures short_atomics { ShortAtomicsAsk }
     ensures helpers { HelpersAsk }
+    ensures addresses { AddressesAsk }
 {}
 
 /// A pointer that is stored on the stack is loaded as it was.

@@ -5,6 +5,9 @@ use Rattle.std.specs.List.{AllByRecursion}
 use Rattle.std.proofs.lemmas.Option.{slice_get_within}
 use Rattle.std.proofs.lemmas.Nat.{div-mul-add, mod-mul-add}
 use Rattle.std.proofs.Math.Nat.{mul-le-mul_right, div-le_self}
+use Rattle.std.specs.Coded.{Coded-set, coded_bool}
+use Rattle.std.proofs.Math.Logic.{∥∥₁_elim}
+use Rattle.std.proofs.lemmas.Bool.{false≢true}
 use Rattle.std.proofs.lemmas.Bool.Decides.{nat_tests}
 use Rattle.ebpf_decode.specs.declared.map.MapDef.{MapDef}
 use Rattle.ebpf_decode.specs.declared.map.MapKind.{MapKind}
@@ -23,7 +26,8 @@ use Rattle.semantics.specs.declared.call.Reply.TheVariants.{Cell, Word, Done, An
 use Rattle.semantics.specs.LittleEndian.{number_of_bytes}
 use Rattle.semantics.specs.SequentialShard.{SequentialShard, shard_after, cell_of_kind, cell_of_index, cell_of_key, lookup_reply}
 use Rattle.semantics.specs.History.{meets_part}
-use Rattle.semantics.specs.RunTrace.{IsReplyTo}
+use Rattle.semantics.specs.RunTrace.{IsReplyTo, MayBeAbsent}
+use Rattle.semantics.proofs.FirstElement.{nothing_found}
 use Rattle.semantics.proofs.ConditionLemmas.{first_true, second_true}
 use Rattle.shard_core.specs.JournaledShard.{JournaledShard}
 use Rattle.map_port.specs.Served.{Maps, program_over, shard_of, IsKeyOf, found_reply}
@@ -32,7 +36,7 @@ use Rattle.shard_port.specs.PortView.{IsShardOf, IsReady, IsRunCall, SetsBytes, 
 use Rattle.shard_port.specs.PortLaws.{both_true}
 use Rattle.shard_port.proofs.ByteLemmas.{number_in_cell-below}
 use Rattle.shard_port.proofs.ReadyLemmas.{plan_number, bytes_entered}
-use Rattle.shard_port.proofs.MayAskLemmas.{served_by, shard_of_known, few_parts}
+use Rattle.shard_port.proofs.MayAskLemmas.{served_by, shard_of_known, some_part, few_parts}
 
 -- ---- arrays
 
@@ -129,15 +133,50 @@ found_told worker before number key reply after small among =
     subst (λ (one : Reply). one ≡ found_reply cell_of_handle (handle_of one)) (sym is)
     (found_again among.shard.plan (cell_of_key among.shard.plan (shard_after among.shard.plan (reverse (entered worker among.shard).journal)) key) (subst (λ (one : Reply). has_small_cell one ≡ true) is small))
 
-found_formed : (served : Maps) (plan : ShardPlan) (number : ℕ) (key : List ℕ) (found : Option ℕ) → plan.number ≡ number → IsReplyTo (program_over served) (Lookup number key) (lookup_reply plan found)
-found_formed served plan number key None same = tt
-found_formed served plan number key (Some id) same = same
+some_entries : (definition : MapDef) → IsServedMap definition → 1 ≤ definition.max_entries
+some_entries definition allowed =
+    let counted : IsTrue (is_entry_count definition.max_entries) = second_true (is_served_kind definition.kind && is_key_size definition.kind definition.key_size && is_value_size V1 definition.value_size) (is_entry_count definition.max_entries) allowed in
+    grind (arith, nat_tests)
 
-pub lookup_formed : (served : Maps) (worker : ℕ) (before : List JournaledShard) (number : ℕ) (key : List ℕ) (reply : Reply) (after : List JournaledShard) → IsAnsweredAmong worker before (Lookup number key) reply after → IsReplyTo (program_over served) (Lookup number key) reply
-lookup_formed served worker before number key reply after among =
+-- what a lookup finds in its shard, which its worker has entered before
+abbrev found_there : {worker : ℕ} {before : List JournaledShard} {number : ℕ} {key : List ℕ} {reply : Reply} {after : List JournaledShard} →
+    IsAnsweredAmong worker before (Lookup number key) reply after → Option ℕ
+found_there {worker} {before} {number} {key} among =
+    cell_of_key among.shard.plan (shard_after among.shard.plan (reverse (entered worker among.shard).journal)) key
+
+-- where nothing was found, nothing has to be there
+absent_where : (maps : List MapDef) (options : Options) (worker : ℕ) (before : List JournaledShard) (number : ℕ) (key : List ℕ) (reply : Reply) (after : List JournaledShard) →
+    IsReady maps options worker before → (among : IsAnsweredAmong worker before (Lookup number key) reply after) → found_there among ≡ None →
+    MayBeAbsent (program_over (served_by maps options)) number key
+absent_where maps options worker before number key reply after ready among none =
+    let plan : ShardPlan = among.shard.plan in
+    let is : IsShardOf maps options number among.shard = ready.are_shards.each number among.shard among.known in
+    let planned = plan_number options number (slice_get maps (number / options.shards)) plan is.planned in
+    let allowed : IsServedMap plan.definition = allowed_at maps (number / options.shards) plan.definition ready.allowed planned.4 in
+    nothing_found (program_over (served_by maps options)) plan (shard_after plan (reverse (entered worker among.shard).journal)) number key
+    (some_part maps options ready.are_options) planned.4 (some_entries plan.definition allowed) none
+
+may_be_absent : (maps : List MapDef) (options : Options) (worker : ℕ) (before : List JournaledShard) (number : ℕ) (key : List ℕ) (reply : Reply) (after : List JournaledShard) →
+    ∥ IsReady maps options worker before ∥₁ → (among : IsAnsweredAmong worker before (Lookup number key) reply after) → found_there among ≡ None →
+    MayBeAbsent (program_over (served_by maps options)) number key
+may_be_absent maps options worker before number key reply after is_ready among none map definition known array own first =
+    let impossible : false ≡ true = ∥∥₁_elim is_ready (Coded-set coded_bool false true)
+    (λ (ready : IsReady maps options worker before). absurd (absent_where maps options worker before number key reply after ready among none map definition known array own first)) in
+    absurd (false≢true impossible)
+
+found_formed : (served : Maps) (plan : ShardPlan) (number : ℕ) (key : List ℕ) (found : Option ℕ) → plan.number ≡ number → (found ≡ None → MayBeAbsent (program_over served) number key) →
+    IsReplyTo (program_over served) (Lookup number key) (lookup_reply plan found)
+found_formed served plan number key None same absent = absent refl
+found_formed served plan number key (Some id) same absent = same
+
+pub lookup_formed : (maps : List MapDef) (options : Options) (worker : ℕ) (before : List JournaledShard) (number : ℕ) (key : List ℕ) (reply : Reply) (after : List JournaledShard) →
+    ∥ IsReady maps options worker before ∥₁ → IsAnsweredAmong worker before (Lookup number key) reply after →
+    IsReplyTo (program_over (served_by maps options)) (Lookup number key) reply
+lookup_formed maps options worker before number key reply after ready among =
     let named : IsTrue (number == among.shard.plan.number) = first_true (number == among.shard.plan.number) (meets_part among.shard.plan (reverse (entered worker among.shard).journal) (Worker worker) (Lookup number key)) among.answered.met in
     let same : among.shard.plan.number ≡ number = grind (arith, nat_tests) in
-    subst (IsReplyTo (program_over served) (Lookup number key)) (sym among.answered.replied) (found_formed served among.shard.plan number key _ same)
+    subst (IsReplyTo (program_over (served_by maps options)) (Lookup number key)) (sym among.answered.replied)
+    (found_formed (served_by maps options) among.shard.plan number key _ same (may_be_absent maps options worker before number key reply after ready among))
 
 -- ---- words
 

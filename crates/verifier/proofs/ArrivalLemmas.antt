@@ -1,6 +1,7 @@
 -- What flows along an edge is sound at the slot where it leads, whatever else is joined to it there.
 use Rattle.std.proofs.Common.{◌≡◌, ◌⊎◌, inl, inr, ℕ, zero, suc, ◌+◌, ◌<◌, ◌≤◌, ◌-◌, Bool, true, false, List, Option, Some, None, Ok, Err, refl, sym, subst, arith}
 use Rattle.std.specs.Prelude.{if◌then◌else◌, ◌==◌}
+use Rattle.ebpf_decode.specs.declared.version.Version.{Version}
 use Rattle.ebpf_decode.specs.declared.insn.Insn.{Insn}
 use Rattle.ebpf_decode.specs.declared.map.MapDef.{MapDef}
 use Rattle.ebpf_decode.specs.InstructionEncoding.{total_slots}
@@ -60,23 +61,23 @@ from_whole maps slot (Some insn) (Some state) target known k h = if_whole maps s
 from_whole maps slot (Some insn) None target known k h = h
 from_whole maps slot None here target known k h = h
 
-opening_whole : (there : Bool) → IsWhole (if there then Some opening_state else None)
-opening_whole true = states_shaped.opening
-opening_whole false = tt
+opening_whole : (version : Version) (there : Bool) → IsWhole (if there then Some (opening_state version) else None)
+opening_whole version true = states_shaped.opening version
+opening_whole version false = tt
 
-pub arrived_whole : (maps : List MapDef) (code : List Insn) (states : List (Option State)) (target end : ℕ) →
-    ((slot : ℕ) → slot < end → IsWhole (known_at states slot)) → IsWhole (arrived maps code states target end)
-arrived_whole maps code states target zero h = opening_whole (target == 0)
-arrived_whole maps code states target (suc end) h =
-    from_whole maps end (instruction_at code end) (known_at states end) target (arrived maps code states target end) (h end (omega arith))
-    (arrived_whole maps code states target end (λ slot k. h slot (omega arith)))
+pub arrived_whole : (version : Version) (maps : List MapDef) (code : List Insn) (states : List (Option State)) (target end : ℕ) →
+    ((slot : ℕ) → slot < end → IsWhole (known_at states slot)) → IsWhole (arrived version maps code states target end)
+arrived_whole version maps code states target zero h = opening_whole version (target == 0)
+arrived_whole version maps code states target (suc end) h =
+    from_whole maps end (instruction_at code end) (known_at states end) target (arrived version maps code states target end) (h end (omega arith))
+    (arrived_whole version maps code states target end (λ slot k. h slot (omega arith)))
 
 -- by the slots in turn: what is known at each is what arrives from those below it
-pub whole_below : (maps : List MapDef) (code : List Insn) (states : List (Option State)) (total bound : ℕ) → AreEntryStates maps code states total → bound ≤ total →
+pub whole_below : (version : Version) (maps : List MapDef) (code : List Insn) (states : List (Option State)) (total bound : ℕ) → AreEntryStates version maps code states total → bound ≤ total →
     (slot : ℕ) → slot < bound → IsWhole (known_at states slot)
-whole_below maps code states total zero entry h slot k = absurd (omega arith)
-whole_below maps code states total (suc bound) entry h slot k =
-    rw (entry slot (omega arith)) (arrived_whole maps code states slot slot (λ below g. whole_below maps code states total bound entry (omega arith) below (omega arith)))
+whole_below version maps code states total zero entry h slot k = absurd (omega arith)
+whole_below version maps code states total (suc bound) entry h slot k =
+    rw (entry slot (omega arith)) (arrived_whole version maps code states slot slot (λ below g. whole_below version maps code states total bound entry (omega arith) below (omega arith)))
 
 -- ---- soundness
 
@@ -134,16 +135,16 @@ from_stays maps held machine slot (Some insn) None target known k h sound = soun
 from_stays maps held machine slot None here target known k h sound = sound
 
 -- what arrived from some slots stays sound whatever the further slots bring
-arrived_stays : (maps : List MapDef) (held : Held) (machine : MachineState) (code : List Insn) (states : List (Option State)) (target start more : ℕ) →
-    ((slot : ℕ) → slot < start + more → IsWhole (known_at states slot)) → IsSoundAt maps held machine (arrived maps code states target start) →
-    IsSoundAt maps held machine (arrived maps code states target (start + more))
-arrived_stays maps held machine code states target start zero h sound = let e : start + zero ≡ start = omega arith in rw e sound
-arrived_stays maps held machine code states target start (suc more) h sound =
+arrived_stays : (version : Version) (maps : List MapDef) (held : Held) (machine : MachineState) (code : List Insn) (states : List (Option State)) (target start more : ℕ) →
+    ((slot : ℕ) → slot < start + more → IsWhole (known_at states slot)) → IsSoundAt maps held machine (arrived version maps code states target start) →
+    IsSoundAt maps held machine (arrived version maps code states target (start + more))
+arrived_stays version maps held machine code states target start zero h sound = let e : start + zero ≡ start = omega arith in rw e sound
+arrived_stays version maps held machine code states target start (suc more) h sound =
     let e : start + suc more ≡ suc (start + more) = omega arith
     in rw e (from_stays maps held machine (start + more) (instruction_at code (start + more)) (known_at states (start + more)) target
-    (arrived maps code states target (start + more)) (h (start + more) (omega arith))
-    (arrived_whole maps code states target (start + more) (λ slot k. h slot (omega arith)))
-    (arrived_stays maps held machine code states target start more (λ slot k. h slot (omega arith)) sound))
+    (arrived version maps code states target (start + more)) (h (start + more) (omega arith))
+    (arrived_whole version maps code states target (start + more) (λ slot k. h slot (omega arith)))
+    (arrived_stays version maps held machine code states target start more (λ slot k. h slot (omega arith)) sound))
 
 -- ---- the edge that a run takes
 
@@ -171,17 +172,17 @@ arriving_counts maps held machine slot insn target state (Splits taken state') k
     (where_whole (is_target slot insn target) taken known h k.0) k.1 sound
 
 -- what flows along the edge that a run takes is sound at the slot where it leads, with all that is joined to it there
-pub sound_there : (maps : List MapDef) (held : Held) (machine : MachineState) (code : List Insn) (states : List (Option State)) (slot : ℕ) (insn : Insn) (here : State) (target : ℕ)
-    (state : State) (flow : Flow) → AreEntryStates maps code states (total_slots code) → instruction_at code slot ≡ Some insn → known_at states slot ≡ Some here →
+pub sound_there : (version : Version) (maps : List MapDef) (held : Held) (machine : MachineState) (code : List Insn) (states : List (Option State)) (slot : ℕ) (insn : Insn) (here : State) (target : ℕ)
+    (state : State) (flow : Flow) → AreEntryStates version maps code states (total_slots code) → instruction_at code slot ≡ Some insn → known_at states slot ≡ Some here →
     flow_of maps here slot insn ≡ Ok flow → slot < target → target < total_slots code → IsTaken slot insn target state flow → Abstracts maps held state machine →
     IsSoundAt maps held machine (known_at states target)
-sound_there maps held machine code states slot insn here target state flow entry found known flows up within taken sound =
-    let whole : (k : ℕ) → k < total_slots code → IsWhole (known_at states k) = whole_below maps code states (total_slots code) (total_slots code) entry (omega arith)
+sound_there version maps held machine code states slot insn here target state flow entry found known flows up within taken sound =
+    let whole : (k : ℕ) → k < total_slots code → IsWhole (known_at states k) = whole_below version maps code states (total_slots code) (total_slots code) entry (omega arith)
     in let shaped : IsShaped here = (let w : IsWhole (known_at states slot) = whole slot (omega arith) in subst IsWhole known w)
-    in let first : IsSoundAt maps held machine (arrived maps code states target (suc slot)) =
-    rw (found, known, flows) (arriving_counts maps held machine slot insn target state flow (arrived maps code states target slot)
-    (states_shaped.flowed maps here slot insn flow shaped flows) (arrived_whole maps code states target slot (λ k h. whole k (omega arith))) taken sound)
+    in let first : IsSoundAt maps held machine (arrived version maps code states target (suc slot)) =
+    rw (found, known, flows) (arriving_counts maps held machine slot insn target state flow (arrived version maps code states target slot)
+    (states_shaped.flowed maps here slot insn flow shaped flows) (arrived_whole version maps code states target slot (λ k h. whole k (omega arith))) taken sound)
     in let e : target ≡ suc slot + (target - suc slot) = omega arith
-    in let all : IsSoundAt maps held machine (arrived maps code states target (suc slot + (target - suc slot))) =
-    arrived_stays maps held machine code states target (suc slot) (target - suc slot) (λ k h. whole k (omega arith)) first
-    in rw (entry target within) (subst (λ end. IsSoundAt maps held machine (arrived maps code states target end)) (sym e) all)
+    in let all : IsSoundAt maps held machine (arrived version maps code states target (suc slot + (target - suc slot))) =
+    arrived_stays version maps held machine code states target (suc slot) (target - suc slot) (λ k h. whole k (omega arith)) first
+    in rw (entry target within) (subst (λ end. IsSoundAt maps held machine (arrived version maps code states target end)) (sym e) all)

@@ -4,6 +4,7 @@ use Rattle.std.specs.Prelude.{IsOk, ◌≤ℤ◌}
 use Rattle.std.proofs.Math.Facts.{yes_leb}
 use Rattle.std.proofs.lemmas.List.Sums.{sum_by_more_le}
 use Rattle.std.proofs.lemmas.Bool.{cases_lt, cases_eq, ne_eqb}
+use Rattle.ebpf_decode.specs.declared.version.Version.{Version}
 use Rattle.ebpf_decode.specs.declared.insn.Insn.{Insn}
 use Rattle.ebpf_decode.specs.declared.insn.Insn.TheVariants.{Ja, Ja32, JumpIf}
 use Rattle.ebpf_decode.specs.declared.map.MapDef.{MapDef}
@@ -67,48 +68,48 @@ next_within code i d slot lt at =
     in omega arith
 
 -- what stands in memory once the instructions below a slot have been looked at: what these bring to the slot and to later ones
-pub record IsHeld (maps : List MapDef) (code : List Insn) (slot : ℕ) (entry : Entry) (pending : Pending) : Type 0 where
-  pub now : entry_of entry ≡ arrived maps code (states_of maps code) slot slot
-  pub later : (target : ℕ) → slot < target → pending_at pending target ≡ arrived maps code (states_of maps code) target slot
-  pub passes : (before : ℕ) → before < slot → PassesChecks maps code (states_of maps code) before
+pub record IsHeld (version : Version) (maps : List MapDef) (code : List Insn) (slot : ℕ) (entry : Entry) (pending : Pending) : Type 0 where
+  pub now : entry_of entry ≡ arrived version maps code (states_of version maps code) slot slot
+  pub later : (target : ℕ) → slot < target → pending_at pending target ≡ arrived version maps code (states_of version maps code) target slot
+  pub passes : (before : ℕ) → before < slot → PassesChecks maps code (states_of version maps code) before
 
 -- an instruction inside the program begins in its entry state
-pub held_here : (maps : List MapDef) (code : List Insn) (slot : ℕ) (entry : Entry) (pending : Pending) → slot < total_slots code →
-    IsHeld maps code slot entry pending → entry_of entry ≡ known_at (states_of maps code) slot
-held_here maps code slot entry pending within held = held.now ∙ sym (are_entry_states maps code slot within)
+pub held_here : (version : Version) (maps : List MapDef) (code : List Insn) (slot : ℕ) (entry : Entry) (pending : Pending) → slot < total_slots code →
+    IsHeld version maps code slot entry pending → entry_of entry ≡ known_at (states_of version maps code) slot
+held_here version maps code slot entry pending within held = held.now ∙ sym (are_entry_states version maps code slot within)
 
-pub held_at_start : (maps : List MapDef) (code : List Insn) (entry : Entry) (pending : Pending) → entry_of entry ≡ Some opening_state →
-    ((slot : ℕ) → pending_at pending slot ≡ None) → IsHeld maps code 0 entry pending
-held_at_start maps code entry pending opens none = record {
+pub held_at_start : (version : Version) (maps : List MapDef) (code : List Insn) (entry : Entry) (pending : Pending) → entry_of entry ≡ Some (opening_state version) →
+    ((slot : ℕ) → pending_at pending slot ≡ None) → IsHeld version maps code 0 entry pending
+held_at_start version maps code entry pending opens none = record {
   now = opens;
   later = λ target h. none target ∙ later_none target h;
   passes = λ before h. absurd (omega arith);
 } where
-  later_none : (target : ℕ) → 0 < target → None ≡ arrived maps code (states_of maps code) target 0
+  later_none : (target : ℕ) → 0 < target → None ≡ arrived version maps code (states_of version maps code) target 0
   later_none target h = rw (ne_eqb target 0 (λ e. omega arith)) refl
 
 -- what an instruction brings to a slot joins what those below it brought
-arrives : (maps : List MapDef) (code : List Insn) (slot : ℕ) (insn : Insn) (known : Option State) (target : ℕ) (brought : Option State) →
+arrives : (version : Version) (maps : List MapDef) (code : List Insn) (slot : ℕ) (insn : Insn) (known : Option State) (target : ℕ) (brought : Option State) →
     instruction_at code slot ≡ Some insn → ((k : ℕ) → slot < k → k < slot + slot_count insn → instruction_at code k ≡ None) →
-    known ≡ known_at (states_of maps code) slot → brought ≡ arrived maps code (states_of maps code) target slot →
-    arriving_from maps slot (Some insn) known target brought ≡ arrived maps code (states_of maps code) target (slot + slot_count insn)
-arrives maps code slot insn known target brought found inside known_is brought_is =
+    known ≡ known_at (states_of version maps code) slot → brought ≡ arrived version maps code (states_of version maps code) target slot →
+    arriving_from maps slot (Some insn) known target brought ≡ arrived version maps code (states_of version maps code) target (slot + slot_count insn)
+arrives version maps code slot insn known target brought found inside known_is brought_is =
     ap (λ state. arriving_from maps slot (Some insn) state target brought) known_is
-    ∙ ap (arriving_from maps slot (Some insn) (known_at (states_of maps code) slot) target) brought_is
-    ∙ sym (ap (λ begins. arriving_from maps slot begins (known_at (states_of maps code) slot) target (arrived maps code (states_of maps code) target slot)) found)
+    ∙ ap (arriving_from maps slot (Some insn) (known_at (states_of version maps code) slot) target) brought_is
+    ∙ sym (ap (λ begins. arriving_from maps slot begins (known_at (states_of version maps code) slot) target (arrived version maps code (states_of version maps code) target slot)) found)
     ∙ sym past where
-      past : arrived maps code (states_of maps code) target (slot + slot_count insn) ≡ arrived maps code (states_of maps code) target (suc slot)
+      past : arrived version maps code (states_of version maps code) target (slot + slot_count insn) ≡ arrived version maps code (states_of version maps code) target (suc slot)
       past =
           let some : 1 ≤ slot_count insn = some_slots insn
           in let e : slot + slot_count insn ≡ suc slot + (slot_count insn - 1) = omega arith
-          in ap (arrived maps code (states_of maps code) target) e
-          ∙ quiet maps code (states_of maps code) target (suc slot) (slot_count insn - 1) (λ k g h. inside k (omega arith) (omega arith))
+          in ap (arrived version maps code (states_of version maps code) target) e
+          ∙ quiet version maps code (states_of version maps code) target (suc slot) (slot_count insn - 1) (λ k g h. inside k (omega arith) (omega arith))
 
 -- an instruction that breaks no rule passes at its slot
-passes_here : (maps : List MapDef) (code : List Insn) (slot : ℕ) (insn : Insn) (known : Option State) → instruction_at code slot ≡ Some insn →
-    known ≡ known_at (states_of maps code) slot → ((state : State) → known ≡ Some state → IsOk (flow_of maps state slot insn)) →
-    PassesChecks maps code (states_of maps code) slot
-passes_here maps code slot insn known found known_is passes other state begins at =
+passes_here : (version : Version) (maps : List MapDef) (code : List Insn) (slot : ℕ) (insn : Insn) (known : Option State) → instruction_at code slot ≡ Some insn →
+    known ≡ known_at (states_of version maps code) slot → ((state : State) → known ≡ Some state → IsOk (flow_of maps state slot insn)) →
+    PassesChecks maps code (states_of version maps code) slot
+passes_here version maps code slot insn known found known_is passes other state begins at =
     let it : other ≡ insn = (let here : instruction_at code slot ≡ Some other = begins in cc)
     in rw it (passes state (known_is ∙ at))
 
@@ -120,65 +121,65 @@ slots_on code slot insn P inside below here none k h = ⊎_elim
     (λ more. ⊎_elim (λ same. subst P (sym same) here) (λ other. none k (inside k (omega arith) h)) (cases_eq k slot))
     (cases_lt k slot)
 
-pub held_on : (maps : List MapDef) (code : List Insn) (slot : ℕ) (insn : Insn) (entry after : Entry) (pending more : Pending) →
+pub held_on : (version : Version) (maps : List MapDef) (code : List Insn) (slot : ℕ) (insn : Insn) (entry after : Entry) (pending more : Pending) →
     instruction_at code slot ≡ Some insn → slot < total_slots code →
     ((k : ℕ) → slot < k → k < slot + slot_count insn → instruction_at code k ≡ None) →
     ((target : ℕ) → slot + slot_count insn < target → pending_at more target ≡ arriving_from maps slot (Some insn) (entry_of entry) target (pending_at pending target)) →
     entry_of after ≡ arriving_from maps slot (Some insn) (entry_of entry) (slot + slot_count insn) (pending_at pending (slot + slot_count insn)) →
     ((state : State) → entry_of entry ≡ Some state → IsOk (flow_of maps state slot insn)) →
-    IsHeld maps code slot entry pending → IsHeld maps code (slot + slot_count insn) after more
-held_on maps code slot insn entry after pending more found within inside later next passes held =
+    IsHeld version maps code slot entry pending → IsHeld version maps code (slot + slot_count insn) after more
+held_on version maps code slot insn entry after pending more found within inside later next passes held =
     let some : 1 ≤ slot_count insn = some_slots insn
-    in let here : entry_of entry ≡ known_at (states_of maps code) slot = held_here maps code slot entry pending within held
+    in let here : entry_of entry ≡ known_at (states_of version maps code) slot = held_here version maps code slot entry pending within held
     in record {
-      now = next ∙ arrives maps code slot insn (entry_of entry) (slot + slot_count insn) (pending_at pending (slot + slot_count insn)) found inside here
+      now = next ∙ arrives version maps code slot insn (entry_of entry) (slot + slot_count insn) (pending_at pending (slot + slot_count insn)) found inside here
           (held.later (slot + slot_count insn) (omega arith));
-      later = λ target h. later target h ∙ arrives maps code slot insn (entry_of entry) target (pending_at pending target) found inside here
+      later = λ target h. later target h ∙ arrives version maps code slot insn (entry_of entry) target (pending_at pending target) found inside here
           (held.later target (omega arith));
-      passes = slots_on code slot insn (PassesChecks maps code (states_of maps code)) inside held.passes
-          (passes_here maps code slot insn (entry_of entry) found here passes)
+      passes = slots_on code slot insn (PassesChecks maps code (states_of version maps code)) inside held.passes
+          (passes_here version maps code slot insn (entry_of entry) found here passes)
           (λ k none other state begins at. absurd cc);
     }
 
-pub accepted : (maps : List MapDef) (code : List Insn) (slot : ℕ) (entry : Entry) (pending : Pending) → HasShape code → slot ≡ total_slots code →
-    IsHeld maps code slot entry pending → Accepts maps code (states_of maps code)
-accepted maps code slot entry pending shape end held = record {
+pub accepted : (version : Version) (maps : List MapDef) (code : List Insn) (slot : ℕ) (entry : Entry) (pending : Pending) → HasShape code → slot ≡ total_slots code →
+    IsHeld version maps code slot entry pending → Accepts version maps code (states_of version maps code)
+accepted version maps code slot entry pending shape end held = record {
   shape = shape;
-  entry = are_entry_states maps code;
+  entry = are_entry_states version maps code;
   passes = λ k insn state begins known. ⊎_elim
       (λ below. held.passes k below insn state begins known)
       (λ above. let none : instruction_at code k ≡ None = past_end code k (omega arith) in absurd cc)
       (cases_lt k slot);
 }
 
-pub rejected : (maps : List MapDef) (code : List Insn) (slot : ℕ) (insn : Insn) (entry : Entry) (pending : Pending) (why : Refusal) (reject : Reject) →
+pub rejected : (version : Version) (maps : List MapDef) (code : List Insn) (slot : ℕ) (insn : Insn) (entry : Entry) (pending : Pending) (why : Refusal) (reject : Reject) →
     HasShape code → instruction_at code slot ≡ Some insn → slot < total_slots code → BreaksRule maps slot insn (entry_of entry) why →
-    reject ≡ reject_of_refusal slot why → IsHeld maps code slot entry pending → IsFirstReject maps code reject
-rejected maps code slot insn entry pending why reject shape found within broken is held =
+    reject ≡ reject_of_refusal slot why → IsHeld version maps code slot entry pending → IsFirstReject version maps code reject
+rejected version maps code slot insn entry pending why reject shape found within broken is held =
     breaks_rule slot why (record {
       shape = shape;
-      states = states_of maps code;
-      entry = λ k h. are_entry_states maps code k (omega arith);
+      states = states_of version maps code;
+      entry = λ k h. are_entry_states version maps code k (omega arith);
       earlier = held.passes;
       insn = insn;
       state = broken.state;
       here = found;
-      known = sym (held_here maps code slot entry pending within held) ∙ broken.is;
+      known = sym (held_here version maps code slot entry pending within held) ∙ broken.is;
       breaks = broken.breaks;
     }) is
 
-pub wanting : (maps : List MapDef) (code : List Insn) (slot : ℕ) (insn : Insn) (entry : Entry) (pending : Pending) →
+pub wanting : (version : Version) (maps : List MapDef) (code : List Insn) (slot : ℕ) (insn : Insn) (entry : Entry) (pending : Pending) →
     HasShape code → instruction_at code slot ≡ Some insn → slot < total_slots code → WantsRoom maps slot insn (entry_of entry) →
-    IsHeld maps code slot entry pending → IsFirstReject maps code Memory
-wanting maps code slot insn entry pending shape found within wants held =
-    let here : entry_of entry ≡ known_at (states_of maps code) slot = held_here maps code slot entry pending within held
-    in let passes : PassesChecks maps code (states_of maps code) slot = passes_here maps code slot insn (entry_of entry) found here (λ state at. flows_ok state at)
+    IsHeld version maps code slot entry pending → IsFirstReject version maps code Memory
+wanting version maps code slot insn entry pending shape found within wants held =
+    let here : entry_of entry ≡ known_at (states_of version maps code) slot = held_here version maps code slot entry pending within held
+    in let passes : PassesChecks maps code (states_of version maps code) slot = passes_here version maps code slot insn (entry_of entry) found here (λ state at. flows_ok state at)
     in wants_memory shape (passed_jump slot (record {
-      states = states_of maps code;
-      entry = λ k h. are_entry_states maps code k (omega arith);
+      states = states_of version maps code;
+      entry = λ k h. are_entry_states version maps code k (omega arith);
       passes = λ k h. ⊎_elim
           (λ below. held.passes k below)
-          (λ above. let same : k ≡ slot = omega arith in subst (PassesChecks maps code (states_of maps code)) (sym same) passes)
+          (λ above. let same : k ≡ slot = omega arith in subst (PassesChecks maps code (states_of version maps code)) (sym same) passes)
           (cases_lt k slot);
       insn = insn;
       state = wants.state;

@@ -1,8 +1,9 @@
 -- Every instruction of an accepted program has an entry state: a path of edges leads to it, and something flows along each edge.
 use Rattle.std.proofs.Common.{◌≡◌, inl, inr, ℕ, zero, suc, ◌+◌, ◌-◌, ◌<◌, Bool, true, false, pos, List, Option, Some, None, Ok, Err, refl, sym, ap, subst, ◌∙◌, arith}
 use Rattle.std.specs.Prelude.{◌+ℤ◌, IsSome, IsTrue}
+use Rattle.ebpf_decode.specs.declared.version.Version.{Version}
 use Rattle.ebpf_decode.specs.declared.insn.Insn.{Insn}
-use Rattle.ebpf_decode.specs.declared.insn.Insn.TheVariants.{Ja, Ja32, JumpIf, Ldval, Exit}
+use Rattle.ebpf_decode.specs.declared.insn.Insn.TheVariants.{Ja, Ja32, JumpIf, Exit}
 use Rattle.ebpf_decode.specs.declared.map.MapDef.{MapDef}
 use Rattle.ebpf_decode.specs.InstructionEncoding.{total_slots}
 use Rattle.isa.specs.declared.operation.Width.{Width}
@@ -72,13 +73,13 @@ from_stays maps slot (Some insn) (Some state) target known some = if_stays slot 
 from_stays maps slot (Some insn) None target known some = some
 from_stays maps slot None here target known some = some
 
-arrived_stays : (maps : List MapDef) (code : List Insn) (states : List (Option State)) (target start more : ℕ) → IsSome (arrived maps code states target start) →
-    IsSome (arrived maps code states target (start + more))
-arrived_stays maps code states target start zero some = let e : start + zero ≡ start = omega arith in rw e some
-arrived_stays maps code states target start (suc more) some =
+arrived_stays : (version : Version) (maps : List MapDef) (code : List Insn) (states : List (Option State)) (target start more : ℕ) → IsSome (arrived version maps code states target start) →
+    IsSome (arrived version maps code states target (start + more))
+arrived_stays version maps code states target start zero some = let e : start + zero ≡ start = omega arith in rw e some
+arrived_stays version maps code states target start (suc more) some =
     let e : start + suc more ≡ suc (start + more) = omega arith
     in rw e (from_stays maps (start + more) (instruction_at code (start + more)) (known_at states (start + more)) target
-    (arrived maps code states target (start + more)) (arrived_stays maps code states target start more some))
+    (arrived version maps code states target (start + more)) (arrived_stays version maps code states target start more some))
 
 -- ---- something flows along each edge
 
@@ -139,7 +140,6 @@ flows_along maps state slot (JumpIf width test dst source distance) target flow 
     splits_along slot (JumpIf width test dst source distance) target (refine_state state width test dst source true) (refine_state state width test dst source false) flow
     (test_splits state width test dst source flow e) edge
 flows_along maps state slot Exit target flow e edge = absurd (no_edge slot target edge)
-flows_along maps state slot (Ldval dst map offset) target flow e edge = absurd cc
 flows_along maps state slot insn target flow e edge = falls_along slot insn target _ flow e refl edge
 
 -- ---- along a path
@@ -148,27 +148,27 @@ some_is : (known : Option State) → IsSome known → (state : State) × (known 
 some_is (Some state) some = (state, refl)
 some_is None some = absurd cc
 
-known_along : (maps : List MapDef) (code : List Insn) (states : List (Option State)) (from : ℕ) (insn : Insn) (target : ℕ) → Accepts maps code states →
+known_along : (version : Version) (maps : List MapDef) (code : List Insn) (states : List (Option State)) (from : ℕ) (insn : Insn) (target : ℕ) → Accepts version maps code states →
     instruction_at code from ≡ Some insn → IsEdge from insn target → IsSome (known_at states from) → IsSome (known_at states target)
-known_along maps code states from insn target accepted found edge some =
+known_along version maps code states from insn target accepted found edge some =
     let here = some_is (known_at states from) some
     in let through = let_through (flow_of maps here.0 from insn) (accepted.passes from insn here.0 found here.1)
     in let flows = flows_along maps here.0 from insn target through.0 through.1 edge
     in let up = edges_go_up code from insn target accepted.shape found edge
-    in let first : IsSome (arrived maps code states target (suc from)) =
-    rw (found, here.1, through.1) (arriving_counts from insn target flows.there through.0 (arrived maps code states target from) flows.taken)
+    in let first : IsSome (arrived version maps code states target (suc from)) =
+    rw (found, here.1, through.1) (arriving_counts from insn target flows.there through.0 (arrived version maps code states target from) flows.taken)
     in let e : target ≡ suc from + (target - suc from) = omega (arith, up.0)
     in rw (accepted.entry target (begins_within code target up.1))
-    (subst (λ end. IsSome (arrived maps code states target end)) (sym e) (arrived_stays maps code states target (suc from) (target - suc from) first))
+    (subst (λ end. IsSome (arrived version maps code states target end)) (sym e) (arrived_stays version maps code states target (suc from) (target - suc from) first))
 
-known_if_reached : (maps : List MapDef) (code : List Insn) (states : List (Option State)) (slot : ℕ) → Accepts maps code states → 0 < total_slots code → IsReachableSlot code slot →
+known_if_reached : (version : Version) (maps : List MapDef) (code : List Insn) (states : List (Option State)) (slot : ℕ) → Accepts version maps code states → 0 < total_slots code → IsReachableSlot code slot →
     IsSome (known_at states slot)
-known_if_reached maps code states slot accepted some_code reached_start = rw (accepted.entry 0 some_code) refl
-known_if_reached maps code states slot accepted some_code (reached_along from insn target path found edge) =
-    known_along maps code states from insn target accepted found edge (known_if_reached maps code states from accepted some_code path)
+known_if_reached version maps code states slot accepted some_code reached_start = rw (accepted.entry 0 some_code) refl
+known_if_reached version maps code states slot accepted some_code (reached_along from insn target path found edge) =
+    known_along version maps code states from insn target accepted found edge (known_if_reached version maps code states from accepted some_code path)
 
 pub each_has_state : EachInstructionHasState
-each_has_state maps code states slot insn accepted found =
+each_has_state version maps code states slot insn accepted found =
     let begins : IsTrue (is_begin code slot) = rw found refl
     in let within : slot < total_slots code = begins_within code slot begins
-    in known_if_reached maps code states slot accepted (omega arith) (accepted.shape.reachable slot begins)
+    in known_if_reached version maps code states slot accepted (omega arith) (accepted.shape.reachable slot begins)

@@ -1,6 +1,6 @@
 -- A shard's replies have the form and the width that a run expects.
-use Rattle.std.proofs.Common.{◌≡◌, ℕ, suc, ◌+◌, ◌*◌, ◌^◌, ◌<◌, ◌≤◌, List, [], ◌∷◌, length, take, drop, get_or, Bool, true, false, ◌&&◌, ℤ, Option, Some, None, All, ⊎_elim, arith, lit<}
-use Rattle.std.specs.Prelude.{FitsSigned, if◌then◌else◌}
+use Rattle.std.proofs.Common.{◌≡◌, ℕ, suc, ◌+◌, ◌*◌, ◌/◌, ◌^◌, ◌<◌, ◌≤◌, List, [], ◌∷◌, length, take, drop, get_or, Bool, true, false, ◌&&◌, ℤ, Option, Some, None, All, refl, ⊎_elim, arith, lit<}
+use Rattle.std.specs.Prelude.{slice_get, FitsSigned, if◌then◌else◌}
 use Rattle.std.specs.Int.{w32}
 use Rattle.std.proofs.Math.Nat.{pow-le-pow_right}
 use Rattle.std.proofs.lemmas.Bool.{cases_lt}
@@ -17,22 +17,25 @@ use Rattle.semantics.specs.declared.linux.UpdateFlags.TheVariants.{Any, NoExist,
 use Rattle.semantics.specs.Linux.{errno_code, success, update_flags_of}
 use Rattle.semantics.specs.LittleEndian.{number_of_bytes}
 use Rattle.semantics.specs.Program.{Program}
-use Rattle.semantics.specs.RunTrace.{IsReplyTo}
+use Rattle.semantics.specs.RunTrace.{IsReplyTo, MayBeAbsent}
+use Rattle.semantics.proofs.FirstElement.{nothing_found}
 use Rattle.semantics.specs.declared.plan.ShardPlan.{ShardPlan}
 use Rattle.semantics.specs.SequentialShard.{SequentialShard, cell_of_key, number_in_cell, has_free_cell, is_full_of_keys, is_hash, present_key_answer, array_update_answer, new_key_answer, absent_key_answer, keyed_update_answer, update_answer_of_kind, update_answer_by, update_answer, delete_answer_of_kind, delete_answer, lookup_reply, shard_after, reply_of}
 use Rattle.semantics.proofs.LittleEndianLemmas.{below-more, number_of_bytes-cons}
 use Rattle.verifier.proofs.SystemInvariant.{IsSoundShard}
 
 reply_to_lookup : (program : Program) (plan : ShardPlan) (shard : ℕ) (key : List ℕ) (found : Option ℕ) → plan.number ≡ shard →
-    IsReplyTo program (Lookup shard key) (lookup_reply plan found)
-reply_to_lookup program plan shard key None number = tt
-reply_to_lookup program plan shard key (Some cell) number = number
+    (found ≡ None → MayBeAbsent program shard key) → IsReplyTo program (Lookup shard key) (lookup_reply plan found)
+reply_to_lookup program plan shard key None number absent = absent refl
+reply_to_lookup program plan shard key (Some cell) number absent = number
 
--- a lookup is answered with a cell of its shard, or with none
-pub lookup_answer : (program : Program) (plan : ShardPlan) (h : List Entry) (shard : ℕ) (key : List ℕ) → plan.number ≡ shard →
+-- a lookup is answered with a cell of its shard, or with none, where there may be none
+pub lookup_answer : (program : Program) (plan : ShardPlan) (h : List Entry) (shard : ℕ) (key : List ℕ) → plan.number ≡ shard → 0 < program.shards →
+    slice_get program.maps (shard / program.shards) ≡ Some plan.definition → 1 ≤ plan.definition.max_entries →
     IsReplyTo program (Lookup shard key) (reply_of plan h (shard_after plan h) (Lookup shard key))
-lookup_answer program plan h shard key number =
+lookup_answer program plan h shard key number parts of_plan some =
     reply_to_lookup program plan shard key (cell_of_key plan (shard_after plan h) key) number
+    (nothing_found program plan (shard_after plan h) shard key parts of_plan some)
 
 abbrev pub AreAllBytes : List ℕ → Type 0
 AreAllBytes bytes = All (λ byte. byte < 256) bytes

@@ -2,8 +2,8 @@
 -- its slot is sound for, and a worker is inside exactly the shards that its run has entered.
 use Rattle.std.proofs.Common.{◌≡◌, ℕ, ◌*◌, ◌<◌, ◌≤◌, true, List, [], length, Option, Some}
 use Rattle.std.specs.Prelude.{All}
-use Rattle.std.specs.List.{AllByRecursion}
-use Rattle.ebpf_decode.specs.InstructionEncoding.{total_slots, FieldsFit}
+use Rattle.ebpf_decode.specs.declared.version.Version.{Version}
+use Rattle.ebpf_decode.specs.InstructionEncoding.{total_slots}
 use Rattle.semantics.specs.declared.call.Entry.{Entry}
 use Rattle.semantics.specs.MachineState.{MachineState}
 use Rattle.semantics.specs.History.{IsLegalHistory}
@@ -15,7 +15,7 @@ use Rattle.semantics.specs.System.{Setting, SystemState, WorkerState, Idle, Runs
 use Rattle.abstract_state.specs.declared.state.State.{State}
 use Rattle.verifier.specs.Dataflow.{Accepts}
 pub use Rattle.verifier.specs.Coverage.{held_by}
-use Rattle.verifier.proofs.shared.PlaceLemmas.{IsSoundPlace}
+use Rattle.verifier.proofs.shared.PlaceLemmas.{PartsFit, IsSoundPlace}
 
 -- the shards that a worker's run has entered
 abbrev pub entered_of : WorkerState → List ℕ
@@ -40,9 +40,10 @@ pub record IsSoundShard (plan : ShardPlan) (history : List Entry) : Type 0 where
 -- what a setting is: an accepted program over maps, and options that fit them
 pub record IsSetting (setting : Setting) (states : List (Option State)) : Type 0 where
   pub options : AreOptions setting.maps setting.options
-  pub accepted : Accepts setting.maps setting.code states
+  pub version : Version
+  pub accepted : Accepts version setting.maps setting.code states
   pub some_code : 0 < total_slots setting.code
-  pub fits : AllByRecursion FieldsFit setting.code
+  pub fits : PartsFit setting.maps setting.code
 
 pub record IsSoundSystem (setting : Setting) (states : List (Option State)) (system : SystemState) : Type 0 where
   pub eight : length system.workers ≡ 8

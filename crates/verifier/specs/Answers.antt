@@ -17,30 +17,30 @@ use Rattle.verifier.specs.Rejects.{reject_of_refusal}
 -- of a program that some entry states let through, only a want of memory can be answered
 abbrev pub HasOneAnswer : Type 0
 HasOneAnswer =
-    (maps : List MapDef) (code : List Insn) (states : List (Option State)) (reject : Reject) → Accepts maps code states → IsFirstReject maps code reject →
+    (version : Version) (maps : List MapDef) (code : List Insn) (states : List (Option State)) (reject : Reject) → Accepts version maps code states → IsFirstReject version maps code reject →
     reject ≡ Memory
 
 -- a refused program has one first reject, but for a want of memory
 abbrev pub FirstRejectIsOne : Type 0
 FirstRejectIsOne =
-    (maps : List MapDef) (code : List Insn) (one other : Reject) → IsFirstReject maps code one → IsFirstReject maps code other →
+    (version : Version) (maps : List MapDef) (code : List Insn) (one other : Reject) → IsFirstReject version maps code one → IsFirstReject version maps code other →
     one ≢ Memory → other ≢ Memory → one ≡ other
 
 -- a rule that is broken before the first jump is told, whatever memory there is
 abbrev pub RuleBeforeJumpsIsTold : Type 0
 RuleBeforeJumpsIsTold =
-    (maps : List MapDef) (code : List Insn) (slot : ℕ) (why : Refusal) (reject : Reject) → IsFirstBroken maps code slot why →
+    (version : Version) (maps : List MapDef) (code : List Insn) (slot : ℕ) (why : Refusal) (reject : Reject) → IsFirstBroken version maps code slot why →
     ((before : ℕ) (insn : Insn) → before < slot → instruction_at code before ≡ Some insn → jump_distance insn ≡ None) →
-    IsFirstReject maps code reject → reject ≡ reject_of_refusal slot why
+    IsFirstReject version maps code reject → reject ≡ reject_of_refusal slot why
 
 -- at each slot at which an instruction begins something is known: so what is said of the instructions with an entry state is said of all
 abbrev pub EachInstructionHasState : Type 0
 EachInstructionHasState =
-    (maps : List MapDef) (code : List Insn) (states : List (Option State)) (slot : ℕ) (insn : Insn) → Accepts maps code states →
+    (version : Version) (maps : List MapDef) (code : List Insn) (states : List (Option State)) (slot : ℕ) (insn : Insn) → Accepts version maps code states →
     instruction_at code slot ≡ Some insn → IsSome (known_at states slot)
 
 -- a program of an image, of any version and over maps of any kind, that some entry states let through is safe
 abbrev pub AcceptedIsSafe : Type 0
 AcceptedIsSafe =
-    (version : Version) (maps : List MapDef) (code : List Insn) (states : List (Option State)) → IsEncodable version maps code → Accepts maps code states →
+    (version : Version) (maps : List MapDef) (code : List Insn) (states : List (Option State)) → IsEncodable version maps code → Accepts version maps code states →
     IsSafeImage maps code

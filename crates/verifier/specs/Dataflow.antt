@@ -2,6 +2,7 @@
 use Rattle.std.specs.Prelude.{◌≡◌, ℕ, zero, suc, ◌+◌, ◌<◌, ◌==◌, Bool, true, false, ℤ, pos, negsuc, ◌+ℤ◌, List, [], ◌∷◌, ◌++◌, Option, Some, None, Ok, Err, IsOk, IsTrue, slice_index_or, if◌then◌else◌}
 use Rattle.ebpf_decode.specs.declared.insn.Insn.{Insn}
 use Rattle.ebpf_decode.specs.declared.map.MapDef.{MapDef}
+use Rattle.ebpf_decode.specs.declared.version.Version.{Version}
 use Rattle.ebpf_decode.specs.InstructionEncoding.{slot_count, total_slots}
 use Rattle.semantics.specs.Program.{instruction_at}
 use Rattle.image_shape.specs.declared.fault.ShapeFault.{ShapeFault}
@@ -61,26 +62,26 @@ arriving_from maps slot (Some insn) (Some state) target known = arriving_if slot
 arriving_from maps slot insn state target known = known
 
 -- what the edges from the first so many slots bring to a slot; a run begins at slot 0
-abbrev pub arrived : List MapDef → List Insn → List (Option State) → ℕ → ℕ → Option State
-arrived maps code states target zero = if target == 0 then Some opening_state else None
-arrived maps code states target (suc slot) =
-    arriving_from maps slot (instruction_at code slot) (known_at states slot) target (arrived maps code states target slot)
+abbrev pub arrived : Version → List MapDef → List Insn → List (Option State) → ℕ → ℕ → Option State
+arrived version maps code states target zero = if target == 0 then Some (opening_state version) else None
+arrived version maps code states target (suc slot) =
+    arriving_from maps slot (instruction_at code slot) (known_at states slot) target (arrived version maps code states target slot)
 
 -- the entry states of the first so many slots, each from those before it
-unfoldable pub states_to : List MapDef → List Insn → ℕ → List (Option State)
-states_to maps code zero = []
-states_to maps code (suc slot) =
-    states_to maps code slot ++ arrived maps code (states_to maps code slot) slot slot ∷ []
+unfoldable pub states_to : Version → List MapDef → List Insn → ℕ → List (Option State)
+states_to version maps code zero = []
+states_to version maps code (suc slot) =
+    states_to version maps code slot ++ arrived version maps code (states_to version maps code slot) slot slot ∷ []
 
 -- the entry states of a program: a function of it, since edges go up
-abbrev pub states_of : List MapDef → List Insn → List (Option State)
-states_of maps code = states_to maps code (total_slots code)
+abbrev pub states_of : Version → List MapDef → List Insn → List (Option State)
+states_of version maps code = states_to version maps code (total_slots code)
 
 -- ---- what is accepted
 
 -- at the slots before this one stands what flows along the edges that lead there
-abbrev pub AreEntryStates : List MapDef → List Insn → List (Option State) → ℕ → Type 0
-AreEntryStates maps code states end = (slot : ℕ) → slot < end → known_at states slot ≡ arrived maps code states slot slot
+abbrev pub AreEntryStates : Version → List MapDef → List Insn → List (Option State) → ℕ → Type 0
+AreEntryStates version maps code states end = (slot : ℕ) → slot < end → known_at states slot ≡ arrived version maps code states slot slot
 
 -- the instruction at the slot breaks no rule in what is known there
 abbrev pub PassesChecks : List MapDef → List Insn → List (Option State) → ℕ → Type 0
@@ -89,9 +90,9 @@ PassesChecks maps code states slot =
     IsOk (flow_of maps state slot insn)
 
 -- the program has structure, and no instruction breaks a rule
-pub record Accepts (maps : List MapDef) (code : List Insn) (states : List (Option State)) : Type 0 where
+pub record Accepts (version : Version) (maps : List MapDef) (code : List Insn) (states : List (Option State)) : Type 0 where
   pub shape : HasShape code
-  pub entry : AreEntryStates maps code states (total_slots code)
+  pub entry : AreEntryStates version maps code states (total_slots code)
   pub passes : (slot : ℕ) → PassesChecks maps code states slot
 
 -- an edge of these leads past the next instruction: what flows there has to be kept
@@ -102,9 +103,9 @@ jumps (Jumps state) = true
 jumps (Splits taken fallen) = true
 
 -- a jump that breaks no rule, and no instruction before it does
-pub record IsPassedJump (maps : List MapDef) (code : List Insn) (slot : ℕ) : Type 0 where
+pub record IsPassedJump (version : Version) (maps : List MapDef) (code : List Insn) (slot : ℕ) : Type 0 where
   pub states : List (Option State)
-  pub entry : AreEntryStates maps code states (slot + 1)
+  pub entry : AreEntryStates version maps code states (slot + 1)
   pub passes : (before : ℕ) → before < slot + 1 → PassesChecks maps code states before
   pub insn : Insn
   pub state : State
@@ -115,15 +116,15 @@ pub record IsPassedJump (maps : List MapDef) (code : List Insn) (slot : ℕ) : T
   pub is_jump : IsTrue (jumps flow)
 
 -- memory may have been asked for: for what flows along a jump, or, once the whole program has passed, for the resolved instructions
-pub data MayAskMemory (maps : List MapDef) (code : List Insn) : Type 0 where
-  passed_jump : (slot : ℕ) → IsPassedJump maps code slot → MayAskMemory maps code
-  passed_all : (states : List (Option State)) → Accepts maps code states → MayAskMemory maps code
+pub data MayAskMemory (version : Version) (maps : List MapDef) (code : List Insn) : Type 0 where
+  passed_jump : (slot : ℕ) → IsPassedJump version maps code slot → MayAskMemory version maps code
+  passed_all : (states : List (Option State)) → Accepts version maps code states → MayAskMemory version maps code
 
 -- the program has structure, and the instruction at this slot is the first that breaks a rule
-pub record IsFirstBroken (maps : List MapDef) (code : List Insn) (slot : ℕ) (why : Refusal) : Type 0 where
+pub record IsFirstBroken (version : Version) (maps : List MapDef) (code : List Insn) (slot : ℕ) (why : Refusal) : Type 0 where
   pub shape : HasShape code
   pub states : List (Option State)
-  pub entry : AreEntryStates maps code states (slot + 1)
+  pub entry : AreEntryStates version maps code states (slot + 1)
   pub earlier : (before : ℕ) → before < slot → PassesChecks maps code states before
   pub insn : Insn
   pub state : State
@@ -133,7 +134,7 @@ pub record IsFirstBroken (maps : List MapDef) (code : List Insn) (slot : ℕ) (w
 
 -- the first rule that a program breaks: those of structure first, and then those of kinds by rising slot. A want of memory may be
 -- answered in place of a rule of kinds, where memory may have been asked for before the rule was looked at.
-pub data IsFirstReject (maps : List MapDef) (code : List Insn) (reject : Reject) : Type 0 where
-  has_no_shape : (fault : ShapeFault) → IsFirstFault code fault → reject ≡ reject_of_shape fault → IsFirstReject maps code reject
-  breaks_rule : (slot : ℕ) (why : Refusal) → IsFirstBroken maps code slot why → reject ≡ reject_of_refusal slot why → IsFirstReject maps code reject
-  wants_memory : HasShape code → MayAskMemory maps code → reject ≡ Memory → IsFirstReject maps code reject
+pub data IsFirstReject (version : Version) (maps : List MapDef) (code : List Insn) (reject : Reject) : Type 0 where
+  has_no_shape : (fault : ShapeFault) → IsFirstFault code fault → reject ≡ reject_of_shape fault → IsFirstReject version maps code reject
+  breaks_rule : (slot : ℕ) (why : Refusal) → IsFirstBroken version maps code slot why → reject ≡ reject_of_refusal slot why → IsFirstReject version maps code reject
+  wants_memory : HasShape code → MayAskMemory version maps code → reject ≡ Memory → IsFirstReject version maps code reject

@@ -6,7 +6,7 @@ use Rattle.image_shape.specs.declared.fault.ShapeFault.TheVariants as shape
 use Rattle.abstract_state.specs.declared.refusal.Refusal.{Refusal}
 use Rattle.abstract_state.specs.declared.refusal.Refusal.TheVariants as rule
 use Rattle.verifier.specs.declared.reject.Reject.{Reject}
-use Rattle.verifier.specs.declared.reject.Reject.TheVariants.{JumpBackward, JumpOutside, JumpIntoWide, FallsOff, Unreachable, UnsetRegister, WrongKind, PacketBounds, StackBounds, StackUnset, ValueBounds, Misaligned, ContextAccess, ReadOnlyFp, UnknownHelper, BadArgument, PointerLeak, UnknownMap, Memory}
+use Rattle.verifier.specs.declared.reject.Reject.TheVariants.{JumpBackward, JumpOutside, JumpIntoWide, FallsOff, Unreachable, UnsetRegister, WrongKind, PacketBounds, StackBounds, StackUnset, ValueBounds, Misaligned, ContextAccess, ReadOnlyFp, UnknownHelper, BadArgument, PointerLeak, UnknownMap, NotArrayMap, Memory}
 
 abbrev pub reject_of_shape : ShapeFault → Reject
 reject_of_shape (shape.JumpBackward slot) = JumpBackward slot
@@ -29,6 +29,7 @@ reject_of_refusal slot rule.UnknownHelper = UnknownHelper slot
 reject_of_refusal slot (rule.BadArgument register) = BadArgument slot (register_number register)
 reject_of_refusal slot rule.PointerLeak = PointerLeak slot
 reject_of_refusal slot rule.UnknownMap = UnknownMap slot
+reject_of_refusal slot rule.NotArrayMap = NotArrayMap slot
 
 abbrev pub reject_number : Reject → ℕ
 reject_number (JumpBackward slot) = 30
@@ -49,4 +50,5 @@ reject_number (UnknownHelper slot) = 44
 reject_number (BadArgument slot register) = 45
 reject_number (PointerLeak slot) = 46
 reject_number (UnknownMap slot) = 47
+reject_number (NotArrayMap slot) = 49
 reject_number Memory = 48

@@ -19,3 +19,5 @@ pub use verified::{Verified, verify};
 
 #[cfg(test)]
 mod tests;
+#[cfg(test)]
+mod version_tests;

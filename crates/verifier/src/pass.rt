@@ -13,26 +13,27 @@ use crate::pending::{Entry, Pending};
 use crate::reject::Reject;
 use crate::resolved::Memory;
 use ebpf_decode::image::MAX_SLOTS;
-use ebpf_decode::{Insn, MapDef};
+use ebpf_decode::{Insn, MapDef, Version};
 use std::alloc::Global;
 
 /// Tells whether a program only reads, and notes by slot the memory that each instruction touches; or names the first rule that an
 /// instruction breaks. Memory is asked for only at a jump that breaks no rule.
 pub(crate) fn pass(
     alloc: Global,
+    version: Version,
     maps: &[MapDef],
     code: &[Insn],
     memories: &mut [Memory; MAX_SLOTS],
 ) -> Result<bool, Reject>
     requires few { total_slots code.now ≤ 4096 }
     requires shape { HasShape code.now }
-    ensures accepted { IfOk result (λ _. Accepts maps.now code.now (states_of maps.now code.now)) }
-    ensures memories { IfOk result (λ _. AreMemories code.now (states_of maps.now code.now) memories.new (total_slots code.now)) }
-    ensures reader { IfOk result (λ reads. IsTrue reads ↔ IsReader code.now (states_of maps.now code.now)) }
-    ensures rejected { IfErr result (IsFirstReject maps.now code.now) }
+    ensures accepted { IfOk result (λ _. Accepts version maps.now code.now (states_of version maps.now code.now)) }
+    ensures memories { IfOk result (λ _. AreMemories code.now (states_of version maps.now code.now) memories.new (total_slots code.now)) }
+    ensures reader { IfOk result (λ reads. IsTrue reads ↔ IsReader code.now (states_of version maps.now code.now)) }
+    ensures rejected { IfErr result (IsFirstReject version maps.now code.now) }
 {
     let mut pending = Pending::new(alloc);
-    let mut entry = Entry::opening();
+    let mut entry = Entry::opening(version);
     let mut reads = true;
     let mut slot = 0;
     'slots: for insn in code {

@@ -7,6 +7,7 @@ ghost use Rattle.verifier.specs.Dataflow.{join_known, joined_where};
 ghost use Rattle.verifier.specs.Pending.{entry_of, unboxed, pending_at, AreKeptAbove};
 
 use abstract_state::State;
+use ebpf_decode::Version;
 use std::alloc::{AllocError, Global};
 
 /// What is known on entry to the instruction at which a pass stands: nothing where no path leads there.
@@ -18,12 +19,12 @@ pub(crate) struct Entry {
 
 impl Entry {
     /// What is known where a run begins.
-    pub(crate) fn opening() -> Entry
-        ensures { entry_of result ≡ Some opening_state }
+    pub(crate) fn opening(version: Version) -> Entry
+        ensures { entry_of result ≡ Some (opening_state version) }
     {
         Entry {
             is_reached: true,
-            state: State::opening(),
+            state: State::opening(version),
         }
     }
 }

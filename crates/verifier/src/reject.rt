@@ -65,6 +65,9 @@ pub enum Reject {
     /// 47: no map at this place of the image's list.
     #[error("fault 47 UnknownMap slot {slot}")]
     UnknownMap { slot: u32 },
+    /// 49: the map in whose value an address is loaded is no array.
+    #[error("fault 49 NotArrayMap slot {slot}")]
+    NotArrayMap { slot: u32 },
     /// 48: memory was refused.
     #[error("fault 48 Memory")]
     Memory,
@@ -111,6 +114,7 @@ impl Reject {
             },
             Refusal::PointerLeak => Reject::PointerLeak { slot },
             Refusal::UnknownMap => Reject::UnknownMap { slot },
+            Refusal::NotArrayMap => Reject::NotArrayMap { slot },
         }
     }
 
@@ -137,6 +141,7 @@ impl Reject {
             Reject::BadArgument { .. } => 45,
             Reject::PointerLeak { .. } => 46,
             Reject::UnknownMap { .. } => 47,
+            Reject::NotArrayMap { .. } => 49,
             Reject::Memory => 48,
         }
     }

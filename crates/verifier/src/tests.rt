@@ -1,8 +1,5 @@
 //! Programs that are accepted, and programs with their first reject, worked out by hand.
 
-ghost use Rattle.std.specs.Prelude.{◌≡◌, IfOk};
-ghost use Rattle.ebpf_decode.specs.declared.version.Version.TheVariants.{V1};
-
 use super::*;
 use ebpf_decode::{Image, Insn, MapDef, MapKind, Version};
 use isa::{AluOp, AtomicOp, Register, Size, Source, Test, Width};
@@ -471,16 +468,12 @@ const REFUSED: [(&str, &[Insn], Reject); 28] = [
 ];
 
 /// An image of this program with one map.
-fn image_of(alloc: Global, code: &[Insn]) -> Result<Image, Fail>
-    ensures { IfOk result (λ image. image.version ≡ V1) }
-{
+fn image_of(alloc: Global, code: &[Insn]) -> Result<Image, Fail> {
     image_over(alloc, &MAPS, code)
 }
 
 /// An image of this program with these maps.
-fn image_over(alloc: Global, maps: &[MapDef], code: &[Insn]) -> Result<Image, Fail>
-    ensures { IfOk result (λ image. image.version ≡ V1) }
-{
+fn image_over(alloc: Global, maps: &[MapDef], code: &[Insn]) -> Result<Image, Fail> {
     let mut all_maps = Vec::new(alloc);
     all_maps.extend_from_slice(maps)?;
     let mut all = Vec::new(alloc);
@@ -644,7 +637,7 @@ fn the_longest_program(rt: HostRuntime) -> Result<(), Fail> {
 #[test]
 fn printed_rejects(rt: HostRuntime) -> Result<(), Fail> {
     #[rattlefmt::skip]
-    const TEXTS: [(Reject, &str); 19] = [
+    const TEXTS: [(Reject, &str); 20] = [
         (Reject::JumpBackward { slot: 1 },               "fault 30 JumpBackward slot 1"),
         (Reject::JumpOutside { slot: 5 },                "fault 31 JumpOutside slot 5"),
         (Reject::JumpIntoWide { slot: 0 },               "fault 32 JumpIntoWide slot 0"),
@@ -664,6 +657,7 @@ fn printed_rejects(rt: HostRuntime) -> Result<(), Fail> {
         (Reject::PointerLeak { slot: 15 },               "fault 46 PointerLeak slot 15"),
         (Reject::UnknownMap { slot: 16 },                "fault 47 UnknownMap slot 16"),
         (Reject::Memory,                                 "fault 48 Memory"),
+        (Reject::NotArrayMap { slot: 17 },               "fault 49 NotArrayMap slot 17"),
     ];
     for (reject, wanted) in TEXTS {
         let text = format!(in rt.alloc(); "{reject}")?;

@@ -57,7 +57,7 @@ pub record IsChecked (files : FileBytes) (name : List ℕ) (printed : List ℕ) 
   pub image : Contents
   pub file : IsImageFile files name image
   pub states : List (Option State)
-  pub accepted : Accepts image.maps image.code states
+  pub accepted : Accepts image.version image.maps image.code states
   pub safe : IsSafeImage image.maps image.code
   pub reader : Bool
   pub reads : IsTrue reader ↔ IsReader image.code states

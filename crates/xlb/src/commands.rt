@@ -1,6 +1,5 @@
 //! What each command does with its files.
 
-ghost use Rattle.ebpf_decode.specs.declared.version.Version.TheVariants.{V1};
 ghost use Rattle.std.specs.Prelude.{◌≡◌, ◌==◌, ◌↔◌, ◌+◌, ◌-◌, ◌<◌, ◌≤◌, ◌^◌, ℕ, [], List, IfOk, OnOk, length, take, count_by, string_bytes};
 ghost use Rattle.semantics.specs.Safety.{IsSafeImage};
 ghost use Rattle.semantics.specs.ShardPlan.{AreOptions};
@@ -15,7 +14,7 @@ use crate::fault::Fault;
 use crate::folder::Folder;
 use crate::report::{accepted, outcome};
 use disasm::{AsmFault, assemble, text};
-use ebpf_decode::{DecodeFault, Image, Version, decode, encode};
+use ebpf_decode::{Image, decode, encode};
 use machine::{Exit, Moment, Stop, run};
 use shard_port::PlainPort;
 use shard_port::laws::opened_serve;
@@ -61,19 +60,15 @@ fn image_of<D: Folder>(alloc: Global, folder: &mut D, name: &str) -> Result<Imag
     }
 }
 
-/// The image of a file, if the verifier accepts it: as yet of version 1, else 10.
+/// The image of a file, if the verifier accepts it.
 fn judged_of<D: Folder>(alloc: Global, folder: &mut D, name: &str) -> Result<Verified, Fault>
     requires { D.failure_count folder.old < 2 ^ 64 - 1 }
-    ensures file { IfOk result (λ verified. IsImageFile (D.holds folder.old) name.now (record { version = V1; maps = verified.maps; code = verified.code })) }
+    ensures file { IfOk result (λ verified. IsImageFile (D.holds folder.old) name.now (record { version = verified.version; maps = verified.maps; code = verified.code })) }
     ensures safe { IfOk result (λ verified. IsSafeImage verified.maps verified.code) }
     ensures kept { AreKept (D.holds folder.old) (D.holds folder.new) }
     ensures steady { OnOk result (D.failure_count folder.new ≡ D.failure_count folder.old) }
 {
     let image = image_of(alloc, folder, name)?;
-    match image.version() {
-        Version::V1 => {}
-        Version::V2 => return Err(Fault::Decode(DecodeFault::BadHead)),
-    }
     match verify(alloc, image) {
         Ok(verified) => Ok(verified),
         Err(reject) => Err(Fault::Program(reject)),
@@ -83,9 +78,9 @@ fn judged_of<D: Folder>(alloc: Global, folder: &mut D, name: &str) -> Result<Ver
 /// The image of a file, if it may run in this build.
 fn verified_of<D: Folder>(alloc: Global, folder: &mut D, name: &str) -> Result<Verified, Fault>
     requires { D.failure_count folder.old < 2 ^ 64 - 1 }
-    ensures file { IfOk result (λ verified. IsImageFile (D.holds folder.old) name.now (record { version = V1; maps = verified.maps; code = verified.code })) }
+    ensures file { IfOk result (λ verified. IsImageFile (D.holds folder.old) name.now (record { version = verified.version; maps = verified.maps; code = verified.code })) }
     ensures safe { IfOk result (λ verified. IsSafeImage verified.maps verified.code) }
-    ensures served { IfOk result (λ verified. IsServedImage (record { version = V1; maps = verified.maps; code = verified.code })) }
+    ensures served { IfOk result (λ verified. IsServedImage (record { version = verified.version; maps = verified.maps; code = verified.code })) }
     ensures kept { AreKept (D.holds folder.old) (D.holds folder.new) }
     ensures steady { OnOk result (D.failure_count folder.new ≡ D.failure_count folder.old) }
 {
@@ -160,10 +155,10 @@ fn run_over(
     requires opened { AreOpened verified.now.maps run_options shards.old }
     requires options { AreOptions verified.now.maps run_options }
     requires runnable { IsRunnable verified.now.code verified.now.states }
-    requires served { IsServedImage (record { version = V1; maps = verified.now.maps; code = verified.now.code }) }
+    requires served { IsServedImage (record { version = verified.now.version; maps = verified.now.maps; code = verified.now.code }) }
     requires headroom { frame.old.headroom ≡ 256 }
     requires worker { moment.now.worker < 8 }
-    ensures { IfOk result (λ exit. HasRun (record { version = V1; maps = verified.now.maps; code = verified.now.code }) frame.old.bytes moment.now.now_ns moment.now.worker
+    ensures { IfOk result (λ exit. HasRun (record { version = verified.now.version; maps = verified.now.maps; code = verified.now.code }) frame.old.bytes moment.now.now_ns moment.now.worker
         exit.verdict exit.steps frame.new) }
 {
     opened_serve();

@@ -45,10 +45,10 @@ map and does the same on each worker. A program that may not run is refused
 with the first rule that it breaks and the slot of the instruction, counted
 from 0.
 An image of version 2 may besides take addresses in the values of its maps
-(the instruction ldval), and have values of up to 256 bytes. This build judges
-version 1 and answers 10 to version 2. It runs less than it accepts: run also
-answers 11 to a hash or LRU map, 36 to a store or an atomic operation on a
-value of a map, and 44 to the helpers 2, 3 and 44.";
+(the instruction ldval), and have values of up to 256 bytes. This build runs
+less than it accepts: run also answers 10 to an image of version 2, 11 to a
+hash or LRU map, 36 to a store or an atomic operation on a value of a map, and
+44 to the helpers 2, 3 and 44.";
 
 const AFTER_RUN: &str = "\
 Prints three lines:

@@ -1,7 +1,6 @@
 //! What commands print when they are done.
 
 ghost use Rattle.std.specs.Prelude.{◌≡◌, ◌↔◌, ◌≤◌, IfOk, Bool, IsTrue, string_bytes};
-ghost use Rattle.ebpf_decode.specs.declared.version.Version.TheVariants.{V1};
 ghost use Rattle.ebpf_decode.specs.InstructionEncoding.{total_slots};
 ghost use Rattle.verifier.specs.Readers.{IsReader};
 ghost use Rattle.xlb.specs.Results.{accepted_line, accepted_text, yes_or_no, verdict_name, run_lines, run_text};
@@ -41,7 +40,7 @@ fn accepted_line(alloc: Global, slots: u32, maps: usize, reader: &str) -> Result
 /// An accepted image: its slots and maps, and whether it only reads.
 pub fn accepted(alloc: Global, verified: &Verified) -> Result<String, AllocError>
     ensures { IfOk result (λ line. (reader : Bool) × (IsTrue reader ↔ IsReader verified.now.code verified.now.states)
-        × (string_bytes line ≡ accepted_line (record { version = V1; maps = verified.now.maps; code = verified.now.code }) reader)) }
+        × (string_bytes line ≡ accepted_line (record { version = verified.now.version; maps = verified.now.maps; code = verified.now.code }) reader)) }
 {
     let image = verified.image();
     let slots = slots_of(image.code());

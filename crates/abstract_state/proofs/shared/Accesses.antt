@@ -1,6 +1,6 @@
 -- An access that breaks no rule lies inside what it goes to.
-use Rattle.std.proofs.Common.{◌≡◌, ℕ, ◌+◌, ◌-◌, ◌%◌, ◌^◌, ◌<◌, ◌≤◌, true, ◌==◌, nat_le, ℤ, pos, negsuc, List, length, take, drop, refl, sym, ◌∙◌, ap, arith, subst}
-use Rattle.std.specs.Prelude.{Ok, All, Option, Some, None, ◌+ℤ◌, slice_get}
+use Rattle.std.proofs.Common.{◌≡◌, ℕ, ◌+◌, ◌-◌, ◌%◌, ◌^◌, ◌<◌, ◌≤◌, Bool, true, false, if◌then◌else◌, ◌==◌, nat_le, ℤ, pos, negsuc, List, length, take, drop, refl, sym, ◌∙◌, ap, arith, subst}
+use Rattle.std.specs.Prelude.{Ok, Err, All, Option, Some, None, ◌+ℤ◌, slice_get}
 use Rattle.std.specs.List.{AllByRecursion}
 use Rattle.std.proofs.Math.IntN.{+ℤ_assoc}
 use Rattle.std.proofs.lemmas.Bool.{leb-true, eqb-true}
@@ -13,9 +13,12 @@ use Rattle.semantics.specs.MachineState.{MachineState, StackByte}
 use Rattle.semantics.specs.Memory.{stack_range, stack_place, packet_range, cell_range, aligned_range, aligned_cell_range, value_size_of_map}
 use Rattle.semantics.specs.Program.{Program}
 use Rattle.abstract_state.specs.declared.refusal.Refusal.{Refusal}
-use Rattle.abstract_state.specs.States.{◌>>=◌, value_size_of}
-use Rattle.abstract_state.specs.Places.{range_within, aligned, stack_access, value_access}
-use Rattle.abstract_state.proofs.shared.Checking.{ok_then, ok_if}
+use Rattle.abstract_state.specs.declared.refusal.Refusal.TheVariants.{ValueBounds, Misaligned}
+use Rattle.abstract_state.specs.declared.kind.Offsets.{Offsets}
+use Rattle.abstract_state.specs.States.{Checked, ◌>>=◌, value_size_of}
+use Rattle.abstract_state.specs.Places.{range_within, aligned, stack_access, value_range, value_access, atomic_access}
+use Rattle.abstract_state.proofs.shared.Between.{IsBetween, between}
+use Rattle.abstract_state.proofs.shared.Checking.{ok_then, ok_same, ok_if}
 use Rattle.abstract_state.proofs.shared.ByteNumbers.{reaches_within, bytes_below}
 
 pub range_found : (place : ℤ) (count limit : ℕ) (why : Refusal) (from : ℕ) → range_within place count limit why ≡ Ok from →
@@ -53,9 +56,74 @@ both_found place count limit why from e =
 pub stack_found : (place : ℕ) (distance : ℤ) (count from : ℕ) → stack_access place distance count ≡ Ok from → IsAligned (pos place +ℤ distance) count 512 from
 stack_found place distance count from e = both_found (pos place +ℤ distance) count 512 _ from e
 
-pub value_found : (maps : List MapDef) (map off : ℕ) (distance : ℤ) (count from : ℕ) → value_access maps map off distance count ≡ Ok from →
-    IsAligned (pos off +ℤ distance) count (value_size_of (slice_get maps map)) from
-value_found maps map off distance count from e = both_found (pos off +ℤ distance) count (value_size_of (slice_get maps map)) _ from e
+-- ---- values of maps, at any offset of an interval
+
+pub record IsWithin (place : ℤ) (count limit from : ℕ) : Type 0 where
+  pub at : place ≡ pos from
+  pub inside : from + count ≤ limit
+
+pub record ReachesValue (place : ℤ) (count limit : ℕ) : Type 0 where
+  pub from : ℕ
+  pub found : IsWithin place count limit from
+
+pub aligned_within : (place : ℤ) (count limit from : ℕ) → IsAligned place count limit from → IsWithin place count limit from
+aligned_within place count limit from found = record { at = found.at; inside = found.inside }
+
+-- both ends of the interval lie in the value
+record AreEnds (maps : List MapDef) (map : ℕ) (off : Offsets) (distance : ℤ) (count from : ℕ) : Type 0 where
+  last : ℕ
+  first_is : pos off.low +ℤ distance ≡ pos from
+  last_is : pos off.high +ℤ distance ≡ pos last
+  first_inside : from + count ≤ value_size_of (slice_get maps map)
+  last_inside : last + count ≤ value_size_of (slice_get maps map)
+
+ends_found : (maps : List MapDef) (map : ℕ) (off : Offsets) (distance : ℤ) (count from : ℕ) → value_range maps map off distance count ≡ Ok from →
+    AreEnds maps map off distance count from
+ends_found maps map off distance count from e =
+    let first = ok_then (range_within (pos off.low +ℤ distance) count (value_size_of (slice_get maps map)) ValueBounds) (λ from.
+    range_within (pos off.high +ℤ distance) count (value_size_of (slice_get maps map)) ValueBounds >>= (λ last. Ok from)) from e
+    in let second = ok_then (range_within (pos off.high +ℤ distance) count (value_size_of (slice_get maps map)) ValueBounds) (λ last. Ok first.0) from first.1.1
+    in let same : first.0 ≡ from = ok_same (Ok first.0) first.0 from refl second.1.1
+    in let low = range_found (pos off.low +ℤ distance) count (value_size_of (slice_get maps map)) ValueBounds first.0 first.1.0
+    in let high = range_found (pos off.high +ℤ distance) count (value_size_of (slice_get maps map)) ValueBounds second.0 second.1.0
+    in record {
+      last = second.0;
+      first_is = low.0 ∙ ap pos same;
+      last_is = high.0;
+      first_inside = subst (λ at. at + count ≤ value_size_of (slice_get maps map)) same low.1;
+      last_inside = high.1;
+    }
+
+pub value_found : (maps : List MapDef) (map : ℕ) (off : Offsets) (distance : ℤ) (count from at : ℕ) → off.low ≤ at → at ≤ off.high →
+    value_access maps map off distance count ≡ Ok from → ReachesValue (pos at +ℤ distance) count (value_size_of (slice_get maps map))
+value_found maps map off distance count from at least most e =
+    let parts = ok_then (value_range maps map off distance count) (λ from. if off.low == off.high then aligned from count else Ok from) from e
+    in let ends : AreEnds maps map off distance count parts.0 = ends_found maps map off distance count parts.0 parts.1.0
+    in let there : IsBetween at distance parts.0 ends.last = between off.low off.high at parts.0 ends.last distance least most ends.first_is ends.last_is
+    in let low : there.place ≤ ends.last = there.most
+    in let inside : ends.last + count ≤ value_size_of (slice_get maps map) = ends.last_inside
+    in record { from = there.place; found = record { at = there.is; inside = omega arith } }
+
+only : (t : Bool) (one : Checked ℕ) (why : Refusal) (from : ℕ) → (if t then one else Err why) ≡ Ok from → (t ≡ true) × (one ≡ Ok from)
+only true one why from e = (refl, e)
+only false one why from e = cc
+
+-- of an atomic operation the offset is a single one
+pub atomic_found : (maps : List MapDef) (map : ℕ) (off : Offsets) (distance : ℤ) (count from at : ℕ) → off.low ≤ at → at ≤ off.high →
+    atomic_access maps map off distance count ≡ Ok from → IsAligned (pos at +ℤ distance) count (value_size_of (slice_get maps map)) from
+atomic_found maps map off distance count from at least most e =
+    let parts = ok_then (value_range maps map off distance count) (λ from. if off.low == off.high then aligned from count else Err Misaligned) from e
+    in let ends : AreEnds maps map off distance count parts.0 = ends_found maps map off distance count parts.0 parts.1.0
+    in let one = only (off.low == off.high) (aligned parts.0 count) Misaligned from parts.1.1
+    in let single : off.low ≡ off.high = eqb-true off.low off.high one.0
+    in let multiple = aligned_found parts.0 count from one.1
+    in let same : parts.0 ≡ from = multiple.0
+    in let here : at ≡ off.low = omega arith
+    in record {
+      at = ap (λ n. pos n +ℤ distance) here ∙ (ends.first_is ∙ ap pos same);
+      inside = subst (λ at. at + count ≤ value_size_of (slice_get maps map)) same ends.first_inside;
+      multiple = subst (λ at. at % count ≡ 0) same multiple.1;
+    }
 
 -- ---- the same places, as a run counts them
 
@@ -102,7 +170,7 @@ within_true a b h = grind (arith, nat_tests)
 zero_true : (a : ℕ) → a ≡ 0 → (a == 0) ≡ true
 zero_true a h = grind (arith, nat_tests)
 
-pub cell_reached : (program : Program) (map : ℕ) (place : ℤ) (from count : ℕ) → IsAligned place count (value_size_of (slice_get program.maps map)) from →
+pub cell_reached : (program : Program) (map : ℕ) (place : ℤ) (from count : ℕ) → IsWithin place count (value_size_of (slice_get program.maps map)) from →
     cell_range program map place count ≡ Ok from
 cell_reached program map place from count found =
     let inside : from + count ≤ value_size_of_map program map = rw (map_value_size program map) found.inside
@@ -112,4 +180,4 @@ cell_reached program map place from count found =
 pub aligned_cell_reached : (program : Program) (map : ℕ) (place : ℤ) (from count : ℕ) → IsAligned place count (value_size_of (slice_get program.maps map)) from →
     aligned_cell_range program map place count ≡ Ok from
 aligned_cell_reached program map place from count found =
-    ap (λ range. aligned_range range count) (cell_reached program map place from count found) ∙ rw (zero_true (from % count) found.multiple) refl
+    ap (λ range. aligned_range range count) (cell_reached program map place from count (aligned_within place count (value_size_of (slice_get program.maps map)) from found)) ∙ rw (zero_true (from % count) found.multiple) refl

@@ -1,6 +1,7 @@
--- Every instruction: what flows out of it is sound, by what loads, stores, atomic operations and calls lead to.
+-- Every instruction: what flows out of it is sound, by what loads, stores, atomic operations, addresses in values and calls lead to.
 use Rattle.std.proofs.Common.{◌≡◌, ℕ, ◌<◌, ◌^◌, ℤ, pos, negsuc, Ok, w32, arith}
 use Rattle.std.specs.Prelude.{FitsSigned}
+use Rattle.std.specs.List.{AllByRecursion}
 use Rattle.isa.specs.Words.{twos_complement}
 use Rattle.isa.specs.declared.operation.Width.{Width}
 use Rattle.isa.specs.declared.operation.Size.{Size}
@@ -16,14 +17,13 @@ use Rattle.ebpf_decode.specs.declared.insn.Insn.TheVariants.{Alu, Neg, Movsx, Mo
 use Rattle.ebpf_decode.specs.InstructionEncoding.{FieldsFit}
 use Rattle.semantics.specs.MachineState.{MachineState}
 use Rattle.semantics.specs.Program.{Program}
+use Rattle.semantics.specs.PlanLimits.{HasImageSizes}
 use Rattle.semantics.specs.Semantics.{instruction_step}
 use Rattle.abstract_state.specs.declared.flow.Flow.{Flow}
-use Rattle.abstract_state.specs.declared.refusal.Refusal.TheVariants.{UnknownMap}
 use Rattle.abstract_state.specs.declared.state.State.{State}
 use Rattle.abstract_state.specs.Flow.{flow_of}
 use Rattle.abstract_state.specs.Abstraction.{Held, Abstracts}
 use Rattle.abstract_state.specs.Soundness.{JumpsForward, Follows}
-use Rattle.abstract_state.proofs.shared.Inverting.{err_not_ok}
 use Rattle.abstract_state.proofs.shared.Following.{SourceFits}
 use Rattle.abstract_state.proofs.RegisterSteps.{alu_follows, neg_follows, movsx_follows, movsx32_follows, end_follows, lddw_follows, ldmap_follows, exit_follows, ja_follows, ja32_follows}
 use Rattle.abstract_state.proofs.Branching.{jump_if_follows}
@@ -51,7 +51,7 @@ wide_value dst value fits = fits
 
 -- ---- every instruction
 
--- what loads, stores, atomic operations and calls lead to
+-- what loads, stores, atomic operations, addresses in values and calls lead to
 pub record MemoryFollows (program : Program) (held : Held) (state : State) (machine : MachineState) (flow : Flow) : Type 0 where
   pub load : (size : Size) (dst src : Register) (offset : ℤ) → flow_of program.maps state machine.slot (Ldx size dst src offset) ≡ Ok flow →
       Follows program held flow machine (Ldx size dst src offset) (instruction_step program (Ldx size dst src offset) machine)
@@ -66,31 +66,33 @@ pub record MemoryFollows (program : Program) (held : Held) (state : State) (mach
   pub atomic : (width : Width) (op : AtomicOp) (dst src : Register) (offset : ℤ) →
       flow_of program.maps state machine.slot (AtomicUpdate width op dst src offset) ≡ Ok flow →
       Follows program held flow machine (AtomicUpdate width op dst src offset) (instruction_step program (AtomicUpdate width op dst src offset) machine)
+  pub address : (dst : Register) (map : ℤ) (offset : ℕ) → flow_of program.maps state machine.slot (Ldval dst map offset) ≡ Ok flow →
+      Follows program held flow machine (Ldval dst map offset) (instruction_step program (Ldval dst map offset) machine)
   pub call : (number : ℤ) → flow_of program.maps state machine.slot (CallHelper number) ≡ Ok flow →
       Follows program held flow machine (CallHelper number) (instruction_step program (CallHelper number) machine)
 
 pub flow_follows : (program : Program) (held : Held) (state : State) (machine : MachineState) (insn : Insn) (flow : Flow) →
-    MemoryFollows program held state machine flow → Abstracts program.maps held state machine → FieldsFit insn → JumpsForward insn →
+    MemoryFollows program held state machine flow → Abstracts program.maps held state machine → AllByRecursion HasImageSizes program.maps → FieldsFit insn → JumpsForward insn →
     flow_of program.maps state machine.slot insn ≡ Ok flow → Follows program held flow machine insn (instruction_step program insn machine)
-flow_follows program held state machine (Alu width op dst source) flow m a fits forward e =
-    alu_follows program held state machine width op dst source flow a (alu_source width op dst source fits) e
-flow_follows program held state machine (Neg width dst) flow m a fits forward e = neg_follows program held state machine width dst flow a e
-flow_follows program held state machine (Movsx extension dst src) flow m a fits forward e = movsx_follows program held state machine extension dst src flow a e
-flow_follows program held state machine (Movsx32 extension dst src) flow m a fits forward e = movsx32_follows program held state machine extension dst src flow a e
-flow_follows program held state machine (End order width dst) flow m a fits forward e = end_follows program held state machine order width dst flow a e
-flow_follows program held state machine (Ja distance) flow m a fits forward e = ja_follows program held state machine distance flow a forward e
-flow_follows program held state machine (Ja32 distance) flow m a fits forward e = ja32_follows program held state machine distance flow a forward e
-flow_follows program held state machine (JumpIf width test dst source distance) flow m a fits forward e =
+flow_follows program held state machine (Alu width op dst source) flow m a sizes fits forward e =
+    alu_follows program held state machine width op dst source flow a sizes (alu_source width op dst source fits) e
+flow_follows program held state machine (Neg width dst) flow m a sizes fits forward e = neg_follows program held state machine width dst flow a e
+flow_follows program held state machine (Movsx extension dst src) flow m a sizes fits forward e = movsx_follows program held state machine extension dst src flow a e
+flow_follows program held state machine (Movsx32 extension dst src) flow m a sizes fits forward e = movsx32_follows program held state machine extension dst src flow a e
+flow_follows program held state machine (End order width dst) flow m a sizes fits forward e = end_follows program held state machine order width dst flow a e
+flow_follows program held state machine (Ja distance) flow m a sizes fits forward e = ja_follows program held state machine distance flow a forward e
+flow_follows program held state machine (Ja32 distance) flow m a sizes fits forward e = ja32_follows program held state machine distance flow a forward e
+flow_follows program held state machine (JumpIf width test dst source distance) flow m a sizes fits forward e =
     jump_if_follows program held state machine width test dst source distance flow a (jump_source width test dst source distance fits) forward e
-flow_follows program held state machine (Ldx size dst src offset) flow m a fits forward e = m.load size dst src offset e
-flow_follows program held state machine (Ldxs extension dst src offset) flow m a fits forward e = m.signed_load extension dst src offset e
-flow_follows program held state machine (St size dst offset immediate) flow m a fits forward e =
+flow_follows program held state machine (Ldx size dst src offset) flow m a sizes fits forward e = m.load size dst src offset e
+flow_follows program held state machine (Ldxs extension dst src offset) flow m a sizes fits forward e = m.signed_load extension dst src offset e
+flow_follows program held state machine (St size dst offset immediate) flow m a sizes fits forward e =
     m.store size dst offset immediate fits e
-flow_follows program held state machine (Stx size dst src offset) flow m a fits forward e = m.store_register size dst src offset e
-flow_follows program held state machine (AtomicUpdate width op dst src offset) flow m a fits forward e = m.atomic width op dst src offset e
-flow_follows program held state machine (Lddw dst value) flow m a fits forward e =
+flow_follows program held state machine (Stx size dst src offset) flow m a sizes fits forward e = m.store_register size dst src offset e
+flow_follows program held state machine (AtomicUpdate width op dst src offset) flow m a sizes fits forward e = m.atomic width op dst src offset e
+flow_follows program held state machine (Lddw dst value) flow m a sizes fits forward e =
     lddw_follows program held state machine dst value flow a (wide_value dst value fits) e
-flow_follows program held state machine (Ldmap dst map) flow m a fits forward e = ldmap_follows program held state machine dst map flow a e
-flow_follows program held state machine (Ldval dst map offset) flow m a fits forward e = absurd (err_not_ok UnknownMap flow e)
-flow_follows program held state machine (CallHelper number) flow m a fits forward e = m.call number e
-flow_follows program held state machine Exit flow m a fits forward e = exit_follows program held state machine flow a e
+flow_follows program held state machine (Ldmap dst map) flow m a sizes fits forward e = ldmap_follows program held state machine dst map flow a e
+flow_follows program held state machine (Ldval dst map offset) flow m a sizes fits forward e = m.address dst map offset e
+flow_follows program held state machine (CallHelper number) flow m a sizes fits forward e = m.call number e
+flow_follows program held state machine Exit flow m a sizes fits forward e = exit_follows program held state machine flow a e

@@ -29,18 +29,18 @@ pub join_sound : JoinIsSound
 join_sound maps held a b machine m n p q (inl c) = record {
   ids = c.ids;
   registers = λ register. let l : register_number register < 11 = number_below register
-      in rw (at_place join_kind a.registers b.registers (register_number register) Unset Unset Unset (omega arith) (omega arith))
-      (join_left (setting_of maps held c.ids machine) (kind_of a register) (kind_of b register) (register_value machine register) (c.registers register));
+      in rw (at_place (join_kind a.version) a.registers b.registers (register_number register) Unset Unset Unset (omega arith) (omega arith))
+      (join_left (setting_of maps held c.ids machine) a.version (kind_of a register) (kind_of b register) (register_value machine register) (c.registers register));
   stack = λ word h.
-      rw (at_place join_word a.stack b.stack word (Spilled Unset) (Spilled Unset) (Spilled Unset) (omega arith) (omega arith))
-      (word_left (setting_of maps held c.ids machine) (word_of a word) (word_of b word) (places_of word machine.stack) (c.stack word h));
+      rw (at_place (join_word a.version) a.stack b.stack word (Spilled Unset) (Spilled Unset) (Spilled Unset) (omega arith) (omega arith))
+      (word_left (setting_of maps held c.ids machine) a.version (word_of a word) (word_of b word) (places_of word machine.stack) (c.stack word h));
   start = λ h. let l : a.start_range ≤ length machine.frame.bytes = c.start (omega arith) in omega arith;
   bases = c.bases;
   is_machine = record {
     eleven = c.is_machine.eleven;
-    eleven_kinds = length-zip_with join_kind a.registers b.registers (m ∙ sym n) ∙ m;
+    eleven_kinds = length-zip_with (join_kind a.version) a.registers b.registers (m ∙ sym n) ∙ m;
     stack_size = c.is_machine.stack_size;
-    word_count = length-zip_with join_word a.stack b.stack (p ∙ sym q) ∙ p;
+    word_count = length-zip_with (join_word a.version) a.stack b.stack (p ∙ sym q) ∙ p;
     worker = c.is_machine.worker;
     time = c.is_machine.time;
     frame = c.is_machine.frame;
@@ -49,18 +49,18 @@ join_sound maps held a b machine m n p q (inl c) = record {
 join_sound maps held a b machine m n p q (inr c) = record {
   ids = c.ids;
   registers = λ register. let l : register_number register < 11 = number_below register
-      in rw (at_place join_kind a.registers b.registers (register_number register) Unset Unset Unset (omega arith) (omega arith))
-      (join_right (setting_of maps held c.ids machine) (kind_of a register) (kind_of b register) (register_value machine register) (c.registers register));
+      in rw (at_place (join_kind a.version) a.registers b.registers (register_number register) Unset Unset Unset (omega arith) (omega arith))
+      (join_right (setting_of maps held c.ids machine) a.version (kind_of a register) (kind_of b register) (register_value machine register) (c.registers register));
   stack = λ word h.
-      rw (at_place join_word a.stack b.stack word (Spilled Unset) (Spilled Unset) (Spilled Unset) (omega arith) (omega arith))
-      (word_right (setting_of maps held c.ids machine) (word_of a word) (word_of b word) (places_of word machine.stack) (c.stack word h));
+      rw (at_place (join_word a.version) a.stack b.stack word (Spilled Unset) (Spilled Unset) (Spilled Unset) (omega arith) (omega arith))
+      (word_right (setting_of maps held c.ids machine) a.version (word_of a word) (word_of b word) (places_of word machine.stack) (c.stack word h));
   start = λ h. let l : b.start_range ≤ length machine.frame.bytes = c.start (omega arith) in omega arith;
   bases = c.bases;
   is_machine = record {
     eleven = c.is_machine.eleven;
-    eleven_kinds = length-zip_with join_kind a.registers b.registers (m ∙ sym n) ∙ m;
+    eleven_kinds = length-zip_with (join_kind a.version) a.registers b.registers (m ∙ sym n) ∙ m;
     stack_size = c.is_machine.stack_size;
-    word_count = length-zip_with join_word a.stack b.stack (p ∙ sym q) ∙ p;
+    word_count = length-zip_with (join_word a.version) a.stack b.stack (p ∙ sym q) ∙ p;
     worker = c.is_machine.worker;
     time = c.is_machine.time;
     frame = c.is_machine.frame;

@@ -8,6 +8,7 @@ use Rattle.isa.specs.declared.operation.Register.TheVariants.{R0, R1, R2, R3, R4
 use Rattle.ebpf_decode.specs.declared.map.MapDef.{MapDef}
 use Rattle.semantics.specs.MachineState.{StackByte, Unwritten, initial_state, register_value}
 use Rattle.semantics.specs.System.{input_frame}
+use Rattle.ebpf_decode.specs.declared.version.Version.{Version}
 use Rattle.abstract_state.specs.declared.kind.Kind.TheVariants.{Unset}
 use Rattle.abstract_state.specs.declared.kind.StackWord.TheVariants.{Spilled, Bytes}
 use Rattle.abstract_state.specs.States.{no_bytes, opening_state, kind_of}
@@ -24,25 +25,25 @@ nothing_set places k h = ⊎_elim
     (λ past. absurd (false≢true (sym (get_or_past no_bytes k false (let l : length no_bytes ≡ 8 = length-replicate 8 false in omega arith)) ∙ h)))
     (cases_lt k 8)
 
-opening_registers : (maps : List MapDef) (held : Held) (bytes : List ℕ) (worker now : ℕ) (register : Register) →
-    KindCovers (setting_of maps held no_ids (initial_state (input_frame bytes) worker now)) (kind_of opening_state register)
+opening_registers : (version : Version) (maps : List MapDef) (held : Held) (bytes : List ℕ) (worker now : ℕ) (register : Register) →
+    KindCovers (setting_of maps held no_ids (initial_state (input_frame bytes) worker now)) (kind_of (opening_state version) register)
     (register_value (initial_state (input_frame bytes) worker now) register)
-opening_registers maps held bytes worker now R0 = tt
-opening_registers maps held bytes worker now R1 = refl
-opening_registers maps held bytes worker now R2 = tt
-opening_registers maps held bytes worker now R3 = tt
-opening_registers maps held bytes worker now R4 = tt
-opening_registers maps held bytes worker now R5 = tt
-opening_registers maps held bytes worker now R6 = tt
-opening_registers maps held bytes worker now R7 = tt
-opening_registers maps held bytes worker now R8 = tt
-opening_registers maps held bytes worker now R9 = tt
-opening_registers maps held bytes worker now R10 = record { at = pos 0; is = refl; counted = refl }
+opening_registers version maps held bytes worker now R0 = tt
+opening_registers version maps held bytes worker now R1 = refl
+opening_registers version maps held bytes worker now R2 = tt
+opening_registers version maps held bytes worker now R3 = tt
+opening_registers version maps held bytes worker now R4 = tt
+opening_registers version maps held bytes worker now R5 = tt
+opening_registers version maps held bytes worker now R6 = tt
+opening_registers version maps held bytes worker now R7 = tt
+opening_registers version maps held bytes worker now R8 = tt
+opening_registers version maps held bytes worker now R9 = tt
+opening_registers version maps held bytes worker now R10 = record { at = pos 0; is = refl; counted = refl }
 
 pub opening_sound : OpeningIsSound
-opening_sound maps held bytes worker now frame small early = record {
+opening_sound version maps held bytes worker now frame small early = record {
   ids = no_ids;
-  registers = opening_registers maps held bytes worker now;
+  registers = opening_registers version maps held bytes worker now;
   stack = λ word h. rw (get_or-replicate 64 word (Bytes no_bytes) (Spilled Unset) h)
       (nothing_set (places_of word (initial_state (input_frame bytes) worker now).stack));
   start = λ h. absurd (omega arith);

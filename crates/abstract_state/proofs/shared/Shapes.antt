@@ -21,6 +21,7 @@ use Rattle.semantics.specs.Semantics.{fetched_register}
 use Rattle.abstract_scalar.specs.declared.interval.Interval.{Interval}
 use Rattle.abstract_scalar.specs.Intervals.{constant_of, interval_of, full_of}
 use Rattle.abstract_scalar.specs.Transfer.{neg_of, movsx64_of, movsx32_of, swap_of}
+use Rattle.ebpf_decode.specs.declared.version.Version.{Version}
 use Rattle.abstract_state.specs.declared.kind.Kind.{Kind}
 use Rattle.abstract_state.specs.declared.kind.Kind.TheVariants.{Unset, Scalar, Ctx, Stack, Packet, PacketEnd, Map, ValueOrNull, Value}
 use Rattle.abstract_state.specs.declared.kind.StackWord.{StackWord}
@@ -36,14 +37,14 @@ use Rattle.abstract_state.specs.declared.refusal.Refusal.TheVariants.{WrongKind,
 use Rattle.abstract_state.specs.declared.state.State.{State}
 use Rattle.abstract_state.specs.States.{Checked, ◌>>=◌, kind_of, with_kind, word_of, with_word, no_bytes, stack_bytes, opening_state}
 use Rattle.abstract_state.specs.Join.{zip_with, spilled, bytes_of_kind, bytes_of_word, join_kind, join_word, join_of}
-use Rattle.abstract_state.specs.Places.{range_within, aligned, stack_access, packet_access, value_access}
+use Rattle.abstract_state.specs.Places.{range_within, aligned, stack_access, packet_access, value_access, atomic_access}
 use Rattle.abstract_state.specs.Words.{storable, narrow_storable, with_set, word_stored}
 use Rattle.abstract_state.specs.Facts.{told_kind, told_word, told}
 use Rattle.abstract_state.specs.Arithmetic.{source_kind, blamed, alu_kind, after_alu_of}
 use Rattle.abstract_state.specs.Refinement.{allowed_test, number_cut, fact_of, refined, refine_state}
 use Rattle.abstract_state.specs.Access.{loaded_kind, load_of, signed_loaded, signed_load_of, stack_stored, stored, store_of, with_fetched_kind, expects, atomic_on, atomic_of}
 use Rattle.abstract_state.specs.Calls.{helper_at, key_arguments, update_arguments, head_arguments, any_number, returned, call_of}
-use Rattle.abstract_state.specs.Flow.{writable, fetch_writable, reads, reads_both, reads_operands, reads_atomic, reads_arguments, alu_flow, operand_of, unary_flow, load_flow, store_flow, store_register_flow, atomic_flow, number_flow, known_map, map_flow, call_flow, test_flow, exit_kind, falls, flow_of}
+use Rattle.abstract_state.specs.Flow.{value_address, address_flow, writable, fetch_writable, reads, reads_both, reads_operands, reads_atomic, reads_arguments, alu_flow, operand_of, unary_flow, load_flow, store_flow, store_register_flow, atomic_flow, number_flow, known_map, map_flow, call_flow, test_flow, exit_kind, falls, flow_of}
 use Rattle.abstract_state.specs.Soundness.{IsShaped, FlowIsShaped, StatesAreShaped}
 use Rattle.abstract_state.proofs.shared.Inverting.{err_not_ok, ok_value, ok_then, ok_if}
 use Rattle.abstract_state.proofs.shared.JoinStates.{at_place, length-zip_with}
@@ -78,11 +79,11 @@ spilled_eight (Value map id off) = no_eight
 both_eight : (a b : List Bool) → length a ≡ 8 → length b ≡ 8 → length (zip_with (λ x y. x && y) a b) ≡ 8
 both_eight a b m n = length-zip_with (λ x y. x && y) a b (m ∙ sym n) ∙ m
 
-word_eight : (a b : StackWord) → length (bytes_of_word a) ≡ 8 → length (bytes_of_word b) ≡ 8 → length (bytes_of_word (join_word a b)) ≡ 8
-word_eight (Spilled kind) (Spilled other) m n = spilled_eight (join_kind kind other)
-word_eight (Spilled kind) (Bytes set) m n = both_eight (bytes_of_kind kind) set m n
-word_eight (Bytes set) (Spilled other) m n = both_eight set (bytes_of_kind other) m n
-word_eight (Bytes set) (Bytes other) m n = both_eight set other m n
+word_eight : (version : Version) (a b : StackWord) → length (bytes_of_word a) ≡ 8 → length (bytes_of_word b) ≡ 8 → length (bytes_of_word (join_word version a b)) ≡ 8
+word_eight version (Spilled kind) (Spilled other) m n = spilled_eight (join_kind version kind other)
+word_eight version (Spilled kind) (Bytes set) m n = both_eight (bytes_of_kind kind) set m n
+word_eight version (Bytes set) (Spilled other) m n = both_eight set (bytes_of_kind other) m n
+word_eight version (Bytes set) (Bytes other) m n = both_eight set other m n
 
 told_eight : (fact : Fact) (word : StackWord) → length (bytes_of_word word) ≡ 8 → length (bytes_of_word (told_word fact word)) ≡ 8
 told_eight fact (Spilled kind) h = spilled_eight (told_kind fact kind)
@@ -115,8 +116,8 @@ stored_eight U64 from kind word h inside = kind_eight kind
 
 -- ---- states
 
-opening_shaped : IsShaped opening_state
-opening_shaped = record {
+opening_shaped : (version : Version) → IsShaped (opening_state version)
+opening_shaped version = record {
   eleven = refl;
   words = length-replicate 64 (Bytes no_bytes);
   eight = λ word h. rw (get_or-replicate 64 word (Bytes no_bytes) (Spilled Unset) h) no_eight;
@@ -124,13 +125,13 @@ opening_shaped = record {
 
 join_shaped : (a b : State) → IsShaped a → IsShaped b → IsShaped (join_of a b)
 join_shaped a b m n = record {
-  eleven = length-zip_with join_kind a.registers b.registers (m.eleven ∙ sym n.eleven) ∙ m.eleven;
-  words = length-zip_with join_word a.stack b.stack (m.words ∙ sym n.words) ∙ m.words;
+  eleven = length-zip_with (join_kind a.version) a.registers b.registers (m.eleven ∙ sym n.eleven) ∙ m.eleven;
+  words = length-zip_with (join_word a.version) a.stack b.stack (m.words ∙ sym n.words) ∙ m.words;
   eight = λ word h.
       let p : length a.stack ≡ 64 = m.words
       in let q : length b.stack ≡ 64 = n.words
-      in rw (at_place join_word a.stack b.stack word (Spilled Unset) (Spilled Unset) (Spilled Unset) (omega arith) (omega arith))
-      (word_eight (word_of a word) (word_of b word) (m.eight word h) (n.eight word h));
+      in rw (at_place (join_word a.version) a.stack b.stack word (Spilled Unset) (Spilled Unset) (Spilled Unset) (omega arith) (omega arith))
+      (word_eight a.version (word_of a word) (word_of b word) (m.eight word h) (n.eight word h));
 }
 
 kind_shaped : (state : State) (register : Register) (kind : Kind) → IsShaped state → IsShaped (with_kind state register kind)
@@ -254,7 +255,7 @@ atomic_kept maps state width op PacketEnd distance dst src s = keeps_err (WrongK
 atomic_kept maps state width op (Map map) distance dst src s = keeps_err (WrongKind dst)
 atomic_kept maps state width op (ValueOrNull map id) distance dst src s = keeps_err (WrongKind dst)
 atomic_kept maps state width op (Value map id off) distance dst src s =
-    keeps_then (value_access maps map off distance (size_bytes (width_size width))) (λ from.
+    keeps_then (atomic_access maps map off distance (size_bytes (width_size width))) (λ from.
     narrow_storable (kind_of state src) >>= (λ _. expects op (kind_of state R0) >>= (λ _. Ok (with_fetched_kind state (fetched_register op src) width))))
     (λ from e. keeps_then (narrow_storable (kind_of state src)) (λ _. expects op (kind_of state R0) >>= (λ _. Ok (with_fetched_kind state (fetched_register op src) width)))
     (λ _ f. keeps_then (expects op (kind_of state R0)) (λ _. Ok (with_fetched_kind state (fetched_register op src) width))
@@ -323,7 +324,7 @@ flow_shaped : (maps : List MapDef) (state : State) (slot : ℕ) (insn : Insn) (f
 flow_shaped maps state slot (Alu width op dst source) flow s e = falls_shaped (alu_flow maps state slot width op dst source) flow
     (keeps_then (writable dst) (λ _. reads_operands state op dst source >>= (λ _. after_alu_of maps state slot width op dst source))
     (λ _ f. keeps_then (reads_operands state op dst source) (λ _. after_alu_of maps state slot width op dst source)
-    (λ _ g. kind_kept state dst (alu_kind maps slot width op (kind_of state dst) (source_kind state source) dst (blamed dst source)) s))) e
+    (λ _ g. kind_kept state dst (alu_kind maps state.version slot width op (kind_of state dst) (source_kind state source) dst (blamed dst source)) s))) e
 flow_shaped maps state slot (Neg width dst) flow s e = falls_shaped (unary_flow state dst dst (neg_of width)) flow (unary_kept state dst dst (neg_of width) s) e
 flow_shaped maps state slot (Movsx extension dst src) flow s e =
     falls_shaped (unary_flow state dst src (movsx64_of extension)) flow (unary_kept state dst src (movsx64_of extension) s) e
@@ -353,7 +354,9 @@ flow_shaped maps state slot (Lddw dst value) flow s e = falls_shaped (number_flo
     (λ _ f. keeps_ok (with_kind state dst (Scalar (constant_of value))) (kind_shaped state dst (Scalar (constant_of value)) s))) e
 flow_shaped maps state slot (Ldmap dst map) flow s e = falls_shaped (map_flow maps state dst map) flow
     (keeps_then (writable dst) (λ _. known_map maps map >>= (λ kind. Ok (with_kind state dst kind))) (λ _ f. kind_kept state dst (known_map maps map) s)) e
-flow_shaped maps state slot (Ldval dst map offset) flow s e = absurd (err_not_ok UnknownMap flow e)
+flow_shaped maps state slot (Ldval dst map offset) flow s e = falls_shaped (address_flow maps state slot dst map offset) flow
+    (keeps_then (writable dst) (λ _. value_address maps slot map offset >>= (λ kind. Ok (with_kind state dst kind)))
+    (λ _ f. kind_kept state dst (value_address maps slot map offset) s)) e
 flow_shaped maps state slot (CallHelper number) flow s e = falls_shaped (call_flow maps state slot number) flow
     (keeps_then (helper_at number) (λ helper. reads_arguments state helper >>= (λ _. call_of maps state slot helper))
     (λ helper f. keeps_then (reads_arguments state helper) (λ _. call_of maps state slot helper) (λ _ g. call_kept maps state slot helper s))) e

@@ -103,13 +103,12 @@ store_by_kind program held state machine a eight insn size offset dst (Value map
     in let second = ok_then (narrow_storable kind) (λ _. Ok state) s first.1.1
     in let same : state ≡ s = ok_same (Ok state) state s refl second.1.1
     in let n = narrow_is_number (setting_of program.maps held a.ids machine) kind value second.0 second.1.0 cv
-    in let found : IsAligned (pos off +ℤ offset) (size_bytes size) (value_size_of (slice_get program.maps map)) first.0 =
-    value_found program.maps map off offset (size_bytes size) first.0 first.1.0
+    in let there = value_found program.maps map off offset (size_bytes size) first.0 c.at c.least c.most first.1.0
     in subst (λ s. FallsOn program held s machine (machine.slot + slot_count insn) (store_step program insn machine v offset size value)) same
     (subst (λ v. FallsOn program held state machine (machine.slot + slot_count insn) (store_step program insn machine v offset size value)) (sym c.is)
     (subst (λ value. FallsOn program held state machine (machine.slot + slot_count insn)
-    (store_step program insn machine (CellPointer map c.cell.shard c.cell.id (pos off)) offset size value)) (sym n.1)
-    (cell_stored program held state machine a insn size map c.cell.shard c.cell.id (pos off) offset first.0 n.0 found c.held)))
+    (store_step program insn machine (CellPointer map c.cell.shard c.cell.id (pos c.at)) offset size value)) (sym n.1)
+    (cell_stored program held state machine a insn size map c.cell.shard c.cell.id (pos c.at) offset there.from n.0 there.found c.held)))
 
 -- ---- the instructions
 

@@ -12,6 +12,8 @@ use Rattle.isa.specs.InstructionCodes.{register_number}
 use Rattle.semantics.specs.RegisterValue.{RegisterValue, Uninitialized, PacketPointer}
 use Rattle.semantics.specs.MachineState.{MachineState, StackByte, register_value, with_register}
 use Rattle.abstract_state.specs.declared.kind.Kind.{Kind}
+use Rattle.abstract_state.specs.declared.kind.Offsets.{Offsets}
+use Rattle.abstract_state.specs.Places.{at_offset}
 use Rattle.abstract_state.specs.declared.kind.Kind.TheVariants.{Unset, Scalar, Ctx, Stack, Packet, PacketEnd, Map, ValueOrNull, Value}
 use Rattle.abstract_state.specs.declared.kind.StackWord.{StackWord}
 use Rattle.abstract_state.specs.declared.kind.StackWord.TheVariants.{Spilled, Bytes}
@@ -44,10 +46,13 @@ pub record Extends (s t : Setting) : Type 0 where
   pub generation : t.generation ≡ s.generation
   pub size : t.size ≡ s.size
 
-live_later : (s t : Setting) → Extends s t → (map id off : ℕ) (v : RegisterValue) → IsLiveCell s map id off v → IsLiveCell t map id off v
+live_later : (s t : Setting) → Extends s t → (map id : ℕ) (off : Offsets) (v : RegisterValue) → IsLiveCell s map id off v → IsLiveCell t map id off v
 live_later s t e map id off v c = record {
   cell = c.cell;
   found = e.found id c.earlier ∙ c.found;
+  at = c.at;
+  least = c.least;
+  most = c.most;
   is = c.is;
   held = e.held map c.cell.shard c.cell.id c.held;
   earlier = let p : id < s.slot = c.earlier in let q : s.slot ≤ t.slot = e.slot in omega arith;
@@ -79,7 +84,7 @@ covers_later s t e (Packet id off range) v c = packet_later s t e id off range v
 covers_later s t e PacketEnd v c = rw e.generation c
 covers_later s t e (Map map) v c = record { is = c.is; definition = c.definition; known = ap (λ maps. slice_get maps map) e.maps ∙ c.known }
 covers_later s t e (ValueOrNull map id) v (inl c) = inl (no_cell_later s t e id v c)
-covers_later s t e (ValueOrNull map id) v (inr c) = inr (live_later s t e map id 0 v c)
+covers_later s t e (ValueOrNull map id) v (inr c) = inr (live_later s t e map id (at_offset 0) v c)
 covers_later s t e (Value map id off) v c = live_later s t e map id off v c
 
 pub word_later : (s t : Setting) → Extends s t → (word : StackWord) (places : List StackByte) → WordCovers s word places → WordCovers t word places

@@ -1,7 +1,6 @@
 //! Instructions and programs, by the words of a listing, and the runs of them.
 
 ghost use Rattle.std.specs.Prelude.{IfOk};
-ghost use Rattle.ebpf_decode.specs.declared.version.Version.TheVariants.{V1};
 ghost use Rattle.ebpf_decode.specs.Served.{IsServedImage};
 
 use ebpf_decode::{Image, Insn, MapDef, MapKind, Version};
@@ -121,7 +120,7 @@ pub(super) fn accepted(
     head: &[Insn],
     tail: &[Insn],
 ) -> Result<Verified, Fail>
-    ensures { IfOk result (λ v. IsServedImage (record { version = V1; maps = v.maps; code = v.code })) }
+    ensures { IfOk result (λ v. IsServedImage (record { version = v.version; maps = v.maps; code = v.code })) }
 {
     let mut all_maps = Vec::new(alloc);
     all_maps.extend_from_slice(maps)?;

@@ -1,7 +1,6 @@
 //! Programs that look keys up, and what they leave in the journals.
 
 ghost use Rattle.std.specs.Prelude.{◌<◌};
-ghost use Rattle.ebpf_decode.specs.declared.version.Version.TheVariants.{V1};
 ghost use Rattle.ebpf_decode.specs.Served.{IsServedImage};
 
 use super::programs::{
@@ -104,7 +103,7 @@ fn leaves(
     name: &str,
 ) -> Result<(), Fail>
     requires worker { MOMENT.worker < options.workers }
-    requires served { IsServedImage (record { version = V1; maps = verified.now.maps; code = verified.now.code }) }
+    requires served { IsServedImage (record { version = verified.now.version; maps = verified.now.maps; code = verified.now.code }) }
 {
     match verified.unrun() {
         Some(reject) => return Err(Fail::from(reject)),

@@ -29,7 +29,7 @@ pub continues_soundly : (setting : Setting) (states : List (Option State)) (syst
     IsSetting setting states → IsSoundSystem setting states system → worker_state system worker ≡ Runs state entered → next_step (program_of setting) state ≡ Continues next →
     IsSoundRun setting states system worker next entered
 continues_soundly setting states system worker state entered next good sound runs steps =
-    (continues_there (program_of setting) states (held_by setting system worker entered) state next good.accepted good.fits
+    (continues_there good.version (program_of setting) states (held_by setting system worker entered) state next good.accepted good.fits
     (run_of setting states system worker state entered sound runs) steps).place
 
 -- over a call, for each reply to it
@@ -38,7 +38,7 @@ pub called_soundly : (setting : Setting) (states : List (Option State)) (system 
     (reply : Reply) → IsReplyTo (program_of setting) call reply → (held' : Held) → HoldsAfter (program_of setting) (held_by setting system worker entered) held' call reply →
     IsSoundPlace setting.maps setting.code states held' (go reply)
 called_soundly setting states system worker state entered call go good sound runs steps reply is held' after =
-    (answered_there (program_of setting) states (held_by setting system worker entered) state call go good.accepted good.fits
+    (answered_there good.version (program_of setting) states (held_by setting system worker entered) state call go good.accepted good.fits
     (run_of setting states system worker state entered sound runs) steps reply is held' after).place
 
 -- from its start
@@ -49,9 +49,9 @@ begins_at_start (insn ∷ code) some = refl
 pub begins_soundly : (setting : Setting) (states : List (Option State)) (system : SystemState) (worker : ℕ) (frame : List ℕ) (now told : ℕ) → IsSetting setting states →
     IsInputFrame frame → told < 8 → now < 2 ^ 64 → IsSoundRun setting states system worker (initial_state (input_frame frame) told now) []
 begins_soundly setting states system worker frame now told good is few early = record {
-  known = opening_state;
+  known = opening_state good.version;
   at = good.accepted.entry 0 good.some_code;
   begins = begins_at_start setting.code good.some_code;
-  sound = opening_sound setting.maps (held_by setting system worker []) frame told now is few early;
+  sound = opening_sound good.version setting.maps (held_by setting system worker []) frame told now is few early;
   few = omega arith;
 }

@@ -4,13 +4,17 @@ use Rattle.std.proofs.Common.{◌≡◌, inl, inr, ℕ, ◌+◌, ◌<◌, ◌≤
 use Rattle.std.specs.Prelude.{◌+ℤ◌}
 use Rattle.std.specs.List.{AllByRecursion}
 use Rattle.std.proofs.lemmas.Bool.Decides.{nat_tests}
+use Rattle.ebpf_decode.specs.declared.version.Version.{Version}
 use Rattle.ebpf_decode.specs.declared.insn.Insn.{Insn}
 use Rattle.ebpf_decode.specs.declared.insn.Insn.TheVariants.{Lddw, Ldmap, Ldval}
 use Rattle.ebpf_decode.specs.declared.map.MapDef.{MapDef}
+use Rattle.ebpf_decode.specs.ImageContents.{IsEncodable}
 use Rattle.ebpf_decode.specs.InstructionEncoding.{slot_count, total_slots, FieldsFit}
 use Rattle.semantics.specs.declared.call.Call.{Call}
 use Rattle.semantics.specs.declared.call.Reply.{Reply}
 use Rattle.semantics.specs.MachineState.{MachineState}
+use Rattle.semantics.specs.PlanLimits.{HasImageSizes}
+use Rattle.semantics.proofs.ImageSizes.{image_sizes}
 use Rattle.semantics.specs.Program.{Program, instruction_at}
 use Rattle.semantics.specs.Step.{Continues, CallsMap}
 use Rattle.semantics.specs.Semantics.{next_step}
@@ -31,6 +35,13 @@ use Rattle.verifier.specs.Dataflow.{known_at, is_at, is_target, is_next, Accepts
 use Rattle.verifier.proofs.PassLemmas.{forward}
 use Rattle.verifier.proofs.ArrivalLemmas.{IsWhole, whole_below, IsSoundAt, IsTaken, by_fall, by_jump, by_test, by_no_test, sound_there}
 use Rattle.verifier.proofs.InstructionLemmas.{fields_here, begins_within, begun, let_through}
+
+-- the fields of the instructions hold their numbers, and the maps have sizes that the image format allows
+abbrev pub PartsFit : List MapDef → List Insn → Type 0
+PartsFit maps code = AllByRecursion FieldsFit code × AllByRecursion HasImageSizes maps
+
+pub parts_fit : (version : Version) (maps : List MapDef) (code : List Insn) → IsEncodable version maps code → PartsFit maps code
+parts_fit version maps code encodable = (encodable.fields_fit, image_sizes version maps encodable.maps_allowed)
 
 -- what is known at the run's slot is sound for it, for the cells that are held
 pub record IsSoundPlace (maps : List MapDef) (code : List Insn) (states : List (Option State)) (held : Held) (machine : MachineState) : Type 0 where
@@ -61,21 +72,21 @@ pub record Here (program : Program) (held : Held) (state : MachineState) (known 
 
 -- where the instruction that stands there leads
 leads : (program : Program) (held : Held) (state : MachineState) (known : State) (insn : Insn) (flow : Flow) → IsShaped known → Abstracts program.maps held known state →
-    FieldsFit insn → JumpsForward insn → instruction_at program.code state.slot ≡ Some insn → flow_of program.maps known state.slot insn ≡ Ok flow →
+    AllByRecursion HasImageSizes program.maps → FieldsFit insn → JumpsForward insn → instruction_at program.code state.slot ≡ Some insn → flow_of program.maps known state.slot insn ≡ Ok flow →
     Follows program held flow state insn (next_step program state)
-leads program held state known insn flow shaped sound fits jumps found flows =
-    rw found (flow_sound program held known state insn flow shaped sound fits jumps flows)
+leads program held state known insn flow shaped sound sizes fits jumps found flows =
+    rw found (flow_sound program held known state insn flow shaped sound sizes fits jumps flows)
 
-pub here_of : (program : Program) (states : List (Option State)) (held : Held) (state : MachineState) → Accepts program.maps program.code states →
-    AllByRecursion FieldsFit program.code → (place : IsSoundPlace program.maps program.code states held state) → Here program held state place.known
-here_of program states held state accepted all_fit place =
+pub here_of : (version : Version) (program : Program) (states : List (Option State)) (held : Held) (state : MachineState) → Accepts version program.maps program.code states →
+    PartsFit program.maps program.code → (place : IsSoundPlace program.maps program.code states held state) → Here program held state place.known
+here_of version program states held state accepted all_fit place =
     let here = begun (instruction_at program.code state.slot) place.begins
     in let within : state.slot < total_slots program.code = begins_within program.code state.slot place.begins
     in let through = let_through (flow_of program.maps place.known state.slot here.0) (accepted.passes state.slot here.0 place.known here.1 place.at)
     in let whole : IsWhole (known_at states state.slot) =
-    whole_below program.maps program.code states (total_slots program.code) (total_slots program.code) accepted.entry (omega arith) state.slot within
+    whole_below version program.maps program.code states (total_slots program.code) (total_slots program.code) accepted.entry (omega arith) state.slot within
     in let shaped : IsShaped place.known = subst IsWhole place.at whole
-    in let fits : FieldsFit here.0 = fields_here program.code state.slot here.0 all_fit here.1
+    in let fits : FieldsFit here.0 = fields_here program.code state.slot here.0 all_fit.0 here.1
     in let jumps : JumpsForward here.0 = forward program.code state.slot here.0 accepted.shape here.1
     in record {
       insn = here.0;
@@ -86,7 +97,7 @@ here_of program states held state accepted all_fit place =
       jumps = jumps;
       flow = through.0;
       flows = through.1;
-      follows = leads program held state place.known here.0 through.0 shaped place.sound fits jumps here.1 through.1;
+      follows = leads program held state place.known here.0 through.0 shaped place.sound all_fit.1 fits jumps here.1 through.1;
     }
 
 -- ---- along one edge
@@ -98,14 +109,14 @@ pub record Arrives (maps : List MapDef) (held : Held) (state : MachineState) (in
   pub sound : Abstracts maps held there next
   pub counted : next.steps ≡ state.steps + 1
 
-lands_soundly : (maps : List MapDef) (code : List Insn) (states : List (Option State)) (held' : Held) (state : MachineState) (insn : Insn) (here : State) (flow : Flow) (st : State) (next : MachineState) →
-    Accepts maps code states → instruction_at code state.slot ≡ Some insn → known_at states state.slot ≡ Some here → flow_of maps here state.slot insn ≡ Ok flow →
+lands_soundly : (version : Version) (maps : List MapDef) (code : List Insn) (states : List (Option State)) (held' : Held) (state : MachineState) (insn : Insn) (here : State) (flow : Flow) (st : State) (next : MachineState) →
+    Accepts version maps code states → instruction_at code state.slot ≡ Some insn → known_at states state.slot ≡ Some here → flow_of maps here state.slot insn ≡ Ok flow →
     state.steps ≤ state.slot → IsEdge state.slot insn next.slot → IsTaken state.slot insn next.slot st flow → Abstracts maps held' st next → next.steps ≡ state.steps + 1 →
     IsNextPlace maps code states held' state next
-lands_soundly maps code states held' state insn here flow st next accepted found at flows few edge taken sound counted =
+lands_soundly version maps code states held' state insn here flow st next accepted found at flows few edge taken sound counted =
     let up = edges_go_up code state.slot insn next.slot accepted.shape found edge
     in let there : IsSoundAt maps held' next (known_at states next.slot) =
-    sound_there maps held' next code states state.slot insn here next.slot st flow accepted.entry found at flows up.0
+    sound_there version maps held' next code states state.slot insn here next.slot st flow accepted.entry found at flows up.0
     (begins_within code next.slot up.1) taken sound
     in record {
       place = record { known = there.state; at = there.is; begins = up.1; sound = there.sound; few = omega (arith, up.0, counted, few) };
@@ -133,7 +144,7 @@ splits_in_one : (maps : List MapDef) (state : State) (slot : ℕ) (insn : Insn) 
 unfolding slot_count
 splits_in_one maps state slot (Lddw dst value) taken fallen e = absurd (no_split _ taken fallen e)
 splits_in_one maps state slot (Ldmap dst map) taken fallen e = absurd (no_split _ taken fallen e)
-splits_in_one maps state slot (Ldval dst map offset) taken fallen e = absurd cc
+splits_in_one maps state slot (Ldval dst map offset) taken fallen e = absurd (no_split _ taken fallen e)
 splits_in_one maps state slot insn taken fallen e = refl
 
 falls_arrive : (maps : List MapDef) (held : Held) (state : MachineState) (insn : Insn) (there : State) (next : MachineState) →
@@ -184,27 +195,27 @@ goes_on_by program held state insn (Splits taken fallen) call go follows reply i
 -- ---- where it goes on
 
 -- over an instruction that calls nothing
-pub continues_there : (program : Program) (states : List (Option State)) (held : Held) (state next : MachineState) → Accepts program.maps program.code states →
-    AllByRecursion FieldsFit program.code → IsSoundPlace program.maps program.code states held state → next_step program state ≡ Continues next →
+pub continues_there : (version : Version) (program : Program) (states : List (Option State)) (held : Held) (state next : MachineState) → Accepts version program.maps program.code states →
+    PartsFit program.maps program.code → IsSoundPlace program.maps program.code states held state → next_step program state ≡ Continues next →
     IsNextPlace program.maps program.code states held state next
-continues_there program states held state next accepted all_fit place steps =
-    let here : Here program held state place.known = here_of program states held state accepted all_fit place
+continues_there version program states held state next accepted all_fit place steps =
+    let here : Here program held state place.known = here_of version program states held state accepted all_fit place
     in let arrives : Arrives program.maps held state here.insn here.flow next =
     goes_on program held place.known state here.insn here.flow next here.flows (subst (Follows program held here.flow state here.insn) steps here.follows)
     in let edge : IsEdge state.slot here.insn next.slot = subst (GoesTo (IsEdge state.slot here.insn)) steps (runs_follow_edges program state here.insn here.found)
-    in lands_soundly program.maps program.code states held state here.insn place.known here.flow arrives.there next accepted here.found place.at here.flows place.few
+    in lands_soundly version program.maps program.code states held state here.insn place.known here.flow arrives.there next accepted here.found place.at here.flows place.few
     edge arrives.taken arrives.sound arrives.counted
 
 -- over a call, for each reply to it
-pub answered_there : (program : Program) (states : List (Option State)) (held : Held) (state : MachineState) (call : Call) (go : Reply → MachineState) →
-    Accepts program.maps program.code states → AllByRecursion FieldsFit program.code → IsSoundPlace program.maps program.code states held state →
+pub answered_there : (version : Version) (program : Program) (states : List (Option State)) (held : Held) (state : MachineState) (call : Call) (go : Reply → MachineState) →
+    Accepts version program.maps program.code states → PartsFit program.maps program.code → IsSoundPlace program.maps program.code states held state →
     next_step program state ≡ CallsMap call go → (reply : Reply) → IsReplyTo program call reply → (held' : Held) → HoldsAfter program held held' call reply →
     IsNextPlace program.maps program.code states held' state (go reply)
-answered_there program states held state call go accepted all_fit place steps reply is held' after =
-    let here : Here program held state place.known = here_of program states held state accepted all_fit place
+answered_there version program states held state call go accepted all_fit place steps reply is held' after =
+    let here : Here program held state place.known = here_of version program states held state accepted all_fit place
     in let arrives : Arrives program.maps held' state here.insn here.flow (go reply) =
     goes_on_by program held state here.insn here.flow call go (subst (Follows program held here.flow state here.insn) steps here.follows) reply is held' after
     in let edges : GoesTo (IsEdge state.slot here.insn) (CallsMap call go) =
     subst (GoesTo (IsEdge state.slot here.insn)) steps (runs_follow_edges program state here.insn here.found)
-    in lands_soundly program.maps program.code states held' state here.insn place.known here.flow arrives.there (go reply) accepted here.found place.at here.flows place.few
+    in lands_soundly version program.maps program.code states held' state here.insn place.known here.flow arrives.there (go reply) accepted here.found place.at here.flows place.few
     (edges reply) arrives.taken arrives.sound arrives.counted

@@ -102,7 +102,7 @@ pub safe_run : (setting : Setting) (states : List (Option State)) (system : Syst
 safe_run setting states system worker state entered good sound runs =
     let run : IsSoundRun setting states system worker state entered = subst (IsSoundWorker setting states system worker) runs (sound.workers worker)
     in let next : Here (program_of setting) (held_by setting system worker entered) state run.known =
-    here_of (program_of setting) states (held_by setting system worker entered) state good.accepted good.fits run
+    here_of good.version (program_of setting) states (held_by setting system worker entered) state good.accepted good.fits run
     in record {
       goes_on = no_trap setting system worker state entered next.insn next.flow (next_step (program_of setting) state)
           (call_served setting states system worker state entered good sound runs) next.follows;

@@ -1,5 +1,5 @@
 -- Whatever happens, the system stays sound; so no run of an accepted program traps or runs on.
-use Rattle.std.proofs.Common.{◌≡◌, ℕ, zero, suc, ◌<◌, ◌≤◌, ◌*◌, Bool, true, false, List, [], ◌∷◌, length, replicate, Option, Some, None, refl, sym, ap, subst, ◌∙◌, arith}
+use Rattle.std.proofs.Common.{◌≡◌, ℕ, zero, suc, ◌<◌, ◌≤◌, ◌*◌, ◌/◌, Bool, true, false, List, [], ◌∷◌, length, replicate, Option, Some, None, refl, sym, ap, subst, ◌∙◌, arith}
 use Rattle.std.specs.Prelude.{IsTrue, MatchBool, slice_index_or, if◌then◌else◌}
 use Rattle.std.proofs.lemmas.List.{length-replicate}
 use Rattle.std.proofs.lemmas.List.Sums.{sum_by-cons}
@@ -18,6 +18,8 @@ use Rattle.semantics.specs.MachineState.{MachineState, initial_state}
 use Rattle.semantics.specs.Step.{Step, Continues, CallsMap, Exits, Traps}
 use Rattle.semantics.specs.Semantics.{next_step}
 use Rattle.semantics.specs.declared.options.Options.{Options}
+use Rattle.semantics.specs.PlanLimits.{HasImageSizes}
+use Rattle.semantics.proofs.PlanLemmas.{each_at}
 use Rattle.semantics.specs.ShardPlan.{plan_at, AreOptions}
 use Rattle.semantics.specs.RunTrace.{IsReplyTo}
 use Rattle.semantics.specs.SequentialShard.{shard_after}
@@ -33,12 +35,12 @@ use Rattle.verifier.specs.Dataflow.{Accepts}
 use Rattle.verifier.specs.Coverage.{CoverRuns}
 use Rattle.verifier.proofs.SystemInvariant.{entered_of, held_by, IsSoundRun, IsSoundWorker, IsSoundShard, IsSetting, IsSoundSystem}
 use Rattle.verifier.proofs.ReplyLemmas.{lookup_answer, word_fits, update_fits, delete_fits}
-use Rattle.verifier.proofs.PlanLemmas.{plan_facts}
+use Rattle.verifier.proofs.PlanLemmas.{plan_facts, some_shards}
 use Rattle.verifier.proofs.ShardLemmas.{sound_at_start}
 use Rattle.verifier.proofs.EntryLemmas.{local_change}
 use Rattle.verifier.proofs.EventLemmas.{call_sound, leave_sound, is_counted}
 use Rattle.verifier.proofs.AskingLemmas.{grown, stopped, enter_sound, ask_sound, IsQuiet, quiet_lookup, quiet_call, lookup_holds, still_holds}
-use Rattle.verifier.proofs.shared.PlaceLemmas.{Here, here_of}
+use Rattle.verifier.proofs.shared.PlaceLemmas.{Here, parts_fit, here_of}
 use Rattle.verifier.proofs.shared.RunLemmas.{call_served, safe_worker}
 use Rattle.verifier.proofs.shared.LocalLemmas.{continues_soundly, called_soundly, begins_soundly}
 
@@ -57,7 +59,7 @@ asked : (setting : Setting) (states : List (Option State)) (system : SystemState
 asked setting states system worker state entered call go good sound is steps =
     let run : IsSoundRun setting states system worker state entered = subst (IsSoundWorker setting states system worker) is (sound.workers worker)
     in let here : Here (program_of setting) (held_by setting system worker entered) state run.known =
-    here_of (program_of setting) states (held_by setting system worker entered) state good.accepted good.fits run
+    here_of good.version (program_of setting) states (held_by setting system worker entered) state good.accepted good.fits run
     in served_call setting (held_by setting system worker entered) state here.insn here.flow call go
     (subst (Follows (program_of setting) (held_by setting system worker entered) here.flow state here.insn) steps here.follows)
 
@@ -95,7 +97,9 @@ asks : (setting : Setting) (states : List (Option State)) (system : SystemState)
     IsSoundSystem setting states (after_run_call found system worker call entered (λ reply. Runs (go reply) entered))
 asks setting states system worker state entered call go good sound is steps served into None planned may = sound
 asks setting states system worker state entered (Lookup shard key) go good sound is steps served into (Some plan) planned may =
-    let fits = lookup_answer (program_of setting) plan (history_of system plan.number) shard key (plan_facts setting.maps setting.options shard plan planned).number
+    let facts = plan_facts setting.maps setting.options shard plan planned
+    in let fits = lookup_answer (program_of setting) plan (history_of system plan.number) shard key facts.number (some_shards setting.maps setting.options good.options) facts.definition
+    (each_at HasImageSizes setting.maps (shard / setting.options.shards) plan.definition good.fits.1 facts.definition).some_entries
     in ask_sound setting states system worker shard (Lookup shard key) state entered plan go good sound is planned (may plan refl) (quiet_lookup plan system worker shard key)
     (called_soundly setting states system worker state entered (Lookup shard key) go good sound is steps (entry_for plan system (Worker worker) (Lookup shard key)).reply fits _
     (lookup_holds setting states system worker shard key entered plan good sound planned into fits))
@@ -230,23 +234,24 @@ pub some_slot : (code : List Insn) → 1 ≤ length code → 0 < total_slots cod
 some_slot [] h = absurd (omega arith)
 some_slot (insn ∷ code) h = omega (arith, sum_by-cons slot_count insn code, some_slots insn)
 
-setting_of : (version : Version) (maps : List MapDef) (code : List Insn) (states : List (Option State)) (options : Options) → IsEncodable version maps code → Accepts maps code states → AreOptions maps options →
+setting_of : (version : Version) (maps : List MapDef) (code : List Insn) (states : List (Option State)) (options : Options) → IsEncodable version maps code → Accepts version maps code states → AreOptions maps options →
     IsSetting (record { maps = maps; code = code; options = options }) states
 setting_of version maps code states options encodable accepted fit = record {
   options = fit;
+  version = version;
   accepted = accepted;
   some_code = some_slot code encodable.some_code;
-  fits = encodable.fields_fit;
+  fits = parts_fit version maps code encodable;
 }
 
-pub safe_image : (version : Version) (maps : List MapDef) (code : List Insn) (states : List (Option State)) → IsEncodable version maps code → Accepts maps code states → IsSafeImage maps code
+pub safe_image : (version : Version) (maps : List MapDef) (code : List Insn) (states : List (Option State)) → IsEncodable version maps code → Accepts version maps code states → IsSafeImage maps code
 safe_image version maps code states encodable accepted options fit events can worker =
     let good : IsSetting (record { maps = maps; code = code; options = options }) states = setting_of version maps code states options encodable accepted fit
     in safe_worker (record { maps = maps; code = code; options = options }) states (system_after (record { maps = maps; code = code; options = options }) events) worker good
     (system_sound (record { maps = maps; code = code; options = options }) states events good can)
 
 -- its entry states cover the runs that are reached
-pub cover_runs : (version : Version) (maps : List MapDef) (code : List Insn) (states : List (Option State)) → IsEncodable version maps code → Accepts maps code states → CoverRuns maps code states
+pub cover_runs : (version : Version) (maps : List MapDef) (code : List Insn) (states : List (Option State)) → IsEncodable version maps code → Accepts version maps code states → CoverRuns maps code states
 cover_runs version maps code states encodable accepted options fit events can worker machine entered runs =
     let good : IsSetting (record { maps = maps; code = code; options = options }) states = setting_of version maps code states options encodable accepted fit
     in let system : SystemState = system_after (record { maps = maps; code = code; options = options }) events

@@ -9,5 +9,5 @@ pub returns : goal.returns
 returns c =
     let one : length c.args.both.now ≡ 64 = search rules
     in let two : length c.args.second.now ≡ 64 = search rules
-    in filled-zip_with (Spilled Unset) (Spilled Unset) join_word c.args.both.now c.args.second.now c.words.both c.words.invariant.same_length (two ∙ sym one)
+    in filled-zip_with (Spilled Unset) (Spilled Unset) (join_word c.args.version) c.args.both.now c.args.second.now c.words.both c.words.invariant.same_length (two ∙ sym one)
     (λ k h. c.words.invariant.done k (omega arith))

@@ -1,4 +1,4 @@
-use Rattle.semantics.proofs.TraceRowLemmas.{stores_ask, atomics_ask, short_atomics_ask, helpers_ask}
+use Rattle.semantics.proofs.TraceRowLemmas.{stores_ask, atomics_ask, short_atomics_ask, helpers_ask, addresses_ask}
 use Rattle.semantics.proofs.laws.instructions_ask.Goals as goal
 
 pub returns-clause-stores : goal.returns-clause-stores
@@ -12,3 +12,6 @@ returns-clause-short_atomics c = short_atomics_ask
 
 pub returns-clause-helpers : goal.returns-clause-helpers
 returns-clause-helpers c = helpers_ask
+
+pub returns-clause-addresses : goal.returns-clause-addresses
+returns-clause-addresses c = addresses_ask

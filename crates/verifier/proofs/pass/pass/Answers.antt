@@ -20,7 +20,7 @@ pub slots-init : goal.slots-init
 slots-init c = record {
   at = refl;
   room = c.told-memories;
-  held = held_at_start _ _ _ _ c.opening-entry.ensures c.new-pending.ensures;
+  held = held_at_start _ _ _ _ _ c.opening-entry.ensures c.new-pending.ensures;
   noted = noted_at_start _ _ _;
   mark = mark_at_start _ _;
 }
@@ -42,24 +42,24 @@ advance-requires-clause-forward c =
 
 pub returns-in-Err-Memory-clause-rejected : goal.returns-in-Err-Memory-clause-rejected
 returns-in-Err-Memory-clause-rejected c =
-    wanting _ _ _ _ c.slots.entry c.slots.pending c.requires.shape (instruction_here _ _ _ _ c.slots-test.true c.slots.invariant.at)
+    wanting _ _ _ _ _ c.slots.entry c.slots.pending c.requires.shape (instruction_here _ _ _ _ c.slots-test.true c.slots.invariant.at)
     (slot_within _ _ _ c.slots-test.true c.slots.invariant.at) (c.in-Err-Memory.ensures.asked (search rules)) c.slots.invariant.held
 
 pub returns-in-Err-Rule-clause-rejected : goal.returns-in-Err-Rule-clause-rejected
 returns-in-Err-Rule-clause-rejected c =
-    rejected _ _ _ _ c.slots.entry c.slots.pending _ _ c.requires.shape (instruction_here _ _ _ _ c.slots-test.true c.slots.invariant.at)
+    rejected _ _ _ _ _ c.slots.entry c.slots.pending _ _ c.requires.shape (instruction_here _ _ _ _ c.slots-test.true c.slots.invariant.at)
     (slot_within _ _ _ c.slots-test.true c.slots.invariant.at) (c.in-Err-Rule.ensures.broken c.in-Err-Rule.why (search rules))
     (c.of_refusal.ensures ∙ ap (reject_of_refusal c.slots.slot) (search rules)) c.slots.invariant.held
 
 pub slots-preserved : goal.slots-preserved
 slots-preserved c =
     let within : c.slots.slot < total_slots c.args.code.now = slot_within _ _ _ c.slots-test.true c.slots.invariant.at
-    in let here = held_here _ _ _ c.slots.entry c.slots.pending within c.slots.invariant.held
+    in let here = held_here _ _ _ _ c.slots.entry c.slots.pending within c.slots.invariant.held
     in let found = instruction_here c.args.code.now c.slots.insn-index (Alu Bits32 Add R0 (Imm (pos 0))) c.slots.slot c.slots-test.true c.slots.invariant.at
     in record {
       at = rw c.slot_count.ensures.count (next_at _ _ _ _ c.slots-test.true c.slots.invariant.at);
       room = length-set c.slots.memories c.slots.slot c.memory_of.result ∙ c.slots.invariant.room;
-      held = rw c.slot_count.ensures.count (held_on _ _ _ _ c.slots.entry _ c.slots.pending _ found within
+      held = rw c.slot_count.ensures.count (held_on _ _ _ _ _ c.slots.entry _ c.slots.pending _ found within
           (λ k after before. none_inside _ _ _ _ k c.slots-test.true c.slots.invariant.at after before)
           c.in-Ok.ensures.later c.in-Ok.ensures.next c.in-Ok.ensures.passes c.slots.invariant.held);
       noted = rw c.slot_count.ensures.count (noted_next _ _ c.slots.memories _ _ _ _ found
@@ -72,11 +72,11 @@ slots-preserved c =
 
 pub returns-clause-accepted : goal.returns-clause-accepted
 returns-clause-accepted c =
-    accepted _ _ _ _ _ c.requires.shape (whole_at _ _ _ c.slots-test.false c.slots.invariant.at) c.slots.invariant.held
+    accepted _ _ _ _ _ _ c.requires.shape (whole_at _ _ _ c.slots-test.false c.slots.invariant.at) c.slots.invariant.held
 
 pub returns-clause-memories : goal.returns-clause-memories
 returns-clause-memories c =
-    subst (AreMemories _ (states_of c.args.maps.now c.args.code.now) _) (whole_at _ _ _ c.slots-test.false c.slots.invariant.at) c.slots.invariant.noted
+    subst (AreMemories _ (states_of c.args.version c.args.maps.now c.args.code.now) _) (whole_at _ _ _ c.slots-test.false c.slots.invariant.at) c.slots.invariant.noted
 
 pub returns-clause-reader : goal.returns-clause-reader
 returns-clause-reader c = mark_whole _ _ _ _ (whole_at _ _ _ c.slots-test.false c.slots.invariant.at) c.slots.invariant.mark

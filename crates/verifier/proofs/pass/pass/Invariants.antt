@@ -10,7 +10,7 @@ abbrev pub invariant-slots : goal.invariant-slots
 invariant-slots l = record {
   at : l.slot ≡ total_slots (take l.insn-index l.code);
   room : length l.memories ≡ 4096;
-  held : IsHeld l.maps l.code l.slot l.entry l.pending;
-  noted : AreMemories l.code (states_of l.maps l.code) l.memories l.slot;
-  mark : IsMark l.code (states_of l.maps l.code) l.slot l.reads;
+  held : IsHeld l.fn.version l.maps l.code l.slot l.entry l.pending;
+  noted : AreMemories l.code (states_of l.fn.version l.maps l.code) l.memories l.slot;
+  mark : IsMark l.code (states_of l.fn.version l.maps l.code) l.slot l.reads;
 }

@@ -55,7 +55,8 @@ returns-in-Ok-clause-gives c =
           (∥∥₁_elim c.args.self.now.ready le_prop (λ (ready : IsReady c.args.self.now.image.now.maps c.args.self.now.options
           c.args.self.now.worker c.args.self.now.shards.now). some_part _ c.args.self.now.options ready.are_options)) tt tt
           (subst (IsReplyTo (program_over (maps_of c.args.self.now)) (lookup_call (maps_of c.args.self.now) c.args.map c.args.key.now))
-          told (lookup_formed (maps_of c.args.self.now) c.args.self.now.worker c.args.self.now.shards.now
-          (shard_of (maps_of c.args.self.now) c.args.map c.args.key.now) c.args.key.now c.in-Ok.reply c.ask.new.self.shards.now among))
+          told (lookup_formed c.args.self.now.image.now.maps c.args.self.now.options c.args.self.now.worker c.args.self.now.shards.now
+          (shard_of (maps_of c.args.self.now) c.args.map c.args.key.now) c.args.key.now c.in-Ok.reply c.ask.new.self.shards.now
+          c.args.self.now.ready among))
           (told) among;
     })

@@ -1,0 +1,200 @@
+-- Runs of a program that only reads are the same on whichever worker.
+use Rattle.std.proofs.Common.{◌≡◌, ℕ, zero, suc, ◌<◌, ◌^◌, ◌==◌, ◌||◌, Bool, true, false, not, ℤ, pos, negsuc, List, [], ◌∷◌, Option, Some, None, Ok, Err, IsTrue, refl, sym, ◌∙◌, ap, subst, inl, inr, arith}
+use Rattle.std.specs.Prelude.{if◌then◌else◌}
+use Rattle.std.specs.Ordering.{int_eq}
+use Rattle.std.specs.List.{AllByRecursion}
+use Rattle.std.proofs.lemmas.Bool.{eqb-true, false≢true}
+use Rattle.isa.specs.declared.operation.Register.{Register}
+use Rattle.ebpf_decode.specs.declared.insn.Insn.{Insn}
+use Rattle.ebpf_decode.specs.declared.insn.Insn.TheVariants.{Alu, Neg, Movsx, Movsx32, End, Ja, Ja32, JumpIf, Ldx, Ldxs, St, Stx, AtomicUpdate, Lddw, Ldmap, Ldval, CallHelper, Exit}
+use Rattle.ebpf_decode.specs.declared.map.MapDef.{MapDef}
+use Rattle.ebpf_decode.specs.declared.version.Version.{Version}
+use Rattle.ebpf_decode.specs.ImageContents.{IsEncodable}
+use Rattle.semantics.specs.declared.call.Call.{Call}
+use Rattle.semantics.specs.declared.call.Call.TheVariants.{Lookup}
+use Rattle.semantics.specs.declared.call.Reply.{Reply}
+use Rattle.semantics.specs.declared.call.Reply.TheVariants.{Cell}
+use Rattle.semantics.specs.declared.linux.ContextField.{ContextField}
+use Rattle.semantics.specs.declared.linux.ContextField.TheVariants.{Data, DataEnd, IngressIfindex, RxQueueIndex}
+use Rattle.semantics.specs.declared.linux.Helper.{Helper}
+use Rattle.semantics.specs.declared.linux.Helper.TheVariants.{MapLookupElem, MapUpdateElem, MapDeleteElem, KtimeGetNs, GetSmpProcessorId, XdpAdjustHead}
+use Rattle.semantics.specs.Linux.{helper_of, field_at}
+use Rattle.semantics.specs.RegisterValue.{RegisterValue, Number, ContextPointer, StackPointer, PacketPointer, MapPointer, CellPointer}
+use Rattle.semantics.specs.RegisterValue as meaning
+use Rattle.semantics.specs.MachineState.{MachineState, register_value, initial_state}
+use Rattle.semantics.specs.Program.{Program, instruction_at}
+use Rattle.semantics.specs.RunTrace.{HasExited, Waits, RunTrace, with_call, without_calls, trace_from, trace_of, IsReplyTo}
+use Rattle.semantics.specs.Semantics.{next_step}
+use Rattle.semantics.specs.ServedCalls.{Held, IsHandedOut, HoldsAfter}
+use Rattle.semantics.specs.Step.{Step, Continues, CallsMap, Exits, Traps}
+use Rattle.semantics.specs.System.{input_frame}
+use Rattle.abstract_state.specs.declared.flow.Flow.{Flow}
+use Rattle.abstract_state.specs.declared.kind.Kind.{Kind}
+use Rattle.abstract_state.specs.declared.kind.Kind.TheVariants.{Unset, Scalar, Ctx, Stack, Packet, PacketEnd, Map, ValueOrNull, Value}
+use Rattle.abstract_state.specs.declared.state.State.{State}
+use Rattle.abstract_state.specs.States.{◌>>=◌, kind_of, opening_state}
+use Rattle.abstract_state.specs.Access.{load_of}
+use Rattle.abstract_state.specs.Flow.{writable, is_set, reads, load_flow, flow_of}
+use Rattle.abstract_state.specs.Abstraction.{Setting, KindCovers, setting_of, Abstracts}
+use Rattle.abstract_state.proofs.shared.Checking.{ok_then, falls_made}
+use Rattle.abstract_state.proofs.shared.Opening.{opening_sound}
+use Rattle.verifier.specs.Dataflow.{Accepts}
+use Rattle.verifier.specs.Readers.{is_worker_helper, is_queue_field, only_reads, IsReader}
+use Rattle.verifier.proofs.shared.PlaceLemmas.{PartsFit, parts_fit, IsSoundPlace, Here, here_of, continues_there, answered_there}
+use Rattle.verifier.proofs.shared.LocalLemmas.{begins_at_start}
+use Rattle.verifier.proofs.shared.SafetyLemmas.{some_slot}
+use Rattle.guarantees.specs.SameRuns.{at_worker, trace_of_any, AreReplies, RunsTheSame}
+use Rattle.guarantees.proofs.SameSteps.{SameStep, AsksNoWorker, same_step}
+
+-- ---- what an accepted instruction that only reads asks for
+
+queue_place : (t0 t4 t12 t16 : Bool) →
+    (if t0 then Some Data else (if t4 then Some DataEnd else (if t12 then Some IngressIfindex else (if t16 then Some RxQueueIndex else None)))) ≡ Some RxQueueIndex → t16 ≡ true
+queue_place true t4 t12 t16 e = cc
+queue_place false true t12 t16 e = cc
+queue_place false false true t16 e = cc
+queue_place false false false true e = refl
+queue_place false false false false e = cc
+
+queue_at : (offset : ℤ) → field_at offset ≡ Some RxQueueIndex → int_eq offset (pos 16) ≡ true
+queue_at (pos n) e = let same : n ≡ 16 = eqb-true n 16 (queue_place (n == 0) (n == 4) (n == 12) (n == 16) e) in rw same refl
+queue_at (negsuc below) e = cc
+
+worker_place : (t1 t2 t3 t5 t8 t44 : Bool) →
+    (if t1 then Some MapLookupElem else (if t2 then Some MapUpdateElem else (if t3 then Some MapDeleteElem else (if t5 then Some KtimeGetNs
+    else (if t8 then Some GetSmpProcessorId else (if t44 then Some XdpAdjustHead else None)))))) ≡ Some GetSmpProcessorId → t8 ≡ true
+worker_place true t2 t3 t5 t8 t44 e = cc
+worker_place false true t3 t5 t8 t44 e = cc
+worker_place false false true t5 t8 t44 e = cc
+worker_place false false false true t8 t44 e = cc
+worker_place false false false false true t44 e = refl
+worker_place false false false false false true e = cc
+worker_place false false false false false false e = cc
+
+worker_at : (number : ℤ) → helper_of number ≡ Some GetSmpProcessorId → int_eq number (pos 8) ≡ true
+worker_at (pos n) e = let same : n ≡ 8 = eqb-true n 8 (worker_place (n == 1) (n == 2) (n == 3) (n == 5) (n == 8) (n == 44) e) in rw same refl
+worker_at (negsuc below) e = cc
+
+none_of_three : (a b c : Bool) → not (a || b || c) ≡ true → c ≡ true → ⊥
+none_of_three true true true e is = false≢true e
+none_of_three true false true e is = false≢true e
+none_of_three false true true e is = false≢true e
+none_of_three false false true e is = false≢true e
+none_of_three a b false e is = false≢true is
+
+not_both : (t : Bool) → not t ≡ true → t ≡ true → ⊥
+not_both true e is = false≢true e
+not_both false e is = false≢true is
+
+-- a register that holds the context is known to
+context_kind : (s : Setting) (kind : Kind) (register : Register) (value : RegisterValue) (done : Unit {0}) → is_set kind register ≡ Ok done → KindCovers s kind value → value ≡ ContextPointer → kind ≡ Ctx
+context_kind s Unset register value done set c is = cc
+context_kind s (Scalar i) register value done set c is = absurd (let e : Number c.number ≡ ContextPointer = sym c.is ∙ is in cc)
+context_kind s Ctx register value done set c is = refl
+context_kind s (Stack place) register value done set c is = absurd (let e : StackPointer c.at ≡ ContextPointer = sym c.is ∙ is in cc)
+context_kind s (Packet id off range) register value done set c is = absurd (let e : PacketPointer s.generation _ ≡ ContextPointer = sym c.is ∙ is in cc)
+context_kind s PacketEnd register value done set c is = absurd (let e : meaning.PacketEnd s.generation ≡ ContextPointer = sym c ∙ is in cc)
+context_kind s (Map map) register value done set c is = absurd (let e : MapPointer map ≡ ContextPointer = sym c.is ∙ is in cc)
+context_kind s (ValueOrNull map id) register value done set (inl c) is = absurd (let e : Number 0 ≡ ContextPointer = sym c.is ∙ is in cc)
+context_kind s (ValueOrNull map id) register value done set (inr c) is = absurd (let e : CellPointer map c.cell.shard c.cell.id _ ≡ ContextPointer = sym c.is ∙ is in cc)
+context_kind s (Value map id off) register value done set c is = absurd (let e : CellPointer map c.cell.shard c.cell.id _ ≡ ContextPointer = sym c.is ∙ is in cc)
+
+abbrev all_held : Held
+all_held map shard cell = true
+
+asks_none : (maps : List MapDef) (state : MachineState) (known : State) (insn : Insn) (flow : Flow) → Abstracts maps all_held known state → IsTrue (only_reads known insn) →
+    flow_of maps known state.slot insn ≡ Ok flow → AsksNoWorker insn state
+asks_none maps state known (Ldx size dst src offset) flow a only e = λ is field.
+    let made = falls_made (load_flow known dst src (load_of maps known size dst src offset)) flow e
+    in let first = ok_then (writable dst) (λ _. reads known src >>= (λ _. load_of maps known size dst src offset)) made.0 made.1.0
+    in let second = ok_then (reads known src) (λ _. load_of maps known size dst src offset) made.0 first.1.1
+    in let kind : kind_of known src ≡ Ctx = context_kind (setting_of maps all_held a.ids state) (kind_of known src) src (register_value state src) second.0 second.1.0 (a.registers src) is
+    in let no_queue : not (int_eq offset (pos 16)) ≡ true = subst (λ kind. not (is_queue_field kind offset) ≡ true) kind only
+    in not_both (int_eq offset (pos 16)) no_queue (queue_at offset field)
+asks_none maps state known (CallHelper number) flow a only e = λ is.
+    none_of_three (int_eq number (pos 2)) (int_eq number (pos 3)) (int_eq number (pos 8)) only (worker_at number is)
+asks_none maps state known insn flow a only e = tt
+
+-- ---- traces
+
+handed : (program : Program) (call : Call) (reply : Reply) → IsHandedOut program all_held call reply
+handed program (Lookup shard key) (Cell cell) = λ map definition known own. refl
+handed program call reply = tt
+
+holds : (program : Program) (call : Call) (reply : Reply) → HoldsAfter program all_held all_held call reply
+holds program call reply = record { kept = λ map shard cell h. refl; handed_out = handed program call reply }
+
+abbrev IsSame : ℕ → Program → ℕ → Type 0
+IsSame worker program count = (state : MachineState) (replies : List Reply) → AreReplies program (trace_of count program state replies).calls replies →
+    trace_of_any (trace_of count program state replies) ≡ trace_of_any (trace_of count program (at_worker worker state) replies)
+
+record IsAccepted (version : Version) (program : Program) (states : List (Option State)) : Type 0 where
+  accepted : Accepts version program.maps program.code states
+  fits : PartsFit program.maps program.code
+  reads : IsReader program.code states
+
+abbrev Sound : Program → List (Option State) → MachineState → Type 0
+Sound program states state = IsSoundPlace program.maps program.code states all_held state
+
+-- after a step that is the same
+by_step : (version : Version) (program : Program) (states : List (Option State)) → IsAccepted version program states → (worker count : ℕ) (state : MachineState) → Sound program states state →
+    ((next : MachineState) (replies : List Reply) → Sound program states next → AreReplies program (trace_of count program next replies).calls replies →
+    trace_of_any (trace_of count program next replies) ≡ trace_of_any (trace_of count program (at_worker worker next) replies)) →
+    (step other : Step) → next_step program state ≡ step → SameStep worker step other → (replies : List Reply) →
+    AreReplies program (trace_from (trace_of count program) state step replies).calls replies →
+    trace_of_any (trace_from (trace_of count program) state step replies) ≡ trace_of_any (trace_from (trace_of count program) (at_worker worker state) other replies)
+by_step version program states good worker count state place later (Continues next) (Continues b) is same replies fit =
+    subst (λ b. trace_of_any (trace_of count program next replies) ≡ trace_of_any (trace_of count program b replies)) (sym same)
+    (later next replies (continues_there version program states all_held state next good.accepted good.fits place is).place fit)
+by_step version program states good worker count state place later (CallsMap call go) (CallsMap other on) is same [] fit =
+    ap (λ c. trace_of_any (with_call c (without_calls (Waits state)))) (sym same.0)
+by_step version program states good worker count state place later (CallsMap call go) (CallsMap other on) is same (reply ∷ replies) fit =
+    ap (with_call call) (subst (λ b. trace_of_any (trace_of count program (go reply) replies) ≡ trace_of_any (trace_of count program b replies)) (sym (same.1 reply))
+    (later (go reply) replies (answered_there version program states all_held state call go good.accepted good.fits place is reply fit.0 all_held (holds program call reply)).place fit.1))
+    ∙ ap (λ c. with_call c (trace_of_any (trace_of count program (on reply) replies))) (sym same.0)
+by_step version program states good worker count state place later (Exits verdict last) (Exits other b) is same replies fit =
+    ap (λ v. without_calls (HasExited v (at_worker 0 last))) (sym same.0) ∙ ap (λ b. without_calls (HasExited other (at_worker 0 b))) (sym same.1)
+by_step version program states good worker count state place later (Traps cause) (Traps other) is same replies fit = rw same refl
+by_step version program states good worker count state place later (Continues next) (CallsMap other on) is same replies fit = absurd same
+by_step version program states good worker count state place later (Continues next) (Exits other b) is same replies fit = absurd same
+by_step version program states good worker count state place later (Continues next) (Traps other) is same replies fit = absurd same
+by_step version program states good worker count state place later (CallsMap call go) (Continues b) is same replies fit = absurd same
+by_step version program states good worker count state place later (CallsMap call go) (Exits other b) is same replies fit = absurd same
+by_step version program states good worker count state place later (CallsMap call go) (Traps other) is same replies fit = absurd same
+by_step version program states good worker count state place later (Exits verdict last) (Continues b) is same replies fit = absurd same
+by_step version program states good worker count state place later (Exits verdict last) (CallsMap other on) is same replies fit = absurd same
+by_step version program states good worker count state place later (Exits verdict last) (Traps other) is same replies fit = absurd same
+by_step version program states good worker count state place later (Traps cause) (Continues b) is same replies fit = absurd same
+by_step version program states good worker count state place later (Traps cause) (CallsMap other on) is same replies fit = absurd same
+by_step version program states good worker count state place later (Traps cause) (Exits other b) is same replies fit = absurd same
+
+next_same : (version : Version) (program : Program) (states : List (Option State)) → IsAccepted version program states → (worker : ℕ) (state : MachineState) → Sound program states state →
+    SameStep worker (next_step program state) (next_step program (at_worker worker state))
+next_same version program states good worker state place =
+    let here : Here program all_held state place.known = here_of version program states all_held state good.accepted good.fits place
+    in let asks : AsksNoWorker here.insn state =
+    asks_none program.maps state place.known here.insn here.flow place.sound (good.reads.reads state.slot here.insn place.known here.found place.at) here.flows
+    in rw here.found (same_step worker program here.insn state here.jumps asks)
+
+same_trace : (version : Version) (program : Program) (states : List (Option State)) → IsAccepted version program states → (worker count : ℕ) (state : MachineState) (replies : List Reply) →
+    Sound program states state → AreReplies program (trace_of count program state replies).calls replies →
+    trace_of_any (trace_of count program state replies) ≡ trace_of_any (trace_of count program (at_worker worker state) replies)
+same_trace version program states good worker zero state replies place fit = refl
+same_trace version program states good worker (suc count) state replies place fit =
+    by_step version program states good worker count state place (λ next more sound fits. same_trace version program states good worker count next more sound fits)
+    (next_step program state) (next_step program (at_worker worker state)) refl (next_same version program states good worker state place) replies fit
+
+pub runs_the_same : (version : Version) (maps : List MapDef) (code : List Insn) (states : List (Option State)) → IsEncodable version maps code → Accepts version maps code states →
+    IsReader code states → RunsTheSame maps code
+runs_the_same version maps code states encodable accepted reader shards count frame one other now replies input few early fit =
+    same_trace version (record { code = code; maps = maps; shards = shards }) states
+    (record { accepted = accepted; fits = parts_fit version maps code encodable; reads = reader }) other count
+    (initial_state (input_frame frame) one now) replies
+    (record {
+      known = opening_state version;
+      at = accepted.entry 0 (some_slot code encodable.some_code);
+      begins = begins_at_start code (some_slot code encodable.some_code);
+      sound = opening_sound version maps all_held frame one now input few early;
+      few = omega arith;
+    })
+    fit
