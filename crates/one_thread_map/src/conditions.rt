@@ -115,7 +115,7 @@ fn is_reclaimer(who: &Caller) -> bool
 }
 
 /// The number that chooses a key's shard: an array's index, else the key's hash.
-fn shard_number_of_key(kind: MapKind, key: &[u8]) -> u64
+pub fn shard_number_of_key(kind: MapKind, key: &[u8]) -> u64
     requires { IsIndexSize kind (length key.now) }
     ensures { result ≡ shard_number_of_key kind key.now }
 {

@@ -1,10 +1,10 @@
 -- What the calls of each kind give.
 use Rattle.std.proofs.Common.{◌≡◌, ℕ, zero, suc, ◌+◌, ◌-◌, ◌*◌, ◌/◌, ◌%◌, ◌^◌, ◌<◌, ◌≤◌, Bool, true, false, ◌&&◌, nat_lt, ℤ, List, [], ◌∷◌, length, reverse, Option, Some, None, arith, refl, sym, ◌∙◌, ap, subst, add-one}
-use Rattle.std.specs.Prelude.{◌==◌, IsTrue, slice_get, if◌then◌else◌}
+use Rattle.std.specs.Prelude.{◌==◌, IsTrue, slice_get, find, option_map, bytes_eq, if◌then◌else◌}
 use Rattle.std.specs.List.{AllByRecursion}
 use Rattle.std.proofs.lemmas.Option.{slice_get_within}
 use Rattle.std.proofs.lemmas.Nat.{div-mul-add, mod-mul-add}
-use Rattle.std.proofs.Math.Nat.{mul-le-mul_right, div-le_self}
+use Rattle.std.proofs.Math.Nat.{ℕ_set, mul-le-mul_right, div-le_self}
 use Rattle.std.specs.Coded.{Coded-set, coded_bool}
 use Rattle.std.proofs.Math.Logic.{∥∥₁_elim}
 use Rattle.std.proofs.lemmas.Bool.{false≢true}
@@ -12,22 +12,26 @@ use Rattle.std.proofs.lemmas.Bool.Decides.{nat_tests}
 use Rattle.ebpf_decode.specs.declared.map.MapDef.{MapDef}
 use Rattle.ebpf_decode.specs.declared.map.MapKind.{MapKind}
 use Rattle.ebpf_decode.specs.declared.map.MapKind.TheVariants.{Hash, Array, LruHash}
-use Rattle.ebpf_decode.specs.declared.version.Version.TheVariants.{V1}
-use Rattle.ebpf_decode.specs.MapForm.{is_key_size, is_value_size, is_entry_count}
-use Rattle.ebpf_decode.specs.Served.{is_served_kind, IsServedMap}
 use Rattle.semantics.specs.declared.options.Options.{Options}
+use Rattle.semantics.specs.declared.plan.PresentKey.{PresentKey}
 use Rattle.semantics.specs.declared.plan.ShardPlan.{ShardPlan}
 use Rattle.semantics.specs.declared.call.Caller.TheVariants.{Worker}
 use Rattle.semantics.specs.declared.call.CellRef.{CellRef}
+use Rattle.semantics.specs.declared.call.Entry.{Entry}
 use Rattle.semantics.specs.declared.call.Call.{Call}
 use Rattle.semantics.specs.declared.call.Call.TheVariants.{Lookup, Load, Store, Atomic, Update, Delete}
 use Rattle.semantics.specs.declared.call.Reply.{Reply}
 use Rattle.semantics.specs.declared.call.Reply.TheVariants.{Cell, Word, Done, Answer}
 use Rattle.semantics.specs.LittleEndian.{number_of_bytes}
-use Rattle.semantics.specs.SequentialShard.{SequentialShard, shard_after, cell_of_kind, cell_of_index, cell_of_key, lookup_reply}
+use Rattle.semantics.specs.ShardPlan.{plan_for_map}
+use Rattle.semantics.specs.PlanLimits.{IsIndexSize, HasImageSizes}
+use Rattle.semantics.specs.Reclamation.{inside_count}
+use Rattle.semantics.specs.SequentialShard.{SequentialShard, shard_after, opening_cells, cell_of_kind, cell_of_index, cell_of_present, cell_of_key, lookup_reply}
 use Rattle.semantics.specs.History.{meets_part}
 use Rattle.semantics.specs.RunTrace.{IsReplyTo, MayBeAbsent}
 use Rattle.semantics.proofs.FirstElement.{nothing_found}
+use Rattle.semantics.proofs.IdLemmas.{ids_are_few}
+use Rattle.semantics.proofs.HoldingLemmas.{each_find, each_weaker, sound_after}
 use Rattle.semantics.proofs.ConditionLemmas.{first_true, second_true}
 use Rattle.shard_core.specs.JournaledShard.{JournaledShard}
 use Rattle.map_port.specs.Served.{Maps, program_over, shard_of, IsKeyOf, found_reply}
@@ -38,60 +42,53 @@ use Rattle.shard_port.proofs.ByteLemmas.{number_in_cell-below}
 use Rattle.shard_port.proofs.ReadyLemmas.{plan_number, bytes_entered}
 use Rattle.shard_port.proofs.MayAskLemmas.{served_by, shard_of_known, some_part, few_parts}
 
--- ---- arrays
+-- ---- maps
 
-pub allowed_at : (maps : List MapDef) (map : ℕ) (definition : MapDef) → AllByRecursion IsServedMap maps → slice_get maps map ≡ Some definition → IsServedMap definition
-allowed_at [] map definition each known = cc
-allowed_at (first ∷ rest) zero definition each known = let same : first ≡ definition = cc in subst IsServedMap same each.0
-allowed_at (first ∷ rest) (suc map) definition each known = allowed_at rest map definition each.1 known
+pub sizes_at : (maps : List MapDef) (map : ℕ) (definition : MapDef) → AllByRecursion HasImageSizes maps → slice_get maps map ≡ Some definition → HasImageSizes definition
+sizes_at [] map definition each known = cc
+sizes_at (first ∷ rest) zero definition each known = let same : first ≡ definition = cc in subst HasImageSizes same each.0
+sizes_at (first ∷ rest) (suc map) definition each known = sizes_at rest map definition each.1 known
 
-served_kind : (kind : MapKind) → IsTrue (is_served_kind kind) → kind ≡ Array
-served_kind Hash served = cc
-served_kind Array served = refl
-served_kind LruHash served = cc
+some_same : (one other : MapDef) → Some one ≡ Some other → one ≡ other
+some_same one other same = cc
 
-pub array_of : (definition : MapDef) → IsServedMap definition → definition.kind ≡ Array
-array_of definition allowed = served_kind definition.kind (first_true _ _ (first_true _ _ (first_true _ _ allowed)))
+pub index_size_prop : (kind : MapKind) (size : ℕ) → IsProp (IsIndexSize kind size)
+index_size_prop Hash size = λ one other. refl
+index_size_prop Array size = ℕ_set size 4
+index_size_prop LruHash size = λ one other. refl
 
-four_bytes : (kind : MapKind) (size : ℕ) → kind ≡ Array → IsTrue (is_key_size kind size) → size ≡ 4
-four_bytes Hash size is sized = cc
-four_bytes Array size is sized = grind (arith, nat_tests)
-four_bytes LruHash size is sized = cc
-
-pub key_bytes : (definition : MapDef) → IsServedMap definition → definition.key_size ≡ 4
-key_bytes definition allowed = four_bytes definition.kind definition.key_size (array_of definition allowed) (second_true _ _ (first_true _ _ (first_true _ _ allowed)))
-
-pub few_entries : (definition : MapDef) → IsServedMap definition → definition.max_entries ≤ 131072
-few_entries definition allowed =
-    let counted : IsTrue (is_entry_count definition.max_entries) = second_true (is_served_kind definition.kind && is_key_size definition.kind definition.key_size && is_value_size V1 definition.value_size) (is_entry_count definition.max_entries) allowed in
-    grind (arith, nat_tests)
-
-pub array_shard_of : (maps : List MapDef) (options : Options) (worker : ℕ) (shards : List JournaledShard) (map : ℕ) (key : List ℕ) → IsReady maps options worker shards → IsKeyOf (served_by maps options) map key → shard_of (served_by maps options) map key ≡ map * options.shards + number_of_bytes key % options.shards
-array_shard_of maps options worker shards map key ready of_map =
-    let kind : of_map.definition.kind ≡ Array = array_of of_map.definition (allowed_at maps map of_map.definition ready.allowed of_map.known) in
-    shard_of_known (served_by maps options) map key of_map.definition of_map.known ∙ rw kind refl
+pub index_size : (maps : List MapDef) (options : Options) (worker : ℕ) (shards : List JournaledShard) (map : ℕ) (key : List ℕ) (definition : MapDef) → IsReady maps options worker shards → IsKeyOf (served_by maps options) map key → slice_get maps map ≡ Some definition → IsIndexSize definition.kind (length key)
+index_size maps options worker shards map key definition ready of_map known =
+    let same : of_map.definition ≡ definition = some_same _ _ (sym of_map.known ∙ known) in
+    let sized : length key ≡ definition.key_size = of_map.key_size ∙ ap (λ (one : MapDef). one.key_size) same in
+    subst (IsIndexSize definition.kind) (sym sized) (sizes_at maps map definition ready.sizes known).index_size
 
 pub map_within : (maps : List MapDef) (options : Options) (worker : ℕ) (shards : List JournaledShard) (map : ℕ) (key : List ℕ) → IsReady maps options worker shards → IsKeyOf (served_by maps options) map key → map ≤ 16
 map_within maps options worker shards map key ready of_map =
     let within : map < length maps = slice_get_within maps map of_map.definition of_map.known in
     omega (arith, within, ready.few)
 
-pub short_key : (maps : List MapDef) (options : Options) (worker : ℕ) (shards : List JournaledShard) (map : ℕ) (key : List ℕ) → IsReady maps options worker shards → IsKeyOf (served_by maps options) map key → length key ≤ 8
-short_key maps options worker shards map key ready of_map =
-    let four : of_map.definition.key_size ≡ 4 = key_bytes of_map.definition (allowed_at maps map of_map.definition ready.allowed of_map.known) in
-    omega (arith, four, of_map.key_size)
-
 -- ---- small cells
 
-small_found : (plan : ShardPlan) (index : ℕ) → plan.number < 128 → plan.definition.max_entries ≤ 131072 → has_small_cell (lookup_reply plan (cell_of_index plan index)) ≡ true
-small_found plan index few entries = by_test (nat_lt index plan.definition.max_entries) refl
+small : (plan : ShardPlan) (id : ℕ) → plan.number < 128 → id < 2 ^ 32 → has_small_cell (lookup_reply plan (Some id)) ≡ true
+small plan id few below = both_true (nat_lt plan.number 128) (nat_lt id (2 ^ 32)) (grind (arith, nat_tests)) (grind (arith, nat_tests))
+
+small_index : (plan : ShardPlan) (index : ℕ) → plan.number < 128 → plan.definition.max_entries ≤ 131072 → has_small_cell (lookup_reply plan (cell_of_index plan index)) ≡ true
+small_index plan index few entries = by_test (nat_lt index plan.definition.max_entries) refl
   where
     by_test : (known : Bool) → nat_lt index plan.definition.max_entries ≡ known → has_small_cell (lookup_reply plan (if known then Some (index / plan.parts) else None)) ≡ true
     by_test true is =
         let within : index < plan.definition.max_entries = grind (arith, nat_tests) in
         let less : index / plan.parts ≤ index = div-le_self index plan.parts in
-        both_true (nat_lt plan.number 128) (nat_lt (index / plan.parts) (2 ^ 32)) (grind (arith, nat_tests)) (grind (arith, nat_tests))
+        small plan (index / plan.parts) few (omega (arith, within, less, entries))
     by_test false is = refl
+
+small_present : (plan : ShardPlan) (key : List ℕ) (present : List PresentKey) → plan.number < 128 → AllByRecursion (λ (one : PresentKey). one.cell < 2 ^ 32) present → has_small_cell (lookup_reply plan (cell_of_present present key)) ≡ true
+small_present plan key present few below = by_found (find (λ (one : PresentKey). bytes_eq one.key key) present) refl
+  where
+    by_found : (found : Option PresentKey) → find (λ (one : PresentKey). bytes_eq one.key key) present ≡ found → has_small_cell (lookup_reply plan (option_map (λ (one : PresentKey). one.cell) found)) ≡ true
+    by_found None is = refl
+    by_found (Some one) is = small plan one.cell few (each_find (λ (one : PresentKey). one.cell < 2 ^ 32) (λ (one : PresentKey). bytes_eq one.key key) present one below is)
 
 few_shards : (maps : List MapDef) (options : Options) (worker : ℕ) (shards : List JournaledShard) → IsReady maps options worker shards → length shards ≤ 128
 few_shards maps options worker shards ready =
@@ -100,19 +97,48 @@ few_shards maps options worker shards ready =
     let parts : options.shards ≤ 8 = few_parts maps options ready.are_options in
     omega (arith, counted, at_most, parts)
 
+-- a map that begins without cells has no more than its entries
+few_cells : (plan : ShardPlan) (history : List Entry) (kind : MapKind) → plan.definition.kind ≡ kind → opening_cells kind plan ≡ [] → length history < 2 ^ 32 → length (shard_after plan history).cells < 2 ^ 32
+few_cells plan history kind is none short =
+    let some : length (shard_after plan history).cells ≤ length (opening_cells plan.definition.kind plan) + length history = ids_are_few plan history in
+    let opened : length (opening_cells plan.definition.kind plan) ≡ 0 = ap (λ one. length (opening_cells one plan)) is ∙ ap length none in
+    omega (arith, some, opened, short)
+
+small_keyed : (plan : ShardPlan) (history : List Entry) (key : List ℕ) → plan.number < 128 → length (shard_after plan history).cells < 2 ^ 32 → has_small_cell (lookup_reply plan (cell_of_present (shard_after plan history).present key)) ≡ true
+small_keyed plan history key few short =
+    small_present plan key (shard_after plan history).present few
+    (each_weaker (λ (one : PresentKey). one.cell < length (shard_after plan history).cells) (λ (one : PresentKey). one.cell < 2 ^ 32) (λ one below. omega (arith, below, short)) (shard_after plan history).present (sound_after plan history).present)
+
+small_of_kind : (kind : MapKind) (plan : ShardPlan) (history : List Entry) (key : List ℕ) → plan.definition.kind ≡ kind → plan.number < 128 → plan.definition.max_entries ≤ 131072 → length history < 2 ^ 32 → has_small_cell (lookup_reply plan (cell_of_kind kind plan (shard_after plan history) key)) ≡ true
+small_of_kind Hash plan history key is few entries short = small_keyed plan history key few (few_cells plan history Hash is refl short)
+small_of_kind Array plan history key is few entries short = small_index plan (number_of_bytes key) few entries
+small_of_kind LruHash plan history key is few entries short = small_keyed plan history key few (few_cells plan history LruHash is refl short)
+
+not_over : (most count : ℕ) → nat_lt most count ≡ false → count ≤ most
+not_over most count is = grind (arith, nat_tests)
+
+plan_reserve : (options : Options) (number : ℕ) (definition : Option MapDef) (plan : ShardPlan) → plan_for_map options number definition ≡ Some plan → plan.reserve ≡ options.journal
+plan_reserve options number None plan is = cc
+plan_reserve options number (Some definition) plan is =
+    let same : (record { number = number; part = number % options.shards; parts = options.shards; definition = definition; workers = options.workers; reserve = options.journal }) ≡ plan = cc in
+    ap (λ (one : ShardPlan). one.reserve) (sym same)
+
 pub small_lookup : (maps : List MapDef) (options : Options) (worker : ℕ) (before : List JournaledShard) (number : ℕ) (key : List ℕ) (reply : Reply) (after : List JournaledShard) → IsReady maps options worker before → IsAnsweredAmong worker before (Lookup number key) reply after → IsTrue (has_small_cell reply)
 small_lookup maps options worker before number key reply after ready among =
     let plan : ShardPlan = among.shard.plan in
     let is : IsShardOf maps options number among.shard = ready.are_shards.each number among.shard among.known in
     let planned = plan_number options number (slice_get maps (number / options.shards)) plan is.planned in
-    let allowed : IsServedMap plan.definition = allowed_at maps (number / options.shards) plan.definition ready.allowed planned.4 in
+    let sizes : HasImageSizes plan.definition = sizes_at maps (number / options.shards) plan.definition ready.sizes planned.4 in
     let within : number < length before = slice_get_within before number among.shard among.known in
     let few : length before ≤ 128 = few_shards maps options worker before ready in
     let numbered : plan.number ≡ number = planned.0 in
     let below : plan.number < 128 = omega (arith, within, few, numbered) in
-    let state : SequentialShard = shard_after plan (reverse (entered worker among.shard).journal) in
-    let at_kind : MapKind → Type 0 = λ kind. has_small_cell (lookup_reply plan (cell_of_kind kind plan state key)) ≡ true in
-    let small : has_small_cell (lookup_reply plan (cell_of_key plan state key)) ≡ true = subst at_kind (sym (array_of plan.definition allowed)) (small_found plan (number_of_bytes key) below (few_entries plan.definition allowed)) in
+    let history : List Entry = reverse (entered worker among.shard).journal in
+    let reserve : plan.reserve ≡ options.journal = plan_reserve options number (slice_get maps (number / options.shards)) plan is.planned in
+    let most : options.journal ≤ 1048576 = ready.are_options.greatest_journal in
+    let room : length history + inside_count history + 0 + 1 ≤ plan.reserve = not_over plan.reserve (length history + inside_count history + 0 + 1) among.answered.room in
+    let short : length history < 2 ^ 32 = omega (arith, room, reserve, most) in
+    let small : has_small_cell (lookup_reply plan (cell_of_key plan (shard_after plan history) key)) ≡ true = small_of_kind plan.definition.kind plan history key refl below sizes.most_entries short in
     subst (λ (one : Reply). has_small_cell one ≡ true) (sym among.answered.replied) small
 
 -- ---- lookups
@@ -133,11 +159,6 @@ found_told worker before number key reply after small among =
     subst (λ (one : Reply). one ≡ found_reply cell_of_handle (handle_of one)) (sym is)
     (found_again among.shard.plan (cell_of_key among.shard.plan (shard_after among.shard.plan (reverse (entered worker among.shard).journal)) key) (subst (λ (one : Reply). has_small_cell one ≡ true) is small))
 
-some_entries : (definition : MapDef) → IsServedMap definition → 1 ≤ definition.max_entries
-some_entries definition allowed =
-    let counted : IsTrue (is_entry_count definition.max_entries) = second_true (is_served_kind definition.kind && is_key_size definition.kind definition.key_size && is_value_size V1 definition.value_size) (is_entry_count definition.max_entries) allowed in
-    grind (arith, nat_tests)
-
 -- what a lookup finds in its shard, which its worker has entered before
 abbrev found_there : {worker : ℕ} {before : List JournaledShard} {number : ℕ} {key : List ℕ} {reply : Reply} {after : List JournaledShard} →
     IsAnsweredAmong worker before (Lookup number key) reply after → Option ℕ
@@ -152,9 +173,9 @@ absent_where maps options worker before number key reply after ready among none 
     let plan : ShardPlan = among.shard.plan in
     let is : IsShardOf maps options number among.shard = ready.are_shards.each number among.shard among.known in
     let planned = plan_number options number (slice_get maps (number / options.shards)) plan is.planned in
-    let allowed : IsServedMap plan.definition = allowed_at maps (number / options.shards) plan.definition ready.allowed planned.4 in
+    let sizes : HasImageSizes plan.definition = sizes_at maps (number / options.shards) plan.definition ready.sizes planned.4 in
     nothing_found (program_over (served_by maps options)) plan (shard_after plan (reverse (entered worker among.shard).journal)) number key
-    (some_part maps options ready.are_options) planned.4 (some_entries plan.definition allowed) none
+    (some_part maps options ready.are_options) planned.4 sizes.some_entries none
 
 may_be_absent : (maps : List MapDef) (options : Options) (worker : ℕ) (before : List JournaledShard) (number : ℕ) (key : List ℕ) (reply : Reply) (after : List JournaledShard) →
     ∥ IsReady maps options worker before ∥₁ → (among : IsAnsweredAmong worker before (Lookup number key) reply after) → found_there among ≡ None →

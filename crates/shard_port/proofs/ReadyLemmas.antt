@@ -130,7 +130,7 @@ pub ready_with : (maps : List MapDef) (options : Options) (worker : ℕ) (before
     IsReady maps options worker after
 ready_with maps options worker before after kept ready = record {
   few = ready.few;
-  allowed = ready.allowed;
+  sizes = ready.sizes;
   are_options = ready.are_options;
   is_worker = ready.is_worker;
   are_shards = kept ready.are_shards;

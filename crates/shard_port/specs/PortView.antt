@@ -2,7 +2,6 @@
 use Rattle.std.specs.Prelude.{◌≡◌, ℕ, ◌+◌, ◌-◌, ◌*◌, ◌/◌, ◌%◌, ◌^◌, ◌<◌, ◌≤◌, ◌==◌, Bool, true, false, ◌&&◌, nat_lt, ℤ, pos, List, reverse, length, Option, Some, None, slice_get}
 use Rattle.std.specs.List.{AllByRecursion}
 use Rattle.ebpf_decode.specs.declared.map.MapDef.{MapDef}
-use Rattle.ebpf_decode.specs.Served.{IsServedMap}
 use Rattle.semantics.specs.declared.options.Options.{Options}
 use Rattle.semantics.specs.declared.call.CellRef.{CellRef}
 use Rattle.semantics.specs.declared.call.Call.{Call}
@@ -10,6 +9,7 @@ use Rattle.semantics.specs.declared.call.Call.TheVariants.{Enter, Leave, Reclaim
 use Rattle.semantics.specs.declared.call.Reply.{Reply}
 use Rattle.semantics.specs.declared.call.Reply.TheVariants.{Cell, Word, Answer}
 use Rattle.semantics.specs.ShardPlan.{plan_at, AreOptions}
+use Rattle.semantics.specs.PlanLimits.{HasImageSizes}
 use Rattle.semantics.specs.SequentialShard.{shard_after}
 use Rattle.semantics.specs.Reclamation.{holds}
 use Rattle.semantics.specs.History.{IsLegalJournal}
@@ -45,7 +45,7 @@ ServesMaps maps options shards = ∥ AreShardsOf maps options shards ∥₁
 -- what each port keeps: maps that an image may have, options that shards are opened with, one of their workers, the shards
 pub record IsReady (maps : List MapDef) (options : Options) (worker : ℕ) (shards : List JournaledShard) : Type 0 where
   pub few : length maps ≤ 16
-  pub allowed : AllByRecursion IsServedMap maps
+  pub sizes : AllByRecursion HasImageSizes maps
   pub are_options : AreOptions maps options
   pub is_worker : worker < options.workers
   pub are_shards : AreShardsOf maps options shards

@@ -1,22 +1,22 @@
 //! The port of a single caller: one worker, one run at a time, no lock.
 
-ghost use Rattle.std.specs.Prelude.{◌≡◌, ◌<◌, ◌≤◌, ◌+◌, ◌*◌, ◌%◌, ◌^◌, ℕ, pos, IsTrue, IfOk, IfErr, OnErr, length, slice_get, nat_lt, IsFalse, OnOk};
-ghost use Rattle.ebpf_decode.specs.Served.{IsServedImage};
+ghost use Rattle.std.specs.Prelude.{Some, ◌≡◌, ◌<◌, ◌≤◌, ◌+◌, ◌*◌, ◌%◌, ◌^◌, ℕ, pos, IsTrue, IfOk, IfErr, OnErr, length, slice_get, nat_lt, IsFalse, OnOk};
+ghost use Rattle.semantics.specs.PlanLimits.{IsIndexSize};
+ghost use Rattle.semantics.specs.Program.{shard_of_key};
 ghost use Rattle.semantics.specs.ShardPlan.{AreOptions};
 ghost use Rattle.semantics.specs.History.{shard_of_call, IsLegalJournal};
 ghost use Rattle.shard_port.specs.Asking.{may_ask_at, all_left, IsAnsweredAmong, IsTurnedAwayAmong, entered, left, can_enter, may_ask, IsAnswered, IsTurnedAway, IsWorkerOf};
 ghost use Rattle.shard_port.specs.PortView.{ServesMaps, IsReady, IsRunCall, SetsBytes, cell_of_handle, handle_of, word_in, answer_in, has_small_cell};
 ghost use Rattle.map_port.specs.Served.{handle_limit};
-ghost use Rattle.semantics.specs.LittleEndian.{number_of_bytes};
 ghost use Rattle.std.specs.List.{AllByRecursion};
 
-use ebpf_decode::Image;
+use ebpf_decode::{Image, MapDef, MapKind};
 use isa::AtomicOp;
 use map_port::MapPort;
-use semantics::little_endian::number_of_bytes;
+use one_thread_map::conditions::shard_number_of_key;
 use semantics::{Call, Caller, CellRef, JournalFull, Key, Options, Reply, Value};
 use shard_core::Shard;
-use shards::Shards;
+use shards::{Shards, maps_of};
 
 /// A worker's port over the shards of an image's maps. It enters a shard before its first call there, and has to be finished,
 /// which leaves the shards that it entered. No call takes memory.
@@ -42,7 +42,6 @@ impl<'a> PlainPort<'a> {
         shards: &'a mut Shards,
         worker: u8,
     ) -> PlainPort<'a>
-        requires served { IsServedImage image.now }
         requires options { AreOptions image.now.maps options }
         requires shards { ServesMaps image.now.maps options shards.old }
         requires worker { worker < options.workers }
@@ -52,7 +51,7 @@ impl<'a> PlainPort<'a> {
         ensures options { result.options ≡ options }
         ensures worker { result.worker ≡ worker }
     {
-        image.served_parts();
+        let _ = maps_of(image);
         PlainPort {
             shards,
             image,
@@ -66,7 +65,8 @@ impl<'a> PlainPort<'a> {
         requires { IsKeyOf (maps_of self.now) map key.now }
         ensures { result ≡ shard_of (maps_of self.now) map key.now }
     {
-        shard_of_index(map, self.options.shards, key)
+        let definition = definition_at(self.image.maps(), map);
+        shard_of_kind(map, definition.kind, self.options.shards, key)
     }
 
     /// Makes a run's call, at the shard that the call names: entered before, if the worker is not inside. Refused where the
@@ -219,16 +219,24 @@ impl<'a> MapPort for PlainPort<'a> {
     }
 }
 
-/// The number of the shard of an array's index, in a map of so many shards.
-fn shard_of_index(map: u32, parts: u32, key: &Key) -> u32
+/// The map at a place.
+fn definition_at(maps: &[MapDef], map: u32) -> MapDef
+    requires { map < length maps.now }
+    ensures { slice_get maps.now map ≡ Some result }
+{
+    maps[map as usize]
+}
+
+/// The number of the shard of a key, in a map of this kind with so many shards.
+fn shard_of_kind(map: u32, kind: MapKind, parts: u32, key: &Key) -> u32
     requires map { map ≤ 16 }
     requires parts { 0 < parts }
     requires few { parts ≤ 8 }
-    requires size { length key.now ≤ 8 }
-    ensures { result ≡ map * parts + number_of_bytes key.now % parts }
+    requires size { IsIndexSize kind (length key.now) }
+    ensures { result ≡ shard_of_key map kind parts key.now }
 {
-    let index = number_of_bytes(key.as_slice());
-    map * parts + (index % u64::from(parts)) as u32
+    let number = shard_number_of_key(kind, key.as_slice());
+    map * parts + (number % u64::from(parts)) as u32
 }
 
 /// The cell that a handle stands for.

@@ -1,7 +1,6 @@
 //! Rows that call a port.
 
 ghost use Rattle.std.specs.Prelude.{◌≡◌, ◌<◌, ◌≤◌, IfOk, OnOk, All, length};
-ghost use Rattle.ebpf_decode.specs.Served.{IsServedImage};
 ghost use Rattle.semantics.specs.ShardPlan.{AreOptions};
 ghost use Rattle.map_port.specs.Served.{IsReadable};
 ghost use Rattle.shard_port.specs.PortView.{ServesMaps};
@@ -47,14 +46,13 @@ type Row = (&'static str, Ask, Got);
 /// An image of two arrays.
 fn arrays(alloc: Global) -> Result<Image, Fail>
     ensures maps { IfOk result (λ image. image.maps ≡ example_maps) }
-    ensures served { IfOk result IsServedImage }
 {
     let mut maps = Vec::new(alloc);
     maps.push(array_of(1))?;
     maps.push(array_of(3))?;
     let mut code = Vec::new(alloc);
     code.push(Insn::Exit)?;
-    Ok(Image::of(Version::V1, maps, code)?.served()?)
+    Ok(Image::of(Version::V1, maps, code)?)
 }
 
 fn array_of(max_entries: u32) -> MapDef
@@ -219,7 +217,6 @@ fn run(
     shards: &mut Shards,
     rows: &[Row],
 ) -> Option<JournalFull>
-    requires served { IsServedImage image.now }
     requires maps { image.now.maps ≡ example_maps }
     requires options { AreOptions image.now.maps options }
     requires shards { ServesMaps image.now.maps options shards.old }
@@ -392,7 +389,6 @@ fn look_once(
     shards: &mut Shards,
     index: u32,
 ) -> Result<u64, JournalFull>
-    requires served { IsServedImage image.now }
     requires maps { image.now.maps ≡ example_maps }
     requires options { AreOptions image.now.maps options }
     requires shards { ServesMaps image.now.maps options shards.old }

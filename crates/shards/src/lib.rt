@@ -11,4 +11,4 @@ pub use fault::OpenFault;
 pub use shard_core::{
     Call, Caller, CellRef, Entry, JournalFull, Key, Options, Reply, Shard, ShardPlan, Value,
 };
-pub use shards::Shards;
+pub use shards::{Shards, maps_of};

@@ -74,7 +74,7 @@ impl Shards {
 }
 
 /// The maps of an image, whose sizes its format allows.
-fn maps_of(image: &Image) -> &[MapDef]
+pub fn maps_of(image: &Image) -> &[MapDef]
     ensures maps { result.now ≡ image.now.maps }
     ensures few { length image.now.maps ≤ 16 }
     ensures sizes { AllByRecursion HasImageSizes image.now.maps }
