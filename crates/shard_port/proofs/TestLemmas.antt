@@ -7,7 +7,7 @@ use Rattle.semantics.specs.ServedCalls.{Held}
 use Rattle.semantics.specs.ServedCalls.{IsHandedOut}
 use Rattle.semantics.specs.Program.{value_size_of}
 use Rattle.map_port.specs.Served.{Maps, program_over, lookup_call, found_reply, IsKeyOf, IsPairOf, IsReadable}
-use Rattle.shard_port.specs.ExampleMaps.{array_of, example_maps}
+use Rattle.shard_port.specs.ExampleMaps.{array_of, hash_of, example_maps}
 use Rattle.shard_port.proofs.MayAskLemmas.{shard_of_known}
 
 pub record IsExample (served : Maps) (map : ℕ) : Type 0 where
@@ -16,7 +16,7 @@ pub record IsExample (served : Maps) (map : ℕ) : Type 0 where
   pub key_size : 4 ≡ definition.key_size
   pub value_size : 8 ≡ definition.value_size
 
-pub example : (served : Maps) (map : ℕ) → served.maps ≡ example_maps → map < 2 → IsExample served map
+pub example : (served : Maps) (map : ℕ) → served.maps ≡ example_maps → map < 3 → IsExample served map
 example served zero maps below = record {
   definition = array_of 1;
   known = ap (λ all. slice_get all 0) maps;
@@ -30,15 +30,21 @@ example served (suc zero) maps below = record {
   key_size = refl;
   value_size = refl;
 }
-example served (suc (suc map)) maps below = absurd (omega arith)
+example served (suc (suc zero)) maps below = record {
+  definition = hash_of 2;
+  known = ap (λ all. slice_get all 2) maps;
+  key_size = refl;
+  value_size = refl;
+}
+example served (suc (suc (suc map))) maps below = absurd (omega arith)
 
-pub example_key : (served : Maps) (map : ℕ) (key : List ℕ) → served.maps ≡ example_maps → map < 2 → length key ≡ 4 →
+pub example_key : (served : Maps) (map : ℕ) (key : List ℕ) → served.maps ≡ example_maps → map < 3 → length key ≡ 4 →
     All (λ byte. byte < 256) key → IsKeyOf served map key
 example_key served map key maps below size bytes =
     let known = example served map maps below in
     record { definition = known.definition; known = known.known; key_size = size ∙ known.key_size; bytes = bytes }
 
-pub example_pair : (served : Maps) (map : ℕ) (key value : List ℕ) → served.maps ≡ example_maps → map < 2 → length key ≡ 4 →
+pub example_pair : (served : Maps) (map : ℕ) (key value : List ℕ) → served.maps ≡ example_maps → map < 3 → length key ≡ 4 →
     All (λ byte. byte < 256) key → length value ≡ 8 → All (λ byte. byte < 256) value → IsPairOf served map key value
 example_pair served map key value maps below size bytes value_size value_bytes =
     let known = example served map maps below in
@@ -53,7 +59,7 @@ example_pair served map key value maps below size bytes value_size value_bytes =
     }
 
 pub example_cell : (served served' : Maps) (held : Held) (cell_of : ℕ → CellRef) (map : ℕ) (key : List ℕ) (handle : ℕ) →
-    served.maps ≡ example_maps → map < 2 → served' ≡ served →
+    served.maps ≡ example_maps → map < 3 → served' ≡ served →
     IsHandedOut (program_over served) held (lookup_call served map key) (found_reply cell_of handle) → 0 < handle →
     IsReadable served' held (cell_of handle) 0 8
 example_cell served served' held cell_of map key zero maps below same handed some = absurd (omega arith)

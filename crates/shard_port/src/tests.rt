@@ -4,7 +4,7 @@ ghost use Rattle.std.specs.Prelude.{◌≡◌, ◌<◌, ◌≤◌, IfOk, OnOk, A
 ghost use Rattle.semantics.specs.ShardPlan.{AreOptions};
 ghost use Rattle.map_port.specs.Served.{IsReadable};
 ghost use Rattle.shard_port.specs.PortView.{ServesMaps};
-ghost use Rattle.shard_port.specs.ExampleMaps.{array_of, example_maps};
+ghost use Rattle.shard_port.specs.ExampleMaps.{array_of, hash_of, example_maps};
 
 use crate::laws::opened_serve;
 use crate::plain::PlainPort;
@@ -43,13 +43,14 @@ enum Got {
 
 type Row = (&'static str, Ask, Got);
 
-/// An image of two arrays.
-fn arrays(alloc: Global) -> Result<Image, Fail>
+/// An image of two arrays and a hash map.
+fn example_image(alloc: Global) -> Result<Image, Fail>
     ensures maps { IfOk result (λ image. image.maps ≡ example_maps) }
 {
     let mut maps = Vec::new(alloc);
     maps.push(array_of(1))?;
     maps.push(array_of(3))?;
+    maps.push(hash_of(2))?;
     let mut code = Vec::new(alloc);
     code.push(Insn::Exit)?;
     Ok(Image::of(Version::V1, maps, code)?)
@@ -60,6 +61,17 @@ fn array_of(max_entries: u32) -> MapDef
 {
     MapDef {
         kind: MapKind::Array,
+        key_size: 4,
+        value_size: 8,
+        max_entries,
+    }
+}
+
+fn hash_of(max_entries: u32) -> MapDef
+    ensures { result ≡ hash_of max_entries }
+{
+    MapDef {
+        kind: MapKind::Hash,
         key_size: 4,
         value_size: 8,
         max_entries,
@@ -89,7 +101,7 @@ fn value_of(byte: u8) -> Value
 /// Looks an index up.
 fn look<P: MapPort>(port: &mut P, map: u32, index: u32) -> Result<u64, JournalFull>
     requires maps { (P.serves port.old).maps ≡ example_maps }
-    requires map { map < 2 }
+    requires map { map < 3 }
     ensures same { OnOk result (P.serves port.new ≡ P.serves port.old) }
     ensures held { IfOk result (λ handle. 0 < handle → IsReadable (P.serves port.new) (P.has_handed_out port.new) (P.cell_of port.new handle) 0 8) }
 {
@@ -98,7 +110,7 @@ fn look<P: MapPort>(port: &mut P, map: u32, index: u32) -> Result<u64, JournalFu
 
 fn load<P: MapPort>(port: &mut P, map: u32, index: u32) -> Result<Got, JournalFull>
     requires maps { (P.serves port.old).maps ≡ example_maps }
-    requires map { map < 2 }
+    requires map { map < 3 }
     ensures { OnOk result (P.serves port.new ≡ P.serves port.old) }
 {
     let handle = look(port, map, index)?;
@@ -111,7 +123,7 @@ fn load<P: MapPort>(port: &mut P, map: u32, index: u32) -> Result<Got, JournalFu
 
 fn store<P: MapPort>(port: &mut P, map: u32, index: u32, value: u64) -> Result<Got, JournalFull>
     requires maps { (P.serves port.old).maps ≡ example_maps }
-    requires map { map < 2 }
+    requires map { map < 3 }
     ensures { OnOk result (P.serves port.new ≡ P.serves port.old) }
 {
     let handle = look(port, map, index)?;
@@ -123,7 +135,7 @@ fn store<P: MapPort>(port: &mut P, map: u32, index: u32, value: u64) -> Result<G
 
 fn add<P: MapPort>(port: &mut P, map: u32, index: u32, value: u64) -> Result<Got, JournalFull>
     requires maps { (P.serves port.old).maps ≡ example_maps }
-    requires map { map < 2 }
+    requires map { map < 3 }
     ensures { OnOk result (P.serves port.new ≡ P.serves port.old) }
 {
     let handle = look(port, map, index)?;
@@ -142,7 +154,7 @@ fn swap<P: MapPort>(
     expected: u64,
 ) -> Result<Got, JournalFull>
     requires maps { (P.serves port.old).maps ≡ example_maps }
-    requires map { map < 2 }
+    requires map { map < 3 }
     ensures { OnOk result (P.serves port.new ≡ P.serves port.old) }
 {
     let handle = look(port, map, index)?;
@@ -161,7 +173,7 @@ fn put<P: MapPort>(
     flags: u64,
 ) -> Result<Got, JournalFull>
     requires maps { (P.serves port.old).maps ≡ example_maps }
-    requires map { map < 2 }
+    requires map { map < 3 }
     ensures { OnOk result (P.serves port.new ≡ P.serves port.old) }
 {
     let answer = port.update(map, &key_of(index), &value_of(byte), flags)?;
@@ -170,7 +182,7 @@ fn put<P: MapPort>(
 
 fn remove<P: MapPort>(port: &mut P, map: u32, index: u32) -> Result<Got, JournalFull>
     requires maps { (P.serves port.old).maps ≡ example_maps }
-    requires map { map < 2 }
+    requires map { map < 3 }
     ensures { OnOk result (P.serves port.new ≡ P.serves port.old) }
 {
     let answer = port.delete(map, &key_of(index))?;
@@ -183,16 +195,16 @@ fn answer<P: MapPort>(port: &mut P, ask: Ask) -> Result<Got, JournalFull>
     ensures { OnOk result (P.serves port.new ≡ P.serves port.old) }
 {
     match ask {
-        Ask::Look(map, index) => match look(port, map.min(1), index) {
+        Ask::Look(map, index) => match look(port, map.min(2), index) {
             Ok(handle) => Ok(Got::Handle(handle)),
             Err(full) => Err(full),
         },
-        Ask::Load(map, index) => load(port, map.min(1), index),
-        Ask::Store(map, index, value) => store(port, map.min(1), index, value),
-        Ask::Add(map, index, value) => add(port, map.min(1), index, value),
-        Ask::Swap(map, index, value, expected) => { swap(port, map.min(1), index, value, expected) }
-        Ask::Put(map, index, byte, flags) => put(port, map.min(1), index, byte, flags),
-        Ask::Remove(map, index) => remove(port, map.min(1), index),
+        Ask::Load(map, index) => load(port, map.min(2), index),
+        Ask::Store(map, index, value) => store(port, map.min(2), index, value),
+        Ask::Add(map, index, value) => add(port, map.min(2), index, value),
+        Ask::Swap(map, index, value, expected) => { swap(port, map.min(2), index, value, expected) }
+        Ask::Put(map, index, byte, flags) => put(port, map.min(2), index, byte, flags),
+        Ask::Remove(map, index) => remove(port, map.min(2), index),
     }
 }
 
@@ -288,7 +300,7 @@ const ONE_SHARD: [Row; 3] = [
 /// A run that calls one of two shards enters it once, before its first call, and leaves it at the end.
 #[test]
 fn one_session_in_one_shard(rt: HostRuntime) -> Result<(), Fail> {
-    let image = arrays(rt.alloc())?;
+    let image = example_image(rt.alloc())?;
     let mut shards = Shards::open(rt.alloc(), &image, OPTIONS)?;
     opened_serve();
     assert_eq!(rt; run(&rt, &image, OPTIONS, &mut shards, &ONE_SHARD), None);
@@ -315,7 +327,7 @@ const TWO_SHARDS: [Row; 4] = [
 
 #[test]
 fn one_session_in_each_shard(rt: HostRuntime) -> Result<(), Fail> {
-    let image = arrays(rt.alloc())?;
+    let image = example_image(rt.alloc())?;
     let mut shards = Shards::open(rt.alloc(), &image, OPTIONS)?;
     opened_serve();
     assert_eq!(rt; run(&rt, &image, OPTIONS, &mut shards, &TWO_SHARDS), None);
@@ -339,7 +351,7 @@ fn one_session_in_each_shard(rt: HostRuntime) -> Result<(), Fail> {
 /// With one run inside, the sixteenth entry is its Leave's: the fifteenth call is refused with the shard's number.
 #[test]
 fn last_entry_is_the_leave(rt: HostRuntime) -> Result<(), Fail> {
-    let image = arrays(rt.alloc())?;
+    let image = example_image(rt.alloc())?;
     let mut shards = Shards::open(rt.alloc(), &image, SMALL)?;
     opened_serve();
     let rows: [Row; 15] = [("a lookup", Ask::Look(1, 0), Got::Handle(0x1_0000_0001)); 15];
@@ -375,10 +387,39 @@ const ANSWERS: [Row; 16] = [
 
 #[test]
 fn answers_of_an_array(rt: HostRuntime) -> Result<(), Fail> {
-    let image = arrays(rt.alloc())?;
+    let image = example_image(rt.alloc())?;
     let mut shards = Shards::open(rt.alloc(), &image, OPTIONS)?;
     opened_serve();
     assert_eq!(rt; run(&rt, &image, OPTIONS, &mut shards, &ANSWERS), None);
+    Ok(())
+}
+
+#[rattlefmt::skip]
+const KEYS: [Row; 16] = [
+    ("a key that nobody put",          Ask::Look(2, 7),        Got::Handle(0)),
+    ("none to replace",                Ask::Put(2, 7, 1, 2),   Got::Answer(-2)),
+    ("none to delete",                 Ask::Remove(2, 7),      Got::Answer(-2)),
+    ("is put",                         Ask::Put(2, 7, 1, 0),   Got::Answer(0)),
+    ("the map's first cell",           Ask::Look(2, 7),        Got::Handle(0x2_0000_0001)),
+    ("has the value",                  Ask::Load(2, 7),        Got::Number(0x0101_0101_0101_0101)),
+    ("the key is there under NOEXIST", Ask::Put(2, 7, 9, 1),   Got::Answer(-17)),
+    ("a second key",                   Ask::Put(2, 8, 2, 1),   Got::Answer(0)),
+    ("no room for a third",            Ask::Put(2, 9, 3, 0),   Got::Answer(-7)),
+    ("a number is added",              Ask::Add(2, 8, 1),      Got::Number(0x0202_0202_0202_0202)),
+    ("to that key's value alone",      Ask::Load(2, 7),        Got::Number(0x0101_0101_0101_0101)),
+    ("the first key is deleted",       Ask::Remove(2, 7),      Got::Answer(0)),
+    ("and is gone",                    Ask::Look(2, 7),        Got::Handle(0)),
+    ("the third fits now",             Ask::Put(2, 9, 3, 0),   Got::Answer(0)),
+    ("in a cell of its own",           Ask::Look(2, 9),        Got::Handle(0x2_0000_0003)),
+    ("a key of a hash map is none of the array's", Ask::Look(1, 7), Got::Handle(0)),
+];
+
+#[test]
+fn answers_of_a_hash_map(rt: HostRuntime) -> Result<(), Fail> {
+    let image = example_image(rt.alloc())?;
+    let mut shards = Shards::open(rt.alloc(), &image, OPTIONS)?;
+    opened_serve();
+    assert_eq!(rt; run(&rt, &image, OPTIONS, &mut shards, &KEYS), None);
     Ok(())
 }
 
@@ -404,7 +445,7 @@ fn look_once(
 /// A second run has a session of its own.
 #[test]
 fn one_session_for_each_run(rt: HostRuntime) -> Result<(), Fail> {
-    let image = arrays(rt.alloc())?;
+    let image = example_image(rt.alloc())?;
     let mut shards = Shards::open(rt.alloc(), &image, OPTIONS)?;
     opened_serve();
     assert_eq!(rt; look_once(&image, OPTIONS, &mut shards, 0), Ok(1));
