@@ -3,7 +3,6 @@
 ghost use Rattle.std.specs.Prelude.{◌≡◌, IfOk};
 ghost use Rattle.ebpf_decode.specs.ImageContents.{Contents};
 ghost use Rattle.ebpf_decode.specs.ImageFormat.{IsImageEncoding};
-ghost use Rattle.ebpf_decode.specs.Served.{IsServedImage};
 ghost use Rattle.semantics.specs.Safety.{IsSafeImage};
 ghost use Rattle.verifier.specs.Runnable.{IsRunnable};
 
@@ -25,12 +24,8 @@ pub fn decoded(alloc: Global, bytes: &[u8]) -> Result<Image, u8>
 pub fn accept(alloc: Global, bytes: &[u8]) -> Result<Verified, u8>
     ensures read { IfOk result (λ v. IsImageEncoding bytes.now (record { version = v.version; maps = v.maps; code = v.code })) }
     ensures safe { IfOk result (λ v. IsSafeImage v.maps v.code) }
-    ensures served { IfOk result (λ v. IsServedImage (record { version = v.version; maps = v.maps; code = v.code })) }
 {
-    let image = match decoded(alloc, bytes)?.served() {
-        Ok(image) => image,
-        Err(fault) => return Err(fault.number()),
-    };
+    let image = decoded(alloc, bytes)?;
     match verify(alloc, image) {
         Ok(verified) => Ok(verified),
         Err(reject) => Err(reject.number()),
@@ -41,7 +36,6 @@ pub fn accept(alloc: Global, bytes: &[u8]) -> Result<Verified, u8>
 pub fn accept_to_run(alloc: Global, bytes: &[u8]) -> Result<Verified, u8>
     ensures read { IfOk result (λ v. IsImageEncoding bytes.now (record { version = v.version; maps = v.maps; code = v.code })) }
     ensures safe { IfOk result (λ v. IsSafeImage v.maps v.code) }
-    ensures served { IfOk result (λ v. IsServedImage (record { version = v.version; maps = v.maps; code = v.code })) }
     ensures runnable { IfOk result (λ v. IsRunnable v.code v.states) }
 {
     let verified = accept(alloc, bytes)?;

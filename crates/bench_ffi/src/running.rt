@@ -1,7 +1,6 @@
 //! Runs of an accepted image, each over shards of its own.
 
 ghost use Rattle.std.specs.Prelude.{◌≡◌, ◌≤◌, IfOk, length};
-ghost use Rattle.ebpf_decode.specs.Served.{IsServedImage};
 ghost use Rattle.shard_port.specs.Sessions.{OpenedServe};
 ghost use Rattle.verifier.specs.Runnable.{IsRunnable};
 
@@ -64,17 +63,16 @@ fn frame_of(alloc: Global, bytes: &[u8]) -> Result<Frame, u8>
 /// Opens shards and runs the program on a frame of these bytes, or tells the number of the fault.
 pub fn run_once(alloc: Global, verified: &Verified, bytes: &[u8], journal: u32) -> Result<Ran, u8>
     requires runnable { IsRunnable verified.now.code verified.now.states }
-    requires served { IsServedImage (record { version = verified.now.version; maps = verified.now.maps; code = verified.now.code }) }
 {
     opened_serve();
     let options = options(journal);
-    let mut shards = match Shards::open(alloc, verified.served_image(), options) {
+    let mut shards = match Shards::open(alloc, verified.image(), options) {
         Ok(shards) => shards,
         Err(fault) => return Err(fault.number()),
     };
     let mut frame = frame_of(alloc, bytes)?;
     let _ = frame.bytes();
-    let mut port = PlainPort::over(verified.served_image(), options, &mut shards, 0);
+    let mut port = PlainPort::over(verified.image(), options, &mut shards, 0);
     let ended = run(verified, &mut frame, &MOMENT, &mut port);
     port.finish();
     match ended {
@@ -93,9 +91,8 @@ pub fn prepare_once(
     bytes: &[u8],
     journal: u32,
 ) -> Result<u64, u8>
-    requires { IsServedImage (record { version = verified.now.version; maps = verified.now.maps; code = verified.now.code }) }
 {
-    let shards = match Shards::open(alloc, verified.served_image(), options(journal)) {
+    let shards = match Shards::open(alloc, verified.image(), options(journal)) {
         Ok(shards) => shards,
         Err(fault) => return Err(fault.number()),
     };

@@ -1,7 +1,6 @@
 //! The calls of which the guarantees on runs speak, made in their order.
 
 ghost use Rattle.std.specs.Prelude.{◌≡◌, ◌<◌, IfOk, IfErr};
-ghost use Rattle.ebpf_decode.specs.Served.{IsServedImage};
 ghost use Rattle.semantics.specs.ShardPlan.{AreOptions};
 ghost use Rattle.semantics.specs.MachineState.{initial_state};
 ghost use Rattle.verifier.specs.Runnable.{IsRunnable};
@@ -53,7 +52,6 @@ pub fn worker_run(
     frame: &mut Frame,
 ) -> Result<Exit, Stop>
     requires options { AreOptions verified.now.maps options }
-    requires arrays { IsServedImage (record { version = verified.now.version; maps = verified.now.maps; code = verified.now.code }) }
     requires runnable { IsRunnable verified.now.code verified.now.states }
     requires shards { ServesMaps verified.now.maps options shards.old }
     requires outside { IsOutside moment.now.worker shards.old }
@@ -67,7 +65,7 @@ pub fn worker_run(
 {
     runs_are_their_meaning();
     stopped_runs_are_beginnings();
-    let mut port = PlainPort::over(verified.served_image(), options, shards, moment.worker);
+    let mut port = PlainPort::over(verified.image(), options, shards, moment.worker);
     let ended = run_at(verified, frame, moment, &mut port);
     port.finish();
     ended

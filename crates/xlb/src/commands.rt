@@ -6,7 +6,6 @@ ghost use Rattle.semantics.specs.ShardPlan.{AreOptions};
 ghost use Rattle.semantics.specs.System.{IsInputFrame};
 ghost use Rattle.shards.specs.Opening.{AreOpened};
 ghost use Rattle.disasm.specs.AssemblyText.{IsAssemblyText};
-ghost use Rattle.ebpf_decode.specs.Served.{IsServedImage};
 ghost use Rattle.verifier.specs.Runnable.{IsRunnable};
 ghost use Rattle.xlb.specs.Results.{AreKept, AreOthersKept, IsImageFile, IsChecked, HasRun, IsRun, run_options, IsDisassembled, IsAssembled};
 
@@ -75,25 +74,6 @@ fn judged_of<D: Folder>(alloc: Global, folder: &mut D, name: &str) -> Result<Ver
     }
 }
 
-/// The image of a file, if it may run in this build.
-fn verified_of<D: Folder>(alloc: Global, folder: &mut D, name: &str) -> Result<Verified, Fault>
-    requires { D.failure_count folder.old < 2 ^ 64 - 1 }
-    ensures file { IfOk result (λ verified. IsImageFile (D.holds folder.old) name.now (record { version = verified.version; maps = verified.maps; code = verified.code })) }
-    ensures safe { IfOk result (λ verified. IsSafeImage verified.maps verified.code) }
-    ensures served { IfOk result (λ verified. IsServedImage (record { version = verified.version; maps = verified.maps; code = verified.code })) }
-    ensures kept { AreKept (D.holds folder.old) (D.holds folder.new) }
-    ensures steady { OnOk result (D.failure_count folder.new ≡ D.failure_count folder.old) }
-{
-    let image = match image_of(alloc, folder, name)?.served() {
-        Ok(image) => image,
-        Err(fault) => return Err(Fault::Decode(fault)),
-    };
-    match verify(alloc, image) {
-        Ok(verified) => Ok(verified),
-        Err(reject) => Err(Fault::Program(reject)),
-    }
-}
-
 /// The frame of a file.
 fn frame_of<D: Folder>(alloc: Global, folder: &mut D, name: &str) -> Result<Frame, Fault>
     requires { D.failure_count folder.old < 2 ^ 64 - 1 }
@@ -155,14 +135,13 @@ fn run_over(
     requires opened { AreOpened verified.now.maps run_options shards.old }
     requires options { AreOptions verified.now.maps run_options }
     requires runnable { IsRunnable verified.now.code verified.now.states }
-    requires served { IsServedImage (record { version = verified.now.version; maps = verified.now.maps; code = verified.now.code }) }
     requires headroom { frame.old.headroom ≡ 256 }
     requires worker { moment.now.worker < 8 }
     ensures { IfOk result (λ exit. HasRun (record { version = verified.now.version; maps = verified.now.maps; code = verified.now.code }) frame.old.bytes moment.now.now_ns moment.now.worker
         exit.verdict exit.steps frame.new) }
 {
     opened_serve();
-    let mut port = PlainPort::over(verified.served_image(), OPTIONS, shards, moment.worker);
+    let mut port = PlainPort::over(verified.image(), OPTIONS, shards, moment.worker);
     let stopped = run(verified, frame, moment, &mut port);
     port.finish();
     stopped
@@ -181,14 +160,14 @@ pub fn run_once<D: Folder>(
     ensures done { IfOk result (λ text. IsRun (D.holds folder.old) image.now frame.now now worker (string_bytes text)) }
     ensures kept { AreKept (D.holds folder.old) (D.holds folder.new) }
 {
-    let verified = verified_of(alloc, folder, image)?;
+    let verified = judged_of(alloc, folder, image)?;
     match verified.unrun() {
         Some(reject) => return Err(Fault::Program(reject)),
         None => {}
     }
     let mut frame = frame_of(alloc, folder, frame)?;
     let moment = moment_of(now, worker)?;
-    let mut shards = match Shards::open(alloc, verified.served_image(), OPTIONS) {
+    let mut shards = match Shards::open(alloc, verified.image(), OPTIONS) {
         Ok(shards) => shards,
         Err(fault) => return Err(Fault::Options(fault)),
     };

@@ -1,7 +1,6 @@
 //! Instructions and programs, by the words of a listing, and the runs of them.
 
 ghost use Rattle.std.specs.Prelude.{IfOk};
-ghost use Rattle.ebpf_decode.specs.Served.{IsServedImage};
 
 use ebpf_decode::{Image, Insn, MapDef, MapKind, Version};
 use isa::Register::{R1, R2, R10};
@@ -120,12 +119,11 @@ pub(super) fn accepted(
     head: &[Insn],
     tail: &[Insn],
 ) -> Result<Verified, Fail>
-    ensures { IfOk result (λ v. IsServedImage (record { version = v.version; maps = v.maps; code = v.code })) }
 {
     let mut all_maps = Vec::new(alloc);
     all_maps.extend_from_slice(maps)?;
     let mut code = Vec::new(alloc);
     code.extend_from_slice(head)?;
     code.extend_from_slice(tail)?;
-    Ok(verify(alloc, Image::of(Version::V1, all_maps, code)?.served()?)?)
+    Ok(verify(alloc, Image::of(Version::V1, all_maps, code)?)?)
 }

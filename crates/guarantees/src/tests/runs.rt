@@ -1,7 +1,6 @@
 //! Programs that look keys up, and what they leave in the journals.
 
 ghost use Rattle.std.specs.Prelude.{◌<◌};
-ghost use Rattle.ebpf_decode.specs.Served.{IsServedImage};
 
 use super::programs::{
     ARRAY, EXIT, MOMENT, OPTIONS, SMALL, accepted, add, copy, jump_if, load, look_up, mov, put,
@@ -103,13 +102,12 @@ fn leaves(
     name: &str,
 ) -> Result<(), Fail>
     requires worker { MOMENT.worker < options.workers }
-    requires served { IsServedImage (record { version = verified.now.version; maps = verified.now.maps; code = verified.now.code }) }
 {
     match verified.unrun() {
         Some(reject) => return Err(Fail::from(reject)),
         None => {}
     }
-    let image = verified.served_image();
+    let image = verified.image();
     let mut shards = Shards::open(alloc, image, options)?;
     opened_shards_are_ready();
     let mut frame = Frame::of(alloc, bytes)?;
@@ -309,7 +307,7 @@ const FIRST_ROWS: [(&str, u8, Verdict); 3] = [
 
 #[test]
 fn the_first_image(rt: HostRuntime) -> Result<(), Fail> {
-    let verified = verify(rt.alloc(), decode(rt.alloc(), &FIRST_IMAGE)?.served()?)?;
+    let verified = verify(rt.alloc(), decode(rt.alloc(), &FIRST_IMAGE)?)?;
     let want = found_and_read(0, 8);
     for (name, last, verdict) in FIRST_ROWS {
         let mut bytes = [0; 14];

@@ -19,7 +19,7 @@ returns c =
     (λ exit ends. record {
       before = c.over-port.result;
       opened = subst (AreOpened verified.maps run_options) (sym c.over-port.ensures.shards) c.requires.opened;
-      maps = c.over-port.ensures.maps ∙ c.served_image.ensures.same.0;
+      maps = c.over-port.ensures.maps ∙ c.image.ensures.same.0;
       caller = c.over-port.ensures.worker;
       after = c.run-stopped.new.port;
       ends = subst
