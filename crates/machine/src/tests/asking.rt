@@ -1,13 +1,13 @@
 //! What a run asks of a map by each instruction, and what it makes of the reply, worked out by hand.
 
 use super::programs::{
-    EXIT, MOMENT, accepted, add, call, checked, copy, jump_if, lddw, look_up, mov, put, store,
+    EXIT, MOMENT, accepted, add, call, checked, copy, jump_if, lddw, load, look_up, mov, put, store,
 };
 use super::scripted::{Asked, Replies, ScriptedPort};
 use crate::{Exit, Stop, run};
 use ebpf_decode::{Insn, MapDef, MapKind};
 use isa::Register::{R0, R1, R2, R3, R4, R5, R6, R10};
-use isa::{AtomicOp, Size, Source, Test, Width};
+use isa::{AluOp, AtomicOp, Size, Source, Test, Width};
 use semantics::{Key, Value, Verdict};
 use std::alloc::Global;
 use std::process::Abort;
@@ -270,6 +270,83 @@ fn a_spilled_value(rt: HostRuntime) -> Result<(), Fail> {
         asked,
         &[0xaa; 20],
         "12 bytes in",
+    )
+}
+
+#[rattlefmt::skip]
+const DELETIONS_BY_SPILLED: [(&str, [Insn; 8]); 2] = [
+    ("a spilled map", [
+        Insn::Ldmap { dst: R1, map: 0 },
+        Insn::Stx { size: Size::U64, dst: R10, src: R1, offset: -32 },
+        Insn::St { size: Size::U32, dst: R10, offset: -4, immediate: 7 },
+        Insn::Alu { width: Width::Bits64, op: AluOp::Mov, dst: R2, source: Source::Reg(R10) },
+        Insn::Alu { width: Width::Bits64, op: AluOp::Add, dst: R2, source: Source::Imm(-4) },
+        Insn::Alu { width: Width::Bits64, op: AluOp::Mov, dst: R1, source: Source::Imm(0) },
+        Insn::Ldx { size: Size::U64, dst: R1, src: R10, offset: -32 },
+        Insn::CallHelper { helper: 3 },
+    ]),
+    ("a spilled place of the stack", [
+        Insn::St { size: Size::U32, dst: R10, offset: -4, immediate: 7 },
+        Insn::Alu { width: Width::Bits64, op: AluOp::Mov, dst: R2, source: Source::Reg(R10) },
+        Insn::Alu { width: Width::Bits64, op: AluOp::Add, dst: R2, source: Source::Imm(-4) },
+        Insn::Stx { size: Size::U64, dst: R10, src: R2, offset: -16 },
+        Insn::Alu { width: Width::Bits64, op: AluOp::Mov, dst: R2, source: Source::Imm(0) },
+        Insn::Ldx { size: Size::U64, dst: R2, src: R10, offset: -16 },
+        Insn::Ldmap { dst: R1, map: 0 },
+        Insn::CallHelper { helper: 3 },
+    ]),
+];
+
+/// A map and a place of the stack are what they were when they come back.
+#[test]
+fn spilled_arguments(rt: HostRuntime) -> Result<(), Fail> {
+    for (name, head) in DELETIONS_BY_SPILLED {
+        let asked = Asked::Delete {
+            map: 0,
+            key: key(&[7, 0, 0, 0]),
+        };
+        asks(
+            &rt,
+            rt.alloc(),
+            REPLIES,
+            &head,
+            &[EXIT],
+            ended(Verdict::Pass, 9),
+            asked,
+            &[0xaa; 20],
+            name,
+        )?;
+    }
+    Ok(())
+}
+
+/// So is the packet's end: 20 bytes are there, of which the last is written.
+#[test]
+fn a_spilled_packet_end(rt: HostRuntime) -> Result<(), Fail> {
+    let head = [
+        load(Size::U32, R2, R1, 0),
+        load(Size::U32, R3, R1, 4),
+        store(Size::U64, R10, -8, R3),
+        mov(R3, 0),
+        load(Size::U64, R3, R10, -8),
+        copy(R4, R2),
+        add(R4, 20),
+        mov(R0, 2),
+        jump_if(Test::Gt, R4, Source::Reg(R3), 2),
+    ];
+    let tail = [put(Size::U8, R2, 19, 9), mov(R0, 3), EXIT];
+    let mut bytes = [0xaa; 20];
+    bytes[19] = 9;
+    asks(
+        &rt,
+        rt.alloc(),
+        REPLIES,
+        &head,
+        &tail,
+        ended(Verdict::Tx, 12),
+        Asked::Nothing,
+        &bytes,
+        "the last byte",
     )
 }
 
