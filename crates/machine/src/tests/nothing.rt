@@ -1,4 +1,4 @@
-//! A port of maps in which no key is found and every number is 0.
+//! A port of maps that refuses lookups, and in which every number is 0.
 
 ghost use Rattle.std.specs.Prelude.{◌≡◌};
 
@@ -7,7 +7,7 @@ use isa::AtomicOp;
 use map_port::MapPort;
 use semantics::{JournalFull, Key, Value};
 
-/// The port of an image's maps, one shard each: lookups find nothing, and updates and deletions are answered by -22. It would read 0 from any cell.
+/// The port of an image's maps, one shard each: lookups are refused, and updates and deletions are answered by -22. It would read 0 from any cell.
 #[derive(Drop)]
 pub(super) struct NothingPort<'a> {
     image: &'a Image,
@@ -53,8 +53,8 @@ impl<'a> MapPort for NothingPort<'a> {
 
     ghost replies = { λ before after call reply given. given.1 };
 
-    fn lookup(&mut self, _map: u32, _key: &Key) -> Result<u64, JournalFull> {
-        Ok(0)
+    fn lookup(&mut self, map: u32, _key: &Key) -> Result<u64, JournalFull> {
+        Err(JournalFull { shard: map })
     }
 
     fn load(&mut self, _handle: u64, _offset: u64, _width: u64) -> Result<u64, JournalFull> {

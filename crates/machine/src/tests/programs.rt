@@ -141,7 +141,7 @@ pub(super) struct Outcome {
     pub(super) frame: Frame,
 }
 
-/// A run over a port of the image's maps in which no key is found, on a frame of these bytes.
+/// A run over a port of the image's maps that refuses lookups, on a frame of these bytes.
 pub(super) fn ran(
     alloc: Global,
     verified: &Verified,

@@ -53,7 +53,7 @@ pub(super) struct Replies {
     pub(super) before_refusal: u32,
 }
 
-/// The port of an image's maps, one shard each: every key of map 0 is found, in the cell of handle 1.
+/// The port of an image's maps, one shard each: every key of map 0 is found, in the cell of handle 1, and a lookup in another is refused.
 #[derive(Drop)]
 pub(super) struct ScriptedPort<'a> {
     image: &'a Image,
@@ -125,7 +125,11 @@ impl<'a> MapPort for ScriptedPort<'a> {
         if self.is_refused() {
             return Err(JournalFull { shard: map });
         }
-        if map == 0 { Ok(1) } else { Ok(0) }
+        if map == 0 {
+            Ok(1)
+        } else {
+            Err(JournalFull { shard: map })
+        }
     }
 
     fn load(&mut self, handle: u64, offset: u64, width: u64) -> Result<u64, JournalFull> {
