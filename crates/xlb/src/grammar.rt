@@ -45,10 +45,8 @@ map and does the same on each worker. A program that may not run is refused
 with the first rule that it breaks and the slot of the instruction, counted
 from 0.
 An image of version 2 may besides take addresses in the values of its maps
-(the instruction ldval), and have values of up to 256 bytes. This build runs
-less than it accepts: run also answers 10 to an image of version 2, 11 to a
-hash or LRU map, 36 to a store or an atomic operation on a value of a map, and
-44 to the helpers 2, 3 and 44.";
+(the instruction ldval), and have values of up to 256 bytes. This build does
+not run ldval yet: run answers 47 to the first one.";
 
 const AFTER_RUN: &str = "\
 Prints three lines:
@@ -57,7 +55,7 @@ Prints three lines:
   frame <the frame afterwards, in hexadecimal>
 A dropped frame is thrown away, a passed one goes to the host, and tx sends it
 out; aborted: the program's answer is none of these. The maps are new: the
-elements of an array are zeros.";
+elements of an array are zeros, other maps have no keys.";
 
 const AFTER_DISASM: &str = "\
 Prints `version 1`, a line for each map and a line for each instruction: what
