@@ -1,7 +1,6 @@
 //! Shards as they were opened, before they have names and callers.
 
 ghost use Rattle.std.specs.Prelude.{◌≡◌, ◌≤◌, ◌<◌, ◌+◌, ◌↔◌, false, IfOk, IsErrOf, IsFalse, length, replicate};
-ghost use Rattle.ebpf_decode.specs.Served.{IsServedImage};
 ghost use Rattle.semantics.specs.declared.options.Options.{Options};
 ghost use Rattle.semantics.specs.ShardPlan.{AreOptions};
 ghost use Rattle.shards.specs.Opening.{are_served_options, AreOpened};
@@ -49,7 +48,6 @@ impl Opened {
     /// Opens the shards of the image's maps. Takes all memory that they will ever need, but what `share` and `pass` say. Refused with 51
     /// where the options are none that are served, and with 52 for lack of memory; then nothing is left.
     pub fn open(alloc: Global, image: &Image, options: Options) -> Result<Self, OpenFault>
-        requires served { IsServedImage image.now }
         ensures maps { IfOk result (λ opened. opened.maps ≡ image.now.maps) }
         ensures options { IfOk result (λ opened. opened.options ≡ options) }
         ensures bad_options { IsErrOf result BadOptions ↔ IsFalse (are_served_options image.now.maps options) }

@@ -1,7 +1,6 @@
 //! What no clause says: that shards are opened and passes dealt with memory, and that calls by threads return.
 
 ghost use Rattle.std.specs.Prelude.{IfOk};
-ghost use Rattle.ebpf_decode.specs.Served.{IsServedImage};
 ghost use Rattle.shared_shards.specs.NewShards.{IsNamed};
 
 use crate::{Naming, Opened, Pass, PassFault, Shards};
@@ -17,7 +16,6 @@ use std::thread::{Threads, join};
 
 /// An image of two arrays.
 fn two_maps(alloc: Global) -> Result<Image, Fail>
-    ensures { IfOk result IsServedImage }
 {
     let mut maps = Vec::new(alloc);
     for max_entries in [4, 4096] {
@@ -30,7 +28,7 @@ fn two_maps(alloc: Global) -> Result<Image, Fail>
     }
     let mut code = Vec::new(alloc);
     code.push(Insn::Exit)?;
-    Ok(Image::of(Version::V1, maps, code)?.served()?)
+    Ok(Image::of(Version::V1, maps, code)?)
 }
 
 fn opened(alloc: Global, journal: u32) -> Result<Opened, Fail> {
