@@ -90,8 +90,7 @@ pub fn prepare_once(
     verified: &Verified,
     bytes: &[u8],
     journal: u32,
-) -> Result<u64, u8>
-{
+) -> Result<u64, u8> {
     let shards = match Shards::open(alloc, verified.image(), options(journal)) {
         Ok(shards) => shards,
         Err(fault) => return Err(fault.number()),

@@ -8,4 +8,3 @@ pub mod CodeLaws
 pub mod MapLaws
 pub mod ImageLaws
 pub mod PartLaws
-pub mod ServedLaws

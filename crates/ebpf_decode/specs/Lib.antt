@@ -6,4 +6,3 @@ pub mod InstructionReading
 pub mod MapForm
 pub mod ImageContents
 pub mod ImageFormat
-pub mod Served

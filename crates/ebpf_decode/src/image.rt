@@ -4,7 +4,6 @@ ghost use Rattle.std.specs.Prelude.{◌≡◌, ◌≤◌, ◌↔◌, length, IfO
 ghost use Rattle.std.specs.List.{AllByRecursion};
 ghost use Rattle.ebpf_decode.specs.InstructionEncoding.{FieldsFit, slot_count, total_slots};
 ghost use Rattle.ebpf_decode.specs.ImageContents.{IsEncodable};
-ghost use Rattle.ebpf_decode.specs.Served.{first_unserved_map};
 ghost use Rattle.ebpf_decode.specs.ImageFormat.{fault_of, first_part_fault, or_else, first_bad_map, version_fault, code_fault};
 
 use crate::fault::DecodeFault;
@@ -39,8 +38,6 @@ impl Model for Image {
 }
 
 impl Image {
-    ghost use Rattle.ebpf_decode.specs.Served.{IsServedImage, AreServedParts, unserved_fault};
-
     /// An image of parts that the format encodes.
     pub(crate) fn new(version: Version, maps: Vec<MapDef>, code: Vec<Insn>) -> Image
         requires { IsEncodable version maps.items code.items }
@@ -91,36 +88,6 @@ impl Image {
         &self.code
     }
 
-    /// The image, where this build runs it, or the fault with which it is turned away: 10 for version 2, 11 for the
-    /// first map that is no array with values of at most 64 bytes. It takes no memory; a refused image is dropped.
-    pub fn served(self) -> Result<Image, DecodeFault>
-        ensures taken { IfOk result (λ image. (image ≡ self) × IsServedImage image) }
-        ensures fault { fault_of result ≡ unserved_fault self }
-    {
-        match self.unserved() {
-            None => Ok(self),
-            Some(fault) => Err(fault),
-        }
-    }
-
-    fn unserved(&self) -> Option<DecodeFault>
-        ensures fault { result ≡ unserved_fault self.now }
-        ensures served { IsNone result ↔ IsServedImage self.now }
-    {
-        match self.version {
-            Version::V1 => first_unserved_map(&self.maps),
-            Version::V2 => Some(DecodeFault::BadHead),
-        }
-    }
-
-    /// The fact of what holds of a served image's maps and program.
-    pub fn served_parts(&self)
-        requires { IsServedImage self.now }
-        ensures { AreServedParts self.now.maps self.now.code }
-    {
-        let _ = self.version();
-    }
-
     /// How many slots the program takes: 1 to 4096.
     pub fn slots(&self) -> usize
         ensures slots { result ≡ total_slots self.now.code }
@@ -161,19 +128,6 @@ fn first_bad_map(version: Version, maps: &[MapDef]) -> Option<DecodeFault>
 {
     for place in 0..maps.len() {
         if !maps[place].is_allowed(version) {
-            return Some(DecodeFault::BadMap { map: place as u32 });
-        }
-    }
-    None
-}
-
-/// The fault of the first map that this build does not serve.
-fn first_unserved_map(maps: &[MapDef]) -> Option<DecodeFault>
-    requires { length maps.now ≤ 16 }
-    ensures { result ≡ first_unserved_map 0 maps.now }
-{
-    for place in 0..maps.len() {
-        if !maps[place].is_served() {
             return Some(DecodeFault::BadMap { map: place as u32 });
         }
     }

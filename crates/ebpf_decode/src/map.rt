@@ -2,7 +2,6 @@
 
 ghost use Rattle.std.specs.Prelude.{◌≡◌, ◌≤◌, length};
 ghost use Rattle.ebpf_decode.specs.MapForm.{map_type, map_kind_at, is_key_size, is_value_size, is_entry_count, is_allowed_map, allowed, map_at};
-ghost use Rattle.ebpf_decode.specs.Served.{is_served_map};
 
 use crate::version::Version;
 
@@ -66,13 +65,6 @@ impl MapKind {
 }
 
 impl MapDef {
-    /// Whether this build runs images with the map: an array with values of at most 64 bytes.
-    pub fn is_served(self) -> bool
-        ensures { result ≡ is_served_map self }
-    {
-        self.kind == MapKind::Array && self.is_allowed(Version::V1)
-    }
-
     /// Whether an image of this version may have the map: a key has 1 to 32 bytes (of an array: 4), a value 8, 16, .. 64 (in
     /// version 2: to 256), and it has 1 to 131072 entries.
     pub fn is_allowed(self, version: Version) -> bool

@@ -342,26 +342,6 @@ fn addresses_in_values(rt: HostRuntime) -> Result<(), Fail> {
     Ok(())
 }
 
-/// The number of the fault with which an image of one map is turned away, or 0.
-fn unserved(alloc: Global, version: Version, map: MapDef) -> Result<u8, Fail> {
-    let mut maps = Vec::new(alloc);
-    maps.push(map)?;
-    let mut code = Vec::new(alloc);
-    code.push(Insn::Exit)?;
-    match Image::of(version, maps, code)?.served() {
-        Ok(_) => Ok(0),
-        Err(fault) => Ok(fault.number()),
-    }
-}
-
-#[test]
-fn images_that_do_not_run_yet(rt: HostRuntime) -> Result<(), Fail> {
-    assert_eq!(rt; unserved(rt.alloc(), Version::V1, ARRAY)?, 0, "an array");
-    assert_eq!(rt; unserved(rt.alloc(), Version::V1, HASH)?, 11, "a hash");
-    assert_eq!(rt; unserved(rt.alloc(), Version::V2, ARRAY)?, 10, "version 2");
-    Ok(())
-}
-
 #[rattlefmt::skip]
 const HEADS: [(&str, [u8; 8], u8); 10] = [
     ("head alone",           [0x58, 0x4c, 0x42, 0x50, 1, 0, 0, 0],    12),

@@ -15,8 +15,7 @@ use std::test::Fail;
 use std::thread::{Threads, join};
 
 /// An image of two arrays.
-fn two_maps(alloc: Global) -> Result<Image, Fail>
-{
+fn two_maps(alloc: Global) -> Result<Image, Fail> {
     let mut maps = Vec::new(alloc);
     for max_entries in [4, 4096] {
         maps.push(MapDef {

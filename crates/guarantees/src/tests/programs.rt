@@ -118,8 +118,7 @@ pub(super) fn accepted(
     maps: &[MapDef],
     head: &[Insn],
     tail: &[Insn],
-) -> Result<Verified, Fail>
-{
+) -> Result<Verified, Fail> {
     let mut all_maps = Vec::new(alloc);
     all_maps.extend_from_slice(maps)?;
     let mut code = Vec::new(alloc);

@@ -1,7 +1,6 @@
 //! Instructions and programs, by the words of a listing, and the runs of them.
 
 ghost use Rattle.std.specs.Prelude.{◌<◌, IfOk};
-ghost use Rattle.ebpf_decode.specs.Served.{IsServedImage};
 
 use super::nothing::NothingPort;
 use crate::{Exit, Moment, run};
