@@ -1,4 +1,6 @@
-//! What no clause says: that the program is made where there is memory, and that it is accepted.
+//! What no clause says: that the program is made where there is memory, that it is accepted, and that it steers frames.
+
+mod runs;
 
 use crate::shipped;
 use conntrack::SteerFault;
