@@ -423,16 +423,16 @@ const ACCEPTED: [(&str, &[Insn], bool); 16] = [
     ("a moved head only reads",                   &[BACK_20, MOVE_HEAD, PASS, EXIT], true),
 ];
 
-/// The first instruction of an accepted program that this build does not execute.
+/// Accepted programs of version 1: all of it is executed.
 #[rattlefmt::skip]
-const UNRUN: [(&str, &[Insn], Option<Reject>); 7] = [
-    ("a lookup and a load are executed",  &[KEY, KEY_AT, KEY_DOWN, MAP, LOOKUP, JEQ_NULL, VALUE, PASS, EXIT], None),
-    ("the time and the worker",           &[TIME, WORKER, EXIT], None),
-    ("no update",                         &[KEY, CHANGED_VALUE, KEY_AT, KEY_DOWN, VALUE_AT, VALUE_DOWN, FLAGS, MAP, UPDATE, PASS, EXIT], Some(Reject::UnknownHelper { slot: 9 })),
-    ("no deletion",                       &[KEY, KEY_AT, KEY_DOWN, MAP, DELETE, EXIT], Some(Reject::UnknownHelper { slot: 5 })),
-    ("no moved head",                     &[BACK_20, MOVE_HEAD, PASS, EXIT], Some(Reject::UnknownHelper { slot: 1 })),
-    ("no store to a value",               &[KEY, KEY_AT, KEY_DOWN, MAP, LOOKUP, JEQ_NULL, STORE_VALUE, PASS, EXIT], Some(Reject::WrongKind { slot: 7, register: 0 })),
-    ("no atomic operation",               &[KEY, KEY_AT, KEY_DOWN, MAP, LOOKUP, JEQ_NULL_3, ONE, FETCH_ADD, COUNT, EXIT], Some(Reject::WrongKind { slot: 8, register: 0 })),
+const RUN: [(&str, &[Insn]); 7] = [
+    ("a lookup and a load",               &[KEY, KEY_AT, KEY_DOWN, MAP, LOOKUP, JEQ_NULL, VALUE, PASS, EXIT]),
+    ("the time and the worker",           &[TIME, WORKER, EXIT]),
+    ("an update",                         &[KEY, CHANGED_VALUE, KEY_AT, KEY_DOWN, VALUE_AT, VALUE_DOWN, FLAGS, MAP, UPDATE, PASS, EXIT]),
+    ("a deletion",                        &[KEY, KEY_AT, KEY_DOWN, MAP, DELETE, EXIT]),
+    ("a moved head",                      &[BACK_20, MOVE_HEAD, PASS, EXIT]),
+    ("a store to a value",                &[KEY, KEY_AT, KEY_DOWN, MAP, LOOKUP, JEQ_NULL, STORE_VALUE, PASS, EXIT]),
+    ("an atomic operation",               &[KEY, KEY_AT, KEY_DOWN, MAP, LOOKUP, JEQ_NULL_3, ONE, FETCH_ADD, COUNT, EXIT]),
 ];
 
 #[rattlefmt::skip]
@@ -543,10 +543,10 @@ fn maps_of_every_kind(rt: HostRuntime) -> Result<(), Fail> {
 }
 
 #[test]
-fn unrun(rt: HostRuntime) -> Result<(), Fail> {
-    for (name, code, wanted) in UNRUN {
+fn version_1_is_run(rt: HostRuntime) -> Result<(), Fail> {
+    for (name, code) in RUN {
         match verify(rt.alloc(), image_of(rt.alloc(), code)?) {
-            Ok(verified) => assert_eq!(rt; verified.unrun(), wanted, "{name}"),
+            Ok(verified) => assert!(rt; verified.unrun().is_none(), "{name}"),
             Err(reject) => assert!(rt; false, "{name}: {reject}"),
         }
     }

@@ -1,6 +1,6 @@
 //! Runs of the shipped program on one frame, over maps that hold what the rows say.
 
-ghost use Rattle.std.specs.Prelude.{◌≡◌, ◌<◌, ◌≤◌, OnOk, IfOk, length};
+ghost use Rattle.std.specs.Prelude.{◌≡◌, ◌<◌, All, IfSome, OnOk, length, slice_get};
 
 use crate::shipped;
 use ebpf_decode::MapDef;
@@ -29,6 +29,37 @@ const MOMENT: Moment = Moment {
 /// What one map holds under one key.
 type Record = (u32, &'static [u8], &'static [u8]);
 
+/// The map at a place.
+fn definition_at(maps: &[MapDef], map: u32) -> Option<MapDef>
+    ensures { result ≡ slice_get maps.now map }
+{
+    maps.get(map as usize).copied()
+}
+
+/// A key of this size.
+fn key_of(bytes: &[u8], size: u32) -> Option<Key>
+    ensures size { IfSome result (λ key. length key ≡ size) }
+    ensures bytes { IfSome result (λ key. All (λ byte. byte < 256) key) }
+{
+    if bytes.len() == size as usize {
+        Key::of(bytes)
+    } else {
+        None
+    }
+}
+
+/// A value of this size.
+fn value_of(bytes: &[u8], size: u32) -> Option<Value>
+    ensures size { IfSome result (λ value. length value ≡ size) }
+    ensures bytes { IfSome result (λ value. All (λ byte. byte < 256) value) }
+{
+    if bytes.len() == size as usize {
+        Value::of(bytes)
+    } else {
+        None
+    }
+}
+
 /// Sets the value of a key, if both have the map's sizes.
 fn put<P: MapPort>(
     port: &mut P,
@@ -40,17 +71,16 @@ fn put<P: MapPort>(
     requires { (P.serves port.old).maps ≡ maps.now }
     ensures { OnOk result (P.serves port.new ≡ P.serves port.old) }
 {
-    if map as usize >= maps.len() {
+    let Some(definition) = definition_at(maps, map) else {
         return Ok(false);
-    }
-    let definition = maps[map as usize];
-    if key.len() != definition.key_size as usize || value.len() != definition.value_size as usize {
+    };
+    let Some(key) = key_of(key, definition.key_size) else {
         return Ok(false);
-    }
-    match (Key::of(key), Value::of(value)) {
-        (Some(key), Some(value)) => Ok(port.update(map, &key, &value, 0)? == 0),
-        _ => Ok(false),
-    }
+    };
+    let Some(value) = value_of(value, definition.value_size) else {
+        return Ok(false);
+    };
+    Ok(port.update(map, &key, &value, 0)? == 0)
 }
 
 /// Sets the values of all these keys.
