@@ -4,7 +4,6 @@ ghost use Rattle.std.specs.Prelude.{◌≡◌, IfOk};
 ghost use Rattle.ebpf_decode.specs.ImageContents.{Contents};
 ghost use Rattle.ebpf_decode.specs.ImageFormat.{IsImageEncoding};
 ghost use Rattle.semantics.specs.Safety.{IsSafeImage};
-ghost use Rattle.verifier.specs.Runnable.{IsRunnable};
 
 use ebpf_decode::{Image, decode};
 use std::alloc::Global;
@@ -29,18 +28,5 @@ pub fn accept(alloc: Global, bytes: &[u8]) -> Result<Verified, u8>
     match verify(alloc, image) {
         Ok(verified) => Ok(verified),
         Err(reject) => Err(reject.number()),
-    }
-}
-
-/// The same of an image that the machine of this build executes.
-pub fn accept_to_run(alloc: Global, bytes: &[u8]) -> Result<Verified, u8>
-    ensures read { IfOk result (λ v. IsImageEncoding bytes.now (record { version = v.version; maps = v.maps; code = v.code })) }
-    ensures safe { IfOk result (λ v. IsSafeImage v.maps v.code) }
-    ensures runnable { IfOk result (λ v. IsRunnable v.code v.states) }
-{
-    let verified = accept(alloc, bytes)?;
-    match verified.unrun() {
-        Some(reject) => Err(reject.number()),
-        None => Ok(verified),
     }
 }

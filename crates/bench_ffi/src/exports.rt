@@ -1,6 +1,6 @@
 //! What C calls. A result is 0, or the number of the fault that stopped the call.
 
-use crate::accept::{accept, accept_to_run, decoded};
+use crate::accept::{accept, decoded};
 use crate::running::{number, prepare_once, run_once};
 use std::alloc::Global;
 
@@ -51,7 +51,7 @@ pub extern "C" fn bench_ffi_run(
     journal: u32,
     outcome: &mut Outcome,
 ) -> u8 {
-    let verified = match accept_to_run(alloc, image) {
+    let verified = match accept(alloc, image) {
         Ok(verified) => verified,
         Err(fault) => return fault,
     };
@@ -78,7 +78,7 @@ pub extern "C" fn bench_ffi_prepare(
     journal: u32,
     outcome: &mut Outcome,
 ) -> u8 {
-    let verified = match accept_to_run(alloc, image) {
+    let verified = match accept(alloc, image) {
         Ok(verified) => verified,
         Err(fault) => return fault,
     };

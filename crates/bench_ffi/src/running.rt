@@ -2,7 +2,6 @@
 
 ghost use Rattle.std.specs.Prelude.{◌≡◌, ◌≤◌, IfOk, length};
 ghost use Rattle.shard_port.specs.Sessions.{OpenedServe};
-ghost use Rattle.verifier.specs.Runnable.{IsRunnable};
 
 use machine::{Exit, Moment, run};
 use semantics::{Options, Verdict};
@@ -61,9 +60,7 @@ fn frame_of(alloc: Global, bytes: &[u8]) -> Result<Frame, u8>
 }
 
 /// Opens shards and runs the program on a frame of these bytes, or tells the number of the fault.
-pub fn run_once(alloc: Global, verified: &Verified, bytes: &[u8], journal: u32) -> Result<Ran, u8>
-    requires runnable { IsRunnable verified.now.code verified.now.states }
-{
+pub fn run_once(alloc: Global, verified: &Verified, bytes: &[u8], journal: u32) -> Result<Ran, u8> {
     opened_serve();
     let options = options(journal);
     let mut shards = match Shards::open(alloc, verified.image(), options) {

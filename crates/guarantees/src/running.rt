@@ -3,7 +3,6 @@
 ghost use Rattle.std.specs.Prelude.{◌≡◌, ◌<◌, IfOk, IfErr};
 ghost use Rattle.semantics.specs.ShardPlan.{AreOptions};
 ghost use Rattle.semantics.specs.MachineState.{initial_state};
-ghost use Rattle.verifier.specs.Runnable.{IsRunnable};
 ghost use Rattle.machine.specs.Running.{program_of, Ends, StopsSo};
 ghost use Rattle.shard_port.specs.PlainPorts.{maps_of, PortGives, PortRefuses};
 ghost use Rattle.shard_port.specs.PortView.{ServesMaps};
@@ -26,7 +25,6 @@ fn run_at(
     port: &mut PlainPort,
 ) -> Result<Exit, Stop>
     requires maps { port.old.image.now.maps ≡ verified.now.maps }
-    requires runnable { IsRunnable verified.now.code verified.now.states }
     requires headroom { frame.old.headroom ≡ 256 }
     requires worker { moment.now.worker < 8 }
     ensures exit { IfOk result (λ exit. Ends PortGives (program_of verified.now port.old.options.shards)
@@ -52,7 +50,6 @@ pub fn worker_run(
     frame: &mut Frame,
 ) -> Result<Exit, Stop>
     requires options { AreOptions verified.now.maps options }
-    requires runnable { IsRunnable verified.now.code verified.now.states }
     requires shards { ServesMaps verified.now.maps options shards.old }
     requires outside { IsOutside moment.now.worker shards.old }
     requires worker { moment.now.worker < 8 }

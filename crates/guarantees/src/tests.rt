@@ -1,4 +1,5 @@
 //! Programs that call maps, run over shards.
 
+mod addresses;
 mod programs;
 mod runs;

@@ -14,6 +14,7 @@ pub mod LoadLemmas
 pub mod CellLemmas
 pub mod StoreLemmas
 pub mod AtomicLemmas
+pub mod AddressLemmas
 pub mod LookupLemmas
 pub mod UpdateLemmas
 pub mod ArithmeticLemmas

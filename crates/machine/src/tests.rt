@@ -2,6 +2,7 @@
 
 ghost use Rattle.std.specs.Prelude.{◌<◌};
 
+mod addresses;
 mod arithmetic;
 mod asking;
 mod memory;

@@ -49,7 +49,7 @@ sizes_at [] map definition each known = cc
 sizes_at (first ∷ rest) zero definition each known = let same : first ≡ definition = cc in subst HasImageSizes same each.0
 sizes_at (first ∷ rest) (suc map) definition each known = sizes_at rest map definition each.1 known
 
-some_same : (one other : MapDef) → Some one ≡ Some other → one ≡ other
+pub some_same : (one other : MapDef) → Some one ≡ Some other → one ≡ other
 some_same one other same = cc
 
 pub index_size_prop : (kind : MapKind) (size : ℕ) → IsProp (IsIndexSize kind size)
@@ -109,15 +109,15 @@ small_keyed plan history key few short =
     small_present plan key (shard_after plan history).present few
     (each_weaker (λ (one : PresentKey). one.cell < length (shard_after plan history).cells) (λ (one : PresentKey). one.cell < 2 ^ 32) (λ one below. omega (arith, below, short)) (shard_after plan history).present (sound_after plan history).present)
 
-small_of_kind : (kind : MapKind) (plan : ShardPlan) (history : List Entry) (key : List ℕ) → plan.definition.kind ≡ kind → plan.number < 128 → plan.definition.max_entries ≤ 131072 → length history < 2 ^ 32 → has_small_cell (lookup_reply plan (cell_of_kind kind plan (shard_after plan history) key)) ≡ true
+pub small_of_kind : (kind : MapKind) (plan : ShardPlan) (history : List Entry) (key : List ℕ) → plan.definition.kind ≡ kind → plan.number < 128 → plan.definition.max_entries ≤ 131072 → length history < 2 ^ 32 → has_small_cell (lookup_reply plan (cell_of_kind kind plan (shard_after plan history) key)) ≡ true
 small_of_kind Hash plan history key is few entries short = small_keyed plan history key few (few_cells plan history Hash is refl short)
 small_of_kind Array plan history key is few entries short = small_index plan (number_of_bytes key) few entries
 small_of_kind LruHash plan history key is few entries short = small_keyed plan history key few (few_cells plan history LruHash is refl short)
 
-not_over : (most count : ℕ) → nat_lt most count ≡ false → count ≤ most
+pub not_over : (most count : ℕ) → nat_lt most count ≡ false → count ≤ most
 not_over most count is = grind (arith, nat_tests)
 
-plan_reserve : (options : Options) (number : ℕ) (definition : Option MapDef) (plan : ShardPlan) → plan_for_map options number definition ≡ Some plan → plan.reserve ≡ options.journal
+pub plan_reserve : (options : Options) (number : ℕ) (definition : Option MapDef) (plan : ShardPlan) → plan_for_map options number definition ≡ Some plan → plan.reserve ≡ options.journal
 plan_reserve options number None plan is = cc
 plan_reserve options number (Some definition) plan is =
     let same : (record { number = number; part = number % options.shards; parts = options.shards; definition = definition; workers = options.workers; reserve = options.journal }) ≡ plan = cc in
@@ -143,7 +143,7 @@ small_lookup maps options worker before number key reply after ready among =
 
 -- ---- lookups
 
-found_again : (plan : ShardPlan) (found : Option ℕ) → has_small_cell (lookup_reply plan found) ≡ true → lookup_reply plan found ≡ found_reply cell_of_handle (handle_of (lookup_reply plan found))
+pub found_again : (plan : ShardPlan) (found : Option ℕ) → has_small_cell (lookup_reply plan found) ≡ true → lookup_reply plan found ≡ found_reply cell_of_handle (handle_of (lookup_reply plan found))
 found_again plan None small = refl
 found_again plan (Some id) small =
     let low : IsTrue (nat_lt id (2 ^ 32)) = second_true (nat_lt plan.number 128) (nat_lt id (2 ^ 32)) small in
@@ -185,7 +185,7 @@ may_be_absent maps options worker before number key reply after is_ready among n
     (λ (ready : IsReady maps options worker before). absurd (absent_where maps options worker before number key reply after ready among none map definition known array own first)) in
     absurd (false≢true impossible)
 
-found_formed : (served : Maps) (plan : ShardPlan) (number : ℕ) (key : List ℕ) (found : Option ℕ) → plan.number ≡ number → (found ≡ None → MayBeAbsent (program_over served) number key) →
+pub found_formed : (served : Maps) (plan : ShardPlan) (number : ℕ) (key : List ℕ) (found : Option ℕ) → plan.number ≡ number → (found ≡ None → MayBeAbsent (program_over served) number key) →
     IsReplyTo (program_over served) (Lookup number key) (lookup_reply plan found)
 found_formed served plan number key None same absent = absent refl
 found_formed served plan number key (Some id) same absent = same

@@ -6,3 +6,9 @@ pub mod GivenLemmas
 pub mod SessionLemmas
 pub mod PlainLaws
 pub mod TestLemmas
+pub mod PassAskLemmas
+pub mod PassMetLemmas
+pub mod PassGivenLemmas
+pub mod PassSessionLemmas
+pub mod shared
+pub mod PassMethods

@@ -62,10 +62,10 @@ below_count map maps parts part of_map of_part =
     let next : suc map * parts ≡ map * parts + parts = suc-mul map parts in
     omega (arith, more, next, of_part)
 
-flags_test : (flags : ℕ) → flags < 2 ^ 64 → are_flags flags ≡ true
+pub flags_test : (flags : ℕ) → flags < 2 ^ 64 → are_flags flags ≡ true
 flags_test flags few = grind (arith, nat_tests)
 
-same_test : (a b : ℕ) → a ≡ b → (a == b) ≡ true
+pub same_test : (a b : ℕ) → a ≡ b → (a == b) ≡ true
 same_test a b same = grind (arith, nat_tests)
 
 pub record IsAtKey (maps : List MapDef) (options : Options) (worker : ℕ) (shards : List JournaledShard) (map : ℕ) (key : List ℕ) : Type 0
@@ -184,7 +184,7 @@ at_cell maps options worker shards map cell ready handed =
       definition = ap (slice_get maps) (sym place) ∙ plan.4;
     }
 
-in_cell_of : (maps : List MapDef) (map : ℕ) (plan : ShardPlan) (offset width : ℕ) → slice_get maps map ≡ Some plan.definition →
+pub in_cell_of : (maps : List MapDef) (map : ℕ) (plan : ShardPlan) (offset width : ℕ) → slice_get maps map ≡ Some plan.definition →
     offset + width ≤ value_size_of (slice_get maps map) → is_in_cell plan offset width ≡ true
 in_cell_of maps map plan offset width defined inside =
     let size : value_size_of (slice_get maps map) ≡ plan.definition.value_size = ap value_size_of defined in
@@ -218,10 +218,10 @@ at_place maps options worker shards cell offset width ready readable =
       in_cell = in_cell_of maps readable.map at.shard.plan offset width at.definition readable.inside;
     }
 
-fits_test : (value width : ℕ) → value < 256 ^ width → fits_width value width ≡ true
+pub fits_test : (value width : ℕ) → value < 256 ^ width → fits_width value width ≡ true
 fits_test value width fits = grind (arith, nat_tests)
 
-known_op : (op : AtomicOp) → is_some (atomic_op_of (atomic_code op)) ≡ true
+pub known_op : (op : AtomicOp) → is_some (atomic_op_of (atomic_code op)) ≡ true
 known_op AtomicAdd = refl
 known_op AtomicOr = refl
 known_op AtomicAnd = refl

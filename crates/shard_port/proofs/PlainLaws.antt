@@ -143,7 +143,7 @@ copies : (count : ℕ) (value : List ℕ) → AreBytes value → AllByRecursion 
 copies zero value bytes = tt
 copies (suc count) value bytes = (bytes, copies count value bytes)
 
-opening_bytes : (kind : MapKind) (plan : ShardPlan) → AllByRecursion AreBytes (opening_cells kind plan)
+pub opening_bytes : (kind : MapKind) (plan : ShardPlan) → AllByRecursion AreBytes (opening_cells kind plan)
 opening_bytes Array plan = copies (capacity plan) (replicate plan.definition.value_size 0) (zeros plan.definition.value_size)
 opening_bytes Hash plan = tt
 opening_bytes LruHash plan = tt

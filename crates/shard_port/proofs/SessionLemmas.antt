@@ -13,22 +13,10 @@ use Rattle.shard_core.specs.JournaledShard.{JournaledShard, with_entry}
 use Rattle.map_port.specs.Exchanges.{Exchange, IsChain}
 use Rattle.shard_port.specs.Asking.{is_in, enter_entry, leave_entry, entered, left, asked_entry, all_left}
 use Rattle.shard_port.specs.PortView.{PortView, IsRunCall, IsGivenBy}
-use Rattle.shard_port.specs.PortLaws.{same_worker, append_none, newest_first, stays_entered, set_here}
+use Rattle.shard_port.specs.PortLaws.{same_worker, inside_after_call, append_none, newest_first, stays_entered, set_here}
 use Rattle.shard_port.specs.Sessions.{entry_of, is_at, entries_at, begun, session, with_entries}
 
 -- ---- inside and outside
-
-inside_after_call : (worker : ℕ) (call : Call) (reply : Reply) (history : List Entry) → IsRunCall call → is_inside worker history ≡ true →
-    is_inside worker (asked_entry worker call reply ∷ history) ≡ true
-inside_after_call worker (Enter shard) reply history run inside = absurd run
-inside_after_call worker (Leave shard) reply history run inside = absurd run
-inside_after_call worker (Reclaim shard) reply history run inside = absurd run
-inside_after_call worker (Lookup shard key) reply history run inside = rw (same_worker worker) inside
-inside_after_call worker (Load at offset width) reply history run inside = rw (same_worker worker) inside
-inside_after_call worker (Store at offset width value) reply history run inside = rw (same_worker worker) inside
-inside_after_call worker (Atomic at offset width op value expected) reply history run inside = rw (same_worker worker) inside
-inside_after_call worker (Update shard key value flags) reply history run inside = rw (same_worker worker) inside
-inside_after_call worker (Delete shard key) reply history run inside = rw (same_worker worker) inside
 
 inside_with : (worker : ℕ) (shard : JournaledShard) (call : Call) (reply : Reply) → IsRunCall call → is_in worker shard ≡ true →
     is_in worker (with_entry shard (asked_entry worker call reply)) ≡ true

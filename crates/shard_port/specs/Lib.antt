@@ -4,3 +4,6 @@ pub mod PortLaws
 pub mod PlainPorts
 pub mod Sessions
 pub mod ExampleMaps
+pub mod PassPorts
+pub mod PassPortLaws
+pub mod PassSessions

@@ -66,6 +66,19 @@ held_after_call worker cell (Atomic at offset width op value expected) reply his
 held_after_call worker cell (Update shard key value flags) reply history run held = rw (same_worker worker) held
 held_after_call worker cell (Delete shard key) reply history run held = rw (same_worker worker) held
 
+-- nor ends its section
+pub inside_after_call : (worker : ℕ) (call : Call) (reply : Reply) (history : List Entry) → IsRunCall call → is_inside worker history ≡ true →
+    is_inside worker (asked_entry worker call reply ∷ history) ≡ true
+inside_after_call worker (Enter shard) reply history run inside = absurd run
+inside_after_call worker (Leave shard) reply history run inside = absurd run
+inside_after_call worker (Reclaim shard) reply history run inside = absurd run
+inside_after_call worker (Lookup shard key) reply history run inside = rw (same_worker worker) inside
+inside_after_call worker (Load at offset width) reply history run inside = rw (same_worker worker) inside
+inside_after_call worker (Store at offset width value) reply history run inside = rw (same_worker worker) inside
+inside_after_call worker (Atomic at offset width op value expected) reply history run inside = rw (same_worker worker) inside
+inside_after_call worker (Update shard key value flags) reply history run inside = rw (same_worker worker) inside
+inside_after_call worker (Delete shard key) reply history run inside = rw (same_worker worker) inside
+
 -- the newest entry stands first in the history
 pub newest_first : (shard : JournaledShard) (entry : Entry) → reverse (with_entry shard entry).journal ≡ entry ∷ reverse shard.journal
 newest_first shard entry = reverse-append shard.journal (entry ∷ [])

@@ -1,5 +1,6 @@
-//! Laws of plain ports: each is the contract of a function that does nothing.
+//! Laws of ports: each is the contract of a function that does nothing.
 
+ghost use Rattle.shard_port.specs.PassSessions.{WritesOwnSessions, WritesRefusedOwnSessions};
 ghost use Rattle.shard_port.specs.Sessions.{WritesSessions, WritesRefusedSessions, StaysOnePort, IsOutsideAll, LeavesOthersAlone, OpenedServe, OpenedAreOutside, CallsKeepServing};
 
 /// From a port whose worker is outside a shard: what the shard was asked and what it answered is what its journal then has more,
@@ -43,4 +44,16 @@ pub fn opened_are_outside()
 /// Shards of the maps stay that by every call that sets bytes, whoever makes it.
 pub fn calls_keep_serving()
     ensures { CallsKeepServing }
+{}
+
+/// From a pass whose worker is outside the shards: what a run asked of each shard and what it was answered is, between an Enter and a Leave,
+/// what the worker's own entries have more once the port is finished.
+pub fn own_entries_are_sessions()
+    ensures { WritesOwnSessions }
+{}
+
+/// The same where the run ended because a call was refused: then the refused call's shard may have an Enter and a Leave more, with no call
+/// between; and its journal was full for the call, or for the Enter where the run had not entered it.
+pub fn own_entries_after_a_refusal()
+    ensures { WritesRefusedOwnSessions }
 {}

@@ -1,10 +1,12 @@
-//! The port of a single caller over the shards of an image's maps.
+//! Ports over the shards of an image's maps: of a single caller, and of a worker's pass.
 #![tactic(auto)]
 
 pub mod laws;
 pub mod plain;
+pub mod port;
 #[cfg(test)]
 mod tests;
 
 pub use map_port::MapPort;
 pub use plain::PlainPort;
+pub use port::ShardPort;

@@ -220,7 +220,7 @@ impl<'a> MapPort for PlainPort<'a> {
 }
 
 /// The map at a place.
-fn definition_at(maps: &[MapDef], map: u32) -> MapDef
+pub(crate) fn definition_at(maps: &[MapDef], map: u32) -> MapDef
     requires { map < length maps.now }
     ensures { slice_get maps.now map ≡ Some result }
 {
@@ -228,7 +228,7 @@ fn definition_at(maps: &[MapDef], map: u32) -> MapDef
 }
 
 /// The number of the shard of a key, in a map of this kind with so many shards.
-fn shard_of_kind(map: u32, kind: MapKind, parts: u32, key: &Key) -> u32
+pub(crate) fn shard_of_kind(map: u32, kind: MapKind, parts: u32, key: &Key) -> u32
     requires map { map ≤ 16 }
     requires parts { 0 < parts }
     requires few { parts ≤ 8 }
@@ -240,7 +240,7 @@ fn shard_of_kind(map: u32, kind: MapKind, parts: u32, key: &Key) -> u32
 }
 
 /// The cell that a handle stands for.
-fn cell_of_handle(handle: u64) -> CellRef
+pub(crate) fn cell_of_handle(handle: u64) -> CellRef
     ensures { result ≡ cell_of_handle handle }
 {
     let place = handle.saturating_sub(1);

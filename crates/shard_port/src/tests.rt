@@ -1,5 +1,7 @@
 //! Rows that call a port.
 
+mod passes;
+
 ghost use Rattle.std.specs.Prelude.{◌≡◌, ◌<◌, ◌≤◌, IfOk, OnOk, All, length};
 ghost use Rattle.semantics.specs.ShardPlan.{AreOptions};
 ghost use Rattle.map_port.specs.Served.{IsReadable};

@@ -1,3 +1,4 @@
+pub mod shared
 pub mod Badges
 pub mod Callers
 pub mod Settling

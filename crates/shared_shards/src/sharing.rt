@@ -2,8 +2,11 @@
 
 ghost use Rattle.std.specs.Prelude.{◌≡◌, ◌<◌, ◌≤◌, IfOk, IfErr, OnErr};
 ghost use Rattle.semantics.specs.History.{meets, shard_of_call};
+ghost use Rattle.semantics.specs.ShardPlan.{AreOptions};
+ghost use Rattle.journals.specs.JournalsView.{AreImageMaps};
 ghost use Rattle.shared_shards.specs.CallerView.{HasLooked};
 ghost use Rattle.shared_shards.specs.Passes.{view_at, own_at, IsElsewhereSame};
+ghost use Rattle.shared_shards.specs.SharedMaps.{ArePlans};
 ghost use Rattle.shared_shards.specs.Asked.{MayAsk, MayAskInside, IsAnswered, IsTurnedAway, EnteredAndAnswered, IsStopped};
 ghost use Rattle.semantics.specs.declared.call.Call.TheVariants.{Enter};
 
@@ -49,6 +52,30 @@ impl<B: Naming> Shards<B> {
         ensures { result ≡ B.count }
     {
         self.desks.len()
+    }
+
+    /// The maps that the shards were opened for.
+    pub fn maps(&self) -> &[MapDef]
+        ensures { result.now ≡ self.now.maps }
+    {
+        &self.maps
+    }
+
+    /// The options that the shards were opened with.
+    pub fn options(&self) -> Options
+        ensures { result ≡ self.now.options }
+    {
+        self.options
+    }
+
+    /// The shards are those of the maps, as many and each with the plan that the options give it. The function does nothing: it brings this
+    /// fact into a proof.
+    pub fn planned(&self)
+        ensures plans { ArePlans self.now.maps self.now.options B.count B.plan }
+        ensures options { AreOptions self.now.maps self.now.options }
+        ensures maps { AreImageMaps self.now.maps }
+    {
+        let _count = self.desks.len();
     }
 
     /// Makes a call of any kind that the pass's caller may make: one step of the one-thread shard and one entry of its journal, whatever

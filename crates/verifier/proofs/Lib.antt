@@ -19,4 +19,3 @@ pub mod AskingLemmas
 pub mod FlatLemmas
 pub mod ResolvingLemmas
 pub mod AnswerLemmas
-pub mod RunnableLemmas

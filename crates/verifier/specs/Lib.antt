@@ -8,4 +8,3 @@ pub mod Flat
 pub mod Pending
 pub mod Stops
 pub mod Answers
-pub mod Runnable

@@ -9,7 +9,6 @@ mod pending;
 mod reader;
 mod reject;
 pub mod resolved;
-mod runnable;
 mod verified;
 
 pub use op::Op;

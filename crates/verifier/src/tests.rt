@@ -423,18 +423,6 @@ const ACCEPTED: [(&str, &[Insn], bool); 16] = [
     ("a moved head only reads",                   &[BACK_20, MOVE_HEAD, PASS, EXIT], true),
 ];
 
-/// Accepted programs of version 1: all of it is executed.
-#[rattlefmt::skip]
-const RUN: [(&str, &[Insn]); 7] = [
-    ("a lookup and a load",               &[KEY, KEY_AT, KEY_DOWN, MAP, LOOKUP, JEQ_NULL, VALUE, PASS, EXIT]),
-    ("the time and the worker",           &[TIME, WORKER, EXIT]),
-    ("an update",                         &[KEY, CHANGED_VALUE, KEY_AT, KEY_DOWN, VALUE_AT, VALUE_DOWN, FLAGS, MAP, UPDATE, PASS, EXIT]),
-    ("a deletion",                        &[KEY, KEY_AT, KEY_DOWN, MAP, DELETE, EXIT]),
-    ("a moved head",                      &[BACK_20, MOVE_HEAD, PASS, EXIT]),
-    ("a store to a value",                &[KEY, KEY_AT, KEY_DOWN, MAP, LOOKUP, JEQ_NULL, STORE_VALUE, PASS, EXIT]),
-    ("an atomic operation",               &[KEY, KEY_AT, KEY_DOWN, MAP, LOOKUP, JEQ_NULL_3, ONE, FETCH_ADD, COUNT, EXIT]),
-];
-
 #[rattlefmt::skip]
 const REFUSED: [(&str, &[Insn], Reject); 28] = [
     ("no verdict",                          &[EXIT], Reject::UnsetRegister { slot: 0, register: 0 }),
@@ -538,17 +526,6 @@ fn maps_of_every_kind(rt: HostRuntime) -> Result<(), Fail> {
             Err(reject) => Some(reject),
         };
         assert_eq!(rt; reject, wanted, "{name}");
-    }
-    Ok(())
-}
-
-#[test]
-fn version_1_is_run(rt: HostRuntime) -> Result<(), Fail> {
-    for (name, code) in RUN {
-        match verify(rt.alloc(), image_of(rt.alloc(), code)?) {
-            Ok(verified) => assert!(rt; verified.unrun().is_none(), "{name}"),
-            Err(reject) => assert!(rt; false, "{name}: {reject}"),
-        }
     }
     Ok(())
 }

@@ -110,21 +110,6 @@ fn addresses_in_values(rt: HostRuntime) -> Result<(), Fail> {
     Ok(())
 }
 
-/// An accepted program whose address in a value this build does not execute yet.
-#[test]
-fn addresses_are_not_run_yet(rt: HostRuntime) -> Result<(), Fail> {
-    let mut maps = Vec::new(rt.alloc());
-    maps.extend_from_slice(&[map(MapKind::Array, 8)])?;
-    let mut code = Vec::new(rt.alloc());
-    let first = load(Size::U64, Register::R0, Register::R6, 0);
-    code.extend_from_slice(&[address(0, 0), first, EXIT])?;
-    match verify(rt.alloc(), Image::of(Version::V2, maps, code)?) {
-        Ok(verified) => { assert_eq!(rt; verified.unrun(), Some(Reject::UnknownMap { slot: 0 })) }
-        Err(reject) => assert!(rt; false, "{reject}"),
-    }
-    Ok(())
-}
-
 #[test]
 fn offsets_of_an_interval(rt: HostRuntime) -> Result<(), Fail> {
     use Register::{R0, R1, R2, R3, R4, R5, R6};

@@ -112,9 +112,20 @@ pub(super) fn look_up(key: i32) -> [Insn; 5] {
     ]
 }
 
-/// An accepted image of the maps and a program in two parts.
+/// An accepted image of version 1, of the maps and a program in two parts.
 pub(super) fn accepted(
     alloc: Global,
+    maps: &[MapDef],
+    head: &[Insn],
+    tail: &[Insn],
+) -> Result<Verified, Fail> {
+    accepted_in(alloc, Version::V1, maps, head, tail)
+}
+
+/// The same of a version.
+pub(super) fn accepted_in(
+    alloc: Global,
+    version: Version,
     maps: &[MapDef],
     head: &[Insn],
     tail: &[Insn],
@@ -124,5 +135,5 @@ pub(super) fn accepted(
     let mut code = Vec::new(alloc);
     code.extend_from_slice(head)?;
     code.extend_from_slice(tail)?;
-    Ok(verify(alloc, Image::of(Version::V1, all_maps, code)?)?)
+    Ok(verify(alloc, Image::of(version, all_maps, code)?)?)
 }

@@ -20,7 +20,7 @@ use std::test::Fail;
 use verifier::{Verified, verify};
 use wire::Frame;
 
-fn exit(verdict: Verdict, steps: u64) -> Exit {
+pub(super) fn exit(verdict: Verdict, steps: u64) -> Exit {
     Exit { verdict, steps }
 }
 
@@ -41,23 +41,23 @@ fn says(rt: &impl Abort, shards: &mut Shards, number: u32, want: &[(Call, Reply)
     }
 }
 
-fn enter(shard: u32) -> (Call, Reply) {
+pub(super) fn enter(shard: u32) -> (Call, Reply) {
     (Call::Enter { shard }, Reply::Entered)
 }
 
-fn leave(shard: u32) -> (Call, Reply) {
+pub(super) fn leave(shard: u32) -> (Call, Reply) {
     (Call::Leave { shard }, Reply::Left)
 }
 
 /// A lookup of an array's index.
-fn lookup(shard: u32, index: u8, reply: Reply) -> (Call, Reply) {
+pub(super) fn lookup(shard: u32, index: u8, reply: Reply) -> (Call, Reply) {
     let mut key = Key::empty();
     let bytes = [index, 0, 0, 0];
     key.append(&bytes);
     (Call::Lookup { shard, key }, reply)
 }
 
-fn found(shard: u32, id: u64) -> Reply {
+pub(super) fn found(shard: u32, id: u64) -> Reply {
     Reply::Cell {
         cell: CellRef { shard, id },
     }
@@ -90,7 +90,7 @@ fn not_found(index: u8) -> [(Call, Reply); 3] {
 }
 
 /// A run over shards of its own comes to this, and leaves the frame as it was, and these entries in the journal of a shard.
-fn leaves(
+pub(super) fn leaves(
     rt: &impl Abort,
     alloc: Global,
     verified: &Verified,
@@ -103,10 +103,6 @@ fn leaves(
 ) -> Result<(), Fail>
     requires worker { MOMENT.worker < options.workers }
 {
-    match verified.unrun() {
-        Some(reject) => return Err(Fail::from(reject)),
-        None => {}
-    }
     let image = verified.image();
     let mut shards = Shards::open(alloc, image, options)?;
     opened_shards_are_ready();

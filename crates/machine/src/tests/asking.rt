@@ -12,6 +12,7 @@ use semantics::{Key, Value, Verdict};
 use std::alloc::Global;
 use std::process::Abort;
 use std::test::Fail;
+use verifier::Verified;
 use wire::Frame;
 
 /// One hash map of keys of four bytes and values of 16.
@@ -22,7 +23,7 @@ const HASH: [MapDef; 1] = [MapDef {
     max_entries: 8,
 }];
 
-const REPLIES: Replies = Replies {
+pub(super) const REPLIES: Replies = Replies {
     number: 3,
     answer: 2,
     before_refusal: 100,
@@ -41,13 +42,23 @@ fn asks(
     name: &str,
 ) -> Result<(), Fail> {
     let verified = accepted(alloc, &HASH, head, tail)?;
-    match verified.unrun() {
-        Some(reject) => return Err(Fail::from(reject)),
-        None => {}
-    }
+    asks_by(rt, alloc, &verified, replies, want, asked, bytes, name)
+}
+
+/// The same of an accepted program.
+pub(super) fn asks_by(
+    rt: &impl Abort,
+    alloc: Global,
+    verified: &Verified,
+    replies: Replies,
+    want: Result<Exit, Stop>,
+    asked: Asked,
+    bytes: &[u8],
+    name: &str,
+) -> Result<(), Fail> {
     let mut port = ScriptedPort::over(verified.image(), replies);
     let mut frame = Frame::of(alloc, &[0xaa; 20])?;
-    let ended = run(&verified, &mut frame, &MOMENT, &mut port);
+    let ended = run(verified, &mut frame, &MOMENT, &mut port);
     assert_eq!(rt; ended, want, "{name}");
     assert_eq!(rt; port.asked(), asked, "{name}");
     assert_eq!(rt; frame.bytes(), bytes, "{name}");
@@ -69,7 +80,7 @@ fn found() -> [Insn; 8] {
     ]
 }
 
-fn ended(verdict: Verdict, steps: u64) -> Result<Exit, Stop> {
+pub(super) fn ended(verdict: Verdict, steps: u64) -> Result<Exit, Stop> {
     Ok(Exit { verdict, steps })
 }
 

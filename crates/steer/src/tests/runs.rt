@@ -203,10 +203,6 @@ fn steered(
 ) -> Result<Verdict, Fail>
     requires { frame.old.headroom ≡ 256 }
 {
-    match verified.unrun() {
-        Some(reject) => return Err(Fail::from(reject)),
-        None => {}
-    }
     let image = verified.image();
     let mut shards = Shards::open(alloc, image, OPTIONS)?;
     opened_serve();

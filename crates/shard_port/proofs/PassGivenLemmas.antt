@@ -1,0 +1,223 @@
+-- What the calls of a pass's port give: the replies of a legal history.
+use Rattle.std.proofs.Common.{◌≡◌, ℕ, zero, suc, ◌+◌, ◌*◌, ◌/◌, ◌^◌, ◌<◌, ◌≤◌, Bool, true, false, ◌&&◌, List, [], ◌∷◌, ◌++◌, length, Option, Some, None, arith, refl, sym, ◌∙◌, ap, subst}
+use Rattle.std.specs.Prelude.{◌==◌, IsTrue, slice_get}
+use Rattle.std.specs.List.{AllByRecursion}
+use Rattle.std.proofs.lemmas.Bool.Decides.{nat_tests}
+use Rattle.std.proofs.lemmas.List.Elements.{recursion_from_All}
+use Rattle.std.proofs.Math.Nat.{mul-le-mul_right}
+use Rattle.ebpf_decode.specs.declared.map.MapDef.{MapDef}
+use Rattle.ebpf_decode.specs.declared.version.Version.TheVariants.{V2}
+use Rattle.semantics.specs.declared.options.Options.{Options}
+use Rattle.semantics.specs.declared.plan.ShardPlan.{ShardPlan}
+use Rattle.semantics.specs.declared.call.Caller.{Caller}
+use Rattle.semantics.specs.declared.call.Caller.TheVariants.{Worker}
+use Rattle.semantics.specs.declared.call.CellRef.{CellRef}
+use Rattle.semantics.specs.declared.call.Call.{Call}
+use Rattle.semantics.specs.declared.call.Call.TheVariants.{Enter, Leave, Lookup, Load, Store, Atomic, Update, Delete, Reclaim}
+use Rattle.semantics.specs.declared.call.Reply.{Reply}
+use Rattle.semantics.specs.declared.call.Reply.TheVariants.{Word}
+use Rattle.semantics.specs.declared.call.Entry.{Entry}
+use Rattle.semantics.specs.ShardPlan.{AreOptions}
+use Rattle.semantics.specs.PlanLimits.{HasImageSizes}
+use Rattle.semantics.specs.Reclamation.{inside_count}
+use Rattle.semantics.specs.SequentialShard.{shard_after, cell_of_key, lookup_reply, reply_of}
+use Rattle.semantics.specs.History.{shard_of_call, meets, meets_part, may_change_keys, is_own_key, is_value, are_flags, are_bytes, IsLegalStep, IsLegalHistory}
+use Rattle.semantics.specs.RunTrace.{IsReplyTo, MayBeAbsent}
+use Rattle.semantics.proofs.ConditionLemmas.{first_true, second_true, tested_bytes}
+use Rattle.semantics.proofs.FirstElement.{nothing_found}
+use Rattle.semantics.proofs.ImageSizes.{image_sizes}
+use Rattle.journals.specs.JournalsView.{AreImageMaps}
+use Rattle.map_port.specs.Served.{Maps, program_over, found_reply}
+use Rattle.shared_shards.specs.CallerView.{CallerView}
+use Rattle.shared_shards.specs.Passes.{PassView, view_at, IsElsewhereSame}
+use Rattle.shared_shards.specs.SharedMaps.{ArePlans}
+use Rattle.shared_shards.proofs.shared.Keys as keys
+use Rattle.shard_port.specs.Asking.{asked_entry}
+use Rattle.shard_port.specs.PortView.{AreBytes, SetsBytes, IsRunCall, cell_of_handle, handle_of, has_small_cell, word_in}
+use Rattle.shard_port.specs.PassPorts.{PassPort, worker_of, entering, is_worker_below, IsAskedAt, IsGivenBy, IsRefusedBy, IsTurnedAwayAt}
+use Rattle.shard_port.proofs.ByteLemmas.{cells_after_call, number_in_cell-below}
+use Rattle.shard_port.proofs.ReadyLemmas.{plan_number}
+use Rattle.shard_port.proofs.MayAskLemmas.{served_by}
+use Rattle.shard_port.proofs.GivenLemmas.{sizes_at, small_of_kind, not_over, plan_reserve, found_again, found_formed}
+use Rattle.shard_port.proofs.PlainLaws.{opening_bytes}
+use Rattle.shard_port.proofs.PassAskLemmas.{is_worker}
+
+-- ---- legal histories hold bytes
+
+sets_bytes : (plan : ShardPlan) (history : List Entry) (who : Caller) (call : Call) → IsTrue (meets plan history who call) → SetsBytes call
+sets_bytes plan history who (Enter shard) met = tt
+sets_bytes plan history who (Leave shard) met = tt
+sets_bytes plan history who (Lookup shard key) met = tt
+sets_bytes plan history who (Load cell offset width) met = tt
+sets_bytes plan history who (Store cell offset width value) met = tt
+sets_bytes plan history who (Atomic cell offset width op value expected) met = tt
+sets_bytes plan history who (Update shard key value flags) met =
+    let part : IsTrue ((may_change_keys plan history who && is_own_key plan key) && (is_value plan value && are_flags flags)) =
+    second_true (shard == plan.number) _ met in
+    let set : IsTrue (is_value plan value && are_flags flags) = second_true (may_change_keys plan history who && is_own_key plan key) _ part in
+    let value_is : IsTrue (is_value plan value) = first_true (is_value plan value) (are_flags flags) set in
+    let bytes : are_bytes value ≡ true = second_true (length value == plan.definition.value_size) (are_bytes value) value_is in
+    recursion_from_All (λ byte. byte < 256) value (tested_bytes value bytes)
+sets_bytes plan history who (Delete shard key) met = tt
+sets_bytes plan history who (Reclaim shard) met = tt
+
+legal_bytes : (plan : ShardPlan) (history : List Entry) → IsLegalHistory plan history →
+    AllByRecursion AreBytes (shard_after plan history).cells
+legal_bytes plan [] legal = opening_bytes plan.definition.kind plan
+legal_bytes plan (entry ∷ older) legal =
+    cells_after_call plan older (shard_after plan older) entry.call
+    (sets_bytes plan older entry.who entry.call legal.0.step.met) (legal_bytes plan older legal.1)
+
+-- ---- the history in which the call was answered
+
+-- what the caller had seen when its call was answered
+pub older_of : {plan : ShardPlan} {number worker : ℕ} {before after : CallerView} {call : Call} {reply : Reply} →
+    IsAskedAt plan number worker before after call reply → List Entry
+older_of {plan} {number} {worker} {before} asked = entering worker number before.own ++ asked.earlier
+
+pub legal_step : (plan : ShardPlan) (number worker : ℕ) (before after : CallerView) (call : Call) (reply : Reply) →
+    (asked : IsAskedAt plan number worker before after call reply) →
+    IsLegalStep plan (entering worker number before.own ++ asked.earlier) (asked_entry worker call reply) ×
+    IsLegalHistory plan (entering worker number before.own ++ asked.earlier)
+legal_step plan number worker before after call reply asked = subst (IsLegalHistory plan) asked.seen asked.legal
+
+pub answered : (plan : ShardPlan) (number worker : ℕ) (before after : CallerView) (call : Call) (reply : Reply) →
+    (asked : IsAskedAt plan number worker before after call reply) →
+    reply ≡ reply_of plan (entering worker number before.own ++ asked.earlier)
+    (shard_after plan (entering worker number before.own ++ asked.earlier)) call
+answered plan number worker before after call reply asked = (legal_step plan number worker before after call reply asked).0.step.replied
+
+-- ---- lookups
+
+few_shards : (maps : List MapDef) (options : Options) (count : ℕ) (plan : ℕ → ShardPlan) → ArePlans maps options count plan →
+    AreOptions maps options → AreImageMaps maps → count ≤ 128
+few_shards maps options count plan plans are image =
+    let counted : count ≡ length maps * options.shards = plans.count_is in
+    let at_most : length maps * options.shards ≤ 16 * options.shards = mul-le-mul_right options.shards image.few in
+    let parts : options.shards ≤ 8 = keys.few_parts maps options are in
+    omega (arith, counted, at_most, parts)
+
+pub record IsSmallShard (options : Options) (plan : ShardPlan) (number : ℕ) (maps : List MapDef) : Type 0 where
+  pub below : plan.number < 128
+  pub sizes : HasImageSizes plan.definition
+  pub short : plan.reserve ≤ 1048576
+  pub numbered : plan.number ≡ number
+  pub defined : slice_get maps (number / options.shards) ≡ Some plan.definition
+
+pub small_shard : (maps : List MapDef) (options : Options) (count : ℕ) (plan : ℕ → ShardPlan) (number : ℕ) → ArePlans maps options count plan →
+    AreOptions maps options → AreImageMaps maps → number < count → IsSmallShard options (plan number) number maps
+small_shard maps options count plan number plans are image within =
+    let planned = plan_number options number (slice_get maps (number / options.shards)) (plan number) (plans.each number within) in
+    let few : count ≤ 128 = few_shards maps options count plan plans are image in
+    let same : (plan number).number ≡ number = planned.0 in
+    let reserve : (plan number).reserve ≡ options.journal =
+    plan_reserve options number (slice_get maps (number / options.shards)) (plan number) (plans.each number within) in
+    let most : options.journal ≤ 1048576 = are.greatest_journal in
+    record {
+      below = omega (arith, within, few, same);
+      sizes = sizes_at maps (number / options.shards) (plan number).definition (image_sizes V2 maps image.allowed) planned.4;
+      short = omega (arith, reserve, most);
+      numbered = same;
+      defined = planned.4;
+    }
+
+pub small_lookup : (maps : List MapDef) (options : Options) (count : ℕ) (plan : ℕ → ShardPlan) (number worker : ℕ)
+    (before after : CallerView) (key : List ℕ) (reply : Reply) → ArePlans maps options count plan → AreOptions maps options →
+    AreImageMaps maps → number < count → IsAskedAt (plan number) number worker before after (Lookup number key) reply →
+    IsTrue (has_small_cell reply)
+small_lookup maps options count plan number worker before after key reply plans are image within asked =
+    let at = small_shard maps options count plan number plans are image within in
+    let history : List Entry = entering worker number before.own ++ asked.earlier in
+    let step = legal_step (plan number) number worker before after (Lookup number key) reply asked in
+    let room : length history + inside_count history + 0 + 1 ≤ (plan number).reserve =
+    not_over (plan number).reserve (length history + inside_count history + 0 + 1) step.0.room in
+    let most : (plan number).reserve ≤ 1048576 = at.short in
+    let short : length history < 2 ^ 32 = omega (arith, room, most) in
+    let small : has_small_cell (lookup_reply (plan number) (cell_of_key (plan number) (shard_after (plan number) history) key)) ≡ true =
+    small_of_kind (plan number).definition.kind (plan number) history key refl at.below at.sizes.most_entries short in
+    subst (λ (one : Reply). has_small_cell one ≡ true)
+    (sym (answered (plan number) number worker before after (Lookup number key) reply asked)) small
+
+pub found_told : (plan : ShardPlan) (number worker : ℕ) (before after : CallerView) (key : List ℕ) (reply : Reply) →
+    IsTrue (has_small_cell reply) → IsAskedAt plan number worker before after (Lookup number key) reply →
+    reply ≡ found_reply cell_of_handle (handle_of reply)
+found_told plan number worker before after key reply small asked =
+    let history : List Entry = entering worker number before.own ++ asked.earlier in
+    let is : reply ≡ lookup_reply plan (cell_of_key plan (shard_after plan history) key) =
+    answered plan number worker before after (Lookup number key) reply asked in
+    subst (λ (one : Reply). one ≡ found_reply cell_of_handle (handle_of one)) (sym is)
+    (found_again plan (cell_of_key plan (shard_after plan history) key) (subst (λ (one : Reply). has_small_cell one ≡ true) is small))
+
+pub lookup_formed : (maps : List MapDef) (options : Options) (count : ℕ) (plan : ℕ → ShardPlan) (number worker : ℕ)
+    (before after : CallerView) (key : List ℕ) (reply : Reply) → ArePlans maps options count plan → AreOptions maps options →
+    AreImageMaps maps → number < count → IsAskedAt (plan number) number worker before after (Lookup number key) reply →
+    IsReplyTo (program_over (served_by maps options)) (Lookup number key) reply
+lookup_formed maps options count plan number worker before after key reply plans are image within asked =
+    let at = small_shard maps options count plan number plans are image within in
+    let history : List Entry = entering worker number before.own ++ asked.earlier in
+    subst (IsReplyTo (program_over (served_by maps options)) (Lookup number key))
+    (sym (answered (plan number) number worker before after (Lookup number key) reply asked))
+    (found_formed (served_by maps options) (plan number) number key (cell_of_key (plan number) (shard_after (plan number) history) key)
+    at.numbered (λ none. nothing_found (program_over (served_by maps options)) (plan number) (shard_after (plan number) history) number key
+    (keys.some_part maps options are) at.defined at.sizes.some_entries none))
+
+-- ---- words
+
+pub word_below : (plan : ShardPlan) (number worker : ℕ) (before after : CallerView) (cell : CellRef) (offset width value : ℕ) →
+    IsAskedAt plan number worker before after (Load cell offset width) (Word value) → value < 256 ^ width
+word_below plan number worker before after cell offset width value asked =
+    let history : List Entry = entering worker number before.own ++ asked.earlier in
+    let legal = legal_step plan number worker before after (Load cell offset width) (Word value) asked in
+    subst (λ (one : Reply). word_in one < 256 ^ width)
+    (sym (answered plan number worker before after (Load cell offset width) (Word value) asked))
+    (number_in_cell-below (shard_after plan history) cell.id offset width (legal_bytes plan history legal.1))
+
+pub changed_below : (plan : ShardPlan) (number worker : ℕ) (before after : CallerView) (cell : CellRef)
+    (offset width op value expected old : ℕ) →
+    IsAskedAt plan number worker before after (Atomic cell offset width op value expected) (Word old) → old < 256 ^ width
+changed_below plan number worker before after cell offset width op value expected old asked =
+    let history : List Entry = entering worker number before.own ++ asked.earlier in
+    let legal = legal_step plan number worker before after (Atomic cell offset width op value expected) (Word old) asked in
+    subst (λ (one : Reply). word_in one < 256 ^ width)
+    (sym (answered plan number worker before after (Atomic cell offset width op value expected) (Word old) asked))
+    (number_in_cell-below (shard_after plan history) cell.id offset width (legal_bytes plan history legal.1))
+
+-- ---- together
+
+pub given_by : (maps maps' : List MapDef) (options options' : Options) (count : ℕ) (plan : ℕ → ShardPlan) (before after : PassView)
+    (call : Call) (reply told : Reply) → maps' ≡ maps → options' ≡ options → AreOptions maps options →
+    IsTrue (is_worker_below options.workers before.who) → shard_of_call call < count → IsElsewhereSame (shard_of_call call) before after →
+    IsRunCall call →
+    IsReplyTo (program_over (served_by maps options)) call told → reply ≡ told →
+    IsAskedAt (plan (shard_of_call call)) (shard_of_call call) (worker_of before.who) (view_at before (shard_of_call call))
+    (view_at after (shard_of_call call)) call reply →
+    IsGivenBy plan count (record { served = served_by maps options; pass = before }) call told
+    (record { served = served_by maps' options'; pass = after })
+given_by maps maps' options options' count plan before after call reply told same_maps same_options are below within elsewhere run formed is asked =
+    record {
+      same_maps = ap (λ ms. served_by ms options') same_maps ∙ ap (λ os. served_by maps os) same_options;
+      some_shard = keys.some_part maps options are;
+      within = within;
+      elsewhere = elsewhere;
+      is_worker = is_worker options.workers before.who below;
+      run_call = run;
+      formed = formed;
+      asked =
+          subst (λ (one : Reply). IsAskedAt (plan (shard_of_call call)) (shard_of_call call) (worker_of before.who)
+          (view_at before (shard_of_call call)) (view_at after (shard_of_call call)) call one) is asked;
+    }
+
+pub refused_by : (maps maps' : List MapDef) (options options' : Options) (count : ℕ) (plan : ℕ → ShardPlan) (before after : PassView)
+    (call : Call) → maps' ≡ maps → options' ≡ options → IsTrue (is_worker_below options.workers before.who) → shard_of_call call < count →
+    IsElsewhereSame (shard_of_call call) before after →
+    IsTurnedAwayAt (plan (shard_of_call call)) (shard_of_call call) (worker_of before.who) (view_at before (shard_of_call call))
+    (view_at after (shard_of_call call)) call →
+    IsRefusedBy plan count (record { served = served_by maps options; pass = before }) call
+    (record { served = served_by maps' options'; pass = after })
+refused_by maps maps' options options' count plan before after call same_maps same_options below within elsewhere away = record {
+  same_maps = ap (λ ms. served_by ms options') same_maps ∙ ap (λ os. served_by maps os) same_options;
+  within = within;
+  elsewhere = elsewhere;
+  is_worker = is_worker options.workers before.who below;
+  turned_away = away;
+}

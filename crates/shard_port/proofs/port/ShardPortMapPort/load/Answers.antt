@@ -1,0 +1,34 @@
+use Rattle.std.proofs.Common.{◌≡◌, ◌<◌, refl, sym, ap, ◌∙◌, rules}
+use Rattle.shared_shards.specs.Passes.{PassView}
+use Rattle.shard_port.proofs.PassMethods.{Stands, cell_within, met_load, load_given, cell_refused}
+use Rattle.shard_port.proofs.port.ShardPortMapPort.load.Goals as goal
+use Rattle.semantics.specs.declared.call.Call.TheVariants.{Load}
+
+pub ask-requires-clause-shard : goal.ask-requires-clause-shard
+ask-requires-clause-shard g c =
+    cell_within g.B.Naming.count g.B.Naming.plan c.args.self.now.shards.now c.args.self.now.pass.now c.args.handle c.cell_of_handle-cell.result c.args.offset c.args.width
+    (record { plans = c.planned.ensures.plans; options = c.planned.ensures.options; maps = c.planned.ensures.maps; below = c.args.self.now.ready })
+    c.cell_of_handle-cell.ensures c.requires
+
+pub ask-requires-clause-met : goal.ask-requires-clause-met
+ask-requires-clause-met g c =
+    met_load g.B.Naming.count g.B.Naming.plan c.args.self.now.shards.now c.args.self.now.pass.now c.args.handle c.cell_of_handle-cell.result c.args.offset c.args.width
+    (record { plans = c.planned.ensures.plans; options = c.planned.ensures.options; maps = c.planned.ensures.maps; below = c.args.self.now.ready })
+    c.cell_of_handle-cell.ensures c.requires
+
+pub returns-in-Ok-clause-gives : goal.returns-in-Ok-clause-gives
+returns-in-Ok-clause-gives g c = (
+  c.ask.ensures.same_pass,
+  load_given g.B.Naming.count g.B.Naming.plan c.args.self.now.shards.now c.ask.new.self.shards.now c.args.self.now.pass.now c.ask.new.self.pass.now c.args.handle c.cell_of_handle-cell.result c.args.offset c.args.width c.in-Ok.number
+      (record { plans = c.planned.ensures.plans; options = c.planned.ensures.options; maps = c.planned.ensures.maps; below = c.args.self.now.ready }) (ap (λ shards. shards.now) c.ask.ensures.same_shards) c.cell_of_handle-cell.ensures
+      c.ask.ensures.elsewhere c.requires c.in-Ok.ensures.answered,
+)
+
+pub returns-in-Err-clause-refuses : goal.returns-in-Err-clause-refuses
+returns-in-Err-clause-refuses g c = (
+  c.ask.ensures.same_pass,
+  cell_refused g.B.Naming.count g.B.Naming.plan c.args.self.now.shards.now c.ask.new.self.shards.now c.args.self.now.pass.now c.ask.new.self.pass.now c.args.handle c.cell_of_handle-cell.result c.args.offset c.args.width
+      (λ one. Load one c.args.offset c.args.width) (λ one. refl)
+      (record { plans = c.planned.ensures.plans; options = c.planned.ensures.options; maps = c.planned.ensures.maps; below = c.args.self.now.ready }) (ap (λ shards. shards.now) c.ask.ensures.same_shards) c.cell_of_handle-cell.ensures
+      c.ask.ensures.elsewhere c.requires c.in-Err.ensures.turned_away,
+)

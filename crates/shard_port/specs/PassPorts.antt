@@ -1,0 +1,127 @@
+-- A worker's port over shards that many callers share: what its calls give, by the worker's pass. Own entries and histories have the
+-- newest entry first.
+use Rattle.std.specs.Prelude.{◌≡◌, ◌⊎◌, ℕ, ◌<◌, ◌/◌, ◌==◌, Bool, true, false, ◌&&◌, nat_lt, List, [], ◌∷◌, ◌++◌, if◌then◌else◌, IsTrue, IsFalse}
+use Rattle.semantics.specs.declared.call.Caller.{Caller}
+use Rattle.semantics.specs.declared.call.Caller.TheVariants.{Worker}
+use Rattle.semantics.specs.declared.call.Call.{Call}
+use Rattle.semantics.specs.declared.call.Call.TheVariants.{Enter}
+use Rattle.semantics.specs.declared.call.Reply.{Reply}
+use Rattle.semantics.specs.declared.call.Entry.{Entry}
+use Rattle.semantics.specs.declared.plan.ShardPlan.{ShardPlan}
+use Rattle.semantics.specs.Reclamation.{is_inside, holds}
+use Rattle.semantics.specs.History.{shard_of_call, Meets, IsLegalHistory, IsJournalFull}
+use Rattle.semantics.specs.RunTrace.{IsReplyTo}
+use Rattle.map_port.specs.Served.{Maps, program_over}
+use Rattle.shared_shards.specs.CallerView.{CallerView, BeginsWith, IsServed, IsRefused}
+use Rattle.shared_shards.specs.Passes.{PassView, view_at, own_at, IsElsewhereSame, is_inside_of}
+use Rattle.shared_shards.specs.SharedMaps.{SharedMaps}
+use Rattle.shard_port.specs.Asking.{enter_entry, leave_entry, asked_entry}
+use Rattle.shard_port.specs.PortView.{IsRunCall}
+
+-- the caller is a worker of a number below this
+abbrev pub is_worker_below : ℕ → Caller → Bool
+is_worker_below most (Worker number) = nat_lt number most
+is_worker_below most who = false
+
+-- the worker's number
+abbrev pub worker_of : Caller → ℕ
+worker_of (Worker number) = number
+worker_of who = 0
+
+-- ---- entering and leaving
+
+-- the entry by which the worker enters, if it is not inside
+abbrev pub entering : ℕ → ℕ → List Entry → List Entry
+entering worker number own = if is_inside worker own then [] else enter_entry worker number ∷ []
+
+-- its own entries, once it is inside
+abbrev pub inside_own : ℕ → ℕ → List Entry → List Entry
+inside_own worker number own = entering worker number own ++ own
+
+-- ---- one shard
+
+-- the shard answered the call, which the worker entered before where it was outside: the entries stand next to each other at the end of
+-- what it has seen, which is legal, and are the new ones of its own
+pub record IsAskedAt (plan : ShardPlan) (number worker : ℕ) (before after : CallerView) (call : Call) (reply : Reply) : Type 0 where
+  pub earlier : List Entry
+  pub begins : BeginsWith earlier before.seen
+  pub seen : after.seen ≡ asked_entry worker call reply ∷ entering worker number before.own ++ earlier
+  pub legal : IsLegalHistory plan after.seen
+  pub own : after.own ≡ asked_entry worker call reply ∷ inside_own worker number before.own
+
+-- the worker is outside, and the journal had no room for its Enter at the end of what it has seen
+pub record CannotEnterAt (plan : ShardPlan) (number worker : ℕ) (before after : CallerView) : Type 0 where
+  pub outside : IsFalse (is_inside worker before.own)
+  pub refused : IsRefused plan before after (Enter number)
+
+-- the worker is inside, by its Enter where it was outside, and the journal had no room for the call at the end of what it has seen
+pub record CannotCallAt (plan : ShardPlan) (number worker : ℕ) (before after : CallerView) (call : Call) : Type 0 where
+  pub earlier : List Entry
+  pub begins : BeginsWith earlier before.seen
+  pub seen : after.seen ≡ entering worker number before.own ++ earlier
+  pub legal : IsLegalHistory plan after.seen
+  pub full : IsJournalFull plan after.seen call
+  pub own : after.own ≡ inside_own worker number before.own
+
+abbrev pub IsTurnedAwayAt : ShardPlan → ℕ → ℕ → CallerView → CallerView → Call → Type 0
+IsTurnedAwayAt plan number worker before after call =
+    CannotEnterAt plan number worker before after ⊎ CannotCallAt plan number worker before after call
+
+-- the worker left the shard, if it was inside; a Leave is never refused
+abbrev pub IsLeft : Bool → ShardPlan → ℕ → ℕ → CallerView → CallerView → Type 0
+IsLeft true plan number worker before after = IsServed plan before after (leave_entry worker number)
+IsLeft false plan number worker before after = after ≡ before
+
+-- ---- the port
+
+-- the maps that it serves, and the pass
+pub record PassPort : Type 0 where
+  pub served : Maps
+  pub pass : PassView
+
+-- the maps of shared shards, and how many shards each of them has
+abbrev pub served_of : SharedMaps → Maps
+served_of shards = record { maps = shards.maps; shards = shards.options.shards }
+
+-- a port over these shards by this pass
+abbrev pub port_of : SharedMaps → PassView → PassPort
+port_of shards pass = record { served = served_of shards; pass = pass }
+
+-- the caller found the cell by a Lookup since it entered
+abbrev pub holds_own : Caller → List Entry → ℕ → Bool
+holds_own (Worker number) own cell = is_inside number own && holds number cell own
+holds_own who own cell = false
+
+-- the shard is one of the map's, and the worker holds the cell there
+abbrev pub has_found : PassPort → ℕ → ℕ → ℕ → Bool
+has_found port map shard cell = (shard / port.served.shards == map) && holds_own port.pass.who (own_at port.pass shard) cell
+
+-- the worker asked the call's shard, which is one of so many; its views of the others stay
+pub record IsGivenBy (plan : ℕ → ShardPlan) (count : ℕ) (before : PassPort) (call : Call) (reply : Reply) (after : PassPort) : Type 0 where
+  pub same_maps : after.served ≡ before.served
+  pub some_shard : 0 < before.served.shards
+  pub within : shard_of_call call < count
+  pub elsewhere : IsElsewhereSame (shard_of_call call) before.pass after.pass
+  pub is_worker : before.pass.who ≡ Worker (worker_of before.pass.who)
+  pub run_call : IsRunCall call
+  pub formed : IsReplyTo (program_over before.served) call reply
+  pub asked :
+      IsAskedAt (plan (shard_of_call call)) (shard_of_call call) (worker_of before.pass.who) (view_at before.pass (shard_of_call call))
+      (view_at after.pass (shard_of_call call)) call reply
+
+-- the call's shard had no room for the Enter or for the call; its views of the others stay
+pub record IsRefusedBy (plan : ℕ → ShardPlan) (count : ℕ) (before : PassPort) (call : Call) (after : PassPort) : Type 0 where
+  pub same_maps : after.served ≡ before.served
+  pub within : shard_of_call call < count
+  pub elsewhere : IsElsewhereSame (shard_of_call call) before.pass after.pass
+  pub is_worker : before.pass.who ≡ Worker (worker_of before.pass.who)
+  pub turned_away :
+      IsTurnedAwayAt (plan (shard_of_call call)) (shard_of_call call) (worker_of before.pass.who) (view_at before.pass (shard_of_call call))
+      (view_at after.pass (shard_of_call call)) call
+
+-- the worker left every one of so many shards that it was inside of
+pub record IsFinishedBy (plan : ℕ → ShardPlan) (count : ℕ) (before after : PassView) : Type 0 where
+  pub same_caller : after.who ≡ before.who
+  pub left :
+      (number : ℕ) → number < count → IsLeft (is_inside (worker_of before.who) (own_at before number)) (plan number) number
+      (worker_of before.who) (view_at before number) (view_at after number)

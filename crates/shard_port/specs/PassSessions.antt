@@ -1,0 +1,79 @@
+-- What a run by a pass leaves among the worker's own entries: for each shard that it called, one session with an Enter, the calls, and a
+-- Leave. Sessions have the oldest entry first, own entries the newest.
+use Rattle.std.specs.Prelude.{◌≡◌, ◌⊎◌, ℕ, ◌<◌, List, [], ◌∷◌, ◌++◌, reverse, IsFalse}
+use Rattle.std.specs.List.{AllByRecursion}
+use Rattle.semantics.specs.declared.call.Caller.TheVariants.{Worker}
+use Rattle.semantics.specs.declared.call.Call.{Call}
+use Rattle.semantics.specs.declared.call.Call.TheVariants.{Enter}
+use Rattle.semantics.specs.declared.call.Entry.{Entry}
+use Rattle.semantics.specs.declared.plan.ShardPlan.{ShardPlan}
+use Rattle.semantics.specs.Reclamation.{is_inside}
+use Rattle.semantics.specs.History.{shard_of_call, IsJournalFull}
+use Rattle.map_port.specs.Exchanges.{Exchange, IsChain}
+use Rattle.shared_shards.specs.CallerView.{BeginsWith}
+use Rattle.shared_shards.specs.Passes.{PassView, own_at, seen_at}
+use Rattle.shard_port.specs.Asking.{enter_entry, leave_entry}
+use Rattle.shard_port.specs.Sessions.{entries_at, begun, session}
+use Rattle.shard_port.specs.PassPorts.{PassPort, IsGivenBy, IsRefusedBy, IsFinishedBy}
+
+-- the entries of a worker's session with the shard of a number: none where none of the exchanges is with it
+abbrev pub session_at : ℕ → ℕ → List Exchange → List Entry
+session_at worker number exchanges = session worker number (entries_at worker number exchanges)
+
+-- the worker is outside the shard of a number, by its own entries
+abbrev pub IsOutsideAt : ℕ → PassView → ℕ → Type 0
+IsOutsideAt worker pass number = IsFalse (is_inside worker (own_at pass number))
+
+-- each call is of one of so many shards
+abbrev pub AreWithin : ℕ → List Exchange → Type 0
+AreWithin count exchanges = AllByRecursion (λ (exchange : Exchange). shard_of_call exchange.call < count) exchanges
+
+-- a pass has a session more on each shard, and its worker is outside of all
+pub record HasSessions (count worker : ℕ) (exchanges : List Exchange) (before after : PassView) : Type 0 where
+  pub same_caller : after.who ≡ before.who
+  pub within : AreWithin count exchanges
+  pub written : (number : ℕ) → number < count → own_at after number ≡ reverse (session_at worker number exchanges) ++ own_at before number
+  pub seen_on : (number : ℕ) → number < count → BeginsWith (seen_at after number) (seen_at before number)
+  pub outside : (number : ℕ) → number < count → IsOutsideAt worker after number
+
+-- the worker entered the shard for this call alone, which was refused there
+pub record IsVisitedAt (worker : ℕ) (exchanges : List Exchange) (call : Call) (number : ℕ) (before after : List Entry) : Type 0 where
+  pub own_shard : shard_of_call call ≡ number
+  pub first_call : entries_at worker number exchanges ≡ []
+  pub written : after ≡ leave_entry worker number ∷ enter_entry worker number ∷ before
+
+-- the same of a run that ended because a call was refused, but that the shard of this call, if it was the first there, may have an Enter
+-- and a Leave with no call between. There the journal was full for the call, or for the Enter, at the end of a history that the pass's
+-- now begins with.
+pub record HasRefusedSessions (plan : ℕ → ShardPlan) (count worker : ℕ) (exchanges : List Exchange) (call : Call) (before after : PassView) : Type 0
+  where
+    pub same_caller : after.who ≡ before.who
+    pub within : AreWithin count exchanges
+    pub refused_within : shard_of_call call < count
+    pub written :
+        (number : ℕ) → number < count → (own_at after number ≡ reverse (session_at worker number exchanges) ++ own_at before number)
+        ⊎ IsVisitedAt worker exchanges call number (own_at before number) (own_at after number)
+    pub seen_on : (number : ℕ) → number < count → BeginsWith (seen_at after number) (seen_at before number)
+    pub outside : (number : ℕ) → number < count → IsOutsideAt worker after number
+    pub full_at : List Entry
+    pub full_seen : BeginsWith (seen_at after (shard_of_call call)) full_at
+    pub full :
+        IsJournalFull (plan (shard_of_call call)) full_at call
+        ⊎ ((entries_at worker (shard_of_call call) exchanges ≡ []) × IsJournalFull (plan (shard_of_call call)) full_at (Enter (shard_of_call call)))
+
+-- ---- the laws: of a run from a pass whose worker is outside so many shards
+
+abbrev pub WritesOwnSessions : Type 0
+WritesOwnSessions =
+    (plan : ℕ → ShardPlan) (count worker : ℕ) (before after : PassPort) (finished : PassView) (exchanges : List Exchange) →
+    before.pass.who ≡ Worker worker → ((number : ℕ) → number < count → IsOutsideAt worker before.pass number) →
+    IsChain (IsGivenBy plan count) before exchanges after → IsFinishedBy plan count after.pass finished →
+    HasSessions count worker exchanges before.pass finished
+
+abbrev pub WritesRefusedOwnSessions : Type 0
+WritesRefusedOwnSessions =
+    (plan : ℕ → ShardPlan) (count worker : ℕ) (before middle after : PassPort) (finished : PassView) (exchanges : List Exchange)
+    (call : Call) →
+    before.pass.who ≡ Worker worker → ((number : ℕ) → number < count → IsOutsideAt worker before.pass number) →
+    IsChain (IsGivenBy plan count) before exchanges middle → IsRefusedBy plan count middle call after →
+    IsFinishedBy plan count after.pass finished → HasRefusedSessions plan count worker exchanges call before.pass finished

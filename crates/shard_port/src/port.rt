@@ -1,0 +1,284 @@
+//! The port of a worker's pass, over shards that many callers share.
+
+ghost use Rattle.std.specs.Prelude.{◌≡◌, ◌<◌, IsTrue, IfOk, IfErr, OnErr};
+ghost use Rattle.semantics.specs.History.{Meets};
+ghost use Rattle.journal.specs.Entries.{found_reply};
+ghost use Rattle.map_port.specs.Served.{handle_limit};
+ghost use Rattle.shared_shards.specs.Passes.{view_at, own_at, IsElsewhereSame};
+ghost use Rattle.shard_port.specs.PortView.{handle_of, has_small_cell};
+ghost use Rattle.shard_port.specs.PassPorts.{is_worker_below, worker_of, inside_own, IsAskedAt, IsTurnedAwayAt, IsLeft, IsFinishedBy};
+ghost use Rattle.semantics.specs.Reclamation.{is_inside};
+
+use crate::plain::{cell_of_handle, definition_at, shard_of_kind};
+use isa::AtomicOp;
+use journal::{AtomicChange, CellRange};
+use map_port::MapPort;
+use semantics::{JournalFull, Key, Value};
+use shared_shards::{
+    Ask, Changes, Deletes, Loads, Looks, Naming, Pass, Shards, Stopped, Stores, Updates,
+};
+use std::sync::Wait;
+
+/// A worker's port over shared shards: one run. It enters a shard before its first call there, and has to be finished, which leaves the
+/// shards that it entered. It waits for locks, and no call takes memory.
+///
+/// A cell's handle is `shard * 2^32 + id + 1`: its shard's number above its id.
+pub struct ShardPort<'a, B: Naming, W: Wait> {
+    pass: &'a mut Pass<B>,
+    shards: &'a Shards<B>,
+    rt: &'a W,
+    ghost ready: { IsTrue (is_worker_below shards.now.options.workers pass.now.who) },
+}
+
+impl<'a, B: Naming, W: Wait> ShardPort<'a, B, W> {
+    ghost use Rattle.map_port.specs.Served.{shard_of, IsKeyOf};
+    ghost use Rattle.shard_port.specs.PassPorts.{served_of};
+
+    /// The port of a worker's pass, over the shards of a program's maps. It enters none yet.
+    pub fn over(rt: &'a W, shards: &'a Shards<B>, pass: &'a mut Pass<B>) -> ShardPort<'a, B, W>
+        requires worker { IsTrue (is_worker_below shards.now.options.workers pass.old.who) }
+        ensures same_pass { result.pass.ghost_name ≡ pass.entry.ghost_name }
+        ensures pass { result.pass.now ≡ pass.old }
+        ensures shards { result.shards.now ≡ shards.now }
+    {
+        ShardPort { pass, shards, rt }
+    }
+
+    /// The shard of a map's key.
+    fn shard_of(&self, map: u32, key: &Key) -> u32
+        requires { IsKeyOf (served_of self.now.shards.now) map key.now }
+        ensures { result ≡ shard_of (served_of self.now.shards.now) map key.now }
+    {
+        self.shards.planned();
+        let definition = definition_at(self.shards.maps(), map);
+        shard_of_kind(map, definition.kind, self.shards.options().shards, key)
+    }
+
+    /// Makes a run's call of a shard: entered before, if the worker is not inside. Refused where the shard's journal is full for the
+    /// Enter or for the call.
+    fn ask<C: Ask>(&mut self, shard: u32, ask: C) -> Result<C::Answer, JournalFull>
+        requires shard { shard < B.count }
+        requires met { Meets (B.plan shard) (inside_own (worker_of self.old.pass.now.who) shard (own_at self.old.pass.now shard)) self.old.pass.now.who (C.asks ask shard) }
+        ensures same_pass { self.new.pass.ghost_name ≡ self.old.pass.ghost_name }
+        ensures same_shards { self.new.shards ≡ self.old.shards }
+        ensures elsewhere { IsElsewhereSame shard self.old.pass.now self.new.pass.now }
+        ensures answered { IfOk result (λ answer. IsAskedAt (B.plan shard) shard (worker_of self.old.pass.now.who) (view_at self.old.pass.now shard) (view_at self.new.pass.now shard) (C.asks ask shard) (C.replies shard answer)) }
+        ensures turned_away { OnErr result (IsTurnedAwayAt (B.plan shard) shard (worker_of self.old.pass.now.who) (view_at self.old.pass.now shard) (view_at self.new.pass.now shard) (C.asks ask shard)) }
+        ensures names_the_shard { IfErr result (λ fault. fault.shard ≡ shard) }
+    {
+        ask_at(self.rt, self.shards, self.pass, shard, ask)
+    }
+
+    /// The worker leaves all shards that it is inside of, the lowest number first. A Leave is never refused.
+    pub fn finish(self)
+        ensures { IsFinishedBy B.plan B.count self.entry.pass.now self.exit.0.now }
+    {
+        let ShardPort { pass, shards, rt } = self;
+        leave_all(rt, shards, pass);
+    }
+}
+
+impl<'a, B: Naming, W: Wait> MapPort for ShardPort<'a, B, W> {
+    ghost use Rattle.shard_port.specs.PortView.{cell_of_handle};
+    ghost use Rattle.shard_port.specs.PassPorts.{served_of, port_of, has_found, IsGivenBy, IsRefusedBy};
+    ghost use Rattle.shard_port.specs.PassPortLaws.{keeps_by, hands_out_by};
+
+    ghost serves = { λ port. served_of port.shards.now };
+
+    ghost gives = { λ before call reply after. (after.pass.ghost_name ≡ before.pass.ghost_name)
+        × IsGivenBy B.plan B.count (port_of before.shards.now before.pass.now) call reply (port_of after.shards.now after.pass.now) };
+
+    ghost refuses = { λ before call after. (after.pass.ghost_name ≡ before.pass.ghost_name)
+        × IsRefusedBy B.plan B.count (port_of before.shards.now before.pass.now) call (port_of after.shards.now after.pass.now) };
+
+    ghost has_handed_out = { λ port. has_found (port_of port.shards.now port.pass.now) };
+
+    ghost cell_of = { λ port. cell_of_handle };
+
+    ghost stays = { λ before after call refused. refused.1.same_maps };
+
+    ghost keeps = { λ before after call reply given. keeps_by B.plan B.count _ _ call reply given.1 };
+
+    ghost hands_out = { λ before after call reply given. hands_out_by B.plan B.count _ _ call reply given.1 };
+
+    ghost replies = { λ before after call reply given. given.1.formed };
+
+    fn lookup(&mut self, map: u32, key: &Key) -> Result<u64, JournalFull> {
+        self.shards.planned();
+        let shard = self.shard_of(map, key);
+        match self.ask(
+            shard,
+            Looks {
+                key: key.as_slice(),
+            },
+        ) {
+            Ok(found) => Ok(handle_of_found(shard, found)),
+            Err(full) => Err(full),
+        }
+    }
+
+    fn load(&mut self, handle: u64, offset: u64, width: u64) -> Result<u64, JournalFull> {
+        self.shards.planned();
+        let cell = cell_of_handle(handle);
+        let range = CellRange {
+            cell: cell.id,
+            offset,
+            width,
+        };
+        match self.ask(cell.shard, Loads { range: &range }) {
+            Ok(number) => Ok(number),
+            Err(full) => Err(full),
+        }
+    }
+
+    fn store(
+        &mut self,
+        handle: u64,
+        offset: u64,
+        width: u64,
+        value: u64,
+    ) -> Result<(), JournalFull> {
+        self.shards.planned();
+        let cell = cell_of_handle(handle);
+        let range = CellRange {
+            cell: cell.id,
+            offset,
+            width,
+        };
+        let ask = Stores {
+            range: &range,
+            value,
+        };
+        match self.ask(cell.shard, ask) {
+            Ok(()) => Ok(()),
+            Err(full) => Err(full),
+        }
+    }
+
+    fn atomic(
+        &mut self,
+        handle: u64,
+        offset: u64,
+        width: u64,
+        op: AtomicOp,
+        value: u64,
+        expected: u64,
+    ) -> Result<u64, JournalFull> {
+        self.shards.planned();
+        let cell = cell_of_handle(handle);
+        let range = CellRange {
+            cell: cell.id,
+            offset,
+            width,
+        };
+        let change = AtomicChange {
+            op: u64::from(op.code()),
+            value,
+            expected,
+        };
+        let ask = Changes {
+            range: &range,
+            change: &change,
+        };
+        match self.ask(cell.shard, ask) {
+            Ok(number) => Ok(number),
+            Err(full) => Err(full),
+        }
+    }
+
+    fn update(
+        &mut self,
+        map: u32,
+        key: &Key,
+        value: &Value,
+        flags: u64,
+    ) -> Result<i32, JournalFull> {
+        self.shards.planned();
+        let shard = self.shard_of(map, key);
+        let ask = Updates {
+            key: key.as_slice(),
+            value: value.as_slice(),
+            flags,
+        };
+        match self.ask(shard, ask) {
+            Ok(code) => Ok(code),
+            Err(full) => Err(full),
+        }
+    }
+
+    fn delete(&mut self, map: u32, key: &Key) -> Result<i32, JournalFull> {
+        self.shards.planned();
+        let shard = self.shard_of(map, key);
+        let ask = Deletes {
+            key: key.as_slice(),
+        };
+        match self.ask(shard, ask) {
+            Ok(code) => Ok(code),
+            Err(full) => Err(full),
+        }
+    }
+}
+
+/// The handle of the cell that a lookup found in the shard, or 0.
+fn handle_of_found(shard: u32, found: Option<u64>) -> u64
+    requires { IsTrue (has_small_cell (found_reply shard found)) }
+    ensures handle { result ≡ handle_of (found_reply shard found) }
+    ensures limit { result < handle_limit }
+{
+    match found {
+        Some(id) => u64::from(shard) * 0x1_0000_0000 + id + 1,
+        None => 0,
+    }
+}
+
+/// Makes the worker's call of a shard, which enters first if it is not inside.
+fn ask_at<B: Naming, C: Ask>(
+    rt: &impl Wait,
+    shards: &Shards<B>,
+    pass: &mut Pass<B>,
+    shard: u32,
+    ask: C,
+) -> Result<C::Answer, JournalFull>
+    requires shard { shard < B.count }
+    requires worker { IsTrue (is_worker_below shards.now.options.workers pass.old.who) }
+    requires met { Meets (B.plan shard) (inside_own (worker_of pass.old.who) shard (own_at pass.old shard)) pass.old.who (C.asks ask shard) }
+    ensures elsewhere { IsElsewhereSame shard pass.old pass.new }
+    ensures answered { IfOk result (λ answer. IsAskedAt (B.plan shard) shard (worker_of pass.old.who) (view_at pass.old shard) (view_at pass.new shard) (C.asks ask shard) (C.replies shard answer)) }
+    ensures turned_away { OnErr result (IsTurnedAwayAt (B.plan shard) shard (worker_of pass.old.who) (view_at pass.old shard) (view_at pass.new shard) (C.asks ask shard)) }
+    ensures names_the_shard { IfErr result (λ fault. fault.shard ≡ shard) }
+{
+    shards.planned();
+    if pass.is_inside(shard) {
+        return shards.ask(rt, pass, shard, ask);
+    }
+    match shards.enter_then(rt, pass, shard, ask) {
+        Ok(answer) => Ok(answer),
+        Err(Stopped::AtEnter { full }) => Err(full),
+        Err(Stopped::AtCall { full }) => Err(full),
+    }
+}
+
+/// The worker leaves the shard, if it is inside.
+fn leave<B: Naming>(rt: &impl Wait, shards: &Shards<B>, pass: &mut Pass<B>, shard: u32)
+    requires shard { shard < B.count }
+    requires worker { IsTrue (is_worker_below shards.now.options.workers pass.old.who) }
+    ensures elsewhere { IsElsewhereSame shard pass.old pass.new }
+    ensures left { IsLeft (is_inside (worker_of pass.old.who) (own_at pass.old shard)) (B.plan shard) shard (worker_of pass.old.who) (view_at pass.old shard) (view_at pass.new shard) }
+{
+    shards.planned();
+    if pass.is_inside(shard) {
+        shards.leave(rt, pass, shard);
+    }
+}
+
+/// The worker leaves all shards that it is inside of, the lowest number first.
+fn leave_all<B: Naming>(rt: &impl Wait, shards: &Shards<B>, pass: &mut Pass<B>)
+    requires worker { IsTrue (is_worker_below shards.now.options.workers pass.old.who) }
+    ensures { IsFinishedBy B.plan B.count pass.old pass.new }
+{
+    shards.planned();
+    let count = shards.count() as u32;
+    'shards: for number in 0..count {
+        leave(rt, shards, pass, number);
+    }
+}
