@@ -1,14 +1,16 @@
 -- A journal is legal up to the first entry that is no step.
 use Rattle.std.proofs.Common.{inl, inr}
-use Rattle.std.proofs.Common.{◌≡◌, ◌⊎◌, ℕ, zero, suc, ◌+◌, ◌<◌, ◌≤◌, List, [], ◌∷◌, ◌++◌, length, take, reverse, Option, Some, None, refl, sym, ap, subst, ◌∙◌, arith}
+use Rattle.std.proofs.Common.{◌≡◌, ◌⊎◌, ℕ, zero, suc, ◌+◌, ◌<◌, List, [], ◌∷◌, ◌++◌, length, take, reverse, Option, Some, refl, sym, ap, subst, ◌∙◌, arith}
 use Rattle.std.specs.Prelude.{slice_get}
-use Rattle.std.proofs.lemmas.List.{reverse-append}
+use Rattle.std.proofs.lemmas.List.{reverse-append, length-reverse, length-take-le}
 use Rattle.semantics.specs.declared.call.Entry.{Entry}
 use Rattle.semantics.specs.declared.plan.ShardPlan.{ShardPlan}
 use Rattle.semantics.specs.ShardPlan.{plan_at}
 use Rattle.semantics.specs.History.{IsLegalStep, IsLegalHistory, IsLegalJournal}
 use Rattle.journals.specs.JournalsView.{JournalsView, entries_at}
 use Rattle.shard_core.specs.JournaledShard.{JournaledShard, with_entry}
+use Rattle.audit.specs.declared.held_cells.HeldCells.{HeldCells}
+use Rattle.audit.specs.HeldCells.{AreHeld}
 use Rattle.audit.specs.Audited.{IsLegalShard, AreLegal, IsFirstIllegal, IsFirstFault}
 
 take_step : (xs : List Entry) (i : ℕ) (entry : Entry) → slice_get xs i ≡ Some entry → take (suc i) xs ≡ take i xs ++ entry ∷ []
@@ -92,3 +94,16 @@ first_fault journals number place plan entries exists before is same illegal = (
   record { exists = exists; legal_before = before; plan = plan; plan_is = is; illegal = rw (← same) illegal },
   λ legal. let here : IsLegalJournal plan entries = rw same (legal number exists plan is) in illegal.not_with (prefix_legal plan entries (place + 1) here),
 )
+
+-- ---- held cells
+
+-- the shard's history is that of the journal's beginning
+pub held_of : (plan : ShardPlan) (xs : List Entry) (i : ℕ) (shard : JournaledShard) (held : HeldCells) → shard ≡ record { plan = plan; journal = take i xs } → AreHeld held (reverse (take i xs)) → AreHeld held (reverse shard.journal)
+held_of plan xs i shard held is are = subst (λ (s : JournaledShard). AreHeld held (reverse s.journal)) (sym is) are
+
+-- one entry more was noted
+pub held_more : (xs : List Entry) (i : ℕ) (entry : Entry) (held : HeldCells) → i < length xs → slice_get xs i ≡ Some entry → (i + 1 ≡ length (reverse (take i xs)) + 1 → AreHeld held (entry ∷ reverse (take i xs))) → AreHeld held (reverse (take (i + 1) xs))
+held_more xs i entry held within is noted =
+    let same : reverse (take (i + 1) xs) ≡ entry ∷ reverse (take i xs) = ap reverse (take_one xs i entry is) ∙ reverse-append (take i xs) (entry ∷ []) in
+    let counted : length (reverse (take i xs)) ≡ i = length-reverse (take i xs) ∙ length-take-le i xs (omega (arith, within)) in
+    subst (AreHeld held) (sym same) (noted (omega (arith, counted)))

@@ -1,3 +1,4 @@
 -- The lemmas that proofs of this crate share.
 pub mod Audits
+pub mod HeldLemmas
 pub mod PlanFacts

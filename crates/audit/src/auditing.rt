@@ -7,22 +7,26 @@ ghost use Rattle.semantics.specs.History.{IsLegalStep, IsLegalJournal};
 ghost use Rattle.shard_core.specs.JournaledShard.{with_entry};
 ghost use Rattle.audit.specs.declared.fault.AuditFault.TheVariants.{Memory};
 ghost use Rattle.audit.specs.Audited.{AreLegal, IsFirstIllegal, Explains};
+ghost use Rattle.audit.specs.HeldCells.{AreHeld};
 
 use crate::fault::AuditFault;
+use crate::held_cells::HeldCells;
 use crate::plans::plan_at;
+use crate::standings::may_call;
 use journals::{Journals, ShardJournal};
 use semantics::{Entry, ShardPlan};
 use shard_core::Shard;
 use std::alloc::{AllocError, Global};
 
 /// Makes the entry's call on the shard, if its caller may make it and the journal has room for it, and says whether the reply is the entry's.
-fn is_made_again(shard: &mut Shard, entry: &Entry) -> bool
+fn is_made_again(shard: &mut Shard, held: &HeldCells, entry: &Entry) -> bool
+    requires { AreHeld held.now (reverse shard.old.journal) }
     ensures legal { IsLegalJournal shard.old.plan shard.old.journal }
     ensures made { result ≡ true → shard.new ≡ with_entry shard.old entry.now }
     ensures illegal { result ≡ false → ¬ IsLegalStep shard.old.plan (reverse shard.old.journal) entry.now }
 {
     let _ = shard.journal();
-    if !shard.meets(&entry.who, &entry.call) {
+    if !may_call(shard, held, &entry.who, &entry.call) {
         return false;
     }
     match shard.apply(entry.who, &entry.call) {
@@ -41,10 +45,13 @@ fn first_illegal(
     ensures { IfOk result (λ found. MatchOption found (IsLegalJournal plan journal.now) (λ place. IsFirstIllegal plan journal.now place)) }
 {
     let mut shard = Shard::open(alloc, plan)?;
+    let mut held = HeldCells::new(alloc)?;
     'places: for place in 0..journal.len() {
-        if !is_made_again(&mut shard, &journal.entry(place)) {
+        let entry = journal.entry(place);
+        if !is_made_again(&mut shard, &held, &entry) {
             return Ok(Some(place));
         }
+        held.note(&entry, place as u64 + 1)?;
     }
     let _ = shard.journal();
     Ok(None)

@@ -3,7 +3,9 @@
 
 mod auditing;
 mod fault;
+mod held_cells;
 mod plans;
+mod standings;
 #[cfg(test)]
 mod tests;
 

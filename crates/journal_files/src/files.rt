@@ -10,7 +10,7 @@ ghost use Rattle.journal_files.specs.JournalReading.{IsJournalsFile, ReadsBack, 
 
 use crate::facts::{journals_are, maps_are_of_an_image};
 use crate::fault::FileFault;
-use crate::parsing::journals_of;
+use crate::parsing::journals_of as parsed;
 use crate::printing::text_of_journals;
 use ebpf_decode::Image;
 use journals::Journals;
@@ -63,8 +63,20 @@ pub fn read_journals<S: Source>(
 {
     maps_are_of_an_image(image);
     match read_all(alloc, source) {
-        Ok(bytes) => journals_of(alloc, image.maps(), &bytes),
+        Ok(bytes) => parsed(alloc, image.maps(), &bytes),
         Err(ReadFault::Device) => Err(FileFault::Device),
         Err(ReadFault::Memory) => Err(FileFault::Memory),
     }
+}
+
+/// The journals of the shards of the image's maps that these bytes are the file of.
+///
+/// Refused with 52 where memory is. Refused with 55 and the first line that cannot stand there, as `read_journals` is.
+pub fn journals_of(alloc: Global, image: &Image, bytes: &[u8]) -> Result<Journals, FileFault>
+    ensures found { IfOk result (λ journals. IsJournalsFile image.now.maps bytes.now journals) }
+    ensures refused { IfErr result (Refuses image.now.maps bytes.now) }
+    ensures only { (journals : Lists) → IsJournalsFile image.now.maps bytes.now journals → IfOk result (λ made. made ≡ journals) }
+{
+    maps_are_of_an_image(image);
+    parsed(alloc, image.maps(), bytes)
 }

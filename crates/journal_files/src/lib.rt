@@ -12,4 +12,4 @@ mod tests;
 mod verb;
 
 pub use fault::FileFault;
-pub use files::{read_journals, write_journals};
+pub use files::{journals_of, read_journals, write_journals};

@@ -1,0 +1,152 @@
+//! Which cells each worker holds, by places in the journal, so that nothing has to be read twice.
+
+ghost use Rattle.std.specs.Prelude.{◌≡◌, ◌+◌, ◌<◌, ◌==◌, ℕ, List, [], ◌∷◌, IfOk, OnOk, length, cond};
+ghost use Rattle.semantics.specs.declared.call.Entry.{Entry as Told};
+ghost use Rattle.semantics.specs.Reclamation.{holds};
+ghost use Rattle.audit.specs.HeldCells.{place_found, is_found, since_after, found_by, found_after, Tells, AreHeld};
+
+use semantics::{Call, Caller, Entry, Reply};
+use std::alloc::{AllocError, Global};
+
+/// How many workers there may be.
+const WORKERS: u8 = 8;
+
+/// What a worker's own entries tell so far of the cells that it holds. Places are counted from 1; 0 is none.
+#[derive(Drop)]
+pub(crate) struct Findings {
+    /// The place of its newest Enter or Leave.
+    since: u64,
+    /// Of each cell, by its id, the place of its newest Lookup that found the cell.
+    found: Vec<u64>,
+}
+
+impl Findings {
+    /// Nothing was found. It takes no memory.
+    fn new(alloc: Global) -> Findings
+        ensures { (worker : ℕ) → Tells worker [] result }
+    {
+        Findings {
+            since: 0,
+            found: Vec::new(alloc),
+        }
+    }
+
+    /// Whether a Lookup found the cell since the worker's newest Enter or Leave.
+    fn has(&self, cell: u64) -> bool
+        ensures { result ≡ is_found self.now cell }
+    {
+        match self.found.get(cell as usize) {
+            Some(place) => self.since < *place,
+            None => false,
+        }
+    }
+
+    /// Makes room for a cell's place.
+    fn extend_to(&mut self, cell: usize) -> Result<(), AllocError>
+        ensures since { self.new.since ≡ self.old.since }
+        ensures same { OnOk result ((other : ℕ) → place_found self.new other ≡ place_found self.old other) }
+        ensures reached { OnOk result (cell < length self.new.found.items) }
+    {
+        'places: while self.found.len() <= cell {
+            self.found.push(0)?;
+        }
+        Ok(())
+    }
+
+    /// A Lookup at this place found the cell.
+    fn put(&mut self, cell: u64, place: u64) -> Result<(), AllocError>
+        ensures since { self.new.since ≡ self.old.since }
+        ensures found { OnOk result ((other : ℕ) → place_found self.new other ≡ cond (cell == other) place (place_found self.old other)) }
+    {
+        let at = cell as usize;
+        self.extend_to(at)?;
+        self.found[at] = place;
+        Ok(())
+    }
+
+    /// An entry of the worker stands at this place.
+    fn note(&mut self, call: &Call, reply: &Reply, place: u64) -> Result<(), AllocError>
+        ensures since { OnOk result (self.new.since ≡ since_after call.now place self.old.since) }
+        ensures found { OnOk result ((cell : ℕ) → place_found self.new cell ≡ found_after call.now reply.now place cell (place_found self.old cell)) }
+    {
+        match call {
+            Call::Enter { .. } => {
+                self.since = place;
+                Ok(())
+            }
+            Call::Leave { .. } => {
+                self.since = place;
+                Ok(())
+            }
+            Call::Lookup { .. } => self.note_reply(reply, place),
+            Call::Load { .. } => Ok(()),
+            Call::Store { .. } => Ok(()),
+            Call::Atomic { .. } => Ok(()),
+            Call::Update { .. } => Ok(()),
+            Call::Delete { .. } => Ok(()),
+            Call::Reclaim { .. } => Ok(()),
+        }
+    }
+
+    /// A Lookup at this place was answered so.
+    fn note_reply(&mut self, reply: &Reply, place: u64) -> Result<(), AllocError>
+        ensures since { self.new.since ≡ self.old.since }
+        ensures found { OnOk result ((cell : ℕ) → place_found self.new cell ≡ found_by reply.now place cell (place_found self.old cell)) }
+    {
+        match reply {
+            Reply::Cell { cell } => self.put(cell.id, place),
+            Reply::Entered => Ok(()),
+            Reply::Left => Ok(()),
+            Reply::Null => Ok(()),
+            Reply::Word { .. } => Ok(()),
+            Reply::Done => Ok(()),
+            Reply::Answer { .. } => Ok(()),
+            Reply::Freed { .. } => Ok(()),
+        }
+    }
+}
+
+/// Which cells each worker holds after the entries that were noted.
+#[derive(Drop)]
+pub(crate) struct HeldCells {
+    /// Of each worker, by its number.
+    workers: Vec<Findings>,
+}
+
+impl HeldCells {
+    /// Nothing was noted.
+    pub(crate) fn new(alloc: Global) -> Result<HeldCells, AllocError>
+        ensures { IfOk result (λ held. AreHeld held []) }
+    {
+        let mut workers = Vec::new(alloc);
+        'numbers: for _ in 0..WORKERS {
+            workers.push(Findings::new(alloc))?;
+        }
+        Ok(HeldCells { workers })
+    }
+
+    /// Whether the worker holds the cell.
+    pub(crate) fn has(&self, worker: u8, cell: u64) -> bool
+        requires { worker < 8 }
+        ensures { (history : List Told) → AreHeld self.now history → result ≡ holds worker cell history }
+    {
+        match self.workers.get(usize::from(worker)) {
+            Some(findings) => findings.has(cell),
+            None => false,
+        }
+    }
+
+    /// The entry stands at this place, counted from 1, after those that were noted.
+    pub(crate) fn note(&mut self, entry: &Entry, place: u64) -> Result<(), AllocError>
+        ensures { (history : List Told) → AreHeld self.old history → place ≡ length history + 1 → OnOk result (AreHeld self.new (entry.now ∷ history)) }
+    {
+        match &entry.who {
+            Caller::Worker { number } => match self.workers.get_mut(usize::from(*number)) {
+                Some(findings) => findings.note(&entry.call, &entry.reply, place),
+                None => Ok(()),
+            },
+            Caller::Controller => Ok(()),
+            Caller::Reclaimer => Ok(()),
+        }
+    }
+}
