@@ -1,0 +1,47 @@
+-- What a run of a worker comes to, by its pass: before the port was made, and after it was finished.
+use Rattle.std.specs.Prelude.{◌≡◌, ℕ, ◌≤◌, List, [], ◌∷◌, ◌++◌}
+use Rattle.ebpf_decode.specs.InstructionEncoding.{total_slots}
+use Rattle.wire.specs.FrameView.{FrameView}
+use Rattle.semantics.specs.declared.call.Call.{Call}
+use Rattle.semantics.specs.declared.plan.ShardPlan.{ShardPlan}
+use Rattle.semantics.specs.declared.verdict.Verdict.{Verdict}
+use Rattle.semantics.specs.MachineState.{MachineState}
+use Rattle.semantics.specs.Program.{Program}
+use Rattle.semantics.specs.History.{shard_of_call}
+use Rattle.semantics.specs.RunTrace.{HasExited, Waits}
+use Rattle.map_port.specs.Exchanges.{Exchange, calls_in, replies_in}
+use Rattle.machine.specs.declared.exit.Stop.{Stop}
+use Rattle.machine.specs.declared.exit.Stop.TheVariants.{JournalFull}
+use Rattle.machine.specs.Running.{whole_trace}
+use Rattle.shared_shards.specs.Passes.{PassView}
+use Rattle.shard_port.specs.PassSessions.{HasSessions, HasRefusedSessions}
+
+-- the run is the meaning of its program on the replies that stand among the worker's own entries, session by session
+pub record HasRun (program : Program) (state : MachineState) (count worker : ℕ) (before after : PassView) (verdict : Verdict) (steps : ℕ)
+    (frame : FrameView) : Type 0 where
+  pub exchanges : List Exchange
+  pub last : MachineState
+  pub trace :
+      whole_trace program state (replies_in exchanges) ≡ record { calls = calls_in exchanges; stand = HasExited verdict last }
+  pub counted : steps ≡ last.steps
+  pub bounded : steps ≤ total_slots program.code
+  pub sent : frame ≡ last.frame
+  pub sessions : HasSessions count worker exchanges before after
+
+-- the run made the calls of its program up to the refused one, which stand among the worker's own entries; the frame is that of the state
+-- in which it waits for the reply
+pub record WasRefused (program : Program) (state : MachineState) (plan : ℕ → ShardPlan) (count worker : ℕ) (before after : PassView)
+    (frame : FrameView) (shard : ℕ) : Type 0 where
+  pub exchanges : List Exchange
+  pub refused : Call
+  pub named : shard ≡ shard_of_call refused
+  pub waiting : MachineState
+  pub trace :
+      whole_trace program state (replies_in exchanges) ≡
+      record { calls = calls_in exchanges ++ refused ∷ []; stand = Waits waiting }
+  pub kept_back : frame ≡ waiting.frame
+  pub sessions : HasRefusedSessions plan count worker exchanges refused before after
+
+abbrev pub HasStopped : Program → MachineState → (ℕ → ShardPlan) → ℕ → ℕ → PassView → PassView → FrameView → Stop → Type 0
+HasStopped program state plan count worker before after frame (JournalFull shard) =
+    WasRefused program state plan count worker before after frame shard
