@@ -1,0 +1,22 @@
+-- Ports whose replies are counted.
+use Rattle.std.specs.Prelude.{◌≡◌, ℕ, ◌+◌, ◌%◌, ◌^◌, ℤ}
+use Rattle.semantics.specs.declared.call.Caller.{Caller}
+use Rattle.semantics.specs.declared.call.Call.{Call}
+use Rattle.semantics.specs.declared.call.Reply.{Reply}
+use Rattle.control.specs.MapUpdates.{MapUpdate}
+
+-- the count of one reply more; it wraps where no replay comes
+abbrev pub next_count : ℕ → ℕ
+next_count count = (count + 1) % 2 ^ 64
+
+-- a reply of the port within, which is counted
+pub record IsCounted (given : Type 0) (who who' : Caller) (count count' : ℕ) : Type 0 where
+  pub given_within : given
+  pub same_actor : who' ≡ who
+  pub one_more : count' ≡ next_count count
+
+-- a refusal of the port within, which is not
+pub record IsUncounted (refused : Type 0) (who who' : Caller) (count count' : ℕ) : Type 0 where
+  pub refused_within : refused
+  pub same_actor : who' ≡ who
+  pub same_count : count' ≡ count

@@ -1,0 +1,121 @@
+//! The maps that a controller updates, as shards that other callers share.
+
+ghost use Rattle.std.specs.Prelude.{◌≡◌, ◌<◌, ◌≤◌, All, length, slice_get, Some};
+ghost use Rattle.semantics.specs.Program.{shard_of_key};
+ghost use Rattle.semantics.specs.PlanLimits.{IsIndexSize};
+ghost use Rattle.semantics.specs.declared.call.Caller.TheVariants.{Controller};
+ghost use Rattle.shared_shards.specs.Passes.{PassView};
+ghost use Rattle.actors.specs.SharedUpdates.{HasUpdateOf, shard_of_update};
+
+use control::UpdatePort;
+use ebpf_decode::{MapDef, MapKind};
+use one_thread_map::conditions::shard_number_of_key;
+use semantics::{JournalFull, Key, Value};
+use shared_shards::{Naming, Pass, Shards};
+use std::marker::Model;
+use std::sync::Wait;
+
+/// The controller's port over shards that are shared with other callers: an update is one Update, with the flags ANY, of the shard that the
+/// key has. Contracts see the maps, the options that the shards were opened with, and the controller's pass.
+#[derive(Drop)]
+pub struct SharedUpdates<'a, B: Naming, W: Wait> {
+    rt: &'a W,
+    shards: &'a Shards<B>,
+    pass: Pass<B>,
+}
+
+impl<'a, B: Naming, W: Wait> Model for SharedUpdates<'a, B, W> {
+    ghost use Rattle.actors.specs.SharedUpdates.{UpdatesView, IsControllersPort};
+
+    ghost Value = { UpdatesView };
+
+    ghost view = { λ port. record { maps = port.shards.now.maps; options = port.shards.now.options; pass = port.pass } };
+
+    ghost invariant = { λ port. IsControllersPort B.count B.plan port.shards.now.maps port.shards.now.options port.pass };
+}
+
+impl<'a, B: Naming, W: Wait> SharedUpdates<'a, B, W> {
+    /// The controller's port, with its pass.
+    pub fn over(rt: &'a W, shards: &'a Shards<B>, pass: Pass<B>) -> SharedUpdates<'a, B, W>
+        requires { pass.who ≡ Controller }
+        ensures { result ≡ record { maps = shards.now.maps; options = shards.now.options; pass = pass } }
+    {
+        shards.planned();
+        SharedUpdates { rt, shards, pass }
+    }
+
+    /// Gives the pass back.
+    pub fn finish(self) -> Pass<B>
+        ensures { result ≡ self.entry.pass }
+    {
+        let SharedUpdates { pass, .. } = self;
+        pass
+    }
+
+    /// The number of the shard of a map's key.
+    fn shard_of(&self, map: u32, key: &Key) -> u32
+        requires { HasUpdateOf self.now.maps map key.now }
+        ensures { result ≡ shard_of_update self.now.maps self.now.options map key.now }
+    {
+        let definition = definition_at(self.shards.maps(), map);
+        shard_of_kind(map, definition.kind, self.shards.options().shards, key)
+    }
+}
+
+impl<'a, B: Naming, W: Wait> UpdatePort for SharedUpdates<'a, B, W> {
+    ghost use Rattle.actors.specs.SharedUpdates.{IsUpdated, IsTurnedAway};
+    ghost use Rattle.actors.specs.SharedLaws.{array_takes};
+
+    ghost serves = { λ port. port.maps };
+
+    ghost gives = { λ before update answer after. IsUpdated B.plan before update answer after };
+
+    ghost refuses = { λ before update after. IsTurnedAway B.plan before update after };
+
+    ghost keeps = { λ before after update answer updated. updated.maps };
+
+    ghost stays = { λ before after update refused. refused.maps };
+
+    ghost arrays_answer = { λ before after update answer stands updated. array_takes B.plan before update answer after stands updated };
+
+    fn update(&mut self, map: u32, key: &Key, value: &Value) -> Result<i32, JournalFull> {
+        bytes_have_8_bits(key.as_slice());
+        bytes_have_8_bits(value.as_slice());
+        let shard = self.shard_of(map, key);
+        self.shards.update(
+            self.rt,
+            &mut self.pass,
+            shard,
+            key.as_slice(),
+            value.as_slice(),
+            0,
+        )
+    }
+}
+
+/// Bytes have 8 bits. The function does nothing: it brings this fact into a proof.
+fn bytes_have_8_bits(bytes: &[u8])
+    ensures { All (λ byte. byte < 256) bytes.now }
+{
+    let _ = bytes;
+}
+
+/// The map at a place.
+fn definition_at(maps: &[MapDef], map: u32) -> MapDef
+    requires { map < length maps.now }
+    ensures { slice_get maps.now map ≡ Some result }
+{
+    maps[map as usize]
+}
+
+/// The number of the shard of a key, in a map of this kind with so many shards.
+fn shard_of_kind(map: u32, kind: MapKind, parts: u32, key: &Key) -> u32
+    requires map { map ≤ 16 }
+    requires parts { 0 < parts }
+    requires few { parts ≤ 8 }
+    requires size { IsIndexSize kind (length key.now) }
+    ensures { result ≡ shard_of_key map kind parts key.now }
+{
+    let number = shard_number_of_key(kind, key.as_slice());
+    map * parts + (number % u64::from(parts)) as u32
+}
