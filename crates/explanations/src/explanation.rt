@@ -1,0 +1,60 @@
+//! What a fault says, for people.
+
+ghost use Rattle.std.specs.Prelude.{◌≡◌, IfOk, true, false, string_bytes};
+ghost use Rattle.std.specs.Option.{MatchOption};
+ghost use Rattle.explanations.specs.Explanations.{is_fault, explanation_text};
+
+use crate::table;
+use std::alloc::{AllocError, Global};
+
+/// A fault, for people.
+#[derive(Clone, Copy, Debug, PartialEq, Eq)]
+pub struct Explanation {
+    /// The fault's number, which never changes.
+    pub number: u8,
+    /// Its name, as it is printed behind the number.
+    pub name: &'static str,
+    /// What it means.
+    pub meaning: &'static str,
+    /// What mostly leads to it, and the remedy.
+    pub causes: &'static str,
+    /// One case of it.
+    pub example: &'static str,
+}
+
+impl Explanation {
+    /// The explanation of a fault's number, if there is such a fault.
+    pub fn of(number: u32) -> Option<Explanation>
+        ensures { MatchOption result (is_fault number ≡ false) (λ found. (is_fault number ≡ true) × (found.number ≡ number)) }
+    {
+        match number {
+            1..=9 => Some(table::frames(number as u8)),
+            10..=20 => Some(table::images(number as u8)),
+            21..=23 => Some(table::texts(number as u8)),
+            30..=34 => Some(table::structure(number as u8)),
+            35..=49 => Some(table::kinds(number as u8)),
+            50..=56 => Some(table::shards(number as u8)),
+            60 => Some(table::stopped()),
+            70..=74 => Some(table::rings(number as u8)),
+            80..=83 => Some(table::tunnels(number as u8)),
+            90..=95 => Some(table::scripts(number as u8)),
+            _ => None,
+        }
+    }
+
+    /// The paragraph that is printed: the number and the name, then the meaning, the causes and the example.
+    pub fn text(&self, alloc: Global) -> Result<String, AllocError>
+        ensures { IfOk result (λ text. string_bytes text ≡ explanation_text self.now) }
+    {
+        let Explanation {
+            number,
+            name,
+            meaning,
+            causes,
+            example,
+        } = self;
+        format!(in alloc;
+            "fault {number} {name}\n{meaning}\nUsual causes: {causes}\nFor example: {example}\n"
+        )
+    }
+}

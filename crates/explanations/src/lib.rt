@@ -1,0 +1,9 @@
+//! Each fault of the program in a paragraph: what it means, what mostly leads to it, and an example.
+#![tactic(auto)]
+
+mod explanation;
+mod table;
+#[cfg(test)]
+mod tests;
+
+pub use explanation::Explanation;
