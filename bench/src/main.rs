@@ -1,6 +1,7 @@
 //! Prints how fast the verifier and the machine are, beside a plain Rust interpreter that does the same in the same run.
 
 mod assemble;
+mod audits;
 mod decode;
 mod flat;
 mod library;
@@ -9,6 +10,7 @@ mod measure;
 mod plain;
 mod programs;
 mod queues;
+mod shards;
 
 use assemble::Program;
 use flat::{Flat, flatten};
@@ -244,5 +246,11 @@ fn main() {
     }
     if "maps".contains(&word) {
         maps::print();
+    }
+    if "audit".contains(&word) {
+        audits::print();
+    }
+    if "shards".contains(&word) {
+        shards::print();
     }
 }
