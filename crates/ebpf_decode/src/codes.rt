@@ -7,9 +7,7 @@ ghost use Rattle.ebpf_decode.specs.InstructionReading.{register_at, is_division,
 ghost use Rattle.isa.specs.InstructionCodes.{test_code};
 
 use crate::fault::SlotFault;
-use isa::operation::{
-    ALU_OPS, ATOMIC_OPS, EXTENSIONS, ORDERS, SHORT_EXTENSIONS, SIZES, SWAP_WIDTHS, TESTS, WIDTHS,
-};
+use isa::operation::{EXTENSIONS, ORDERS, SHORT_EXTENSIONS, SWAP_WIDTHS};
 use isa::{
     AluOp, AtomicOp, ByteOrder, Class, Extension, Mode, Register, ShortExtension, Size, SwapWidth,
     Test, Width,
@@ -64,25 +62,45 @@ pub fn register_at(number: u8) -> Result<Register, SlotFault>
 pub fn alu_op_at(code: u8, offset: i16) -> Result<AluOp, SlotFault>
     ensures { result ≡ alu_op_at code offset }
 {
-    first_alu_op(&ALU_OPS, code, offset).ok_or(SlotFault::UnknownOpcode)
+    match code {
+        0 => Ok(AluOp::Add),
+        1 => Ok(AluOp::Sub),
+        2 => Ok(AluOp::Mul),
+        3 => division_at(offset),
+        4 => Ok(AluOp::Or),
+        5 => Ok(AluOp::And),
+        6 => Ok(AluOp::Lsh),
+        7 => Ok(AluOp::Rsh),
+        9 => remainder_at(offset),
+        10 => Ok(AluOp::Xor),
+        11 => Ok(AluOp::Mov),
+        12 => Ok(AluOp::Arsh),
+        _ => Err(SlotFault::UnknownOpcode),
+    }
 }
 
-fn first_alu_op(all: &[AluOp], code: u8, offset: i16) -> Option<AluOp>
-    ensures { result ≡ find (λ op. is_alu_op op code offset) all.now }
+/// The division of this offset, or fault 15.
+#[tactic(auto, unfolding(crate::specs::InstructionReading::alu_op_at))]
+fn division_at(offset: i16) -> Result<AluOp, SlotFault>
+    ensures { result ≡ alu_op_at 3 offset }
 {
-    all.iter().copied().find(|op| is_alu_op(*op, code, offset))
+    match offset {
+        0 => Ok(AluOp::Div),
+        1 => Ok(AluOp::Sdiv),
+        _ => Err(SlotFault::UnknownOpcode),
+    }
 }
 
-fn is_alu_op(op: AluOp, code: u8, offset: i16) -> bool
-    ensures { result ≡ is_alu_op op code offset }
+/// The remainder of this offset, or fault 15.
+#[tactic(auto, unfolding(crate::specs::InstructionReading::alu_op_at))]
+fn remainder_at(offset: i16) -> Result<AluOp, SlotFault>
+    ensures { result ≡ alu_op_at 9 offset }
 {
-    op.code() == code && (!is_division(code) || i16::from(op.offset()) == offset)
-}
-
-fn is_division(code: u8) -> bool
-    ensures { result ≡ is_division code }
-{
-    code == AluOp::Div.code() || code == AluOp::Mod.code()
+    match offset {
+        0 => Ok(AluOp::Mod),
+        1 => Ok(AluOp::Smod),
+        _ => Err(SlotFault::UnknownOpcode),
+    }
 }
 
 /// The extension of this offset, or fault 15.
@@ -138,13 +156,20 @@ pub fn swap_width_at(immediate: i32) -> Result<SwapWidth, SlotFault>
 pub fn test_at(code: u8) -> Result<Test, SlotFault>
     ensures { result ≡ test_at code }
 {
-    first_test(&TESTS, code).ok_or(SlotFault::UnknownOpcode)
-}
-
-fn first_test(all: &[Test], code: u8) -> Option<Test>
-    ensures { result ≡ find (λ t. test_code t == code) all.now }
-{
-    all.iter().copied().find(|test| test.code() == code)
+    match code {
+        1 => Ok(Test::Eq),
+        2 => Ok(Test::Gt),
+        3 => Ok(Test::Ge),
+        4 => Ok(Test::Set),
+        5 => Ok(Test::Ne),
+        6 => Ok(Test::Sgt),
+        7 => Ok(Test::Sge),
+        10 => Ok(Test::Lt),
+        11 => Ok(Test::Le),
+        12 => Ok(Test::Slt),
+        13 => Ok(Test::Sle),
+        _ => Err(SlotFault::UnknownOpcode),
+    }
 }
 
 /// The size of this code. There is one for each code below 4.
@@ -152,11 +177,13 @@ fn first_test(all: &[Test], code: u8) -> Option<Test>
 pub fn size_at(code: u8) -> Result<Size, SlotFault>
     ensures { result ≡ size_at code }
 {
-    SIZES
-        .iter()
-        .copied()
-        .find(|size| size.code() == code)
-        .ok_or(SlotFault::UnknownOpcode)
+    match code {
+        0 => Ok(Size::U32),
+        1 => Ok(Size::U16),
+        2 => Ok(Size::U8),
+        3 => Ok(Size::U64),
+        _ => Err(SlotFault::UnknownOpcode),
+    }
 }
 
 /// The sign-extending load of this size's code, or fault 15.
@@ -176,11 +203,11 @@ pub fn extension_size_at(code: u8) -> Result<Extension, SlotFault>
 pub fn width_at(code: u8) -> Result<Width, SlotFault>
     ensures { result ≡ width_at code }
 {
-    WIDTHS
-        .iter()
-        .copied()
-        .find(|width| width.size().code() == code)
-        .ok_or(SlotFault::UnknownOpcode)
+    match code {
+        0 => Ok(Width::Bits32),
+        3 => Ok(Width::Bits64),
+        _ => Err(SlotFault::UnknownOpcode),
+    }
 }
 
 /// The atomic operation of this immediate, or fault 15.
@@ -188,17 +215,17 @@ pub fn width_at(code: u8) -> Result<Width, SlotFault>
 pub fn atomic_op_at(immediate: i32) -> Result<AtomicOp, SlotFault>
     ensures { result ≡ atomic_op_at immediate }
 {
-    first_atomic_op(&ATOMIC_OPS, immediate).ok_or(SlotFault::UnknownOpcode)
-}
-
-fn first_atomic_op(all: &[AtomicOp], immediate: i32) -> Option<AtomicOp>
-    ensures { result ≡ find (λ op. is_atomic_op op immediate) all.now }
-{
-    all.iter().copied().find(|op| is_atomic_op(*op, immediate))
-}
-
-fn is_atomic_op(op: AtomicOp, immediate: i32) -> bool
-    ensures { result ≡ is_atomic_op op immediate }
-{
-    i32::from(op.code()) == immediate
+    match immediate {
+        0x00 => Ok(AtomicOp::AtomicAdd),
+        0x40 => Ok(AtomicOp::AtomicOr),
+        0x50 => Ok(AtomicOp::AtomicAnd),
+        0xa0 => Ok(AtomicOp::AtomicXor),
+        0x01 => Ok(AtomicOp::FetchAdd),
+        0x41 => Ok(AtomicOp::FetchOr),
+        0x51 => Ok(AtomicOp::FetchAnd),
+        0xa1 => Ok(AtomicOp::FetchXor),
+        0xe1 => Ok(AtomicOp::Exchange),
+        0xf1 => Ok(AtomicOp::CompareExchange),
+        _ => Err(SlotFault::UnknownOpcode),
+    }
 }

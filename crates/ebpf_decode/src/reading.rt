@@ -122,7 +122,7 @@ fn slots_code(
     requires { 8 * count ≤ length bytes.now }
     ensures { Gives (λ code. code.items) result (code_from version 0 None (slots_at count bytes.now)) }
 {
-    let mut code = Vec::new(alloc);
+    let mut code = Vec::with_capacity(alloc, count as usize)?;
     let mut pending = None;
     let mut rest = bytes;
     for place in 0..count {

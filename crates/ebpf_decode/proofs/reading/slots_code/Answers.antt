@@ -10,7 +10,7 @@ use Rattle.ebpf_decode.proofs.reading.slots_code.Goals as goal
 
 pub returns-in_err-reading : goal.returns-in_err-reading
 returns-in_err-reading c =
-    let p = err_from_is_err_and c.from_residual.result c.from_residual.ensures.1 in
+    let p = err_from_is_err_and c.from_residual-in_err-reading.result c.from_residual-in_err-reading.ensures.1 in
     let found : step_at c.args.version c.loop-place.place c.loop-place.pending (slot_at c.loop-place.rest.now) ≡ Err c.in_err-reading.field-0.0 = rw (← c.of.ensures) (sym c.in_err-reading.ensures) in
     rw (p.1, p.2) (λ _. slot_refused c.args.version c.loop-place.code.items c.loop-place.pending c.args.count c.loop-place.place c.loop-place.rest.now c.in_err-reading.field-0.0 (code_from c.args.version 0 None (slots_at c.args.count c.args.bytes.now)) c.loop-place-test.true found c.loop-place.invariant.1)
 
