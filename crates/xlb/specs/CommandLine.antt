@@ -19,6 +19,10 @@ number_rule id most = record (new_rule id) {
   defaults = codes "0" ∷ [];
 }
 
+-- a number of at most `most` that has to be named
+abbrev pub named_number_rule : Text → ℕ → Rule
+named_number_rule id most = record (new_rule id) { required = true; action = Some Set; parser = Some (Unsigned 0 most) }
+
 abbrev pub check_command : App
 check_command = with_rule (new_app (codes "check")) (file_rule (codes "IMAGE"))
 
@@ -36,13 +40,23 @@ disasm_command = with_rule (new_app (codes "disasm")) (file_rule (codes "IMAGE")
 abbrev pub asm_command : App
 asm_command = with_rule (with_rule (new_app (codes "asm")) (file_rule (codes "TEXT"))) (file_rule (codes "OUT"))
 
--- the name, with `--version`; a command has to be given, and `help` is none
+abbrev pub audit_command : App
+audit_command = with_rule (with_rule (new_app (codes "audit")) (file_rule (codes "IMAGE"))) (file_rule (codes "JOURNALS"))
+
+abbrev pub explain_command : App
+explain_command = with_rule (new_app (codes "explain")) (named_number_rule (codes "NUMBER") 4294967295)
+
+-- the name, with `--version`; a command has to be given, and `help` tells of the commands
 abbrev pub program_name : App
 program_name =
-    on_top (λ s. record s { has_version = true; subcommand_required = true; disable_help_subcommand = true }) (new_app (codes "xlb"))
+    on_top (λ s. record s { has_version = true; subcommand_required = true }) (new_app (codes "xlb"))
 
 abbrev pub program : App
 program =
     with_subcommand
+    (with_subcommand
+    (with_subcommand
     (with_subcommand (with_subcommand (with_subcommand program_name check_command.top) run_command.top) disasm_command.top)
-    asm_command.top
+    asm_command.top)
+    audit_command.top)
+    explain_command.top

@@ -19,8 +19,12 @@ use Rattle.shards.specs.Opening.{AreOpened}
 use Rattle.shard_port.specs.PlainPorts.{PortGives}
 use Rattle.shard_port.specs.declared.plain.PlainPort.{PlainPort}
 use Rattle.machine.specs.Running.{Ends}
+use Rattle.journals.specs.JournalsView.{JournalsView}
+use Rattle.journal_files.specs.JournalReading.{IsJournalsFile}
+use Rattle.audit.specs.Audited.{AreLegal}
+use Rattle.explanations.specs.Explanations.{explanation_text}
 use Rattle.xlb.specs.declared.command_line.Settings.{Settings}
-use Rattle.xlb.specs.declared.command_line.Settings.TheVariants.{Check, Run, Disasm, Asm}
+use Rattle.xlb.specs.declared.command_line.Settings.TheVariants.{Check, Run, Disasm, Audit, Explain, Asm}
 
 -- which bytes the file of a name has
 abbrev pub FileBytes : Type 1
@@ -111,6 +115,17 @@ pub record IsDisassembled (files : FileBytes) (name : List ℕ) (printed : List 
   pub file : IsImageFile files name image
   pub text : IsAssemblyText printed image
 
+-- the second file is one of journals of the image's maps, each journal is legal, and that is printed
+pub record IsAudited (files : FileBytes) (name journals : List ℕ) (printed : List ℕ) : Type 0 where
+  pub image : Contents
+  pub file : IsImageFile files name image
+  pub bytes : List ℕ
+  pub read : files journals bytes
+  pub told : JournalsView
+  pub spelled : IsJournalsFile image.maps bytes told
+  pub legal : AreLegal told
+  pub line : printed ≡ codes "legal\n"
+
 -- the text of the first file spells the image that the second file now has
 pub record IsAssembled (before after : FileBytes) (source target : List ℕ) : Type 0 where
   pub text : List ℕ
@@ -124,6 +139,8 @@ abbrev pub IsDone : FileBytes → FileBytes → Settings → List ℕ → Type 0
 IsDone before after (Check image) printed = IsChecked before image.now printed
 IsDone before after (Run image frame now worker) printed = IsRun before image.now frame.now now worker printed
 IsDone before after (Disasm image) printed = IsDisassembled before image.now printed
+IsDone before after (Audit image journals) printed = IsAudited before image.now journals.now printed
+IsDone before after (Explain about) printed = printed ≡ explanation_text about
 IsDone before after (Asm text out) printed = IsAssembled before after text.now out.now × (printed ≡ [])
 
 -- no file changes but the one that the command is to write, whether it is done or refused
@@ -131,6 +148,8 @@ abbrev pub KeepsFiles : FileBytes → FileBytes → Settings → Type 0
 KeepsFiles before after (Check image) = AreKept before after
 KeepsFiles before after (Run image frame now worker) = AreKept before after
 KeepsFiles before after (Disasm image) = AreKept before after
+KeepsFiles before after (Audit image journals) = AreKept before after
+KeepsFiles before after (Explain about) = AreKept before after
 KeepsFiles before after (Asm text out) = AreOthersKept before after out.now
 
 -- a text that ends its line

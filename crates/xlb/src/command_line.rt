@@ -1,5 +1,7 @@
 //! What a command line says.
 
+use explanations::Explanation;
+
 /// A command with its words: names of files as they were given, and numbers.
 #[derive(Clone, Copy, Debug, PartialEq, Eq)]
 pub enum Settings<'a> {
@@ -17,6 +19,15 @@ pub enum Settings<'a> {
     /// Prints an image as text.
     Disasm {
         image: &'a str,
+    },
+    /// Tells whether journals are legal for an image's maps.
+    Audit {
+        image: &'a str,
+        journals: &'a str,
+    },
+    /// Tells what a fault means.
+    Explain {
+        about: Explanation,
     },
     /// Writes the image of a text.
     Asm {

@@ -6,14 +6,15 @@ ghost use Rattle.semantics.specs.ShardPlan.{AreOptions};
 ghost use Rattle.semantics.specs.System.{IsInputFrame};
 ghost use Rattle.shards.specs.Opening.{AreOpened};
 ghost use Rattle.disasm.specs.AssemblyText.{IsAssemblyText};
-ghost use Rattle.verifier.specs.Runnable.{IsRunnable};
-ghost use Rattle.xlb.specs.Results.{AreKept, AreOthersKept, IsImageFile, IsChecked, HasRun, IsRun, run_options, IsDisassembled, IsAssembled};
+ghost use Rattle.xlb.specs.Results.{AreKept, AreOthersKept, IsImageFile, IsChecked, HasRun, IsRun, run_options, IsDisassembled, IsAudited, IsAssembled};
 
 use crate::fault::Fault;
 use crate::folder::Folder;
 use crate::report::{accepted, outcome};
+use audit::audit;
 use disasm::{AsmFault, assemble, text};
 use ebpf_decode::{Image, decode, encode};
+use journal_files::journals_of;
 use machine::{Exit, Moment, Stop, run};
 use shard_port::PlainPort;
 use shard_port::laws::opened_serve;
@@ -31,6 +32,9 @@ const OPTIONS: Options = Options {
     shards: 1,
     journal: 65_536,
 };
+
+/// What is printed of legal journals.
+const LEGAL: &str = "legal\n";
 
 /// The bytes of a file.
 fn bytes_of<D: Folder>(alloc: Global, folder: &mut D, name: &str) -> Result<Vec<u8>, Fault>
@@ -134,7 +138,6 @@ fn run_over(
 ) -> Result<Exit, Stop>
     requires opened { AreOpened verified.now.maps run_options shards.old }
     requires options { AreOptions verified.now.maps run_options }
-    requires runnable { IsRunnable verified.now.code verified.now.states }
     requires headroom { frame.old.headroom ≡ 256 }
     requires worker { moment.now.worker < 8 }
     ensures { IfOk result (λ exit. HasRun (record { version = verified.now.version; maps = verified.now.maps; code = verified.now.code }) frame.old.bytes moment.now.now_ns moment.now.worker
@@ -161,10 +164,6 @@ pub fn run_once<D: Folder>(
     ensures kept { AreKept (D.holds folder.old) (D.holds folder.new) }
 {
     let verified = judged_of(alloc, folder, image)?;
-    match verified.unrun() {
-        Some(reject) => return Err(Fault::Program(reject)),
-        None => {}
-    }
     let mut frame = frame_of(alloc, folder, frame)?;
     let moment = moment_of(now, worker)?;
     let mut shards = match Shards::open(alloc, verified.image(), OPTIONS) {
@@ -186,6 +185,29 @@ pub fn disassemble<D: Folder>(alloc: Global, folder: &mut D, image: &str) -> Res
 {
     let image = image_of(alloc, folder, image)?;
     Ok(text(alloc, &image)?)
+}
+
+/// Tells whether the journals of a file are legal for the maps of an image.
+pub fn audit_file<D: Folder>(
+    alloc: Global,
+    folder: &mut D,
+    image: &str,
+    journals: &str,
+) -> Result<String, Fault>
+    requires { D.failure_count folder.old < 2 ^ 64 - 1 }
+    ensures done { IfOk result (λ text. IsAudited (D.holds folder.old) image.now journals.now (string_bytes text)) }
+    ensures kept { AreKept (D.holds folder.old) (D.holds folder.new) }
+{
+    let image = image_of(alloc, folder, image)?;
+    let bytes = bytes_of(alloc, folder, journals)?;
+    let journals = match journals_of(alloc, &image, &bytes) {
+        Ok(journals) => journals,
+        Err(fault) => return Err(Fault::Journals(fault)),
+    };
+    match audit(alloc, &journals) {
+        Ok(()) => Ok(String::from_str(alloc, LEGAL)?),
+        Err(fault) => Err(Fault::Audit(fault)),
+    }
 }
 
 /// The line, counted from 1, in which the byte at an index stands.

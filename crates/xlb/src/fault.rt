@@ -1,8 +1,10 @@
 //! Why a command was refused.
 
 use crate::folder::FolderFault;
+use audit::AuditFault;
 use disasm::AsmFault;
 use ebpf_decode::DecodeFault;
+use journal_files::FileFault;
 use machine::Stop;
 use shards::OpenFault;
 use std::alloc::AllocError;
@@ -34,6 +36,12 @@ pub enum Fault {
     /// 60: a run was stopped.
     #[error(transparent)]
     Run(Stop),
+    /// 52 or 55: bytes that are no file of journals of the image's maps.
+    #[error(transparent)]
+    Journals(FileFault),
+    /// 52 or 53: journals that are not legal.
+    #[error(transparent)]
+    Audit(AuditFault),
     /// 7: what was to be printed could not be.
     #[error("fault 7 Device")]
     Output,

@@ -15,11 +15,17 @@ pub const IMAGE: &str = "IMAGE";
 /// The file of a frame's bytes.
 pub const FRAME: &str = "FRAME";
 
+/// The file of journals.
+pub const JOURNALS: &str = "JOURNALS";
+
 /// The file of an image's text.
 pub const TEXT: &str = "TEXT";
 
 /// The file that is written.
 pub const OUT: &str = "OUT";
+
+/// The number of a fault.
+pub const NUMBER: &str = "NUMBER";
 
 /// The time of a run.
 pub const NOW: &str = "now";
@@ -35,7 +41,8 @@ const AFTER: &str = "\
 A file that cannot be read, or that is refused, is told on the standard error
 as `fault <number> <name>`, with what it is about, and the status is 1. The
 status is 2 where the command line is wrong, and 0 where the command is done.
-'xlb <COMMAND> --help' tells more of a command.";
+'xlb <COMMAND> --help' tells more of a command, and 'xlb explain <NUMBER>' of a
+fault.";
 
 const AFTER_CHECK: &str = "\
 Prints one line:
@@ -45,8 +52,7 @@ map and does the same on each worker. A program that may not run is refused
 with the first rule that it breaks and the slot of the instruction, counted
 from 0.
 An image of version 2 may besides take addresses in the values of its maps
-(the instruction ldval), and have values of up to 256 bytes. This build does
-not run ldval yet: run answers 47 to the first one.";
+(the instruction ldval), and have values of up to 256 bytes.";
 
 const AFTER_RUN: &str = "\
 Prints three lines:
@@ -64,6 +70,16 @@ asm reads. The program is not judged.";
 const AFTER_ASM: &str = "\
 Prints nothing. An image has one text: another spelling is refused with its
 line, counted from 1.";
+
+const AFTER_AUDIT: &str = "\
+Prints `legal` where each entry of each journal is a call that its caller may
+make, with the reply that a map on one thread gives, and none came past a full
+journal. Else the first entry that is not is told, by its shard and its place
+there, counted from 0. Only the image's maps count: its program is not judged.";
+
+const AFTER_EXPLAIN: &str = "\
+Prints what the fault means, what mostly leads to it, and an example. A number
+that no fault has is a mistake of the command line.";
 
 /// A file that has to be named.
 fn file<'a>(alloc: Global, id: &'a str, help: &'a str) -> Arg<'a>
@@ -87,6 +103,18 @@ fn number<'a>(alloc: Global, id: &'a str, most: u64, help: &'a str) -> Arg<'a>
         .value_name("N")
         .value_parser(ValueParser::unsigned(0, most))
         .default_value("0")
+        .help(help)
+}
+
+/// A number that has to be named, at most `most`.
+fn named_number<'a>(alloc: Global, id: &'a str, most: u64, help: &'a str) -> Arg<'a>
+    ensures rule { rule_of result ≡ line.named_number_rule id.entry.now most }
+    ensures local { result.global ≡ false }
+{
+    Arg::new(alloc, id)
+        .required(true)
+        .action(ArgAction::Set)
+        .value_parser(ValueParser::unsigned(0, most))
         .help(help)
 }
 
@@ -149,6 +177,30 @@ fn asm<'a>(alloc: Global) -> Result<Command<'a>, AllocError>
         .arg(out)
 }
 
+fn audit<'a>(alloc: Global) -> Result<Command<'a>, AllocError>
+    ensures app { IfOk result (λ command. app_of command ≡ line.audit_command) }
+    ensures local { IfOk result (λ command. (out-Command command).has_globals ≡ false) }
+{
+    let image = file(alloc, IMAGE, "The image's file");
+    let journals = file(alloc, JOURNALS, "The file of the journals");
+    command(
+        alloc,
+        "audit",
+        "Tells whether journals are legal",
+        AFTER_AUDIT,
+    )
+    .arg(image)?
+    .arg(journals)
+}
+
+fn explain<'a>(alloc: Global) -> Result<Command<'a>, AllocError>
+    ensures app { IfOk result (λ command. app_of command ≡ line.explain_command) }
+    ensures local { IfOk result (λ command. (out-Command command).has_globals ≡ false) }
+{
+    let number = named_number(alloc, NUMBER, u32::MAX as u64, "The fault's number");
+    command(alloc, "explain", "Tells what a fault means", AFTER_EXPLAIN).arg(number)
+}
+
 /// The program's commands.
 pub fn program<'a>(alloc: Global) -> Result<Command<'a>, AllocError>
     ensures app { IfOk result (λ command. app_of command ≡ line.program) }
@@ -159,10 +211,11 @@ pub fn program<'a>(alloc: Global) -> Result<Command<'a>, AllocError>
         .about(ABOUT)
         .version(VERSION)
         .after_help(AFTER)
-        .subcommand_required(true)
-        .disable_help_subcommand(true);
+        .subcommand_required(true);
     top.subcommand(check(alloc)?)?
         .subcommand(run(alloc)?)?
         .subcommand(disasm(alloc)?)?
-        .subcommand(asm(alloc)?)
+        .subcommand(asm(alloc)?)?
+        .subcommand(audit(alloc)?)?
+        .subcommand(explain(alloc)?)
 }

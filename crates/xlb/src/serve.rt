@@ -5,7 +5,7 @@ ghost use Rattle.std.specs.Io.KnownBytes.{append_known};
 ghost use Rattle.xlb.specs.Results.{IsDone, IsLine, KeepsFiles, PrintsLine};
 
 use crate::command_line::Settings;
-use crate::commands::{assemble_file, check, disassemble, run_once};
+use crate::commands::{assemble_file, audit_file, check, disassemble, run_once};
 use crate::fault::Fault;
 use crate::folder::Folder;
 use std::alloc::{AllocError, Global};
@@ -36,6 +36,8 @@ fn answer<D: Folder>(
             worker,
         } => run_once(alloc, folder, image, frame, now, worker),
         Settings::Disasm { image } => disassemble(alloc, folder, image),
+        Settings::Audit { image, journals } => audit_file(alloc, folder, image, journals),
+        Settings::Explain { about } => Ok(about.text(alloc)?),
         Settings::Asm { text, out } => assemble_file(alloc, folder, text, out),
     }
 }

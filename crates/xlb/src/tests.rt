@@ -3,7 +3,9 @@
 ghost use Rattle.std.specs.Prelude.{◌≡◌, ◌-◌, ◌<◌, ◌^◌, IfOk};
 
 mod assembling;
+mod audits;
 mod devices;
+mod faults;
 mod first_path;
 mod images;
 mod programs;

@@ -1,15 +1,17 @@
 //! The command line, read.
 
-ghost use Rattle.std.specs.Prelude.{◌≡◌, ◌≢◌, ◌⊎◌, List, [], Some, IfOk, IfErr, map, codes};
+ghost use Rattle.std.specs.Prelude.{◌≡◌, ◌≢◌, ◌⊎◌, List, [], Some, IfOk, IfErr, IsFalse, map, codes};
+ghost use Rattle.std.specs.Str.{bytes_eq};
 ghost use Rattle.clap.specs.Kinds.{FailsBy, IsAmong};
 ghost use Rattle.clap.specs.Words.{Row, Text, fault_of, found_of, rows_of, subcommand_of};
 ghost use Rattle.xlb.specs.CommandLine.{program};
-ghost use Rattle.xlb.specs.Reading.{IsReadFrom, kind_in, word_of};
+ghost use Rattle.xlb.specs.Reading.{IsReadFrom, IsAsked, AsksInVain, kind_in, word_of};
 ghost use Rattle.clap.specs.declared.error.kind.ErrorKind.TheVariants.{DisplayHelp, DisplayVersion, OutOfMemory};
 
 use crate::command_line::Settings;
-use crate::grammar::{FRAME, IMAGE, NOW, OUT, TEXT, WORKER, program};
+use crate::grammar::{FRAME, IMAGE, JOURNALS, NOW, NUMBER, OUT, TEXT, WORKER, program};
 use clap::{ArgMatches, Error};
+use explanations::Explanation;
 use std::alloc::Global;
 use std::convert::AsStr;
 use std::{fmt, io};
@@ -19,6 +21,17 @@ use std::{fmt, io};
 pub enum WordsFault {
     /// The parser's own answer, whose text is for the user.
     Parser(Error),
+    /// No fault has the number that was asked about.
+    UnknownFault(u32),
+}
+
+/// What words ask for that the parser finds no fault in.
+#[derive(Clone, Copy, Debug, PartialEq, Eq)]
+enum Asked<'a> {
+    /// A command.
+    Command(Settings<'a>),
+    /// What a number means that no fault has.
+    NoSuchFault(u32),
 }
 
 impl WordsFault {
@@ -29,6 +42,7 @@ impl WordsFault {
     {
         match self {
             WordsFault::Parser(error) => { if error.use_stderr() { 2 } else { 0 } }
+            WordsFault::UnknownFault(_) => 2,
         }
     }
 
@@ -36,6 +50,7 @@ impl WordsFault {
     pub fn print<R: Print + Eprint>(&self, rt: &R) -> io::Result<()> {
         match self {
             WordsFault::Parser(error) => error.print(rt),
+            WordsFault::UnknownFault(number) => eprintln!(rt; "error: there is no fault {number}"),
         }
     }
 }
@@ -44,43 +59,68 @@ impl fmt::Display for WordsFault {
     fn fmt<W: fmt::Write>(&self, f: &mut fmt::Formatter<W>) -> fmt::Result {
         match self {
             WordsFault::Parser(error) => write!(f, "{error}"),
+            WordsFault::UnknownFault(number) => write!(f, "error: there is no fault {number}"),
         }
     }
 }
 
 /// The command that the words say; the first word is the program's name.
 ///
-/// There is one exactly where the parser finds no fault in the words. A fault is of the first kind that the parser finds, or
-/// memory was refused.
+/// There is one exactly where the parser finds no fault in the words, and they don't ask what a number means that no fault has. A fault
+/// is of the first kind that the parser finds, or tells that number, or memory was refused.
 pub fn settings<'a, S: AsStr>(alloc: Global, words: &'a [S]) -> Result<Settings<'a>, WordsFault>
     ensures found { IfOk result (λ settings. (name : Text) × (rows : List Row)
         × (subcommand_of program (map S.text words.entry.now) ≡ Some (name, rows)) × IsReadFrom name rows settings) }
     ensures faultless { IfOk result (λ _. fault_of program (map S.text words.entry.now) ≡ []) }
     ensures faulty { IfErr result (λ fault. (kind_in fault ≡ OutOfMemory)
-        ⊎ IsAmong (kind_in fault) (fault_of program (map S.text words.entry.now))) }
+        ⊎ IsAmong (kind_in fault) (fault_of program (map S.text words.entry.now))
+        ⊎ ((name : Text) × (rows : List Row) × (subcommand_of program (map S.text words.entry.now) ≡ Some (name, rows)) × AsksInVain name rows fault)) }
 {
     match parsed(alloc, words) {
-        Ok(settings) => Ok(settings),
+        Ok(Asked::Command(settings)) => Ok(settings),
+        Ok(Asked::NoSuchFault(number)) => Err(WordsFault::UnknownFault(number)),
         Err(error) => Err(WordsFault::Parser(error)),
     }
 }
 
 /// What the parser makes of the words.
-fn parsed<'a, S: AsStr>(alloc: Global, words: &'a [S]) -> Result<Settings<'a>, Error>
-    ensures found { IfOk result (λ settings. (name : Text) × (rows : List Row)
-        × (subcommand_of program (map S.text words.entry.now) ≡ Some (name, rows)) × IsReadFrom name rows settings) }
+fn parsed<'a, S: AsStr>(alloc: Global, words: &'a [S]) -> Result<Asked<'a>, Error>
+    ensures found { IfOk result (λ asked. (name : Text) × (rows : List Row)
+        × (subcommand_of program (map S.text words.entry.now) ≡ Some (name, rows)) × IsAsked name rows asked) }
     ensures kinds { FailsBy (fault_of program (map S.text words.entry.now)) result }
 {
     let command = program(alloc)?;
     let matches = command.try_get_matches_from(words)?;
     match matches.subcommand() {
-        Some((name, found)) => Ok(command_of(name, found)),
+        Some((name, found)) => Ok(asked_of(name, found)),
         None => unreachable!(),
     }
 }
 
-/// The command of a name, with its words.
+/// What the command of a name asks for, with its words.
+fn asked_of<'a>(name: &str, found: &ArgMatches<'a>) -> Asked<'a>
+    ensures { IsAsked name.now (rows_of (found_of found.now)) result }
+{
+    if name == "explain" {
+        return explain_of(found);
+    }
+    Asked::Command(command_of(name, found))
+}
+
+/// What is asked of a fault's number.
+fn explain_of<'a>(found: &ArgMatches<'a>) -> Asked<'a>
+    ensures { IsAsked (codes "explain") (rows_of (found_of found.now)) result }
+{
+    let number = found.get_one::<u32>(NUMBER).unwrap_or(0);
+    match Explanation::of(number) {
+        Some(about) => Asked::Command(Settings::Explain { about }),
+        None => Asked::NoSuchFault(number),
+    }
+}
+
+/// The command of a name, but for `explain`, with its words.
 fn command_of<'a>(name: &str, found: &ArgMatches<'a>) -> Settings<'a>
+    requires { IsFalse (bytes_eq name.now (codes "explain")) }
     ensures { IsReadFrom name.now (rows_of (found_of found.now)) result }
 {
     if name == "check" {
@@ -94,6 +134,12 @@ fn command_of<'a>(name: &str, found: &ArgMatches<'a>) -> Settings<'a>
     if name == "disasm" {
         return Settings::Disasm {
             image: word(found, IMAGE),
+        };
+    }
+    if name == "audit" {
+        return Settings::Audit {
+            image: word(found, IMAGE),
+            journals: word(found, JOURNALS),
         };
     }
     Settings::Asm {

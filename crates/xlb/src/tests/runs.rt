@@ -16,7 +16,7 @@ type Row = (
 );
 
 #[rattlefmt::skip]
-const ROWS: [Row; 25] = [
+const ROWS: [Row; 26] = [
     ("two instructions", "version 1\nmov r0, 2\nexit\n", "0000000000000000000000000000", "xlb run image frame", "verdict pass\ninstructions 2\nframe 0000000000000000000000000000\n"),
     ("byte 13 of 14", "version 1\nldxw r2, [r1+0]\nldxw r3, [r1+4]\nmov r4, r2\nadd r4, 14\nmov r0, 2\njgt r4, r3, +1\nldxb r0, [r2+13]\nexit\n", "0000000000000000000000000001", "xlb run image frame", "verdict drop\ninstructions 8\nframe 0000000000000000000000000001\n"),
     ("byte 13 of 15", "version 1\nldxw r2, [r1+0]\nldxw r3, [r1+4]\nmov r4, r2\nadd r4, 14\nmov r0, 2\njgt r4, r3, +1\nldxb r0, [r2+13]\nexit\n", "000000000000000000000000000100", "xlb run image frame", "verdict drop\ninstructions 8\nframe 000000000000000000000000000100\n"),
@@ -41,6 +41,7 @@ const ROWS: [Row; 25] = [
     ("a key of a hash map is put and found", "version 1\nmap hash 4 8 2\nstw [r10-4], 7\nstdw [r10-16], 3\nldmap r1, 0\nmov r2, r10\nadd r2, -4\nmov r3, r10\nadd r3, -16\nmov r4, 0\ncall 2\nldmap r1, 0\nmov r2, r10\nadd r2, -4\ncall 1\njeq r0, 0, +1\nldxdw r0, [r0+0]\nexit\n", "0000000000000000000000000000", "xlb run image frame", "verdict tx\ninstructions 16\nframe 0000000000000000000000000000\n"),
     ("a key of an LRU map is put and found", "version 1\nmap lru 4 8 2\nstw [r10-4], 7\nstdw [r10-16], 3\nldmap r1, 0\nmov r2, r10\nadd r2, -4\nmov r3, r10\nadd r3, -16\nmov r4, 0\ncall 2\nldmap r1, 0\nmov r2, r10\nadd r2, -4\ncall 1\njeq r0, 0, +1\nldxdw r0, [r0+0]\nexit\n", "0000000000000000000000000000", "xlb run image frame", "verdict tx\ninstructions 16\nframe 0000000000000000000000000000\n"),
     ("a number is added to an element", "version 1\nmap array 4 8 1\nstw [r10-4], 0\nmov r2, r10\nadd r2, -4\nldmap r1, 0\ncall 1\njeq r0, 0, +3\nmov r1, 2\naadddw [r0+0], r1\nldxdw r0, [r0+0]\nexit\n", "0000000000000000000000000000", "xlb run image frame", "verdict pass\ninstructions 10\nframe 0000000000000000000000000000\n"),
+    ("an address that the program names itself", "version 2\nmap array 4 8 1\nldval r1, 0, 0\nmov r2, 3\naadddw [r1+0], r2\nldxdw r0, [r1+0]\nexit\n", "0000000000000000000000000000", "xlb run image frame", "verdict tx\ninstructions 5\nframe 0000000000000000000000000000\n"),
     ("the packet's start is moved back", "version 1\nmov r2, -20\ncall 44\nmov r0, 3\nexit\n", "0000000000000000000000000000", "xlb run image frame", "verdict tx\ninstructions 4\nframe 00000000000000000000000000000000000000000000000000000000000000000000\n"),
 ];
 

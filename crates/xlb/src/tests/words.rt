@@ -15,15 +15,23 @@ fn shown(alloc: Global, settings: Settings<'_>) -> Result<String, AllocError> {
             worker,
         } => format!(in alloc; "run {image} {frame} {now} {worker}"),
         Settings::Disasm { image } => format!(in alloc; "disasm {image}"),
+        Settings::Audit { image, journals } => format!(in alloc; "audit {image} {journals}"),
+        Settings::Explain { about } => {
+            let number = about.number;
+            format!(in alloc; "explain {number}")
+        }
         Settings::Asm { text, out } => format!(in alloc; "asm {text} {out}"),
     }
 }
 
 #[rattlefmt::skip]
-const READ: [(&str, &str); 10] = [
+const READ: [(&str, &str); 13] = [
     ("xlb check a",                             "check a"),
     ("xlb disasm a",                            "disasm a"),
     ("xlb asm a b",                             "asm a b"),
+    ("xlb audit a b",                           "audit a b"),
+    ("xlb explain 1",                           "explain 1"),
+    ("xlb explain +095",                        "explain 95"),
     ("xlb run a b",                             "run a b 0 0"),
     ("xlb run a b --now 5",                     "run a b 5 0"),
     ("xlb run --worker=9 a b --now=7",          "run a b 7 9"),
@@ -47,10 +55,10 @@ fn reads_commands(rt: HostRuntime) -> Result<(), Fail> {
 
 /// A command line, the status, and what its text begins with.
 #[rattlefmt::skip]
-const REFUSED: [(&str, u8, &str); 20] = [
+const REFUSED: [(&str, u8, &str); 27] = [
     ("xlb",                                     2, "error: 'xlb' requires a subcommand but one was not provided"),
     ("xlb replay a b",                          2, "error: unrecognized subcommand 'replay'"),
-    ("xlb help",                                2, "error: unrecognized subcommand 'help'"),
+    ("xlb help",                                0, "Checks, runs, prints and assembles images of eBPF programs"),
     ("xlb check",                               2, "error: the following required arguments were not provided:\n  <IMAGE>"),
     ("xlb check a b",                           2, "error: unexpected argument 'b' found"),
     ("xlb check a --now 1",                     2, "error: unexpected argument '--now' found"),
@@ -64,6 +72,13 @@ const REFUSED: [(&str, u8, &str); 20] = [
     ("xlb run a b --worker 1 --worker 2",       2, "error: the argument '--worker <N>' cannot be used multiple times"),
     ("xlb run a b --workers 1",                 2, "error: unexpected argument '--workers' found"),
     ("xlb disasm",                              2, "error: the following required arguments were not provided:\n  <IMAGE>"),
+    ("xlb audit a",                             2, "error: the following required arguments were not provided:\n  <JOURNALS>"),
+    ("xlb explain",                             2, "error: the following required arguments were not provided:\n  <NUMBER>"),
+    ("xlb explain 0",                           2, "error: there is no fault 0"),
+    ("xlb explain 24",                          2, "error: there is no fault 24"),
+    ("xlb explain PacketBounds",                2, "error: invalid value 'PacketBounds' for '<NUMBER>'"),
+    ("xlb explain 4294967296",                  2, "error: invalid value '4294967296' for '<NUMBER>'"),
+    ("xlb help nosuch",                         2, "error: unrecognized subcommand 'nosuch'"),
     ("xlb asm a",                               2, "error: the following required arguments were not provided:\n  <OUT>"),
     ("xlb --help",                              0, "Checks, runs, prints and assembles images of eBPF programs"),
     ("xlb run --help",                          0, "Runs an image on one frame"),

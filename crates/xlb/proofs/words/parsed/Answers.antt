@@ -37,7 +37,7 @@ returns-clause-found g c =
       c.in-Some.name.now,
       rows_of (found_of c.in-Some.found.now),
       ap (λ (a : App). subcommand_of a words) (sym c.in_ok-command.ensures.app) ∙ (sym read.1 ∙ found),
-      c.command_of.ensures,
+      c.asked_of.ensures,
     )
 
 pub returns-clause-kinds : goal.returns-clause-kinds

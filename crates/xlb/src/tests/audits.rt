@@ -1,0 +1,184 @@
+//! Files of journals, written by hand, and what an audit says of them.
+
+use super::{Given, file, serve_line};
+use crate::{Folder, MemoryFolder};
+use std::alloc::Global;
+use std::process::Abort;
+use std::test::Fail;
+
+/// What a row shows, the image's map, the header's numbers, the entries, and what is told: nothing where they are legal.
+type Row = (
+    &'static str,
+    &'static str,
+    &'static str,
+    &'static str,
+    &'static str,
+);
+
+/// A worker updates a key, looks it up, adds to its value and reads it.
+#[rattlefmt::skip]
+const RUNS: [Row; 20] = [
+    ("no entries",                    "hash 4 8 1",  "1 1 16", "", ""),
+    ("a run and a reclaim",           "hash 4 8 1",  "1 1 16", "0 w0 enter ok\n0 w0 update 07000000 0200000000000000 0 answer 0\n0 w0 lookup 07000000 cell 0\n0 w0 atomic 0 0 8 1 1 0 word 2\n0 w0 load 0 0 8 word 3\n0 w0 leave ok\n0 r reclaim freed 0\n", ""),
+    ("a word that was not there",     "hash 4 8 1",  "1 1 16", "0 w0 enter ok\n0 w0 update 07000000 0200000000000000 0 answer 0\n0 w0 lookup 07000000 cell 0\n0 w0 atomic 0 0 8 1 1 0 word 1\n0 w0 load 0 0 8 word 3\n0 w0 leave ok\n0 r reclaim freed 0\n", "0 place 3"),
+    ("an addition that was lost",     "hash 4 8 1",  "1 1 16", "0 w0 enter ok\n0 w0 update 07000000 0200000000000000 0 answer 0\n0 w0 lookup 07000000 cell 0\n0 w0 atomic 0 0 8 1 1 0 word 2\n0 w0 load 0 0 8 word 2\n", "0 place 4"),
+    ("a store that is read",          "array 4 8 2", "1 1 16", "0 w0 enter ok\n0 w0 lookup 01000000 cell 1\n0 w0 store 1 2 4 305419896 ok\n0 w0 load 1 0 8 word 20015998304256\n0 w0 load 1 3 1 word 86\n", ""),
+    ("a store that is not read",      "array 4 8 2", "1 1 16", "0 w0 enter ok\n0 w0 lookup 01000000 cell 1\n0 w0 store 1 2 4 305419896 ok\n0 w0 load 1 0 8 word 0\n", "0 place 3"),
+    ("exactly full",                  "hash 4 8 1",  "1 1 16", "0 w0 enter ok\n0 w0 lookup 07000000 null\n0 w0 lookup 07000000 null\n0 w0 lookup 07000000 null\n0 w0 lookup 07000000 null\n0 w0 lookup 07000000 null\n0 w0 lookup 07000000 null\n0 w0 lookup 07000000 null\n0 w0 lookup 07000000 null\n0 w0 lookup 07000000 null\n0 w0 lookup 07000000 null\n0 w0 lookup 07000000 null\n0 w0 lookup 07000000 null\n0 w0 lookup 07000000 null\n0 w0 lookup 07000000 null\n0 w0 leave ok\n", ""),
+    ("a full journal passed",         "hash 4 8 1",  "1 1 16", "0 w0 enter ok\n0 w0 lookup 07000000 null\n0 w0 lookup 07000000 null\n0 w0 lookup 07000000 null\n0 w0 lookup 07000000 null\n0 w0 lookup 07000000 null\n0 w0 lookup 07000000 null\n0 w0 lookup 07000000 null\n0 w0 lookup 07000000 null\n0 w0 lookup 07000000 null\n0 w0 lookup 07000000 null\n0 w0 lookup 07000000 null\n0 w0 lookup 07000000 null\n0 w0 lookup 07000000 null\n0 w0 lookup 07000000 null\n0 w0 lookup 07000000 null\n", "0 place 15"),
+    ("a load in no run",              "hash 4 8 1",  "1 1 16", "0 w0 load 0 0 8 word 0\n", "0 place 0"),
+    ("worker 3 of two",               "hash 4 8 1",  "2 1 16", "0 w3 enter ok\n", "0 place 0"),
+    ("worker 1 of two",               "hash 4 8 1",  "2 1 16", "0 w1 enter ok\n", ""),
+    ("a lookup in no run",            "hash 4 8 1",  "1 1 16", "0 w0 lookup 07000000 null\n", "0 place 0"),
+    ("an update in no run",           "hash 4 8 1",  "1 1 16", "0 w0 update 07000000 0200000000000000 0 answer 0\n", "0 place 0"),
+    ("a leave in no run",             "hash 4 8 1",  "1 1 16", "0 w0 leave ok\n", "0 place 0"),
+    ("an enter in a run",             "hash 4 8 1",  "1 1 16", "0 w0 enter ok\n0 w0 enter ok\n", "0 place 1"),
+    ("after a leave",                 "hash 4 8 1",  "1 1 16", "0 w0 enter ok\n0 w0 leave ok\n0 w0 lookup 07000000 null\n", "0 place 2"),
+    ("the controller enters",         "hash 4 8 1",  "1 1 16", "0 c enter ok\n", "0 place 0"),
+    ("the controller looks up",       "hash 4 8 1",  "1 1 16", "0 c lookup 07000000 null\n", "0 place 0"),
+    ("the reclaimer updates",         "hash 4 8 1",  "1 1 16", "0 r update 07000000 0200000000000000 0 answer 0\n", "0 place 0"),
+    ("the controller reclaims",       "hash 4 8 1",  "1 1 16", "0 c reclaim freed 0\n", "0 place 0"),
+];
+
+/// Keys that come and go, cells that wait for their readers, ids.
+#[rattlefmt::skip]
+const CELLS: [Row; 20] = [
+    ("answers of one key's shard",    "hash 4 8 1",  "1 1 16", "0 c update 01000000 0200000000000000 0 answer 0\n0 c update 01000000 0200000000000000 1 answer -17\n0 c update 02000000 0200000000000000 0 answer -7\n0 c update 02000000 0200000000000000 2 answer -2\n0 c update 02000000 0200000000000000 3 answer -22\n0 c delete 01000000 answer 0\n0 c delete 01000000 answer -2\n", ""),
+    ("another answer",                "hash 4 8 1",  "1 1 16", "0 c update 01000000 0200000000000000 0 answer 0\n0 c update 01000000 0200000000000000 1 answer 0\n", "0 place 1"),
+    ("cells run out",                 "hash 4 8 1",  "1 1 16", "0 c update 01000000 0200000000000000 0 answer 0\n0 c delete 01000000 answer 0\n0 c update 02000000 0200000000000000 0 answer 0\n0 c delete 02000000 answer 0\n0 c update 03000000 0200000000000000 0 answer -12\n0 r reclaim freed 2\n0 c update 03000000 0200000000000000 0 answer 0\n", ""),
+    ("a cell of the retired",         "hash 4 8 1",  "1 1 16", "0 c update 01000000 0200000000000000 0 answer 0\n0 c delete 01000000 answer 0\n0 c update 02000000 0200000000000000 0 answer 0\n0 c delete 02000000 answer 0\n0 c update 03000000 0200000000000000 0 answer 0\n", "0 place 4"),
+    ("read through a delete",         "hash 4 8 1",  "1 1 16", "0 c update 01000000 0900000000000000 0 answer 0\n0 w0 enter ok\n0 w0 lookup 01000000 cell 0\n0 c delete 01000000 answer 0\n0 r reclaim freed 0\n0 c update 02000000 0500000000000000 0 answer 0\n0 w0 load 0 0 8 word 9\n0 w0 leave ok\n0 r reclaim freed 1\n", ""),
+    ("a held cell freed",             "hash 4 8 1",  "1 1 16", "0 c update 01000000 0900000000000000 0 answer 0\n0 w0 enter ok\n0 w0 lookup 01000000 cell 0\n0 c delete 01000000 answer 0\n0 r reclaim freed 1\n", "0 place 4"),
+    ("a cell that stays",             "hash 4 8 1",  "1 1 16", "0 c update 01000000 0900000000000000 0 answer 0\n0 c delete 01000000 answer 0\n0 r reclaim freed 0\n", "0 place 2"),
+    ("a freed cell read",             "hash 4 8 1",  "1 1 16", "0 c update 01000000 0900000000000000 0 answer 0\n0 w0 enter ok\n0 w0 lookup 01000000 cell 0\n0 w0 leave ok\n0 c delete 01000000 answer 0\n0 r reclaim freed 1\n0 w0 enter ok\n0 w0 load 0 0 8 word 9\n", "0 place 7"),
+    ("an id given again",             "hash 4 8 1",  "1 1 16", "0 c update 01000000 0900000000000000 0 answer 0\n0 c delete 01000000 answer 0\n0 r reclaim freed 1\n0 c update 02000000 0900000000000000 0 answer 0\n0 w0 enter ok\n0 w0 lookup 02000000 cell 0\n", "0 place 5"),
+    ("the next id",                   "hash 4 8 1",  "1 1 16", "0 c update 01000000 0900000000000000 0 answer 0\n0 c delete 01000000 answer 0\n0 r reclaim freed 1\n0 c update 02000000 0900000000000000 0 answer 0\n0 w0 enter ok\n0 w0 lookup 02000000 cell 1\n", ""),
+    ("found out of nothing",          "hash 4 8 1",  "1 1 16", "0 w0 enter ok\n0 w0 lookup 01000000 cell 0\n", "0 place 1"),
+    ("a key that is gone",            "hash 4 8 1",  "1 1 16", "0 c update 01000000 0900000000000000 0 answer 0\n0 c delete 01000000 answer 0\n0 w0 enter ok\n0 w0 lookup 01000000 cell 0\n", "0 place 3"),
+    ("a key that is missed",          "hash 4 8 1",  "1 1 16", "0 c update 01000000 0900000000000000 0 answer 0\n0 w0 enter ok\n0 w0 lookup 01000000 null\n", "0 place 2"),
+    ("the oldest use is the victim",  "lru 4 8 2",   "1 1 16", "0 c update 01000000 0900000000000000 0 answer 0\n0 c update 02000000 0900000000000000 0 answer 0\n0 w0 enter ok\n0 w0 lookup 01000000 cell 0\n0 c update 03000000 0900000000000000 0 answer 0\n0 w0 lookup 02000000 null\n0 w0 lookup 01000000 cell 0\n0 w0 lookup 03000000 cell 2\n", ""),
+    ("another victim",                "lru 4 8 2",   "1 1 16", "0 c update 01000000 0900000000000000 0 answer 0\n0 c update 02000000 0900000000000000 0 answer 0\n0 w0 enter ok\n0 w0 lookup 01000000 cell 0\n0 c update 03000000 0900000000000000 0 answer 0\n0 w0 lookup 01000000 null\n", "0 place 5"),
+    ("no victim",                     "lru 4 8 2",   "1 1 16", "0 c update 01000000 0900000000000000 0 answer 0\n0 c update 02000000 0900000000000000 0 answer 0\n0 w0 enter ok\n0 w0 lookup 01000000 cell 0\n0 c update 03000000 0900000000000000 0 answer 0\n0 w0 lookup 02000000 cell 1\n", "0 place 5"),
+    ("a cell of an earlier run",      "array 4 8 2", "1 1 16", "0 w0 enter ok\n0 w0 lookup 01000000 cell 1\n0 w0 leave ok\n0 w0 enter ok\n0 w0 load 1 0 8 word 0\n", "0 place 4"),
+    ("a cell that another looked up", "array 4 8 2", "2 1 16", "0 w0 enter ok\n0 w1 enter ok\n0 w0 lookup 01000000 cell 1\n0 w1 load 1 0 8 word 0\n", "0 place 3"),
+    ("another cell",                  "array 4 8 2", "1 1 16", "0 w0 enter ok\n0 w0 lookup 01000000 cell 1\n0 w0 load 0 0 8 word 0\n", "0 place 2"),
+    ("an index past the last",        "array 4 8 2", "1 1 16", "0 w0 enter ok\n0 w0 lookup 02000000 null\n0 w0 update 02000000 0900000000000000 0 answer -7\n0 w0 delete 01000000 answer -22\n", ""),
+];
+
+/// Numbers of the right form that no map serves, and shards of a map in parts.
+#[rattlefmt::skip]
+const NUMBERS: [Row; 14] = [
+    ("a load off its alignment",      "array 4 8 1", "1 1 16", "0 w0 enter ok\n0 w0 lookup 00000000 cell 0\n0 w0 load 0 3 4 word 0\n", ""),
+    ("three bytes",                   "array 4 8 1", "1 1 16", "0 w0 enter ok\n0 w0 lookup 00000000 cell 0\n0 w0 load 0 0 3 word 0\n", "0 place 2"),
+    ("past the value",                "array 4 8 1", "1 1 16", "0 w0 enter ok\n0 w0 lookup 00000000 cell 0\n0 w0 load 0 5 4 word 0\n", "0 place 2"),
+    ("past all numbers",              "array 4 8 1", "1 1 16", "0 w0 enter ok\n0 w0 lookup 00000000 cell 0\n0 w0 load 0 18446744073709551615 8 word 0\n", "0 place 2"),
+    ("too much for a byte",           "array 4 8 1", "1 1 16", "0 w0 enter ok\n0 w0 lookup 00000000 cell 0\n0 w0 store 0 0 1 256 ok\n", "0 place 2"),
+    ("an unknown operation",          "array 4 8 1", "1 1 16", "0 w0 enter ok\n0 w0 lookup 00000000 cell 0\n0 w0 atomic 0 0 8 99 1 0 word 0\n", "0 place 2"),
+    ("an atomic off its alignment",   "array 4 8 1", "1 1 16", "0 w0 enter ok\n0 w0 lookup 00000000 cell 0\n0 w0 atomic 0 2 4 0 1 0 word 0\n", "0 place 2"),
+    ("an addition that compares",     "array 4 8 1", "1 1 16", "0 w0 enter ok\n0 w0 lookup 00000000 cell 0\n0 w0 atomic 0 0 8 0 1 1 word 0\n", "0 place 2"),
+    ("an exchange that compares",     "array 4 8 1", "1 1 16", "0 w0 enter ok\n0 w0 lookup 00000000 cell 0\n0 w0 atomic 0 0 8 241 1 1 word 0\n0 w0 atomic 0 0 8 241 7 0 word 0\n0 w0 load 0 0 8 word 7\n", ""),
+    ("a cell far away",               "array 4 8 1", "1 1 16", "0 w0 enter ok\n0 w0 lookup 00000000 cell 18446744073709551615\n", "0 place 1"),
+    ("two parts",                     "array 4 8 2", "1 2 16", "0 w0 enter ok\n0 w0 lookup 00000000 cell 0\n1 w0 enter ok\n1 w0 lookup 01000000 cell 0\n", ""),
+    ("a key of the other part",       "array 4 8 2", "1 2 16", "0 w0 enter ok\n0 w0 lookup 00000000 cell 0\n1 w0 enter ok\n1 w0 lookup 00000000 cell 0\n", "1 place 1"),
+    ("the second shard's first",      "array 4 8 2", "1 2 16", "1 w0 leave ok\n", "1 place 0"),
+    ("the first shard's goes before", "array 4 8 2", "1 2 16", "0 w0 enter ok\n0 w0 enter ok\n1 w0 leave ok\n", "0 place 1"),
+];
+
+/// An audit of a file, of the map of an image whose program may not run.
+fn audited(rt: &impl Abort, alloc: Global, map: &str, journals: &[u8]) -> Result<Given, Fail> {
+    let text = format!(in alloc; "version 1\nmap {map}\nexit\n")?;
+    let mut folder = MemoryFolder::new(alloc);
+    folder.write(alloc, "text", text.as_bytes())?;
+    let mut made = serve_line(alloc, folder, "xlb asm text image")?;
+    assert!(rt; made.folder.failures() == 0, "image of {map}");
+    let image = file(alloc, &mut made.folder, "image")?;
+    let mut folder = MemoryFolder::new(alloc);
+    folder.write(alloc, "image", &image)?;
+    folder.write(alloc, "journals", journals)?;
+    serve_line(alloc, folder, "xlb audit image journals")
+}
+
+/// Holds what an audit says of a row's file against the row.
+fn compare(rt: &impl Abort, alloc: Global, row: Row) -> Result<(), Fail> {
+    let (name, map, header, entries, told) = row;
+    let text = format!(in alloc; "XLBJ 1 {header}\n{entries}")?;
+    let found = audited(rt, alloc, map, text.as_bytes())?;
+    let want = format!(in alloc; "fault 53 Illegal shard {told}\n")?;
+    let (status, out, err) = if told.is_empty() {
+        (0, "legal\n", "")
+    } else {
+        (1, "", want.as_str())
+    };
+    assert!(rt; found.err.bytes() == err.as_bytes(), "error of {name}");
+    assert!(rt; found.out.bytes() == out.as_bytes(), "output of {name}");
+    assert_eq!(rt; found.status, status, "status of {name}");
+    Ok(())
+}
+
+#[test]
+fn audits_runs(rt: HostRuntime) -> Result<(), Fail> {
+    for row in RUNS {
+        compare(&rt, rt.alloc(), row)?;
+    }
+    Ok(())
+}
+
+#[test]
+fn audits_cells(rt: HostRuntime) -> Result<(), Fail> {
+    for row in CELLS {
+        compare(&rt, rt.alloc(), row)?;
+    }
+    Ok(())
+}
+
+#[test]
+fn audits_numbers(rt: HostRuntime) -> Result<(), Fail> {
+    for row in NUMBERS {
+        compare(&rt, rt.alloc(), row)?;
+    }
+    Ok(())
+}
+
+/// Files that are none of journals.
+#[rattlefmt::skip]
+const NO_FILES: [(&str, &[u8], &str); 6] = [
+    ("an empty file",        b"",                                     "fault 55 BadJournalFile line 1\n"),
+    ("nine workers",         b"XLBJ 1 9 1 16\n",                      "fault 55 BadJournalFile line 1\n"),
+    ("an unended line",      b"XLBJ 1 1 1 16\n0 w0 enter ok",         "fault 55 BadJournalFile line 2\n"),
+    ("a shard out of order", b"XLBJ 1 1 2 16\n1 w0 enter ok\n0 w0 enter ok\n", "fault 55 BadJournalFile line 3\n"),
+    ("no text",              b"XLBJ 1 1 1 16\nbad\n0 w0 \xff ok\n",   "fault 55 BadJournalFile line 3\n"),
+    ("bad before illegal",   b"XLBJ 1 1 1 16\n0 w0 leave ok\n0\n",    "fault 55 BadJournalFile line 3\n"),
+];
+
+#[test]
+fn refuses_files(rt: HostRuntime) -> Result<(), Fail> {
+    for (name, bytes, err) in NO_FILES {
+        let found = audited(&rt, rt.alloc(), "hash 4 8 2", bytes)?;
+        assert!(rt; found.err.bytes() == err.as_bytes(), "error of {name}");
+        assert!(rt; found.out.bytes().is_empty(), "output of {name}");
+        assert_eq!(rt; found.status, 1, "status of {name}");
+    }
+    Ok(())
+}
+
+/// Command lines over a folder that has journals and no image.
+const NOT_THERE: [(&str, &str); 3] = [
+    ("xlb audit nosuch journals", "fault 7 Device\n"),
+    ("xlb audit journals nosuch", "fault 10 BadHead\n"),
+    ("xlb audit image nosuch", "fault 7 Device\n"),
+];
+
+#[test]
+fn files_that_are_not_there(rt: HostRuntime) -> Result<(), Fail> {
+    let alloc = rt.alloc();
+    for (line, err) in NOT_THERE {
+        let mut folder = MemoryFolder::new(alloc);
+        let image = hex::decode(alloc, super::first_path::IMAGE)?;
+        folder.write(alloc, "image", &image)?;
+        folder.write(alloc, "journals", b"XLBJ 1 1 1 16\n")?;
+        let found = serve_line(alloc, folder, line)?;
+        assert!(rt; found.err.bytes() == err.as_bytes(), "{line}");
+        assert_eq!(rt; found.status, 1, "{line}");
+    }
+    Ok(())
+}
