@@ -4,3 +4,6 @@ pub mod ShareLemmas
 pub mod AccountLemmas
 pub mod RunLemmas
 pub mod PartLemmas
+pub mod HandLemmas
+pub mod DispatchLemmas
+pub mod TakeLemmas

@@ -108,6 +108,14 @@ enough_queues queues pass right =
     let sized = queues.sized in
     omega (arith, lists, as_many, sized)
 
+-- and two more
+pub all_queues : (queues : Queues) (pass : PutPass) → IsPutPassOf queues pass → length (jobs_put pass) ≡ workers_of queues + 2
+all_queues queues pass right =
+    let lists = map_length (λ (one : Pass Job Known). (view one).put) pass.passes.items in
+    let as_many = right.0 in
+    let sized = queues.sized in
+    omega (arith, lists, as_many, sized)
+
 -- so many of the workers were told to end
 pub record AreEndedUpTo (done : ℕ) (before after : List (List Job)) : Type 0 where
   pub count : length after ≡ length before
@@ -136,12 +144,12 @@ one_ended done before after within were = record {
       (job_here done End after (let n = were.count in omega (arith, n, within)) ∙ ap (λ jobs. jobs ++ End ∷ []) (were.left done (omega arith)))
 
 -- nothing was put yet
-none_put : (queues place : ℕ) → put_at (replicate queues []) place ≡ []
+pub none_put : (queues place : ℕ) → put_at (replicate queues []) place ≡ []
 none_put zero place = refl
 none_put (suc queues) zero = refl
 none_put (suc queues) (suc place) = none_put queues place
 
-length_replicate : (queues : ℕ) (jobs : List Job) → length (replicate queues jobs) ≡ queues
+pub length_replicate : (queues : ℕ) (jobs : List Job) → length (replicate queues jobs) ≡ queues
 length_replicate zero jobs = refl
 length_replicate (suc queues) jobs = ap suc (length_replicate queues jobs)
 

@@ -5,3 +5,4 @@ pub mod Jobs
 pub mod Runs
 pub mod Accounts
 pub mod Crews
+pub mod Actors

@@ -1,5 +1,5 @@
 -- What was put into the workers' queues.
-use Rattle.std.specs.Prelude.{◌≡◌, ◌<◌, ℕ, List, [], ◌∷◌, ◌++◌, map, length, slice_index_or, if◌then◌else◌}
+use Rattle.std.specs.Prelude.{◌≡◌, ◌<◌, ◌≤◌, ℕ, List, [], ◌∷◌, ◌++◌, map, length, slice_index_or, if◌then◌else◌}
 use Rattle.rx_queues.specs.declared.job.Job.{Job}
 use Rattle.rx_queues.specs.declared.job.Job.TheVariants.{Frame, End}
 use Rattle.rx_queues.specs.Passes.{with_job_at}
@@ -26,6 +26,7 @@ pub record ArePut (frames : List (List ℕ)) (workers count : ℕ) (puts : List 
 pub record ArePutWithEnd (workers : ℕ) (before after : List (List Job)) : Type 0 where
   pub count : length after ≡ length before
   pub each : (worker : ℕ) → worker < workers → put_at after worker ≡ put_at before worker ++ End ∷ []
+  pub others : (place : ℕ) → workers ≤ place → put_at after place ≡ put_at before place
 
 -- each worker was handed its records, and then told to end
 abbrev pub AreAllPut : List (List ℕ) → ℕ → ℕ → List (List Job) → Type 0

@@ -146,7 +146,7 @@ pub fn finish_all<S: Drop, W: Runner<S>, R: Threads + Wait>(
     requires lanes { Each (IsLane queues.now capture.now runner.now) 0 lanes.items }
     requires put { IsPutPassOf queues.now put.old }
     requires jobs { AreAllPut (frames_of capture.now.records.items) (length lanes.items) (length capture.now.records.items) (jobs_put put.old) }
-    ensures put { IsPutPassOf queues.now put.new }
+    ensures put { IsPutPassOf queues.now put.new × (jobs_put put.new ≡ jobs_put put.old) }
     ensures count { IfSome result (λ all. length all.items ≡ length lanes.entry.items) }
     ensures handled { IfSome result (λ all. Each (IsHandled (W.is_new runner.now) (W.runs runner.now) capture.now.records.items (length lanes.entry.items)) 0 all.items) }
 {

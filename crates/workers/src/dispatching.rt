@@ -3,8 +3,10 @@
 ghost use Rattle.std.specs.Prelude.{◌≡◌, ◌<◌, ◌≤◌, ◌+◌, ◌++◌, ◌∷◌, [], ℕ, length};
 ghost use Rattle.rx_queues.specs.Passes.{IsPutPassOf, workers_of, jobs_put};
 ghost use Rattle.workers.specs.Shares.{frames_of, frame_at, is_short, worker_of_frame};
+ghost use Rattle.workers.specs.Actors.{AreDispatched};
 ghost use Rattle.workers.specs.Puts.{ArePut, ArePutWithEnd, with_record};
 
+use crate::handing::{ask_due_round, due, hand_commands};
 use rx_queues::{Caller, Job, PutPass, Queues, spread};
 use std::sync::Wait;
 use wire::{Capture, Sent, flow_of};
@@ -77,6 +79,35 @@ pub fn dispatch<R: Wait>(
     'records: for number in 0..capture.records.len() {
         hand(rt, queues, put, capture, workers, number);
     }
+}
+
+/// Hands each record to its worker, in the capture's order, and the commands from `first` on to the controller: each once as many records as `starts`
+/// says were dispatched, and no later than after the last one. Asks the reclaimer for a round after every 64 records.
+pub(crate) fn dispatch_all<R: Wait>(
+    rt: &R,
+    queues: &Queues,
+    put: &mut PutPass,
+    capture: &Capture,
+    starts: &[u32],
+    first: usize,
+    workers: usize,
+)
+    requires workers { (workers_of queues.now ≡ workers) × (0 < workers) × (workers ≤ 8) }
+    requires first { first ≤ length starts.now }
+    requires pass { IsPutPassOf queues.now put.old }
+    requires nothing { AreDispatched (frames_of capture.now.records.items) workers 0 first first (jobs_put put.old) }
+    ensures pass { IsPutPassOf queues.now put.new }
+    ensures put { AreDispatched (frames_of capture.now.records.items) workers (length capture.now.records.items) first (length starts.now) (jobs_put put.new) }
+{
+    let mut next = first;
+    'records: for number in 0..capture.records.len() {
+        let end = due(starts, next, number);
+        hand_commands(rt, queues, put, next, end);
+        next = end;
+        hand(rt, queues, put, capture, workers, number);
+        ask_due_round(rt, queues, put, number + 1);
+    }
+    hand_commands(rt, queues, put, next, starts.len());
 }
 
 /// Tells each worker to end.

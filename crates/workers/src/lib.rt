@@ -2,11 +2,15 @@
 #![tactic(auto)]
 
 mod accounting;
+mod actor;
+mod actor_thread;
+mod all_run;
 mod counts;
 mod crew;
 mod crew_run;
 mod dispatching;
 mod fault;
+mod handing;
 mod lane;
 mod run_end;
 mod runner;
@@ -15,6 +19,9 @@ mod tests;
 mod worker;
 
 pub use accounting::account;
+pub use actor::{Actor, ActorEnded};
+pub use actor_thread::Part;
+pub use all_run::{AllEnded, run_all};
 pub use counts::Counts;
 pub use crew::{Handled, abandon, finish_all, parted, start_all};
 pub use crew_run::run_records;

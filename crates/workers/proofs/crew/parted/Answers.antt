@@ -1,4 +1,4 @@
-use Rattle.std.proofs.Common.{◌≡◌, ◌<◌, ◌+◌, ◌∷◌, ◌++◌, [], length, refl, ap, sym, ◌∙◌, subst, arith}
+use Rattle.std.proofs.Common.{◌≡◌, ◌<◌, ◌+◌, ◌∷◌, ◌++◌, [], length, refl, ap, sym, subst, arith}
 use Rattle.std.specs.Prelude.{remove}
 use Rattle.atomic_table.proofs.Lists.{at_index}
 use Rattle.workers.specs.Accounts.{lists_of}
