@@ -2,3 +2,5 @@ pub mod JournalLemmas
 pub mod RunLemmas
 pub mod SameSteps
 pub mod ReaderTraces
+pub mod MoveLemmas
+pub mod EventLemmas

@@ -1,12 +1,11 @@
 -- Runs of a program that only reads are the same on whichever worker.
-use Rattle.std.proofs.Common.{◌≡◌, ℕ, zero, suc, ◌<◌, ◌^◌, ◌==◌, ◌||◌, Bool, true, false, not, ℤ, pos, negsuc, List, [], ◌∷◌, Option, Some, None, Ok, Err, IsTrue, refl, sym, ◌∙◌, ap, subst, inl, inr, arith}
+use Rattle.std.proofs.Common.{◌≡◌, ℕ, zero, suc, ◌==◌, ◌||◌, Bool, true, false, not, ℤ, pos, negsuc, List, [], ◌∷◌, Option, Some, None, Ok, IsTrue, refl, sym, ◌∙◌, ap, subst, inl, inr, arith}
 use Rattle.std.specs.Prelude.{if◌then◌else◌}
 use Rattle.std.specs.Ordering.{int_eq}
-use Rattle.std.specs.List.{AllByRecursion}
 use Rattle.std.proofs.lemmas.Bool.{eqb-true, false≢true}
 use Rattle.isa.specs.declared.operation.Register.{Register}
 use Rattle.ebpf_decode.specs.declared.insn.Insn.{Insn}
-use Rattle.ebpf_decode.specs.declared.insn.Insn.TheVariants.{Alu, Neg, Movsx, Movsx32, End, Ja, Ja32, JumpIf, Ldx, Ldxs, St, Stx, AtomicUpdate, Lddw, Ldmap, Ldval, CallHelper, Exit}
+use Rattle.ebpf_decode.specs.declared.insn.Insn.TheVariants.{Ldx, CallHelper}
 use Rattle.ebpf_decode.specs.declared.map.MapDef.{MapDef}
 use Rattle.ebpf_decode.specs.declared.version.Version.{Version}
 use Rattle.ebpf_decode.specs.ImageContents.{IsEncodable}
@@ -14,16 +13,14 @@ use Rattle.semantics.specs.declared.call.Call.{Call}
 use Rattle.semantics.specs.declared.call.Call.TheVariants.{Lookup}
 use Rattle.semantics.specs.declared.call.Reply.{Reply}
 use Rattle.semantics.specs.declared.call.Reply.TheVariants.{Cell}
-use Rattle.semantics.specs.declared.linux.ContextField.{ContextField}
 use Rattle.semantics.specs.declared.linux.ContextField.TheVariants.{Data, DataEnd, IngressIfindex, RxQueueIndex}
-use Rattle.semantics.specs.declared.linux.Helper.{Helper}
 use Rattle.semantics.specs.declared.linux.Helper.TheVariants.{MapLookupElem, MapUpdateElem, MapDeleteElem, KtimeGetNs, GetSmpProcessorId, XdpAdjustHead}
 use Rattle.semantics.specs.Linux.{helper_of, field_at}
 use Rattle.semantics.specs.RegisterValue.{RegisterValue, Number, ContextPointer, StackPointer, PacketPointer, MapPointer, CellPointer}
 use Rattle.semantics.specs.RegisterValue as meaning
 use Rattle.semantics.specs.MachineState.{MachineState, register_value, initial_state}
-use Rattle.semantics.specs.Program.{Program, instruction_at}
-use Rattle.semantics.specs.RunTrace.{HasExited, Waits, RunTrace, with_call, without_calls, trace_from, trace_of, IsReplyTo}
+use Rattle.semantics.specs.Program.{Program}
+use Rattle.semantics.specs.RunTrace.{HasExited, Waits, with_call, without_calls, trace_from, trace_of}
 use Rattle.semantics.specs.Semantics.{next_step}
 use Rattle.semantics.specs.ServedCalls.{Held, IsHandedOut, HoldsAfter}
 use Rattle.semantics.specs.Step.{Step, Continues, CallsMap, Exits, Traps}
@@ -39,7 +36,7 @@ use Rattle.abstract_state.specs.Abstraction.{Setting, KindCovers, setting_of, Ab
 use Rattle.abstract_state.proofs.shared.Checking.{ok_then, falls_made}
 use Rattle.abstract_state.proofs.shared.Opening.{opening_sound}
 use Rattle.verifier.specs.Dataflow.{Accepts}
-use Rattle.verifier.specs.Readers.{is_worker_helper, is_queue_field, only_reads, IsReader}
+use Rattle.verifier.specs.Readers.{is_queue_field, only_reads, IsReader}
 use Rattle.verifier.proofs.shared.PlaceLemmas.{PartsFit, parts_fit, IsSoundPlace, Here, here_of, continues_there, answered_there}
 use Rattle.verifier.proofs.shared.LocalLemmas.{begins_at_start}
 use Rattle.verifier.proofs.shared.SafetyLemmas.{some_slot}

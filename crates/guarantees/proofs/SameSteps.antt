@@ -1,7 +1,6 @@
 -- An instruction that only reads does the same on whichever worker.
-use Rattle.std.proofs.Common.{◌≡◌, ℕ, ◌+◌, ◌==◌, Bool, true, false, not, ℤ, pos, negsuc, List, Option, Some, None, Ok, Err, IsTrue, refl, sym, ◌∙◌, ap, subst}
-use Rattle.std.specs.Prelude.{◌+ℤ◌, if◌then◌else◌, find, slice_get}
-use Rattle.std.specs.Ordering.{int_eq}
+use Rattle.std.proofs.Common.{◌≡◌, ℕ, Bool, true, false, ℤ, pos, negsuc, List, Option, Some, None, Ok, Err, refl, sym, ◌∙◌, ap, subst}
+use Rattle.std.specs.Prelude.{◌+ℤ◌}
 use Rattle.isa.specs.Words.{twos_complement}
 use Rattle.isa.specs.InstructionCodes.{size_bytes, width_size, extension_size}
 use Rattle.isa.specs.declared.operation.Width.{Width}
@@ -31,8 +30,8 @@ use Rattle.semantics.specs.Program.{Program, shard_of_key}
 use Rattle.semantics.specs.Step.{Outcome, then_outcome, Step, or_trap, Continues, CallsMap, Exits, Traps}
 use Rattle.semantics.specs.Arithmetic.{source_value, changed_number, alu_outcome}
 use Rattle.semantics.specs.Comparison.{jump_outcome}
-use Rattle.semantics.specs.Memory.{field_outcome, context_word, context_field, packet_range, packet_value, stack_value, cell_range, aligned_cell_range, stack_range, stack_place}
-use Rattle.semantics.specs.Helpers.{returned, found_value, answer_value, map_argument, map_at, bytes_argument, number_argument, context_argument, with_key, known_helper_step, found_helper_step, helper_step, update_step}
+use Rattle.semantics.specs.Memory.{field_outcome, context_field, packet_range, packet_value, stack_value, cell_range, aligned_cell_range}
+use Rattle.semantics.specs.Helpers.{returned, found_value, answer_value, map_argument, map_at, bytes_argument, number_argument, context_argument, with_key, found_helper_step}
 use Rattle.semantics.specs.Semantics.{extended, write_step, written_register, jump_step, branch_step, load_step, load_signed_step, load_cell_step, store_step, stored_places, stored_number, fetched_register, with_fetched, after_fetch, expected_number, atomic_step, value_address_step, exit_step, instruction_step, at_next_slot}
 use Rattle.abstract_state.specs.Soundness.{JumpsForward}
 use Rattle.guarantees.specs.SameRuns.{at_worker}

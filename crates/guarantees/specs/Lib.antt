@@ -1,3 +1,4 @@
 pub mod Runs
 pub mod Guarantees
 pub mod SameRuns
+pub mod SystemRuns

@@ -5,17 +5,19 @@
 //! `verify` accepted reaches no trap and ends within as many instructions as the image has slots*: `accepted_images_are_safe`.
 //! *It gives the verdict and frame of RFC 9669's tables on the replies that it was handed, each the reply of a one-thread map at the
 //! run's own place in its shard's one legal history*: `runs_are_their_meaning` with `entries_are_steps`, for runs of one worker after
-//! the other over shards without locks.
+//! the other over shards without locks; and `sharing::shared_run` with `entries_are_answered`, for runs over shards that other threads call
+//! meanwhile, as events of the system of which the first sentence speaks.
 #![tactic(auto)]
 
 pub mod running;
+pub mod sharing;
 #[cfg(test)]
 mod tests;
 
 ghost use Rattle.semantics.specs.Safety.{IsSafeImage};
 ghost use Rattle.verifier.specs.Readers.{IsReader};
 ghost use Rattle.guarantees.specs.SameRuns.{RunsTheSame};
-ghost use Rattle.guarantees.specs.Guarantees.{RunsAreTheirMeaning, StoppedRunsAreBeginnings, EntriesAreSteps, OpenedShardsAreReady, RunsLeaveOthersAlone};
+ghost use Rattle.guarantees.specs.Guarantees.{RunsAreTheirMeaning, StoppedRunsAreBeginnings, EntriesAreSteps, OpenedShardsAreReady, RunsLeaveOthersAlone, RunsAreOfTheSystem, EntriesAreAnswered};
 
 use shard_port::laws::{
     finish_leaves, journals_after_a_refusal, journals_have_the_calls, leaves_others_alone,
@@ -91,3 +93,19 @@ pub fn runs_leave_others_alone()
     runs_are_their_meaning();
     leaves_others_alone();
 }
+
+/// A run over shards that other threads call meanwhile is a list of its worker's events in the system of all workers, from idle to idle.
+/// Where `run` ensures a trace that ends, on replies that stand in the port's sessions: the worker begins its run on the frame; each event
+/// after it can happen, and leads to what is said, in every state of the system in which the worker stands so and the shard's journal has
+/// room and gives this reply; the last instruction ends the run with this verdict and state; then the worker leaves every shard that it
+/// entered. What these events write on each shard is what the worker's own entries there have more. The order in which it leaves the
+/// shards is one of many.
+pub fn runs_are_of_the_system()
+    ensures { RunsAreOfTheSystem }
+{}
+
+/// Each entry of a legal journal has its answer: where the history of the shard is what stands before the entry, the journal has room for
+/// the call, and the reply is the one-thread map's. So at the entries' own places the events of `runs_are_of_the_system` can happen.
+pub fn entries_are_answered()
+    ensures { EntriesAreAnswered }
+{}

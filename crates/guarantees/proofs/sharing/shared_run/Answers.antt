@@ -1,0 +1,12 @@
+use Rattle.std.proofs.lemmas.Result.{IfOk-weaker}
+use Rattle.shard_port.specs.PassPorts.{worker_of}
+use Rattle.guarantees.proofs.EventLemmas.{is_among, ran_in_system}
+use Rattle.guarantees.proofs.sharing.shared_run.Goals as goal
+
+pub returns-clause-exit : goal.returns-clause-exit
+returns-clause-exit g c = IfOk-weaker c.run_frame.result _ _
+    (λ exit run. ran_in_system c.runs_are_of_the_system.ensures c.args.verified.now c.args.shards.now.options c.args.moment.now
+    c.args.frame.now g.B.Naming.count (worker_of c.args.pass.now.who) c.args.pass.now c.run_frame.new.pass exit.verdict exit.steps
+    c.run_frame.new.frame (is_among c.args.shards.now.options.workers c.args.pass.now.who c.requires.worker) c.may_come_in.ensures
+    c.requires.headroom c.is_early.ensures c.requires.moment run)
+    c.run_frame.ensures.exit

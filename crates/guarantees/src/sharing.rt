@@ -1,0 +1,62 @@
+//! A run over shards that other threads call meanwhile, as events of the system of all workers.
+
+ghost use Rattle.std.specs.Prelude.{◌≡◌, ◌<◌, ◌^◌, ℕ, IsTrue, IfOk, IfErr};
+ghost use Rattle.semantics.specs.MachineState.{initial_state};
+ghost use Rattle.semantics.specs.System.{IsInputFrame};
+ghost use Rattle.machine.specs.Running.{program_of};
+ghost use Rattle.shard_port.specs.PassPorts.{is_worker_below, worker_of};
+ghost use Rattle.shard_port.specs.PassSessions.{IsOutsideAt};
+ghost use Rattle.frame_runs.specs.FrameRuns.{HasStopped};
+ghost use Rattle.guarantees.specs.SystemRuns.{setting_of, RanInSystem};
+
+use crate::runs_are_of_the_system;
+use frame_runs::run_frame;
+use machine::{Exit, Moment, Stop};
+use shared_shards::{Naming, Pass, Shards};
+use std::sync::Wait;
+use verifier::Verified;
+use wire::Frame;
+
+/// A frame with all its headroom free is one that may come in.
+fn may_come_in(frame: &Frame)
+    requires { frame.now.headroom ≡ 256 }
+    ensures { IsInputFrame frame.now.bytes }
+{
+    let _ = frame.bytes();
+    let _ = frame.len();
+}
+
+/// A time in nanoseconds has 64 bits.
+fn is_early(now_ns: u64)
+    ensures { now_ns < 2 ^ 64 }
+{
+    let _ = now_ns;
+}
+
+/// `run_frame`, said of the system: where the run ends, it is a list of its worker's events from idle to idle, and what they write is what
+/// the worker's own entries have more. Where it stopped (60), what `run_frame` says. Either way the next run can begin with the pass.
+pub fn shared_run<B: Naming, W: Wait>(
+    rt: &W,
+    verified: &Verified,
+    frame: &mut Frame,
+    moment: &Moment,
+    shards: &Shards<B>,
+    pass: &mut Pass<B>,
+) -> Result<Exit, Stop>
+    requires served { shards.now.maps ≡ verified.now.maps }
+    requires headroom { frame.old.headroom ≡ 256 }
+    requires moment { moment.now.worker < 8 }
+    requires worker { IsTrue (is_worker_below shards.now.options.workers pass.old.who) }
+    requires outside { (number : ℕ) → number < B.count → IsOutsideAt (worker_of pass.old.who) pass.old number }
+    ensures exit { IfOk result (λ exit. RanInSystem (setting_of verified.now shards.now.options) (worker_of pass.old.who) moment.now
+        frame.old.bytes B.count pass.old pass.new exit.verdict exit.steps frame.new) }
+    ensures stop { IfErr result (HasStopped (program_of verified.now shards.now.options.shards)
+        (initial_state frame.old moment.now.worker moment.now.now_ns) B.plan B.count (worker_of pass.old.who) pass.old pass.new frame.new) }
+    ensures same_caller { pass.new.who ≡ pass.old.who }
+    ensures outside { (number : ℕ) → number < B.count → IsOutsideAt (worker_of pass.old.who) pass.new number }
+{
+    runs_are_of_the_system();
+    may_come_in(frame);
+    is_early(moment.now_ns);
+    run_frame(rt, verified, frame, moment, shards, pass)
+}
