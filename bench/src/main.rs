@@ -2,6 +2,7 @@
 
 mod assemble;
 mod audits;
+mod control;
 mod decode;
 mod flat;
 mod library;
@@ -252,5 +253,8 @@ fn main() {
     }
     if "shards".contains(&word) {
         shards::print();
+    }
+    if "control".contains(&word) {
+        control::print();
     }
 }
