@@ -35,7 +35,7 @@ use Rattle.guarantees.proofs.MoveLemmas.{asks, leave, begins_so, goes_on, ends, 
 
 -- ---- tests and lists
 
-abbrev is_some_entry : List Entry → Bool
+abbrev pub is_some_entry : List Entry → Bool
 is_some_entry [] = false
 is_some_entry (first ∷ later) = true
 
@@ -44,7 +44,7 @@ or_true true = refl
 or_true false = refl
 
 -- the shards that a run is in are told once each
-abbrev IsDistinct : List ℕ → Type 0
+abbrev pub IsDistinct : List ℕ → Type 0
 IsDistinct [] = Unit {0}
 IsDistinct (shard ∷ entered) = (is_entered shard entered ≡ false) × IsDistinct entered
 
@@ -64,11 +64,11 @@ without_first shard entered out =
 
 -- ---- leaving
 
-abbrev leaving_of : ℕ → List ℕ → List Move
+abbrev pub leaving_of : ℕ → List ℕ → List Move
 leaving_of worker [] = []
 leaving_of worker (shard ∷ entered) = leave worker shard ∷ leaving_of worker entered
 
-all_leave : (setting : Setting) (worker : ℕ) (entered : List ℕ) → IsDistinct entered →
+pub all_leave : (setting : Setting) (worker : ℕ) (entered : List ℕ) → IsDistinct entered →
     AreMoves setting worker (run_over entered) (leaving_of worker entered) Idle
 all_leave setting worker [] distinct = refl
 all_leave setting worker (shard ∷ entered) distinct =
@@ -80,7 +80,7 @@ all_leave setting worker (shard ∷ entered) distinct =
       all_leave setting worker entered distinct.1,
     )
 
-leaves_on : (worker number : ℕ) (entered : List ℕ) → IsDistinct entered →
+pub leaves_on : (worker number : ℕ) (entered : List ℕ) → IsDistinct entered →
     entries_on number (leaving_of worker entered) ≡ (if is_entered number entered then leave_entry worker number ∷ [] else [])
 leaves_on worker number [] distinct = refl
 leaves_on worker number (shard ∷ entered) distinct = by_test (leaves_on worker number entered distinct.1) (shard == number) refl
@@ -100,7 +100,7 @@ leaves_on worker number (shard ∷ entered) distinct = by_test (leaves_on worker
 -- ---- what the events of a run write
 
 -- the entries of later exchanges with a shard, by whether the run is inside now
-abbrev since : Bool → ℕ → ℕ → List Entry → List Entry
+abbrev pub since : Bool → ℕ → ℕ → List Entry → List Entry
 since true worker number entries = entries
 since false worker number entries = begun worker number entries
 
@@ -175,40 +175,41 @@ enter_in worker number exchange later entered after rest = by_test (shard_of_cal
 
 -- ---- a run to its end
 
-record Reaches (setting : Setting) (worker : ℕ) (state : MachineState) (entered : List ℕ) (exchanges : List Exchange) (verdict : Verdict)
-    (last : MachineState) : Type 0 where
-  run : List Move
-  ending : MachineState
-  after : List ℕ
-  runs : AreMoves setting worker (Runs state entered) run (Runs ending after)
-  exits : next_step (model.program_of setting) ending ≡ Exits verdict last
-  distinct : IsDistinct after
-  writes : (number : ℕ) → entries_on number run ≡ since (is_entered number entered) worker number (entries_at worker number exchanges)
-  stays : (number : ℕ) →
+-- to a state of which this is said
+pub record Reaches (said : MachineState → Type 0) (setting : Setting) (worker : ℕ) (state : MachineState) (entered : List ℕ)
+    (exchanges : List Exchange) : Type 0 where
+  pub run : List Move
+  pub ending : MachineState
+  pub after : List ℕ
+  pub runs : AreMoves setting worker (Runs state entered) run (Runs ending after)
+  pub ended : said ending
+  pub distinct : IsDistinct after
+  pub writes : (number : ℕ) → entries_on number run ≡ since (is_entered number entered) worker number (entries_at worker number exchanges)
+  pub stays : (number : ℕ) →
       is_entered number after ≡ (is_entered number entered || is_some_entry (entries_at worker number exchanges))
 
 -- one instruction that calls nothing
-reach_on : (setting : Setting) (worker : ℕ) (state next : MachineState) (entered : List ℕ) (exchanges : List Exchange) (verdict : Verdict)
-    (last : MachineState) → next_step (model.program_of setting) state ≡ Continues next →
-    Reaches setting worker next entered exchanges verdict last → Reaches setting worker state entered exchanges verdict last
-reach_on setting worker state next entered exchanges verdict last is rest = record {
+pub reach_on : (said : MachineState → Type 0) (setting : Setting) (worker : ℕ) (state next : MachineState) (entered : List ℕ) (exchanges : List Exchange) →
+    next_step (model.program_of setting) state ≡ Continues next →
+    Reaches said setting worker next entered exchanges → Reaches said setting worker state entered exchanges
+reach_on said setting worker state next entered exchanges is rest = record {
   run = does worker ∷ rest.run;
   ending = rest.ending;
   after = rest.after;
   runs = (Runs next entered, goes_on setting worker state next entered is, rest.runs);
-  exits = rest.exits;
+  ended = rest.ended;
   distinct = rest.distinct;
   writes = rest.writes;
   stays = rest.stays;
 }
 
 -- one call inside its shard
-reach_call : (setting : Setting) (worker : ℕ) (state : MachineState) (next : Reply → MachineState) (entered : List ℕ) (exchange : Exchange)
-    (later : List Exchange) (verdict : Verdict) (last : MachineState) → next_step (model.program_of setting) state ≡ CallsMap exchange.call next →
+reach_call : (said : MachineState → Type 0) (setting : Setting) (worker : ℕ) (state : MachineState) (next : Reply → MachineState) (entered : List ℕ) (exchange : Exchange)
+    (later : List Exchange) → next_step (model.program_of setting) state ≡ CallsMap exchange.call next →
     is_entered (shard_of_call exchange.call) entered ≡ true →
-    Reaches setting worker (next exchange.reply) entered later verdict last →
-    Reaches setting worker state entered (exchange ∷ later) verdict last
-reach_call setting worker state next entered exchange later verdict last is inside rest = record {
+    Reaches said setting worker (next exchange.reply) entered later →
+    Reaches said setting worker state entered (exchange ∷ later)
+reach_call said setting worker state next entered exchange later is inside rest = record {
   run = asks worker (Writes (entry_of worker exchange)) ∷ rest.run;
   ending = rest.ending;
   after = rest.after;
@@ -217,19 +218,19 @@ reach_call setting worker state next entered exchange later verdict last is insi
     calls setting worker state entered exchange.call next exchange.reply is inside,
     rest.runs,
   );
-  exits = rest.exits;
+  ended = rest.ended;
   distinct = rest.distinct;
   writes = λ number. call_on worker number exchange later entered rest.run inside (rest.writes number);
   stays = λ number. call_in worker number exchange later entered rest.after inside (rest.stays number);
 }
 
 -- the first call of a shard: the run enters it before
-reach_enter : (setting : Setting) (worker : ℕ) (state : MachineState) (next : Reply → MachineState) (entered : List ℕ) (exchange : Exchange)
-    (later : List Exchange) (verdict : Verdict) (last : MachineState) → next_step (model.program_of setting) state ≡ CallsMap exchange.call next →
+reach_enter : (said : MachineState → Type 0) (setting : Setting) (worker : ℕ) (state : MachineState) (next : Reply → MachineState) (entered : List ℕ) (exchange : Exchange)
+    (later : List Exchange) → next_step (model.program_of setting) state ≡ CallsMap exchange.call next →
     is_entered (shard_of_call exchange.call) entered ≡ false →
-    Reaches setting worker state (shard_of_call exchange.call ∷ entered) (exchange ∷ later) verdict last →
-    Reaches setting worker state entered (exchange ∷ later) verdict last
-reach_enter setting worker state next entered exchange later verdict last is outside rest = record {
+    Reaches said setting worker state (shard_of_call exchange.call ∷ entered) (exchange ∷ later) →
+    Reaches said setting worker state entered (exchange ∷ later)
+reach_enter said setting worker state next entered exchange later is outside rest = record {
   run = asks worker (Writes (enter_entry worker (shard_of_call exchange.call))) ∷ rest.run;
   ending = rest.ending;
   after = rest.after;
@@ -238,42 +239,53 @@ reach_enter setting worker state next entered exchange later verdict last is out
     enters setting worker state entered exchange.call next is outside,
     rest.runs,
   );
-  exits = rest.exits;
+  ended = rest.ended;
   distinct = rest.distinct;
   writes = λ number. enter_on worker number exchange later entered rest.run outside (rest.writes number);
   stays = λ number. enter_in worker number exchange later entered rest.after (rest.stays number);
 }
 
-reach_here : (setting : Setting) (worker : ℕ) (state : MachineState) (next : Reply → MachineState) (entered : List ℕ) (exchange : Exchange)
-    (later : List Exchange) (verdict : Verdict) (last : MachineState) (inside : Bool) →
+pub reach_here : (said : MachineState → Type 0) (setting : Setting) (worker : ℕ) (state : MachineState) (next : Reply → MachineState) (entered : List ℕ) (exchange : Exchange)
+    (later : List Exchange) (inside : Bool) →
     next_step (model.program_of setting) state ≡ CallsMap exchange.call next → is_entered (shard_of_call exchange.call) entered ≡ inside →
     IsDistinct entered →
-    ((now : List ℕ) → IsDistinct now → Reaches setting worker (next exchange.reply) now later verdict last) →
-    Reaches setting worker state entered (exchange ∷ later) verdict last
-reach_here setting worker state next entered exchange later verdict last true is inside distinct rest =
-    reach_call setting worker state next entered exchange later verdict last is inside (rest entered distinct)
-reach_here setting worker state next entered exchange later verdict last false is outside distinct rest =
+    ((now : List ℕ) → IsDistinct now → Reaches said setting worker (next exchange.reply) now later) →
+    Reaches said setting worker state entered (exchange ∷ later)
+reach_here said setting worker state next entered exchange later true is inside distinct rest =
+    reach_call said setting worker state next entered exchange later is inside (rest entered distinct)
+reach_here said setting worker state next entered exchange later false is outside distinct rest =
     let same : (shard_of_call exchange.call == shard_of_call exchange.call) ≡ true = grind (arith, nat_tests) in
     let first : is_entered (shard_of_call exchange.call) (shard_of_call exchange.call ∷ entered) ≡ true =
     ap (λ (test : Bool). test || is_entered (shard_of_call exchange.call) entered) same in
-    reach_enter setting worker state next entered exchange later verdict last is outside
-    (reach_call setting worker state next (shard_of_call exchange.call ∷ entered) exchange later verdict last is first
+    reach_enter said setting worker state next entered exchange later is outside
+    (reach_call said setting worker state next (shard_of_call exchange.call ∷ entered) exchange later is first
     (rest (shard_of_call exchange.call ∷ entered) (outside, distinct)))
+
+pub nothing_since : (worker number : ℕ) (test : Bool) → [] ≡ since test worker number []
+nothing_since worker number true = refl
+nothing_since worker number false = refl
+
+pub or_false : (test : Bool) → (test || false) ≡ test
+or_false true = refl
+or_false false = refl
+
+abbrev Exited : Setting → Verdict → MachineState → MachineState → Type 0
+Exited setting verdict last ending = next_step (model.program_of setting) ending ≡ Exits verdict last
 
 abbrev IsReached : Setting → ℕ → ℕ → Verdict → MachineState → Type 0
 IsReached setting worker count verdict last =
     (state : MachineState) (entered : List ℕ) (exchanges : List Exchange) → IsDistinct entered →
     trace_of count (model.program_of setting) state (replies_in exchanges) ≡ record { calls = calls_in exchanges; stand = HasExited verdict last } →
-    Reaches setting worker state entered exchanges verdict last
+    Reaches (Exited setting verdict last) setting worker state entered exchanges
 
 by_step : (setting : Setting) (worker count : ℕ) (verdict : Verdict) (last : MachineState) → IsReached setting worker count verdict last →
     (state : MachineState) (entered : List ℕ) (exchanges : List Exchange) → IsDistinct entered →
     (step : Step) → next_step (model.program_of setting) state ≡ step →
     trace_from (trace_of count (model.program_of setting)) state step (replies_in exchanges)
     ≡ record { calls = calls_in exchanges; stand = HasExited verdict last } →
-    Reaches setting worker state entered exchanges verdict last
+    Reaches (Exited setting verdict last) setting worker state entered exchanges
 by_step setting worker count verdict last later state entered exchanges distinct (Continues next) is trace =
-    reach_on setting worker state next entered exchanges verdict last is (later next entered exchanges distinct trace)
+    reach_on (Exited setting verdict last) setting worker state next entered exchanges is (later next entered exchanges distinct trace)
 by_step setting worker count verdict last later state entered [] distinct (CallsMap call next) is trace =
     absurd (let made : call ∷ [] ≡ [] = ap (λ (one : RunTrace). one.calls) trace in cc)
 by_step setting worker count verdict last later state entered (exchange ∷ more) distinct (CallsMap call next) is trace =
@@ -283,7 +295,7 @@ by_step setting worker count verdict last later state entered (exchange ∷ more
     let same : call ≡ exchange.call = cc in
     let calls_are : rest.calls ≡ calls_in more = cc in
     let whole : rest ≡ record { calls = calls_in more; stand = HasExited verdict last } = rw (sym calls_are, sym stands) refl in
-    reach_here setting worker state next entered exchange more verdict last (is_entered (shard_of_call exchange.call) entered)
+    reach_here (Exited setting verdict last) setting worker state next entered exchange more (is_entered (shard_of_call exchange.call) entered)
     (is ∙ ap (λ (one : Call). CallsMap one next) same) refl distinct
     (λ now fine. later (next exchange.reply) now more fine whole)
 by_step setting worker count verdict last later state entered [] distinct (Exits ended final) is trace =
@@ -295,7 +307,7 @@ by_step setting worker count verdict last later state entered [] distinct (Exits
       ending = state;
       after = entered;
       runs = refl;
-      exits = is ∙ ap (λ one. Exits one final) same ∙ ap (λ one. Exits verdict one) left;
+      ended = is ∙ ap (λ one. Exits one final) same ∙ ap (λ one. Exits verdict one) left;
       distinct = distinct;
       writes = λ number. nothing_since (is_entered number entered) number;
       stays = λ number. sym (or_false (is_entered number entered));
@@ -331,7 +343,7 @@ append_in (move ∷ first) second =
     ap (λ (list : List Entry). entries_asked move.asked ++ list) (append_in first second)
     ∙ sym (append_assoc (entries_asked move.asked) (entries_in first) (entries_in second))
 
-append_on : (number : ℕ) (first second : List Move) → entries_on number (first ++ second) ≡ entries_on number first ++ entries_on number second
+pub append_on : (number : ℕ) (first second : List Move) → entries_on number (first ++ second) ≡ entries_on number first ++ entries_on number second
 append_on number first second =
     ap (filter (is_of_shard number)) (append_in first second) ∙ filter-append (is_of_shard number) (entries_in first) (entries_in second)
 
@@ -341,10 +353,10 @@ closed : (worker number : ℕ) (entries : List Entry) →
 closed worker number [] = refl
 closed worker number (first ∷ later) = refl
 
-whole_session : (setting : Setting) (worker : ℕ) (state : MachineState) (exchanges : List Exchange) (verdict : Verdict) (last : MachineState)
-    (reaches : Reaches setting worker state [] exchanges verdict last) (number : ℕ) →
+pub whole_session : (said : MachineState → Type 0) (setting : Setting) (worker : ℕ) (state : MachineState) (exchanges : List Exchange)
+    (reaches : Reaches said setting worker state [] exchanges) (number : ℕ) →
     entries_on number (reaches.run ++ leaving_of worker reaches.after) ≡ session worker number (entries_at worker number exchanges)
-whole_session setting worker state exchanges verdict last reaches number =
+whole_session said setting worker state exchanges reaches number =
     append_on number reaches.run (leaving_of worker reaches.after)
     ∙ ap (λ (list : List Entry). list ++ entries_on number (leaving_of worker reaches.after)) (reaches.writes number)
     ∙ ap (λ (list : List Entry). since false worker number (entries_at worker number exchanges) ++ list)
@@ -355,7 +367,7 @@ whole_session setting worker state exchanges verdict last reaches number =
 pub run_is_of_system : RunsAreOfTheSystem
 run_is_of_system setting worker told now frame count steps before after exchanges verdict last few input early low trace sessions =
     let state : MachineState = initial_state (input_frame frame) told now in
-    let reaches : Reaches setting worker state [] exchanges verdict last =
+    let reaches : Reaches (Exited setting verdict last) setting worker state [] exchanges =
     reached setting worker steps verdict last state [] exchanges tt trace in
     record {
       run = reaches.run;
@@ -363,15 +375,15 @@ run_is_of_system setting worker told now frame count steps before after exchange
       entered = reaches.after;
       leaving = leaving_of worker reaches.after;
       runs = (Runs state [], begins_so setting worker now told frame few input early low, reaches.runs);
-      exits = reaches.exits;
+      exits = reaches.ended;
       leaves = (
         run_over reaches.after,
-        ends setting worker reaches.ending last verdict reaches.after reaches.exits,
+        ends setting worker reaches.ending last verdict reaches.after reaches.ended,
         all_leave setting worker reaches.after reaches.distinct,
       );
       written = λ number within. sessions.written number within
           ∙ ap (λ (list : List Entry). reverse list ++ own_at before number)
-          (sym (whole_session setting worker state exchanges verdict last reaches number));
+          (sym (whole_session (Exited setting verdict last) setting worker state exchanges reaches number));
     }
 
 -- by what a run over shared shards ensures

@@ -4,3 +4,4 @@ pub mod SameSteps
 pub mod ReaderTraces
 pub mod MoveLemmas
 pub mod EventLemmas
+pub mod StopLemmas

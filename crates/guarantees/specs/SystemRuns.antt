@@ -1,7 +1,9 @@
 -- A run over shared shards as events of the system: what the worker's events are, what each writes, and what its run comes to.
-use Rattle.std.specs.Prelude.{◌≡◌, ℕ, ◌<◌, ◌==◌, Bool, false, List, [], ◌∷◌, ◌++◌, reverse, filter, Some, IsTrue, IsFalse}
+use Rattle.std.specs.Prelude.{◌≡◌, ◌⊎◌, ℕ, ◌<◌, ◌==◌, Bool, false, List, [], ◌∷◌, ◌++◌, reverse, filter, Some, IsTrue, IsFalse}
 use Rattle.wire.specs.FrameView.{FrameView}
 use Rattle.semantics.specs.declared.call.Call.{Call}
+use Rattle.semantics.specs.declared.call.Call.TheVariants.{Enter}
+use Rattle.semantics.specs.declared.call.Reply.{Reply}
 use Rattle.semantics.specs.declared.call.Entry.{Entry}
 use Rattle.semantics.specs.declared.options.Options.{Options}
 use Rattle.semantics.specs.declared.verdict.Verdict.{Verdict}
@@ -9,13 +11,16 @@ use Rattle.semantics.specs.MachineState.{MachineState}
 use Rattle.semantics.specs.declared.plan.ShardPlan.{ShardPlan}
 use Rattle.semantics.specs.ShardPlan.{plan_at}
 use Rattle.semantics.specs.SequentialShard.{reply_of, shard_after}
-use Rattle.semantics.specs.History.{shard_of_call, journal_is_full}
-use Rattle.semantics.specs.Step.{Exits}
+use Rattle.semantics.specs.History.{shard_of_call, journal_is_full, IsJournalFull}
+use Rattle.semantics.specs.Step.{CallsMap, Exits}
 use Rattle.semantics.specs.Semantics.{next_step}
 use Rattle.semantics.specs.System.{Setting, program_of, SystemState, SystemEvent, BeginsRun, DoesInstruction, CallsShard, LeavesShard, WorkerState, Idle, Runs, worker_state, history_of, with_worker, with_entry, CanHappen, after_event}
 use Rattle.verifier.specs.Verified.{Verified}
+use Rattle.machine.specs.declared.exit.Stop.{Stop}
+use Rattle.machine.specs.declared.exit.Stop.TheVariants.{JournalFull}
 use Rattle.machine.specs.declared.moment.Moment.{Moment}
-use Rattle.shared_shards.specs.Passes.{PassView, own_at}
+use Rattle.shared_shards.specs.CallerView.{BeginsWith}
+use Rattle.shared_shards.specs.Passes.{PassView, own_at, seen_at}
 
 -- ---- what a worker's event asks of a shard
 
@@ -119,6 +124,26 @@ pub record IsRunOfSystem (setting : Setting) (worker told now : ℕ) (frame : Li
   pub leaves : AreMoves setting worker (Runs ending entered) (does worker ∷ leaving) Idle
   pub written : HaveGrown count (run ++ leaving) before after
 
+-- from idle to idle, where a shard's journal had no room: the events lead to the state in which the run waits for the reply to this call; the
+-- event in which it asks meets a full journal, for the call or for the Enter before it, at the end of a history that the worker's pass has
+-- seen; and it leaves every shard that it entered
+pub record IsStoppedInSystem (setting : Setting) (worker told now : ℕ) (frame : List ℕ) (plan : ℕ → ShardPlan) (count : ℕ)
+    (before after : PassView) (call : Call) (waiting : MachineState) : Type 0 where
+  pub run : List Move
+  pub entered : List ℕ
+  pub leaving : List Move
+  pub refused : Call
+  pub refused_is : (refused ≡ call) ⊎ (refused ≡ Enter (shard_of_call call))
+  pub next : Reply → MachineState
+  pub runs : AreMoves setting worker Idle (begins worker frame now told ∷ run) (Runs waiting entered)
+  pub waits : next_step (program_of setting) waiting ≡ CallsMap call next
+  pub leaves :
+      AreMoves setting worker (Runs waiting entered) (record { event = CallsShard worker; asked = Refused refused } ∷ leaving) Idle
+  pub full_at : List Entry
+  pub full_seen : BeginsWith (seen_at after (shard_of_call call)) full_at
+  pub full : IsJournalFull (plan (shard_of_call call)) full_at call ⊎ IsJournalFull (plan (shard_of_call call)) full_at (Enter (shard_of_call call))
+  pub written : HaveGrown count (run ++ leaving) before after
+
 -- the system of a verified image, over shards that were opened so
 abbrev pub setting_of : Verified → Options → Setting
 setting_of verified options = record { maps = verified.maps; code = verified.code; options = options }
@@ -130,3 +155,16 @@ pub record RanInSystem (setting : Setting) (worker : ℕ) (moment : Moment) (fra
   pub of_system : IsRunOfSystem setting worker moment.worker moment.now_ns frame count before after verdict last
   pub counted : steps ≡ last.steps
   pub sent_is : sent ≡ last.frame
+
+-- a run that stopped, as a run of the system: with its frame
+pub record StoppedInSystem (setting : Setting) (worker : ℕ) (moment : Moment) (frame : List ℕ) (plan : ℕ → ShardPlan) (count : ℕ)
+    (before after : PassView) (kept_back : FrameView) (shard : ℕ) : Type 0 where
+  pub call : Call
+  pub named : shard ≡ shard_of_call call
+  pub waiting : MachineState
+  pub of_system : IsStoppedInSystem setting worker moment.worker moment.now_ns frame plan count before after call waiting
+  pub kept_is : kept_back ≡ waiting.frame
+
+abbrev pub HasStoppedInSystem : Setting → ℕ → Moment → List ℕ → (ℕ → ShardPlan) → ℕ → PassView → PassView → FrameView → Stop → Type 0
+HasStoppedInSystem setting worker moment frame plan count before after kept_back (JournalFull shard) =
+    StoppedInSystem setting worker moment frame plan count before after kept_back shard

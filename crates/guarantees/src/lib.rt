@@ -17,7 +17,7 @@ mod tests;
 ghost use Rattle.semantics.specs.Safety.{IsSafeImage};
 ghost use Rattle.verifier.specs.Readers.{IsReader};
 ghost use Rattle.guarantees.specs.SameRuns.{RunsTheSame};
-ghost use Rattle.guarantees.specs.Guarantees.{RunsAreTheirMeaning, StoppedRunsAreBeginnings, EntriesAreSteps, OpenedShardsAreReady, RunsLeaveOthersAlone, RunsAreOfTheSystem, EntriesAreAnswered};
+ghost use Rattle.guarantees.specs.Guarantees.{RunsAreTheirMeaning, StoppedRunsAreBeginnings, EntriesAreSteps, OpenedShardsAreReady, RunsLeaveOthersAlone, RunsAreOfTheSystem, StoppedRunsAreOfTheSystem, EntriesAreAnswered};
 
 use shard_port::laws::{
     finish_leaves, journals_after_a_refusal, journals_have_the_calls, leaves_others_alone,
@@ -102,6 +102,13 @@ pub fn runs_leave_others_alone()
 /// shards is one of many.
 pub fn runs_are_of_the_system()
     ensures { RunsAreOfTheSystem }
+{}
+
+/// The same of a run that a full journal stopped: its worker's events lead to the state in which the run waits for the reply to its next
+/// call; the event in which it asks can happen in every state of the system in which the worker stands so and the shard's journal has no
+/// room, for the call or for the Enter before it; then the worker leaves every shard that it entered.
+pub fn stopped_runs_are_of_the_system()
+    ensures { StoppedRunsAreOfTheSystem }
 {}
 
 /// Each entry of a legal journal has its answer: where the history of the shard is what stands before the entry, the journal has room for

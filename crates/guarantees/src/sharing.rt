@@ -1,15 +1,12 @@
 //! A run over shards that other threads call meanwhile, as events of the system of all workers.
 
 ghost use Rattle.std.specs.Prelude.{◌≡◌, ◌<◌, ◌^◌, ℕ, IsTrue, IfOk, IfErr};
-ghost use Rattle.semantics.specs.MachineState.{initial_state};
 ghost use Rattle.semantics.specs.System.{IsInputFrame};
-ghost use Rattle.machine.specs.Running.{program_of};
 ghost use Rattle.shard_port.specs.PassPorts.{is_worker_below, worker_of};
 ghost use Rattle.shard_port.specs.PassSessions.{IsOutsideAt};
-ghost use Rattle.frame_runs.specs.FrameRuns.{HasStopped};
-ghost use Rattle.guarantees.specs.SystemRuns.{setting_of, RanInSystem};
+ghost use Rattle.guarantees.specs.SystemRuns.{setting_of, RanInSystem, HasStoppedInSystem};
 
-use crate::runs_are_of_the_system;
+use crate::{runs_are_of_the_system, stopped_runs_are_of_the_system};
 use frame_runs::run_frame;
 use machine::{Exit, Moment, Stop};
 use shared_shards::{Naming, Pass, Shards};
@@ -34,7 +31,8 @@ fn is_early(now_ns: u64)
 }
 
 /// `run_frame`, said of the system: where the run ends, it is a list of its worker's events from idle to idle, and what they write is what
-/// the worker's own entries have more. Where it stopped (60), what `run_frame` says. Either way the next run can begin with the pass.
+/// the worker's own entries have more. So it is where a full journal stopped it (60), up to the call that was refused. Either way the next run
+/// can begin with the pass.
 pub fn shared_run<B: Naming, W: Wait>(
     rt: &W,
     verified: &Verified,
@@ -50,12 +48,13 @@ pub fn shared_run<B: Naming, W: Wait>(
     requires outside { (number : ℕ) → number < B.count → IsOutsideAt (worker_of pass.old.who) pass.old number }
     ensures exit { IfOk result (λ exit. RanInSystem (setting_of verified.now shards.now.options) (worker_of pass.old.who) moment.now
         frame.old.bytes B.count pass.old pass.new exit.verdict exit.steps frame.new) }
-    ensures stop { IfErr result (HasStopped (program_of verified.now shards.now.options.shards)
-        (initial_state frame.old moment.now.worker moment.now.now_ns) B.plan B.count (worker_of pass.old.who) pass.old pass.new frame.new) }
+    ensures stop { IfErr result (HasStoppedInSystem (setting_of verified.now shards.now.options) (worker_of pass.old.who) moment.now
+        frame.old.bytes B.plan B.count pass.old pass.new frame.new) }
     ensures same_caller { pass.new.who ≡ pass.old.who }
     ensures outside { (number : ℕ) → number < B.count → IsOutsideAt (worker_of pass.old.who) pass.new number }
 {
     runs_are_of_the_system();
+    stopped_runs_are_of_the_system();
     may_come_in(frame);
     is_early(moment.now_ns);
     run_frame(rt, verified, frame, moment, shards, pass)

@@ -1,0 +1,379 @@
+-- A trace that waits for a reply which a full journal refused, as the events of its worker.
+use Rattle.std.proofs.Common.{◌≡◌, ◌≢◌, ◌⊎◌, inl, inr, ⊎_elim, ℕ, zero, suc, ◌<◌, ◌^◌, ◌==◌, ◌||◌, Bool, true, false, List, [], ◌∷◌, ◌++◌, reverse, refl, sym, ◌∙◌, ap, subst, arith, append-nil}
+use Rattle.std.specs.Prelude.{if◌then◌else◌}
+use Rattle.std.proofs.lemmas.Bool.{cases_eq, ne_eqb}
+use Rattle.std.proofs.lemmas.Bool.Decides.{nat_tests}
+use Rattle.wire.specs.FrameView.{FrameView}
+use Rattle.ebpf_decode.specs.InstructionEncoding.{total_slots}
+use Rattle.semantics.specs.declared.options.Options.{Options}
+use Rattle.semantics.specs.declared.plan.ShardPlan.{ShardPlan}
+use Rattle.semantics.specs.declared.call.Call.{Call}
+use Rattle.semantics.specs.declared.call.Call.TheVariants.{Enter}
+use Rattle.semantics.specs.declared.call.Reply.{Reply}
+use Rattle.semantics.specs.declared.call.Entry.{Entry}
+use Rattle.semantics.specs.MachineState.{MachineState, initial_state}
+use Rattle.semantics.specs.Step.{Step, Continues, CallsMap, Exits, Traps}
+use Rattle.semantics.specs.Semantics.{next_step}
+use Rattle.semantics.specs.RunTrace.{RunTrace, HasExited, HasTrapped, Waits, GoesOn, trace_of, trace_from}
+use Rattle.semantics.specs.History.{shard_of_call, IsJournalFull}
+use Rattle.semantics.specs.System.{Setting, Idle, Runs, is_entered, run_over, IsInputFrame, input_frame}
+use Rattle.semantics.specs.System as model
+use Rattle.verifier.specs.Verified.{Verified}
+use Rattle.machine.specs.declared.exit.Stop.{Stop}
+use Rattle.machine.specs.declared.exit.Stop.TheVariants.{JournalFull}
+use Rattle.machine.specs.declared.moment.Moment.{Moment}
+use Rattle.machine.specs.Running.{program_of, whole_trace}
+use Rattle.map_port.specs.Exchanges.{Exchange, calls_in, replies_in}
+use Rattle.shared_shards.specs.Passes.{PassView, own_at}
+use Rattle.shard_port.specs.Asking.{enter_entry, leave_entry}
+use Rattle.shard_port.specs.Sessions.{entries_at}
+use Rattle.shard_port.specs.PassSessions.{session_at, IsVisitedAt, HasRefusedSessions}
+use Rattle.frame_runs.specs.FrameRuns.{HasStopped}
+use Rattle.guarantees.specs.SystemRuns.{Writes, Move, IsMove, AreMoves, entries_on, HaveGrown, IsStoppedInSystem, setting_of, HasStoppedInSystem}
+use Rattle.guarantees.specs.Guarantees.{StoppedRunsAreOfTheSystem}
+use Rattle.guarantees.proofs.MoveLemmas.{asks, begins_so, enters, is_refused, cannot_enter}
+use Rattle.guarantees.proofs.EventLemmas.{is_some_entry, IsDistinct, leaving_of, all_leave, leaves_on, append_on, since, nothing_since, or_false, Reaches, reach_on, reach_here, whole_session}
+
+-- ---- to the state in which the run waits
+
+-- the state is this one, and its next instruction makes the call
+record WaitsFor (setting : Setting) (call : Call) (waiting ending : MachineState) : Type 0 where
+  is : ending ≡ waiting
+  next : Reply → MachineState
+  asks_it : next_step (model.program_of setting) waiting ≡ CallsMap call next
+
+abbrev IsLed : Setting → ℕ → ℕ → Call → MachineState → Type 0
+IsLed setting worker count call waiting =
+    (state : MachineState) (entered : List ℕ) (exchanges : List Exchange) → IsDistinct entered →
+    trace_of count (model.program_of setting) state (replies_in exchanges)
+    ≡ record { calls = calls_in exchanges ++ call ∷ []; stand = Waits waiting } →
+    Reaches (WaitsFor setting call waiting) setting worker state entered exchanges
+
+by_step : (setting : Setting) (worker count : ℕ) (call : Call) (waiting : MachineState) → IsLed setting worker count call waiting →
+    (state : MachineState) (entered : List ℕ) (exchanges : List Exchange) → IsDistinct entered →
+    (step : Step) → next_step (model.program_of setting) state ≡ step →
+    trace_from (trace_of count (model.program_of setting)) state step (replies_in exchanges)
+    ≡ record { calls = calls_in exchanges ++ call ∷ []; stand = Waits waiting } →
+    Reaches (WaitsFor setting call waiting) setting worker state entered exchanges
+by_step setting worker count call waiting later state entered exchanges distinct (Continues next) is trace =
+    reach_on (WaitsFor setting call waiting) setting worker state next entered exchanges is (later next entered exchanges distinct trace)
+by_step setting worker count call waiting later state entered [] distinct (CallsMap made next) is trace =
+    let calls_are : made ∷ [] ≡ call ∷ [] = ap (λ (one : RunTrace). one.calls) trace in
+    let stands : Waits state ≡ Waits waiting = ap (λ (one : RunTrace). one.stand) trace in
+    let same : made ≡ call = cc in
+    let here : state ≡ waiting = cc in
+    record {
+      run = [];
+      ending = state;
+      after = entered;
+      runs = refl;
+      ended = record {
+        is = here;
+        next = next;
+        asks_it = ap (λ (one : MachineState). next_step (model.program_of setting) one) (sym here) ∙ is
+            ∙ ap (λ (one : Call). CallsMap one next) same;
+      };
+      distinct = distinct;
+      writes = λ number. nothing_since worker number (is_entered number entered);
+      stays = λ number. sym (or_false (is_entered number entered));
+    }
+by_step setting worker count call waiting later state entered (exchange ∷ more) distinct (CallsMap made next) is trace =
+    let rest : RunTrace = trace_of count (model.program_of setting) (next exchange.reply) (replies_in more) in
+    let calls_made : made ∷ rest.calls ≡ exchange.call ∷ (calls_in more ++ call ∷ []) = ap (λ (one : RunTrace). one.calls) trace in
+    let stands : rest.stand ≡ Waits waiting = ap (λ (one : RunTrace). one.stand) trace in
+    let same : made ≡ exchange.call = cc in
+    let calls_are : rest.calls ≡ calls_in more ++ call ∷ [] = cc in
+    let whole : rest ≡ record { calls = calls_in more ++ call ∷ []; stand = Waits waiting } = rw (sym calls_are, sym stands) refl in
+    reach_here (WaitsFor setting call waiting) setting worker state next entered exchange more
+    (is_entered (shard_of_call exchange.call) entered) (is ∙ ap (λ (one : Call). CallsMap one next) same) refl distinct
+    (λ now fine. later (next exchange.reply) now more fine whole)
+by_step setting worker count call waiting later state entered exchanges distinct (Exits verdict last) is trace =
+    absurd (ended (ap (λ (one : RunTrace). one.stand) trace))
+  where
+    ended : HasExited verdict last ≡ Waits waiting → ⊥
+    ended stands = cc
+by_step setting worker count call waiting later state entered exchanges distinct (Traps cause) is trace =
+    absurd (trapped (ap (λ (one : RunTrace). one.stand) trace))
+  where
+    trapped : HasTrapped cause ≡ Waits waiting → ⊥
+    trapped stands = cc
+
+led : (setting : Setting) (worker count : ℕ) (call : Call) (waiting : MachineState) → IsLed setting worker count call waiting
+led setting worker zero call waiting state entered exchanges distinct trace =
+    absurd (let stands : GoesOn ≡ Waits waiting = ap (λ (one : RunTrace). one.stand) trace in cc)
+led setting worker (suc count) call waiting state entered exchanges distinct trace =
+    by_step setting worker count call waiting (led setting worker count call waiting) state entered exchanges distinct
+    (next_step (model.program_of setting) state) refl trace
+
+-- ---- the refusal, and leaving
+
+none_there : (entries : List Entry) → is_some_entry entries ≡ false → entries ≡ []
+none_there [] none = refl
+none_there (first ∷ later) none = absurd cc
+
+-- what the pass has more, where every session is whole
+all_written : (setting : Setting) (worker : ℕ) (state : MachineState) (plan : ℕ → ShardPlan) (count : ℕ) (before after : PassView)
+    (exchanges : List Exchange) (call : Call) (said : MachineState → Type 0) (reaches : Reaches said setting worker state [] exchanges) →
+    ((number : ℕ) → number < count → own_at after number ≡ reverse (session_at worker number exchanges) ++ own_at before number) →
+    HaveGrown count (reaches.run ++ leaving_of worker reaches.after) before after
+all_written setting worker state plan count before after exchanges call said reaches written = λ number within.
+    written number within
+    ∙ ap (λ (list : List Entry). reverse list ++ own_at before number) (sym (whole_session said setting worker state exchanges reaches number))
+
+full_of : (plan : ShardPlan) (full_at : List Entry) (call : Call) (shard : ℕ) (entries : List Entry) →
+    IsJournalFull plan full_at call ⊎ ((entries ≡ []) × IsJournalFull plan full_at (Enter shard)) →
+    IsJournalFull plan full_at call ⊎ IsJournalFull plan full_at (Enter shard)
+full_of plan full_at call shard entries (inl full) = inl full
+full_of plan full_at call shard entries (inr full) = inr full.1
+
+-- the call's shard has a session already: the call was refused inside
+inside_stop : (setting : Setting) (worker told now : ℕ) (frame : List ℕ) (plan : ℕ → ShardPlan) (count : ℕ) (before after : PassView)
+    (exchanges : List Exchange) (call : Call) (waiting : MachineState) → worker < setting.options.workers → IsInputFrame frame →
+    now < 2 ^ 64 → told < 8 → HasRefusedSessions plan count worker exchanges call before after →
+    (reaches : Reaches (WaitsFor setting call waiting) setting worker (initial_state (input_frame frame) told now) [] exchanges) →
+    is_entered (shard_of_call call) reaches.after ≡ true → IsStoppedInSystem setting worker told now frame plan count before after call waiting
+inside_stop setting worker told now frame plan count before after exchanges call waiting few input early low sessions reaches inside = record {
+  run = reaches.run;
+  entered = reaches.after;
+  leaving = leaving_of worker reaches.after;
+  refused = call;
+  refused_is = inl refl;
+  next = reaches.ended.next;
+  runs = (
+    Runs (initial_state (input_frame frame) told now) [],
+    begins_so setting worker now told frame few input early low,
+    subst (λ (one : MachineState). AreMoves setting worker (Runs (initial_state (input_frame frame) told now) []) reaches.run
+        (Runs one reaches.after)) reaches.ended.is reaches.runs,
+  );
+  waits = reaches.ended.asks_it;
+  leaves = (
+    run_over reaches.after,
+    is_refused setting worker waiting reaches.after call reaches.ended.next reaches.ended.asks_it inside,
+    all_leave setting worker reaches.after reaches.distinct,
+  );
+  full_at = sessions.full_at;
+  full_seen = sessions.full_seen;
+  full = full_of (plan (shard_of_call call)) sessions.full_at call (shard_of_call call) _ sessions.full;
+  written = all_written setting worker (initial_state (input_frame frame) told now) plan count before after exchanges call
+      (WaitsFor setting call waiting) reaches
+      (λ number within. ⊎_elim (λ same. same)
+      (λ (visited : IsVisitedAt worker exchanges call number (own_at before number) (own_at after number)).
+      absurd (not_visited number visited))
+      (sessions.written number within));
+}
+  where
+    not_visited : (number : ℕ) → IsVisitedAt worker exchanges call number (own_at before number) (own_at after number) → ⊥
+    not_visited number visited =
+        let some : is_entered number reaches.after ≡ is_some_entry (entries_at worker number exchanges) = reaches.stays number in
+        let none : is_some_entry (entries_at worker number exchanges) ≡ false = ap is_some_entry visited.first_call in
+        let there : is_entered number reaches.after ≡ true =
+        subst (λ (one : ℕ). is_entered one reaches.after ≡ true) visited.own_shard inside in cc
+
+-- the Enter was refused
+outside_stop : (setting : Setting) (worker told now : ℕ) (frame : List ℕ) (plan : ℕ → ShardPlan) (count : ℕ) (before after : PassView)
+    (exchanges : List Exchange) (call : Call) (waiting : MachineState) → worker < setting.options.workers → IsInputFrame frame →
+    now < 2 ^ 64 → told < 8 → HasRefusedSessions plan count worker exchanges call before after →
+    (reaches : Reaches (WaitsFor setting call waiting) setting worker (initial_state (input_frame frame) told now) [] exchanges) →
+    is_entered (shard_of_call call) reaches.after ≡ false →
+    ((number : ℕ) → number < count → own_at after number ≡ reverse (session_at worker number exchanges) ++ own_at before number) →
+    IsStoppedInSystem setting worker told now frame plan count before after call waiting
+outside_stop setting worker told now frame plan count before after exchanges call waiting few input early low sessions reaches outside written = record {
+  run = reaches.run;
+  entered = reaches.after;
+  leaving = leaving_of worker reaches.after;
+  refused = Enter (shard_of_call call);
+  refused_is = inr refl;
+  next = reaches.ended.next;
+  runs = (
+    Runs (initial_state (input_frame frame) told now) [],
+    begins_so setting worker now told frame few input early low,
+    subst (λ (one : MachineState). AreMoves setting worker (Runs (initial_state (input_frame frame) told now) []) reaches.run
+        (Runs one reaches.after)) reaches.ended.is reaches.runs,
+  );
+  waits = reaches.ended.asks_it;
+  leaves = (
+    run_over reaches.after,
+    cannot_enter setting worker waiting reaches.after call reaches.ended.next reaches.ended.asks_it outside,
+    all_leave setting worker reaches.after reaches.distinct,
+  );
+  full_at = sessions.full_at;
+  full_seen = sessions.full_seen;
+  full = full_of (plan (shard_of_call call)) sessions.full_at call (shard_of_call call) _ sessions.full;
+  written = all_written setting worker (initial_state (input_frame frame) told now) plan count before after exchanges call
+      (WaitsFor setting call waiting) reaches written;
+}
+
+-- ---- entered for the refused call alone
+
+-- moves of which the last one is told apart
+moves_end : (setting : Setting) (worker : ℕ) (before between after : model.WorkerState) (moves : List Move) (last : Move) →
+    AreMoves setting worker before moves between → IsMove setting worker between last after → AreMoves setting worker before (moves ++ last ∷ []) after
+moves_end setting worker before between after [] last are ends =
+    (after, subst (λ one. IsMove setting worker one last after) (sym are) ends, refl)
+moves_end setting worker before between after (move ∷ moves) last are ends =
+    (are.0, are.1, moves_end setting worker are.0 between after moves last are.2 ends)
+
+-- what the moves write where the run entered a shard at its end
+visit_writes : (said : MachineState → Type 0) (setting : Setting) (worker shard number : ℕ) (state : MachineState) (exchanges : List Exchange)
+    (reaches : Reaches said setting worker state [] exchanges) (here : Bool) → (shard == number) ≡ here →
+    entries_on number ((reaches.run ++ asks worker (Writes (enter_entry worker shard)) ∷ []) ++ leaving_of worker (shard ∷ reaches.after))
+    ≡ (entries_on number reaches.run ++ (if here then enter_entry worker shard ∷ [] else []))
+    ++ (if here then leave_entry worker shard ∷ entries_on number (leaving_of worker reaches.after)
+    else entries_on number (leaving_of worker reaches.after))
+visit_writes said setting worker shard number state exchanges reaches here is =
+    append_on number (reaches.run ++ asks worker (Writes (enter_entry worker shard)) ∷ []) (leaving_of worker (shard ∷ reaches.after))
+    ∙ ap (λ (list : List Entry). list ++ entries_on number (leaving_of worker (shard ∷ reaches.after)))
+    (append_on number reaches.run (asks worker (Writes (enter_entry worker shard)) ∷ []))
+    ∙ ap (λ (test : Bool). (entries_on number reaches.run ++ (if test then enter_entry worker shard ∷ [] else []))
+    ++ (if test then leave_entry worker shard ∷ entries_on number (leaving_of worker reaches.after)
+    else entries_on number (leaving_of worker reaches.after))) is
+
+visit_elsewhere : (said : MachineState → Type 0) (setting : Setting) (worker shard number : ℕ) (state : MachineState) (exchanges : List Exchange)
+    (reaches : Reaches said setting worker state [] exchanges) → (shard == number) ≡ false →
+    entries_on number ((reaches.run ++ asks worker (Writes (enter_entry worker shard)) ∷ []) ++ leaving_of worker (shard ∷ reaches.after))
+    ≡ session_at worker number exchanges
+visit_elsewhere said setting worker shard number state exchanges reaches is =
+    visit_writes said setting worker shard number state exchanges reaches false is
+    ∙ ap (λ (list : List Entry). list ++ entries_on number (leaving_of worker reaches.after)) (append-nil (entries_on number reaches.run))
+    ∙ sym (append_on number reaches.run (leaving_of worker reaches.after))
+    ∙ whole_session said setting worker state exchanges reaches number
+
+visit_there : (said : MachineState → Type 0) (setting : Setting) (worker shard number : ℕ) (state : MachineState) (exchanges : List Exchange)
+    (reaches : Reaches said setting worker state [] exchanges) → (shard == number) ≡ true → is_entered number reaches.after ≡ false →
+    entries_at worker number exchanges ≡ [] →
+    entries_on number ((reaches.run ++ asks worker (Writes (enter_entry worker shard)) ∷ []) ++ leaving_of worker (shard ∷ reaches.after))
+    ≡ enter_entry worker shard ∷ leave_entry worker shard ∷ []
+visit_there said setting worker shard number state exchanges reaches is outside none =
+    let before : entries_on number reaches.run ≡ [] =
+    reaches.writes number ∙ ap (λ (list : List Entry). since false worker number list) none in
+    let after : entries_on number (leaving_of worker reaches.after) ≡ [] =
+    leaves_on worker number reaches.after reaches.distinct
+    ∙ ap (λ (test : Bool). if test then leave_entry worker number ∷ [] else []) outside in
+    visit_writes said setting worker shard number state exchanges reaches true is
+    ∙ ap (λ (list : List Entry). (list ++ enter_entry worker shard ∷ []) ++ leave_entry worker shard ∷ entries_on number (leaving_of worker reaches.after)) before
+    ∙ ap (λ (list : List Entry). enter_entry worker shard ∷ leave_entry worker shard ∷ list) after
+
+apart_from : (shard number : ℕ) → number ≢ shard → (shard == number) ≡ false
+apart_from shard number apart = ne_eqb shard number (λ same. apart (sym same))
+
+visit_stop : (setting : Setting) (worker told now : ℕ) (frame : List ℕ) (plan : ℕ → ShardPlan) (count : ℕ) (before after : PassView)
+    (exchanges : List Exchange) (call : Call) (waiting : MachineState) → worker < setting.options.workers → IsInputFrame frame →
+    now < 2 ^ 64 → told < 8 → HasRefusedSessions plan count worker exchanges call before after →
+    (reaches : Reaches (WaitsFor setting call waiting) setting worker (initial_state (input_frame frame) told now) [] exchanges) →
+    is_entered (shard_of_call call) reaches.after ≡ false →
+    IsVisitedAt worker exchanges call (shard_of_call call) (own_at before (shard_of_call call)) (own_at after (shard_of_call call)) →
+    IsStoppedInSystem setting worker told now frame plan count before after call waiting
+visit_stop setting worker told now frame plan count before after exchanges call waiting few input early low sessions reaches outside visited =
+    let shard : ℕ = shard_of_call call in
+    let start : MachineState = initial_state (input_frame frame) told now in
+    let same : (shard == shard) ≡ true = grind (arith, nat_tests) in
+    let first : is_entered shard (shard ∷ reaches.after) ≡ true = ap (λ (test : Bool). test || is_entered shard reaches.after) same in
+    let led_to : AreMoves setting worker (Runs start []) reaches.run (Runs waiting reaches.after) =
+    subst (λ (one : MachineState). AreMoves setting worker (Runs start []) reaches.run (Runs one reaches.after)) reaches.ended.is reaches.runs in
+    record {
+      run = reaches.run ++ asks worker (Writes (enter_entry worker shard)) ∷ [];
+      entered = shard ∷ reaches.after;
+      leaving = leaving_of worker (shard ∷ reaches.after);
+      refused = call;
+      refused_is = inl refl;
+      next = reaches.ended.next;
+      runs = (
+        Runs start [],
+        begins_so setting worker now told frame few input early low,
+        moves_end setting worker (Runs start []) (Runs waiting reaches.after) (Runs waiting (shard ∷ reaches.after)) reaches.run
+            (asks worker (Writes (enter_entry worker shard))) led_to
+            (enters setting worker waiting reaches.after call reaches.ended.next reaches.ended.asks_it outside),
+      );
+      waits = reaches.ended.asks_it;
+      leaves = (
+        run_over (shard ∷ reaches.after),
+        is_refused setting worker waiting (shard ∷ reaches.after) call reaches.ended.next reaches.ended.asks_it first,
+        all_leave setting worker (shard ∷ reaches.after) (outside, reaches.distinct),
+      );
+      full_at = sessions.full_at;
+      full_seen = sessions.full_seen;
+      full = full_of (plan shard) sessions.full_at call shard _ sessions.full;
+      written = λ number within. ⊎_elim
+          (λ (here : number ≡ shard). visited_own number here)
+          (λ (apart : number ≢ shard).
+          elsewhere_own number within apart
+          ∙ ap (λ (list : List Entry). reverse list ++ own_at before number)
+          (sym (visit_elsewhere (WaitsFor setting call waiting) setting worker shard number start exchanges reaches (apart_from shard number apart))))
+          (cases_eq number shard);
+    }
+  where
+    visited_own : (number : ℕ) → number ≡ shard_of_call call →
+        own_at after number ≡ reverse (entries_on number ((reaches.run ++ asks worker (Writes (enter_entry worker (shard_of_call call))) ∷ [])
+        ++ leaving_of worker (shard_of_call call ∷ reaches.after))) ++ own_at before number
+    visited_own number here =
+        let there : (shard_of_call call == number) ≡ true = grind (arith, nat_tests) in
+        let out : is_entered number reaches.after ≡ false = subst (λ (one : ℕ). is_entered one reaches.after ≡ false) (sym here) outside in
+        let none : entries_at worker number exchanges ≡ [] =
+        subst (λ (one : ℕ). entries_at worker one exchanges ≡ []) (sym here) visited.first_call in
+        let own : own_at after number ≡ leave_entry worker (shard_of_call call) ∷ enter_entry worker (shard_of_call call) ∷ own_at before number =
+        subst (λ (one : ℕ). own_at after one ≡ leave_entry worker (shard_of_call call) ∷ enter_entry worker (shard_of_call call) ∷ own_at before one)
+        (sym here) visited.written in
+        own ∙ ap (λ (list : List Entry). reverse list ++ own_at before number)
+        (sym (visit_there (WaitsFor setting call waiting) setting worker (shard_of_call call) number (initial_state (input_frame frame) told now)
+        exchanges reaches there out none))
+
+    elsewhere_own : (number : ℕ) → number < count → number ≢ shard_of_call call →
+        own_at after number ≡ reverse (session_at worker number exchanges) ++ own_at before number
+    elsewhere_own number within apart = ⊎_elim (λ same. same)
+        (λ (it : IsVisitedAt worker exchanges call number (own_at before number) (own_at after number)). absurd (apart (sym it.own_shard)))
+        (sessions.written number within)
+
+-- ---- all three
+
+all_sessions : (plan : ℕ → ShardPlan) (count worker : ℕ) (before after : PassView) (exchanges : List Exchange) (call : Call) →
+    HasRefusedSessions plan count worker exchanges call before after →
+    own_at after (shard_of_call call) ≡ reverse (session_at worker (shard_of_call call) exchanges) ++ own_at before (shard_of_call call) →
+    (number : ℕ) → number < count → own_at after number ≡ reverse (session_at worker number exchanges) ++ own_at before number
+all_sessions plan count worker before after exchanges call sessions own number within = ⊎_elim (λ same. same)
+    (λ (it : IsVisitedAt worker exchanges call number (own_at before number) (own_at after number)).
+    subst (λ (one : ℕ). own_at after one ≡ reverse (session_at worker one exchanges) ++ own_at before one) it.own_shard own)
+    (sessions.written number within)
+
+by_inside : (setting : Setting) (worker told now : ℕ) (frame : List ℕ) (plan : ℕ → ShardPlan) (count : ℕ) (before after : PassView)
+    (exchanges : List Exchange) (call : Call) (waiting : MachineState) → worker < setting.options.workers → IsInputFrame frame →
+    now < 2 ^ 64 → told < 8 → HasRefusedSessions plan count worker exchanges call before after →
+    (reaches : Reaches (WaitsFor setting call waiting) setting worker (initial_state (input_frame frame) told now) [] exchanges) →
+    (inside : Bool) → is_entered (shard_of_call call) reaches.after ≡ inside →
+    IsStoppedInSystem setting worker told now frame plan count before after call waiting
+by_inside setting worker told now frame plan count before after exchanges call waiting few input early low sessions reaches true is =
+    inside_stop setting worker told now frame plan count before after exchanges call waiting few input early low sessions reaches is
+by_inside setting worker told now frame plan count before after exchanges call waiting few input early low sessions reaches false is =
+    ⊎_elim
+    (λ (same : own_at after (shard_of_call call) ≡ reverse (session_at worker (shard_of_call call) exchanges) ++ own_at before (shard_of_call call)).
+    outside_stop setting worker told now frame plan count before after exchanges call waiting few input early low sessions reaches is
+    (all_sessions plan count worker before after exchanges call sessions same))
+    (λ (visited : IsVisitedAt worker exchanges call (shard_of_call call) (own_at before (shard_of_call call)) (own_at after (shard_of_call call))).
+    visit_stop setting worker told now frame plan count before after exchanges call waiting few input early low sessions reaches is visited)
+    (sessions.written (shard_of_call call) sessions.refused_within)
+
+pub stopped_is_of_system : StoppedRunsAreOfTheSystem
+stopped_is_of_system setting worker told now frame plan count steps before after exchanges call waiting few input early low trace sessions =
+    let reaches : Reaches (WaitsFor setting call waiting) setting worker (initial_state (input_frame frame) told now) [] exchanges =
+    led setting worker steps call waiting (initial_state (input_frame frame) told now) [] exchanges tt trace in
+    by_inside setting worker told now frame plan count before after exchanges call waiting few input early low sessions reaches
+    (is_entered (shard_of_call call) reaches.after) refl
+
+-- by what a run over shared shards ensures
+pub stopped_in_system : StoppedRunsAreOfTheSystem → (verified : Verified) (options : Options) (moment : Moment) (frame : FrameView)
+    (plan : ℕ → ShardPlan) (count worker : ℕ) (before after : PassView) (sent : FrameView) (stop : Stop) →
+    worker < options.workers → IsInputFrame frame.bytes → frame.headroom ≡ 256 → moment.now_ns < 2 ^ 64 → moment.worker < 8 →
+    HasStopped (program_of verified options.shards) (initial_state frame moment.worker moment.now_ns) plan count worker before after sent stop →
+    HasStoppedInSystem (setting_of verified options) worker moment frame.bytes plan count before after sent stop
+stopped_in_system stops verified options moment frame plan count worker before after sent (JournalFull shard) few input headroom early low was =
+    let same : frame ≡ input_frame frame.bytes = ap (λ (room : ℕ). record { bytes = frame.bytes; headroom = room }) headroom in
+    record {
+      call = was.refused;
+      named = was.named;
+      waiting = was.waiting;
+      of_system = stops (setting_of verified options) worker moment.worker moment.now_ns frame.bytes plan count (total_slots verified.code)
+          before after was.exchanges was.refused was.waiting few input early low
+          (subst (λ (one : FrameView). whole_trace (program_of verified options.shards) (initial_state one moment.worker moment.now_ns)
+          (replies_in was.exchanges) ≡ record { calls = calls_in was.exchanges ++ was.refused ∷ []; stand = Waits was.waiting }) same was.trace)
+          was.sessions;
+      kept_is = was.kept_back;
+    }
