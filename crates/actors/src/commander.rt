@@ -114,6 +114,7 @@ impl<'a, B: Naming, W: Wait, G: Gate> Commander<'a, B, W, G> {
     /// Gives the pass back, with what was noted.
     pub fn finish(self) -> (Pass<B>, Vec<Applied>)
         ensures pass { result.0 ≡ self.entry.port.pass }
+        ensures who { result.0.who ≡ TheController }
         ensures noted { result.1.items ≡ self.entry.noted }
         ensures account { IsAccount B.plan self.entry.port.maps self.entry.port.options self.entry.script self.entry.controller.size result.1.items self.entry.controller result.0 }
     {

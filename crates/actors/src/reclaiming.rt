@@ -55,7 +55,8 @@ impl<'a, B: Naming, W: Wait, G: Gate> Reclaiming<'a, B, W, G> {
 
     /// Gives the pass back.
     pub fn finish(self) -> Pass<B>
-        ensures { result ≡ self.entry }
+        ensures pass { result ≡ self.entry }
+        ensures who { result.who ≡ Reclaimer }
     {
         let Reclaiming { pass, .. } = self;
         pass

@@ -3,6 +3,7 @@
 ghost use Rattle.std.specs.Prelude.{◌≡◌, ◌<◌, ◌∷◌, ◌++◌, [], ℕ, true, false, MatchOption, IsTrue};
 ghost use Rattle.rx_queues.specs.Passes.{IsTakePassOf, jobs_taken, place_taken_from};
 ghost use Rattle.rx_queues.specs.declared.job.Job.TheVariants.{Command as CommandJob, Note, End};
+ghost use Rattle.semantics.specs.declared.call.Caller.TheVariants.{Controller, Reclaimer};
 ghost use Rattle.shared_shards.specs.CallerView.{nothing_seen};
 ghost use Rattle.shared_shards.specs.Passes.{view_at};
 ghost use Rattle.actors.specs.Jobs.{AreCommandsTaken, IsAccounted, AreRoundsMade, round_job};
@@ -36,8 +37,8 @@ pub struct RoundsEnded<B: Naming> {
 
 /// Applies the commands that the controller is handed, in order, until the end. Where memory is refused for a note, that command and the later ones are
 /// taken and not applied. Waits while the queue is empty, and for ever where another job than a command of the script or the end comes.
-pub fn commands_until_end<B: Naming, W: Wait, G: Gate>(
-    rt: &W,
+pub fn commands_until_end<B: Naming, W: Wait, G: Gate, R: Wait>(
+    rt: &R,
     alloc: Global,
     queues: &Queues,
     mut take: TakePass,
@@ -47,6 +48,7 @@ pub fn commands_until_end<B: Naming, W: Wait, G: Gate>(
     ensures take { IsTakePassOf queues.now result.take × (place_taken_from result.take ≡ place_taken_from take) }
     ensures jobs { result.is_refused ≡ false → AreCommandsTaken commander.entry.noted result.noted.items (jobs_taken result.take) }
     ensures account { IsAccounted B.plan commander.entry result.noted.items result.pass }
+    ensures who { result.pass.who ≡ Controller }
 {
     let mut is_refused = false;
     'jobs: for _ in rt.forever() {
@@ -73,8 +75,8 @@ pub fn commands_until_end<B: Naming, W: Wait, G: Gate>(
 
 /// Makes a round for each note that the reclaimer is handed, until the end. Waits while the queue is empty, and for ever where another job than a note or
 /// the end comes.
-pub fn rounds_until_end<B: Naming, W: Wait, G: Gate>(
-    rt: &W,
+pub fn rounds_until_end<B: Naming, W: Wait, G: Gate, R: Wait>(
+    rt: &R,
     queues: &Queues,
     mut take: TakePass,
     mut reclaiming: Reclaiming<'_, B, W, G>,
@@ -83,6 +85,7 @@ pub fn rounds_until_end<B: Naming, W: Wait, G: Gate>(
     requires nothing { (number : ℕ) → view_at reclaiming number ≡ nothing_seen }
     ensures take { IsTakePassOf queues.now result.take × (place_taken_from result.take ≡ place_taken_from take) }
     ensures rounds { AreRoundsMade B.plan B.count (jobs_taken result.take) result.pass }
+    ensures who { result.pass.who ≡ Reclaimer }
 {
     'jobs: for _ in rt.forever() {
         if !next_note(rt, queues, &mut take) {

@@ -1,0 +1,3 @@
+pub mod Lists
+pub mod Accounts
+pub mod PartLemmas

@@ -1,0 +1,200 @@
+-- The controller's part and the reclaimer's.
+use Rattle.std.proofs.Common.{◌≡◌, ◌⊎◌, ℕ, zero, suc, ◌+◌, ◌<◌, List, [], ◌∷◌, ◌++◌, length, length-append, refl, sym, ap, ◌∙◌, subst, arith}
+use Rattle.std.specs.Prelude.{Option, Some, None, IfSome, map, replicate, reverse}
+use Rattle.std.specs.List.{AllByRecursion}
+use Rattle.ebpf_decode.specs.declared.map.MapDef.{MapDef}
+use Rattle.ebpf_decode.specs.declared.map.MapKind.{MapKind}
+use Rattle.ebpf_decode.specs.declared.map.MapKind.TheVariants.{Array, Hash, LruHash}
+use Rattle.semantics.specs.declared.call.Caller.{Caller}
+use Rattle.semantics.specs.declared.call.Caller.TheVariants.{Controller, Reclaimer}
+use Rattle.semantics.specs.declared.call.Call.TheVariants.{Reclaim}
+use Rattle.semantics.specs.declared.call.Entry.{Entry}
+use Rattle.semantics.specs.declared.options.Options.{Options}
+use Rattle.semantics.specs.declared.plan.ShardPlan.{ShardPlan}
+use Rattle.semantics.specs.CallerLaws.{own_entries}
+use Rattle.journals.specs.JournalsView.{JournalsView, entries_at}
+use Rattle.shared_shards.specs.CallerView.{BeginsWith}
+use Rattle.shared_shards.specs.Passes.{PassView, own_at, seen_at, pass_at, AreSettled}
+use Rattle.rx_queues.specs.declared.job.Job.{Job}
+use Rattle.rx_queues.specs.declared.job.Job.TheVariants.{Frame, Command as CommandJob, Note, End}
+use Rattle.control.specs.declared.command.Command.{Command}
+use Rattle.control.specs.MapUpdates.{MapUpdate}
+use Rattle.actors.specs.declared.applied.Applied.{Applied}
+use Rattle.actors.specs.SharedUpdates.{shard_of, update_call}
+use Rattle.actors.specs.Commands.{CommanderView, CommandDone, IsAccount, IsFullFor}
+use Rattle.actors.specs.Jobs.{command_jobs, AreRoundsMade}
+use Rattle.actors.specs.Rounds.{AreReclaimed, IsReclaimedBy}
+use Rattle.workers.specs.Actors.{numbers_from, commands_from}
+use Rattle.replay.specs.Parts.{HasCommanded, HasReclaimed, IsScriptRun, IsFullInJournal, IsScriptAccounted, AreRoundsAccounted, numbers_of, refused_of}
+use Rattle.replay.proofs.Accounts.{full_later}
+
+-- ---- rounds
+
+-- as many notes as rounds
+ends_length : (notes : ℕ) → length (replicate notes Note ++ End ∷ []) ≡ notes + 1
+ends_length zero = refl
+ends_length (suc notes) = (let rest = ends_length notes in omega (arith, rest))
+
+same_rounds : (a b : ℕ) → replicate a Note ++ End ∷ [] ≡ replicate b Note ++ End ∷ [] → a ≡ b
+same_rounds a b same =
+    let first = ends_length a in
+    let second = ends_length b in
+    let both = ap (λ (jobs : List Job). length jobs) same in
+    omega (arith, first, second, both)
+
+pub rounds_made : (plan : ℕ → ShardPlan) (count rounds : ℕ) (pass : PassView) → HasReclaimed plan count (replicate rounds Note ++ End ∷ []) pass →
+    AreReclaimed plan count rounds pass
+rounds_made plan count rounds pass has =
+    subst (λ (n : ℕ). AreReclaimed plan count n pass) (same_rounds has.rounds.rounds rounds (sym has.rounds.notes)) has.rounds.reclaimed
+
+-- what was seen, held against a later history
+reclaimed_later : (kind : MapKind) (plan : ShardPlan) (number rounds : ℕ) (own seen later : List Entry) → BeginsWith later seen →
+    IsReclaimedBy kind plan number rounds own seen → IsReclaimedBy kind plan number rounds own later
+reclaimed_later Array plan number rounds own seen later begins none = none
+reclaimed_later Hash plan number rounds own seen later begins made = record {
+  each = made.each;
+  one_a_round = made.one_a_round;
+  fewer_if_full = λ fewer. full_later plan later seen (Reclaim number) begins (made.fewer_if_full fewer);
+}
+reclaimed_later LruHash plan number rounds own seen later begins made = record {
+  each = made.each;
+  one_a_round = made.one_a_round;
+  fewer_if_full = λ fewer. full_later plan later seen (Reclaim number) begins (made.fewer_if_full fewer);
+}
+
+pub rounds_stand : (plan : ℕ → ShardPlan) (count rounds : ℕ) (journals : JournalsView) (pass : PassView) → pass.who ≡ Reclaimer →
+    AreSettled count journals pass → AreReclaimed plan count rounds pass → AreRoundsAccounted plan count rounds journals
+rounds_stand plan count rounds journals pass who settled reclaimed number within =
+    let all : List Entry = reverse (entries_at journals number) in
+    let kind = (plan number).definition.kind in
+    let own_is : own_at pass number ≡ own_entries Reclaimer all = (settled number within).own ∙ ap (λ (c : Caller). own_entries c all) who in
+    subst (λ (own : List Entry). IsReclaimedBy kind (plan number) number rounds own all) own_is
+    (reclaimed_later kind (plan number) number rounds (own_at pass number) (seen_at pass number) all (settled number within).begins (reclaimed number within))
+
+-- ---- the numbers of commands
+
+numbers_more : (first n m : ℕ) → numbers_from first n ++ numbers_from (first + n) m ≡ numbers_from first (n + m)
+numbers_more first zero m =
+    let here : first + zero ≡ first = omega arith in
+    let all : m ≡ zero + m = omega arith in
+    ap (λ (k : ℕ). numbers_from k m) here ∙ ap (λ (k : ℕ). numbers_from first k) all
+numbers_more first (suc n) m =
+    let here : first + suc n ≡ (first + 1) + n = omega arith in
+    let all : suc (n + m) ≡ suc n + m = omega arith in
+    ap (λ (k : ℕ). first ∷ (numbers_from (first + 1) n ++ numbers_from k m)) here
+    ∙ ap (λ (l : List ℕ). first ∷ l) (numbers_more (first + 1) n m)
+    ∙ ap (λ (k : ℕ). numbers_from first k) all
+
+abbrev job_numbers : List Job → List ℕ
+job_numbers [] = []
+job_numbers (CommandJob number ∷ later) = number ∷ job_numbers later
+job_numbers (Frame number ∷ later) = job_numbers later
+job_numbers (Note ∷ later) = job_numbers later
+job_numbers (End ∷ later) = job_numbers later
+
+numbers_noted : (noted : List Applied) → job_numbers (command_jobs noted ++ End ∷ []) ≡ numbers_of noted
+numbers_noted [] = refl
+numbers_noted (one ∷ later) = ap (λ (l : List ℕ). one.command ∷ l) (numbers_noted later)
+
+numbers_handed : (numbers : List ℕ) → job_numbers (map (λ (number : ℕ). CommandJob number) numbers ++ End ∷ []) ≡ numbers
+numbers_handed [] = refl
+numbers_handed (number ∷ later) = ap (λ (l : List ℕ). number ∷ l) (numbers_handed later)
+
+numbers_both : (before later : List Applied) → numbers_of (before ++ later) ≡ numbers_of before ++ numbers_of later
+numbers_both [] later = refl
+numbers_both (one ∷ before) later = ap (λ (l : List ℕ). one.command ∷ l) (numbers_both before later)
+
+-- one command more
+pub numbers_next : (before after : List Applied) (one : Applied) (first : ℕ) → numbers_of before ≡ numbers_from 0 first → one.command ≡ first →
+    after ≡ before ++ one ∷ [] → numbers_of after ≡ numbers_from 0 (first + 1)
+numbers_next before after one first were is noted =
+    let here : one.command ≡ 0 + first = (omega (arith, is)) in
+    ap numbers_of noted ∙ numbers_both before (one ∷ []) ∙ ap (λ (l : List ℕ). l ++ one.command ∷ []) were
+    ∙ ap (λ (n : ℕ). numbers_from 0 first ++ n ∷ []) here ∙ numbers_more 0 first 1
+
+-- ---- the script
+
+pub script_run : (plan : ℕ → ShardPlan) (maps : List MapDef) (options : Options) (script : List Command) (size : ℕ) (start : CommanderView)
+    (noted : List Applied) (pass : PassView) (first count : ℕ) → start.script ≡ script → start.port.maps ≡ maps → start.port.options ≡ options
+    → start.controller.size ≡ size → numbers_of start.noted ≡ numbers_from 0 first → first + count ≡ length script
+    → HasCommanded plan start (commands_from first count ++ End ∷ []) noted pass → IsScriptRun plan maps options script size noted pass
+script_run plan maps options script size start noted pass first count is_script is_maps is_options is_size were all has =
+    let later = has.taken.later in
+    let rest : numbers_of later ≡ numbers_from first count =
+    sym (numbers_noted later) ∙ ap job_numbers (sym has.taken.each_once) ∙ numbers_handed (numbers_from first count) in
+    let here : first ≡ 0 + first = omega arith in
+    let state = has.account.state in
+    let one = subst (λ m. IsAccount plan m start.port.options start.script start.controller.size noted state pass) is_maps has.account.account in
+    let two = subst (λ o. IsAccount plan maps o start.script start.controller.size noted state pass) is_options one in
+    let three = subst (λ s. IsAccount plan maps options s start.controller.size noted state pass) is_script two in
+    record {
+      each_once = ap numbers_of has.taken.noted ∙ numbers_both start.noted later ∙ ap (λ (l : List ℕ). l ++ numbers_of later) were
+          ∙ ap (λ (l : List ℕ). numbers_from 0 first ++ l) (rest ∙ ap (λ (n : ℕ). numbers_from n count) here) ∙ numbers_more 0 first count
+          ∙ ap (λ (n : ℕ). numbers_from 0 n) all;
+      state = state;
+      account = subst (λ n. IsAccount plan maps options script n noted state pass) is_size three;
+      who = has.who;
+    }
+
+all_map : {A : Type 0} (P Q : A → Type 0) → ((x : A) → P x → Q x) → (xs : List A) → AllByRecursion P xs → AllByRecursion Q xs
+all_map P Q step [] all = all
+all_map P Q step (x ∷ xs) all = (step x all.0, all_map P Q step xs all.1)
+
+full_stands : (plan : ℕ → ShardPlan) (maps : List MapDef) (options : Options) (count : ℕ) (journals : JournalsView) (pass : PassView) →
+    AreSettled count journals pass → (stopped : Option MapUpdate) → IfSome stopped (IsFullFor plan maps options pass) →
+    IfSome stopped (IsFullInJournal plan maps options count journals)
+full_stands plan maps options count journals pass settled None full = full
+full_stands plan maps options count journals pass settled (Some update) full = λ within.
+    let shard = shard_of maps options update in
+    full_later (plan shard) (reverse (entries_at journals shard)) (seen_at pass shard) (update_call shard update) (settled shard within).begins full
+
+pub script_stands : (plan : ℕ → ShardPlan) (maps : List MapDef) (options : Options) (count : ℕ) (script : List Command) (size : ℕ) (noted : List Applied)
+    (pass : PassView) (journals : JournalsView) (refused : List Applied) → IsScriptRun plan maps options script size noted pass →
+    AreSettled count journals pass → refused ≡ refused_of noted → IsScriptAccounted plan maps options count script journals refused
+script_stands plan maps options count script size noted pass journals refused run settled refused_are = record {
+  size = size;
+  noted = noted;
+  each_once = run.each_once;
+  done = run.account.done;
+  are_noted = run.account.are_noted;
+  state = run.state;
+  are_done = run.account.are_done;
+  own = λ number within. ap (λ (c : Caller). own_entries c (reverse (entries_at journals number))) (sym run.who) ∙ sym (settled number within).own ∙ run.account.own number;
+  full = all_map (λ (one : CommandDone). IfSome one.stopped (IsFullFor plan maps options pass))
+      (λ (one : CommandDone). IfSome one.stopped (IsFullInJournal plan maps options count journals))
+      (λ one. full_stands plan maps options count journals pass settled one.stopped) run.account.done run.account.full;
+  refused_are = refused_are;
+}
+
+-- ---- all passes, when the shards are closed
+
+first_at : (xs more : List PassView) (j : ℕ) → j < length xs → pass_at (xs ++ more) j ≡ pass_at xs j
+first_at [] more j below = absurd (omega arith)
+first_at (x ∷ xs) more zero below = refl
+first_at (x ∷ xs) more (suc j) below = first_at xs more j (omega arith)
+
+next_at : (xs : List PassView) (a b : PassView) → pass_at (xs ++ a ∷ b ∷ []) (length xs) ≡ a
+next_at [] a b = refl
+next_at (x ∷ xs) a b = next_at xs a b
+
+last_at : (xs : List PassView) (a b : PassView) → pass_at (xs ++ a ∷ b ∷ []) (suc (length xs)) ≡ b
+last_at [] a b = refl
+last_at (x ∷ xs) a b = last_at xs a b
+
+pub record AllSettled (count : ℕ) (journals : JournalsView) (xs : List PassView) (a b : PassView) : Type 0 where
+  pub first : (j : ℕ) → j < length xs → AreSettled count journals (pass_at xs j)
+  pub next : AreSettled count journals a
+  pub last : AreSettled count journals b
+
+pub all_settled : (count : ℕ) (journals : JournalsView) (passes xs : List PassView) (a b : PassView) → passes ≡ xs ++ a ∷ b ∷ [] →
+    ((place : ℕ) → place < length passes → AreSettled count journals (pass_at passes place)) → AllSettled count journals xs a b
+all_settled count journals passes xs a b are settled =
+    let long = length-append xs (a ∷ b ∷ []) in
+    let same = ap (λ (l : List PassView). length l) are in
+    let at : (place : ℕ) → place < length passes → AreSettled count journals (pass_at (xs ++ a ∷ b ∷ []) place) =
+    λ place below. subst (λ (l : List PassView). AreSettled count journals (pass_at l place)) are (settled place below) in
+    record {
+      first = λ j below. subst (λ (p : PassView). AreSettled count journals p) (first_at xs (a ∷ b ∷ []) j below) (at j (omega (arith, below, long, same)));
+      next = subst (λ (p : PassView). AreSettled count journals p) (next_at xs a b) (at (length xs) (omega (arith, long, same)));
+      last = subst (λ (p : PassView). AreSettled count journals p) (last_at xs a b) (at (suc (length xs)) (omega (arith, long, same)));
+    }

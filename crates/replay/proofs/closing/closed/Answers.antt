@@ -1,0 +1,63 @@
+use Rattle.std.proofs.Common.{◌≡◌, ℕ, ◌<◌, List, length, refl, ap, sym, ◌∙◌, subst, arith}
+use Rattle.std.proofs.lemmas.List.{length-map}
+use Rattle.std.specs.Prelude.{map}
+use Rattle.machine.specs.Running.{program_of}
+use Rattle.shared_shards.specs.SharedMaps.{ArePlans}
+use Rattle.workers.specs.Accounts.{lists_of, AreRunsOfShares, counts_of, sent_of, sent_frames}
+use Rattle.workers.specs.Shares.{frames_of}
+use Rattle.replay.specs.Parts.{IsScriptAccounted, rounds_of}
+use Rattle.replay.specs.Runs.{pass_in}
+use Rattle.replay.proofs.Accounts.{shares, work, of_lists, of_read}
+use Rattle.replay.proofs.PartLemmas.{all_settled, script_stands, rounds_stand}
+use Rattle.replay.proofs.closing.closed.Goals as goal
+
+pub account-requires-clause-runs : goal.account-requires-clause-runs
+account-requires-clause-runs g c =
+    let records = c.args.capture.now.records.items in
+    let workers = c.args.shards.options.workers in
+    let lists = c.in_ok-runs.runs.items in
+    of_read (λ n runs. AreRunsOfShares (frames_of records) n (length records) runs) c.deref.result.now lists workers c.deref.ensures.value
+    (c.in_ok-runs.ensures.count.0 ∙ c.requires.count)
+    (shares g.B.Naming.count g.B.Naming.plan (program_of c.args.verified.now c.args.shards.options.shards) records workers c.args.handled.items
+    (lists_of lists) c.in_ok-runs.working.items c.requires.count c.requires.handled c.in_ok-runs.ensures.parts)
+
+pub returns : goal.returns
+returns g c =
+    let records = c.args.capture.now.records.items in
+    let frames = frames_of records in
+    let workers = c.args.shards.options.workers in
+    let program = program_of c.args.verified.now c.args.shards.options.shards in
+    let lists = c.in_ok-runs.runs.items in
+    let working = c.in_ok-runs.working.items in
+    let journals = c.close-journals.result in
+    let as_many : length lists ≡ workers = c.in_ok-runs.ensures.count.0 ∙ c.requires.count in
+    let workers_passes : length (map pass_in working) ≡ workers = length-map working pass_in ∙ c.in_ok-runs.ensures.count.1 ∙ c.requires.count in
+    let settled = all_settled g.B.Naming.count journals c.in_ok-passes.passes.items (map pass_in working) c.args.commanded.pass c.args.reclaimed
+    c.in_ok-passes.ensures c.close-journals.ensures.settled in
+    record {
+      accounted = record {
+        maps = c.close-journals.ensures.maps ∙ c.requires.maps;
+        options_are = c.close-journals.ensures.options;
+        count = g.B.Naming.count;
+        count_is = c.close-journals.ensures.count;
+        plan = g.B.Naming.plan;
+        plans = subst (λ maps. ArePlans maps c.args.shards.options g.B.Naming.count g.B.Naming.plan) c.requires.maps c.planned.ensures.plans;
+        legal = c.close-journals.ensures.legal;
+        runs = lists_of lists;
+        workers = length-map lists (λ list. list.items) ∙ as_many;
+        work = work g.B.Naming.count g.B.Naming.plan program records workers c.args.handled.items (lists_of lists) working (map pass_in working) journals
+            c.requires.count c.requires.handled c.in_ok-runs.ensures.parts (λ worker below. refl)
+            (λ worker below. settled.first worker (omega (arith, below, workers_passes)));
+        counts = of_lists (λ n runs. c.in_ok-counts.counts ≡ counts_of frames n runs (length records)) c.deref.result.now lists workers c.deref.ensures.value as_many
+            c.in_ok-counts.ensures.counts;
+        each_once = c.in_ok-counts.ensures.frames;
+        sent = of_lists (λ n runs. sent_frames c.in_ok-counts.sent.items ≡ sent_of frames n runs (length records)) c.deref.result.now lists workers c.deref.ensures.value
+            as_many c.in_ok-counts.ensures.sent;
+        commands = subst (λ maps. IsScriptAccounted g.B.Naming.plan maps c.args.shards.options g.B.Naming.count c.args.script.now journals c.refused.result.items)
+            c.requires.maps
+            (script_stands g.B.Naming.plan c.args.shards.maps c.args.shards.options g.B.Naming.count c.args.script.now c.args.size c.args.commanded.noted.items
+            c.args.commanded.pass journals c.refused.result.items c.requires.script settled.next c.refused.ensures);
+        rounds = rounds_stand g.B.Naming.plan g.B.Naming.count (rounds_of (length records)) journals c.args.reclaimed c.requires.rounds.1 settled.last
+            c.requires.rounds.0;
+      };
+    }

@@ -1,0 +1,6 @@
+use Rattle.std.proofs.Common.{length}
+use Rattle.shared_shards.specs.NewShards.{table_names, plan_names}
+use Rattle.replay.proofs.replaying.replay.Given as goal
+
+abbrev pub ghosts-replay_over : goal.ghosts-replay_over
+ghosts-replay_over g a = record { count = length a.opened.shards; table = table_names a.opened; plan = plan_names a.opened }

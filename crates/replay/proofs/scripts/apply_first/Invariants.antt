@@ -1,0 +1,15 @@
+use Rattle.std.proofs.Common.{◌≡◌, length}
+use Rattle.workers.specs.Actors.{numbers_from}
+use Rattle.replay.specs.Parts.{numbers_of}
+use Rattle.replay.proofs.scripts.apply_first.Given as goal
+
+pub record Begun (g : goal.Over) (l : goal.Live-commands g) : Type 0 where
+  pub count_is : l.count ≡ length l.fn.commander.script
+  pub applied : numbers_of l.commander.noted ≡ numbers_from 0 l.number
+  pub script : l.commander.script ≡ l.fn.commander.script
+  pub maps : l.commander.port.maps ≡ l.fn.commander.port.maps
+  pub options : l.commander.port.options ≡ l.fn.commander.port.options
+  pub size : l.commander.controller.size ≡ l.fn.commander.controller.size
+
+abbrev pub invariant-commands : goal.invariant-commands
+invariant-commands g l = Begun g l

@@ -1,0 +1,53 @@
+-- What a replay accounts for: each record, and each entry of the journals.
+use Rattle.std.specs.Prelude.{◌≡◌, ◌<◌, ℕ, List, length, reverse}
+use Rattle.wire.specs.declared.records.Sent.{Sent}
+use Rattle.semantics.specs.declared.call.Caller.TheVariants.{Worker}
+use Rattle.semantics.specs.declared.options.Options.{Options}
+use Rattle.semantics.specs.declared.plan.ShardPlan.{ShardPlan}
+use Rattle.semantics.specs.CallerLaws.{own_entries}
+use Rattle.semantics.specs.History.{IsLegalJournal}
+use Rattle.semantics.specs.Program.{Program}
+use Rattle.journals.specs.JournalsView.{JournalsView, entries_at}
+use Rattle.shared_shards.specs.Passes.{PassView, own_at}
+use Rattle.shared_shards.specs.SharedMaps.{ArePlans}
+use Rattle.workers.specs.declared.run_end.Ran.{Ran}
+use Rattle.workers.specs.Accounts.{runs_at, counts_of, frames_in, sent_of, sent_frames}
+use Rattle.workers.specs.Runs.{IsRunAt, HasHandled}
+use Rattle.workers.specs.Shares.{frames_of, share}
+use Rattle.control.specs.declared.command.Command.{Command}
+use Rattle.replay.specs.declared.outcome.Outcome.{Outcome}
+use Rattle.replay.specs.Parts.{IsScriptAccounted, AreRoundsAccounted, rounds_of}
+use Rattle.replay.specs.Runs.{IsNewPass, IsRunIn}
+
+-- a worker ran its records, in order, from a pass that had seen nothing; and in each journal its entries are those of its runs, one after the
+-- other
+pub record IsWorkOf (IsRun : PassView → Ran → PassView → Type 0) (records : List ℕ) (worker : ℕ) (runs : List Ran) (count : ℕ) (journals : JournalsView) :
+    Type 0 where
+  pub after : PassView
+  pub handled : HasHandled (IsNewPass worker) IsRun records runs after
+  pub own : (number : ℕ) → number < count → own_at after number ≡ own_entries (Worker worker) (reverse (entries_at journals number))
+
+pub record IsAccounted (program : Program) (script : List Command) (options : Options) (records : List Sent) (outcome : Outcome) : Type 0 where
+  pub maps : outcome.journals.maps ≡ program.maps
+  pub options_are : outcome.journals.options ≡ options
+  -- the shards, and their journals
+  pub count : ℕ
+  pub count_is : length outcome.journals.shards ≡ count
+  pub plan : ℕ → ShardPlan
+  pub plans : ArePlans program.maps options count plan
+  pub legal : (number : ℕ) → number < count → IsLegalJournal (plan number) (entries_at outcome.journals number)
+  -- the runs of each worker
+  pub runs : List (List Ran)
+  pub workers : length runs ≡ options.workers
+  pub work :
+      (worker : ℕ) → worker < options.workers → IsWorkOf (IsRunAt (IsRunIn plan count program worker outcome.journals) records)
+      (share (frames_of records) options.workers worker (length records)) worker (runs_at runs worker) count outcome.journals
+  -- what is counted of them, each record once
+  pub counts : outcome.counts ≡ counts_of (frames_of records) options.workers runs (length records)
+  pub each_once : frames_in outcome.counts ≡ length records
+  -- what is sent, in the capture's order
+  pub sent : sent_frames outcome.sent.items ≡ sent_of (frames_of records) options.workers runs (length records)
+  -- the commands of the script, and those that were refused
+  pub commands : IsScriptAccounted plan program.maps options count script outcome.journals outcome.refused.items
+  -- the reclaimer's rounds
+  pub rounds : AreRoundsAccounted plan count (rounds_of (length records)) outcome.journals

@@ -1,0 +1,103 @@
+-- What the controller and the reclaimer of a replay hand back.
+use Rattle.std.specs.Prelude.{◌≡◌, ◌<◌, ◌≤◌, ◌+◌, ◌/◌, ℕ, List, [], length, map, reverse, IfSome, is_some}
+use Rattle.std.specs.List.{AllByRecursion, filter}
+use Rattle.ebpf_decode.specs.declared.map.MapDef.{MapDef}
+use Rattle.semantics.specs.declared.call.Caller.TheVariants.{Controller, Reclaimer}
+use Rattle.semantics.specs.declared.options.Options.{Options}
+use Rattle.semantics.specs.declared.plan.ShardPlan.{ShardPlan}
+use Rattle.semantics.specs.CallerLaws.{own_entries}
+use Rattle.semantics.specs.History.{IsJournalFull}
+use Rattle.journals.specs.JournalsView.{JournalsView, entries_at}
+use Rattle.shared_shards.specs.Passes.{PassView}
+use Rattle.rx_queues.specs.declared.job.Job.{Job}
+use Rattle.maglev.specs.RingSize.{IsRingSize}
+use Rattle.conntrack.specs.SteeringMaps.{steering_maps}
+use Rattle.control.specs.declared.command.Command.{Command}
+use Rattle.control.specs.Controlling.{ControllerState}
+use Rattle.control.specs.MapUpdates.{MapUpdate}
+use Rattle.actors.specs.declared.applied.Applied.{Applied}
+use Rattle.actors.specs.SharedUpdates.{shard_of, update_call}
+use Rattle.actors.specs.Commands.{CommanderView, CommandDone, AreNotedOf, AreDone, IsAccount, opened_controller, made_in, with_updates}
+use Rattle.actors.specs.Jobs.{AreCommandsTaken, AreRoundsMade, IsAccounted as IsControllersAccount}
+use Rattle.actors.specs.Rounds.{IsReclaimedBy}
+use Rattle.workers.specs.Actors.{numbers_from}
+
+-- ---- what the threads hand back for their jobs
+
+-- the controller applied the commands of its jobs, each once and in order, and its pass has their entries
+pub record HasCommanded (plan : ℕ → ShardPlan) (start : CommanderView) (jobs : List Job) (noted : List Applied) (pass : PassView) : Type 0 where
+  pub taken : AreCommandsTaken start.noted noted jobs
+  pub account : IsControllersAccount plan start noted pass
+  pub who : pass.who ≡ Controller
+
+-- the reclaimer made a round for each note
+pub record HasReclaimed (plan : ℕ → ShardPlan) (count : ℕ) (jobs : List Job) (pass : PassView) : Type 0 where
+  pub rounds : AreRoundsMade plan count jobs pass
+  pub who : pass.who ≡ Reclaimer
+
+-- ---- the script
+
+-- there are commands, and the maps are those of steering for no lookup table
+pub record HasNoTable (maps : List MapDef) (script : List Command) : Type 0 where
+  pub some : ¬ (script ≡ [])
+  pub none : (size : ℕ) → IsRingSize size → ¬ (maps ≡ steering_maps size)
+
+-- which of the script's commands were applied, in order
+abbrev pub numbers_of : List Applied → List ℕ
+numbers_of noted = map (λ (one : Applied). one.command) noted
+
+-- a controller of these shards and this script that has applied its first commands, so many
+pub record IsStarted (maps : List MapDef) (options : Options) (script : List Command) (size : ℕ) (start : CommanderView) (first : ℕ) : Type 0 where
+  pub script_is : start.script ≡ script
+  pub maps_are : start.port.maps ≡ maps
+  pub options_are : start.port.options ≡ options
+  pub size_is : start.controller.size ≡ size
+  pub applied : numbers_of start.noted ≡ numbers_from 0 first
+  pub within : first ≤ length script
+
+-- each command of the script was applied once, in its order, and the pass has their updates
+pub record IsScriptRun (plan : ℕ → ShardPlan) (maps : List MapDef) (options : Options) (script : List Command) (size : ℕ) (noted : List Applied)
+    (pass : PassView) : Type 0 where
+  pub each_once : numbers_of noted ≡ numbers_from 0 (length script)
+  pub state : ControllerState
+  pub account : IsAccount plan maps options script size noted state pass
+  pub who : pass.who ≡ Controller
+
+-- ---- held against the journals
+
+-- the commands that were refused
+abbrev pub refused_of : List Applied → List Applied
+refused_of noted = filter (λ (one : Applied). is_some one.fault) noted
+
+-- the journal of the update's shard is full for it at its end
+abbrev pub IsFullInJournal : (ℕ → ShardPlan) → List MapDef → Options → ℕ → JournalsView → MapUpdate → Type 0
+IsFullInJournal plan maps options count journals update =
+    shard_of maps options update < count →
+    IsJournalFull (plan (shard_of maps options update)) (reverse (entries_at journals (shard_of maps options update)))
+    (update_call (shard_of maps options update) update)
+
+-- Each command of the script was applied once, in the script's order, and did what it says in the state that the one before it left; the controller's
+-- entries in each journal are their updates to that shard, in order; where one met a full journal, that journal is full for it at its end.
+pub record IsScriptAccounted (plan : ℕ → ShardPlan) (maps : List MapDef) (options : Options) (count : ℕ) (script : List Command) (journals : JournalsView)
+    (refused : List Applied) : Type 0 where
+  pub size : ℕ
+  pub noted : List Applied
+  pub each_once : numbers_of noted ≡ numbers_from 0 (length script)
+  pub done : List CommandDone
+  pub are_noted : AreNotedOf script noted done
+  pub state : ControllerState
+  pub are_done : AreDone (opened_controller size) done state
+  pub own : (number : ℕ) → number < count →
+      own_entries Controller (reverse (entries_at journals number)) ≡ with_updates maps options number (made_in done) []
+  pub full : AllByRecursion (λ (one : CommandDone). IfSome one.stopped (IsFullInJournal plan maps options count journals)) done
+  pub refused_are : refused ≡ refused_of noted
+
+-- the rounds of a replay: one after every 64 records, and one after the last
+abbrev pub rounds_of : ℕ → ℕ
+rounds_of records = records / 64 + 1
+
+-- the reclaimer's entries in each journal are those of so many rounds, fewer only where the journal is full for another at its end
+abbrev pub AreRoundsAccounted : (ℕ → ShardPlan) → ℕ → ℕ → JournalsView → Type 0
+AreRoundsAccounted plan count rounds journals =
+    (number : ℕ) → number < count → IsReclaimedBy (plan number).definition.kind (plan number) number rounds
+    (own_entries Reclaimer (reverse (entries_at journals number))) (reverse (entries_at journals number))

@@ -1,0 +1,61 @@
+//! The end of a replay.
+
+ghost use Rattle.std.specs.Prelude.{◌≡◌, ◌<◌, length, IfOk};
+ghost use Rattle.semantics.specs.declared.call.Caller.TheVariants.{Reclaimer};
+ghost use Rattle.machine.specs.Running.{program_of};
+ghost use Rattle.actors.specs.Rounds.{AreReclaimed};
+ghost use Rattle.workers.specs.Crews.{Each, IsHandled};
+ghost use Rattle.replay.specs.Accounted.{IsAccounted};
+ghost use Rattle.replay.specs.Parts.{IsScriptRun, rounds_of};
+ghost use Rattle.replay.specs.Runs.{IsNewAt, IsRunBy};
+
+use crate::actor_parts::Commanded;
+use crate::outcome::Outcome;
+use crate::passes::all_passes;
+use crate::scripts::refused;
+use crate::shard_runner::Working;
+use control::Script;
+use shared_shards::{Naming, Pass, Shards};
+use std::alloc::{AllocError, Global};
+use std::sync::Wait;
+use verifier::Verified;
+use wire::Capture;
+use workers::{Handled, account, parted};
+
+/// Closes the shards, and counts what the workers did.
+pub(crate) fn closed<B: Naming, R: Wait>(
+    rt: &R,
+    alloc: Global,
+    verified: &Verified,
+    capture: &Capture,
+    script: &Script,
+    size: u32,
+    shards: Shards<B>,
+    handled: Vec<Handled<Working<B>>>,
+    commanded: Commanded<B>,
+    reclaimed: Pass<B>,
+) -> Result<Outcome, AllocError>
+    requires maps { shards.maps ≡ verified.now.maps }
+    requires some { 0 < shards.options.workers }
+    requires count { length handled.items ≡ shards.options.workers }
+    requires handled { Each (IsHandled IsNewAt (IsRunBy B.count B.plan (program_of verified.now shards.options.shards)) capture.now.records.items shards.options.workers) 0 handled.items }
+    requires script { IsScriptRun B.plan shards.maps shards.options script.now size commanded.noted.items commanded.pass }
+    requires rounds { AreReclaimed B.plan B.count (rounds_of (length capture.now.records.items)) reclaimed × (reclaimed.who ≡ Reclaimer) }
+    ensures accounted { IfOk result (IsAccounted (program_of verified.now shards.options.shards) script.now shards.options capture.now.records.items) }
+{
+    let _ = verified;
+    let _ = script;
+    let _ = size;
+    shards.planned();
+    let (runs, working) = parted(alloc, handled)?;
+    let (counts, sent) = account(alloc, capture, &runs)?;
+    let Commanded { pass, noted } = commanded;
+    let passes = all_passes(alloc, working, pass, reclaimed)?;
+    let journals = shards.close(rt, passes);
+    Ok(Outcome {
+        counts,
+        refused: refused(noted),
+        sent,
+        journals,
+    })
+}

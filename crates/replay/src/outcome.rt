@@ -1,0 +1,18 @@
+//! What a replay gives.
+
+use actors::Applied;
+use journals::Journals;
+use wire::Sent;
+use workers::Counts;
+
+/// What became of a capture's records.
+#[derive(Drop)]
+pub struct Outcome {
+    pub counts: Counts,
+    /// The commands that were refused, in the script's order, each with its fault.
+    pub refused: Vec<Applied>,
+    /// The frames that were sent, in the capture's order, each with the moment of its record.
+    pub sent: Vec<Sent>,
+    /// Of each shard, all that was called.
+    pub journals: Journals,
+}

@@ -1,0 +1,145 @@
+//! A whole replay.
+
+ghost use Rattle.std.specs.Prelude.{◌≡◌, ◌⊎◌, ◌<◌, ◌≤◌, ◌↔◌, IfOk, IsErrOf, IsFalse};
+ghost use Rattle.machine.specs.Running.{program_of};
+ghost use Rattle.shards.specs.Opening.{are_served_options};
+ghost use Rattle.maglev.specs.RingSize.{IsRingSize};
+ghost use Rattle.actors.specs.Commands.{ServesScript};
+ghost use Rattle.shared_shards.specs.NewShards.{IsNamed};
+ghost use Rattle.replay.specs.Accounted.{IsAccounted};
+ghost use Rattle.replay.specs.Parts.{HasNoTable};
+ghost use Rattle.replay.specs.declared.fault.ReplayFault.TheVariants.{BadOptions};
+
+use crate::closing::closed;
+use crate::fault::ReplayFault;
+use crate::outcome::Outcome;
+use crate::passes::new_workers;
+use crate::scripts::{starts_of, table_for};
+use crate::shard_runner::ShardRunner;
+use crate::threads::{new_controller, new_reclaimer, run_threads};
+use actors::Gate;
+use control::Script;
+use rx_queues::Queues;
+use semantics::Options;
+use shards::OpenFault;
+use shared_shards::{Naming, Opened};
+use std::alloc::Global;
+use std::marker::Brand;
+use std::sync::Wait;
+use std::thread::Threads;
+use verifier::Verified;
+use wire::Capture;
+use workers::{AllEnded, CrewFault};
+
+/// Why no shards were opened, as a replay has it.
+fn fault_of(fault: OpenFault) -> ReplayFault
+    ensures { (result ≡ BadOptions) ↔ (fault ≡ OpenFault.BadOptions) }
+{
+    match fault {
+        OpenFault::BadOptions => ReplayFault::BadOptions,
+        OpenFault::Memory => ReplayFault::Memory,
+    }
+}
+
+/// Why the workers gave up, as a replay has it.
+fn crew_fault_of(fault: CrewFault) -> ReplayFault
+    ensures { ¬ (result ≡ BadOptions) }
+{
+    match fault {
+        CrewFault::Memory => ReplayFault::Memory,
+        CrewFault::NoThread => ReplayFault::NoThread,
+    }
+}
+
+/// The replay over shards that were opened for the image's maps.
+fn replay_over<B: Naming + Send + Sync, R: Threads + Wait + Sync, G: Gate + Sync>(
+    rt: &R,
+    alloc: Global,
+    verified: &Verified,
+    capture: &Capture,
+    script: &Script,
+    size: u32,
+    opened: Opened,
+    options: Options,
+    gate: &G,
+) -> Result<Outcome, ReplayFault>
+    requires named { IsNamed B.count B.table B.plan opened }
+    requires maps { opened.maps ≡ verified.now.maps }
+    requires options { opened.options ≡ options }
+    requires workers { (0 < options.workers) × (options.workers ≤ 8) }
+    requires size { IsRingSize size }
+    requires script { ServesScript verified.now.maps size script.now }
+    ensures accounted { IfOk result (IsAccounted (program_of verified.now options.shards) script.now options capture.now.records.items) }
+    ensures served { ¬ IsErrOf result BadOptions }
+{
+    let workers = options.workers as usize;
+    let (shards, mut dealer) = opened.share::<B>(alloc)?;
+    let states = new_workers(alloc, &mut dealer, workers)?;
+    let starts = starts_of(alloc, script.commands())?;
+    let (queues, put, takes) = match Queues::open(alloc, workers) {
+        Ok(opened) => opened,
+        Err(fault) => return Err(fault_of(fault)),
+    };
+    let runner = ShardRunner {
+        rt,
+        verified,
+        shards: &shards,
+    };
+    let (controller, first) = new_controller(alloc, rt, &shards, &mut dealer, gate, script, size)?;
+    let reclaimer = new_reclaimer(alloc, rt, &shards, &mut dealer, gate)?;
+    match run_threads(
+        rt, alloc, &queues, capture, script, size, &starts, first, &runner, controller, reclaimer,
+        put, takes, states,
+    ) {
+        Ok(
+            AllEnded {
+                workers: handled,
+                controller,
+                reclaimer,
+            },
+        ) => Ok(closed(
+            rt, alloc, verified, capture, script, size, shards, handled, controller, reclaimer,
+        )?),
+        Err(fault) => Err(crew_fault_of(fault)),
+    }
+}
+
+/// Runs the program of an accepted image on the frames of a capture, by as many workers on threads as the options say, over shared maps in
+/// which nothing has happened. A controller on a thread of its own applies the commands of a script: those at frame 0 before the first record, and each
+/// other one when as many records as its frame number were dispatched, no later than after the last; and a reclaimer frees what no run can hold,
+/// in a round after every 64 records and one after the workers' end.
+///
+/// Each record is counted once: as short where it has fewer than 14 bytes, and else by its run, which the worker of its flow makes, in the
+/// capture's order. Verdict and frame of a run are the program's own on the replies that stand among its worker's entries; these are, run
+/// after run, Enter, its calls with their replies, and Leave, on each shard that it called; and every journal is legal. A run is stopped only where the
+/// journal of the shard of its next call is full for good. The controller's entries are the updates of the script's commands, in order, and the reclaimer's
+/// are those of its rounds. What is sent stands in the capture's order.
+///
+/// The gate is told of each reply that the controller and the reclaimer have.
+///
+/// Refused with 51 where the options are none that shards of the image's maps are opened with, or where there are commands and the image's maps
+/// are not those of steering; with 52 for lack of memory; with 56 where a thread could not be started. Then nothing is left, and every thread that was
+/// started has ended.
+pub fn replay<R: Threads + Wait + Sync, G: Gate + Sync>(
+    rt: &R,
+    alloc: Global,
+    verified: &Verified,
+    capture: &Capture,
+    script: &Script,
+    options: Options,
+    gate: &G,
+) -> Result<Outcome, ReplayFault>
+    ensures accounted { IfOk result (IsAccounted (program_of verified.now options.shards) script.now options capture.now.records.items) }
+    ensures bad_options { IsErrOf result BadOptions ↔ (IsFalse (are_served_options verified.now.maps options) ⊎ HasNoTable verified.now.maps script.now) }
+{
+    let image = verified.image();
+    let Some(size) = table_for(image.maps(), script.commands()) else {
+        return Err(ReplayFault::BadOptions);
+    };
+    match Opened::open(alloc, image, options) {
+        Ok(opened) => replay_over::<Brand, R, G>(
+            rt, alloc, verified, capture, script, size, opened, options, gate,
+        ),
+        Err(fault) => Err(fault_of(fault)),
+    }
+}

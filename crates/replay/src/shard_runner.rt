@@ -1,0 +1,109 @@
+//! Runs over the shards that all workers share.
+
+ghost use Rattle.std.specs.Prelude.{◌≡◌, ◌<◌, ◌≤◌, IfOk, IfSome};
+ghost use Rattle.machine.specs.Running.{program_of};
+ghost use Rattle.replay.specs.Runs.{IsIdle, IsSentOf, IsTold, IsRunOf, time_of};
+
+use frame_runs::run_frame;
+use machine::Moment;
+use semantics::Verdict;
+use shared_shards::{Naming, Pass, Shards};
+use std::alloc::{AllocError, Global};
+use std::sync::Wait;
+use verifier::Verified;
+use wire::{Frame, Sent};
+use workers::{RunEnd, Runner};
+
+/// What a worker keeps from run to run.
+#[derive(Drop)]
+pub(crate) struct Working<B: Naming> {
+    pub pass: Pass<B>,
+}
+
+/// Runs an accepted program over shared shards of its maps, by the workers' passes.
+#[derive(Drop)]
+pub(crate) struct ShardRunner<'a, B: Naming, R: Wait> {
+    pub rt: &'a R,
+    pub verified: &'a Verified,
+    pub shards: &'a Shards<B>,
+    pub ghost maps: { shards.now.maps ≡ verified.now.maps },
+    pub ghost few: { shards.now.options.workers ≤ 8 },
+}
+
+/// A record's time, and the worker's number.
+fn moment_of(sent: &Sent, worker: u8) -> Moment
+    ensures time { result.now_ns ≡ time_of sent.now }
+    ensures worker { result.worker ≡ worker }
+{
+    let micros = u64::from(sent.seconds) * 1_000_000 + u64::from(sent.micros);
+    Moment {
+        now_ns: micros * 1000,
+        worker,
+    }
+}
+
+/// The frame as it is sent.
+fn sent_of(alloc: Global, captured: &Sent, frame: &Frame) -> Result<Sent, AllocError>
+    ensures { IfOk result (IsSentOf captured.now frame.now.bytes) }
+{
+    let bytes = Vec::from_slice(alloc, frame.bytes())?;
+    Ok(Sent {
+        seconds: captured.seconds,
+        micros: captured.micros,
+        bytes,
+    })
+}
+
+/// What becomes of a record's frame by its verdict.
+fn end_of(
+    alloc: Global,
+    captured: &Sent,
+    verdict: Verdict,
+    frame: &Frame,
+) -> Result<RunEnd, AllocError>
+    ensures { IfOk result (IsTold captured.now verdict frame.now) }
+{
+    match verdict {
+        Verdict::Aborted => Ok(RunEnd::Aborted),
+        Verdict::Drop => Ok(RunEnd::Dropped),
+        Verdict::Pass => Ok(RunEnd::Passed),
+        Verdict::Tx => Ok(RunEnd::Sent {
+            sent: sent_of(alloc, captured, frame)?,
+        }),
+    }
+}
+
+impl<'a, B: Naming, R: Wait> Runner<Working<B>> for ShardRunner<'a, B, R> {
+    ghost use Rattle.machine.specs.Running.{program_of};
+    ghost use Rattle.replay.specs.Runs.{IsNewPass, IsIdle, IsRunOf};
+
+    ghost is_new = { λ runner worker working. IsNewPass worker working.pass };
+
+    ghost is_idle = { λ runner worker working. IsIdle B.count worker runner.shards.now.options working.pass };
+
+    ghost runs = { λ runner worker sent before end after. IsRunOf B.count B.plan (program_of runner.verified.now runner.shards.now.options.shards) worker sent before.pass end after.pass };
+
+    fn run(
+        &self,
+        alloc: Global,
+        worker: u8,
+        sent: &Sent,
+        state: &mut Working<B>,
+    ) -> Option<RunEnd> {
+        let Ok(mut frame) = Frame::of(alloc, &sent.bytes) else {
+            return None;
+        };
+        let moment = moment_of(sent, worker);
+        match run_frame(
+            self.rt,
+            self.verified,
+            &mut frame,
+            &moment,
+            self.shards,
+            &mut state.pass,
+        ) {
+            Ok(exit) => end_of(alloc, sent, exit.verdict, &frame).ok(),
+            Err(_) => Some(RunEnd::Stopped),
+        }
+    }
+}
