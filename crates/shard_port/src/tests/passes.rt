@@ -6,11 +6,12 @@ ghost use Rattle.shard_port.specs.ExampleMaps.{example_maps};
 ghost use Rattle.shard_port.specs.PassPorts.{is_worker_below};
 
 use super::{
-    ANSWERS, Ask, Got, KEYS, ONE_SHARD, Row, TWO_SHARDS, answers, example_image, found, load_of,
-    lookup,
+    ANSWERS, Ask, Got, KEYS, ONE_SHARD, Row, TWO_SHARDS, answers, example_image, found, key_of,
+    load_of, lookup,
 };
 use crate::port::ShardPort;
 use journals::Journals;
+use map_port::MapPort;
 use semantics::{Call, Caller, Entry, JournalFull, Options, Reply};
 use shared_shards::{Naming, Opened, Pass, Shards};
 use std::alloc::Global;
@@ -150,5 +151,81 @@ fn answers_of_a_hash_map(rt: HostRuntime) -> Result<(), Fail> {
     let opened = opened(rt.alloc(), 64)?;
     let (refused, _journals) = session::<Brand, HostRuntime>(&rt, rt.alloc(), opened, &KEYS)?;
     assert_eq!(rt; refused, None);
+    Ok(())
+}
+
+/// One run that looks index 0 of the first map up.
+fn look_once<B: Naming, R: Abort + Wait>(
+    rt: &R,
+    shards: &Shards<B>,
+    pass: &mut Pass<B>,
+) -> Result<u64, JournalFull>
+    requires maps { shards.now.maps ≡ example_maps }
+    requires worker { IsTrue (is_worker_below shards.now.options.workers pass.old.who) }
+    ensures who { pass.new.who ≡ pass.old.who }
+{
+    let mut port = ShardPort::over(rt, shards, pass);
+    let result = port.lookup(0, &key_of(0));
+    port.finish();
+    result
+}
+
+/// Six runs of one lookup each, one after the other: what the last one was told, and the journals.
+fn six<B: Naming, R: Abort + Wait>(
+    rt: &R,
+    alloc: Global,
+    opened: Opened,
+) -> Result<(Result<u64, JournalFull>, Journals), Fail>
+    requires named { IsNamed B.count B.table B.plan opened }
+    requires maps { opened.maps ≡ example_maps }
+    requires workers { opened.options.workers ≡ 2 }
+{
+    let (shards, mut dealer) = opened.share::<B>(alloc)?;
+    let mut pass = dealer.pass(alloc, Caller::Worker { number: 1 })?;
+    let mut passes = Vec::with_capacity(alloc, 1)?;
+    let _ = look_once(rt, &shards, &mut pass);
+    let _ = look_once(rt, &shards, &mut pass);
+    let _ = look_once(rt, &shards, &mut pass);
+    let _ = look_once(rt, &shards, &mut pass);
+    let _ = look_once(rt, &shards, &mut pass);
+    let last = look_once(rt, &shards, &mut pass);
+    passes.push(pass)?;
+    Ok((last, shards.close(rt, passes)))
+}
+
+const SESSION: [(Call, Reply); 2] = [
+    (Call::Enter { shard: 0 }, Reply::Entered),
+    (Call::Leave { shard: 0 }, Reply::Left),
+];
+
+/// Each run has a session of its own. A sixth finds no room for its Enter in a journal of 16, and leaves nothing there.
+#[test]
+fn sessions_up_to_a_refused_enter(rt: HostRuntime) -> Result<(), Fail> {
+    let opened = opened(rt.alloc(), 16)?;
+    let (last, journals) = six::<Brand, HostRuntime>(&rt, rt.alloc(), opened)?;
+    assert_eq!(rt; last, Err(JournalFull { shard: 0 }));
+    let mut want = [(lookup(0, 0), found(0, 0)); 15];
+    'runs: for run in 0..5 {
+        want[3 * run] = SESSION[0];
+        want[3 * run + 2] = SESSION[1];
+    }
+    says(&rt, &journals, 0, &want);
+    Ok(())
+}
+
+/// In a journal of 17 it has room for the Enter but not for the call: the Enter stands, and its Leave.
+#[test]
+fn sessions_up_to_a_refused_call(rt: HostRuntime) -> Result<(), Fail> {
+    let opened = opened(rt.alloc(), 17)?;
+    let (last, journals) = six::<Brand, HostRuntime>(&rt, rt.alloc(), opened)?;
+    assert_eq!(rt; last, Err(JournalFull { shard: 0 }));
+    let mut want = [(lookup(0, 0), found(0, 0)); 17];
+    'runs: for run in 0..5 {
+        want[3 * run] = SESSION[0];
+        want[3 * run + 2] = SESSION[1];
+    }
+    want[15] = SESSION[0];
+    want[16] = SESSION[1];
+    says(&rt, &journals, 0, &want);
     Ok(())
 }
