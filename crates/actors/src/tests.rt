@@ -1,12 +1,15 @@
 //! What no clause says: that the actors work where there is memory, what the gate is told, and rows worked out elsewhere.
 
+ghost use Rattle.std.specs.Prelude.{◌≡◌, ◌≤◌, [], IfOk};
+ghost use Rattle.rx_queues.specs.Passes.{HasQueue, IsTakePassOf, jobs_taken};
 ghost use Rattle.shared_shards.specs.NewShards.{IsNamed};
 
-use crate::{Applied, Commander, Gate, Reclaiming};
+use crate::{Applied, Commander, Gate, NoGate, Reclaiming, commands_until_end, rounds_until_end};
 use conntrack::{maps, table_size};
 use control::parse_script;
 use ebpf_decode::{Image, Insn, Version};
 use journals::Journals;
+use rx_queues::{Job, OpenFault, Queues, TakePass};
 use semantics::{Caller, Options};
 use shared_shards::{Naming, Opened};
 use std::alloc::Global;
@@ -236,4 +239,105 @@ fn rounds_pass_over_full_journals(rt: HostRuntime) -> Result<(), Fail> {
     };
     let opened = opened(rt.alloc(), 1, 16)?;
     reclaimed::<Brand, HostRuntime>(&rt, rt.alloc(), opened, 20, row)
+}
+
+/// Queues of one worker, with so many jobs in one of the others' and then the end; and the right to take from the queue at this place.
+fn filled<R: Wait>(
+    rt: &R,
+    alloc: Global,
+    who: Caller,
+    place: usize,
+    count: usize,
+) -> Result<(Queues, TakePass), OpenFault>
+    requires who { HasQueue 1 who }
+    requires place { place ≤ 2 }
+    ensures { IfOk result (λ filled. IsTakePassOf filled.0 filled.1 × (jobs_taken filled.1 ≡ [])) }
+{
+    let (queues, mut put, mut takes) = Queues::open(alloc, 1)?;
+    let take = takes.remove(place);
+    'puts: for number in 0..count {
+        let job = match who {
+            Caller::Reclaimer => Job::Note,
+            _ => Job::Command(number),
+        };
+        queues.put_waiting(rt, who, job, &mut put);
+    }
+    queues.put_waiting(rt, who, Job::End, &mut put);
+    Ok((queues, take))
+}
+
+/// Hands the commands of the row's script over to the controller, lets it take them to the end, and compares.
+fn commanded<B: Naming, R: Abort + Wait>(
+    rt: &R,
+    alloc: Global,
+    opened: Opened,
+    row: Row<'_>,
+) -> Result<(), Fail>
+    requires { IsNamed B.count B.table B.plan opened }
+{
+    let script = parse_script(alloc, row.text.as_bytes())?;
+    let (shards, mut dealer) = opened.share::<B>(alloc)?;
+    let pass = dealer.pass(alloc, Caller::Controller)?;
+    let size = table_size(shards.maps());
+    assert!(rt; size.is_some());
+    let Some(size) = size else {
+        return Ok(());
+    };
+    let count = script.commands().len();
+    let (queues, take) = filled(rt, alloc, Caller::Controller, 1, count)?;
+    let commander = Commander::over(alloc, rt, &shards, pass, &NoGate, script.commands(), size);
+    let ended = commands_until_end(rt, alloc, &queues, take, commander);
+    assert!(rt; !ended.is_refused);
+    assert!(rt; faults_are(&ended.noted, row.faults));
+    let mut passes = Vec::with_capacity(alloc, 1)?;
+    passes.push(ended.pass)?;
+    let journals = shards.close(rt, passes);
+    assert!(rt; lengths_are(&journals, row.lengths));
+    Ok(())
+}
+
+#[test]
+fn commands_until_their_end(rt: HostRuntime) -> Result<(), Fail> {
+    let row = Row {
+        text: "0 vip 203.0.113.1 80 udp\n0 up 0 192.0.2.1\n1 down 9\n1 down 0\n",
+        faults: &[0, 0, 91, 0],
+        told: 0,
+        lengths: &[1, 0, 14, 2, 0, 0],
+    };
+    let opened = opened(rt.alloc(), 1, 16)?;
+    commanded::<Brand, HostRuntime>(&rt, rt.alloc(), opened, row)
+}
+
+/// Asks the reclaimer for so many rounds, lets it make them to the end, and compares.
+fn asked<B: Naming, R: Abort + Wait>(
+    rt: &R,
+    alloc: Global,
+    opened: Opened,
+    rounds: usize,
+    row: Row<'_>,
+) -> Result<(), Fail>
+    requires { IsNamed B.count B.table B.plan opened }
+{
+    let (shards, mut dealer) = opened.share::<B>(alloc)?;
+    let pass = dealer.pass(alloc, Caller::Reclaimer)?;
+    let (queues, take) = filled(rt, alloc, Caller::Reclaimer, 2, rounds)?;
+    let reclaiming = Reclaiming::over(rt, &shards, pass, &NoGate);
+    let ended = rounds_until_end(rt, &queues, take, reclaiming);
+    let mut passes = Vec::with_capacity(alloc, 1)?;
+    passes.push(ended.pass)?;
+    let journals = shards.close(rt, passes);
+    assert!(rt; lengths_are(&journals, row.lengths));
+    Ok(())
+}
+
+#[test]
+fn rounds_until_their_end(rt: HostRuntime) -> Result<(), Fail> {
+    let row = Row {
+        text: "",
+        faults: &[],
+        told: 0,
+        lengths: &[4, 4, 0, 0, 0, 0],
+    };
+    let opened = opened(rt.alloc(), 1, 16)?;
+    asked::<Brand, HostRuntime>(&rt, rt.alloc(), opened, 4, row)
 }
