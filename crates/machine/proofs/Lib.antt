@@ -25,5 +25,6 @@ pub mod RunSteps
 pub mod CallSteps
 pub mod AdvanceLaw
 pub mod RunObligations
+pub mod RestLemmas
 pub mod OpeningLemmas
 pub mod MaskLemmas

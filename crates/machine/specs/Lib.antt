@@ -5,6 +5,7 @@ pub mod Advance
 pub mod Ready
 pub mod Acting
 pub mod Meaning
+pub mod Rest
 pub mod Running
 pub mod StopText
 pub mod Along

@@ -50,7 +50,7 @@ fn bytes_have_8_bits(bytes: &[u8])
 }
 
 /// Registers and stack have their lengths, and their parts their widths.
-pub(crate) fn machine_is_whole(slot: usize, steps: usize, registers: &[u64; 11], stack: &[u8; 512])
+pub(crate) fn machine_is_whole(slot: usize, steps: u32, registers: &[u64; 11], stack: &[u8; 512])
     ensures { IsWhole (machine_at slot steps registers.now stack.now) }
 {
     let _ = slot;

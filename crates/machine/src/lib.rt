@@ -12,6 +12,7 @@ mod moment;
 mod next;
 mod onward;
 mod rare;
+mod rest;
 mod runner;
 mod words;
 
