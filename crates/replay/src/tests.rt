@@ -86,6 +86,32 @@ ldxb r0, [r2+13]
 exit
 ";
 
+/// Sends each frame, beside the maps of steering for a table of 7 slots.
+const SENDS_ALL: &str = "version 1
+map hash 8 8 64
+map lru 16 8 4096
+map array 4 8 8
+map array 4 8 256
+map array 4 24 8
+map array 4 8 8
+mov r0, 3
+exit
+";
+
+/// Scripts, how many commands are refused, and the first entry of the list of backends.
+#[rattlefmt::skip]
+const SCRIPTS: [(&str, &str, usize, &str); 4] = [
+    ("a service and its backend",    SERVICE,                                  0, "3 c update 00000000 c000020101000000 0 answer 0\n"),
+    ("no such backend",              "0 down 3\n",                             1, ""),
+    ("the backend is up",            "0 up 0 10.0.0.1\n0 up 0 10.0.0.1\n",     1, "3 c update 00000000 0a00000101000000 0 answer 0\n"),
+    ("after the last frame",         "9 up 0 10.0.0.1\n",                      0, "3 c update 00000000 0a00000101000000 0 answer 0\n"),
+];
+
+const SERVICE: &str = "0 gateway 10.0.0.9 02:00:00:00:00:0a 02:00:00:00:00:0b
+0 vip 203.0.113.1 80 udp
+0 up 0 192.0.2.1
+";
+
 /// The accepted image of a text.
 fn program(alloc: Global, text: &str) -> Result<Verified, Fail> {
     Ok(verify(alloc, assemble(alloc, text)?)?)
@@ -178,6 +204,34 @@ fn replayed<R: Threads + Abort + Wait + Sync>(
     Ok(replay(rt, alloc, &verified, capture, &script, options, &NoGate)?)
 }
 
+/// A replay of one frame with a script: how many commands were refused, and the lines of the backends' journal.
+fn scripted<R: Threads + Abort + Wait + Sync>(
+    rt: &R,
+    alloc: Global,
+    text: &str,
+) -> Result<(usize, MemorySink), Fail> {
+    let verified = program(alloc, SENDS_ALL)?;
+    let capture = zeros(alloc, &[0; 14])?;
+    let script = parse_script(alloc, text.as_bytes())?;
+    let options = Options {
+        workers: 2,
+        shards: 1,
+        journal: 64,
+    };
+    let outcome = replay(rt, alloc, &verified, &capture, &script, options, &NoGate)?;
+    let refused = outcome.refused.len();
+    let files = written(alloc, &outcome)?;
+    Ok((refused, files.journals))
+}
+
+/// Whether the text has this part.
+fn has_line(text: &[u8], part: &[u8]) -> bool {
+    if part.is_empty() {
+        return true;
+    }
+    text.windows(part.len()).any(|window| window == part)
+}
+
 const NONE: Counts = Counts {
     short: 0,
     stopped: 0,
@@ -238,5 +292,16 @@ fn a_record_of_13_bytes_is_short(rt: HostRuntime) -> Result<(), Fail> {
     let capture = zeros(alloc, &[0; 13])?;
     let outcome = replayed(&rt, alloc, READS_BYTE_13, &capture, 1, 16)?;
     assert_eq!(&rt; outcome.counts, Counts { short: 1, ..NONE });
+    Ok(())
+}
+
+#[test]
+fn scripts_are_applied(rt: HostRuntime) -> Result<(), Fail> {
+    let alloc = rt.alloc();
+    for (name, script, want, line) in SCRIPTS {
+        let (refused, journals) = scripted(&rt, alloc, script)?;
+        assert_eq!(&rt; refused, want, "{name}");
+        assert!(&rt; has_line(journals.bytes(), line.as_bytes()), "{name}");
+    }
     Ok(())
 }
