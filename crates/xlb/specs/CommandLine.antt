@@ -9,14 +9,18 @@ use Rattle.clap.specs.declared.builder.value_parser.ValueParser.TheVariants.{Uns
 abbrev pub file_rule : Text → Rule
 file_rule id = record (new_rule id) { required = true; action = Some Set }
 
--- an option `--id N`, a number of at most `most`, which is 0 where it is not given
-abbrev pub number_rule : Text → ℕ → Rule
-number_rule id most = record (new_rule id) {
+-- an option `--id FILE`, which may be missing
+abbrev pub option_rule : Text → Rule
+option_rule id = record (new_rule id) { long = Some id; action = Some Set; value_names = 1 }
+
+-- an option `--id N`, a number of at most `most`, which is the default where it is not given
+abbrev pub number_rule : Text → ℕ → Text → Rule
+number_rule id most default = record (new_rule id) {
   long = Some id;
   action = Some Set;
   value_names = 1;
   parser = Some (Unsigned 0 most);
-  defaults = codes "0" ∷ [];
+  defaults = default ∷ [];
 }
 
 -- a number of at most `most` that has to be named
@@ -31,8 +35,8 @@ run_command =
     with_rule
     (with_rule
     (with_rule (with_rule (new_app (codes "run")) (file_rule (codes "IMAGE"))) (file_rule (codes "FRAME")))
-    (number_rule (codes "now") 18446744073709551615))
-    (number_rule (codes "worker") 4294967295)
+    (number_rule (codes "now") 18446744073709551615 (codes "0")))
+    (number_rule (codes "worker") 4294967295 (codes "0"))
 
 abbrev pub disasm_command : App
 disasm_command = with_rule (new_app (codes "disasm")) (file_rule (codes "IMAGE"))
@@ -46,6 +50,24 @@ audit_command = with_rule (with_rule (new_app (codes "audit")) (file_rule (codes
 abbrev pub explain_command : App
 explain_command = with_rule (new_app (codes "explain")) (named_number_rule (codes "NUMBER") 4294967295)
 
+-- a replay: its capture, and the file of what is sent
+abbrev pub replay_named : App
+replay_named = with_rule (with_rule (new_app (codes "replay")) (file_rule (codes "CAPTURE"))) (file_rule (codes "SENT"))
+
+-- the other files
+abbrev pub replay_files : App
+replay_files =
+    with_rule (with_rule (with_rule replay_named (option_rule (codes "image"))) (option_rule (codes "script"))) (option_rule (codes "journals"))
+
+-- and its numbers
+abbrev pub replay_command : App
+replay_command =
+    with_rule
+    (with_rule
+    (with_rule (with_rule replay_files (number_rule (codes "workers") 4294967295 (codes "1"))) (number_rule (codes "shards") 4294967295 (codes "1")))
+    (number_rule (codes "journal") 4294967295 (codes "65536")))
+    (number_rule (codes "ring") 4294967295 (codes "251"))
+
 -- the name, with `--version`; a command has to be given, and `help` tells of the commands
 abbrev pub program_name : App
 program_name =
@@ -56,7 +78,9 @@ program =
     with_subcommand
     (with_subcommand
     (with_subcommand
+    (with_subcommand
     (with_subcommand (with_subcommand (with_subcommand program_name check_command.top) run_command.top) disasm_command.top)
     asm_command.top)
     audit_command.top)
-    explain_command.top
+    explain_command.top)
+    replay_command.top

@@ -1,17 +1,20 @@
 -- What the settings are of a command and what was found for its arguments.
-use Rattle.std.specs.Prelude.{◌≡◌, ◌<◌, ◌^◌, ℕ, List, [], true, false, Some, IsTrue, IsFalse, codes, unwrap_or}
+use Rattle.std.specs.Prelude.{◌≡◌, ◌<◌, ◌^◌, ℕ, Bool, List, [], true, false, ◌&&◌, Some, IsTrue, IsFalse, codes, is_some, unwrap_or}
 use Rattle.std.specs.Str.{bytes_eq}
 use Rattle.std.specs.Str.Parse.{IsNumeral, digits_value, without_leading_plus}
 use Rattle.clap.specs.Walk.{Row, Text, first_of, one_of}
 use Rattle.clap.specs.Values.{kind_of}
 use Rattle.clap.specs.declared.error.kind.ErrorKind.{ErrorKind}
-use Rattle.clap.specs.declared.error.kind.ErrorKind.TheVariants.{ValueValidation}
+use Rattle.clap.specs.declared.error.kind.ErrorKind.TheVariants.{ArgumentConflict, ValueValidation}
+use Rattle.semantics.specs.declared.options.Options.{Options}
+use Rattle.xlb.specs.declared.command_line.ReplayFiles.{ReplayFiles}
 use Rattle.xlb.specs.declared.command_line.Settings.{Settings}
-use Rattle.xlb.specs.declared.command_line.Settings.TheVariants.{Check, Run, Disasm, Audit, Explain, Asm}
+use Rattle.xlb.specs.declared.command_line.Settings.TheVariants.{Check, Run, Disasm, Audit, Explain, Asm, Replay}
+use Rattle.xlb.specs.Files.{text_of}
 use Rattle.xlb.specs.declared.words.WordsFault.{WordsFault}
-use Rattle.xlb.specs.declared.words.WordsFault.TheVariants.{Parser, UnknownFault}
+use Rattle.xlb.specs.declared.words.WordsFault.TheVariants.{Parser, UnknownFault, Both}
 use Rattle.xlb.specs.declared.words.Asked.{Asked}
-use Rattle.xlb.specs.declared.words.Asked.TheVariants.{Command, NoSuchFault}
+use Rattle.xlb.specs.declared.words.Asked.TheVariants.{Command, NoSuchFault, ImageAndScript}
 use Rattle.explanations.specs.Explanations.{is_fault}
 
 -- the word of an argument, which the parser found
@@ -26,6 +29,24 @@ IsNumberOf bits id rows number =
 
 abbrev pub is_named : Text → Text → Type 0
 is_named name wanted = IsTrue (bytes_eq name wanted)
+
+-- a replay has both an image and a script
+abbrev pub names_both : ReplayFiles → Bool
+names_both files = is_some files.image && is_some files.script
+
+-- the files of a replay are what was found for its arguments
+abbrev pub AreReplayFiles : List Row → ReplayFiles → Type 0
+AreReplayFiles rows files = (files.capture.now ≡ word_of (codes "CAPTURE") rows)
+    × (files.sent.now ≡ word_of (codes "SENT") rows)
+    × (text_of files.image ≡ first_of (codes "image") rows)
+    × (text_of files.script ≡ first_of (codes "script") rows)
+    × (text_of files.journals ≡ first_of (codes "journals") rows)
+
+-- and so are its options
+abbrev pub AreReplayOptions : List Row → Options → Type 0
+AreReplayOptions rows options = IsNumberOf 32 (codes "workers") rows options.workers
+    × IsNumberOf 32 (codes "shards") rows options.shards
+    × IsNumberOf 32 (codes "journal") rows options.journal
 
 -- the settings are those of the command of this name, with what was found for its arguments
 abbrev pub IsReadFrom : Text → List Row → Settings → Type 0
@@ -47,23 +68,32 @@ IsReadFrom name rows (Asm text out) = IsFalse (bytes_eq name (codes "check"))
     × IsFalse (bytes_eq name (codes "disasm"))
     × IsFalse (bytes_eq name (codes "audit"))
     × IsFalse (bytes_eq name (codes "explain"))
+    × IsFalse (bytes_eq name (codes "replay"))
     × (text.now ≡ word_of (codes "TEXT") rows)
     × (out.now ≡ word_of (codes "OUT") rows)
+IsReadFrom name rows (Replay files options ring) = is_named name (codes "replay")
+    × AreReplayFiles rows files
+    × AreReplayOptions rows options
+    × IsNumberOf 32 (codes "ring") rows ring
+    × IsFalse (names_both files)
 
--- what was asked for: a command, or what a number means that no fault has
+-- what was asked for: a command, what a number means that no fault has, or a replay of both an image and a script
 abbrev pub IsAsked : Text → List Row → Asked → Type 0
 IsAsked name rows (Command settings) = IsReadFrom name rows settings
 IsAsked name rows (NoSuchFault number) = is_named name (codes "explain")
     × IsNumberOf 32 (codes "NUMBER") rows number
     × (is_fault number ≡ false)
+IsAsked name rows ImageAndScript = is_named name (codes "replay")
+    × IsTrue (is_some (first_of (codes "image") rows) && is_some (first_of (codes "script") rows))
 
--- the words ask what a number means that no fault has
-pub record AsksInVain (name : Text) (rows : List Row) (fault : WordsFault) : Type 0 where
-  pub number : ℕ
-  pub fault_is : fault ≡ UnknownFault number
-  pub asked : IsAsked name rows (NoSuchFault number)
+-- the words ask for what there is not: what a number means that no fault has, or a replay of both an image and a script
+abbrev pub AsksInVain : Text → List Row → WordsFault → Type 0
+AsksInVain name rows (UnknownFault number) = IsAsked name rows (NoSuchFault number)
+AsksInVain name rows Both = IsAsked name rows ImageAndScript
+AsksInVain name rows (Parser error) = ⊥
 
 -- the parser's word for what the user asked for, or got wrong
 abbrev pub kind_in : WordsFault → ErrorKind
 kind_in (Parser error) = kind_of error
 kind_in (UnknownFault number) = ValueValidation
+kind_in Both = ArgumentConflict

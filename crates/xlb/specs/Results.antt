@@ -1,9 +1,8 @@
 -- What it means that a command is done: the files that it read and wrote, and what it printed.
-use Rattle.std.specs.Prelude.{◌≡◌, ◌≢◌, ◌↔◌, ◌++◌, ℕ, List, [], Bool, true, false, Option, IsTrue, codes, decimal, length}
+use Rattle.std.specs.Prelude.{◌≡◌, ◌↔◌, ◌++◌, ℕ, List, [], Bool, true, false, Option, IsTrue, codes, decimal, length}
 use Rattle.std.specs.Io.KnownBytes.{append_known}
 use Rattle.abstract_state.specs.declared.state.State.{State}
 use Rattle.ebpf_decode.specs.ImageContents.{Contents}
-use Rattle.ebpf_decode.specs.ImageFormat.{IsImageEncoding}
 use Rattle.ebpf_decode.specs.InstructionEncoding.{total_slots}
 use Rattle.disasm.specs.AssemblyText.{IsAssemblyText}
 use Rattle.semantics.specs.Safety.{IsSafeImage}
@@ -23,26 +22,10 @@ use Rattle.journals.specs.JournalsView.{JournalsView}
 use Rattle.journal_files.specs.JournalReading.{IsJournalsFile}
 use Rattle.audit.specs.Audited.{AreLegal}
 use Rattle.explanations.specs.Explanations.{explanation_text}
+use Rattle.xlb.specs.Files.{FileBytes, AreKept, AreOthersKept, AreAllButKept, IsImageFile, text_of}
+use Rattle.xlb.specs.Replays.{IsReplayedWhole, IsReplayedInPart}
 use Rattle.xlb.specs.declared.command_line.Settings.{Settings}
-use Rattle.xlb.specs.declared.command_line.Settings.TheVariants.{Check, Run, Disasm, Audit, Explain, Asm}
-
--- which bytes the file of a name has
-abbrev pub FileBytes : Type 1
-FileBytes = List ℕ → List ℕ → Type 0
-
--- each file has the bytes that it had
-abbrev pub AreKept : FileBytes → FileBytes → Type 0
-AreKept before after = (name bytes : List ℕ) → (before name bytes ↔ after name bytes)
-
--- each file but the one of this name has the bytes that it had
-abbrev pub AreOthersKept : FileBytes → FileBytes → List ℕ → Type 0
-AreOthersKept before after written = (name bytes : List ℕ) → name ≢ written → (before name bytes ↔ after name bytes)
-
--- the file of this name is the encoding of the image
-pub record IsImageFile (files : FileBytes) (name : List ℕ) (image : Contents) : Type 0 where
-  pub bytes : List ℕ
-  pub read : files name bytes
-  pub encoding : IsImageEncoding bytes image
+use Rattle.xlb.specs.declared.command_line.Settings.TheVariants.{Check, Run, Disasm, Audit, Explain, Asm, Replay}
 
 abbrev pub yes_or_no : Bool → List ℕ
 yes_or_no true = codes "yes"
@@ -142,8 +125,14 @@ IsDone before after (Disasm image) printed = IsDisassembled before image.now pri
 IsDone before after (Audit image journals) printed = IsAudited before image.now journals.now printed
 IsDone before after (Explain about) printed = printed ≡ explanation_text about
 IsDone before after (Asm text out) printed = IsAssembled before after text.now out.now × (printed ≡ [])
+IsDone before after (Replay files options ring) printed = IsReplayedWhole before after files options ring printed
 
--- no file changes but the one that the command is to write, whether it is done or refused
+-- the command is done but for a part that was refused, as the report tells: commands of a replay's script
+abbrev pub IsDoneInPart : FileBytes → FileBytes → Settings → List ℕ → Type 0
+IsDoneInPart before after (Replay files options ring) printed = IsReplayedInPart before after files options ring printed
+IsDoneInPart before after other printed = ⊥
+
+-- no file changes but those that the command is to write, whether it is done or refused
 abbrev pub KeepsFiles : FileBytes → FileBytes → Settings → Type 0
 KeepsFiles before after (Check image) = AreKept before after
 KeepsFiles before after (Run image frame now worker) = AreKept before after
@@ -151,6 +140,7 @@ KeepsFiles before after (Disasm image) = AreKept before after
 KeepsFiles before after (Audit image journals) = AreKept before after
 KeepsFiles before after (Explain about) = AreKept before after
 KeepsFiles before after (Asm text out) = AreOthersKept before after out.now
+KeepsFiles before after (Replay files options ring) = AreAllButKept before after files.sent.now (text_of files.journals)
 
 -- a text that ends its line
 pub record IsLine (text : List ℕ) : Type 0 where
@@ -162,3 +152,10 @@ pub record PrintsLine (before after : Option (List ℕ)) : Type 0 where
   pub line : List ℕ
   pub ends : IsLine line
   pub printed : after ≡ append_known before line
+
+-- the report was printed, and nothing else
+pub record IsReported (before after : FileBytes) (settings : Settings) (out out' err err' : Option (List ℕ)) : Type 0 where
+  pub text : List ℕ
+  pub done : IsDoneInPart before after settings text
+  pub printed : out' ≡ append_known out text
+  pub quiet : err' ≡ err

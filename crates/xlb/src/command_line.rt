@@ -1,6 +1,7 @@
 //! What a command line says.
 
 use explanations::Explanation;
+use semantics::Options;
 
 /// A command with its words: names of files as they were given, and numbers.
 #[derive(Clone, Copy, Debug, PartialEq, Eq)]
@@ -34,4 +35,24 @@ pub enum Settings<'a> {
         text: &'a str,
         out: &'a str,
     },
+    /// Runs the frames of a capture by some workers over shared maps, and writes those that are sent. It has no image, or no script.
+    Replay {
+        files: ReplayFiles<'a>,
+        options: Options,
+        /// How many slots the lookup table of the shipped program has.
+        ring: u32,
+    },
+}
+
+/// The files of a replay.
+#[derive(Clone, Copy, Debug, PartialEq, Eq)]
+pub struct ReplayFiles<'a> {
+    pub capture: &'a str,
+    /// Where the sent frames are written to.
+    pub sent: &'a str,
+    /// The image's file; the shipped program is run where it is missing.
+    pub image: Option<&'a str>,
+    pub script: Option<&'a str>,
+    /// Where the journals are written to.
+    pub journals: Option<&'a str>,
 }

@@ -6,7 +6,8 @@ ghost use Rattle.semantics.specs.ShardPlan.{AreOptions};
 ghost use Rattle.semantics.specs.System.{IsInputFrame};
 ghost use Rattle.shards.specs.Opening.{AreOpened};
 ghost use Rattle.disasm.specs.AssemblyText.{IsAssemblyText};
-ghost use Rattle.xlb.specs.Results.{AreKept, AreOthersKept, IsImageFile, IsChecked, HasRun, IsRun, run_options, IsDisassembled, IsAudited, IsAssembled};
+ghost use Rattle.xlb.specs.Files.{AreKept, AreOthersKept, IsImageFile};
+ghost use Rattle.xlb.specs.Results.{IsChecked, HasRun, IsRun, run_options, IsDisassembled, IsAudited, IsAssembled};
 
 use crate::fault::Fault;
 use crate::folder::Folder;
@@ -37,7 +38,11 @@ const OPTIONS: Options = Options {
 const LEGAL: &str = "legal\n";
 
 /// The bytes of a file.
-fn bytes_of<D: Folder>(alloc: Global, folder: &mut D, name: &str) -> Result<Vec<u8>, Fault>
+pub(crate) fn bytes_of<D: Folder>(
+    alloc: Global,
+    folder: &mut D,
+    name: &str,
+) -> Result<Vec<u8>, Fault>
     requires { D.failure_count folder.old < 2 ^ 64 - 1 }
     ensures bytes { IfOk result (λ bytes. D.holds folder.old name.now bytes.items) }
     ensures kept { AreKept (D.holds folder.old) (D.holds folder.new) }
@@ -64,7 +69,11 @@ fn image_of<D: Folder>(alloc: Global, folder: &mut D, name: &str) -> Result<Imag
 }
 
 /// The image of a file, if the verifier accepts it.
-fn judged_of<D: Folder>(alloc: Global, folder: &mut D, name: &str) -> Result<Verified, Fault>
+pub(crate) fn judged_of<D: Folder>(
+    alloc: Global,
+    folder: &mut D,
+    name: &str,
+) -> Result<Verified, Fault>
     requires { D.failure_count folder.old < 2 ^ 64 - 1 }
     ensures file { IfOk result (λ verified. IsImageFile (D.holds folder.old) name.now (record { version = verified.version; maps = verified.maps; code = verified.code })) }
     ensures safe { IfOk result (λ verified. IsSafeImage verified.maps verified.code) }

@@ -2,15 +2,18 @@
 
 use crate::folder::FolderFault;
 use audit::AuditFault;
+use conntrack::SteerFault;
+use control::ControlFault;
 use disasm::AsmFault;
 use ebpf_decode::DecodeFault;
 use journal_files::FileFault;
 use machine::Stop;
+use replay::ReplayFault;
 use shards::OpenFault;
 use std::alloc::AllocError;
 use thiserror::Error;
 use verifier::Reject;
-use wire::FrameFault;
+use wire::{CaptureFault, FrameFault};
 
 /// Why a command was refused: the fault of the crate that found it, which is printed by its own text.
 #[derive(Clone, Copy, Debug, Error, PartialEq, Eq)]
@@ -42,6 +45,18 @@ pub enum Fault {
     /// 52 or 53: journals that are not legal.
     #[error(transparent)]
     Audit(AuditFault),
+    /// 73 or 74: the lookup table of the shipped program has no size that is served, or there is no memory for the program.
+    #[error(transparent)]
+    Steering(SteerFault),
+    /// 90 or 95: bytes that are no script.
+    #[error(transparent)]
+    Script(ControlFault),
+    /// 1 to 8: bytes that are no capture.
+    #[error(transparent)]
+    Capture(CaptureFault),
+    /// 51, 52 or 56: a replay that was given up.
+    #[error(transparent)]
+    Replay(ReplayFault),
     /// 7: what was to be printed could not be.
     #[error("fault 7 Device")]
     Output,

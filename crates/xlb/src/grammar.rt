@@ -33,6 +33,33 @@ pub const NOW: &str = "now";
 /// The worker of a run.
 pub const WORKER: &str = "worker";
 
+/// The file of a capture.
+pub const CAPTURE: &str = "CAPTURE";
+
+/// The capture that is written.
+pub const SENT: &str = "SENT";
+
+/// The image of a replay.
+pub const REPLAY_IMAGE: &str = "image";
+
+/// The script of a replay.
+pub const SCRIPT: &str = "script";
+
+/// How many workers a replay has.
+pub const WORKERS: &str = "workers";
+
+/// How many shards each map has.
+pub const SHARDS: &str = "shards";
+
+/// The room of each journal.
+pub const JOURNAL: &str = "journal";
+
+/// The size of the ring.
+pub const RING: &str = "ring";
+
+/// The file of journals that a replay writes.
+pub const REPLAY_JOURNALS: &str = "journals";
+
 const ABOUT: &str = "Checks, runs, prints and assembles images of eBPF programs";
 
 const VERSION: &str = "0.1.0";
@@ -81,6 +108,22 @@ const AFTER_EXPLAIN: &str = "\
 Prints what the fault means, what mostly leads to it, and an example. A number
 that no fault has is a mistake of the command line.";
 
+const AFTER_REPLAY: &str = "\
+Prints how many frames there were, and of them the ones shorter than an
+Ethernet header, those whose run was stopped by a full journal, and those of
+each verdict:
+  frames <n>
+  short <n>
+  stopped <n>
+  aborted <n>
+  drop <n>
+  pass <n>
+  tx <n>
+and for each command of the script that was refused
+  command <its number, from 1> refused <fault number>
+in which case the status is 1. A frame is handled by the worker of its flow,
+so that a flow's frames stay in order.";
+
 /// A file that has to be named.
 fn file<'a>(alloc: Global, id: &'a str, help: &'a str) -> Arg<'a>
     ensures rule { rule_of result ≡ line.file_rule id.entry.now }
@@ -92,9 +135,21 @@ fn file<'a>(alloc: Global, id: &'a str, help: &'a str) -> Arg<'a>
         .help(help)
 }
 
+/// A file that may be named by an option.
+fn option<'a>(alloc: Global, id: &'a str, help: &'a str) -> Arg<'a>
+    ensures rule { rule_of result ≡ line.option_rule id.entry.now }
+    ensures local { result.global ≡ false }
+{
+    Arg::new(alloc, id)
+        .long(id)
+        .action(ArgAction::Set)
+        .value_name("FILE")
+        .help(help)
+}
+
 /// A number that may be given, at most `most`.
-fn number<'a>(alloc: Global, id: &'a str, most: u64, help: &'a str) -> Arg<'a>
-    ensures rule { rule_of result ≡ line.number_rule id.entry.now most }
+fn number<'a>(alloc: Global, id: &'a str, most: u64, default: &'a str, help: &'a str) -> Arg<'a>
+    ensures rule { rule_of result ≡ line.number_rule id.entry.now most default.entry.now }
     ensures local { result.global ≡ false }
 {
     Arg::new(alloc, id)
@@ -102,7 +157,7 @@ fn number<'a>(alloc: Global, id: &'a str, most: u64, help: &'a str) -> Arg<'a>
         .action(ArgAction::Set)
         .value_name("N")
         .value_parser(ValueParser::unsigned(0, most))
-        .default_value("0")
+        .default_value(default)
         .help(help)
 }
 
@@ -144,11 +199,12 @@ fn run<'a>(alloc: Global) -> Result<Command<'a>, AllocError>
         FRAME,
         "The file of the frame's bytes, 14 to 2048 of them",
     );
-    let now = number(alloc, NOW, u64::MAX, "The time in nanoseconds");
+    let now = number(alloc, NOW, u64::MAX, "0", "The time in nanoseconds");
     let worker = number(
         alloc,
         WORKER,
         u32::MAX as u64,
+        "0",
         "The worker's number, 0 to 7",
     );
     command(alloc, "run", "Runs an image on one frame", AFTER_RUN)
@@ -201,6 +257,76 @@ fn explain<'a>(alloc: Global) -> Result<Command<'a>, AllocError>
     command(alloc, "explain", "Tells what a fault means", AFTER_EXPLAIN).arg(number)
 }
 
+/// A number of 32 bits that may be given.
+fn count<'a>(alloc: Global, id: &'a str, default: &'a str, help: &'a str) -> Arg<'a>
+    ensures rule { rule_of result ≡ line.number_rule id.entry.now 4294967295 default.entry.now }
+    ensures local { result.global ≡ false }
+{
+    number(alloc, id, u32::MAX as u64, default, help)
+}
+
+/// The words of a replay that name a capture and the file of what is sent.
+fn replay_named<'a>(alloc: Global) -> Result<Command<'a>, AllocError>
+    ensures app { IfOk result (λ command. app_of command ≡ line.replay_named) }
+    ensures local { IfOk result (λ command. (out-Command command).has_globals ≡ false) }
+{
+    let capture = file(alloc, CAPTURE, "The capture's file, in the pcap format");
+    let sent = file(alloc, SENT, "The file to write the sent frames to");
+    command(
+        alloc,
+        "replay",
+        "Runs the frames of a capture by some workers",
+        AFTER_REPLAY,
+    )
+    .arg(capture)?
+    .arg(sent)
+}
+
+/// All its words that name files.
+fn replay_files<'a>(alloc: Global) -> Result<Command<'a>, AllocError>
+    ensures app { IfOk result (λ command. app_of command ≡ line.replay_files) }
+    ensures local { IfOk result (λ command. (out-Command command).has_globals ≡ false) }
+{
+    let image = option(
+        alloc,
+        REPLAY_IMAGE,
+        "The image's file; without it the shipped program is run",
+    );
+    let script = option(alloc, SCRIPT, "The controller's script; not with --image");
+    let journals = option(alloc, REPLAY_JOURNALS, "The file to write the journals to");
+    replay_named(alloc)?.arg(image)?.arg(script)?.arg(journals)
+}
+
+fn replay<'a>(alloc: Global) -> Result<Command<'a>, AllocError>
+    ensures app { IfOk result (λ command. app_of command ≡ line.replay_command) }
+    ensures local { IfOk result (λ command. (out-Command command).has_globals ≡ false) }
+{
+    let workers = count(alloc, WORKERS, "1", "How many workers, 1 to 8");
+    let shards = count(
+        alloc,
+        SHARDS,
+        "1",
+        "How many shards each map has: 1, 2, 4 or 8",
+    );
+    let journal = count(
+        alloc,
+        JOURNAL,
+        "65536",
+        "How many calls each shard may have, 16 to 1048576",
+    );
+    let ring = count(
+        alloc,
+        RING,
+        "251",
+        "The slots of the shipped program's ring: 7, 251, 4093 or 65537",
+    );
+    replay_files(alloc)?
+        .arg(workers)?
+        .arg(shards)?
+        .arg(journal)?
+        .arg(ring)
+}
+
 /// The program's commands.
 pub fn program<'a>(alloc: Global) -> Result<Command<'a>, AllocError>
     ensures app { IfOk result (λ command. app_of command ≡ line.program) }
@@ -217,5 +343,6 @@ pub fn program<'a>(alloc: Global) -> Result<Command<'a>, AllocError>
         .subcommand(disasm(alloc)?)?
         .subcommand(asm(alloc)?)?
         .subcommand(audit(alloc)?)?
-        .subcommand(explain(alloc)?)
+        .subcommand(explain(alloc)?)?
+        .subcommand(replay(alloc)?)
 }

@@ -8,13 +8,14 @@ mod files;
 mod folder;
 mod grammar;
 mod memory_folder;
+mod replays;
 mod report;
 mod serve;
 #[cfg(test)]
 mod tests;
 mod words;
 
-pub use command_line::Settings;
+pub use command_line::{ReplayFiles, Settings};
 pub use fault::Fault;
 pub use files::FileFolder;
 pub use folder::{Folder, FolderFault};
@@ -48,6 +49,6 @@ fn main(rt: HostRuntime) -> io::Result<ExitCode> {
     let mut folder = FileFolder::new(&rt);
     let mut out = StreamSink::new(rt.stdout());
     let mut err = StreamSink::new(rt.stderr());
-    let status = serve(alloc, &settings, &mut folder, &mut out, &mut err);
+    let status = serve(&rt, alloc, &settings, &mut folder, &mut out, &mut err);
     Ok(ExitCode::from(status))
 }

@@ -9,12 +9,15 @@ mod faults;
 mod first_path;
 mod images;
 mod programs;
+mod replays;
 mod runs;
 mod words;
 
 use crate::{Folder, FolderFault, MemoryFolder, serve, settings};
 use std::alloc::Global;
+use std::sync::Wait;
 use std::test::Fail;
+use std::thread::Threads;
 use wire::MemorySink;
 
 /// What the program gave: its status, and what it printed.
@@ -39,14 +42,19 @@ fn folder_of(alloc: Global, first: (&str, &str), second: (&str, &str)) -> Result
 }
 
 /// The program run over a folder.
-fn serve_line(alloc: Global, mut folder: MemoryFolder, line: &str) -> Result<Given, Fail>
+fn serve_line<R: Threads + Wait + Sync>(
+    rt: &R,
+    alloc: Global,
+    mut folder: MemoryFolder,
+    line: &str,
+) -> Result<Given, Fail>
     requires { folder.failures ≡ 0 }
 {
     let words: Vec<&str> = line.split(' ').collect(alloc)?;
     let settings = settings(alloc, words.as_slice())?;
     let mut out = MemorySink::new(alloc);
     let mut err = MemorySink::new(alloc);
-    let status = serve(alloc, &settings, &mut folder, &mut out, &mut err);
+    let status = serve(rt, alloc, &settings, &mut folder, &mut out, &mut err);
     Ok(Given {
         status,
         out,

@@ -3,18 +3,27 @@
 ghost use Rattle.std.specs.Prelude.{◌≡◌, ◌≢◌, ◌⊎◌, List, [], Some, IfOk, IfErr, IsFalse, map, codes};
 ghost use Rattle.std.specs.Str.{bytes_eq};
 ghost use Rattle.clap.specs.Kinds.{FailsBy, IsAmong};
+ghost use Rattle.clap.specs.Walk.{first_of};
 ghost use Rattle.clap.specs.Words.{Row, Text, fault_of, found_of, rows_of, subcommand_of};
 ghost use Rattle.xlb.specs.CommandLine.{program};
-ghost use Rattle.xlb.specs.Reading.{IsReadFrom, IsAsked, AsksInVain, kind_in, word_of};
+ghost use Rattle.xlb.specs.Files.{text_of};
+ghost use Rattle.xlb.specs.Reading.{IsReadFrom, IsAsked, AreReplayFiles, AreReplayOptions, AsksInVain, IsNumberOf, kind_in, word_of};
 ghost use Rattle.clap.specs.declared.error.kind.ErrorKind.TheVariants.{DisplayHelp, DisplayVersion, OutOfMemory};
 
-use crate::command_line::Settings;
-use crate::grammar::{FRAME, IMAGE, JOURNALS, NOW, NUMBER, OUT, TEXT, WORKER, program};
+use crate::command_line::{ReplayFiles, Settings};
+use crate::grammar::{
+    CAPTURE, FRAME, IMAGE, JOURNAL, JOURNALS, NOW, NUMBER, OUT, REPLAY_IMAGE, REPLAY_JOURNALS,
+    RING, SCRIPT, SENT, SHARDS, TEXT, WORKER, WORKERS, program,
+};
 use clap::{ArgMatches, Error};
 use explanations::Explanation;
+use semantics::Options;
 use std::alloc::Global;
 use std::convert::AsStr;
 use std::{fmt, io};
+
+/// What is told of a replay of both an image and a script.
+const TOGETHER: &str = "error: the options --image and --script cannot be used together";
 
 /// Why words are no command, or which text they ask for: help or the version.
 #[derive(Debug, Drop)]
@@ -23,6 +32,8 @@ pub enum WordsFault {
     Parser(Error),
     /// No fault has the number that was asked about.
     UnknownFault(u32),
+    /// A replay has both an image and a script.
+    Both,
 }
 
 /// What words ask for that the parser finds no fault in.
@@ -32,6 +43,8 @@ enum Asked<'a> {
     Command(Settings<'a>),
     /// What a number means that no fault has.
     NoSuchFault(u32),
+    /// A replay of both an image and a script.
+    ImageAndScript,
 }
 
 impl WordsFault {
@@ -43,6 +56,7 @@ impl WordsFault {
         match self {
             WordsFault::Parser(error) => { if error.use_stderr() { 2 } else { 0 } }
             WordsFault::UnknownFault(_) => 2,
+            WordsFault::Both => 2,
         }
     }
 
@@ -51,6 +65,7 @@ impl WordsFault {
         match self {
             WordsFault::Parser(error) => error.print(rt),
             WordsFault::UnknownFault(number) => eprintln!(rt; "error: there is no fault {number}"),
+            WordsFault::Both => eprintln!(rt; "{TOGETHER}"),
         }
     }
 }
@@ -60,14 +75,15 @@ impl fmt::Display for WordsFault {
         match self {
             WordsFault::Parser(error) => write!(f, "{error}"),
             WordsFault::UnknownFault(number) => write!(f, "error: there is no fault {number}"),
+            WordsFault::Both => write!(f, "{TOGETHER}"),
         }
     }
 }
 
 /// The command that the words say; the first word is the program's name.
 ///
-/// There is one exactly where the parser finds no fault in the words, and they don't ask what a number means that no fault has. A fault
-/// is of the first kind that the parser finds, or tells that number, or memory was refused.
+/// There is one exactly where the parser finds no fault in the words, and they don't ask what a number means that no fault has, or for a
+/// replay of both an image and a script. A fault is of the first kind that the parser finds, or one of these two, or memory was refused.
 pub fn settings<'a, S: AsStr>(alloc: Global, words: &'a [S]) -> Result<Settings<'a>, WordsFault>
     ensures found { IfOk result (λ settings. (name : Text) × (rows : List Row)
         × (subcommand_of program (map S.text words.entry.now) ≡ Some (name, rows)) × IsReadFrom name rows settings) }
@@ -79,6 +95,7 @@ pub fn settings<'a, S: AsStr>(alloc: Global, words: &'a [S]) -> Result<Settings<
     match parsed(alloc, words) {
         Ok(Asked::Command(settings)) => Ok(settings),
         Ok(Asked::NoSuchFault(number)) => Err(WordsFault::UnknownFault(number)),
+        Ok(Asked::ImageAndScript) => Err(WordsFault::Both),
         Err(error) => Err(WordsFault::Parser(error)),
     }
 }
@@ -104,6 +121,9 @@ fn asked_of<'a>(name: &str, found: &ArgMatches<'a>) -> Asked<'a>
     if name == "explain" {
         return explain_of(found);
     }
+    if name == "replay" {
+        return replay_of(found);
+    }
     Asked::Command(command_of(name, found))
 }
 
@@ -111,16 +131,70 @@ fn asked_of<'a>(name: &str, found: &ArgMatches<'a>) -> Asked<'a>
 fn explain_of<'a>(found: &ArgMatches<'a>) -> Asked<'a>
     ensures { IsAsked (codes "explain") (rows_of (found_of found.now)) result }
 {
-    let number = found.get_one::<u32>(NUMBER).unwrap_or(0);
+    let number = number_of(found, NUMBER, 0);
     match Explanation::of(number) {
         Some(about) => Asked::Command(Settings::Explain { about }),
         None => Asked::NoSuchFault(number),
     }
 }
 
-/// The command of a name, but for `explain`, with its words.
+/// What is asked of a replay.
+fn replay_of<'a>(found: &ArgMatches<'a>) -> Asked<'a>
+    ensures { IsAsked (codes "replay") (rows_of (found_of found.now)) result }
+{
+    let files = replay_files_of(found);
+    if files.image.is_some() && files.script.is_some() {
+        return Asked::ImageAndScript;
+    }
+    Asked::Command(Settings::Replay {
+        files,
+        options: options_of(found),
+        ring: number_of(found, RING, 251),
+    })
+}
+
+/// The files of a replay.
+fn replay_files_of<'a>(found: &ArgMatches<'a>) -> ReplayFiles<'a>
+    ensures { AreReplayFiles (rows_of (found_of found.now)) result }
+{
+    ReplayFiles {
+        capture: word(found, CAPTURE),
+        sent: word(found, SENT),
+        image: option(found, REPLAY_IMAGE),
+        script: option(found, SCRIPT),
+        journals: option(found, REPLAY_JOURNALS),
+    }
+}
+
+/// How the shards of a replay are opened.
+fn options_of(found: &ArgMatches<'_>) -> Options
+    ensures { AreReplayOptions (rows_of (found_of found.now)) result }
+{
+    Options {
+        workers: number_of(found, WORKERS, 1),
+        shards: number_of(found, SHARDS, 1),
+        journal: number_of(found, JOURNAL, 65_536),
+    }
+}
+
+/// The number of an argument.
+fn number_of(found: &ArgMatches<'_>, id: &str, default: u32) -> u32
+    ensures { IsNumberOf 32 id.now (rows_of (found_of found.now)) result }
+{
+    found.get_one::<u32>(id).unwrap_or(default)
+}
+
+/// The word of an option, where it is given.
+fn option<'a>(found: &ArgMatches<'a>, id: &str) -> Option<&'a str>
+    ensures { text_of result ≡ first_of id.now (rows_of (found_of found.now)) }
+{
+    found.get_str(id)
+}
+
+/// The command of a name, but for `explain` and `replay`, with its words.
 fn command_of<'a>(name: &str, found: &ArgMatches<'a>) -> Settings<'a>
-    requires { IsFalse (bytes_eq name.now (codes "explain")) }
+    requires explain { IsFalse (bytes_eq name.now (codes "explain")) }
+    requires replay { IsFalse (bytes_eq name.now (codes "replay")) }
     ensures { IsReadFrom name.now (rows_of (found_of found.now)) result }
 {
     if name == "check" {
@@ -156,7 +230,7 @@ fn run_of<'a>(found: &ArgMatches<'a>) -> Settings<'a>
         image: word(found, IMAGE),
         frame: word(found, FRAME),
         now: found.get_one::<u64>(NOW).unwrap_or(0),
-        worker: found.get_one::<u32>(WORKER).unwrap_or(0),
+        worker: number_of(found, WORKER, 0),
     }
 }
 

@@ -27,7 +27,7 @@ fn refuses_texts(rt: HostRuntime) -> Result<(), Fail> {
     for (name, text, err) in ROWS {
         let mut folder = MemoryFolder::new(alloc);
         folder.write(alloc, "text", text)?;
-        let mut found = serve_line(alloc, folder, "xlb asm text made")?;
+        let mut found = serve_line(&rt, alloc, folder, "xlb asm text made")?;
         assert!(rt; found.err.bytes() == err.as_bytes(), "error of {name}");
         assert!(rt; found.out.bytes().is_empty(), "output of {name}");
         assert_eq!(rt; found.status, 1, "status of {name}");
@@ -45,7 +45,7 @@ fn assembles_the_first_text(rt: HostRuntime) -> Result<(), Fail> {
     let alloc = rt.alloc();
     let mut folder = MemoryFolder::new(alloc);
     folder.write(alloc, "text", TEXT.as_bytes())?;
-    let mut found = serve_line(alloc, folder, "xlb asm text made")?;
+    let mut found = serve_line(&rt, alloc, folder, "xlb asm text made")?;
     assert_eq!(rt; found.status, 0);
     assert!(rt; found.out.bytes().is_empty());
     assert!(rt; found.err.bytes().is_empty());
@@ -63,7 +63,7 @@ fn prints_without_judging(rt: HostRuntime) -> Result<(), Fail> {
         ("image", "584c4250010000009500000000000000"),
         ("b", ""),
     )?;
-    let found = serve_line(alloc, folder, "xlb disasm image")?;
+    let found = serve_line(&rt, alloc, folder, "xlb disasm image")?;
     assert_eq!(rt; found.status, 0);
     assert!(rt; found.out.bytes() == b"version 1\nexit\n".as_slice());
     Ok(())

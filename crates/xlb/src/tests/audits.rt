@@ -4,7 +4,9 @@ use super::{Given, file, serve_line};
 use crate::{Folder, MemoryFolder};
 use std::alloc::Global;
 use std::process::Abort;
+use std::sync::Wait;
 use std::test::Fail;
+use std::thread::Threads;
 
 /// What a row shows, the image's map, the header's numbers, the entries, and what is told: nothing where they are legal.
 type Row = (
@@ -85,21 +87,26 @@ const NUMBERS: [Row; 14] = [
 ];
 
 /// An audit of a file, of the map of an image whose program may not run.
-fn audited(rt: &impl Abort, alloc: Global, map: &str, journals: &[u8]) -> Result<Given, Fail> {
+fn audited<R: Abort + Threads + Wait + Sync>(
+    rt: &R,
+    alloc: Global,
+    map: &str,
+    journals: &[u8],
+) -> Result<Given, Fail> {
     let text = format!(in alloc; "version 1\nmap {map}\nexit\n")?;
     let mut folder = MemoryFolder::new(alloc);
     folder.write(alloc, "text", text.as_bytes())?;
-    let mut made = serve_line(alloc, folder, "xlb asm text image")?;
+    let mut made = serve_line(rt, alloc, folder, "xlb asm text image")?;
     assert!(rt; made.folder.failures() == 0, "image of {map}");
     let image = file(alloc, &mut made.folder, "image")?;
     let mut folder = MemoryFolder::new(alloc);
     folder.write(alloc, "image", &image)?;
     folder.write(alloc, "journals", journals)?;
-    serve_line(alloc, folder, "xlb audit image journals")
+    serve_line(rt, alloc, folder, "xlb audit image journals")
 }
 
 /// Holds what an audit says of a row's file against the row.
-fn compare(rt: &impl Abort, alloc: Global, row: Row) -> Result<(), Fail> {
+fn compare<R: Abort + Threads + Wait + Sync>(rt: &R, alloc: Global, row: Row) -> Result<(), Fail> {
     let (name, map, header, entries, told) = row;
     let text = format!(in alloc; "XLBJ 1 {header}\n{entries}")?;
     let found = audited(rt, alloc, map, text.as_bytes())?;
@@ -176,7 +183,7 @@ fn files_that_are_not_there(rt: HostRuntime) -> Result<(), Fail> {
         let image = hex::decode(alloc, super::first_path::IMAGE)?;
         folder.write(alloc, "image", &image)?;
         folder.write(alloc, "journals", b"XLBJ 1 1 1 16\n")?;
-        let found = serve_line(alloc, folder, line)?;
+        let found = serve_line(&rt, alloc, folder, line)?;
         assert!(rt; found.err.bytes() == err.as_bytes(), "{line}");
         assert_eq!(rt; found.status, 1, "{line}");
     }

@@ -72,7 +72,7 @@ fn tells_a_broken_output(rt: HostRuntime) -> Result<(), Fail> {
     let mut out = BrokenSink { failures: 0 };
     let mut err = MemorySink::new(alloc);
     let settings = Settings::Check { image: "image" };
-    let status = serve(alloc, &settings, &mut folder, &mut out, &mut err);
+    let status = serve(&rt, alloc, &settings, &mut folder, &mut out, &mut err);
     assert_eq!(rt; status, 1);
     assert!(rt; err.bytes() == b"fault 7 Device\n".as_slice());
     assert!(rt; out.failures() == 1);
@@ -86,7 +86,7 @@ fn survives_a_broken_error_stream(rt: HostRuntime) -> Result<(), Fail> {
     let mut out = MemorySink::new(alloc);
     let mut err = BrokenSink { failures: 0 };
     let settings = Settings::Check { image: "nosuch" };
-    let status = serve(alloc, &settings, &mut folder, &mut out, &mut err);
+    let status = serve(&rt, alloc, &settings, &mut folder, &mut out, &mut err);
     assert_eq!(rt; status, 1);
     assert!(rt; out.bytes().is_empty());
     Ok(())
@@ -113,7 +113,7 @@ fn tells_a_full_folder(rt: HostRuntime) -> Result<(), Fail> {
             text: "text",
             out: "made",
         };
-        let status = serve(alloc, &settings, &mut folder, &mut out, &mut err);
+        let status = serve(&rt, alloc, &settings, &mut folder, &mut out, &mut err);
         assert_eq!(rt; status, 1, "{want}");
         assert!(rt; err.bytes() == want.as_bytes(), "{want}");
     }

@@ -90,7 +90,7 @@ fn faults_are_explained_under_their_names(rt: HostRuntime) -> Result<(), Fail> {
 #[test]
 fn explains_a_fault(rt: HostRuntime) -> Result<(), Fail> {
     let alloc = rt.alloc();
-    let found = serve_line(alloc, MemoryFolder::new(alloc), "xlb explain 33")?;
+    let found = serve_line(&rt, alloc, MemoryFolder::new(alloc), "xlb explain 33")?;
     let want = "fault 33 FallsOff
 The last instruction goes on past the end.
 Usual causes: The program does not end with `exit`.

@@ -49,7 +49,7 @@ fn first_path(rt: HostRuntime) -> Result<(), Fail> {
     let alloc = rt.alloc();
     for (name, frame, line, status, out, err) in ROWS {
         let folder = folder_of(alloc, ("image", IMAGE), ("frame", frame))?;
-        let found = serve_line(alloc, folder, line)?;
+        let found = serve_line(&rt, alloc, folder, line)?;
         assert!(rt; found.out.bytes() == out.as_bytes(), "output of {name}");
         assert!(rt; found.err.bytes() == err.as_bytes(), "error of {name}");
         assert_eq!(rt; found.status, status, "status of {name}");

@@ -31,7 +31,7 @@ fn refuses_images(rt: HostRuntime) -> Result<(), Fail> {
     let alloc = rt.alloc();
     for (name, image, err) in ROWS {
         let folder = folder_of(alloc, ("image", image), ("frame", ""))?;
-        let found = serve_line(alloc, folder, "xlb check image")?;
+        let found = serve_line(&rt, alloc, folder, "xlb check image")?;
         assert!(rt; found.err.bytes() == err.as_bytes(), "error of {name}");
         assert!(rt; found.out.bytes().is_empty(), "output of {name}");
         assert_eq!(rt; found.status, 1, "status of {name}");

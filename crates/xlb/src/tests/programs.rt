@@ -49,13 +49,13 @@ fn judges_programs(rt: HostRuntime) -> Result<(), Fail> {
     for (name, text, status, out, err) in ROWS {
         let mut folder = MemoryFolder::new(alloc);
         folder.write(alloc, "text", text.as_bytes())?;
-        let mut made = serve_line(alloc, folder, "xlb asm text image")?;
+        let mut made = serve_line(&rt, alloc, folder, "xlb asm text image")?;
         assert_eq!(rt; made.status, 0, "assembling {name}");
         assert!(rt; made.folder.failures() == 0, "device of {name}");
         let image = file(alloc, &mut made.folder, "image")?;
         let mut folder = MemoryFolder::new(alloc);
         folder.write(alloc, "image", &image)?;
-        let found = serve_line(alloc, folder, "xlb check image")?;
+        let found = serve_line(&rt, alloc, folder, "xlb check image")?;
         assert!(rt; found.out.bytes() == out.as_bytes(), "output of {name}");
         assert!(rt; found.err.bytes() == err.as_bytes(), "error of {name}");
         assert_eq!(rt; found.status, status, "status of {name}");

@@ -4,7 +4,9 @@ use super::{Given, file, serve_line};
 use crate::{Folder, MemoryFolder};
 use std::alloc::{AllocError, Global};
 use std::process::Abort;
+use std::sync::Wait;
 use std::test::Fail;
+use std::thread::Threads;
 
 /// What a row shows, the text, the frame, the command line, and what is printed.
 type Row = (
@@ -46,21 +48,32 @@ const ROWS: [Row; 26] = [
 ];
 
 /// The image of a text.
-fn image_of(rt: &impl Abort, alloc: Global, name: &str, text: &str) -> Result<Vec<u8>, Fail> {
+fn image_of<R: Abort + Threads + Wait + Sync>(
+    rt: &R,
+    alloc: Global,
+    name: &str,
+    text: &str,
+) -> Result<Vec<u8>, Fail> {
     let mut folder = MemoryFolder::new(alloc);
     folder.write(alloc, "text", text.as_bytes())?;
-    let mut made = serve_line(alloc, folder, "xlb asm text image")?;
+    let mut made = serve_line(rt, alloc, folder, "xlb asm text image")?;
     assert_eq!(rt; made.status, 0, "assembling {name}");
     assert!(rt; made.folder.failures() == 0, "device of {name}");
     Ok(file(alloc, &mut made.folder, "image")?)
 }
 
 /// A command line over an image and a frame.
-fn given(alloc: Global, image: &[u8], frame: &[u8], line: &str) -> Result<Given, Fail> {
+fn given<R: Threads + Wait + Sync>(
+    rt: &R,
+    alloc: Global,
+    image: &[u8],
+    frame: &[u8],
+    line: &str,
+) -> Result<Given, Fail> {
     let mut folder = MemoryFolder::new(alloc);
     folder.write(alloc, "image", image)?;
     folder.write(alloc, "frame", frame)?;
-    serve_line(alloc, folder, line)
+    serve_line(rt, alloc, folder, line)
 }
 
 #[test]
@@ -69,7 +82,7 @@ fn runs_programs(rt: HostRuntime) -> Result<(), Fail> {
     for (name, text, frame, line, want) in ROWS {
         let image = image_of(&rt, alloc, name, text)?;
         let frame = hex::decode(alloc, frame)?;
-        let found = given(alloc, &image, &frame, line)?;
+        let found = given(&rt, alloc, &image, &frame, line)?;
         assert!(rt; found.err.bytes().is_empty(), "error of {name}");
         assert!(rt; found.out.bytes() == want.as_bytes(), "output of {name}");
         assert_eq!(rt; found.status, 0, "status of {name}");
@@ -93,13 +106,13 @@ fn runs_4096_instructions(rt: HostRuntime) -> Result<(), Fail> {
     let text = long_text(alloc, 4095)?;
     let mut folder = MemoryFolder::new(alloc);
     folder.write(alloc, "text", text.as_bytes())?;
-    let mut made = serve_line(alloc, folder, "xlb asm text image")?;
+    let mut made = serve_line(&rt, alloc, folder, "xlb asm text image")?;
     assert!(rt; made.folder.failures() == 0);
     let image = file(alloc, &mut made.folder, "image")?;
     let mut folder = MemoryFolder::new(alloc);
     folder.write(alloc, "image", &image)?;
     folder.write(alloc, "frame", &[0; 14])?;
-    let found = serve_line(alloc, folder, "xlb run image frame")?;
+    let found = serve_line(&rt, alloc, folder, "xlb run image frame")?;
     let want = "verdict drop\ninstructions 4096\nframe 0000000000000000000000000000\n";
     assert!(rt; found.out.bytes() == want.as_bytes());
     Ok(())
@@ -111,7 +124,7 @@ fn refuses_4097_instructions(rt: HostRuntime) -> Result<(), Fail> {
     let text = long_text(alloc, 4096)?;
     let mut folder = MemoryFolder::new(alloc);
     folder.write(alloc, "text", text.as_bytes())?;
-    let found = serve_line(alloc, folder, "xlb asm text image")?;
+    let found = serve_line(&rt, alloc, folder, "xlb asm text image")?;
     assert!(rt; found.err.bytes() == b"fault 22 Image decode 14\n".as_slice());
     Ok(())
 }
@@ -128,7 +141,7 @@ fn takes_2048_bytes(rt: HostRuntime) -> Result<(), Fail> {
         let mut folder = MemoryFolder::new(alloc);
         folder.write(alloc, "image", &image)?;
         folder.write(alloc, "frame", &frame)?;
-        let found = serve_line(alloc, folder, "xlb run image frame")?;
+        let found = serve_line(&rt, alloc, folder, "xlb run image frame")?;
         assert!(rt; found.err.bytes() == err.as_bytes(), "{size} bytes");
     }
     Ok(())

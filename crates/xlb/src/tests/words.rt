@@ -1,6 +1,7 @@
 //! Command lines.
 
-use crate::{Settings, WordsFault, settings};
+use crate::{ReplayFiles, Settings, WordsFault, settings};
+use semantics::Options;
 use std::alloc::{AllocError, Global};
 use std::test::Fail;
 
@@ -21,11 +22,43 @@ fn shown(alloc: Global, settings: Settings<'_>) -> Result<String, AllocError> {
             format!(in alloc; "explain {number}")
         }
         Settings::Asm { text, out } => format!(in alloc; "asm {text} {out}"),
+        Settings::Replay {
+            files,
+            options,
+            ring,
+        } => replay_shown(alloc, files, options, ring),
     }
 }
 
+/// A replay's words, each at its place.
+fn replay_shown(
+    alloc: Global,
+    files: ReplayFiles<'_>,
+    options: Options,
+    ring: u32,
+) -> Result<String, AllocError> {
+    let ReplayFiles {
+        capture,
+        sent,
+        image,
+        script,
+        journals,
+    } = files;
+    let Options {
+        workers,
+        shards,
+        journal,
+    } = options;
+    let image = image.unwrap_or("-");
+    let script = script.unwrap_or("-");
+    let journals = journals.unwrap_or("-");
+    format!(in alloc;
+        "replay {capture} {sent} {image} {script} {workers} {shards} {journal} {ring} {journals}"
+    )
+}
+
 #[rattlefmt::skip]
-const READ: [(&str, &str); 13] = [
+const READ: [(&str, &str); 16] = [
     ("xlb check a",                             "check a"),
     ("xlb disasm a",                            "disasm a"),
     ("xlb asm a b",                             "asm a b"),
@@ -39,6 +72,9 @@ const READ: [(&str, &str); 13] = [
     ("xlb run a b --worker 4294967295",         "run a b 0 4294967295"),
     ("xlb check -- -a",                         "check -a"),
     ("another check check",                     "check check"),
+    ("xlb replay a b",                          "replay a b - - 1 1 65536 251 -"),
+    ("xlb replay --script s a b --journals j",  "replay a b - s 1 1 65536 251 j"),
+    ("xlb replay a b --image i --workers 4 --shards 8 --journal 16 --ring 7", "replay a b i - 4 8 16 7 -"),
 ];
 
 #[test]
@@ -55,9 +91,11 @@ fn reads_commands(rt: HostRuntime) -> Result<(), Fail> {
 
 /// A command line, the status, and what its text begins with.
 #[rattlefmt::skip]
-const REFUSED: [(&str, u8, &str); 27] = [
+const REFUSED: [(&str, u8, &str); 29] = [
     ("xlb",                                     2, "error: 'xlb' requires a subcommand but one was not provided"),
-    ("xlb replay a b",                          2, "error: unrecognized subcommand 'replay'"),
+    ("xlb play a b",                            2, "error: unrecognized subcommand 'play'"),
+    ("xlb replay a",                            2, "error: the following required arguments were not provided:\n  <SENT>"),
+    ("xlb replay a b --image i --script s",     2, "error: the options --image and --script cannot be used together"),
     ("xlb help",                                0, "Checks, runs, prints and assembles images of eBPF programs"),
     ("xlb check",                               2, "error: the following required arguments were not provided:\n  <IMAGE>"),
     ("xlb check a b",                           2, "error: unexpected argument 'b' found"),

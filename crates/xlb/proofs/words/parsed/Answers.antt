@@ -1,6 +1,8 @@
-use Rattle.std.proofs.Common.{◌≡◌, ◌∙◌, ap, ap₂, sym, refl, true, List, map, Option, Some, None, option_map, unwrap_or, []}
+use Rattle.std.proofs.Common.{◌≡◌, ◌∙◌, ap, ap₂, sym, subst, refl, true, List, map, Option, Some, None, option_map, unwrap_or, []}
 use Rattle.std.specs.Prelude.{Box}
 use Rattle.std.specs.Box.{box_value}
+use Rattle.std.proofs.lemmas.Result.{err_from_is_err_and}
+use Rattle.clap.specs.Kinds.{HasKind}
 use Rattle.clap.specs.Faults.{fault_of, is_simple_and_free}
 use Rattle.clap.specs.Matches.{found_of}
 use Rattle.clap.specs.Simple.{App, is_simple, subcommand_of, subcommand_rows}
@@ -39,6 +41,13 @@ returns-clause-found g c =
       ap (λ (a : App). subcommand_of a words) (sym c.in_ok-command.ensures.app) ∙ (sym read.1 ∙ found),
       c.asked_of.ensures,
     )
+
+pub returns-in_err-matches-clause-kinds : goal.returns-in_err-matches-clause-kinds
+returns-in_err-matches-clause-kinds g c =
+    let p = err_from_is_err_and c.from_residual-in_err-matches.result c.from_residual-in_err-matches.ensures.1 in
+    rw (p.1, p.2)
+    (subst (λ (a : App). HasKind (fault_of a (map g.S.AsStr.text c.args.words.now)) c.in_err-matches.field-0.0) c.in_ok-command.ensures.app
+    (c.in_err-matches.ensures.kinds (ap is_simple_and_free c.in_ok-command.ensures.app)))
 
 pub returns-clause-kinds : goal.returns-clause-kinds
 returns-clause-kinds g c =

@@ -14,10 +14,7 @@ returns c = (
   c.word-2.ensures,
   (λ text found numeral fits.
       read_number _ (λ bs r. ParsesUnsigned 64 10 bs r × ExplainsUnsignedError 10 bs r × HasUnsignedDigitsIfOk bs r) 64 (λ t r g. g.0)
-      c.get_one.result c.unwrap_or.result text c.unwrap_or.ensures
+      c.get_one.result _ c.unwrap_or.result text c.unwrap_or.ensures
       (c.get_one.ensures.value text (one_text-rows (found_of c.args.found.now) (codes "now") ∙ found)) numeral fits),
-  (λ text found numeral fits.
-      read_number _ (λ bs r. ParsesUnsigned 32 10 bs r × ExplainsUnsignedError 10 bs r × HasUnsignedDigitsIfOk bs r) 32 (λ t r g. g.0)
-      c.get_one-2.result c.unwrap_or-2.result text c.unwrap_or-2.ensures
-      (c.get_one-2.ensures.value text (one_text-rows (found_of c.args.found.now) (codes "worker") ∙ found)) numeral fits),
+  c.number_of.ensures,
 )

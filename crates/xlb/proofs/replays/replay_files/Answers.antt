@@ -1,0 +1,81 @@
+use Rattle.std.proofs.Common.{◌≡◌, ◌≢◌, ◌↔◌, ℕ, List, Option, Some, None, sym, subst}
+use Rattle.wire.specs.CaptureFormat.{capture_bytes}
+use Rattle.wire.specs.declared.records.Sent.{Sent}
+use Rattle.control.specs.declared.command.Command.{Command}
+use Rattle.xlb.specs.Replays.{IsScriptOf, IsCaptureOf}
+use Rattle.xlb.specs.Files.{FileBytes, AreKept, AreOthersKept, AreAllButKept}
+use Rattle.xlb.proofs.replays.replay_files.Goals as goal
+
+-- after three readings and a writing
+others_kept : (a b c d e : FileBytes) (sent : List ℕ) → AreKept a b → AreKept b c → AreKept c d → AreOthersKept d e sent → AreOthersKept a e sent
+others_kept a b c d e sent first second third last = λ name bytes other. (
+  (λ had. (last name bytes other).0 ((third name bytes).0 ((second name bytes).0 ((first name bytes).0 had)))),
+  (λ has. (first name bytes).1 ((second name bytes).1 ((third name bytes).1 ((last name bytes other).1 has)))),
+)
+
+-- and after one more
+all_but_kept : (a b c : FileBytes) (sent : List ℕ) (journals : Option (List ℕ)) → AreOthersKept a b sent
+    → ((file bytes : List ℕ) → journals ≢ Some file → (b file bytes ↔ c file bytes)) → AreAllButKept a c sent journals
+all_but_kept a b c sent journals before later = λ name bytes not_sent not_journals. (
+  (λ had. (later name bytes not_journals).0 ((before name bytes not_sent).0 had)),
+  (λ has. (before name bytes not_sent).1 ((later name bytes not_journals).1 has)),
+)
+
+-- what was read after others is what stood there before
+script_before : (a b : FileBytes) → AreKept a b → (name : Option (List ℕ)) (script : List Command) → IsScriptOf b name script → IsScriptOf a name script
+script_before a b kept None script is = is
+script_before a b kept (Some name) script is = record { bytes = is.bytes; read = (kept name is.bytes).1 is.read; spelled = is.spelled }
+
+capture_before : (a b c : FileBytes) → AreKept a b → AreKept b c → (name : List ℕ) (records : List Sent) → IsCaptureOf c name records → IsCaptureOf a name records
+capture_before a b c first second name records is =
+    record { bytes = is.bytes; read = (first name is.bytes).1 ((second name is.bytes).1 is.read); spelled = is.spelled }
+
+-- before it
+others_are_all_but_kept : (a b : FileBytes) (sent : List ℕ) (journals : Option (List ℕ)) → AreOthersKept a b sent → AreAllButKept a b sent journals
+others_are_all_but_kept a b sent journals before = λ name bytes not_sent not_journals. before name bytes not_sent
+
+pub returns-in_err-write_sent-clause-kept : goal.returns-in_err-write_sent-clause-kept
+returns-in_err-write_sent-clause-kept g c =
+    others_are_all_but_kept _ _ _ _
+    (others_kept _ _ _ _ _ _ c.program_of.ensures.kept c.script_of.ensures.kept c.capture_of.ensures.kept c.write_sent.ensures.others)
+
+pub returns-in_err-write_journals_to-clause-kept : goal.returns-in_err-write_journals_to-clause-kept
+returns-in_err-write_journals_to-clause-kept g c =
+    all_but_kept _ _ _ _ _
+    (others_kept _ _ _ _ _ _ c.program_of.ensures.kept c.script_of.ensures.kept c.capture_of.ensures.kept c.write_sent.ensures.others)
+    c.write_journals_to.ensures.others
+
+pub returns-in_err-replayed-clause-kept : goal.returns-in_err-replayed-clause-kept
+returns-in_err-replayed-clause-kept g c =
+    all_but_kept _ _ _ _ _
+    (others_kept _ _ _ _ _ _ c.program_of.ensures.kept c.script_of.ensures.kept c.capture_of.ensures.kept c.write_sent.ensures.others)
+    c.write_journals_to.ensures.others
+
+pub returns-clause-done : goal.returns-clause-done
+returns-clause-done g c =
+    let sent = subst (λ (frames : List Sent). g.D.Folder.holds c.write_sent.new.folder c.args.files.now.sent.now (capture_bytes frames)) c.deref.ensures.value
+    c.in_ok-write_sent.ensures.written in (
+      c.deref-2.result.now,
+      record {
+        program = record { version = c.in_ok-verified.verified.version; maps = c.in_ok-verified.verified.maps; code = c.in_ok-verified.verified.code };
+        program_is = c.in_ok-verified.ensures.program;
+        safe = c.in_ok-verified.ensures.safe;
+        script = c.in_ok-script.script;
+        script_is = script_before _ _ c.program_of.ensures.kept _ _ c.in_ok-script.ensures.script;
+        records = c.in_ok-capture.capture.records.items;
+        capture = capture_before _ _ _ c.program_of.ensures.kept c.script_of.ensures.kept _ _ c.in_ok-capture.ensures.capture;
+        outcome = c.in-Ok.outcome;
+        accounted = c.in-Ok.ensures.accounted;
+        refused_are = sym c.deref-2.ensures.value;
+        sent = λ other. (c.write_journals_to.ensures.others _ _ other).0 sent;
+        journals = c.in_ok-write_journals_to.ensures.written;
+        lines = c.in_ok-replayed.ensures.text;
+      },
+      c.in_ok-replayed.ensures.refused,
+    )
+
+pub returns-clause-kept : goal.returns-clause-kept
+returns-clause-kept g c =
+    all_but_kept _ _ _ _ _
+    (others_kept _ _ _ _ _ _ c.program_of.ensures.kept c.script_of.ensures.kept c.capture_of.ensures.kept c.write_sent.ensures.others)
+    c.write_journals_to.ensures.others

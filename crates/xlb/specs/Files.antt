@@ -1,0 +1,31 @@
+-- Files by their names, and images in them.
+use Rattle.std.specs.Prelude.{◌≡◌, ◌≢◌, ◌↔◌, ℕ, List, Option, Some, option_map}
+use Rattle.std.specs.Borrow.{Bor}
+use Rattle.ebpf_decode.specs.ImageContents.{Contents}
+use Rattle.ebpf_decode.specs.ImageFormat.{IsImageEncoding}
+
+-- which bytes the file of a name has
+abbrev pub FileBytes : Type 1
+FileBytes = List ℕ → List ℕ → Type 0
+
+-- each file has the bytes that it had
+abbrev pub AreKept : FileBytes → FileBytes → Type 0
+AreKept before after = (name bytes : List ℕ) → (before name bytes ↔ after name bytes)
+
+-- each file but the one of this name has the bytes that it had
+abbrev pub AreOthersKept : FileBytes → FileBytes → List ℕ → Type 0
+AreOthersKept before after written = (name bytes : List ℕ) → name ≢ written → (before name bytes ↔ after name bytes)
+
+-- each file but those of these names, of which the second may be missing, has the bytes that it had
+abbrev pub AreAllButKept : FileBytes → FileBytes → List ℕ → Option (List ℕ) → Type 0
+AreAllButKept before after written other = (name bytes : List ℕ) → name ≢ written → other ≢ Some name → (before name bytes ↔ after name bytes)
+
+-- the file of this name is the encoding of the image
+pub record IsImageFile (files : FileBytes) (name : List ℕ) (image : Contents) : Type 0 where
+  pub bytes : List ℕ
+  pub read : files name bytes
+  pub encoding : IsImageEncoding bytes image
+
+-- the word of an option, where it is given
+abbrev pub text_of : Option (Bor (List ℕ)) → Option (List ℕ)
+text_of word = option_map (λ (w : Bor (List ℕ)). w.now) word

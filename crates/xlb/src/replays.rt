@@ -1,0 +1,220 @@
+//! What `xlb replay` does with its files.
+
+ghost use Rattle.std.specs.Prelude.{◌≡◌, ◌≢◌, ◌==◌, ◌↔◌, ◌+◌, ◌-◌, ◌<◌, ◌≤◌, ◌^◌, ℕ, [], true, false, List, Some, IfOk, OnOk, length, string_bytes};
+ghost use Rattle.semantics.specs.Safety.{IsSafeImage};
+ghost use Rattle.wire.specs.CaptureFormat.{IsCaptureFile, capture_bytes};
+ghost use Rattle.steer.specs.ShippedProgram.{shipped_image};
+ghost use Rattle.control.specs.ScriptText.{IsScriptText};
+ghost use Rattle.journal_files.specs.JournalText.{journals_text};
+ghost use Rattle.actors.specs.declared.applied.Applied.{Applied as Noted};
+ghost use Rattle.xlb.specs.Files.{AreKept, AreOthersKept, AreAllButKept, text_of};
+ghost use Rattle.xlb.specs.Replays.{IsProgramOf, IsScriptOf, IsScriptFile, IsCaptureOf, AreWritten, IsReplayed};
+
+use crate::command_line::ReplayFiles;
+use crate::commands::{bytes_of, judged_of};
+use crate::fault::Fault;
+use crate::folder::Folder;
+use crate::report::{Report, replayed};
+use control::{Script, parse_script};
+use journal_files::write_journals;
+use journals::Journals;
+use replay::{NoGate, replay};
+use semantics::Options;
+use std::alloc::{AllocError, Global};
+use std::sync::Wait;
+use std::thread::Threads;
+use steer::shipped;
+use verifier::{Verified, verify};
+use wire::{Capture, MemorySink, MemorySource, Sent, read_capture, write_capture};
+
+/// The most bytes that a capture is read from.
+const MOST: u64 = 1 << 40;
+
+/// The shipped program, which the verifier has to accept as any other.
+fn shipped_program(alloc: Global, ring: u32) -> Result<Verified, Fault>
+    ensures image { IfOk result (λ verified. record { version = verified.version; maps = verified.maps; code = verified.code } ≡ shipped_image ring) }
+    ensures safe { IfOk result (λ verified. IsSafeImage verified.maps verified.code) }
+{
+    let image = match shipped(alloc, ring) {
+        Ok(image) => image,
+        Err(fault) => return Err(Fault::Steering(fault)),
+    };
+    match verify(alloc, image) {
+        Ok(verified) => Ok(verified),
+        Err(reject) => Err(Fault::Program(reject)),
+    }
+}
+
+/// The program of a replay: a file's, if the verifier accepts it, or the shipped one.
+fn program_of<D: Folder>(
+    alloc: Global,
+    folder: &mut D,
+    image: Option<&str>,
+    ring: u32,
+) -> Result<Verified, Fault>
+    requires { D.failure_count folder.old < 2 ^ 64 - 1 }
+    ensures program { IfOk result (λ verified. IsProgramOf (D.holds folder.old) (text_of image.entry) ring (record { version = verified.version; maps = verified.maps; code = verified.code })) }
+    ensures safe { IfOk result (λ verified. IsSafeImage verified.maps verified.code) }
+    ensures kept { AreKept (D.holds folder.old) (D.holds folder.new) }
+    ensures steady { OnOk result (D.failure_count folder.new ≡ D.failure_count folder.old) }
+{
+    match image {
+        Some(name) => judged_of(alloc, folder, name),
+        None => shipped_program(alloc, ring),
+    }
+}
+
+/// The script of a text.
+fn parsed(alloc: Global, bytes: &[u8]) -> Result<Script, Fault>
+    ensures { IfOk result (λ script. IsScriptText bytes.now script) }
+{
+    match parse_script(alloc, bytes) {
+        Ok(script) => Ok(script),
+        Err(fault) => Err(Fault::Script(fault)),
+    }
+}
+
+/// The script of a replay: a file's, or that of no commands.
+fn script_of<D: Folder>(
+    alloc: Global,
+    folder: &mut D,
+    script: Option<&str>,
+) -> Result<Script, Fault>
+    requires { D.failure_count folder.old < 2 ^ 64 - 1 }
+    ensures script { IfOk result (λ found. IsScriptOf (D.holds folder.old) (text_of script.entry) found) }
+    ensures kept { AreKept (D.holds folder.old) (D.holds folder.new) }
+    ensures steady { OnOk result (D.failure_count folder.new ≡ D.failure_count folder.old) }
+{
+    match script {
+        Some(name) => parsed(alloc, &bytes_of(alloc, folder, name)?),
+        None => parsed(alloc, b""),
+    }
+}
+
+/// The records of a capture's bytes.
+fn records_of(alloc: Global, bytes: &[u8]) -> Result<Capture, Fault>
+    ensures { IfOk result (λ capture. IsCaptureFile bytes.now capture.records.items) }
+{
+    if bytes.len() as u64 > MOST {
+        return Err(Fault::Memory);
+    }
+    match read_capture(alloc, &mut MemorySource::new(bytes)) {
+        Ok(capture) => Ok(capture),
+        Err(fault) => Err(Fault::Capture(fault)),
+    }
+}
+
+/// The capture of a file.
+fn capture_of<D: Folder>(alloc: Global, folder: &mut D, name: &str) -> Result<Capture, Fault>
+    requires { D.failure_count folder.old < 2 ^ 64 - 1 }
+    ensures capture { IfOk result (λ capture. IsCaptureOf (D.holds folder.old) name.now capture.records.items) }
+    ensures kept { AreKept (D.holds folder.old) (D.holds folder.new) }
+    ensures steady { OnOk result (D.failure_count folder.new ≡ D.failure_count folder.old) }
+{
+    let bytes = bytes_of(alloc, folder, name)?;
+    records_of(alloc, &bytes)
+}
+
+/// The bytes of a capture file of these frames.
+fn bytes_of_frames(alloc: Global, frames: &[Sent]) -> Result<MemorySink, AllocError>
+    ensures { IfOk result (λ sink. sink.bytes ≡ capture_bytes frames.now) }
+{
+    let mut sink = MemorySink::new(alloc);
+    match write_capture(&mut sink, frames) {
+        Ok(()) => Ok(sink),
+        Err(_) => Err(AllocError),
+    }
+}
+
+/// The bytes of the file of these journals.
+fn bytes_of_journals(alloc: Global, journals: &Journals) -> Result<MemorySink, AllocError>
+    ensures { IfOk result (λ sink. sink.bytes ≡ journals_text journals.now) }
+{
+    let mut sink = MemorySink::new(alloc);
+    match write_journals(alloc, &mut sink, journals) {
+        Ok(()) => Ok(sink),
+        Err(_) => Err(AllocError),
+    }
+}
+
+/// Writes the sent frames to their file.
+fn write_sent<D: Folder>(
+    alloc: Global,
+    folder: &mut D,
+    name: &str,
+    frames: &[Sent],
+) -> Result<(), Fault>
+    requires { D.failure_count folder.old < 2 ^ 64 - 1 }
+    ensures written { OnOk result (D.holds folder.new name.now (capture_bytes frames.now)) }
+    ensures others { AreOthersKept (D.holds folder.old) (D.holds folder.new) name.now }
+    ensures steady { OnOk result (D.failure_count folder.new ≡ D.failure_count folder.old) }
+{
+    let file = bytes_of_frames(alloc, frames)?;
+    match folder.write(alloc, name, file.bytes()) {
+        Ok(()) => Ok(()),
+        Err(fault) => Err(Fault::Folder(fault)),
+    }
+}
+
+/// Writes the journals to their file.
+fn write_to<D: Folder>(
+    alloc: Global,
+    folder: &mut D,
+    name: &str,
+    journals: &Journals,
+) -> Result<(), Fault>
+    requires { D.failure_count folder.old < 2 ^ 64 - 1 }
+    ensures written { OnOk result (D.holds folder.new name.now (journals_text journals.now)) }
+    ensures others { AreOthersKept (D.holds folder.old) (D.holds folder.new) name.now }
+{
+    let file = bytes_of_journals(alloc, journals)?;
+    match folder.write(alloc, name, file.bytes()) {
+        Ok(()) => Ok(()),
+        Err(fault) => Err(Fault::Folder(fault)),
+    }
+}
+
+/// Writes the journals, where a file is named for them.
+fn write_journals_to<D: Folder>(
+    alloc: Global,
+    folder: &mut D,
+    name: Option<&str>,
+    journals: &Journals,
+) -> Result<(), Fault>
+    requires { D.failure_count folder.old < 2 ^ 64 - 1 }
+    ensures written { OnOk result (AreWritten (D.holds folder.new) (text_of name.entry) journals.now) }
+    ensures others { (file bytes : List ℕ) → text_of name.entry ≢ Some file → (D.holds folder.old file bytes ↔ D.holds folder.new file bytes) }
+{
+    match name {
+        Some(name) => write_to(alloc, folder, name, journals),
+        None => Ok(()),
+    }
+}
+
+/// Runs the frames of a capture, and writes those that are sent, the journals where a file is named for them, and a report. All input is read and
+/// checked before anything starts: the image, the script, the capture, then the options. No file is made where one is refused.
+pub fn replay_files<R: Threads + Wait + Sync, D: Folder>(
+    rt: &R,
+    alloc: Global,
+    folder: &mut D,
+    files: &ReplayFiles<'_>,
+    options: Options,
+    ring: u32,
+) -> Result<Report, Fault>
+    requires { D.failure_count folder.old < 2 ^ 64 - 1 }
+    ensures done { IfOk result (λ report. (refused : List Noted) × IsReplayed (D.holds folder.old) (D.holds folder.new) files.now options ring (string_bytes report.text) refused
+        × ((refused ≡ []) ↔ (report.is_refused ≡ false))) }
+    ensures kept { AreAllButKept (D.holds folder.old) (D.holds folder.new) files.now.sent.now (text_of files.now.journals) }
+{
+    let verified = program_of(alloc, folder, files.image, ring)?;
+    let script = script_of(alloc, folder, files.script)?;
+    let capture = capture_of(alloc, folder, files.capture)?;
+    let outcome = match replay(rt, alloc, &verified, &capture, &script, options, &NoGate) {
+        Ok(outcome) => outcome,
+        Err(fault) => return Err(Fault::Replay(fault)),
+    };
+    write_sent(alloc, folder, files.sent, &outcome.sent)?;
+    write_journals_to(alloc, folder, files.journals, &outcome.journals)?;
+    let frames = capture.records.len();
+    Ok(replayed(alloc, frames, outcome.counts, &outcome.refused)?)
+}
