@@ -2,7 +2,7 @@
 
 use crate::{AuditFault, audit};
 use ebpf_decode::{MapDef, MapKind};
-use journals::{Journals, ShardJournal};
+use journals::{EntryList, Journals, ShardJournal};
 use semantics::{Call, Caller, CellRef, Entry, Options, Reply};
 use std::alloc::Global;
 use std::test::Fail;
@@ -15,16 +15,16 @@ fn entry(worker: u8, call: Call, reply: Reply) -> Entry {
 /// The journals of one array of one value: two workers enter, and one may load from a cell that it did not look up.
 fn journals(alloc: Global, is_loaded: bool) -> Result<Journals, Fail> {
     let shard = 0;
-    let mut entries = Vec::new(alloc);
-    entries.push(entry(1, Call::Enter { shard }, Reply::Entered))?;
-    entries.push(entry(0, Call::Enter { shard }, Reply::Entered))?;
+    let mut entries = EntryList::new(alloc);
+    entries.push(&entry(1, Call::Enter { shard }, Reply::Entered))?;
+    entries.push(&entry(0, Call::Enter { shard }, Reply::Entered))?;
     if is_loaded {
         let load = Call::Load {
             cell: CellRef { shard, id: 0 },
             offset: 0,
             width: 8,
         };
-        entries.push(entry(1, load, Reply::Word { value: 0 }))?;
+        entries.push(&entry(1, load, Reply::Word { value: 0 }))?;
     }
     let mut maps = Vec::new(alloc);
     maps.push(MapDef {

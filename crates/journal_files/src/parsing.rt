@@ -15,7 +15,7 @@ use crate::fault::FileFault;
 use crate::printing::{put_header, put_line};
 use crate::reading::{entry_read, header_read};
 use ebpf_decode::MapDef;
-use journals::{Journals, ShardJournal, are_options};
+use journals::{EntryList, Journals, ShardJournal, are_options};
 use semantics::{Call, Entry, Options};
 use std::alloc::{AllocError, Global};
 use std::mem;
@@ -51,12 +51,12 @@ fn is_call_on(maps: &[MapDef], options: &Options, call: &Call) -> bool
     }
 }
 
-/// The entry whose line this is, if it is one's: what was read is printed again and compared.
+/// The entry whose line this is, if it is one's: what was read is printed again and compared. What `again` holds is lost.
 fn entry_of(
-    alloc: Global,
     maps: &[MapDef],
     options: &Options,
     line: &str,
+    again: &mut Vec<u8>,
 ) -> Result<Option<Entry>, AllocError>
     requires { AreOptions maps.now options.now }
     ensures { IfOk result (λ found. TellsEntry maps.now options.now line.now found) }
@@ -65,8 +65,8 @@ fn entry_of(
     if !is_call_on(maps, options, &entry.call) {
         return Ok(None);
     }
-    let mut again = Vec::with_capacity(alloc, line.len())?;
-    put_line(&mut again, &entry)?;
+    again.clear();
+    put_line(again, &entry)?;
     if again.as_slice() == line.as_bytes() {
         Ok(Some(entry))
     } else {
@@ -78,15 +78,15 @@ fn entry_of(
 fn finish_before(
     alloc: Global,
     done: &mut Vec<ShardJournal>,
-    present: &mut Vec<Entry>,
+    present: &mut EntryList,
     number: usize,
 ) -> Result<(), AllocError>
     requires { length done.old.items ≤ number }
     ensures number { OnOk result (length done.new.items ≡ number) }
-    ensures divided { OnOk result ((entries : List Told) → AreDivided entries done.old.items present.old.items → AreDivided entries done.new.items present.new.items) }
+    ensures divided { OnOk result ((entries : List Told) → AreDivided entries done.old.items present.old → AreDivided entries done.new.items present.new) }
 {
     'numbers: while done.len() < number {
-        let entries = mem::replace(present, Vec::new(alloc));
+        let entries = mem::replace(present, EntryList::new(alloc));
         done.push(ShardJournal::listed(entries))?;
     }
     Ok(())
@@ -99,16 +99,17 @@ fn lines_of<'a>(
     maps: &[MapDef],
     options: &Options,
     text: &'a str,
-) -> Result<(Vec<ShardJournal>, Vec<Entry>, usize, &'a str), AllocError>
+) -> Result<(Vec<ShardJournal>, EntryList, usize, &'a str), AllocError>
     requires { AreOptions maps.now options.now }
-    ensures { IfOk result (λ read. AreRead maps.now options.now text.now read.0.items read.1.items read.2 read.3.now) }
+    ensures { IfOk result (λ read. AreRead maps.now options.now text.now read.0.items read.1 read.2 read.3.now) }
 {
     let mut done = Vec::new(alloc);
-    let mut present = Vec::new(alloc);
+    let mut present = EntryList::new(alloc);
+    let mut again = Vec::new(alloc);
     let mut count = 0;
     let mut rest = text;
     'lines: while let Some((line, after)) = rest.split_once('\n') {
-        match entry_of(alloc, maps, options, line)? {
+        match entry_of(maps, options, line, &mut again)? {
             None => return Ok((done, present, count, rest)),
             Some(entry) => {
                 let shard = entry.call.shard() as usize;
@@ -116,7 +117,7 @@ fn lines_of<'a>(
                     return Ok((done, present, count, rest));
                 }
                 finish_before(alloc, &mut done, &mut present, shard)?;
-                present.push(entry)?;
+                present.push(&entry)?;
                 count += 1;
                 rest = after;
             }
@@ -178,14 +179,14 @@ fn journals_from(
     maps: &[MapDef],
     options: Options,
     mut done: Vec<ShardJournal>,
-    mut present: Vec<Entry>,
+    mut present: EntryList,
 ) -> Result<Journals, AllocError>
     requires maps { AreImageMaps maps.now }
     requires options { AreOptions maps.now options }
     requires few { length done.items ≤ length maps.now * options.shards }
     ensures { IfOk result (λ journals. (journals.maps ≡ maps.now) × (journals.options ≡ options)
         × AreJournals maps.now options (length journals.shards)
-        × ((entries : List Told) → AreDivided entries done.items present.items →
+        × ((entries : List Told) → AreDivided entries done.items present →
         (final : List Told) × AreDivided entries journals.shards final)) }
 {
     let count = maps.len() * options.shards as usize;

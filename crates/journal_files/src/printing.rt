@@ -42,6 +42,20 @@ fn put_field(out: &mut Vec<u8>, number: u64) -> Result<(), AllocError>
     put_word(out, " ")
 }
 
+/// Writes a key in hexadecimal, and a space.
+fn put_key(out: &mut Vec<u8>, key: &[u8]) -> Result<(), AllocError>
+    requires { length key.now ≤ 32 }
+    ensures { OnOk result (out.new.items ≡ out.old.items ++ (encode_lower key.now ++ 32 ∷ [])) }
+{
+    let mut digits = [0; 64];
+    let digits = &mut digits[..2 * key.len()];
+    if hex::encode_to_slice(key, digits).is_err() {
+        unreachable!()
+    }
+    out.extend_from_slice(digits)?;
+    put_word(out, " ")
+}
+
 /// Writes bytes in hexadecimal, and a space.
 fn put_bytes(out: &mut Vec<u8>, bytes: &[u8]) -> Result<(), AllocError>
     requires { length bytes.now ≤ 256 }
@@ -106,7 +120,7 @@ fn put_told(out: &mut Vec<u8>, call: &Call, reply: &Reply) -> Result<(), AllocEr
     match call {
         Call::Enter { .. } => {}
         Call::Leave { .. } => {}
-        Call::Lookup { key, .. } => put_bytes(out, key.as_slice())?,
+        Call::Lookup { key, .. } => put_key(out, key.as_slice())?,
         Call::Load {
             cell,
             offset,
@@ -148,11 +162,11 @@ fn put_told(out: &mut Vec<u8>, call: &Call, reply: &Reply) -> Result<(), AllocEr
             flags,
             ..
         } => {
-            put_bytes(out, key.as_slice())?;
+            put_key(out, key.as_slice())?;
             put_bytes(out, value.as_slice())?;
             put_field(out, *flags)?;
         }
-        Call::Delete { key, .. } => put_bytes(out, key.as_slice())?,
+        Call::Delete { key, .. } => put_key(out, key.as_slice())?,
         Call::Reclaim { .. } => {}
     }
     put_reply(out, reply)

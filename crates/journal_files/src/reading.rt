@@ -124,7 +124,14 @@ fn key_of(text: &str) -> Key
     ensures fits { IsKey result }
     ensures found { (bytes : List ℕ) → IsKey bytes → text.now ≡ encode_lower bytes → result ≡ bytes }
 {
-    key_with(value_of(text).as_slice())
+    let count = text.len() / 2;
+    if count > 32 {
+        return Key::empty();
+    }
+    let mut places = [0; 32];
+    let bytes = &mut places[..count];
+    decode(text, bytes);
+    key_with(bytes)
 }
 
 /// Who called. A worker's number is below 8.

@@ -7,11 +7,12 @@ use ebpf_decode::{Image, Insn, MapDef, MapKind, Version};
 use journals::Journals;
 use semantics::{Call, Caller, CellRef, Entry, Key, Reply, Value};
 use std::alloc::Global;
+use std::process::Abort;
 use std::test::Fail;
 use wire::{Failed, MemorySink, MemorySource, Sink, Source};
 
 /// A worker updates a key, looks it up, adds to its value and reads it.
-const WHOLE: &str = "XLBJ 1 1 1 16
+const ADDED: &str = "XLBJ 1 1 1 16
 0 w0 enter ok
 0 w0 update 07000000 0200000000000000 0 answer 0
 0 w0 lookup 07000000 cell 0
@@ -19,6 +20,18 @@ const WHOLE: &str = "XLBJ 1 1 1 16
 0 w0 load 0 0 8 word 3
 0 w0 leave ok
 0 r reclaim freed 0
+";
+
+/// A worker writes half of a key's value, reads it, and deletes the key; its cell is freed.
+const DELETED: &str = "XLBJ 1 1 1 16
+0 w0 enter ok
+0 w0 update 07000000 0200000000000000 0 answer 0
+0 w0 lookup 07000000 cell 0
+0 w0 store 0 4 4 9 ok
+0 w0 load 0 4 4 word 9
+0 w0 delete 07000000 answer 0
+0 w0 leave ok
+0 r reclaim freed 1
 ";
 
 /// An image of hash maps with keys of 4 bytes and values of 8, each with room for so many keys.
@@ -58,63 +71,99 @@ fn value(bytes: &[u8]) -> Value {
     }
 }
 
-/// What the whole file says, line by line.
-fn wanted() -> [(Caller, Call, Reply); 7] {
-    let shard = 0;
-    let worker = Caller::Worker { number: 0 };
-    let cell = CellRef { shard, id: 0 };
-    let seven = key(&[7, 0, 0, 0]);
+/// What a line says.
+type Line = (Caller, Call, Reply);
+
+const WORKER: Caller = Caller::Worker { number: 0 };
+
+/// The first cell of the first shard.
+const CELL: CellRef = CellRef { shard: 0, id: 0 };
+
+/// Key 7 gets the value 2.
+fn update() -> Line {
+    let call = Call::Update {
+        shard: 0,
+        key: key(&[7, 0, 0, 0]),
+        value: value(&[2, 0, 0, 0, 0, 0, 0, 0]),
+        flags: 0,
+    };
+    (WORKER, call, Reply::Answer { code: 0 })
+}
+
+/// Key 7 has the first cell.
+fn lookup() -> Line {
+    let call = Call::Lookup {
+        shard: 0,
+        key: key(&[7, 0, 0, 0]),
+    };
+    (WORKER, call, Reply::Cell { cell: CELL })
+}
+
+fn load(offset: u64, width: u64, value: u64) -> Line {
+    let call = Call::Load {
+        cell: CELL,
+        offset,
+        width,
+    };
+    (WORKER, call, Reply::Word { value })
+}
+
+/// What the file of the addition says, line by line.
+fn added() -> [Line; 7] {
+    let addition = Call::Atomic {
+        cell: CELL,
+        offset: 0,
+        width: 8,
+        op: 1,
+        value: 1,
+        expected: 0,
+    };
     [
-        (worker, Call::Enter { shard }, Reply::Entered),
-        (
-            worker,
-            Call::Update {
-                shard,
-                key: seven,
-                value: value(&[2, 0, 0, 0, 0, 0, 0, 0]),
-                flags: 0,
-            },
-            Reply::Answer { code: 0 },
-        ),
-        (
-            worker,
-            Call::Lookup { shard, key: seven },
-            Reply::Cell { cell },
-        ),
-        (
-            worker,
-            Call::Atomic {
-                cell,
-                offset: 0,
-                width: 8,
-                op: 1,
-                value: 1,
-                expected: 0,
-            },
-            Reply::Word { value: 2 },
-        ),
-        (
-            worker,
-            Call::Load {
-                cell,
-                offset: 0,
-                width: 8,
-            },
-            Reply::Word { value: 3 },
-        ),
-        (worker, Call::Leave { shard }, Reply::Left),
+        (WORKER, Call::Enter { shard: 0 }, Reply::Entered),
+        update(),
+        lookup(),
+        (WORKER, addition, Reply::Word { value: 2 }),
+        load(0, 8, 3),
+        (WORKER, Call::Leave { shard: 0 }, Reply::Left),
         (
             Caller::Reclaimer,
-            Call::Reclaim { shard },
+            Call::Reclaim { shard: 0 },
             Reply::Freed { count: 0 },
         ),
     ]
 }
 
-#[test]
-fn whole_file(rt: HostRuntime) -> Result<(), Fail> {
-    let journals = read(rt.alloc(), &[1], WHOLE.as_bytes())??;
-    let wanted = wanted();
+/// What the file of the deletion says, line by line.
+fn deleted() -> [Line; 8] {
+    let store = Call::Store {
+        cell: CELL,
+        offset: 4,
+        width: 4,
+        value: 9,
+    };
+    let delete = Call::Delete {
+        shard: 0,
+        key: key(&[7, 0, 0, 0]),
+    };
+    [
+        (WORKER, Call::Enter { shard: 0 }, Reply::Entered),
+        update(),
+        lookup(),
+        (WORKER, store, Reply::Done),
+        load(4, 4, 9),
+        (WORKER, delete, Reply::Answer { code: 0 }),
+        (WORKER, Call::Leave { shard: 0 }, Reply::Left),
+        (
+            Caller::Reclaimer,
+            Call::Reclaim { shard: 0 },
+            Reply::Freed { count: 1 },
+        ),
+    ]
+}
+
+/// Holds what is read of a file against what it says, and what is written then against the file.
+fn compare(rt: &impl Abort, alloc: Global, text: &str, wanted: &[Line]) -> Result<(), Fail> {
+    let journals = read(alloc, &[1], text.as_bytes())??;
     assert_eq!(rt; journals.count(), 1);
     assert_eq!(rt; journals.options().workers, 1);
     assert_eq!(rt; journals.options().journal, 16);
@@ -127,15 +176,25 @@ fn whole_file(rt: HostRuntime) -> Result<(), Fail> {
             "entry {place}"
         );
     }
-    let mut sink = MemorySink::new(rt.alloc());
-    write_journals(rt.alloc(), &mut sink, &journals)?;
-    assert_eq!(rt; sink.bytes(), WHOLE.as_bytes());
+    let mut sink = MemorySink::new(alloc);
+    write_journals(alloc, &mut sink, &journals)?;
+    assert_eq!(rt; sink.bytes(), text.as_bytes());
     Ok(())
+}
+
+#[test]
+fn file_of_an_addition(rt: HostRuntime) -> Result<(), Fail> {
+    compare(&rt, rt.alloc(), ADDED, &added())
+}
+
+#[test]
+fn file_of_a_deletion(rt: HostRuntime) -> Result<(), Fail> {
+    compare(&rt, rt.alloc(), DELETED, &deleted())
 }
 
 /// A file, and the first bad line if there is one. The maps have room for 1 key, and for 2.
 #[rattlefmt::skip]
-const FILES: [(&str, &[u32], &str, Option<usize>); 58] = [
+const FILES: [(&str, &[u32], &str, Option<usize>); 72] = [
     ("nothing",                    &[1], "",                                   Some(1)),
     ("a header",                   &[1], "XLBJ 1 1 1 16\n",                    None),
     ("no map",                     &[],  "XLBJ 1 8 8 1048576\n",               None),
@@ -193,6 +252,20 @@ const FILES: [(&str, &[u32], &str, Option<usize>); 58] = [
     ("an unknown verb",            &[1], "XLBJ 1 1 1 16\n0 w0 peek ok\n",                  Some(2)),
     ("freed cells",                &[1], "XLBJ 1 1 1 16\n0 r reclaim freed 3\n",           None),
     ("fewer than none",            &[1], "XLBJ 1 1 1 16\n0 r reclaim freed -1\n",          Some(2)),
+    ("a leave",                     &[1], "XLBJ 1 1 1 16\n0 w0 leave ok\n", None),
+    ("a leave with a number",       &[1], "XLBJ 1 1 1 16\n0 w0 leave 0 ok\n", Some(2)),
+    ("a cell",                      &[1], "XLBJ 1 1 1 16\n0 w0 lookup 07000000 cell 0\n", None),
+    ("the greatest cell",           &[1], "XLBJ 1 1 1 16\n0 w0 lookup 07000000 cell 18446744073709551615\n", None),
+    ("a cell above it",             &[1], "XLBJ 1 1 1 16\n0 w0 lookup 07000000 cell 18446744073709551616\n", Some(2)),
+    ("a lookup of two keys",        &[1], "XLBJ 1 1 1 16\n0 w0 lookup 07000000 07000000 null\n", Some(2)),
+    ("a store of three numbers",    &[1], "XLBJ 1 1 1 16\n0 w0 store 0 0 8 ok\n", Some(2)),
+    ("an addition",                 &[1], "XLBJ 1 1 1 16\n0 w0 atomic 0 0 8 1 1 0 word 2\n", None),
+    ("an addition that is done",    &[1], "XLBJ 1 1 1 16\n0 w0 atomic 0 0 8 1 1 0 ok\n", Some(2)),
+    ("an update that is done",      &[1], "XLBJ 1 1 1 16\n0 c update 07000000 0200000000000000 0 ok\n", Some(2)),
+    ("a delete with flags",         &[1], "XLBJ 1 1 1 16\n0 c delete 07000000 0 answer 0\n", Some(2)),
+    ("a reclaim that is done",      &[1], "XLBJ 1 1 1 16\n0 r reclaim ok\n", Some(2)),
+    ("a verb in upper case",        &[1], "XLBJ 1 1 1 16\n0 w0 ENTER ok\n", Some(2)),
+    ("a tab",                       &[1], "XLBJ 1 1 1 16\n0 w0\tenter ok\n", Some(2)),
     ("the third line",             &[1], "XLBJ 1 1 1 16\n0 w0 enter ok\n0 w0 leave\n",     Some(3)),
 ];
 

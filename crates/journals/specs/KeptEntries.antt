@@ -6,4 +6,4 @@ use Rattle.journals.specs.declared.shard_journal.Kept.TheVariants.{Written, List
 
 abbrev pub kept_entries : Kept → List Entry
 kept_entries (Written journal) = journal.entries
-kept_entries (Listed entries) = entries.items
+kept_entries (Listed entries) = entries

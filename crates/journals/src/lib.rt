@@ -2,11 +2,14 @@
 #![tactic(auto)]
 
 mod all;
+mod call_row;
+mod entry_list;
 mod options;
 mod shard_journal;
 #[cfg(test)]
 mod tests;
 
 pub use all::Journals;
+pub use entry_list::EntryList;
 pub use options::are_options;
 pub use shard_journal::ShardJournal;

@@ -2,6 +2,7 @@
 
 ghost use Rattle.std.specs.Prelude.{◌≡◌, ◌<◌, Some, length, slice_get};
 
+use crate::entry_list::EntryList;
 use journal::Journal;
 use semantics::Entry;
 use std::marker::Model;
@@ -12,7 +13,7 @@ pub enum Kept {
     /// As the shard wrote them.
     Written { journal: Journal },
     /// As a list, that may have entries of calls that no map serves.
-    Listed { entries: Vec<Entry> },
+    Listed { entries: EntryList },
 }
 
 /// The journal of one shard: as the shard wrote it, or a list of entries from elsewhere. Contracts see the list of entries, the oldest
@@ -43,8 +44,8 @@ impl ShardJournal {
     }
 
     /// A journal of these entries.
-    pub fn listed(entries: Vec<Entry>) -> Self
-        ensures { result ≡ entries.items }
+    pub fn listed(entries: EntryList) -> Self
+        ensures { result ≡ entries }
     {
         ShardJournal {
             kept: Kept::Listed { entries },
@@ -68,7 +69,7 @@ impl ShardJournal {
     {
         match &self.kept {
             Kept::Written { journal } => journal.entry(place),
-            Kept::Listed { entries } => entries[place],
+            Kept::Listed { entries } => entries.entry(place),
         }
     }
 }

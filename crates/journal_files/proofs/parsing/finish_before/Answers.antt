@@ -6,6 +6,6 @@ pub numbers-preserved : goal.numbers-preserved
 numbers-preserved c = record {
   within = search rules;
   divided = λ entries before.
-      divide_to entries _ _ c.numbers.present.items c.listed.result c.replace-entries.result.items c.replace-entries.new.dest.items (c.numbers.invariant.divided entries before) c.in_ok-push.ensures.items
-      c.listed.ensures (ap (λ v. v.items) c.replace-entries.ensures.value) (ap (λ v. v.items) c.replace-entries.ensures.after ∙ c.new.ensures.items);
+      divide_to entries _ _ c.numbers.present c.listed.result c.replace-entries.result c.replace-entries.new.dest (c.numbers.invariant.divided entries before) c.in_ok-push.ensures.items
+      c.listed.ensures c.replace-entries.ensures.value (c.replace-entries.ensures.after ∙ c.new.ensures);
 }

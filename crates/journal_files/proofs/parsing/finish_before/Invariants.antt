@@ -6,7 +6,7 @@ use Rattle.journal_files.proofs.parsing.finish_before.Given as goal
 abbrev pub invariant-numbers : goal.invariant-numbers
 invariant-numbers l = record {
   within : length l.done.items ≤ l.number;
-  divided : (entries : List Entry) → AreDivided entries l.initial.done.items l.initial.present.items → AreDivided entries l.done.items l.present.items;
+  divided : (entries : List Entry) → AreDivided entries l.initial.done.items l.initial.present → AreDivided entries l.done.items l.present;
 }
 
 abbrev pub decreases-numbers : goal.decreases-numbers

@@ -29,8 +29,8 @@ lines-preserved c =
     let tells = tells_some _ _ _ _ _ c.in-Some-2.is c.in_ok-entry_of.ensures in
     let first = first_told _ _ _ c.in-Some.line.now c.in-Some.after.now c.in-Some-2.entry parts.0 tells.0 tells.1 in (
       search rules,
-      rw c.in_ok-push-in-Some-2.ensures.items
-          (read_more _ _ _ _ _ _ _ _ c.finish_before.new.present.items _ c.in-Some-2.entry c.lines.invariant.1 first (search rules) (search rules) c.in_ok-finish_before-in-Some-2.ensures.divided),
+      rw c.in_ok-push-in-Some-2.ensures.pushed
+          (read_more _ _ _ _ _ _ _ _ c.finish_before.new.present _ c.in-Some-2.entry c.lines.invariant.1 first (search rules) (search rules) c.in_ok-finish_before-in-Some-2.ensures.divided),
     )
 
 pub returns : goal.returns

@@ -5,7 +5,7 @@ use Rattle.journal_files.proofs.Lines.{AreReadSoFar}
 use Rattle.journal_files.proofs.parsing.lines_of.Given as goal
 
 abbrev pub invariant-lines : goal.invariant-lines
-invariant-lines l = shadow (Utf8 l.rest) × AreReadSoFar l.maps l.options l.text l.done.items l.present.items l.count l.rest
+invariant-lines l = shadow (Utf8 l.rest) × AreReadSoFar l.maps l.options l.text l.done.items l.present l.count l.rest
 
 abbrev pub decreases-lines : goal.decreases-lines
 decreases-lines l = length l.rest

@@ -1,0 +1,83 @@
+-- How rows and bytes make a list of entries.
+use Rattle.std.specs.Prelude.{ℕ, ◌+◌, ◌≤◌, List, [], ◌++◌, length, map}
+use Rattle.std.specs.List.{AllByRecursion}
+use Rattle.semantics.specs.declared.call.Call.{Call}
+use Rattle.semantics.specs.declared.call.Call.TheVariants as calls
+use Rattle.semantics.specs.declared.call.Entry.{Entry}
+use Rattle.journal.specs.Rows.{part}
+use Rattle.journals.specs.declared.call_row.CallRow.{CallRow}
+use Rattle.journals.specs.declared.call_row.CallRow.TheVariants.{Enter, Leave, Lookup, Load, Store, Atomic, Update, Delete, Reclaim}
+use Rattle.journals.specs.declared.entry_list.EntryRow.{EntryRow}
+
+-- the key of a call, and behind it its value
+abbrev pub bytes_of : Call → List ℕ
+bytes_of (calls.Enter shard) = []
+bytes_of (calls.Leave shard) = []
+bytes_of (calls.Lookup shard key) = key
+bytes_of (calls.Load cell offset width) = []
+bytes_of (calls.Store cell offset width value) = []
+bytes_of (calls.Atomic cell offset width op value expected) = []
+bytes_of (calls.Update shard key value flags) = key ++ value
+bytes_of (calls.Delete shard key) = key
+bytes_of (calls.Reclaim shard) = []
+
+-- the row of a call whose key and value stand from this place on
+abbrev pub row_of : ℕ → Call → CallRow
+row_of at (calls.Enter shard) = Enter shard
+row_of at (calls.Leave shard) = Leave shard
+row_of at (calls.Lookup shard key) = Lookup shard (length key) at
+row_of at (calls.Load cell offset width) = Load cell offset width
+row_of at (calls.Store cell offset width value) = Store cell offset width value
+row_of at (calls.Atomic cell offset width op value expected) = Atomic cell offset width op value expected
+row_of at (calls.Update shard key value flags) = Update shard (length key) (length value) at flags
+row_of at (calls.Delete shard key) = Delete shard (length key) at
+row_of at (calls.Reclaim shard) = Reclaim shard
+
+abbrev pub entry_row : ℕ → Entry → EntryRow
+entry_row at entry = record { who = entry.who; call = row_of at entry.call; reply = entry.reply }
+
+-- the call of a row, whose key and value stand in the bytes
+abbrev pub call_of : List ℕ → CallRow → Call
+call_of bytes (Enter shard) = calls.Enter shard
+call_of bytes (Leave shard) = calls.Leave shard
+call_of bytes (Lookup shard key_size at) = calls.Lookup shard (part at key_size bytes)
+call_of bytes (Load cell offset width) = calls.Load cell offset width
+call_of bytes (Store cell offset width value) = calls.Store cell offset width value
+call_of bytes (Atomic cell offset width op value expected) = calls.Atomic cell offset width op value expected
+call_of bytes (Update shard key_size value_size at flags) = calls.Update shard (part at key_size bytes) (part (at + key_size) value_size bytes) flags
+call_of bytes (Delete shard key_size at) = calls.Delete shard (part at key_size bytes)
+call_of bytes (Reclaim shard) = calls.Reclaim shard
+
+abbrev pub entry_of : List ℕ → EntryRow → Entry
+entry_of bytes row = record { who = row.who; call = call_of bytes row.call; reply = row.reply }
+
+abbrev pub entries_of : List ℕ → List EntryRow → List Entry
+entries_of bytes rows = map (entry_of bytes) rows
+
+-- the key and the value have at most the lengths that a map may give them
+abbrev pub FitsRow : Call → Type 0
+FitsRow (calls.Enter shard) = Unit {0}
+FitsRow (calls.Leave shard) = Unit {0}
+FitsRow (calls.Lookup shard key) = length key ≤ 32
+FitsRow (calls.Load cell offset width) = Unit {0}
+FitsRow (calls.Store cell offset width value) = Unit {0}
+FitsRow (calls.Atomic cell offset width op value expected) = Unit {0}
+FitsRow (calls.Update shard key value flags) = (length key ≤ 32) × (length value ≤ 256)
+FitsRow (calls.Delete shard key) = length key ≤ 32
+FitsRow (calls.Reclaim shard) = Unit {0}
+
+-- the row's key and value stand among the first so many bytes
+abbrev pub IsWithin : ℕ → CallRow → Type 0
+IsWithin count (Enter shard) = Unit {0}
+IsWithin count (Leave shard) = Unit {0}
+IsWithin count (Lookup shard key_size at) = (key_size ≤ 32) × (at + key_size ≤ count)
+IsWithin count (Load cell offset width) = Unit {0}
+IsWithin count (Store cell offset width value) = Unit {0}
+IsWithin count (Atomic cell offset width op value expected) = Unit {0}
+IsWithin count (Update shard key_size value_size at flags) = (key_size ≤ 32) × (value_size ≤ 256) × (at + key_size + value_size ≤ count)
+IsWithin count (Delete shard key_size at) = (key_size ≤ 32) × (at + key_size ≤ count)
+IsWithin count (Reclaim shard) = Unit {0}
+
+-- so do those of each row
+abbrev pub AreWithin : ℕ → List EntryRow → Type 0
+AreWithin count rows = AllByRecursion (λ row. IsWithin count row.call) rows

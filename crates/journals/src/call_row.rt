@@ -1,0 +1,202 @@
+//! A call as a list of entries keeps it.
+
+ghost use Rattle.std.specs.Prelude.{◌≡◌, ◌+◌, ◌≤◌, ◌++◌, length, vec_len, vec_capacity};
+ghost use Rattle.journal.specs.Rows.{part};
+ghost use Rattle.journals.specs.EntryRows.{bytes_of, row_of, call_of, FitsRow, IsWithin};
+
+use semantics::{Call, CellRef, Key, Value};
+
+/// A call whose key, and behind it its value, stand among the list's bytes from `at` on.
+#[derive(Clone, Copy, Debug, PartialEq, Eq)]
+pub enum CallRow {
+    Enter {
+        shard: u32,
+    },
+    Leave {
+        shard: u32,
+    },
+    Lookup {
+        shard: u32,
+        key_size: u32,
+        at: u64,
+    },
+    Load {
+        cell: CellRef,
+        offset: u64,
+        width: u64,
+    },
+    Store {
+        cell: CellRef,
+        offset: u64,
+        width: u64,
+        value: u64,
+    },
+    Atomic {
+        cell: CellRef,
+        offset: u64,
+        width: u64,
+        op: u64,
+        value: u64,
+        expected: u64,
+    },
+    Update {
+        shard: u32,
+        key_size: u32,
+        value_size: u32,
+        at: u64,
+        flags: u64,
+    },
+    Delete {
+        shard: u32,
+        key_size: u32,
+        at: u64,
+    },
+    Reclaim {
+        shard: u32,
+    },
+}
+
+impl CallRow {
+    /// The row of a call whose key and value stand from this place on.
+    #[rattlefmt::skip]
+    pub(crate) fn of(call: &Call, at: u64) -> CallRow
+        ensures row { result ≡ row_of at call.now }
+        ensures fits { FitsRow call.now }
+    {
+        match call {
+            Call::Enter { shard } => CallRow::Enter { shard: *shard },
+            Call::Leave { shard } => CallRow::Leave { shard: *shard },
+            Call::Lookup { shard, key } => CallRow::Lookup { shard: *shard, key_size: key_size(key), at },
+            Call::Load { cell, offset, width } => CallRow::Load { cell: *cell, offset: *offset, width: *width },
+            Call::Store { cell, offset, width, value } => CallRow::Store {
+                cell: *cell, offset: *offset, width: *width, value: *value,
+            },
+            Call::Atomic { cell, offset, width, op, value, expected } => CallRow::Atomic {
+                cell: *cell, offset: *offset, width: *width, op: *op, value: *value, expected: *expected,
+            },
+            Call::Update { shard, key, value, flags } => CallRow::Update {
+                shard: *shard, key_size: key_size(key), value_size: value_size(value), at, flags: *flags,
+            },
+            Call::Delete { shard, key } => CallRow::Delete { shard: *shard, key_size: key_size(key), at },
+            Call::Reclaim { shard } => CallRow::Reclaim { shard: *shard },
+        }
+    }
+
+    /// The call, with its key and its value from the list's bytes.
+    #[rattlefmt::skip]
+    pub(crate) fn call(&self, bytes: &[u8]) -> Call
+        requires { IsWithin (length bytes.now) self.now }
+        ensures { result ≡ call_of bytes.now self.now }
+    {
+        match self {
+            CallRow::Enter { shard } => Call::Enter { shard: *shard },
+            CallRow::Leave { shard } => Call::Leave { shard: *shard },
+            CallRow::Lookup { shard, key_size, at } => Call::Lookup { shard: *shard, key: key_at(bytes, *at, *key_size) },
+            CallRow::Load { cell, offset, width } => Call::Load { cell: *cell, offset: *offset, width: *width },
+            CallRow::Store { cell, offset, width, value } => Call::Store {
+                cell: *cell, offset: *offset, width: *width, value: *value,
+            },
+            CallRow::Atomic { cell, offset, width, op, value, expected } => Call::Atomic {
+                cell: *cell, offset: *offset, width: *width, op: *op, value: *value, expected: *expected,
+            },
+            CallRow::Update { shard, key_size, value_size, at, flags } => Call::Update {
+                shard: *shard, key: key_at(bytes, *at, *key_size), value: value_at(bytes, *at + u64::from(*key_size), *value_size), flags: *flags,
+            },
+            CallRow::Delete { shard, key_size, at } => Call::Delete { shard: *shard, key: key_at(bytes, *at, *key_size) },
+            CallRow::Reclaim { shard } => Call::Reclaim { shard: *shard },
+        }
+    }
+}
+
+/// How many bytes the key and the value of a call have.
+pub(crate) fn byte_count(call: &Call) -> usize
+    ensures { result ≡ length (bytes_of call.now) }
+{
+    match call {
+        Call::Lookup { key, .. } => key.as_slice().len(),
+        Call::Update { key, value, .. } => key.as_slice().len() + value.as_slice().len(),
+        Call::Delete { key, .. } => key.as_slice().len(),
+        Call::Enter { .. } => 0,
+        Call::Leave { .. } => 0,
+        Call::Load { .. } => 0,
+        Call::Store { .. } => 0,
+        Call::Atomic { .. } => 0,
+        Call::Reclaim { .. } => 0,
+    }
+}
+
+/// Puts the key and the value of a call behind the bytes, for which there is room.
+pub(crate) fn put_bytes_of(bytes: &mut Vec<u8>, call: &Call)
+    requires { vec_len bytes.old + length (bytes_of call.now) ≤ vec_capacity bytes.old }
+    ensures { bytes.new.items ≡ bytes.old.items ++ bytes_of call.now }
+{
+    match call {
+        Call::Lookup { key, .. } => put_bytes(bytes, key.as_slice()),
+        Call::Update { key, value, .. } => {
+            put_bytes(bytes, key.as_slice());
+            put_bytes(bytes, value.as_slice());
+        }
+        Call::Delete { key, .. } => put_bytes(bytes, key.as_slice()),
+        Call::Enter { .. } => {}
+        Call::Leave { .. } => {}
+        Call::Load { .. } => {}
+        Call::Store { .. } => {}
+        Call::Atomic { .. } => {}
+        Call::Reclaim { .. } => {}
+    }
+}
+
+/// Puts bytes behind the others, for which there is room.
+fn put_bytes(bytes: &mut Vec<u8>, more: &[u8])
+    requires { vec_len bytes.old + length more.now ≤ vec_capacity bytes.old }
+    ensures items { bytes.new.items ≡ bytes.old.items ++ more.now }
+    ensures room { vec_capacity bytes.old ≤ vec_capacity bytes.new }
+{
+    if bytes.extend_from_slice(more).is_err() {
+        unreachable!()
+    }
+}
+
+fn key_size(key: &Key) -> u32
+    ensures size { result ≡ length key.now }
+    ensures at_most { length key.now ≤ 32 }
+{
+    key.as_slice().len() as u32
+}
+
+fn value_size(value: &Value) -> u32
+    ensures size { result ≡ length value.now }
+    ensures at_most { length value.now ≤ 256 }
+{
+    value.as_slice().len() as u32
+}
+
+/// So many bytes from a place on.
+fn part(bytes: &[u8], at: u64, size: u32) -> &[u8]
+    requires { at + size ≤ length bytes.now }
+    ensures bytes { result.now ≡ part at size bytes.now }
+    ensures size { length result.now ≡ size }
+{
+    let at = at as usize;
+    &bytes[at..at + size as usize]
+}
+
+fn key_at(bytes: &[u8], at: u64, size: u32) -> Key
+    requires within { at + size ≤ length bytes.now }
+    requires size { size ≤ 32 }
+    ensures { result ≡ part at size bytes.now }
+{
+    let mut key = Key::empty();
+    key.append(part(bytes, at, size));
+    key
+}
+
+fn value_at(bytes: &[u8], at: u64, size: u32) -> Value
+    requires within { at + size ≤ length bytes.now }
+    requires size { size ≤ 256 }
+    ensures { result ≡ part at size bytes.now }
+{
+    let mut value = Value::empty();
+    value.append(part(bytes, at, size));
+    value
+}
