@@ -234,10 +234,9 @@ first_told maps options rest line after entry is entry_is only =
     }
 
 -- the same, as the code does it
-pub divide_to : (entries : List Entry) (done done' : List (List Entry)) (present listed taken present' : List Entry) → AreDivided entries done present → done' ≡ done ++ listed ∷ [] → listed ≡ taken
-    → taken ≡ present → present' ≡ [] → AreDivided entries done' present'
-divide_to entries done done' present listed taken present' so_far pushed is_listed is_taken is_fresh =
-    rw (pushed, is_listed, is_taken, is_fresh) (divide entries done present so_far)
+pub divide_to : (entries : List Entry) (done done' : List (List Entry)) (present present' : List Entry) → AreDivided entries done present → done' ≡ done ++ present ∷ [] → present' ≡ []
+    → AreDivided entries done' present'
+divide_to entries done done' present present' so_far pushed is_fresh = rw (pushed, is_fresh) (divide entries done present so_far)
 
 -- the entry of a line that comes before the rest
 pub tells_none : (maps : List MapDef) (options : Options) (line : List ℕ) (found : Option Entry) → found ≡ None → TellsEntry maps options line found → (entry : Entry) → IsEntryLine maps options entry line → ⊥

@@ -1,6 +1,6 @@
 //! Journals read from their text.
 
-ghost use Rattle.std.specs.Prelude.{◌≡◌, ◌≢◌, ◌↔◌, ◌≤◌, ◌+◌, ◌*◌, ◌<◌, ◌==◌, ◌++◌, true, [], List, ℕ, count_by, length, take, IfOk, IfErr, OnOk};
+ghost use Rattle.std.specs.Prelude.{◌≡◌, ◌≢◌, ◌↔◌, ◌≤◌, ◌+◌, ◌*◌, ◌<◌, ◌==◌, ◌++◌, ◌∷◌, true, [], List, ℕ, count_by, length, take, IfOk, IfErr, OnOk};
 ghost use Rattle.std.specs.Option.{MatchOption};
 ghost use Rattle.std.specs.Str.{IsUtf8};
 ghost use Rattle.semantics.specs.ShardPlan.{AreOptions};
@@ -74,6 +74,20 @@ fn entry_of(
     }
 }
 
+/// Puts the present list behind those of the shards that are done, and begins an empty one.
+fn finish(
+    alloc: Global,
+    done: &mut Vec<ShardJournal>,
+    present: &mut EntryList,
+) -> Result<(), AllocError>
+    ensures done { OnOk result (done.new.items ≡ done.old.items ++ present.old ∷ []) }
+    ensures present { OnOk result (present.new ≡ []) }
+{
+    let entries = mem::replace(present, EntryList::new(alloc));
+    done.push(ShardJournal::listed(entries))?;
+    Ok(())
+}
+
 /// Puts the present list behind those of the shards that are done, and empty ones behind it, until the next shard is the one of this number.
 fn finish_before(
     alloc: Global,
@@ -86,8 +100,7 @@ fn finish_before(
     ensures divided { OnOk result ((entries : List Told) → AreDivided entries done.old.items present.old → AreDivided entries done.new.items present.new) }
 {
     'numbers: while done.len() < number {
-        let entries = mem::replace(present, EntryList::new(alloc));
-        done.push(ShardJournal::listed(entries))?;
+        finish(alloc, done, present)?;
     }
     Ok(())
 }

@@ -1,11 +1,14 @@
 use Rattle.std.proofs.Common.{◌≡◌, ◌∙◌, ◌+◌, ◌≤◌, ◌∷◌, [], List, length, ap, arith, rules}
+use Rattle.std.proofs.lemmas.List.{length_push}
 use Rattle.journal_files.proofs.Lines.{divide_to}
 use Rattle.journal_files.proofs.parsing.finish_before.Goals as goal
 
 pub numbers-preserved : goal.numbers-preserved
-numbers-preserved c = record {
-  within = search rules;
-  divided = λ entries before.
-      divide_to entries _ _ c.numbers.present c.listed.result c.replace-entries.result c.replace-entries.new.dest (c.numbers.invariant.divided entries before) c.in_ok-push.ensures.items
-      c.listed.ensures c.replace-entries.ensures.value (c.replace-entries.ensures.after ∙ c.new.ensures);
-}
+numbers-preserved c =
+    let longer : length c.finish.new.done.items ≡ length c.numbers.done.items + 1 =
+    ap length c.in_ok-finish.ensures.done ∙ length_push c.numbers.done.items c.numbers.present in
+    record {
+      within = search (rules, longer);
+      divided = λ entries before.
+          divide_to entries _ _ c.numbers.present c.finish.new.present (c.numbers.invariant.divided entries before) c.in_ok-finish.ensures.done c.in_ok-finish.ensures.present;
+    }
