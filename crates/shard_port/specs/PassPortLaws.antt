@@ -25,7 +25,8 @@ use Rattle.shared_shards.specs.Passes.{own_at}
 use Rattle.shard_port.specs.Asking.{enter_entry, asked_entry}
 use Rattle.shard_port.specs.PortView.{IsRunCall, cell_of_handle}
 use Rattle.shard_port.specs.PortLaws.{same_worker, both_true, held_after_call, inside_after_call}
-use Rattle.shard_port.specs.PassPorts.{PassPort, worker_of, inside_own, holds_own, has_found, IsGivenBy}
+use Rattle.shard_port.specs.PassPorts.{PassPort, worker_of, inside_own, has_found, IsGivenBy}
+use Rattle.shared_shards.specs.HeldCells.{holds_own}
 
 -- ---- one shard
 

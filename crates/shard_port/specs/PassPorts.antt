@@ -8,13 +8,14 @@ use Rattle.semantics.specs.declared.call.Call.TheVariants.{Enter}
 use Rattle.semantics.specs.declared.call.Reply.{Reply}
 use Rattle.semantics.specs.declared.call.Entry.{Entry}
 use Rattle.semantics.specs.declared.plan.ShardPlan.{ShardPlan}
-use Rattle.semantics.specs.Reclamation.{is_inside, holds}
+use Rattle.semantics.specs.Reclamation.{is_inside}
 use Rattle.semantics.specs.History.{shard_of_call, Meets, IsLegalHistory, IsJournalFull}
 use Rattle.semantics.specs.RunTrace.{IsReplyTo}
 use Rattle.map_port.specs.Served.{Maps, program_over}
 use Rattle.shared_shards.specs.CallerView.{CallerView, BeginsWith, IsServed, IsRefused}
 use Rattle.shared_shards.specs.Passes.{PassView, view_at, own_at, IsElsewhereSame, is_inside_of}
 use Rattle.shared_shards.specs.SharedMaps.{SharedMaps}
+use Rattle.shared_shards.specs.HeldCells.{holds_own}
 use Rattle.shard_port.specs.Asking.{enter_entry, leave_entry, asked_entry}
 use Rattle.shard_port.specs.PortView.{IsRunCall}
 
@@ -86,11 +87,6 @@ served_of shards = record { maps = shards.maps; shards = shards.options.shards }
 -- a port over these shards by this pass
 abbrev pub port_of : SharedMaps → PassView → PassPort
 port_of shards pass = record { served = served_of shards; pass = pass }
-
--- the caller found the cell by a Lookup since it entered
-abbrev pub holds_own : Caller → List Entry → ℕ → Bool
-holds_own (Worker number) own cell = is_inside number own && holds number cell own
-holds_own who own cell = false
 
 -- the shard is one of the map's, and the worker holds the cell there
 abbrev pub has_found : PassPort → ℕ → ℕ → ℕ → Bool

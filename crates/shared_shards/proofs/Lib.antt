@@ -6,6 +6,7 @@ pub mod Conditions
 pub mod Dealing
 pub mod Each
 pub mod Flags
+pub mod HeldLemmas
 pub mod ImageMaps
 pub mod Moves
 pub mod Openings

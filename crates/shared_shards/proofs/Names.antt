@@ -38,22 +38,40 @@ named_each count table plan maps options shards opening named = each_start (IsNa
           ∙ number_of options number (new_at shards number).plan (slice_get maps (number / options.shards)) (opening.plans number (within shards number new there));
     })
 
+-- and the reserve of the options
+reserve_of : (options : Options) (number : ℕ) (plan : ShardPlan) (found : Option MapDef) → plan_for_map options number found ≡ Some plan → plan.reserve ≡ options.journal
+reserve_of options number plan None is = absurd (none_is_some is) where
+  none_is_some : None ≡ Some plan → ⊥
+  none_is_some e = subst (λ (o : Option ShardPlan). is_none o) e tt where
+    is_none : Option ShardPlan → Type 0
+    is_none None = Unit {0}
+    is_none (Some p) = ⊥
+reserve_of options number plan (Some definition) is = sym (ap (λ (o : Option ShardPlan). reserve_in o) is) where
+  reserve_in : Option ShardPlan → ℕ
+  reserve_in (Some p) = p.reserve
+  reserve_in None = 0
+
 -- among so many that are not dealt, only the places past the end count as dealt
 below_places : (places place : ℕ) → is_dealt_at (replicate places false) place ≡ false → place < places
 below_places zero place waits = absurd (true≢false waits)
 below_places (suc places) zero waits = omega arith
 below_places (suc places) (suc place) waits = (let rest = below_places places place waits in omega (arith, rest))
 
-pub all_wait : (table : ℕ → TableId) (count : ℕ) (maps : List MapDef) (options : Options) (shards : List NewShardView) (rows : List (List (Badge Known))) (dealt : List Bool) →
-    IsOpening maps options shards → count ≡ length shards → length rows ≡ length shards → Each (IsRowOf table shards) 0 rows →
-    dealt ≡ replicate (options.workers + 2) false → IsDealer table count dealt rows
-all_wait table count maps options shards rows dealt opening count_is rows_are_as_many rows_are dealt_is = record {
-  sized = rows_are_as_many ∙ sym count_is;
+pub all_wait : (table : ℕ → TableId) (plan : ℕ → ShardPlan) (count room : ℕ) (maps : List MapDef) (options : Options) (shards : List NewShardView) (rows : List (List (Badge Known))) (dealt : List Bool) →
+    IsOpening maps options shards → IsNamed count table plan (record { maps = maps; options = options; shards = shards }) → options.journal ≤ room → length rows ≡ length shards → Each (IsRowOf table shards) 0 rows →
+    dealt ≡ replicate (options.workers + 2) false → IsDealer table plan count room dealt rows
+all_wait table plan count room maps options shards rows dealt opening named journal rows_are_as_many rows_are dealt_is = record {
+  sized = rows_are_as_many ∙ sym named.count_is;
   waiting = λ number below place waits.
-      let there : number < length rows = (let a = rows_are_as_many in omega (arith, a, count_is)) in
+      let there : number < length rows = (let a = rows_are_as_many in let count_is = named.count_is in omega (arith, a, count_is)) in
       let row = each_at (IsRowOf table shards) rows number (row_at rows number) rows_are there (or_within rows [] (row_at rows number) number there) in
       let few = below_places (options.workers + 2) place (ap (λ (d : List Bool). is_dealt_at d place) (sym dealt_is) ∙ waits) in
       let long : place < length (row_at rows number) =
       (let a = row.count in let b = opening.places number (let a = rows_are_as_many in omega (arith, a, there)) in omega (arith, a, b, few)) in
       (long, row.fresh place long);
+  enough = λ number below.
+      let there : number < length shards = (let count_is = named.count_is in omega (arith, count_is, below)) in
+      let same = reserve_of options number (new_at shards number).plan (slice_get maps (number / options.shards)) (opening.plans number there) in
+      let is = ap (λ (p : ShardPlan). p.reserve) (named.plan_is number) in
+      omega (arith, same, is, journal);
 }

@@ -3,8 +3,10 @@ pub mod Each
 pub mod CallerView
 pub mod LengthRule
 pub mod Seats
+pub mod HeldCells
 pub mod Passes
 pub mod Asked
 pub mod SharedMaps
 pub mod NewShards
+pub mod TwoWorkers
 pub mod FaultNumber

@@ -1,5 +1,5 @@
 -- Shards that were opened and have no callers yet, and the seats that wait for callers.
-use Rattle.std.specs.Prelude.{◌≡◌, ◌<◌, ℕ, ◌+◌, ◌*◌, Bool, false, true, List, [], ◌∷◌, length, reverse, Some, slice_index_or, slice_set}
+use Rattle.std.specs.Prelude.{◌≡◌, ◌<◌, ◌≤◌, ℕ, ◌+◌, ◌*◌, Bool, false, true, List, [], ◌∷◌, length, reverse, Some, slice_index_or, slice_set}
 use Rattle.atomic_table.specs.Seated.{TableId}
 use Rattle.atomic_table.specs.declared.badge.Badge.{Badge}
 use Rattle.atomic_table.specs.declared.shared.Seat.{Seat}
@@ -93,9 +93,11 @@ is_dealt_at dealt place = slice_index_or dealt place true
 abbrev pub IsRow : (ℕ → TableId) → List Bool → ℕ → List (Badge Known) → Type 0
 IsRow table dealt number row = (place : ℕ) → is_dealt_at dealt place ≡ false → (place < length row) × IsNewBadge (table number) (caller_at place) (badge_at row place)
 
-pub record IsDealer (table : ℕ → TableId) (count : ℕ) (dealt : List Bool) (rows : List (List (Badge Known))) : Type 0 where
+pub record IsDealer (table : ℕ → TableId) (plan : ℕ → ShardPlan) (count room : ℕ) (dealt : List Bool) (rows : List (List (Badge Known))) : Type 0 where
   pub sized : length rows ≡ count
   pub waiting : (number : ℕ) → number < count → IsRow table dealt number (row_at rows number)
+  -- a worker holds no more cells than a journal has entries
+  pub enough : (number : ℕ) → number < count → (plan number).reserve ≤ room
 
 -- ---- how they are made
 

@@ -16,6 +16,7 @@ use Rattle.shared_shards.specs.declared.rule.Known.{Known}
 use Rattle.shared_shards.specs.CallerView.{CallerView, nothing_seen, IsSettled}
 use Rattle.shared_shards.specs.LengthRule.{nobody, no_table}
 use Rattle.shared_shards.specs.Seats.{view_of}
+use Rattle.shared_shards.specs.HeldCells.{HeldIds, held_at, AreHeldOf}
 
 pub record PassView : Type 0 where
   pub who : Caller
@@ -105,9 +106,12 @@ AreBadges table plan who badges = (number : ℕ) → number < length badges → 
 abbrev pub pass_view : Caller → List (Badge Known) → PassView
 pass_view who badges = record { who = who; views = map view_of_badge badges }
 
--- one seat for each shard, and a flag
-pub record IsPass (table : ℕ → TableId) (plan : ℕ → ShardPlan) (count : ℕ) (who : Caller) (badges : List (Badge Known)) (flags : List Bool) : Type 0 where
+-- one seat for each shard, a flag, and a list of the cells that the caller holds
+pub record IsPass (table : ℕ → TableId) (plan : ℕ → ShardPlan) (count : ℕ) (who : Caller) (badges : List (Badge Known)) (flags : List Bool)
+    (held : List HeldIds) : Type 0 where
   pub sized : length badges ≡ count
   pub each : AreBadges table plan who badges
   pub flagged : length flags ≡ count
   pub flags_are : (number : ℕ) → number < count → IsFlagOf who (own_at (pass_view who badges) number) (flag_at flags number)
+  pub listed : length held ≡ count
+  pub held_are : (number : ℕ) → number < count → AreHeldOf who (plan number) (own_at (pass_view who badges) number) (held_at held number)

@@ -6,7 +6,9 @@ ghost use Rattle.semantics.specs.declared.call.Reply.{Reply};
 ghost use Rattle.semantics.specs.Sections.{section_change};
 ghost use Rattle.semantics.specs.History.{IsLegalJournal};
 ghost use Rattle.shard_core.specs.Calls.{MayCall, IsFullFor, after_call};
+ghost use Rattle.shared_shards.specs.HeldCells.{held_change, found_change};
 
+use crate::held::HeldChange;
 use journal::{AtomicChange, CellRange};
 use semantics::{Call, Caller, JournalFull, Reply, SectionChange};
 use shard_core::Shard;
@@ -25,6 +27,10 @@ pub trait Ask: Copy {
     /// What the call does to its worker's section of the shard.
     fn section(&self) -> SectionChange
         ensures { (number : ℕ) → result ≡ section_change (asks self.now number) };
+
+    /// What the call, with this answer, makes of the cells that its worker holds.
+    fn held(&self, answer: &Self::Answer) -> HeldChange
+        ensures { (number : ℕ) → result ≡ held_change (asks self.now number) (replies number answer.now) };
 
     /// Makes the call for a caller that may make it. Refused where the journal is full; then nothing is changed.
     fn make(self, shard: &mut Shard, who: Caller) -> Result<Self::Answer, JournalFull>
@@ -54,6 +60,10 @@ impl Ask for Enters {
         SectionChange::Begins
     }
 
+    fn held(&self, _answer: &()) -> HeldChange {
+        HeldChange::LetsGo
+    }
+
     fn make(self, shard: &mut Shard, who: Caller) -> Result<(), JournalFull> {
         shard.enter(who)
     }
@@ -75,6 +85,10 @@ impl Ask for Leaves {
 
     fn section(&self) -> SectionChange {
         SectionChange::Ends
+    }
+
+    fn held(&self, _answer: &()) -> HeldChange {
+        HeldChange::LetsGo
     }
 
     fn make(self, shard: &mut Shard, who: Caller) -> Result<(), JournalFull> {
@@ -103,6 +117,13 @@ impl<'a> Ask for Looks<'a> {
         SectionChange::Stays
     }
 
+    fn held(&self, answer: &Option<u64>) -> HeldChange {
+        match *answer {
+            Some(id) => HeldChange::Finds { id },
+            None => HeldChange::Stays,
+        }
+    }
+
     fn make(self, shard: &mut Shard, who: Caller) -> Result<Option<u64>, JournalFull> {
         shard.lookup(who, self.key)
     }
@@ -127,6 +148,10 @@ impl<'a> Ask for Loads<'a> {
 
     fn section(&self) -> SectionChange {
         SectionChange::Stays
+    }
+
+    fn held(&self, _answer: &u64) -> HeldChange {
+        HeldChange::Stays
     }
 
     fn make(self, shard: &mut Shard, who: Caller) -> Result<u64, JournalFull> {
@@ -156,6 +181,10 @@ impl<'a> Ask for Stores<'a> {
         SectionChange::Stays
     }
 
+    fn held(&self, _answer: &()) -> HeldChange {
+        HeldChange::Stays
+    }
+
     fn make(self, shard: &mut Shard, who: Caller) -> Result<(), JournalFull> {
         shard.store(who, self.range, self.value)
     }
@@ -181,6 +210,10 @@ impl<'a> Ask for Changes<'a> {
 
     fn section(&self) -> SectionChange {
         SectionChange::Stays
+    }
+
+    fn held(&self, _answer: &u64) -> HeldChange {
+        HeldChange::Stays
     }
 
     fn make(self, shard: &mut Shard, who: Caller) -> Result<u64, JournalFull> {
@@ -210,6 +243,10 @@ impl<'a> Ask for Updates<'a> {
         SectionChange::Stays
     }
 
+    fn held(&self, _answer: &i32) -> HeldChange {
+        HeldChange::Stays
+    }
+
     fn make(self, shard: &mut Shard, who: Caller) -> Result<i32, JournalFull> {
         shard.update(who, self.key, self.value, self.flags)
     }
@@ -235,6 +272,10 @@ impl<'a> Ask for Deletes<'a> {
         SectionChange::Stays
     }
 
+    fn held(&self, _answer: &i32) -> HeldChange {
+        HeldChange::Stays
+    }
+
     fn make(self, shard: &mut Shard, who: Caller) -> Result<i32, JournalFull> {
         shard.delete(who, self.key)
     }
@@ -256,6 +297,10 @@ impl Ask for Reclaims {
 
     fn section(&self) -> SectionChange {
         SectionChange::Stays
+    }
+
+    fn held(&self, _answer: &u64) -> HeldChange {
+        HeldChange::Stays
     }
 
     fn make(self, shard: &mut Shard, who: Caller) -> Result<u64, JournalFull> {
@@ -280,7 +325,44 @@ impl<'a> Ask for Calls<'a> {
         self.call.section_change()
     }
 
+    fn held(&self, answer: &Reply) -> HeldChange {
+        held_by(self.call, answer)
+    }
+
     fn make(self, shard: &mut Shard, who: Caller) -> Result<Reply, JournalFull> {
         shard.apply(who, self.call)
+    }
+}
+
+/// What a call with this reply makes of the cells that its worker holds.
+fn held_by(call: &Call, reply: &Reply) -> HeldChange
+    ensures { result ≡ held_change call.now reply.now }
+{
+    match call {
+        Call::Enter { .. } => HeldChange::LetsGo,
+        Call::Leave { .. } => HeldChange::LetsGo,
+        Call::Lookup { .. } => found_by(reply),
+        Call::Load { .. } => HeldChange::Stays,
+        Call::Store { .. } => HeldChange::Stays,
+        Call::Atomic { .. } => HeldChange::Stays,
+        Call::Update { .. } => HeldChange::Stays,
+        Call::Delete { .. } => HeldChange::Stays,
+        Call::Reclaim { .. } => HeldChange::Stays,
+    }
+}
+
+/// What a Lookup with this reply makes of the cells that its worker holds.
+fn found_by(reply: &Reply) -> HeldChange
+    ensures { result ≡ found_change reply.now }
+{
+    match reply {
+        Reply::Cell { cell } => HeldChange::Finds { id: cell.id },
+        Reply::Entered => HeldChange::Stays,
+        Reply::Left => HeldChange::Stays,
+        Reply::Null => HeldChange::Stays,
+        Reply::Word { .. } => HeldChange::Stays,
+        Reply::Done => HeldChange::Stays,
+        Reply::Answer { .. } => HeldChange::Stays,
+        Reply::Freed { .. } => HeldChange::Stays,
     }
 }

@@ -8,6 +8,7 @@ ghost use Rattle.shared_shards.specs.Passes.{badge_at, view_at};
 ghost use Rattle.shared_shards.specs.declared.fault.PassFault.TheVariants.{BadOptions, PassTaken};
 
 use crate::fault::PassFault;
+use crate::held::{none_held, room_of};
 use crate::naming::Naming;
 use crate::pass::Pass;
 use crate::rule::Known;
@@ -24,6 +25,8 @@ pub struct Dealer<B: Naming> {
     /// The seats of each shard.
     pub(crate) rows: Vec<Waiting>,
     pub(crate) dealt: Vec<bool>,
+    /// How many cells a worker can hold in a shard: no more than a journal has entries.
+    pub(crate) room: usize,
     pub(crate) names: PhantomData<B>,
 }
 
@@ -35,11 +38,11 @@ impl<B: Naming> Model for Dealer<B> {
 
     ghost view = { λ dealer. dealer.dealt.items };
 
-    ghost invariant = { λ dealer. IsDealer B.table B.count dealer.dealt.items dealer.rows.items };
+    ghost invariant = { λ dealer. IsDealer B.table B.plan B.count dealer.room dealer.dealt.items dealer.rows.items };
 }
 
 impl<B: Naming> Dealer<B> {
-    /// The caller's pass, which has seen nothing. Refused with 51 where there is no such worker, with 54 where the pass was dealt before, and
+    /// The caller's pass, which has seen nothing. Takes the memory for the cells that a worker can hold. Refused with 51 where there is no such worker, with 54 where the pass was dealt before, and
     /// with 52 for lack of memory; then nothing is changed.
     pub fn pass(&mut self, alloc: Global, who: Caller) -> Result<Pass<B>, PassFault>
         ensures who { IfOk result (λ pass. pass.who ≡ who) }
@@ -57,6 +60,7 @@ impl<B: Naming> Dealer<B> {
             return Err(PassFault::PassTaken);
         }
         let inside = vec![in alloc; false; self.rows.len()]?;
+        let held = none_held(alloc, self.rows.len(), room_of(who, self.room))?;
         let seats = Vec::with_capacity(alloc, self.rows.len())?;
         self.dealt[place] = true;
         let seats = column(&mut self.rows, place, seats);
@@ -64,6 +68,7 @@ impl<B: Naming> Dealer<B> {
             who,
             seats,
             inside,
+            held,
             names: PhantomData,
         })
     }

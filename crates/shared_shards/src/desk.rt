@@ -1,12 +1,14 @@
 //! A shard as it stands under its lock.
 
 ghost use Rattle.std.specs.Prelude.{◌≡◌, ◌<◌, ◌∷◌, IfOk, IfErr, OnErr, reverse};
+ghost use Rattle.semantics.specs.CallerLaws.{own_entries};
 ghost use Rattle.semantics.specs.History.{Meets, meets, IsLegalHistory, IsLegalJournal};
 ghost use Rattle.shared_shards.specs.CallerView.{IsServed, IsRefused, HasLooked, IsSettled};
 ghost use Rattle.shared_shards.specs.Seats.{IsKeeper, IsSeatOf, view_of};
 
 use crate::asks::Ask;
 use crate::naming::Naming;
+use crate::new_shard::LINE;
 use crate::rule::{Length, LengthSeat};
 use crate::seats::{join, note, part};
 use journals::ShardJournal;
@@ -21,6 +23,8 @@ pub struct Desk<B: Naming> {
     shard: Shard,
     keeper: LengthSeat,
     names: PhantomData<B>,
+    /// Keeps the lock of the next shard off the cache lines of this one.
+    line: [u64; 16],
 }
 
 impl<B: Naming> Model for Desk<B> {
@@ -45,6 +49,7 @@ impl<B: Naming> Desk<B> {
             shard,
             keeper,
             names: PhantomData,
+            line: LINE,
         }
     }
 
@@ -82,6 +87,7 @@ impl<B: Naming> Desk<B> {
         ensures refused { OnErr result.1 (IsRefused (B.plan self.old.plan.number) (view_of seat.me.0) (view_of result.0.me.0) (C.asks ask self.old.plan.number)) }
         ensures names_the_shard { IfErr result.1 (λ fault. fault.shard ≡ self.old.plan.number) }
         ensures legal { IsLegalHistory (B.plan self.old.plan.number) result.0.me.0.seen }
+        ensures own { result.0.me.0.own ≡ own_entries who result.0.me.0.seen }
         ensures seen { result.0.me.0.seen ≡ reverse self.new.journal }
         ensures next { IfOk result.1 (λ answer. result.0.me.0.seen ≡ (record { who = who; call = C.asks ask self.old.plan.number; reply = C.replies self.old.plan.number answer }) ∷ reverse self.old.journal) }
         ensures unchanged { OnErr result.1 (self.new ≡ self.old) }

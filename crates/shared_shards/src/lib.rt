@@ -7,6 +7,7 @@ mod closing;
 mod dealer;
 mod desk;
 mod fault;
+mod held;
 mod naming;
 mod new_shard;
 mod opening;
@@ -24,6 +25,7 @@ pub use asks::{
 };
 pub use dealer::Dealer;
 pub use fault::PassFault;
+pub use held::HeldChange;
 pub use naming::Naming;
 pub use opening::Opened;
 pub use pass::Pass;

@@ -11,8 +11,8 @@ use shard_core::Shard;
 use std::alloc::{AllocError, Global};
 use std::marker::Model;
 
-/// How many words a length word takes, so that those of two shards don't stand on one cache line.
-const LINE: [u64; 16] = [0; 16];
+/// Two cache lines: what stands so far from another word is on none of its lines.
+pub(crate) const LINE: [u64; 16] = [0; 16];
 
 /// A shard in which nothing has happened. Contracts see its plan, the name of its word, and how many seats wait.
 #[derive(Drop)]

@@ -88,6 +88,7 @@ impl Opened {
         let dealer = Dealer {
             rows,
             dealt,
+            room: options.journal as usize,
             names: PhantomData,
         };
         Ok((shards, dealer))

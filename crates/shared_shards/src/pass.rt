@@ -4,16 +4,18 @@ ghost use Rattle.std.specs.Prelude.{◌≡◌, ◌≢◌, ◌<◌, ◌∷◌, �
 ghost use Rattle.semantics.specs.History.{meets, shard_of_call};
 ghost use Rattle.shared_shards.specs.CallerView.{HasLooked, IsSettled};
 ghost use Rattle.shared_shards.specs.Passes.{badge_at, view_at, own_at, seen_at, IsElsewhereSame, is_inside_of, flag_at, flag_after};
+ghost use Rattle.shared_shards.specs.HeldCells.{HasRoomFor, held_at, held_change, held_when, holds_own};
 ghost use Rattle.shared_shards.specs.Asked.{MayAsk, MayAskInside, IsAnswered, IsTurnedAway, EnteredAndAnswered, IsStopped};
 ghost use Rattle.semantics.specs.declared.call.Call.TheVariants.{Enter};
 
 use crate::asks::{Ask, Enters};
 use crate::desk::Desk;
+use crate::held::HeldCells;
 use crate::naming::Naming;
 use crate::rule::{Known, Length};
 use crate::stopped::Stopped;
 use atomic_table::Badge;
-use semantics::{Call, Caller, JournalFull, SectionChange};
+use semantics::{Call, Caller, CellRef, JournalFull, SectionChange};
 use std::marker::{Model, PhantomData};
 use std::mem;
 
@@ -26,6 +28,8 @@ pub struct Pass<B: Naming> {
     pub(crate) seats: Vec<Badge<Known>>,
     /// Of a worker, whether it is inside.
     pub(crate) inside: Vec<bool>,
+    /// Of a worker, the cells that it holds.
+    pub(crate) held: Vec<HeldCells>,
     pub(crate) names: PhantomData<B>,
 }
 
@@ -36,7 +40,7 @@ impl<B: Naming> Model for Pass<B> {
 
     ghost view = { λ pass. pass_view pass.who pass.seats.items };
 
-    ghost invariant = { λ pass. IsPass B.table B.plan B.count pass.who pass.seats.items pass.inside.items };
+    ghost invariant = { λ pass. IsPass B.table B.plan B.count pass.who pass.seats.items pass.inside.items pass.held.items };
 }
 
 impl<B: Naming> Pass<B> {
@@ -48,6 +52,20 @@ impl<B: Naming> Pass<B> {
     {
         match self.who {
             Caller::Worker { .. } => self.inside[shard as usize],
+            Caller::Controller => false,
+            Caller::Reclaimer => false,
+        }
+    }
+
+    /// Whether the caller holds the cell: it is a worker inside the cell's shard, and found the cell there by a Lookup of its own since its
+    /// Enter. Asks nobody, takes no memory and cannot fail; it reads the list of what the worker found since then.
+    pub fn holds(&self, cell: &CellRef) -> bool
+        requires { cell.now.shard < B.count }
+        ensures { result ≡ holds_own self.now.who (own_at self.now cell.now.shard) cell.now.id }
+    {
+        let shard = cell.shard as usize;
+        match self.who {
+            Caller::Worker { .. } => self.inside[shard] && self.held[shard].has(cell.id),
             Caller::Controller => false,
             Caller::Reclaimer => false,
         }
@@ -78,6 +96,7 @@ impl<B: Naming> Pass<B> {
         let (seat, answer) = desk.ask(word, badge.into_seat(), self.who, ask);
         self.seats[place] = seat.into_badge();
         change(&mut self.inside, place, ask.section(), &answer);
+        keep(&mut self.held, number, &ask, &answer);
         answer
     }
 
@@ -167,5 +186,23 @@ fn change<A>(
             SectionChange::Ends => flags[place] = false,
             SectionChange::Stays => {}
         }
+    }
+}
+
+/// Notes what a call that was served makes of the cells that its worker holds.
+fn keep<C: Ask>(
+    held: &mut Vec<HeldCells>,
+    number: u32,
+    ask: &C,
+    answer: &Result<C::Answer, JournalFull>,
+)
+    requires number { number < length held.old.items }
+    requires room { IfOk answer.now (λ done. HasRoomFor (held_change (C.asks ask.now number) (C.replies number done)) (held_at held.old.items number)) }
+    ensures count { length held.new.items ≡ length held.old.items }
+    ensures here { held_at held.new.items number ≡ held_when answer.now (λ done. held_change (C.asks ask.now number) (C.replies number done)) (held_at held.old.items number) }
+    ensures others { (other : ℕ) → other ≢ number → held_at held.new.items other ≡ held_at held.old.items other }
+{
+    if let Ok(done) = answer {
+        held[number as usize].note(ask.held(done));
     }
 }

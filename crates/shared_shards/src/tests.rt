@@ -1,5 +1,9 @@
 //! What no clause says: that shards are opened and passes dealt with memory, and that calls by threads return.
 
+mod holding;
+mod rows;
+mod two_workers;
+
 ghost use Rattle.std.specs.Prelude.{IfOk};
 ghost use Rattle.shared_shards.specs.NewShards.{IsNamed};
 

@@ -10,5 +10,6 @@ parted-requires g c =
 
 pub invariant_of-dealer : goal.invariant_of-dealer
 invariant_of-dealer g c =
-    all_wait g.B.Naming.table g.B.Naming.count c.self.inside.maps.items c.self.inside.options c.self.inside.shards.items c.in_ok-desks.rows.items c.in_ok-dealt.dealt.items
-    c.self.invariant (c.requires.named.count_is ∙ ap (λ (o : OpenedShards). length o.shards) (sym c.self.view_is)) c.in_ok-desks.ensures.rows.0 c.in_ok-desks.ensures.rows.1 (search rules)
+    all_wait g.B.Naming.table g.B.Naming.plan g.B.Naming.count c.self.inside.options.journal c.self.inside.maps.items c.self.inside.options c.self.inside.shards.items c.in_ok-desks.rows.items c.in_ok-dealt.dealt.items
+    c.self.invariant (subst (λ (o : OpenedShards). IsNamed g.B.Naming.count g.B.Naming.table g.B.Naming.plan o) (sym c.self.view_is) c.requires.named)
+    (omega arith) c.in_ok-desks.ensures.rows.0 c.in_ok-desks.ensures.rows.1 (search rules)

@@ -10,7 +10,9 @@ use Rattle.shared_shards.specs.CallerView.{CallerView}
 use Rattle.shared_shards.specs.Seats.{view_of}
 use Rattle.shared_shards.specs.Passes.{PassView, view_at, view_of_badge, known_in, badge_at, pass_view, IsElsewhereSame, IsFlagOf, flag_at, flag_after}
 use Rattle.shared_shards.proofs.Badges.{view_is, view_after, same_elsewhere, pass_after}
+use Rattle.shared_shards.specs.HeldCells.{HeldIds, held_at, held_change, held_when, AreHeldOf}
 use Rattle.shared_shards.proofs.Flags.{flag_moves}
+use Rattle.shared_shards.proofs.HeldLemmas.{held_moves_at, room_when_at}
 use Rattle.shared_shards.proofs.Transport.{answered_moves, turned_away_moves, next_moves}
 use Rattle.shared_shards.proofs.pass.Pass.ask.Goals as goal
 
@@ -22,13 +24,13 @@ returns-clause-elsewhere g c =
     c.self.view_is
     (same_elsewhere who c.self.inside.seats.items now c.args.number c.into_badge.result c.taken-badge.ensures.count c.taken-badge.ensures.others)
 
-before_is : (g : _) (c : goal.After-change g) → view_of c.into_seat.result.me.0 ≡ view_at (pass_view c.self.inside.who c.self.inside.seats.items) c.args.number
+before_is : (g : _) (c : goal.After-keep g) → view_of c.into_seat.result.me.0 ≡ view_at (pass_view c.self.inside.who c.self.inside.seats.items) c.args.number
 before_is g c =
     sym (ap (λ (vs : List Known). view_of (known_in vs)) c.into_seat.ensures.2)
     ∙ ap view_of_badge c.taken-badge.ensures.badge
     ∙ sym (view_is c.self.inside.who c.self.inside.seats.items c.args.number)
 
-after_is : (g : _) (c : goal.After-change g) → view_of c.ask-seat.result.0.me.0 ≡ view_at (pass_view c.self.inside.who (slice_set c.taken-badge.new.seats.items c.args.number c.into_badge.result)) c.args.number
+after_is : (g : _) (c : goal.After-keep g) → view_of c.ask-seat.result.0.me.0 ≡ view_at (pass_view c.self.inside.who (slice_set c.taken-badge.new.seats.items c.args.number c.into_badge.result)) c.args.number
 after_is g c =
     let who = c.self.inside.who in
     let now : List (Badge Known) = c.taken-badge.new.seats.items in
@@ -72,7 +74,14 @@ invariant_of-self g c =
     let moved : IsFlagOf who (view_of c.ask-seat.result.0.me.0).own (flag_after c.ask-seat.result.1 (section_change (g.C.Ask.asks c.args.ask c.args.desk.now.plan.number)) flag) =
     flag_moves c.ask-seat.result.1 (g.B.Naming.plan c.args.desk.now.plan.number) who (g.C.Ask.asks c.args.ask c.args.desk.now.plan.number) (g.C.Ask.replies c.args.desk.now.plan.number) (view_of c.into_seat.result.me.0)
     (view_of c.ask-seat.result.0.me.0) flag c.ask-seat.ensures.served c.ask-seat.ensures.refused was in
-    pass_after g.B.Naming.table g.B.Naming.plan g.B.Naming.count who c.self.inside.seats.items c.taken-badge.new.seats.items c.self.inside.inside.items c.change.new.flags.items number c.into_badge.result
+    let list = held_at c.self.inside.held.items number in
+    let held : AreHeldOf who (g.B.Naming.plan number) (view_of c.into_seat.result.me.0).own list =
+    subst (λ (v : CallerView). AreHeldOf who (g.B.Naming.plan number) v.own list) (sym (before_is g c)) (c.self.invariant.held_are number c.requires.number.1) in
+    let kept : AreHeldOf who (g.B.Naming.plan number) (view_of c.ask-seat.result.0.me.0).own (held_when c.ask-seat.result.1 (λ a. held_change (g.C.Ask.asks c.args.ask number) (g.C.Ask.replies number a)) list) =
+    held_moves_at g.B.Naming.plan (g.C.Ask.asks c.args.ask) g.C.Ask.replies c.args.desk.now.plan.number number who (view_of c.into_seat.result.me.0) (view_of c.ask-seat.result.0.me.0) list here
+    c.ask-seat.result.1 c.ask-seat.ensures.served c.ask-seat.ensures.refused held in
+    pass_after g.B.Naming.table g.B.Naming.plan g.B.Naming.count who c.self.inside.seats.items c.taken-badge.new.seats.items c.self.inside.inside.items c.change.new.flags.items
+    c.self.inside.held.items c.keep.new.held.items number c.into_badge.result
     c.self.invariant c.taken-badge.ensures.count c.taken-badge.ensures.others c.requires.number.1
     (record {
       table_is = badge.0 ∙ seat.table_is ∙ ap g.B.Naming.table here;
@@ -85,3 +94,19 @@ invariant_of-self g c =
     c.change.ensures.count c.change.ensures.others
     (subst (λ (b : Bool). IsFlagOf who (view_of_badge c.into_badge.result).own b) (sym (c.change.ensures.here ∙ ap (λ (s : SectionChange). flag_after c.ask-seat.result.1 s flag) (c.section.ensures c.args.desk.now.plan.number)))
     (subst (λ (vs : List Known). IsFlagOf who (view_of (known_in vs)).own (flag_after c.ask-seat.result.1 (section_change (g.C.Ask.asks c.args.ask c.args.desk.now.plan.number)) flag)) (sym badge.2) moved))
+    c.keep.ensures.count c.keep.ensures.others
+    (subst (λ (h : HeldIds). AreHeldOf who (g.B.Naming.plan number) (view_of_badge c.into_badge.result).own h) (sym c.keep.ensures.here)
+    (subst (λ (vs : List Known). AreHeldOf who (g.B.Naming.plan number) (view_of (known_in vs)).own (held_when c.ask-seat.result.1 (λ a. held_change (g.C.Ask.asks c.args.ask number) (g.C.Ask.replies number a)) list)) (sym badge.2) kept))
+
+pub keep-requires-clause-room : goal.keep-requires-clause-room
+keep-requires-clause-room g c =
+    let number = c.args.number in
+    let who = c.self.inside.who in
+    let list = held_at c.self.inside.held.items number in
+    let was : view_of c.into_seat.result.me.0 ≡ view_at (pass_view who c.self.inside.seats.items) number =
+    sym (ap (λ (vs : List Known). view_of (known_in vs)) c.into_seat.ensures.2)
+    ∙ ap view_of_badge c.taken-badge.ensures.badge
+    ∙ sym (view_is who c.self.inside.seats.items number) in
+    room_when_at g.B.Naming.plan (g.C.Ask.asks c.args.ask) g.C.Ask.replies c.args.desk.now.plan.number number who (view_of c.into_seat.result.me.0) (view_of c.ask-seat.result.0.me.0) list c.requires.number.0
+    c.ask-seat.result.1 c.ask-seat.ensures.served c.ask-seat.ensures.own
+    (subst (λ (v : CallerView). AreHeldOf who (g.B.Naming.plan number) v.own list) (sym was) (c.self.invariant.held_are number c.requires.number.1))

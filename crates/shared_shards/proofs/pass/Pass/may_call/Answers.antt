@@ -53,7 +53,7 @@ returns-clause-meets g c =
 pub invariant_of-self : goal.invariant_of-self
 invariant_of-self g c =
     let seat = c.may_call-seat.ensures.seat in
-    pass_still g.B.Naming.table g.B.Naming.plan g.B.Naming.count c.self.inside.who c.self.inside.seats.items c.taken-badge.new.seats.items c.self.inside.inside.items
+    pass_still g.B.Naming.table g.B.Naming.plan g.B.Naming.count c.self.inside.who c.self.inside.seats.items c.taken-badge.new.seats.items c.self.inside.inside.items c.self.inside.held.items
     c.args.desk.now.plan.number c.shard-number.result c.taken-badge.result c.into_badge.result c.into_seat.result.me.0 c.may_call-seat.result.0.me.0
     c.self.invariant c.taken-badge.ensures.count c.taken-badge.ensures.others
     (let number = c.shard-number.ensures in let below = c.requires.number.1 in omega (arith, number, below))

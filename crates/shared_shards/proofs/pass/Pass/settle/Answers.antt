@@ -16,7 +16,7 @@ returns-clause-elsewhere g c =
 pub invariant_of-self : goal.invariant_of-self
 invariant_of-self g c =
     let seat = c.look-seat.ensures.seat in
-    pass_still g.B.Naming.table g.B.Naming.plan g.B.Naming.count c.self.inside.who c.self.inside.seats.items c.taken-badge.new.seats.items c.self.inside.inside.items
+    pass_still g.B.Naming.table g.B.Naming.plan g.B.Naming.count c.self.inside.who c.self.inside.seats.items c.taken-badge.new.seats.items c.self.inside.inside.items c.self.inside.held.items
     c.args.desk.now.plan.number c.args.number c.taken-badge.result c.into_badge.result c.into_seat.result.me.0 c.look-seat.result.me.0
     c.self.invariant c.taken-badge.ensures.count c.taken-badge.ensures.others c.requires.number.1 c.requires.number.0
     c.taken-badge.ensures.badge c.into_seat.ensures.2 c.into_badge.ensures.2 (c.into_badge.ensures.0 ∙ seat.table_is) seat.acts seat.caller c.look-seat.ensures.looked
