@@ -162,9 +162,9 @@ pub(crate) const HASH: [Insn; 44] = [
     Ldx { size: U8, dst: R3, src: R10, offset: -4 },
     Alu { width: Bits64, op: Xor, dst: R0, source: Reg(R3) },
     Alu { width: Bits64, op: Mul, dst: R0, source: Reg(R4) },
-    Alu { width: Bits64, op: Mul, dst: R0, source: Reg(R4) },
-    Alu { width: Bits64, op: Mul, dst: R0, source: Reg(R4) },
-    Alu { width: Bits64, op: Mul, dst: R0, source: Reg(R4) },
+    Alu { width: Bits64, op: Mul, dst: R0, source: Reg(R4) }, // the 14th byte is zero
+    Alu { width: Bits64, op: Mul, dst: R0, source: Reg(R4) }, // the 15th
+    Alu { width: Bits64, op: Mul, dst: R0, source: Reg(R4) }, // the 16th
 ];
 
 /// The owner of the flow's slot, if it is up, else the frame is dropped. It is noted for the flow, unless the service is without tracking.

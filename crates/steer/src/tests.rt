@@ -1,6 +1,16 @@
 //! What no clause says: that the program is made where there is memory, that it is accepted, and that it steers frames.
 
+mod asked;
+mod beside;
+mod calls;
+mod cases;
+mod endings;
+mod frames;
+mod numbers;
 mod runs;
+mod sessions;
+mod worlds;
+mod wrong;
 
 use crate::shipped;
 use conntrack::SteerFault;

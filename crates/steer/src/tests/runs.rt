@@ -21,7 +21,7 @@ const OPTIONS: Options = Options {
     journal: 64,
 };
 
-const MOMENT: Moment = Moment {
+pub(super) const MOMENT: Moment = Moment {
     now_ns: 0,
     worker: 0,
 };
@@ -30,14 +30,14 @@ const MOMENT: Moment = Moment {
 type Record = (u32, &'static [u8], &'static [u8]);
 
 /// The map at a place.
-fn definition_at(maps: &[MapDef], map: u32) -> Option<MapDef>
+pub(super) fn definition_at(maps: &[MapDef], map: u32) -> Option<MapDef>
     ensures { result ≡ slice_get maps.now map }
 {
     maps.get(map as usize).copied()
 }
 
 /// A key of this size.
-fn key_of(bytes: &[u8], size: u32) -> Option<Key>
+pub(super) fn key_of(bytes: &[u8], size: u32) -> Option<Key>
     ensures size { IfSome result (λ key. length key ≡ size) }
     ensures bytes { IfSome result (λ key. All (λ byte. byte < 256) key) }
 {
@@ -49,7 +49,7 @@ fn key_of(bytes: &[u8], size: u32) -> Option<Key>
 }
 
 /// A value of this size.
-fn value_of(bytes: &[u8], size: u32) -> Option<Value>
+pub(super) fn value_of(bytes: &[u8], size: u32) -> Option<Value>
     ensures size { IfSome result (λ value. length value ≡ size) }
     ensures bytes { IfSome result (λ value. All (λ byte. byte < 256) value) }
 {
@@ -102,7 +102,7 @@ fn put_all<P: MapPort>(
 
 // A UDP datagram from 198.51.100.7 to 203.0.113.1, port 80.
 #[rattlefmt::skip]
-const UDP: [u8; 42] = [
+pub(super) const UDP: [u8; 42] = [
     0x02, 0, 0, 0, 0, 0x01, 0x02, 0, 0, 0, 0, 0x02, 0x08, 0x00,
     0x45, 0, 0, 0x1c, 0, 0x01, 0, 0, 0x40, 0x11, 0x14, 0x94, 198, 51, 100, 7, 203, 0, 113, 1,
     0x9c, 0x40, 0, 0x50, 0, 0x08, 0, 0,
@@ -188,7 +188,7 @@ fn put_both<P: MapPort>(
 }
 
 /// The shipped program for seven slots, accepted.
-fn program(alloc: Global) -> Result<Verified, Fail> {
+pub(super) fn program(alloc: Global) -> Result<Verified, Fail> {
     Ok(verify(alloc, shipped(alloc, 7)?)?)
 }
 
