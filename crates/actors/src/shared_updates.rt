@@ -1,15 +1,13 @@
 //! The maps that a controller updates, as shards that other callers share.
 
 ghost use Rattle.std.specs.Prelude.{◌≡◌, ◌<◌, ◌≤◌, All, length, slice_get, Some};
-ghost use Rattle.semantics.specs.Program.{shard_of_key};
-ghost use Rattle.semantics.specs.PlanLimits.{IsIndexSize};
 ghost use Rattle.semantics.specs.declared.call.Caller.TheVariants.{Controller};
 ghost use Rattle.shared_shards.specs.Passes.{PassView};
 ghost use Rattle.actors.specs.SharedUpdates.{HasUpdateOf, shard_of_update};
 
 use control::UpdatePort;
-use ebpf_decode::{MapDef, MapKind};
-use one_thread_map::conditions::shard_number_of_key;
+use ebpf_decode::MapDef;
+use one_thread_map::conditions::shard_of_kind;
 use semantics::{JournalFull, Key, Value};
 use shared_shards::{Naming, Pass, Shards};
 use std::marker::Model;
@@ -106,16 +104,4 @@ fn definition_at(maps: &[MapDef], map: u32) -> MapDef
     ensures { slice_get maps.now map ≡ Some result }
 {
     maps[map as usize]
-}
-
-/// The number of the shard of a key, in a map of this kind with so many shards.
-fn shard_of_kind(map: u32, kind: MapKind, parts: u32, key: &Key) -> u32
-    requires map { map ≤ 16 }
-    requires parts { 0 < parts }
-    requires few { parts ≤ 8 }
-    requires size { IsIndexSize kind (length key.now) }
-    ensures { result ≡ shard_of_key map kind parts key.now }
-{
-    let number = shard_number_of_key(kind, key.as_slice());
-    map * parts + (number % u64::from(parts)) as u32
 }

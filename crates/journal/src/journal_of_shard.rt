@@ -213,9 +213,7 @@ fn put_row(rows: &mut Vec<Row>, row: Row)
     ensures items { rows.new.items ≡ rows.old.items ++ row ∷ [] }
     ensures room { vec_capacity rows.old ≤ vec_capacity rows.new }
 {
-    if rows.push(row).is_err() {
-        unreachable!()
-    }
+    rows.push_reserved(row);
 }
 
 // Puts bytes behind the others, for which there is room.

@@ -1,12 +1,12 @@
 //! Which calls a shard serves, and when its journal is full.
 
-ghost use Rattle.std.specs.Prelude.{◌≡◌, ◌<◌, ◌≤◌, ◌==◌, ◌+◌, ◌^◌, ◌&&◌, Bool, List, IsTrue, length, reverse, nat_lt, is_some};
+ghost use Rattle.std.specs.Prelude.{◌≡◌, ◌<◌, ◌≤◌, ◌==◌, ◌+◌, ◌%◌, ◌^◌, ◌&&◌, Bool, List, IsTrue, length, reverse, nat_lt, is_some};
 ghost use Rattle.semantics.specs.declared.call.Entry.{Entry};
 ghost use Rattle.semantics.specs.declared.plan.ShardPlan.{ShardPlan};
 ghost use Rattle.one_thread_map.specs.Standings.{cell_of_call, IsStanding};
 ghost use Rattle.semantics.specs.PlanLimits.{IsWithinLimits, IsIndexSize};
 ghost use Rattle.semantics.specs.Reclamation.{inside_count};
-ghost use Rattle.semantics.specs.Program.{shard_number_of_key, part_of_key};
+ghost use Rattle.semantics.specs.Program.{shard_number_of_key, part_of_key, shard_of_key};
 ghost use Rattle.isa.specs.InstructionCodes.{atomic_op_of};
 ghost use Rattle.semantics.specs.History.{is_outside_worker, is_inside_worker, is_holder, may_change_keys, is_reclaimer, are_bytes, is_own_key, is_value, are_flags, is_load_width, is_atomic_width, is_in_cell, is_aligned, fits_width, is_expected, meets_part, meets, room_for_leave, room_needed, lacks_room, journal_is_full};
 
@@ -124,6 +124,33 @@ pub fn shard_number_of_key(kind: MapKind, key: &[u8]) -> u64
         MapKind::Hash => fnv1a64(key),
         MapKind::LruHash => fnv1a64(key),
     }
+}
+
+/// What is left of a number after a division by a number of parts. Those that maps are opened with have a case each, since a division by
+/// a variable takes longer than the rest of a look-up.
+fn part_of_number(number: u64, parts: u32) -> u32
+    requires { 0 < parts }
+    ensures { result ≡ number % parts }
+{
+    match parts {
+        1 => 0,
+        2 => (number % 2) as u32,
+        4 => (number % 4) as u32,
+        8 => (number % 8) as u32,
+        _ => (number % u64::from(parts)) as u32,
+    }
+}
+
+/// The number of the shard of a key, in a map of this place and kind with so many shards.
+pub fn shard_of_kind(map: u32, kind: MapKind, parts: u32, key: &Key) -> u32
+    requires map { map ≤ 16 }
+    requires parts { 0 < parts }
+    requires few { parts ≤ 8 }
+    requires size { IsIndexSize kind (length key.now) }
+    ensures { result ≡ shard_of_key map kind parts key.now }
+{
+    let number = shard_number_of_key(kind, key.as_slice());
+    map * parts + part_of_number(number, parts)
 }
 
 /// Whether the key has the map's length and belongs to the shard.

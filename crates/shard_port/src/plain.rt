@@ -1,8 +1,6 @@
 //! The port of a single caller: one worker, one run at a time, no lock.
 
 ghost use Rattle.std.specs.Prelude.{Some, ◌≡◌, ◌<◌, ◌≤◌, ◌+◌, ◌*◌, ◌%◌, ◌^◌, ℕ, pos, IsTrue, IfOk, IfErr, OnErr, length, slice_get, nat_lt, IsFalse, OnOk};
-ghost use Rattle.semantics.specs.PlanLimits.{IsIndexSize};
-ghost use Rattle.semantics.specs.Program.{shard_of_key};
 ghost use Rattle.semantics.specs.ShardPlan.{AreOptions};
 ghost use Rattle.semantics.specs.History.{shard_of_call, IsLegalJournal};
 ghost use Rattle.shard_port.specs.Asking.{may_ask_at, all_left, IsAnsweredAmong, IsTurnedAwayAmong, entered, left, can_enter, may_ask, IsAnswered, IsTurnedAway, IsWorkerOf};
@@ -10,10 +8,10 @@ ghost use Rattle.shard_port.specs.PortView.{ServesMaps, IsReady, IsRunCall, Sets
 ghost use Rattle.map_port.specs.Served.{handle_limit};
 ghost use Rattle.std.specs.List.{AllByRecursion};
 
-use ebpf_decode::{Image, MapDef, MapKind};
+use ebpf_decode::{Image, MapDef};
 use isa::AtomicOp;
 use map_port::MapPort;
-use one_thread_map::conditions::shard_number_of_key;
+use one_thread_map::conditions::shard_of_kind;
 use semantics::{Call, Caller, CellRef, JournalFull, Key, Options, Reply, Value};
 use shard_core::Shard;
 use shards::{Shards, maps_of};
@@ -225,18 +223,6 @@ pub(crate) fn definition_at(maps: &[MapDef], map: u32) -> MapDef
     ensures { slice_get maps.now map ≡ Some result }
 {
     maps[map as usize]
-}
-
-/// The number of the shard of a key, in a map of this kind with so many shards.
-pub(crate) fn shard_of_kind(map: u32, kind: MapKind, parts: u32, key: &Key) -> u32
-    requires map { map ≤ 16 }
-    requires parts { 0 < parts }
-    requires few { parts ≤ 8 }
-    requires size { IsIndexSize kind (length key.now) }
-    ensures { result ≡ shard_of_key map kind parts key.now }
-{
-    let number = shard_number_of_key(kind, key.as_slice());
-    map * parts + (number % u64::from(parts)) as u32
 }
 
 /// The cell that a handle stands for.

@@ -9,10 +9,11 @@ ghost use Rattle.shard_port.specs.PortView.{handle_of, has_small_cell};
 ghost use Rattle.shard_port.specs.PassPorts.{is_worker_below, worker_of, inside_own, IsAskedAt, IsTurnedAwayAt, IsLeft, IsFinishedBy};
 ghost use Rattle.semantics.specs.Reclamation.{is_inside};
 
-use crate::plain::{cell_of_handle, definition_at, shard_of_kind};
+use crate::plain::{cell_of_handle, definition_at};
 use isa::AtomicOp;
 use journal::{AtomicChange, CellRange};
 use map_port::MapPort;
+use one_thread_map::conditions::shard_of_kind;
 use semantics::{JournalFull, Key, Value};
 use shared_shards::{
     Ask, Changes, Deletes, Loads, Looks, Naming, Pass, Shards, Stopped, Stores, Updates,

@@ -1,0 +1,3 @@
+pub mod OnlyLemmas
+pub mod PassLemmas
+pub mod AloneLemmas
