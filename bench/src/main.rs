@@ -12,6 +12,7 @@ mod plain;
 mod programs;
 mod queues;
 mod shards;
+mod threads;
 
 use assemble::Program;
 use flat::{Flat, flatten};
@@ -253,6 +254,9 @@ fn main() {
     }
     if "shards".contains(&word) {
         shards::print();
+    }
+    if "threads".contains(&word) {
+        threads::print();
     }
     if "control".contains(&word) {
         control::print();

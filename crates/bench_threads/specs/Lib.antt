@@ -1,0 +1,3 @@
+-- The definitions that the contracts of this program cite.
+pub mod Measured
+pub mod Alone
