@@ -12,6 +12,7 @@ mod plain;
 mod programs;
 mod queues;
 mod shards;
+mod steer;
 mod threads;
 
 use assemble::Program;
@@ -260,5 +261,8 @@ fn main() {
     }
     if "control".contains(&word) {
         control::print();
+    }
+    if "steer".contains(&word) {
+        steer::print();
     }
 }
