@@ -1,5 +1,5 @@
-//! Measures the shipped program on one worker and one thread, without a lock: `bench_steer measure` prints a row a line, a name, tenths of a nanosecond for a frame, and
-//! how many of the frames were sent. Without that word it prints nothing.
+//! Measures the shipped program on one worker and one thread, without a lock: `bench_steer measure` prints a row a line, a name, tenths of a nanosecond
+//! for a frame, the same for making the frame alone, and how many of the frames were sent. Without that word it prints nothing.
 #![tactic(auto)]
 
 mod putting;
