@@ -43,9 +43,11 @@ full_later plan before after one moved None full = tt
 full_later plan before after one moved (Some update) full =
     let number : ℕ = shard_of before.maps before.options update in
     let grown = moved.grows number in
-    let now : IsFullFor plan before.maps before.options after.pass update =
-    subst (λ seen. IsJournalFull (plan number) seen (update_call number update)) (sym grown.1)
-    (full_stays (plan number) grown.0 (seen_at before.pass number) (update_call number update) full) in
+    let now : IsFullFor plan before.maps before.options after.pass update = record {
+      of_map = full.of_map;
+      full = subst (λ seen. IsJournalFull (plan number) seen (update_call number update)) (sym grown.1)
+          (full_stays (plan number) grown.0 (seen_at before.pass number) (update_call number update) full.full);
+    } in
     subst (λ options. IsFullFor plan after.maps options after.pass update) (sym moved.options)
     (subst (λ maps. IsFullFor plan maps before.options after.pass update) (sym moved.maps) now)
 

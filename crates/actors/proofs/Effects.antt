@@ -10,7 +10,7 @@ use Rattle.control.specs.declared.fault.ControlFault.TheVariants.{BadSize, BadLi
 use Rattle.control.specs.declared.update.Update.{Update as Change}
 use Rattle.control.specs.MapUpdates.{MapUpdate, map_update}
 use Rattle.control.specs.Controlling.{ControllerState, IsCarriedOut as IsWhole, IsStopped, IsUnchanged, IsAnswered, IsLeft, refusal_of, first_updates, up_after, updates_of}
-use Rattle.actors.specs.Gates.{IsCounted, IsUncounted}
+use Rattle.gates.specs.Gates.{IsCounted, IsUncounted}
 use Rattle.actors.specs.SharedUpdates.{UpdatesView, IsUpdated, IsTurnedAway}
 use Rattle.actors.specs.Commands.{AnsweredUpdate, CommandDone, IsNothing, IsDone, IsDoneBy, IsFullFor, IsMoved, HasEffect, all_done}
 use Rattle.actors.proofs.Moving.{HasWithin, moved_by_all, moved_until_full, moved_by_one, moved_nowhere}

@@ -1,6 +1,6 @@
 -- What updates make of the controller's view of the shards.
 use Rattle.std.proofs.Common.{◌≡◌, ◌≢◌, ℕ, Bool, true, false, List, [], ◌∷◌, ◌++◌, refl, sym, ap, ◌∙◌, subst, append_assoc, arith}
-use Rattle.std.specs.Prelude.{◌==◌, ℤ, pos, map, if◌then◌else◌}
+use Rattle.std.specs.Prelude.{◌==◌, ℤ, pos, map, if◌then◌else◌, Option, is_some}
 use Rattle.std.proofs.lemmas.Bool.Decides.{nat_tests}
 use Rattle.ebpf_decode.specs.declared.map.MapDef.{MapDef}
 use Rattle.semantics.specs.declared.call.Caller.{Caller}
@@ -156,6 +156,13 @@ pub record IsMovedAndFull (plan : ℕ → ShardPlan) (before after : UpdatesView
   pub moved : IsMoved before after (all_done begun)
   pub full : IsFullFor plan before.maps before.options after.pass (map_update next)
 
+full_for : (plan : ℕ → ShardPlan) (before after : UpdatesView) (update : MapUpdate) → IsTurnedAway plan before update after →
+    IsFullFor plan before.maps before.options after.pass update
+full_for plan before after update refused = record {
+  of_map = ap (λ (found : Option MapDef). is_some found) refused.of_map;
+  full = refused.refused.full;
+}
+
 pub moved_until_full : {P : Type 0} (plan : ℕ → ShardPlan) (within : P → UpdatesView) (gives : P → MapUpdate → ℤ → P → Type 0)
     (refuses : P → MapUpdate → P → Type 0) → HasWithin plan within gives refuses → (changes : List Change) (before after : P) →
     (within before).pass.who ≡ Controller → (cut : AreCutShort gives refuses before changes after) →
@@ -171,5 +178,5 @@ moved_until_full plan within gives refuses has changes before after who cut =
           (moved_on (within before) (within cut.middle) (within after) (all_done cut.made) [] first second);
       full = subst (λ maps. IsFullFor plan maps (within before).options (within after).pass (map_update cut.next)) first.maps
           (subst (λ options. IsFullFor plan (within cut.middle).maps options (within after).pass (map_update cut.next)) first.options
-          refused.refused.full);
+          (full_for plan (within cut.middle) (within after) (map_update cut.next) refused));
     }

@@ -1,5 +1,5 @@
 -- What the commands of a script become: updates with their answers, and with them the entries of the controller in the shards' journals.
-use Rattle.std.specs.Prelude.{◌≡◌, ◌≢◌, ℕ, ◌==◌, ℤ, pos, ◌⊎◌, Bool, true, false, List, [], ◌∷◌, ◌++◌, map, Option, Some, None, IfSome, slice_get, if◌then◌else◌}
+use Rattle.std.specs.Prelude.{◌≡◌, ◌≢◌, ℕ, ◌==◌, ℤ, pos, ◌⊎◌, Bool, true, false, List, [], ◌∷◌, ◌++◌, map, Option, Some, None, IfSome, IsTrue, is_some, slice_get, if◌then◌else◌}
 use Rattle.std.specs.List.{AllByRecursion, flat_map}
 use Rattle.ebpf_decode.specs.declared.map.MapDef.{MapDef}
 use Rattle.semantics.specs.declared.options.Options.{Options}
@@ -138,10 +138,12 @@ AreNotedOf script (noted ∷ more) [] = ⊥
 abbrev pub made_in : List CommandDone → List AnsweredUpdate
 made_in done = flat_map (λ (one : CommandDone). one.made) done
 
--- the journal of the update's shard is full for it at the end of what the pass has seen
-abbrev pub IsFullFor : (ℕ → ShardPlan) → List MapDef → Options → PassView → MapUpdate → Type 0
-IsFullFor plan maps options pass update =
-    IsJournalFull (plan (shard_of maps options update)) (seen_at pass (shard_of maps options update)) (update_call (shard_of maps options update) update)
+-- the update is one of a map that there is, and the journal of its shard is full for it at the end of what the pass has seen
+pub record IsFullFor (plan : ℕ → ShardPlan) (maps : List MapDef) (options : Options) (pass : PassView) (update : MapUpdate) : Type 0 where
+  pub of_map : IsTrue (is_some (slice_get maps update.map))
+  pub full :
+      IsJournalFull (plan (shard_of maps options update)) (seen_at pass (shard_of maps options update))
+      (update_call (shard_of maps options update) update)
 
 -- Updates one after the other lead from one state of a port to another: each adds its entry to the history of the shard of its key, and what the
 -- controller has seen of each shard grows.

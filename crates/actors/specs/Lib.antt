@@ -1,5 +1,4 @@
 -- The definitions that the contracts of this crate cite, in reading order.
-pub mod Gates
 pub mod SharedUpdates
 pub mod SharedLaws
 pub mod Commands

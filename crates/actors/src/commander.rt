@@ -10,10 +10,10 @@ ghost use Rattle.conntrack.specs.SteeringMaps.{steering_maps};
 ghost use Rattle.actors.specs.Commands.{CommanderView, HasEffect, IsAccount, ServesScript, opened_controller};
 
 use crate::applied::Applied;
-use crate::gate::{Gate, Tally};
 use crate::gated_updates::GatedUpdates;
 use crate::shared_updates::SharedUpdates;
 use control::{Command, ControlFault, Controller};
+use gates::{Gate, Tally};
 use semantics::Caller;
 use shared_shards::{Naming, Pass, Shards};
 use std::alloc::{AllocError, Global};

@@ -1,7 +1,7 @@
 //! A controller's port whose replies the gate is told of.
 
-use crate::gate::{Gate, Tally};
 use control::UpdatePort;
+use gates::{Gate, Tally};
 use semantics::{JournalFull, Key, Value};
 
 /// A port to the maps that a controller updates: each answer is counted and told to the gate, and is the answer of the port within.
@@ -12,7 +12,7 @@ pub struct GatedUpdates<'a, U: UpdatePort, G: Gate> {
 }
 
 impl<'a, U: UpdatePort, G: Gate> UpdatePort for GatedUpdates<'a, U, G> {
-    ghost use Rattle.actors.specs.Gates.{IsCounted, IsUncounted};
+    ghost use Rattle.gates.specs.Gates.{IsCounted, IsUncounted};
 
     ghost serves = { λ gated. U.serves gated.port };
 

@@ -4,8 +4,6 @@
 
 mod applied;
 mod commander;
-mod gate;
-mod gated_maps;
 mod gated_updates;
 mod reclaiming;
 mod shared_updates;
@@ -15,8 +13,6 @@ mod until_end;
 
 pub use applied::Applied;
 pub use commander::Commander;
-pub use gate::{Gate, NoGate, Tally};
-pub use gated_maps::GatedMaps;
 pub use gated_updates::GatedUpdates;
 pub use reclaiming::Reclaiming;
 pub use shared_updates::SharedUpdates;

@@ -5,8 +5,8 @@ ghost use Rattle.semantics.specs.declared.call.Caller.TheVariants.{Reclaimer};
 ghost use Rattle.shared_shards.specs.Passes.{IsElsewhereSame};
 ghost use Rattle.actors.specs.Rounds.{AreReclaimed, IsReclaimedAt, IsAsked, is_keyed};
 
-use crate::gate::{Gate, Tally};
 use ebpf_decode::MapKind;
+use gates::{Gate, Tally};
 use semantics::Caller;
 use shared_shards::{Naming, Pass, Shards};
 use std::marker::Model;

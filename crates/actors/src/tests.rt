@@ -4,10 +4,11 @@ ghost use Rattle.std.specs.Prelude.{◌≡◌, ◌≤◌, [], IfOk};
 ghost use Rattle.rx_queues.specs.Passes.{HasQueue, IsTakePassOf, jobs_taken};
 ghost use Rattle.shared_shards.specs.NewShards.{IsNamed};
 
-use crate::{Applied, Commander, Gate, NoGate, Reclaiming, commands_until_end, rounds_until_end};
+use crate::{Applied, Commander, Reclaiming, commands_until_end, rounds_until_end};
 use conntrack::{maps, table_size};
 use control::parse_script;
 use ebpf_decode::{Image, Insn, Version};
+use gates::{Gate, NoGate};
 use journals::Journals;
 use rx_queues::{Job, OpenFault, Queues, TakePass};
 use semantics::{Caller, Options};

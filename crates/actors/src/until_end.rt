@@ -10,8 +10,8 @@ ghost use Rattle.actors.specs.Jobs.{AreCommandsTaken, IsAccounted, AreRoundsMade
 
 use crate::applied::Applied;
 use crate::commander::Commander;
-use crate::gate::Gate;
 use crate::reclaiming::Reclaiming;
+use gates::Gate;
 use rx_queues::{Job, Queues, TakePass};
 use shared_shards::{Naming, Pass};
 use std::alloc::Global;

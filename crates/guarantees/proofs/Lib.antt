@@ -5,3 +5,13 @@ pub mod ReaderTraces
 pub mod MoveLemmas
 pub mod EventLemmas
 pub mod StopLemmas
+pub mod ReadSteps
+pub mod ReadCalls
+pub mod QuietShards
+pub mod Answered
+pub mod EveryEntry
+pub mod ShareOrder
+pub mod Callers
+pub mod NoneStopped
+pub mod OpenedRuns
+pub mod OpenedReplays

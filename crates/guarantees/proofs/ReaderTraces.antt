@@ -96,7 +96,7 @@ context_kind s (ValueOrNull map id) register value done set (inl c) is = absurd 
 context_kind s (ValueOrNull map id) register value done set (inr c) is = absurd (let e : CellPointer map c.cell.shard c.cell.id _ ≡ ContextPointer = sym c.is ∙ is in cc)
 context_kind s (Value map id off) register value done set c is = absurd (let e : CellPointer map c.cell.shard c.cell.id _ ≡ ContextPointer = sym c.is ∙ is in cc)
 
-abbrev all_held : Held
+abbrev pub all_held : Held
 all_held map shard cell = true
 
 asks_none : (maps : List MapDef) (state : MachineState) (known : State) (insn : Insn) (flow : Flow) → Abstracts maps all_held known state → IsTrue (only_reads known insn) →
@@ -118,19 +118,19 @@ handed : (program : Program) (call : Call) (reply : Reply) → IsHandedOut progr
 handed program (Lookup shard key) (Cell cell) = λ map definition known own. refl
 handed program call reply = tt
 
-holds : (program : Program) (call : Call) (reply : Reply) → HoldsAfter program all_held all_held call reply
+pub holds : (program : Program) (call : Call) (reply : Reply) → HoldsAfter program all_held all_held call reply
 holds program call reply = record { kept = λ map shard cell h. refl; handed_out = handed program call reply }
 
 abbrev IsSame : ℕ → Program → ℕ → Type 0
 IsSame worker program count = (state : MachineState) (replies : List Reply) → AreReplies program (trace_of count program state replies).calls replies →
     trace_of_any (trace_of count program state replies) ≡ trace_of_any (trace_of count program (at_worker worker state) replies)
 
-record IsAccepted (version : Version) (program : Program) (states : List (Option State)) : Type 0 where
-  accepted : Accepts version program.maps program.code states
-  fits : PartsFit program.maps program.code
-  reads : IsReader program.code states
+pub record IsAccepted (version : Version) (program : Program) (states : List (Option State)) : Type 0 where
+  pub accepted : Accepts version program.maps program.code states
+  pub fits : PartsFit program.maps program.code
+  pub reads : IsReader program.code states
 
-abbrev Sound : Program → List (Option State) → MachineState → Type 0
+abbrev pub Sound : Program → List (Option State) → MachineState → Type 0
 Sound program states state = IsSoundPlace program.maps program.code states all_held state
 
 -- after a step that is the same

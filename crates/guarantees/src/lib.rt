@@ -17,6 +17,8 @@ mod tests;
 ghost use Rattle.semantics.specs.Safety.{IsSafeImage};
 ghost use Rattle.verifier.specs.Readers.{IsReader};
 ghost use Rattle.guarantees.specs.SameRuns.{RunsTheSame};
+ghost use Rattle.guarantees.specs.ReaderRuns.{OnlyReads, QuietShardsAreAsOpened};
+ghost use Rattle.guarantees.specs.ReaderReplays.{SendsAsAtOpening};
 ghost use Rattle.guarantees.specs.Guarantees.{RunsAreTheirMeaning, StoppedRunsAreBeginnings, EntriesAreSteps, OpenedShardsAreReady, RunsLeaveOthersAlone, RunsAreOfTheSystem, StoppedRunsAreOfTheSystem, EntriesAreAnswered};
 
 use shard_port::laws::{
@@ -45,6 +47,31 @@ pub fn readers_run_the_same(verified: &Verified)
 {
     let _ = verified.image();
     verified.encodable();
+}
+
+/// A run of an accepted program that only reads asks maps for nothing but lookups and loads.
+pub fn readers_only_read(verified: &Verified)
+    requires reads { IsReader verified.now.code verified.now.states }
+    ensures { OnlyReads verified.now.maps verified.now.code }
+{
+    let _ = verified.image();
+    verified.encodable();
+}
+
+/// A shard of which nothing was asked but that workers enter and leave it, lookups, loads and Reclaims is as it was opened, and each lookup and load
+/// in its legal history has the reply that it would have had then.
+pub fn quiet_shards_are_as_opened()
+    ensures { QuietShardsAreAsOpened }
+{}
+
+/// What a replay of an accepted program that only reads sends, where there is no command and no run was stopped: frame by frame what the program's run
+/// over maps in which nothing has happened sends. So it is the same for every number of workers.
+pub fn readers_send_as_at_opening(verified: &Verified)
+    requires reads { IsReader verified.now.code verified.now.states }
+    ensures { SendsAsAtOpening verified.now.maps verified.now.code }
+{
+    readers_only_read(verified);
+    readers_run_the_same(verified);
 }
 
 /// A worker's run: `PlainPort::over` makes its port over shards that it is not inside of, `run` ends, and `finish` leaves the shards.

@@ -8,6 +8,7 @@ ghost use Rattle.guarantees.specs.SystemRuns.{setting_of, RanInSystem, HasStoppe
 
 use crate::{runs_are_of_the_system, stopped_runs_are_of_the_system};
 use frame_runs::run_frame;
+use gates::Gate;
 use machine::{Exit, Moment, Stop};
 use shared_shards::{Naming, Pass, Shards};
 use std::sync::Wait;
@@ -33,13 +34,15 @@ fn is_early(now_ns: u64)
 /// `run_frame`, said of the system: where the run ends, it is a list of its worker's events from idle to idle, and what they write is what
 /// the worker's own entries have more. So it is where a full journal stopped it (60), up to the call that was refused. Either way the next run
 /// can begin with the pass.
-pub fn shared_run<B: Naming, W: Wait>(
+pub fn shared_run<B: Naming, W: Wait, G: Gate>(
     rt: &W,
     verified: &Verified,
     frame: &mut Frame,
     moment: &Moment,
     shards: &Shards<B>,
     pass: &mut Pass<B>,
+    gate: &G,
+    replies: &mut u64,
 ) -> Result<Exit, Stop>
     requires served { shards.now.maps ≡ verified.now.maps }
     requires headroom { frame.old.headroom ≡ 256 }
@@ -57,5 +60,5 @@ pub fn shared_run<B: Naming, W: Wait>(
     stopped_runs_are_of_the_system();
     may_come_in(frame);
     is_early(moment.now_ns);
-    run_frame(rt, verified, frame, moment, shards, pass)
+    run_frame(rt, verified, frame, moment, shards, pass, gate, replies)
 }

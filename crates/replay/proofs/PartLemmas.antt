@@ -1,6 +1,8 @@
 -- The controller's part and the reclaimer's.
-use Rattle.std.proofs.Common.{◌≡◌, ◌⊎◌, ℕ, zero, suc, ◌+◌, ◌<◌, List, [], ◌∷◌, ◌++◌, length, length-append, refl, sym, ap, ◌∙◌, subst, arith}
-use Rattle.std.specs.Prelude.{Option, Some, None, IfSome, map, replicate, reverse}
+use Rattle.std.proofs.Common.{◌≡◌, ◌⊎◌, ℕ, zero, suc, ◌+◌, ◌*◌, ◌<◌, ◌≤◌, List, [], ◌∷◌, ◌++◌, length, length-append, refl, sym, ap, ◌∙◌, subst, arith}
+use Rattle.std.specs.Prelude.{Option, Some, None, IfSome, IsTrue, is_some, slice_get, map, replicate, reverse}
+use Rattle.std.proofs.lemmas.Option.{slice_get_within}
+use Rattle.std.proofs.Math.Nat.{mod-lt, mul-le-mul_right, suc-mul}
 use Rattle.std.specs.List.{AllByRecursion}
 use Rattle.ebpf_decode.specs.declared.map.MapDef.{MapDef}
 use Rattle.ebpf_decode.specs.declared.map.MapKind.{MapKind}
@@ -12,15 +14,19 @@ use Rattle.semantics.specs.declared.call.Entry.{Entry}
 use Rattle.semantics.specs.declared.options.Options.{Options}
 use Rattle.semantics.specs.declared.plan.ShardPlan.{ShardPlan}
 use Rattle.semantics.specs.CallerLaws.{own_entries}
+use Rattle.semantics.specs.Program.{part_of_key, shard_number_of_key}
+use Rattle.semantics.specs.ShardPlan.{AreOptions}
 use Rattle.journals.specs.JournalsView.{JournalsView, entries_at}
 use Rattle.shared_shards.specs.CallerView.{BeginsWith}
+use Rattle.shared_shards.specs.SharedMaps.{ArePlans}
+use Rattle.shared_shards.proofs.shared.Keys.{some_part}
 use Rattle.shared_shards.specs.Passes.{PassView, own_at, seen_at, pass_at, AreSettled}
 use Rattle.rx_queues.specs.declared.job.Job.{Job}
 use Rattle.rx_queues.specs.declared.job.Job.TheVariants.{Frame, Command as CommandJob, Note, End}
 use Rattle.control.specs.declared.command.Command.{Command}
 use Rattle.control.specs.MapUpdates.{MapUpdate}
 use Rattle.actors.specs.declared.applied.Applied.{Applied}
-use Rattle.actors.specs.SharedUpdates.{shard_of, update_call}
+use Rattle.actors.specs.SharedUpdates.{shard_in, shard_of, update_call}
 use Rattle.actors.specs.Commands.{CommanderView, CommandDone, IsAccount, IsFullFor}
 use Rattle.actors.specs.Jobs.{command_jobs, AreRoundsMade}
 use Rattle.actors.specs.Rounds.{AreReclaimed, IsReclaimedBy}
@@ -140,18 +146,40 @@ all_map : {A : Type 0} (P Q : A → Type 0) → ((x : A) → P x → Q x) → (x
 all_map P Q step [] all = all
 all_map P Q step (x ∷ xs) all = (step x all.0, all_map P Q step xs all.1)
 
+-- the shard of a map's key is one of all maps' shards
+below_count : (map maps parts part : ℕ) → map < maps → part < parts → map * parts + part < maps * parts
+below_count map maps parts part of_map of_part =
+    let more : suc map * parts ≤ maps * parts = mul-le-mul_right parts of_map in
+    let next : suc map * parts ≡ map * parts + parts = suc-mul map parts in
+    omega (arith, more, next, of_part)
+
+within_of : (maps : List MapDef) (map parts : ℕ) (key : List ℕ) (found : Option MapDef) → 0 < parts → slice_get maps map ≡ found →
+    IsTrue (is_some found) → shard_in found parts map key < length maps * parts
+within_of maps map parts key None some is there = absurd cc
+within_of maps map parts key (Some definition) some is there =
+    below_count map (length maps) parts (part_of_key definition.kind parts key) (slice_get_within maps map definition is)
+    (mod-lt (shard_number_of_key definition.kind key) some)
+
 full_stands : (plan : ℕ → ShardPlan) (maps : List MapDef) (options : Options) (count : ℕ) (journals : JournalsView) (pass : PassView) →
-    AreSettled count journals pass → (stopped : Option MapUpdate) → IfSome stopped (IsFullFor plan maps options pass) →
-    IfSome stopped (IsFullInJournal plan maps options count journals)
-full_stands plan maps options count journals pass settled None full = full
-full_stands plan maps options count journals pass settled (Some update) full = λ within.
+    ArePlans maps options count plan → AreOptions maps options → AreSettled count journals pass → (stopped : Option MapUpdate) →
+    IfSome stopped (IsFullFor plan maps options pass) → IfSome stopped (IsFullInJournal plan maps options count journals)
+full_stands plan maps options count journals pass plans are settled None full = tt
+full_stands plan maps options count journals pass plans are settled (Some update) full =
     let shard = shard_of maps options update in
-    full_later (plan shard) (reverse (entries_at journals shard)) (seen_at pass shard) (update_call shard update) (settled shard within).begins full
+    let below : shard < length maps * options.shards =
+    within_of maps update.map options.shards update.key (slice_get maps update.map) (some_part maps options are) refl full.of_map in
+    let within : shard < count = subst (λ (n : ℕ). shard < n) (sym plans.count_is) below in
+    record {
+      within = within;
+      full = full_later (plan shard) (reverse (entries_at journals shard)) (seen_at pass shard) (update_call shard update) (settled shard within).begins
+          full.full;
+    }
 
 pub script_stands : (plan : ℕ → ShardPlan) (maps : List MapDef) (options : Options) (count : ℕ) (script : List Command) (size : ℕ) (noted : List Applied)
-    (pass : PassView) (journals : JournalsView) (refused : List Applied) → IsScriptRun plan maps options script size noted pass →
-    AreSettled count journals pass → refused ≡ refused_of noted → IsScriptAccounted plan maps options count script journals refused
-script_stands plan maps options count script size noted pass journals refused run settled refused_are = record {
+    (pass : PassView) (journals : JournalsView) (refused : List Applied) → ArePlans maps options count plan → AreOptions maps options →
+    IsScriptRun plan maps options script size noted pass → AreSettled count journals pass → refused ≡ refused_of noted →
+    IsScriptAccounted plan maps options count script journals refused
+script_stands plan maps options count script size noted pass journals refused plans are run settled refused_are = record {
   size = size;
   noted = noted;
   each_once = run.each_once;
@@ -162,7 +190,7 @@ script_stands plan maps options count script size noted pass journals refused ru
   own = λ number within. ap (λ (c : Caller). own_entries c (reverse (entries_at journals number))) (sym run.who) ∙ sym (settled number within).own ∙ run.account.own number;
   full = all_map (λ (one : CommandDone). IfSome one.stopped (IsFullFor plan maps options pass))
       (λ (one : CommandDone). IfSome one.stopped (IsFullInJournal plan maps options count journals))
-      (λ one. full_stands plan maps options count journals pass settled one.stopped) run.account.done run.account.full;
+      (λ one. full_stands plan maps options count journals pass plans are settled one.stopped) run.account.done run.account.full;
   refused_are = refused_are;
 }
 

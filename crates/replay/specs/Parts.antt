@@ -69,12 +69,13 @@ pub record IsScriptRun (plan : ℕ → ShardPlan) (maps : List MapDef) (options 
 abbrev pub refused_of : List Applied → List Applied
 refused_of noted = filter (λ (one : Applied). is_some one.fault) noted
 
--- the journal of the update's shard is full for it at its end
-abbrev pub IsFullInJournal : (ℕ → ShardPlan) → List MapDef → Options → ℕ → JournalsView → MapUpdate → Type 0
-IsFullInJournal plan maps options count journals update =
-    shard_of maps options update < count →
-    IsJournalFull (plan (shard_of maps options update)) (reverse (entries_at journals (shard_of maps options update)))
-    (update_call (shard_of maps options update) update)
+-- the update's shard is one of so many, and its journal is full for the update at its end
+pub record IsFullInJournal (plan : ℕ → ShardPlan) (maps : List MapDef) (options : Options) (count : ℕ) (journals : JournalsView) (update : MapUpdate) :
+    Type 0 where
+  pub within : shard_of maps options update < count
+  pub full :
+      IsJournalFull (plan (shard_of maps options update)) (reverse (entries_at journals (shard_of maps options update)))
+      (update_call (shard_of maps options update) update)
 
 -- Each command of the script was applied once, in the script's order, and did what it says in the state that the one before it left; the controller's
 -- entries in each journal are their updates to that shard, in order; where one met a full journal, that journal is full for it at its end.

@@ -1,9 +1,10 @@
 //! The controller and the reclaimer of a replay, as their threads run them.
 
 use actors::{
-    Applied, Commander, CommandsEnded, Gate, Reclaiming, RoundsEnded, commands_until_end,
+    Applied, Commander, CommandsEnded, Reclaiming, RoundsEnded, commands_until_end,
     rounds_until_end,
 };
+use gates::Gate;
 use rx_queues::{Queues, TakePass};
 use shared_shards::{Naming, Pass};
 use std::alloc::Global;

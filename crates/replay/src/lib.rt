@@ -13,8 +13,9 @@ mod shard_runner;
 mod tests;
 mod threads;
 
-pub use actors::{Applied, Gate, NoGate};
+pub use actors::Applied;
 pub use fault::ReplayFault;
+pub use gates::{Gate, NoGate};
 pub use outcome::Outcome;
 pub use replaying::replay;
 pub use workers::Counts;

@@ -11,7 +11,7 @@ use semantics::Caller;
 use shared_shards::{Dealer, Naming, Pass};
 use std::alloc::{AllocError, Global};
 
-/// What each worker begins with: its pass.
+/// What each worker begins with: its pass, and no reply yet.
 pub(crate) fn new_workers<B: Naming>(
     alloc: Global,
     dealer: &mut Dealer<B>,
@@ -27,7 +27,7 @@ pub(crate) fn new_workers<B: Naming>(
             number: worker as u8,
         };
         match dealer.pass(alloc, caller) {
-            Ok(pass) => all.push_reserved(Working { pass }),
+            Ok(pass) => all.push_reserved(Working { pass, replies: 0 }),
             Err(_) => return Err(AllocError),
         }
     }
@@ -44,7 +44,7 @@ fn passes_of<B: Naming>(
     let count = working.len();
     let mut passes = Vec::with_capacity(alloc, count)?;
     'workers: for _worker in 0..count {
-        let Working { pass } = working.remove(0);
+        let Working { pass, .. } = working.remove(0);
         passes.push_reserved(pass);
     }
     Ok(passes)

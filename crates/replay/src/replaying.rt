@@ -17,8 +17,8 @@ use crate::passes::new_workers;
 use crate::scripts::{starts_of, table_for};
 use crate::shard_runner::ShardRunner;
 use crate::threads::{new_controller, new_reclaimer, run_threads};
-use actors::Gate;
 use control::Script;
+use gates::Gate;
 use rx_queues::Queues;
 use semantics::Options;
 use shards::OpenFault;
@@ -82,6 +82,7 @@ fn replay_over<B: Naming + Send + Sync, R: Threads + Wait + Sync, G: Gate + Sync
     };
     let runner = ShardRunner {
         rt,
+        gate,
         verified,
         shards: &shards,
     };
@@ -115,7 +116,7 @@ fn replay_over<B: Naming + Send + Sync, R: Threads + Wait + Sync, G: Gate + Sync
 /// journal of the shard of its next call is full for good. The controller's entries are the updates of the script's commands, in order, and the reclaimer's
 /// are those of its rounds. What is sent stands in the capture's order.
 ///
-/// The gate is told of each reply that the controller and the reclaimer have.
+/// The gate is told of each reply of a run, of the controller and of the reclaimer, by the actor that has it, which holds no lock then.
 ///
 /// Refused with 51 where the options are none that shards of the image's maps are opened with, or where there are commands and the image's maps
 /// are not those of steering; with 52 for lack of memory; with 56 where a thread could not be started. Then nothing is left, and every thread that was

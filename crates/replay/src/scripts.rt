@@ -7,10 +7,11 @@ ghost use Rattle.actors.specs.Commands.{ServesScript};
 ghost use Rattle.workers.specs.Actors.{numbers_from};
 ghost use Rattle.replay.specs.Parts.{HasNoTable, numbers_of, refused_of};
 
-use actors::{Applied, Commander, Gate};
+use actors::{Applied, Commander};
 use conntrack::table_size;
 use control::Command;
 use ebpf_decode::MapDef;
+use gates::Gate;
 use shared_shards::Naming;
 use std::alloc::{AllocError, Global};
 use std::sync::Wait;

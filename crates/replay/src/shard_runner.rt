@@ -5,6 +5,7 @@ ghost use Rattle.machine.specs.Running.{program_of};
 ghost use Rattle.replay.specs.Runs.{IsIdle, IsSentOf, IsTold, IsRunOf, time_of};
 
 use frame_runs::run_frame;
+use gates::Gate;
 use machine::Moment;
 use semantics::Verdict;
 use shared_shards::{Naming, Pass, Shards};
@@ -18,12 +19,15 @@ use workers::{RunEnd, Runner};
 #[derive(Drop)]
 pub(crate) struct Working<B: Naming> {
     pub pass: Pass<B>,
+    /// How many replies its runs have had.
+    pub replies: u64,
 }
 
-/// Runs an accepted program over shared shards of its maps, by the workers' passes.
+/// Runs an accepted program over shared shards of its maps, by the workers' passes, and tells a gate of each reply.
 #[derive(Drop)]
-pub(crate) struct ShardRunner<'a, B: Naming, R: Wait> {
+pub(crate) struct ShardRunner<'a, B: Naming, R: Wait, G: Gate> {
     pub rt: &'a R,
+    pub gate: &'a G,
     pub verified: &'a Verified,
     pub shards: &'a Shards<B>,
     pub ghost maps: { shards.now.maps ≡ verified.now.maps },
@@ -73,7 +77,7 @@ fn end_of(
     }
 }
 
-impl<'a, B: Naming, R: Wait> Runner<Working<B>> for ShardRunner<'a, B, R> {
+impl<'a, B: Naming, R: Wait, G: Gate> Runner<Working<B>> for ShardRunner<'a, B, R, G> {
     ghost use Rattle.machine.specs.Running.{program_of};
     ghost use Rattle.replay.specs.Runs.{IsNewPass, IsIdle, IsRunOf};
 
@@ -101,6 +105,8 @@ impl<'a, B: Naming, R: Wait> Runner<Working<B>> for ShardRunner<'a, B, R> {
             &moment,
             self.shards,
             &mut state.pass,
+            self.gate,
+            &mut state.replies,
         ) {
             Ok(exit) => end_of(alloc, sent, exit.verdict, &frame).ok(),
             Err(_) => Some(RunEnd::Stopped),

@@ -1,8 +1,10 @@
 //! Whole replays, each with threads.
 
+mod schedules;
+
 ghost use Rattle.std.specs.Prelude.{◌≡◌, ◌≤◌, ◌<◌, ◌^◌, length};
 
-use crate::{Counts, NoGate, Outcome, replay};
+use crate::{Counts, Gate, NoGate, Outcome, replay};
 use control::parse_script;
 use disasm::assemble;
 use journal_files::write_journals;
@@ -194,6 +196,19 @@ fn replayed<R: Threads + Abort + Wait + Sync>(
     workers: u32,
     journal: u32,
 ) -> Result<Outcome, Fail> {
+    gated(rt, alloc, text, capture, workers, journal, &NoGate)
+}
+
+/// A program's replay whose actors tell this gate.
+fn gated<R: Threads + Abort + Wait + Sync, G: Gate + Sync>(
+    rt: &R,
+    alloc: Global,
+    text: &str,
+    capture: &Capture,
+    workers: u32,
+    journal: u32,
+    gate: &G,
+) -> Result<Outcome, Fail> {
     let verified = program(alloc, text)?;
     let script = parse_script(alloc, b"")?;
     let options = Options {
@@ -201,7 +216,7 @@ fn replayed<R: Threads + Abort + Wait + Sync>(
         shards: 1,
         journal,
     };
-    Ok(replay(rt, alloc, &verified, capture, &script, options, &NoGate)?)
+    Ok(replay(rt, alloc, &verified, capture, &script, options, gate)?)
 }
 
 /// A replay of one frame with a script: how many commands were refused, and the lines of the backends' journal.

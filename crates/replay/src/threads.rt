@@ -17,8 +17,9 @@ use crate::actor_parts::{Commanded, Commanding, Rounding};
 use crate::passes::new_pass;
 use crate::scripts::apply_first;
 use crate::shard_runner::{ShardRunner, Working};
-use actors::{Commander, Gate, Reclaiming};
+use actors::{Commander, Reclaiming};
 use control::Script;
+use gates::Gate;
 use rx_queues::{PutPass, Queues, TakePass};
 use semantics::Caller;
 use shared_shards::{Dealer, Naming, Pass, Shards};
@@ -74,7 +75,7 @@ pub(crate) fn run_threads<'x, B: Naming + Send + Sync, R: Threads + Wait + Sync,
     size: u32,
     starts: &'x [u32],
     first: usize,
-    runner: &'x ShardRunner<'x, B, R>,
+    runner: &'x ShardRunner<'x, B, R, G>,
     controller: Commanding<'x, B, R, G>,
     reclaimer: Rounding<'x, B, R, G>,
     put: PutPass,

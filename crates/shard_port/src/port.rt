@@ -1,15 +1,17 @@
 //! The port of a worker's pass, over shards that many callers share.
 
-ghost use Rattle.std.specs.Prelude.{◌≡◌, ◌<◌, IsTrue, IfOk, IfErr, OnErr};
+ghost use Rattle.std.specs.Prelude.{◌≡◌, ◌<◌, IsTrue, IfOk, IfErr, OnOk, OnErr};
 ghost use Rattle.semantics.specs.History.{Meets};
 ghost use Rattle.journal.specs.Entries.{found_reply};
 ghost use Rattle.map_port.specs.Served.{handle_limit};
+ghost use Rattle.gates.specs.Gates.{next_count};
 ghost use Rattle.shared_shards.specs.Passes.{view_at, own_at, IsElsewhereSame};
 ghost use Rattle.shard_port.specs.PortView.{handle_of, has_small_cell};
 ghost use Rattle.shard_port.specs.PassPorts.{is_worker_below, worker_of, inside_own, IsAskedAt, IsTurnedAwayAt, IsLeft, IsFinishedBy};
 ghost use Rattle.semantics.specs.Reclamation.{is_inside};
 
 use crate::plain::{cell_of_handle, definition_at};
+use gates::{Gate, Tally};
 use isa::AtomicOp;
 use journal::{AtomicChange, CellRange};
 use map_port::MapPort;
@@ -21,28 +23,41 @@ use shared_shards::{
 use std::sync::Wait;
 
 /// A worker's port over shared shards: one run. It enters a shard before its first call there, and has to be finished, which leaves the
-/// shards that it entered. It waits for locks, and no call takes memory.
+/// shards that it entered. It waits for locks, and no call takes memory. A gate is told of each reply, while no lock is held: not of an Enter, a Leave
+/// or a refused call.
 ///
 /// A cell's handle is `shard * 2^32 + id + 1`: its shard's number above its id.
-pub struct ShardPort<'a, B: Naming, W: Wait> {
+pub struct ShardPort<'a, B: Naming, W: Wait, G: Gate> {
     pass: &'a mut Pass<B>,
     shards: &'a Shards<B>,
     rt: &'a W,
+    tally: Tally<'a, G>,
     ghost ready: { IsTrue (is_worker_below shards.now.options.workers pass.now.who) },
 }
 
-impl<'a, B: Naming, W: Wait> ShardPort<'a, B, W> {
+impl<'a, B: Naming, W: Wait, G: Gate> ShardPort<'a, B, W, G> {
     ghost use Rattle.map_port.specs.Served.{shard_of, IsKeyOf};
     ghost use Rattle.shard_port.specs.PassPorts.{served_of};
 
-    /// The port of a worker's pass, over the shards of a program's maps. It enters none yet.
-    pub fn over(rt: &'a W, shards: &'a Shards<B>, pass: &'a mut Pass<B>) -> ShardPort<'a, B, W>
+    /// The port of a worker's pass, over the shards of a program's maps. It enters none yet. Replies are counted on from the tally's.
+    pub fn over(
+        rt: &'a W,
+        shards: &'a Shards<B>,
+        pass: &'a mut Pass<B>,
+        tally: Tally<'a, G>,
+    ) -> ShardPort<'a, B, W, G>
         requires worker { IsTrue (is_worker_below shards.now.options.workers pass.old.who) }
         ensures same_pass { result.pass.ghost_name ≡ pass.entry.ghost_name }
         ensures pass { result.pass.now ≡ pass.old }
         ensures shards { result.shards.now ≡ shards.now }
+        ensures told { result.tally.count ≡ tally.entry.count }
     {
-        ShardPort { pass, shards, rt }
+        ShardPort {
+            pass,
+            shards,
+            rt,
+            tally,
+        }
     }
 
     /// The shard of a map's key.
@@ -66,43 +81,61 @@ impl<'a, B: Naming, W: Wait> ShardPort<'a, B, W> {
         ensures answered { IfOk result (λ answer. IsAskedAt (B.plan shard) shard (worker_of self.old.pass.now.who) (view_at self.old.pass.now shard) (view_at self.new.pass.now shard) (C.asks ask shard) (C.replies shard answer)) }
         ensures turned_away { OnErr result (IsTurnedAwayAt (B.plan shard) shard (worker_of self.old.pass.now.who) (view_at self.old.pass.now shard) (view_at self.new.pass.now shard) (C.asks ask shard)) }
         ensures names_the_shard { IfErr result (λ fault. fault.shard ≡ shard) }
+        ensures same_actor { self.new.tally.who ≡ self.old.tally.who }
+        ensures told { OnOk result (self.new.tally.count ≡ next_count self.old.tally.count) }
+        ensures untold { OnErr result (self.new.tally.count ≡ self.old.tally.count) }
     {
-        ask_at(self.rt, self.shards, self.pass, shard, ask)
+        let asked = ask_at(self.rt, self.shards, self.pass, shard, ask);
+        if asked.is_ok() {
+            self.tally.replied();
+        }
+        asked
     }
 
-    /// The worker leaves all shards that it is inside of, the lowest number first. A Leave is never refused.
-    pub fn finish(self)
-        ensures { IsFinishedBy B.plan B.count self.entry.pass.now self.exit.0.now }
+    /// The worker leaves all shards that it is inside of, the lowest number first. A Leave is never refused. Gives the number of replies that the
+    /// gate was told of.
+    pub fn finish(self) -> u64
+        ensures left { IsFinishedBy B.plan B.count self.entry.pass.now self.exit.0.now }
+        ensures told { result ≡ self.entry.tally.count }
     {
-        let ShardPort { pass, shards, rt } = self;
+        let ShardPort {
+            pass,
+            shards,
+            rt,
+            tally,
+        } = self;
         leave_all(rt, shards, pass);
+        tally.count
     }
 }
 
-impl<'a, B: Naming, W: Wait> MapPort for ShardPort<'a, B, W> {
+impl<'a, B: Naming, W: Wait, G: Gate> MapPort for ShardPort<'a, B, W, G> {
+    ghost use Rattle.gates.specs.Gates.{IsCounted, IsUncounted};
     ghost use Rattle.shard_port.specs.PortView.{cell_of_handle};
     ghost use Rattle.shard_port.specs.PassPorts.{served_of, port_of, has_found, IsGivenBy, IsRefusedBy};
     ghost use Rattle.shard_port.specs.PassPortLaws.{keeps_by, hands_out_by};
 
     ghost serves = { λ port. served_of port.shards.now };
 
-    ghost gives = { λ before call reply after. (after.pass.ghost_name ≡ before.pass.ghost_name)
-        × IsGivenBy B.plan B.count (port_of before.shards.now before.pass.now) call reply (port_of after.shards.now after.pass.now) };
+    ghost gives = { λ before call reply after. IsCounted ((after.pass.ghost_name ≡ before.pass.ghost_name)
+        × IsGivenBy B.plan B.count (port_of before.shards.now before.pass.now) call reply (port_of after.shards.now after.pass.now))
+        before.tally.who after.tally.who before.tally.count after.tally.count };
 
-    ghost refuses = { λ before call after. (after.pass.ghost_name ≡ before.pass.ghost_name)
-        × IsRefusedBy B.plan B.count (port_of before.shards.now before.pass.now) call (port_of after.shards.now after.pass.now) };
+    ghost refuses = { λ before call after. IsUncounted ((after.pass.ghost_name ≡ before.pass.ghost_name)
+        × IsRefusedBy B.plan B.count (port_of before.shards.now before.pass.now) call (port_of after.shards.now after.pass.now))
+        before.tally.who after.tally.who before.tally.count after.tally.count };
 
     ghost has_handed_out = { λ port. has_found (port_of port.shards.now port.pass.now) };
 
     ghost cell_of = { λ port. cell_of_handle };
 
-    ghost stays = { λ before after call refused. refused.1.same_maps };
+    ghost stays = { λ before after call refused. refused.refused_within.1.same_maps };
 
-    ghost keeps = { λ before after call reply given. keeps_by B.plan B.count _ _ call reply given.1 };
+    ghost keeps = { λ before after call reply given. keeps_by B.plan B.count _ _ call reply given.given_within.1 };
 
-    ghost hands_out = { λ before after call reply given. hands_out_by B.plan B.count _ _ call reply given.1 };
+    ghost hands_out = { λ before after call reply given. hands_out_by B.plan B.count _ _ call reply given.given_within.1 };
 
-    ghost replies = { λ before after call reply given. given.1.formed };
+    ghost replies = { λ before after call reply given. given.given_within.1.formed };
 
     fn lookup(&mut self, map: u32, key: &Key) -> Result<u64, JournalFull> {
         self.shards.planned();

@@ -10,6 +10,7 @@ ghost use Rattle.single_run.specs.SingleRuns.{HasRunAlone, HasStoppedAlone};
 
 use crate::passes::all_passes;
 use frame_runs::run_frame;
+use gates::NoGate;
 use journals::Journals;
 use machine::{Exit, Moment, Stop};
 use semantics::Options;
@@ -50,6 +51,7 @@ fn run_over<B: Naming, W: Wait>(
 {
     let (shards, mut dealer) = opened.share::<B>(alloc)?;
     let mut passes = all_passes(alloc, &mut dealer, shards.options().workers)?;
+    let mut replies = 0;
     let ended = run_frame(
         rt,
         verified,
@@ -57,6 +59,8 @@ fn run_over<B: Naming, W: Wait>(
         moment,
         &shards,
         &mut passes[moment.worker as usize + 2],
+        &NoGate,
+        &mut replies,
     );
     shards.planned();
     let journals = shards.close(rt, passes);

@@ -10,6 +10,7 @@ use super::{
     load_of, lookup,
 };
 use crate::port::ShardPort;
+use gates::{NoGate, Tally};
 use journals::Journals;
 use map_port::MapPort;
 use semantics::{Call, Caller, Entry, JournalFull, Options, Reply};
@@ -33,6 +34,11 @@ fn opened(alloc: Global, journal: u32) -> Result<Opened, Fail>
     Ok(Opened::open(alloc, &image, options)?)
 }
 
+/// A tally of worker 1, which tells nobody.
+fn untold() -> Tally<'static, NoGate> {
+    Tally::new(&NoGate, Caller::Worker { number: 1 }, 0)
+}
+
 /// One run: the calls of the rows, up to the first that is refused.
 fn run<B: Naming, R: Abort + Wait>(
     rt: &R,
@@ -43,9 +49,9 @@ fn run<B: Naming, R: Abort + Wait>(
     requires maps { shards.now.maps ≡ example_maps }
     requires worker { IsTrue (is_worker_below shards.now.options.workers pass.old.who) }
 {
-    let mut port = ShardPort::over(rt, shards, pass);
+    let mut port = ShardPort::over(rt, shards, pass, untold());
     let refused = answers(rt, &mut port, rows);
-    port.finish();
+    let _told = port.finish();
     refused
 }
 
@@ -164,9 +170,9 @@ fn look_once<B: Naming, R: Abort + Wait>(
     requires worker { IsTrue (is_worker_below shards.now.options.workers pass.old.who) }
     ensures who { pass.new.who ≡ pass.old.who }
 {
-    let mut port = ShardPort::over(rt, shards, pass);
+    let mut port = ShardPort::over(rt, shards, pass, untold());
     let result = port.lookup(0, &key_of(0));
-    port.finish();
+    let _told = port.finish();
     result
 }
 

@@ -56,7 +56,8 @@ returns g c =
         commands = subst (λ maps. IsScriptAccounted g.B.Naming.plan maps c.args.shards.options g.B.Naming.count c.args.script.now journals c.refused.result.items)
             c.requires.maps
             (script_stands g.B.Naming.plan c.args.shards.maps c.args.shards.options g.B.Naming.count c.args.script.now c.args.size c.args.commanded.noted.items
-            c.args.commanded.pass journals c.refused.result.items c.requires.script settled.next c.refused.ensures);
+            c.args.commanded.pass journals c.refused.result.items c.planned.ensures.plans c.planned.ensures.options c.requires.script settled.next
+            c.refused.ensures);
         rounds = rounds_stand g.B.Naming.plan g.B.Naming.count (rounds_of (length records)) journals c.args.reclaimed c.requires.rounds.1 settled.last
             c.requires.rounds.0;
       };

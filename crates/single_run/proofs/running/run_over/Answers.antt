@@ -10,6 +10,7 @@ use Rattle.shared_shards.proofs.Each.{or_within}
 use Rattle.shard_port.specs.PassPorts.{is_worker_below, worker_of}
 use Rattle.shard_port.specs.PassSessions.{IsOutsideAt}
 use Rattle.frame_runs.specs.FrameRuns.{HasRun, HasStopped}
+use Rattle.frame_runs.proofs.shared.Untold.{stopped_only}
 use Rattle.single_run.proofs.AloneLemmas.{is_worker, is_below, is_outside, alone_by}
 use Rattle.single_run.proofs.running.run_over.Goals as goal
 
@@ -66,7 +67,7 @@ returns-clause-exit g c =
     (subst (λ (n : ℕ). HasRun (program_of verified options.shards) start g.B.Naming.count n before after exit.verdict exit.steps c.run_frame-ended.new.frame)
     (ap worker_of who)
     (subst (λ (s : SharedMaps). HasRun (program_of verified s.options.shards) start g.B.Naming.count (worker_of before.who) before after exit.verdict exit.steps c.run_frame-ended.new.frame)
-    shared ran))
+    shared ran.0))
     c.close-journals.ensures.maps c.close-journals.ensures.options c.close-journals.ensures.count)
     c.run_frame-ended.ensures.exit
 
@@ -96,6 +97,6 @@ returns-clause-stop g c =
     (subst (λ (n : ℕ). HasStopped (program_of verified options.shards) start g.B.Naming.plan g.B.Naming.count n before after c.run_frame-ended.new.frame stop)
     (ap worker_of who)
     (subst (λ (s : SharedMaps). HasStopped (program_of verified s.options.shards) start g.B.Naming.plan g.B.Naming.count (worker_of before.who) before after c.run_frame-ended.new.frame stop)
-    shared stopped))
+    shared (stopped_only _ _ _ _ _ _ _ _ _ _ stop stopped)))
     c.close-journals.ensures.maps c.close-journals.ensures.options c.close-journals.ensures.count)
     c.run_frame-ended.ensures.stop

@@ -17,18 +17,26 @@ ask-requires-clause-met g c =
     c.cell_of_handle-cell.ensures c.requires
 
 pub returns-in-Ok-clause-gives : goal.returns-in-Ok-clause-gives
-returns-in-Ok-clause-gives g c = (
-  c.ask.ensures.same_pass,
-  load_given g.B.Naming.count g.B.Naming.plan c.args.self.now.shards.now c.ask.new.self.shards.now c.args.self.now.pass.now c.ask.new.self.pass.now c.args.handle c.cell_of_handle-cell.result c.args.offset c.args.width c.in-Ok.number
-      (record { plans = c.planned.ensures.plans; options = c.planned.ensures.options; maps = c.planned.ensures.maps; below = c.args.self.now.ready }) (ap (λ shards. shards.now) c.ask.ensures.same_shards) c.cell_of_handle-cell.ensures
-      c.ask.ensures.elsewhere c.requires c.in-Ok.ensures.answered,
-)
+returns-in-Ok-clause-gives g c = record {
+  given_within = (
+    c.ask.ensures.same_pass,
+    load_given g.B.Naming.count g.B.Naming.plan c.args.self.now.shards.now c.ask.new.self.shards.now c.args.self.now.pass.now c.ask.new.self.pass.now c.args.handle c.cell_of_handle-cell.result c.args.offset c.args.width c.in-Ok.number
+        (record { plans = c.planned.ensures.plans; options = c.planned.ensures.options; maps = c.planned.ensures.maps; below = c.args.self.now.ready }) (ap (λ shards. shards.now) c.ask.ensures.same_shards) c.cell_of_handle-cell.ensures
+        c.ask.ensures.elsewhere c.requires c.in-Ok.ensures.answered,
+  );
+  same_actor = c.ask.ensures.same_actor;
+  one_more = c.in-Ok.ensures.told;
+}
 
 pub returns-in-Err-clause-refuses : goal.returns-in-Err-clause-refuses
-returns-in-Err-clause-refuses g c = (
-  c.ask.ensures.same_pass,
-  cell_refused g.B.Naming.count g.B.Naming.plan c.args.self.now.shards.now c.ask.new.self.shards.now c.args.self.now.pass.now c.ask.new.self.pass.now c.args.handle c.cell_of_handle-cell.result c.args.offset c.args.width
-      (λ one. Load one c.args.offset c.args.width) (λ one. refl)
-      (record { plans = c.planned.ensures.plans; options = c.planned.ensures.options; maps = c.planned.ensures.maps; below = c.args.self.now.ready }) (ap (λ shards. shards.now) c.ask.ensures.same_shards) c.cell_of_handle-cell.ensures
-      c.ask.ensures.elsewhere c.requires c.in-Err.ensures.turned_away,
-)
+returns-in-Err-clause-refuses g c = record {
+  refused_within = (
+    c.ask.ensures.same_pass,
+    cell_refused g.B.Naming.count g.B.Naming.plan c.args.self.now.shards.now c.ask.new.self.shards.now c.args.self.now.pass.now c.ask.new.self.pass.now c.args.handle c.cell_of_handle-cell.result c.args.offset c.args.width
+        (λ one. Load one c.args.offset c.args.width) (λ one. refl)
+        (record { plans = c.planned.ensures.plans; options = c.planned.ensures.options; maps = c.planned.ensures.maps; below = c.args.self.now.ready }) (ap (λ shards. shards.now) c.ask.ensures.same_shards) c.cell_of_handle-cell.ensures
+        c.ask.ensures.elsewhere c.requires c.in-Err.ensures.turned_away,
+  );
+  same_actor = c.ask.ensures.same_actor;
+  same_count = c.in-Err.ensures.untold;
+}

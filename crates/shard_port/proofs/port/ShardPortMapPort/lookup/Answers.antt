@@ -17,17 +17,25 @@ handle_of_found-requires g c =
     c.requires c.shard_of-shard.ensures c.in-Ok.ensures.answered
 
 pub returns-in-Ok-clause-gives : goal.returns-in-Ok-clause-gives
-returns-in-Ok-clause-gives g c = (
-  c.ask.ensures.same_pass,
-  lookup_given g.B.Naming.count g.B.Naming.plan c.args.self.now.shards.now c.ask.new.self.shards.now c.args.self.now.pass.now c.ask.new.self.pass.now c.args.map c.args.key.now c.shard_of-shard.result c.as_slice.result.now c.in-Ok.found c.handle_of_found.result
-      (record { plans = c.planned.ensures.plans; options = c.planned.ensures.options; maps = c.planned.ensures.maps; below = c.args.self.now.ready }) (ap (λ shards. shards.now) c.ask.ensures.same_shards)
-      c.ask.ensures.elsewhere c.requires c.shard_of-shard.ensures c.as_slice.ensures.bytes c.handle_of_found.ensures.handle c.in-Ok.ensures.answered,
-)
+returns-in-Ok-clause-gives g c = record {
+  given_within = (
+    c.ask.ensures.same_pass,
+    lookup_given g.B.Naming.count g.B.Naming.plan c.args.self.now.shards.now c.ask.new.self.shards.now c.args.self.now.pass.now c.ask.new.self.pass.now c.args.map c.args.key.now c.shard_of-shard.result c.as_slice.result.now c.in-Ok.found c.handle_of_found.result
+        (record { plans = c.planned.ensures.plans; options = c.planned.ensures.options; maps = c.planned.ensures.maps; below = c.args.self.now.ready }) (ap (λ shards. shards.now) c.ask.ensures.same_shards)
+        c.ask.ensures.elsewhere c.requires c.shard_of-shard.ensures c.as_slice.ensures.bytes c.handle_of_found.ensures.handle c.in-Ok.ensures.answered,
+  );
+  same_actor = c.ask.ensures.same_actor;
+  one_more = c.in-Ok.ensures.told;
+}
 
 pub returns-in-Err-clause-refuses : goal.returns-in-Err-clause-refuses
-returns-in-Err-clause-refuses g c = (
-  c.ask.ensures.same_pass,
-  lookup_refused g.B.Naming.count g.B.Naming.plan c.args.self.now.shards.now c.ask.new.self.shards.now c.args.self.now.pass.now c.ask.new.self.pass.now c.args.map c.args.key.now c.shard_of-shard.result c.as_slice.result.now
-      (record { plans = c.planned.ensures.plans; options = c.planned.ensures.options; maps = c.planned.ensures.maps; below = c.args.self.now.ready }) (ap (λ shards. shards.now) c.ask.ensures.same_shards)
-      c.ask.ensures.elsewhere c.requires c.shard_of-shard.ensures c.as_slice.ensures.bytes c.in-Err.ensures.turned_away,
-)
+returns-in-Err-clause-refuses g c = record {
+  refused_within = (
+    c.ask.ensures.same_pass,
+    lookup_refused g.B.Naming.count g.B.Naming.plan c.args.self.now.shards.now c.ask.new.self.shards.now c.args.self.now.pass.now c.ask.new.self.pass.now c.args.map c.args.key.now c.shard_of-shard.result c.as_slice.result.now
+        (record { plans = c.planned.ensures.plans; options = c.planned.ensures.options; maps = c.planned.ensures.maps; below = c.args.self.now.ready }) (ap (λ shards. shards.now) c.ask.ensures.same_shards)
+        c.ask.ensures.elsewhere c.requires c.shard_of-shard.ensures c.as_slice.ensures.bytes c.in-Err.ensures.turned_away,
+  );
+  same_actor = c.ask.ensures.same_actor;
+  same_count = c.in-Err.ensures.untold;
+}

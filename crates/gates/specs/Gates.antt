@@ -1,13 +1,14 @@
 -- Ports whose replies are counted.
-use Rattle.std.specs.Prelude.{◌≡◌, ℕ, ◌+◌, ◌%◌, ◌^◌, ℤ}
+use Rattle.std.specs.Prelude.{◌≡◌, ℕ, ◌+◌, ◌%◌, ◌^◌}
 use Rattle.semantics.specs.declared.call.Caller.{Caller}
-use Rattle.semantics.specs.declared.call.Call.{Call}
-use Rattle.semantics.specs.declared.call.Reply.{Reply}
-use Rattle.control.specs.MapUpdates.{MapUpdate}
 
 -- the count of one reply more; it wraps where no replay comes
 abbrev pub next_count : ℕ → ℕ
 next_count count = (count + 1) % 2 ^ 64
+
+-- of so many more
+abbrev pub count_after : ℕ → ℕ → ℕ
+count_after count replies = (count + replies) % 2 ^ 64
 
 -- a reply of the port within, which is counted
 pub record IsCounted (given : Type 0) (who who' : Caller) (count count' : ℕ) : Type 0 where

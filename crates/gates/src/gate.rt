@@ -1,7 +1,7 @@
 //! The test hook of a replay.
 
 ghost use Rattle.std.specs.Prelude.{◌≡◌};
-ghost use Rattle.actors.specs.Gates.{next_count};
+ghost use Rattle.gates.specs.Gates.{next_count};
 
 use semantics::Caller;
 
@@ -39,7 +39,7 @@ impl<'a, G: Gate> Tally<'a, G> {
     }
 
     /// Counts a reply and tells the gate of it.
-    pub(crate) fn replied(&mut self)
+    pub fn replied(&mut self)
         ensures who { self.new.who ≡ self.old.who }
         ensures count { self.new.count ≡ next_count self.old.count }
     {

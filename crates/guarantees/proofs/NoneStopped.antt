@@ -1,0 +1,105 @@
+-- Where no run is counted as stopped, none was.
+use Rattle.std.proofs.Common.{◌≡◌, ◌⊎◌, ℕ, zero, suc, ◌+◌, ◌<◌, ◌==◌, Bool, true, false, not, ◌&&◌, List, [], ◌∷◌, length, refl, sym, ◌∙◌, ap, subst, arith, inl, inr}
+use Rattle.std.specs.Prelude.{Option, Some, None, slice_get}
+use Rattle.std.specs.List.{AllByRecursion}
+use Rattle.std.proofs.lemmas.Bool.{false≢true}
+use Rattle.std.proofs.lemmas.Bool.Decides.{nat_tests}
+use Rattle.workers.specs.declared.counts.Counts.{Counts}
+use Rattle.workers.specs.declared.run_end.Ran.{Ran}
+use Rattle.workers.specs.declared.run_end.RunEnd.{RunEnd}
+use Rattle.workers.specs.declared.run_end.RunEnd.TheVariants.{Stopped, Aborted, Dropped, Passed, Sent as IsSent}
+use Rattle.workers.specs.Accounts.{counted, counts_of, fate_of, runs_at, end_at}
+use Rattle.workers.specs.Jobs.{records_of}
+use Rattle.workers.specs.Shares.{frame_at, is_short, is_handed, worker_of_frame, share}
+use Rattle.semantics.proofs.ConditionLemmas.{second_true}
+use Rattle.guarantees.proofs.ShareOrder.{IsHandedAt, handed_at, each_run}
+
+abbrev pub IsNotStopped : RunEnd → Type 0
+IsNotStopped Stopped = ⊥
+IsNotStopped end = Unit {0}
+
+abbrev pub WasNotStopped : Option RunEnd → Type 0
+WasNotStopped (Some end) = IsNotStopped end
+WasNotStopped None = Unit {0}
+
+-- one record more
+one_more : (counts : Counts) (fate : Option RunEnd) → (counted counts fate).stopped ≡ 0 → (counts.stopped ≡ 0) × WasNotStopped fate
+one_more counts None none = (none, tt)
+one_more counts (Some Stopped) none = absurd (omega (arith, none))
+one_more counts (Some Aborted) none = (none, tt)
+one_more counts (Some Dropped) none = (none, tt)
+one_more counts (Some Passed) none = (none, tt)
+one_more counts (Some (IsSent sent)) none = (none, tt)
+
+less_or_same : (number count : ℕ) → number < suc count → (test : Bool) → (number == count) ≡ test → (number < count) ⊎ (number ≡ count)
+less_or_same number count below true is = inr (grind (arith, nat_tests))
+less_or_same number count below false is = inl (let other : number ≡ count → ⊥ = (λ same. grind (arith, nat_tests)) in omega (arith, below, other))
+
+by_place : (frames : List (List ℕ)) (workers : ℕ) (runs : List (List Ran)) (number count : ℕ) →
+    (number < count → WasNotStopped (fate_of frames workers runs number)) → WasNotStopped (fate_of frames workers runs count) →
+    ((number < count) ⊎ (number ≡ count)) → WasNotStopped (fate_of frames workers runs number)
+by_place frames workers runs number count before last (inl less) = before less
+by_place frames workers runs number count before last (inr same) =
+    subst (λ (n : ℕ). WasNotStopped (fate_of frames workers runs n)) (sym same) last
+
+pub none_of : (frames : List (List ℕ)) (workers : ℕ) (runs : List (List Ran)) (count : ℕ) → (counts_of frames workers runs count).stopped ≡ 0 →
+    (number : ℕ) → number < count → WasNotStopped (fate_of frames workers runs number)
+none_of frames workers runs zero none number below = absurd (omega (arith, below))
+none_of frames workers runs (suc count) none number below =
+    let more = one_more (counts_of frames workers runs count) (fate_of frames workers runs count) none in
+    by_place frames workers runs number count (none_of frames workers runs count more.0 number) more.1
+    (less_or_same number count below (number == count) refl)
+
+-- ---- what became of a record that a worker was handed
+
+long_of : (short own : Bool) → (not short && own) ≡ true → short ≡ false
+long_of true own held = absurd (false≢true held)
+long_of false own held = refl
+
+own_of : (frames : List (List ℕ)) (workers worker number : ℕ) → is_handed frames workers worker number ≡ true →
+    worker_of_frame (frame_at frames number) workers ≡ worker
+own_of frames workers worker number handed =
+    let test : (worker_of_frame (frame_at frames number) workers == worker) ≡ true =
+    second_true (not (is_short (frame_at frames number))) (worker_of_frame (frame_at frames number) workers == worker) handed in
+    grind (arith, nat_tests)
+
+pub is_long : (frames : List (List ℕ)) (workers worker number : ℕ) → is_handed frames workers worker number ≡ true →
+    is_short (frame_at frames number) ≡ false
+is_long frames workers worker number handed =
+    long_of (is_short (frame_at frames number)) (worker_of_frame (frame_at frames number) workers == worker) handed
+
+unfolded : (frames : List (List ℕ)) (workers : ℕ) (runs : List (List Ran)) (number : ℕ) → is_short (frame_at frames number) ≡ false →
+    fate_of frames workers runs number ≡ end_at (runs_at runs (worker_of_frame (frame_at frames number) workers))
+    (length (share frames workers (worker_of_frame (frame_at frames number) workers) number))
+unfolded frames workers runs number long = rw long refl
+
+pub fate_is : (frames : List (List ℕ)) (workers : ℕ) (runs : List (List Ran)) (worker number : ℕ) → is_handed frames workers worker number ≡ true →
+    fate_of frames workers runs number ≡ end_at (runs_at runs worker) (length (share frames workers worker number))
+fate_is frames workers runs worker number handed =
+    unfolded frames workers runs number (is_long frames workers worker number handed)
+    ∙ ap (λ (w : ℕ). end_at (runs_at runs w) (length (share frames workers w number))) (own_of frames workers worker number handed)
+
+-- ---- so each run of a worker ended, and is that of a frame
+
+pub record IsWhole (frames : List (List ℕ)) (ran : Ran) : Type 0 where
+  pub ended : IsNotStopped ran.end
+  pub long : is_short (frame_at frames ran.number) ≡ false
+
+whole_there : (frames : List (List ℕ)) (workers worker count : ℕ) (runs : List (List Ran)) →
+    ((number : ℕ) → number < count → WasNotStopped (fate_of frames workers runs number)) → records_of (runs_at runs worker) ≡ share frames workers worker count →
+    (place : ℕ) (ran : Ran) → slice_get (records_of (runs_at runs worker)) place ≡ Some ran.number → end_at (runs_at runs worker) place ≡ Some ran.end →
+    IsWhole frames ran
+whole_there frames workers worker count runs none are place ran there ends =
+    let at : IsHandedAt frames workers worker count place ran.number =
+    handed_at frames workers worker count place ran.number (ap (λ (l : List ℕ). slice_get l place) (sym are) ∙ there) in
+    let fate : fate_of frames workers runs ran.number ≡ Some ran.end =
+    fate_is frames workers runs worker ran.number at.handed ∙ ap (end_at (runs_at runs worker)) at.place_is ∙ ends in
+    record {
+      ended = subst (λ (f : Option RunEnd). WasNotStopped f) fate (none ran.number at.below);
+      long = is_long frames workers worker ran.number at.handed;
+    }
+
+pub all_whole : (frames : List (List ℕ)) (workers worker count : ℕ) (runs : List (List Ran)) → (counts_of frames workers runs count).stopped ≡ 0 →
+    records_of (runs_at runs worker) ≡ share frames workers worker count → AllByRecursion (IsWhole frames) (runs_at runs worker)
+all_whole frames workers worker count runs none are =
+    each_run (IsWhole frames) (runs_at runs worker) (whole_there frames workers worker count runs (none_of frames workers runs count none) are)
