@@ -34,7 +34,9 @@ abbrev pub run_command : App
 run_command =
     with_rule
     (with_rule
+    (with_rule
     (with_rule (with_rule (new_app (codes "run")) (file_rule (codes "IMAGE"))) (file_rule (codes "FRAME")))
+    (option_rule (codes "journals")))
     (number_rule (codes "now") 18446744073709551615 (codes "0")))
     (number_rule (codes "worker") 4294967295 (codes "0"))
 

@@ -16,6 +16,10 @@ AreKept before after = (name bytes : List ℕ) → (before name bytes ↔ after 
 abbrev pub AreOthersKept : FileBytes → FileBytes → List ℕ → Type 0
 AreOthersKept before after written = (name bytes : List ℕ) → name ≢ written → (before name bytes ↔ after name bytes)
 
+-- each file but the one of this name, if there is one, has the bytes that it had
+abbrev pub AreAllKeptBut : FileBytes → FileBytes → Option (List ℕ) → Type 0
+AreAllKeptBut before after written = (name bytes : List ℕ) → written ≢ Some name → (before name bytes ↔ after name bytes)
+
 -- each file but those of these names, of which the second may be missing, has the bytes that it had
 abbrev pub AreAllButKept : FileBytes → FileBytes → List ℕ → Option (List ℕ) → Type 0
 AreAllButKept before after written other = (name bytes : List ℕ) → name ≢ written → other ≢ Some name → (before name bytes ↔ after name bytes)

@@ -8,6 +8,7 @@ use Rattle.clap.specs.declared.error.kind.ErrorKind.{ErrorKind}
 use Rattle.clap.specs.declared.error.kind.ErrorKind.TheVariants.{ArgumentConflict, ValueValidation}
 use Rattle.semantics.specs.declared.options.Options.{Options}
 use Rattle.xlb.specs.declared.command_line.ReplayFiles.{ReplayFiles}
+use Rattle.xlb.specs.declared.command_line.RunFiles.{RunFiles}
 use Rattle.xlb.specs.declared.command_line.Settings.{Settings}
 use Rattle.xlb.specs.declared.command_line.Settings.TheVariants.{Check, Run, Disasm, Audit, Explain, Asm, Replay}
 use Rattle.xlb.specs.Files.{text_of}
@@ -34,6 +35,12 @@ is_named name wanted = IsTrue (bytes_eq name wanted)
 abbrev pub names_both : ReplayFiles → Bool
 names_both files = is_some files.image && is_some files.script
 
+-- the files of a run are what was found for its arguments
+abbrev pub AreRunFiles : List Row → RunFiles → Type 0
+AreRunFiles rows files = (files.image.now ≡ word_of (codes "IMAGE") rows)
+    × (files.frame.now ≡ word_of (codes "FRAME") rows)
+    × (text_of files.journals ≡ first_of (codes "journals") rows)
+
 -- the files of a replay are what was found for its arguments
 abbrev pub AreReplayFiles : List Row → ReplayFiles → Type 0
 AreReplayFiles rows files = (files.capture.now ≡ word_of (codes "CAPTURE") rows)
@@ -51,9 +58,8 @@ AreReplayOptions rows options = IsNumberOf 32 (codes "workers") rows options.wor
 -- the settings are those of the command of this name, with what was found for its arguments
 abbrev pub IsReadFrom : Text → List Row → Settings → Type 0
 IsReadFrom name rows (Check image) = is_named name (codes "check") × (image.now ≡ word_of (codes "IMAGE") rows)
-IsReadFrom name rows (Run image frame now worker) = is_named name (codes "run")
-    × (image.now ≡ word_of (codes "IMAGE") rows)
-    × (frame.now ≡ word_of (codes "FRAME") rows)
+IsReadFrom name rows (Run files now worker) = is_named name (codes "run")
+    × AreRunFiles rows files
     × IsNumberOf 64 (codes "now") rows now
     × IsNumberOf 32 (codes "worker") rows worker
 IsReadFrom name rows (Disasm image) = is_named name (codes "disasm") × (image.now ≡ word_of (codes "IMAGE") rows)

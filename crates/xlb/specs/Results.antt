@@ -14,16 +14,14 @@ use Rattle.semantics.specs.declared.options.Options.{Options}
 use Rattle.semantics.specs.declared.verdict.Verdict.{Verdict}
 use Rattle.semantics.specs.declared.verdict.Verdict.TheVariants.{Aborted, Drop, Pass, Tx}
 use Rattle.semantics.specs.MachineState.{initial_state}
-use Rattle.shards.specs.Opening.{AreOpened}
-use Rattle.shard_port.specs.PlainPorts.{PortGives}
-use Rattle.shard_port.specs.declared.plain.PlainPort.{PlainPort}
-use Rattle.machine.specs.Running.{Ends}
+use Rattle.single_run.specs.SingleRuns.{HasRunAlone}
 use Rattle.journals.specs.JournalsView.{JournalsView}
 use Rattle.journal_files.specs.JournalReading.{IsJournalsFile}
 use Rattle.audit.specs.Audited.{AreLegal}
 use Rattle.explanations.specs.Explanations.{explanation_text}
-use Rattle.xlb.specs.Files.{FileBytes, AreKept, AreOthersKept, AreAllButKept, IsImageFile, text_of}
-use Rattle.xlb.specs.Replays.{IsReplayedWhole, IsReplayedInPart}
+use Rattle.xlb.specs.Files.{FileBytes, AreKept, AreOthersKept, AreAllButKept, AreAllKeptBut, IsImageFile, text_of}
+use Rattle.xlb.specs.Replays.{AreWritten, IsReplayedWhole, IsReplayedInPart}
+use Rattle.xlb.specs.declared.command_line.RunFiles.{RunFiles}
 use Rattle.xlb.specs.declared.command_line.Settings.{Settings}
 use Rattle.xlb.specs.declared.command_line.Settings.TheVariants.{Check, Run, Disasm, Audit, Explain, Asm, Replay}
 
@@ -68,28 +66,23 @@ run_text verdict steps frame = run_lines (verdict_name verdict) steps (encode_lo
 abbrev pub run_options : Options
 run_options = record { workers = 8; shards = 1; journal = 65536 }
 
--- the program on the frame, at this time and on this worker, over maps in which nothing has happened, ended so: it made calls, a
--- one-thread map gave the replies, and on these replies its run trace has this verdict, so many instructions and this frame
-pub record HasRun (program : Contents) (bytes : List ℕ) (now worker : ℕ) (verdict : Verdict) (steps : ℕ) (left : FrameView) : Type 0 where
-  pub before : PlainPort
-  pub opened : AreOpened program.maps run_options before.shards.now
-  pub maps : before.image.now.maps ≡ program.maps
-  pub caller : before.worker ≡ worker
-  pub after : PlainPort
-  pub ends : Ends PortGives (record { code = program.code; maps = program.maps; shards = 1 })
-      (initial_state (record { bytes = bytes; headroom = 256 }) worker now) before after verdict steps left
-
--- the image may run, the file of the frame is one, and what is printed is what the run came to
-pub record IsRun (files : FileBytes) (image frame : List ℕ) (now worker : ℕ) (printed : List ℕ) : Type 0 where
+-- The image may run, and the file of the frame is one. What is printed is what the program's run came to on the frame, at this time and as this
+-- worker, over maps in which nothing had happened: its own trace on replies that stand in journals, which are legal and have nothing but
+-- this run's calls. Where a file is named for them, it has these journals.
+pub record IsRun (before after : FileBytes) (files : RunFiles) (now worker : ℕ) (printed : List ℕ) : Type 0 where
   pub program : Contents
-  pub file : IsImageFile files image program
+  pub file : IsImageFile before files.image.now program
   pub safe : IsSafeImage program.maps program.code
   pub bytes : List ℕ
-  pub read : files frame bytes
+  pub read : before files.frame.now bytes
   pub verdict : Verdict
   pub steps : ℕ
   pub left : FrameView
-  pub run : HasRun program bytes now worker verdict steps left
+  pub journals : JournalsView
+  pub run :
+      HasRunAlone (record { code = program.code; maps = program.maps; shards = 1 })
+      (initial_state (record { bytes = bytes; headroom = 256 }) worker now) run_options worker verdict steps left journals
+  pub written : AreWritten after (text_of files.journals) journals
   pub lines : printed ≡ run_text verdict steps left.bytes
 
 -- what is printed is the image's text
@@ -120,7 +113,7 @@ pub record IsAssembled (before after : FileBytes) (source target : List ℕ) : T
 -- the command is done over these files, before and after, with this print
 abbrev pub IsDone : FileBytes → FileBytes → Settings → List ℕ → Type 0
 IsDone before after (Check image) printed = IsChecked before image.now printed
-IsDone before after (Run image frame now worker) printed = IsRun before image.now frame.now now worker printed
+IsDone before after (Run files now worker) printed = IsRun before after files now worker printed
 IsDone before after (Disasm image) printed = IsDisassembled before image.now printed
 IsDone before after (Audit image journals) printed = IsAudited before image.now journals.now printed
 IsDone before after (Explain about) printed = printed ≡ explanation_text about
@@ -135,7 +128,7 @@ IsDoneInPart before after other printed = ⊥
 -- no file changes but those that the command is to write, whether it is done or refused
 abbrev pub KeepsFiles : FileBytes → FileBytes → Settings → Type 0
 KeepsFiles before after (Check image) = AreKept before after
-KeepsFiles before after (Run image frame now worker) = AreKept before after
+KeepsFiles before after (Run files now worker) = AreAllKeptBut before after (text_of files.journals)
 KeepsFiles before after (Disasm image) = AreKept before after
 KeepsFiles before after (Audit image journals) = AreKept before after
 KeepsFiles before after (Explain about) = AreKept before after

@@ -12,8 +12,7 @@ pub enum Settings<'a> {
     },
     /// Runs an image on one frame, at a time in nanoseconds, as the worker of a number.
     Run {
-        image: &'a str,
-        frame: &'a str,
+        files: RunFiles<'a>,
         now: u64,
         worker: u32,
     },
@@ -42,6 +41,15 @@ pub enum Settings<'a> {
         /// How many slots the lookup table of the shipped program has.
         ring: u32,
     },
+}
+
+/// The files of a run.
+#[derive(Clone, Copy, Debug, PartialEq, Eq)]
+pub struct RunFiles<'a> {
+    pub image: &'a str,
+    pub frame: &'a str,
+    /// Where the journals are written to.
+    pub journals: Option<&'a str>,
 }
 
 /// The files of a replay.

@@ -2,25 +2,29 @@
 
 ghost use Rattle.std.specs.Prelude.{◌≡◌, ◌==◌, ◌↔◌, ◌+◌, ◌-◌, ◌<◌, ◌≤◌, ◌^◌, ℕ, [], List, IfOk, OnOk, length, take, count_by, string_bytes};
 ghost use Rattle.semantics.specs.Safety.{IsSafeImage};
-ghost use Rattle.semantics.specs.ShardPlan.{AreOptions};
+ghost use Rattle.semantics.specs.MachineState.{initial_state};
 ghost use Rattle.semantics.specs.System.{IsInputFrame};
-ghost use Rattle.shards.specs.Opening.{AreOpened};
+ghost use Rattle.machine.specs.Running.{program_of};
+ghost use Rattle.single_run.specs.SingleRuns.{HasRunAlone};
 ghost use Rattle.disasm.specs.AssemblyText.{IsAssemblyText};
-ghost use Rattle.xlb.specs.Files.{AreKept, AreOthersKept, IsImageFile};
-ghost use Rattle.xlb.specs.Results.{IsChecked, HasRun, IsRun, run_options, IsDisassembled, IsAudited, IsAssembled};
+ghost use Rattle.xlb.specs.Files.{AreAllKeptBut, AreKept, AreOthersKept, IsImageFile, text_of};
+ghost use Rattle.xlb.specs.Results.{IsChecked, IsRun, run_options, IsDisassembled, IsAudited, IsAssembled};
 
+use crate::command_line::RunFiles;
 use crate::fault::Fault;
 use crate::folder::Folder;
 use crate::report::{accepted, outcome};
+use crate::written::write_journals_to;
 use audit::audit;
 use disasm::{AsmFault, assemble, text};
 use ebpf_decode::{Image, decode, encode};
 use journal_files::journals_of;
-use machine::{Exit, Moment, Stop, run};
-use shard_port::PlainPort;
-use shard_port::laws::opened_serve;
-use shards::{OpenFault, Options, Shards};
+use machine::Moment;
+use semantics::Options;
+use shards::OpenFault;
+use single_run::{SingleRun, run_alone};
 use std::alloc::Global;
+use std::sync::Wait;
 use verifier::{Verified, verify};
 use wire::Frame;
 
@@ -138,51 +142,46 @@ pub fn check<D: Folder>(alloc: Global, folder: &mut D, image: &str) -> Result<St
     Ok(accepted(alloc, &verified)?)
 }
 
-/// The run of an image over new shards.
-fn run_over(
-    verified: &Verified,
-    shards: &mut Shards,
-    frame: &mut Frame,
-    moment: &Moment,
-) -> Result<Exit, Stop>
-    requires opened { AreOpened verified.now.maps run_options shards.old }
-    requires options { AreOptions verified.now.maps run_options }
-    requires headroom { frame.old.headroom ≡ 256 }
-    requires worker { moment.now.worker < 8 }
-    ensures { IfOk result (λ exit. HasRun (record { version = verified.now.version; maps = verified.now.maps; code = verified.now.code }) frame.old.bytes moment.now.now_ns moment.now.worker
-        exit.verdict exit.steps frame.new) }
-{
-    opened_serve();
-    let mut port = PlainPort::over(verified.image(), OPTIONS, shards, moment.worker);
-    let stopped = run(verified, frame, moment, &mut port);
-    port.finish();
-    stopped
-}
-
-/// Runs an image on one frame, with maps in which nothing has happened.
-pub fn run_once<D: Folder>(
+/// Runs an image on one frame, with maps in which nothing has happened, and writes the journals where a file is named for them.
+pub fn run_once<W: Wait, D: Folder>(
+    rt: &W,
     alloc: Global,
     folder: &mut D,
-    image: &str,
-    frame: &str,
+    files: &RunFiles<'_>,
     now: u64,
     worker: u32,
 ) -> Result<String, Fault>
     requires { D.failure_count folder.old < 2 ^ 64 - 1 }
-    ensures done { IfOk result (λ text. IsRun (D.holds folder.old) image.now frame.now now worker (string_bytes text)) }
-    ensures kept { AreKept (D.holds folder.old) (D.holds folder.new) }
+    ensures done { IfOk result (λ text. IsRun (D.holds folder.old) (D.holds folder.new) files.now now worker (string_bytes text)) }
+    ensures kept { AreAllKeptBut (D.holds folder.old) (D.holds folder.new) (text_of files.now.journals) }
 {
-    let verified = judged_of(alloc, folder, image)?;
-    let mut frame = frame_of(alloc, folder, frame)?;
+    let verified = judged_of(alloc, folder, files.image)?;
+    let mut frame = frame_of(alloc, folder, files.frame)?;
     let moment = moment_of(now, worker)?;
-    let mut shards = match Shards::open(alloc, verified.image(), OPTIONS) {
-        Ok(shards) => shards,
-        Err(fault) => return Err(Fault::Options(fault)),
+    let SingleRun { ended, journals } = run_over(rt, alloc, &verified, &mut frame, &moment)?;
+    let exit = match ended {
+        Ok(exit) => exit,
+        Err(stop) => return Err(Fault::Run(stop)),
     };
-    let stopped = run_over(&verified, &mut shards, &mut frame, &moment);
-    match stopped {
-        Ok(exit) => Ok(outcome(alloc, exit, &frame)?),
-        Err(stop) => Err(Fault::Run(stop)),
+    write_journals_to(alloc, folder, files.journals, &journals)?;
+    Ok(outcome(alloc, exit, &frame)?)
+}
+
+/// The run of an image over shards of its own.
+fn run_over<W: Wait>(
+    rt: &W,
+    alloc: Global,
+    verified: &Verified,
+    frame: &mut Frame,
+    moment: &Moment,
+) -> Result<SingleRun, Fault>
+    requires { frame.old.headroom ≡ 256 }
+    ensures { IfOk result (λ single. IfOk single.ended (λ exit. HasRunAlone (program_of verified.now 1)
+        (initial_state frame.old moment.now.worker moment.now.now_ns) run_options moment.now.worker exit.verdict exit.steps frame.new single.journals)) }
+{
+    match run_alone(rt, alloc, verified, frame, moment, OPTIONS) {
+        Ok(single) => Ok(single),
+        Err(fault) => Err(Fault::Options(fault)),
     }
 }
 

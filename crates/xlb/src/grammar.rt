@@ -57,8 +57,8 @@ pub const JOURNAL: &str = "journal";
 /// The size of the ring.
 pub const RING: &str = "ring";
 
-/// The file of journals that a replay writes.
-pub const REPLAY_JOURNALS: &str = "journals";
+/// The file of journals that a run or a replay writes.
+pub const JOURNALS_OUT: &str = "journals";
 
 const ABOUT: &str = "Checks, runs, prints and assembles images of eBPF programs";
 
@@ -88,7 +88,9 @@ Prints three lines:
   frame <the frame afterwards, in hexadecimal>
 A dropped frame is thrown away, a passed one goes to the host, and tx sends it
 out; aborted: the program's answer is none of these. The maps are new: the
-elements of an array are zeros, other maps have no keys.";
+elements of an array are zeros, other maps have no keys. With --journals the
+file has the calls that the run made on each map, with their replies, where the
+run came to its end.";
 
 const AFTER_DISASM: &str = "\
 Prints `version 1`, a line for each map and a line for each instruction: what
@@ -199,6 +201,7 @@ fn run<'a>(alloc: Global) -> Result<Command<'a>, AllocError>
         FRAME,
         "The file of the frame's bytes, 14 to 2048 of them",
     );
+    let journals = option(alloc, JOURNALS_OUT, "The file to write the journals to");
     let now = number(alloc, NOW, u64::MAX, "0", "The time in nanoseconds");
     let worker = number(
         alloc,
@@ -210,6 +213,7 @@ fn run<'a>(alloc: Global) -> Result<Command<'a>, AllocError>
     command(alloc, "run", "Runs an image on one frame", AFTER_RUN)
         .arg(image)?
         .arg(frame)?
+        .arg(journals)?
         .arg(now)?
         .arg(worker)
 }
@@ -293,7 +297,7 @@ fn replay_files<'a>(alloc: Global) -> Result<Command<'a>, AllocError>
         "The image's file; without it the shipped program is run",
     );
     let script = option(alloc, SCRIPT, "The controller's script; not with --image");
-    let journals = option(alloc, REPLAY_JOURNALS, "The file to write the journals to");
+    let journals = option(alloc, JOURNALS_OUT, "The file to write the journals to");
     replay_named(alloc)?.arg(image)?.arg(script)?.arg(journals)
 }
 

@@ -14,8 +14,9 @@ mod serve;
 #[cfg(test)]
 mod tests;
 mod words;
+mod written;
 
-pub use command_line::{ReplayFiles, Settings};
+pub use command_line::{ReplayFiles, RunFiles, Settings};
 pub use fault::Fault;
 pub use files::FileFolder;
 pub use folder::{Folder, FolderFault};

@@ -1,23 +1,21 @@
 //! What `xlb replay` does with its files.
 
-ghost use Rattle.std.specs.Prelude.{◌≡◌, ◌≢◌, ◌==◌, ◌↔◌, ◌+◌, ◌-◌, ◌<◌, ◌≤◌, ◌^◌, ℕ, [], true, false, List, Some, IfOk, OnOk, length, string_bytes};
+ghost use Rattle.std.specs.Prelude.{◌≡◌, ◌==◌, ◌↔◌, ◌+◌, ◌-◌, ◌<◌, ◌≤◌, ◌^◌, ℕ, [], true, false, List, IfOk, OnOk, length, string_bytes};
 ghost use Rattle.semantics.specs.Safety.{IsSafeImage};
 ghost use Rattle.wire.specs.CaptureFormat.{IsCaptureFile, capture_bytes};
 ghost use Rattle.steer.specs.ShippedProgram.{shipped_image};
 ghost use Rattle.control.specs.ScriptText.{IsScriptText};
-ghost use Rattle.journal_files.specs.JournalText.{journals_text};
 ghost use Rattle.actors.specs.declared.applied.Applied.{Applied as Noted};
 ghost use Rattle.xlb.specs.Files.{AreKept, AreOthersKept, AreAllButKept, text_of};
-ghost use Rattle.xlb.specs.Replays.{IsProgramOf, IsScriptOf, IsScriptFile, IsCaptureOf, AreWritten, IsReplayed};
+ghost use Rattle.xlb.specs.Replays.{IsProgramOf, IsScriptOf, IsScriptFile, IsCaptureOf, IsReplayed};
 
 use crate::command_line::ReplayFiles;
 use crate::commands::{bytes_of, judged_of};
 use crate::fault::Fault;
 use crate::folder::Folder;
 use crate::report::{Report, replayed};
+use crate::written::write_journals_to;
 use control::{Script, parse_script};
-use journal_files::write_journals;
-use journals::Journals;
 use replay::{NoGate, replay};
 use semantics::Options;
 use std::alloc::{AllocError, Global};
@@ -126,17 +124,6 @@ fn bytes_of_frames(alloc: Global, frames: &[Sent]) -> Result<MemorySink, AllocEr
     }
 }
 
-/// The bytes of the file of these journals.
-fn bytes_of_journals(alloc: Global, journals: &Journals) -> Result<MemorySink, AllocError>
-    ensures { IfOk result (λ sink. sink.bytes ≡ journals_text journals.now) }
-{
-    let mut sink = MemorySink::new(alloc);
-    match write_journals(alloc, &mut sink, journals) {
-        Ok(()) => Ok(sink),
-        Err(_) => Err(AllocError),
-    }
-}
-
 /// Writes the sent frames to their file.
 fn write_sent<D: Folder>(
     alloc: Global,
@@ -153,41 +140,6 @@ fn write_sent<D: Folder>(
     match folder.write(alloc, name, file.bytes()) {
         Ok(()) => Ok(()),
         Err(fault) => Err(Fault::Folder(fault)),
-    }
-}
-
-/// Writes the journals to their file.
-fn write_to<D: Folder>(
-    alloc: Global,
-    folder: &mut D,
-    name: &str,
-    journals: &Journals,
-) -> Result<(), Fault>
-    requires { D.failure_count folder.old < 2 ^ 64 - 1 }
-    ensures written { OnOk result (D.holds folder.new name.now (journals_text journals.now)) }
-    ensures others { AreOthersKept (D.holds folder.old) (D.holds folder.new) name.now }
-{
-    let file = bytes_of_journals(alloc, journals)?;
-    match folder.write(alloc, name, file.bytes()) {
-        Ok(()) => Ok(()),
-        Err(fault) => Err(Fault::Folder(fault)),
-    }
-}
-
-/// Writes the journals, where a file is named for them.
-fn write_journals_to<D: Folder>(
-    alloc: Global,
-    folder: &mut D,
-    name: Option<&str>,
-    journals: &Journals,
-) -> Result<(), Fault>
-    requires { D.failure_count folder.old < 2 ^ 64 - 1 }
-    ensures written { OnOk result (AreWritten (D.holds folder.new) (text_of name.entry) journals.now) }
-    ensures others { (file bytes : List ℕ) → text_of name.entry ≢ Some file → (D.holds folder.old file bytes ↔ D.holds folder.new file bytes) }
-{
-    match name {
-        Some(name) => write_to(alloc, folder, name, journals),
-        None => Ok(()),
     }
 }
 

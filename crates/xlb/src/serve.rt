@@ -35,12 +35,9 @@ fn answer<R: Threads + Wait + Sync, D: Folder>(
 {
     match *settings {
         Settings::Check { image } => Ok(Report::done(check(alloc, folder, image)?)),
-        Settings::Run {
-            image,
-            frame,
-            now,
-            worker,
-        } => Ok(Report::done(run_once(alloc, folder, image, frame, now, worker)?)),
+        Settings::Run { files, now, worker } => {
+            Ok(Report::done(run_once(rt, alloc, folder, &files, now, worker)?))
+        }
         Settings::Disasm { image } => Ok(Report::done(disassemble(alloc, folder, image)?)),
         Settings::Audit { image, journals } => {
             Ok(Report::done(audit_file(alloc, folder, image, journals)?))

@@ -10,6 +10,7 @@ mod first_path;
 mod images;
 mod programs;
 mod replays;
+mod run_journals;
 mod runs;
 mod words;
 

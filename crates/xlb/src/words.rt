@@ -7,12 +7,12 @@ ghost use Rattle.clap.specs.Walk.{first_of};
 ghost use Rattle.clap.specs.Words.{Row, Text, fault_of, found_of, rows_of, subcommand_of};
 ghost use Rattle.xlb.specs.CommandLine.{program};
 ghost use Rattle.xlb.specs.Files.{text_of};
-ghost use Rattle.xlb.specs.Reading.{IsReadFrom, IsAsked, AreReplayFiles, AreReplayOptions, AsksInVain, IsNumberOf, kind_in, word_of};
+ghost use Rattle.xlb.specs.Reading.{IsReadFrom, IsAsked, AreRunFiles, AreReplayFiles, AreReplayOptions, AsksInVain, IsNumberOf, kind_in, word_of};
 ghost use Rattle.clap.specs.declared.error.kind.ErrorKind.TheVariants.{DisplayHelp, DisplayVersion, OutOfMemory};
 
-use crate::command_line::{ReplayFiles, Settings};
+use crate::command_line::{ReplayFiles, RunFiles, Settings};
 use crate::grammar::{
-    CAPTURE, FRAME, IMAGE, JOURNAL, JOURNALS, NOW, NUMBER, OUT, REPLAY_IMAGE, REPLAY_JOURNALS,
+    CAPTURE, FRAME, IMAGE, JOURNAL, JOURNALS, JOURNALS_OUT, NOW, NUMBER, OUT, REPLAY_IMAGE,
     RING, SCRIPT, SENT, SHARDS, TEXT, WORKER, WORKERS, program,
 };
 use clap::{ArgMatches, Error};
@@ -162,7 +162,7 @@ fn replay_files_of<'a>(found: &ArgMatches<'a>) -> ReplayFiles<'a>
         sent: word(found, SENT),
         image: option(found, REPLAY_IMAGE),
         script: option(found, SCRIPT),
-        journals: option(found, REPLAY_JOURNALS),
+        journals: option(found, JOURNALS_OUT),
     }
 }
 
@@ -227,10 +227,20 @@ fn run_of<'a>(found: &ArgMatches<'a>) -> Settings<'a>
     ensures { IsReadFrom (codes "run") (rows_of (found_of found.now)) result }
 {
     Settings::Run {
-        image: word(found, IMAGE),
-        frame: word(found, FRAME),
+        files: run_files_of(found),
         now: found.get_one::<u64>(NOW).unwrap_or(0),
         worker: number_of(found, WORKER, 0),
+    }
+}
+
+/// The files of a run.
+fn run_files_of<'a>(found: &ArgMatches<'a>) -> RunFiles<'a>
+    ensures { AreRunFiles (rows_of (found_of found.now)) result }
+{
+    RunFiles {
+        image: word(found, IMAGE),
+        frame: word(found, FRAME),
+        journals: option(found, JOURNALS_OUT),
     }
 }
 

@@ -1,6 +1,6 @@
 //! Command lines.
 
-use crate::{ReplayFiles, Settings, WordsFault, settings};
+use crate::{ReplayFiles, RunFiles, Settings, WordsFault, settings};
 use semantics::Options;
 use std::alloc::{AllocError, Global};
 use std::test::Fail;
@@ -9,12 +9,7 @@ use std::test::Fail;
 fn shown(alloc: Global, settings: Settings<'_>) -> Result<String, AllocError> {
     match settings {
         Settings::Check { image } => format!(in alloc; "check {image}"),
-        Settings::Run {
-            image,
-            frame,
-            now,
-            worker,
-        } => format!(in alloc; "run {image} {frame} {now} {worker}"),
+        Settings::Run { files, now, worker } => run_shown(alloc, files, now, worker),
         Settings::Disasm { image } => format!(in alloc; "disasm {image}"),
         Settings::Audit { image, journals } => format!(in alloc; "audit {image} {journals}"),
         Settings::Explain { about } => {
@@ -28,6 +23,22 @@ fn shown(alloc: Global, settings: Settings<'_>) -> Result<String, AllocError> {
             ring,
         } => replay_shown(alloc, files, options, ring),
     }
+}
+
+/// A run's words, each at its place.
+fn run_shown(
+    alloc: Global,
+    files: RunFiles<'_>,
+    now: u64,
+    worker: u32,
+) -> Result<String, AllocError> {
+    let RunFiles {
+        image,
+        frame,
+        journals,
+    } = files;
+    let journals = journals.unwrap_or("-");
+    format!(in alloc; "run {image} {frame} {now} {worker} {journals}")
 }
 
 /// A replay's words, each at its place.
@@ -58,18 +69,19 @@ fn replay_shown(
 }
 
 #[rattlefmt::skip]
-const READ: [(&str, &str); 16] = [
+const READ: [(&str, &str); 17] = [
     ("xlb check a",                             "check a"),
     ("xlb disasm a",                            "disasm a"),
     ("xlb asm a b",                             "asm a b"),
     ("xlb audit a b",                           "audit a b"),
     ("xlb explain 1",                           "explain 1"),
     ("xlb explain +095",                        "explain 95"),
-    ("xlb run a b",                             "run a b 0 0"),
-    ("xlb run a b --now 5",                     "run a b 5 0"),
-    ("xlb run --worker=9 a b --now=7",          "run a b 7 9"),
-    ("xlb run a b --now 18446744073709551615",  "run a b 18446744073709551615 0"),
-    ("xlb run a b --worker 4294967295",         "run a b 0 4294967295"),
+    ("xlb run a b",                             "run a b 0 0 -"),
+    ("xlb run a b --now 5",                     "run a b 5 0 -"),
+    ("xlb run --worker=9 a b --now=7",          "run a b 7 9 -"),
+    ("xlb run a b --now 18446744073709551615",  "run a b 18446744073709551615 0 -"),
+    ("xlb run a b --worker 4294967295",         "run a b 0 4294967295 -"),
+    ("xlb run a b --journals j --now 1",        "run a b 1 0 j"),
     ("xlb check -- -a",                         "check -a"),
     ("another check check",                     "check check"),
     ("xlb replay a b",                          "replay a b - - 1 1 65536 251 -"),
