@@ -30,14 +30,18 @@ named_number_rule id most = record (new_rule id) { required = true; action = Som
 abbrev pub check_command : App
 check_command = with_rule (new_app (codes "check")) (file_rule (codes "IMAGE"))
 
+-- a run: its image, its frame, and the file of the journals
+abbrev pub run_named : App
+run_named =
+    with_rule
+    (with_rule (with_rule (new_app (codes "run")) (file_rule (codes "IMAGE"))) (file_rule (codes "FRAME")))
+    (option_rule (codes "journals"))
+
+-- and its numbers
 abbrev pub run_command : App
 run_command =
     with_rule
-    (with_rule
-    (with_rule
-    (with_rule (with_rule (new_app (codes "run")) (file_rule (codes "IMAGE"))) (file_rule (codes "FRAME")))
-    (option_rule (codes "journals")))
-    (number_rule (codes "now") 18446744073709551615 (codes "0")))
+    (with_rule run_named (number_rule (codes "now") 18446744073709551615 (codes "0")))
     (number_rule (codes "worker") 4294967295 (codes "0"))
 
 abbrev pub disasm_command : App

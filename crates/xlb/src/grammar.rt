@@ -191,8 +191,9 @@ fn check<'a>(alloc: Global) -> Result<Command<'a>, AllocError>
     command(alloc, "check", "Judges an image", AFTER_CHECK).arg(image)
 }
 
-fn run<'a>(alloc: Global) -> Result<Command<'a>, AllocError>
-    ensures app { IfOk result (λ command. app_of command ≡ line.run_command) }
+/// The words of a run that name files.
+fn run_named<'a>(alloc: Global) -> Result<Command<'a>, AllocError>
+    ensures app { IfOk result (λ command. app_of command ≡ line.run_named) }
     ensures local { IfOk result (λ command. (out-Command command).has_globals ≡ false) }
 {
     let image = file(alloc, IMAGE, "The image's file");
@@ -202,6 +203,16 @@ fn run<'a>(alloc: Global) -> Result<Command<'a>, AllocError>
         "The file of the frame's bytes, 14 to 2048 of them",
     );
     let journals = option(alloc, JOURNALS_OUT, "The file to write the journals to");
+    command(alloc, "run", "Runs an image on one frame", AFTER_RUN)
+        .arg(image)?
+        .arg(frame)?
+        .arg(journals)
+}
+
+fn run<'a>(alloc: Global) -> Result<Command<'a>, AllocError>
+    ensures app { IfOk result (λ command. app_of command ≡ line.run_command) }
+    ensures local { IfOk result (λ command. (out-Command command).has_globals ≡ false) }
+{
     let now = number(alloc, NOW, u64::MAX, "0", "The time in nanoseconds");
     let worker = number(
         alloc,
@@ -210,12 +221,7 @@ fn run<'a>(alloc: Global) -> Result<Command<'a>, AllocError>
         "0",
         "The worker's number, 0 to 7",
     );
-    command(alloc, "run", "Runs an image on one frame", AFTER_RUN)
-        .arg(image)?
-        .arg(frame)?
-        .arg(journals)?
-        .arg(now)?
-        .arg(worker)
+    run_named(alloc)?.arg(now)?.arg(worker)
 }
 
 fn disasm<'a>(alloc: Global) -> Result<Command<'a>, AllocError>

@@ -12,8 +12,8 @@ ghost use Rattle.clap.specs.declared.error.kind.ErrorKind.TheVariants.{DisplayHe
 
 use crate::command_line::{ReplayFiles, RunFiles, Settings};
 use crate::grammar::{
-    CAPTURE, FRAME, IMAGE, JOURNAL, JOURNALS, JOURNALS_OUT, NOW, NUMBER, OUT, REPLAY_IMAGE,
-    RING, SCRIPT, SENT, SHARDS, TEXT, WORKER, WORKERS, program,
+    CAPTURE, FRAME, IMAGE, JOURNAL, JOURNALS, JOURNALS_OUT, NOW, NUMBER, OUT, REPLAY_IMAGE, RING,
+    SCRIPT, SENT, SHARDS, TEXT, WORKER, WORKERS, program,
 };
 use clap::{ArgMatches, Error};
 use explanations::Explanation;

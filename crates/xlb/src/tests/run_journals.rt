@@ -71,10 +71,16 @@ fn journals_of<R: Abort + Threads + Wait + Sync>(
     assert_eq!(rt; ran.status, 0, "status of {name}");
     assert!(rt; ran.folder.failures() == 0);
     let journals = file(alloc, &mut ran.folder, "j")?;
-    assert!(rt; journals.as_slice() == want.as_bytes(), "journals of {name}");
+    assert!(rt;
+        journals.as_slice() == want.as_bytes(),
+        "journals of {name}"
+    );
     assert!(rt; ran.folder.failures() == 0);
     let found = serve_line(rt, alloc, ran.folder, "xlb audit image j")?;
-    assert!(rt; found.out.bytes() == b"legal\n".as_slice(), "audit of {name}");
+    assert!(rt;
+        found.out.bytes() == b"legal\n".as_slice(),
+        "audit of {name}"
+    );
     Ok(())
 }
 

@@ -10,8 +10,7 @@ use Rattle.xlb.proofs.words.run_of.Goals as goal
 pub returns : goal.returns
 returns c = (
   refl,
-  c.word.ensures,
-  c.word-2.ensures,
+  c.run_files_of.ensures,
   (λ text found numeral fits.
       read_number _ (λ bs r. ParsesUnsigned 64 10 bs r × ExplainsUnsignedError 10 bs r × HasUnsignedDigitsIfOk bs r) 64 (λ t r g. g.0)
       c.get_one.result _ c.unwrap_or.result text c.unwrap_or.ensures
