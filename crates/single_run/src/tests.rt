@@ -187,7 +187,7 @@ fn run_on_zeros<R: Abort + Wait>(
     let single = run_alone(rt, alloc, &verified, &mut frame, &moment, options)?;
     let mut journals = MemorySink::new(alloc);
     write_journals(alloc, &mut journals, &single.journals)?;
-    let first_byte = frame.bytes()[0];
+    let first_byte = frame.bytes().first().copied().unwrap_or(0);
     match single.ended {
         Ok(exit) => Ok(Seen {
             verdict: Some(exit.verdict),
