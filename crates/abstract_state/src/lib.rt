@@ -11,8 +11,6 @@ mod helper;
 mod join;
 mod kind;
 pub mod laws;
-#[cfg(test)]
-mod map_tests;
 mod paths;
 mod places;
 mod refinement;
@@ -20,8 +18,6 @@ mod refusal;
 mod site;
 mod stack;
 mod state;
-#[cfg(test)]
-mod table_tests;
 mod tell;
 mod transfer;
 

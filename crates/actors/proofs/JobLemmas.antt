@@ -7,9 +7,15 @@ use Rattle.semantics.specs.declared.plan.ShardPlan.{ShardPlan}
 use Rattle.shared_shards.specs.CallerView.{nothing_seen}
 use Rattle.shared_shards.specs.Passes.{PassView, view_at}
 use Rattle.actors.specs.declared.applied.Applied.{Applied}
-use Rattle.actors.specs.Jobs.{command_jobs, AreNotedSince, AreCommandsTaken, AreRoundsMade}
+use Rattle.actors.specs.Jobs.{command_jobs, AreCommandsTaken, AreRoundsMade}
 use Rattle.actors.specs.Rounds.{AreReclaimed}
 use Rattle.actors.proofs.RoundLemmas.{no_round}
+
+-- since these were noted, the commands of the jobs were, each once and in order
+pub record AreNotedSince (before after : List Applied) (jobs : List Job) : Type 0 where
+  pub later : List Applied
+  pub noted : after ≡ before ++ later
+  pub each_once : jobs ≡ command_jobs later
 
 command_jobs_more : (noted : List Applied) (last : Applied) → command_jobs (noted ++ last ∷ []) ≡ command_jobs noted ++ CommandJob last.command ∷ []
 command_jobs_more [] last = refl

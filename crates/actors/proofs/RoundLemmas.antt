@@ -15,8 +15,13 @@ use Rattle.semantics.specs.History.{IsJournalFull}
 use Rattle.shared_shards.specs.CallerView.{CallerView, BeginsWith, nothing_seen}
 use Rattle.shared_shards.specs.Passes.{PassView, view_at, own_at, seen_at, IsElsewhereSame}
 use Rattle.shared_shards.specs.Asked.{IsAnswered, IsTurnedAway}
-use Rattle.actors.specs.Rounds.{IsReclaim, IsReclaimed, IsReclaimedBy, IsReclaimedAt, AreReclaimed, IsAsked, IsInRound, is_keyed}
+use Rattle.actors.specs.Rounds.{IsReclaim, IsReclaimed, IsReclaimedBy, IsReclaimedAt, AreReclaimed, IsAsked, is_keyed}
 use Rattle.actors.proofs.shared.FullStays.{full_stays}
+
+-- a round that has come to the shard of this number: those below have had one more than the others
+pub record IsInRound (plan : ℕ → ShardPlan) (count rounds number : ℕ) (pass : PassView) : Type 0 where
+  pub below : (other : ℕ) → other < number → other < count → IsReclaimedAt plan (rounds + 1) pass other
+  pub from : (other : ℕ) → number ≤ other → other < count → IsReclaimedAt plan rounds pass other
 
 later_full : (plan : ShardPlan) (number : ℕ) (after before : List Entry) → BeginsWith after before → IsJournalFull plan before (Reclaim number) →
     IsJournalFull plan after (Reclaim number)

@@ -187,6 +187,17 @@ pub record CommanderView : Type 0 where
   pub controller : ControllerState
   pub port : UpdatesView
 
+-- the same script over the same maps, for a table of the same size
+abbrev pub StaysOf : CommanderView → CommanderView → Type 0
+StaysOf before after =
+    (after.script ≡ before.script) × (after.port.maps ≡ before.port.maps) × (after.port.options ≡ before.port.options) ×
+    (after.controller.size ≡ before.controller.size)
+
+-- what was noted is an account of the script
+abbrev pub HasAccount : (ℕ → ShardPlan) → CommanderView → Type 0
+HasAccount plan view =
+    IsAccount plan view.port.maps view.port.options view.script view.controller.size view.noted view.controller view.port.pass
+
 -- the maps are those of steering for the controller's table, or there is no command
 abbrev pub ServesScript : List MapDef → ℕ → List Command → Type 0
 ServesScript maps size script = (script ≡ []) ⊎ (maps ≡ steering_maps size)

@@ -13,13 +13,7 @@ use Rattle.actors.specs.Rounds.{AreReclaimed}
 abbrev pub command_jobs : List Applied → List Job
 command_jobs noted = map (λ (one : Applied). CommandJob one.command) noted
 
--- since these were noted, the commands of the jobs were, each once and in order
-pub record AreNotedSince (before after : List Applied) (jobs : List Job) : Type 0 where
-  pub later : List Applied
-  pub noted : after ≡ before ++ later
-  pub each_once : jobs ≡ command_jobs later
-
--- and then the end came
+-- since these were noted, the commands of the jobs were, each once and in order, and then the end came
 pub record AreCommandsTaken (before after : List Applied) (jobs : List Job) : Type 0 where
   pub later : List Applied
   pub noted : after ≡ before ++ later

@@ -1,5 +1,5 @@
 -- What rounds of Reclaims leave: in each hash and LRU shard one entry a round, fewer only where its journal is full for it.
-use Rattle.std.specs.Prelude.{◌≡◌, ◌≤◌, ◌<◌, ℕ, ◌+◌, ◌⊎◌, Bool, true, false, List, [], length}
+use Rattle.std.specs.Prelude.{◌≡◌, ◌≤◌, ◌<◌, ℕ, ◌⊎◌, Bool, true, false, List, [], length}
 use Rattle.std.specs.List.{AllByRecursion}
 use Rattle.ebpf_decode.specs.declared.map.MapKind.{MapKind}
 use Rattle.ebpf_decode.specs.declared.map.MapKind.TheVariants.{Array}
@@ -59,8 +59,3 @@ pub record IsReclaimersPort (count : ℕ) (plan : ℕ → ShardPlan) (maps : Lis
 abbrev pub IsAsked : ShardPlan → ℕ → PassView → PassView → Type 0
 IsAsked plan number before after =
     ((freed : ℕ) × IsAnswered plan number before after (Reclaim number) (Freed freed)) ⊎ IsTurnedAway plan number before after (Reclaim number)
-
--- a round that has come to the shard of this number: those below have had one more than the others
-pub record IsInRound (plan : ℕ → ShardPlan) (count rounds number : ℕ) (pass : PassView) : Type 0 where
-  pub below : (other : ℕ) → other < number → other < count → IsReclaimedAt plan (rounds + 1) pass other
-  pub from : (other : ℕ) → number ≤ other → other < count → IsReclaimedAt plan rounds pass other

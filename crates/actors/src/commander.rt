@@ -7,7 +7,7 @@ ghost use Rattle.control.specs.declared.fault.ControlFault.{ControlFault as Faul
 ghost use Rattle.shared_shards.specs.CallerView.{nothing_seen};
 ghost use Rattle.shared_shards.specs.Passes.{view_at};
 ghost use Rattle.conntrack.specs.SteeringMaps.{steering_maps};
-ghost use Rattle.actors.specs.Commands.{CommanderView, HasEffect, IsAccount, ServesScript, opened_controller};
+ghost use Rattle.actors.specs.Commands.{CommanderView, HasEffect, IsAccount, HasAccount, StaysOf, ServesScript, opened_controller};
 
 use crate::applied::Applied;
 use crate::gated_updates::GatedUpdates;
@@ -79,7 +79,7 @@ impl<'a, B: Naming, W: Wait, G: Gate> Commander<'a, B, W, G> {
 
     /// The account of the commands applied so far. The function does nothing: it brings this fact into a proof.
     pub fn account(&self)
-        ensures { IsAccount B.plan self.now.port.maps self.now.port.options self.now.script self.now.controller.size self.now.noted self.now.controller self.now.port.pass }
+        ensures { HasAccount B.plan self.now }
     {
         let _noted = self.noted.len();
     }
@@ -96,7 +96,7 @@ impl<'a, B: Naming, W: Wait, G: Gate> Commander<'a, B, W, G> {
     pub fn apply(&mut self, alloc: Global, number: usize) -> Result<(), AllocError>
         requires { number < length self.old.script }
         ensures noted { OnOk result ((fault : Option Fault) × (self.new.noted ≡ self.old.noted ++ (record { command = number; fault = fault }) ∷ [])) }
-        ensures same { (self.new.script ≡ self.old.script) × (self.new.port.maps ≡ self.old.port.maps) × (self.new.port.options ≡ self.old.port.options) × (self.new.controller.size ≡ self.old.controller.size) }
+        ensures same { StaysOf self.old self.new }
         ensures unchanged { OnErr result (self.new ≡ self.old) }
     {
         if self.noted.reserve(1).is_err() {
@@ -116,7 +116,8 @@ impl<'a, B: Naming, W: Wait, G: Gate> Commander<'a, B, W, G> {
         ensures pass { result.0 ≡ self.entry.port.pass }
         ensures who { result.0.who ≡ TheController }
         ensures noted { result.1.items ≡ self.entry.noted }
-        ensures account { IsAccount B.plan self.entry.port.maps self.entry.port.options self.entry.script self.entry.controller.size result.1.items self.entry.controller result.0 }
+        ensures account { IsAccount B.plan self.entry.port.maps self.entry.port.options self.entry.script self.entry.controller.size
+            result.1.items self.entry.controller result.0 }
     {
         let Commander { port, noted, .. } = self;
         let GatedUpdates { port, .. } = port;

@@ -16,9 +16,11 @@ impl<'a, U: UpdatePort, G: Gate> UpdatePort for GatedUpdates<'a, U, G> {
 
     ghost serves = { λ gated. U.serves gated.port };
 
-    ghost gives = { λ before update answer after. IsCounted (U.gives before.port update answer after.port) before.tally.who after.tally.who before.tally.count after.tally.count };
+    ghost gives = { λ before update answer after. IsCounted (U.gives before.port update answer after.port)
+        before.tally.who after.tally.who before.tally.count after.tally.count };
 
-    ghost refuses = { λ before update after. IsUncounted (U.refuses before.port update after.port) before.tally.who after.tally.who before.tally.count after.tally.count };
+    ghost refuses = { λ before update after. IsUncounted (U.refuses before.port update after.port)
+        before.tally.who after.tally.who before.tally.count after.tally.count };
 
     ghost keeps = { λ before after update answer given. U.keeps before.port after.port update answer given.given_within };
 

@@ -108,7 +108,8 @@ fn next_command<W: Wait>(
 ) -> Option<usize>
     requires { IsTakePassOf queues.now take.old }
     ensures take { IsTakePassOf queues.now take.new × (place_taken_from take.new ≡ place_taken_from take.old) }
-    ensures taken { MatchOption result (jobs_taken take.new ≡ jobs_taken take.old ++ End ∷ []) (λ number. (number < count) × (jobs_taken take.new ≡ jobs_taken take.old ++ CommandJob number ∷ [])) }
+    ensures taken { MatchOption result (jobs_taken take.new ≡ jobs_taken take.old ++ End ∷ [])
+        (λ number. (number < count) × (jobs_taken take.new ≡ jobs_taken take.old ++ CommandJob number ∷ [])) }
 {
     match queues.take_waiting(rt, take) {
         Job::Command(number) => {

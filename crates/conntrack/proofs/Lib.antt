@@ -1,1 +1,2 @@
 mod LayoutLemmas
+mod SendLemmas

@@ -81,6 +81,11 @@ abbrev pub steered_frame : TunnelRecord → Choice → FrameView → FrameView
 steered_frame tunnel (Tx number address updates_flows) frame = encapsulated_frame (tunnel_to tunnel address) frame
 steered_frame tunnel choice frame = frame
 
+-- the same by the tunnel's record; without one nothing is sent
+abbrev pub frame_after : Option TunnelRecord → Choice → FrameView → FrameView
+frame_after (Some tunnel) choice frame = steered_frame tunnel choice frame
+frame_after None choice frame = frame
+
 -- what is put into the map of flows: under the flow's key, the chosen backend
 abbrev pub flow_update : List ℕ → Choice → Option (List ℕ × List ℕ)
 flow_update frame (Tx number address true) = Some (flow_bytes_of frame, flow_bytes (record { backend = number }))

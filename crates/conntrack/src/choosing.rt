@@ -1,12 +1,14 @@
 //! The steering rule in plain Rust.
 
-ghost use Rattle.std.specs.Prelude.{◌≡◌, ℕ, ◌≤◌, Bool, length};
-ghost use Rattle.conntrack.specs.SteeringRule.{IsSteered, fits_tunnel, choice_if_up, choice_of, tracked_choice, ring_choice, verdict_of_choice, tunnel_to, counted_verdict, is_set_up};
+ghost use Rattle.std.specs.Prelude.{◌≡◌, ℕ, ◌≤◌, Bool, List, length};
+ghost use Rattle.wire.specs.FlowForm.{flow_bytes_of};
+ghost use Rattle.wire.specs.FlowBytes.{flow_key_bytes};
+ghost use Rattle.conntrack.specs.SteeringRule.{IsSteered, fits_tunnel, choice_if_up, choice_of, tracked_choice, ring_choice, verdict_of_choice, tunnel_to, counted_verdict, is_set_up, flow_update};
 
-use crate::records::{BackendRecord, TunnelRecord, VipRecord};
+use crate::records::{BackendRecord, FlowRecord, TunnelRecord, VipRecord};
 use ipip::Tunnel;
 use semantics::Verdict;
-use wire::{Frame, Ipv4Address, flow_of};
+use wire::{FlowKey, Frame, Ipv4Address, flow_of};
 
 /// The most bytes of a packet that fits through the tunnel.
 const MOST: u16 = 1480;
@@ -65,6 +67,21 @@ impl Choice {
             Choice::Drop => 1,
             Choice::Pass => 2,
             Choice::Tx { .. } => 3,
+        }
+    }
+
+    /// What is put into the map of flows where the choice is of a frame of this flow: the flow's key and the record of the chosen backend, where that is
+    /// to be noted.
+    pub fn flow_update(&self, flow: &FlowKey) -> Option<([u8; 16], [u8; 8])>
+        ensures { (frame : List ℕ) → flow_key_bytes flow.now ≡ flow_bytes_of frame → result ≡ flow_update frame self.now }
+    {
+        match self {
+            Choice::Tx {
+                number,
+                updates_flows: true,
+                ..
+            } => Some((flow.bytes(), FlowRecord { backend: *number }.bytes())),
+            _ => None,
         }
     }
 }

@@ -10,6 +10,7 @@ mod choosing;
 mod fault;
 mod keys;
 mod records;
+mod steering;
 mod steering_maps;
 #[cfg(test)]
 mod tests;
@@ -18,4 +19,5 @@ pub use choosing::{Assigned, Choice, Records, choose};
 pub use fault::SteerFault;
 pub use keys::{Service, index_key};
 pub use records::{BackendRecord, FlowRecord, RingRecord, TunnelRecord, VipRecord};
+pub use steering::steer;
 pub use steering_maps::{SteeringMap, maps, table_size};

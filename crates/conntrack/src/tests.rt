@@ -2,9 +2,8 @@
 
 use crate::{
     Assigned, BackendRecord, Choice, FlowRecord, Records, RingRecord, Service, SteerFault,
-    TunnelRecord, VipRecord, choose, maps, table_size,
+    TunnelRecord, VipRecord, choose, maps, steer, table_size,
 };
-use ipip::encapsulate;
 use wire::{Frame, Ipv4Address, MacAddress, Transport, flow_of};
 
 // A UDP datagram from 198.51.100.7 to 203.0.113.1, port 80.
@@ -128,11 +127,36 @@ fn frames_that_cannot_be_steered(rt: HostRuntime) -> Result<(), wire::FrameFault
 
 #[test]
 fn the_chosen_backend_gets_the_frame(rt: HostRuntime) -> Result<(), wire::FrameFault> {
+    let records = Records {
+        vip: TRACKED,
+        tunnel: READY,
+        tracked: None,
+        slot: backend(0, true),
+    };
     let mut frame = Frame::of(rt.alloc(), &UDP)?;
-    let tunnel = TUNNEL.to(Ipv4Address([192, 0, 2, 1]));
-    assert_eq!(&rt; encapsulate(&mut frame, tunnel), Ok(()));
+    assert_eq!(&rt; steer(&mut frame, &records), sent_to(0, true));
     assert_eq!(&rt; frame.bytes(), SENT.as_slice());
+    let down = Records {
+        slot: backend(0, false),
+        ..records
+    };
+    let mut frame = Frame::of(rt.alloc(), &UDP)?;
+    assert_eq!(&rt; steer(&mut frame, &down), Choice::Drop);
+    assert_eq!(&rt; frame.bytes(), UDP.as_slice());
     Ok(())
+}
+
+#[test]
+fn the_flow_is_noted_where_its_owner_is_chosen(rt: HostRuntime) {
+    let Some(flow) = flow_of(&UDP) else {
+        panic!(&rt; "the frame has a flow");
+    };
+    #[rattlefmt::skip]
+    let key = [198, 51, 100, 7, 203, 0, 113, 1, 0x9c, 0x40, 0, 0x50, 0x11, 0, 0, 0];
+    let noted = Some((key, [3, 0, 0, 0, 0, 0, 0, 0]));
+    assert_eq!(&rt; sent_to(3, true).flow_update(&flow), noted);
+    assert_eq!(&rt; sent_to(3, false).flow_update(&flow), None);
+    assert_eq!(&rt; Choice::Drop.flow_update(&flow), None);
 }
 
 #[test]

@@ -1,7 +1,8 @@
 -- What is read of a script: its commands, or the first line that is none.
-use Rattle.std.specs.Prelude.{◌≡◌, ◌≢◌, ℕ, ◌+◌, ◌<◌, ◌≤◌, ◌⊎◌, ◌==◌, List, [], ◌∷◌, ◌++◌, length, take, slice_index, Option, Some, None, count_by}
+use Rattle.std.specs.Prelude.{◌≡◌, ◌≢◌, ℕ, ◌+◌, ◌<◌, ◌≤◌, ◌⊎◌, List, [], ◌∷◌, ◌++◌, length, slice_index, Option, Some, None}
 use Rattle.std.specs.List.{AllByRecursion}
-use Rattle.std.specs.Str.{IsUtf8, IsValidUpTo}
+use Rattle.std.specs.Str.{IsUtf8}
+use Rattle.text_lines.specs.NoText.{IsNoText}
 use Rattle.control.specs.declared.command.Command.{Command}
 use Rattle.control.specs.declared.fault.ControlFault.{ControlFault}
 use Rattle.control.specs.declared.fault.ControlFault.TheVariants.{BadLine, Memory}
@@ -58,13 +59,6 @@ pub record IsBadAfter (text : List ℕ) (line : ℕ) : Type 0 where
   pub text_is : text ≡ script_text commands ++ rest
   pub not_ended : 0 < length rest
   pub stops : BeginsWithNoneFrom (last_frame 0 commands) rest
-
--- the line of the first byte that is no UTF-8
-pub record IsNoText (bytes : List ℕ) (line : ℕ) : Type 0 where
-  pub valid : ℕ
-  pub not_utf8 : ¬ IsUtf8 bytes
-  pub valid_up_to : IsValidUpTo bytes valid
-  pub line_is : line ≡ 1 + count_by (λ byte. byte == 10) (take valid bytes)
 
 -- the line, counted from 1, for which the bytes are refused
 abbrev pub IsBadLine : List ℕ → ℕ → Type 0

@@ -11,8 +11,6 @@ mod printing;
 mod reading;
 mod ring_changes;
 mod sending;
-#[cfg(test)]
-mod tests;
 mod update;
 mod update_list;
 mod update_port;

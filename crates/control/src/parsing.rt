@@ -1,13 +1,13 @@
 //! A script read from its text.
 
-ghost use Rattle.std.specs.Prelude.{◌≡◌, ◌≤◌, ◌+◌, ◌<◌, ◌==◌, List, ℕ, count_by, length, take, IfOk, IfErr, MatchResult};
+ghost use Rattle.std.specs.Prelude.{◌≡◌, ◌≤◌, ◌+◌, ◌<◌, List, ℕ, length, IfOk, IfErr, MatchResult};
 ghost use Rattle.std.specs.Option.{MatchOption};
 ghost use Rattle.std.specs.Str.{IsUtf8};
 ghost use Rattle.control.specs.declared.command.Command.{Command as Line};
 ghost use Rattle.control.specs.declared.fault.ControlFault.{ControlFault as Fault};
 ghost use Rattle.control.specs.declared.fault.ControlFault.TheVariants.{BadLine, Memory};
 ghost use Rattle.control.specs.ScriptText.{IsScriptText};
-ghost use Rattle.control.specs.ScriptReading.{TellsCommand, BeginsWithNoCommand, IsFirstCommand, AreRead, IsNoText, IsBadLine, Explains};
+ghost use Rattle.control.specs.ScriptReading.{TellsCommand, BeginsWithNoCommand, IsFirstCommand, AreRead, IsBadLine, Explains};
 
 use crate::command::{Command, Script};
 use crate::facts::script_is_of_its_text;
@@ -15,6 +15,7 @@ use crate::fault::ControlFault;
 use crate::printing::line;
 use crate::reading::command_read;
 use std::alloc::{AllocError, Global};
+use text_lines::text_or_line;
 
 /// The command whose line this is, if it is one's: what was read is printed again and compared.
 fn command_of(alloc: Global, text: &str) -> Result<Option<Command>, AllocError>
@@ -60,28 +61,6 @@ fn commands_of(alloc: Global, text: &str) -> Result<(Vec<Command>, &str), AllocE
     Ok((commands, rest))
 }
 
-/// The line, counted from 1, of the byte at an index.
-fn line_at(bytes: &[u8], index: usize) -> usize
-    requires { index < length bytes.now }
-    ensures { result ≡ 1 + count_by (λ byte. byte == 10) (take index bytes.now) }
-{
-    let before = &bytes[..index];
-    1 + before.iter().filter(|byte| **byte == b'\n').count()
-}
-
-/// The bytes as text, or the line of the first byte that is none.
-fn text_of(bytes: &[u8]) -> Result<&str, ControlFault>
-    ensures text { IfOk result (λ text. (text.now ≡ bytes.now) × IsUtf8 bytes.now) }
-    ensures no_text { IfErr result (λ fault. (line : ℕ) × (fault ≡ BadLine line) × IsNoText bytes.now line) }
-{
-    match str::from_utf8(bytes) {
-        Ok(text) => Ok(text),
-        Err(error) => Err(ControlFault::BadLine {
-            line: line_at(bytes, error.valid_up_to()),
-        }),
-    }
-}
-
 /// The line after those of the commands.
 fn bad_line_after(commands: &[Command]) -> ControlFault
     ensures { result ≡ BadLine (1 + length commands.now) }
@@ -120,9 +99,9 @@ pub fn parse_script(alloc: Global, bytes: &[u8]) -> Result<Script, ControlFault>
     ensures only { (script : List Line) → IsScriptText bytes.now script → IfOk result (λ made. made ≡ script) }
     ensures accepts { (script : List Line) → IsScriptText bytes.now script → IfErr result (λ fault. fault ≡ Memory) }
 {
-    match text_of(bytes) {
+    match text_or_line(bytes) {
         Ok(text) => script_of(alloc, text),
-        Err(fault) => Err(fault),
+        Err(line) => Err(ControlFault::BadLine { line }),
     }
 }
 

@@ -65,7 +65,7 @@ hex_value (suc k) n lt =
     let last : digit_value (hex_digit (n % 16)) ≡ n % 16 = digit_back (n % 16) (omega arith) in
     value_append 0 (hex_digits k (n / 16)) (hex_digit (n % 16)) ∙ rw (front, last) (omega arith)
 
-whole : bound 16 ≡ 2 ^ 64
+pub whole : bound 16 ≡ 2 ^ 64
 unfolding bound
 whole = refl
 

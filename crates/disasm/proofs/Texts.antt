@@ -154,7 +154,7 @@ allowed_fits version m h =
     let f = parts_fit version m.kind m.key_size m.value_size m.max_entries h in
     record { key_size = f.0; value_size = f.1; max_entries = f.2 }
 
-all_fit : (version : Version) (maps : List MapDef) → AllByRecursion (IsAllowedMap version) maps → AllByRecursion MapFits maps
+pub all_fit : (version : Version) (maps : List MapDef) → AllByRecursion (IsAllowedMap version) maps → AllByRecursion MapFits maps
 all_fit version [] h = tt
 all_fit version (m ∷ maps) h = (allowed_fits version m h.0, all_fit version maps h.1)
 

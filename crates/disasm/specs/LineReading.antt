@@ -23,7 +23,7 @@ Lacks mark xs = (i : ℕ) → i < length xs → slice_index xs i ≢ mark
 abbrev pub begins_with_register : List ℕ → Register → Bool
 begins_with_register text r = starts_with (λ a b. a == b) text (register_text r)
 
--- the numbers fit their fields
+-- a number fits 64 bits, a distance 32; that they fit the fields is tested when the line is printed again
 abbrev pub OperandFits : Operand → Type 0
 OperandFits (operands.Register r) = Unit {0}
 OperandFits (operands.Number value) = FitsSigned w64 value

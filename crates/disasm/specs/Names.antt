@@ -1,5 +1,5 @@
 -- The first word of an instruction's line: a stem, and a suffix for the width or the size.
-use Rattle.std.specs.Prelude.{ℕ, List, [], ◌++◌, codes}
+use Rattle.std.specs.Prelude.{◌≡◌, ℕ, List, [], ◌++◌, codes}
 use Rattle.isa.specs.declared.operation.Width.{Width}
 use Rattle.isa.specs.declared.operation.Width.TheVariants.{Bits32, Bits64}
 use Rattle.isa.specs.declared.operation.AluOp.{AluOp}
@@ -147,3 +147,8 @@ head_suffix head = []
 
 unfoldable pub head_name : Head → List ℕ
 head_name head = head_stem head ++ head_suffix head
+
+-- the word is the first of an instruction's line
+pub record Spells (word : List ℕ) : Type 0 where
+  pub head : Head
+  pub is : word ≡ head_name head

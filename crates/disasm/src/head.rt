@@ -1,9 +1,9 @@
 //! The first word of an instruction's line.
 
-ghost use Rattle.std.specs.Prelude.{◌≡◌, ◌++◌, string_bytes, OnOk};
+ghost use Rattle.std.specs.Prelude.{◌≡◌, ◌++◌, string_bytes, OnOk, true};
 ghost use Rattle.std.specs.List.{find};
 ghost use Rattle.std.specs.Str.{bytes_eq};
-ghost use Rattle.disasm.specs.Names.{alu_name, width_suffix, extension_bits, short_bits, order_name, swap_bits, test_name, size_letters, extension_letter, width_letters, atomic_name, head_stem, head_suffix, head_name};
+ghost use Rattle.disasm.specs.Names.{alu_name, width_suffix, extension_bits, short_bits, order_name, swap_bits, test_name, size_letters, extension_letter, width_letters, atomic_name, head_stem, head_suffix, head_name, Spells};
 
 use isa::{AluOp, AtomicOp, ByteOrder, Extension, ShortExtension, Size, SwapWidth, Test, Width};
 use std::alloc::AllocError;
@@ -284,4 +284,15 @@ fn first_named(all: &[Head], name: &str) -> Option<Head>
     ensures { result ≡ find (λ head. bytes_eq (head_name head) name.now) all.now }
 {
     all.iter().copied().find(|head| head.is_named(name))
+}
+
+/// Whether an instruction's line begins with the word.
+pub fn is_first_word(word: &str) -> bool
+    ensures known { (head : Head) → word.now ≡ head_name head → result ≡ true }
+    ensures only { result ≡ true → Spells word.now }
+{
+    match first_named(&HEADS, word) {
+        Some(_) => true,
+        None => false,
+    }
 }

@@ -13,8 +13,7 @@ mod spelling;
 
 pub use assembling::{assemble, round_trip};
 pub use fault::AsmFault;
+pub use head::is_first_word;
+pub use operand::{Operand, operand_text};
 pub use printing::text;
 pub use spelling::line;
-
-#[cfg(test)]
-mod tests;

@@ -1,6 +1,6 @@
 //! What comes after the first word of an instruction's line.
 
-ghost use Rattle.std.specs.Prelude.{◌≡◌, ◌++◌, ◌<◌, ◌^◌, ℕ, string_bytes, OnOk};
+ghost use Rattle.std.specs.Prelude.{◌≡◌, ◌++◌, ◌<◌, ◌^◌, ℕ, string_bytes, IfOk, OnOk};
 ghost use Rattle.disasm.specs.AssemblyText.{register_text, with_sign, hex_digit, hex_digits, operand_text, operands_text};
 
 use isa::Register;
@@ -148,4 +148,13 @@ fn put_after(
 {
     out.push_str(mark)?;
     operand.put(alloc, out)
+}
+
+/// The text of an operand. It can fail only for lack of memory.
+pub fn operand_text(alloc: Global, operand: Operand) -> Result<String, AllocError>
+    ensures { IfOk result (λ text. string_bytes text ≡ operand_text operand) }
+{
+    let mut out = String::new(alloc);
+    operand.put(alloc, &mut out)?;
+    Ok(out)
 }

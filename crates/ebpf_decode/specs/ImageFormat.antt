@@ -1,5 +1,6 @@
 -- The image format: the bytes 58 4c 42 50, the version (1 or 2), the number of maps, two zero bytes; sixteen bytes for each
--- map; then the slots to the end. Reading gives the image or the first fault, in the order of the numbers.
+-- map; then the slots to the end. Reading gives the image or the first fault: in the order of the
+-- numbers, but of 15 to 19 the first slot's.
 use Rattle.std.specs.Prelude.{◌≡◌, ◌≢◌, ℕ, zero, suc, ◌+◌, ◌*◌, ◌/◌, ◌%◌, Bool, nat_le, nat_lt, ◌==◌, ◌&&◌, ◌||◌, not, List, [], ◌∷◌, ◌++◌, length, drop, slice_index, Option, Some, None, is_some, unwrap_or, Result, Ok, Err, if◌then◌else◌}
 use Rattle.std.specs.List.{flat_map}
 use Rattle.std.specs.Option.{ok_or}

@@ -24,6 +24,3 @@ pub use map::{MapDef, MapKind};
 pub use reading::decode;
 pub use version::Version;
 pub use writing::{encode, one_encoding};
-
-#[cfg(test)]
-mod tests;

@@ -2,8 +2,10 @@
 #![tactic(auto)]
 
 mod explanation;
+mod refusal;
 mod table;
 #[cfg(test)]
 mod tests;
 
 pub use explanation::Explanation;
+pub use refusal::refusal_text;

@@ -305,7 +305,7 @@ pub(crate) fn kinds(number: u8) -> Explanation
             number: 41,
             name: "Misaligned",
             meaning: "An access is at no multiple of its width.",
-            causes: "A word of the stack or of a value is read at an odd place; an atomic operation of a value always has to be aligned.",
+            causes: "The stack or a value is read or written at no multiple of the width; an atomic operation of a value always has to be aligned.",
             example: "`stw [r10-6], 0`: 4 bytes may stand at -4 or -8.",
         },
         42 => Explanation {
@@ -333,7 +333,7 @@ pub(crate) fn kinds(number: u8) -> Explanation
             number: 45,
             name: "BadArgument",
             meaning: "An argument of a call is of the wrong kind.",
-            causes: "r1 is no map (or for helper 44 not the context), or r2 or r3 does not point to the stack.",
+            causes: "r1 is no map (or for helper 44 not the context), r2 or r3 does not point to the stack, or what has to be a number is none (r4 of helper 2, r2 of helper 44).",
             example: "A key that lies in the packet: copy it to the stack first.",
         },
         46 => Explanation {
@@ -562,7 +562,7 @@ pub(crate) fn scripts(number: u8) -> Explanation
         _ => Explanation {
             number: 95,
             name: "Memory",
-            meaning: "Memory was refused for a command of a script.",
+            meaning: "Memory was refused for a script, or for a command of it.",
             causes: "Too little memory is free.",
             example: "A limit set by `ulimit -v` is too low.",
         },

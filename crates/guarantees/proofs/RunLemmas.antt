@@ -1,21 +1,25 @@
 -- What a run over shards comes to, from what its calls ensure.
-use Rattle.std.proofs.Common.{◌≡◌, inl, inr, ⊎_elim, ℕ, List, [], ◌∷◌, Some, sym, subst, ◌∙◌, ap}
+use Rattle.std.proofs.Common.{◌≡◌, inl, inr, ⊎_elim, ℕ, ◌<◌, List, [], ◌∷◌, length, reverse, Option, Some, sym, subst, ◌∙◌, ap}
 use Rattle.std.specs.Prelude.{IsFalse, slice_get}
+use Rattle.std.proofs.lemmas.List.{length-set}
+use Rattle.std.proofs.lemmas.Option.{slice_get_within}
 use Rattle.wire.specs.FrameView.{FrameView}
 use Rattle.semantics.specs.declared.call.Call.{Call}
+use Rattle.semantics.specs.declared.call.Reply.{Reply}
+use Rattle.semantics.specs.History.{shard_of_call, IsJournalFull}
 use Rattle.semantics.specs.declared.options.Options.{Options}
 use Rattle.semantics.specs.declared.verdict.Verdict.{Verdict}
 use Rattle.verifier.specs.Verified.{Verified}
 use Rattle.shard_core.specs.JournaledShard.{JournaledShard}
 use Rattle.map_port.specs.Exchanges.{Exchange, IsChain}
-use Rattle.shard_port.specs.Asking.{is_in, all_left, enter_entry, leave_entry}
+use Rattle.shard_port.specs.Asking.{is_in, can_enter, entered, all_left, enter_entry, leave_entry, CannotEnter, CannotCall}
 use Rattle.shard_port.specs.declared.plain.PlainPort.{PlainPort}
 use Rattle.shard_port.specs.PlainPorts.{PortGives, PortRefuses}
-use Rattle.shard_port.specs.Sessions.{WritesSessions, WritesRefusedSessions, StaysOnePort, IsOutsideAll, LeavesOthersAlone, IsVisited, with_entries, session, entries_at}
+use Rattle.shard_port.specs.Sessions.{WritesSessions, WritesRefusedSessions, StaysOnePort, IsOutsideAll, LeavesOthersAlone, IsVisited, with_entries, begun, session, entries_at}
 use Rattle.machine.specs.declared.exit.Stop.{Stop}
 use Rattle.machine.specs.declared.exit.Stop.TheVariants.{JournalFull}
 use Rattle.machine.specs.Running.{program_of, Ends, Stops, StopsSo}
-use Rattle.guarantees.specs.Runs.{IsOutside, Start, state_at, IsStoppedBeginning, IsPortOver, IsFinished, Ran, AreWritten, AreWrittenBut, IsTheMeaning}
+use Rattle.guarantees.specs.Runs.{IsOutside, Start, state_at, IsStoppedBeginning, IsPortOver, IsFinished, Ran, AreWritten, AreWrittenBut, WasFull, IsTheMeaning}
 use Rattle.guarantees.specs.Guarantees.{RunsAreTheirMeaning, StoppedRunsAreBeginnings, RunsLeaveOthersAlone}
 use Rattle.guarantees.proofs.JournalLemmas.{are_legal}
 
@@ -79,17 +83,63 @@ written_but writes worker options before after port middle later exchanges call 
     (λ (visited : IsVisited port.worker later number shard (entries_at port.worker number exchanges) call).
     inr (
       visited.own,
+      ap (λ one. entries_at one number exchanges) (sym over.same_worker) ∙ visited.first_call,
       here ∙ visited.finished ∙ ap (λ one. Some
           (with_entries shard (enter_entry one shard.plan.number ∷ leave_entry one shard.plan.number ∷ []))) over.same_worker,
     ))
     of_port
 
-pub stopped_is_beginning : WritesRefusedSessions → StaysOnePort → IsOutsideAll → StoppedRunsAreBeginnings
-stopped_is_beginning writes stays leaves verified options start before after shard frame outside was =
+-- calls leave as many shards as there were
+as_many : (one two : PlainPort) (call : Call) (reply : Reply) → PortGives one call reply two → length two.shards.now ≡ length one.shards.now
+as_many one two call reply given =
+    ap (λ (shards : List JournaledShard). length shards) given.given.answered.put_back
+    ∙ length-set one.shards.now (shard_of_call call) given.given.answered.new
+
+chain_count : (before after : PlainPort) (exchanges : List Exchange) → IsChain PortGives before exchanges after →
+    length after.shards.now ≡ length before.shards.now
+chain_count before after [] chain = ap (λ (port : PlainPort). length port.shards.now) (sym chain)
+chain_count before after (exchange ∷ later) chain =
+    chain_count chain.0 after later chain.2 ∙ as_many before chain.0 exchange.call exchange.reply chain.1
+
+same_found : (found : Option JournaledShard) (one two : JournaledShard) → found ≡ Some one → found ≡ Some two → one ≡ two
+same_found found one two first second = cc (first, second)
+
+-- the shard that refused a call was full for it, or for the Enter before it
+was_full : WritesSessions → (worker : ℕ) (options : Options) (before : List JournaledShard) (port middle later : PlainPort) (exchanges : List Exchange)
+    (call : Call) → IsPortOver options worker before port → IsChain PortGives port exchanges middle → middle.worker ≡ worker →
+    PortRefuses middle call later → IsOutside worker before → (one : JournaledShard) → slice_get before (shard_of_call call) ≡ Some one →
+    WasFull call worker exchanges one
+was_full writes worker options before port middle later exchanges call over chain same refuses outside one known =
+    let number : ℕ = shard_of_call call in
+    let there : slice_get port.shards.now number ≡ Some one =
+    subst (λ (shards : List JournaledShard). slice_get shards number ≡ Some one) (sym over.same_shards) known in
+    let of_port : slice_get middle.shards.now number ≡ Some
+    (with_entries one (begun port.worker one.plan.number (entries_at port.worker number exchanges))) =
+    (writes port middle exchanges chain number one there (outside_at worker options before port over outside number one there)).0 in
+    let here : JournaledShard = with_entries one (begun worker one.plan.number (entries_at worker number exchanges)) in
+    let now : slice_get middle.shards.now number ≡ Some here =
+    of_port ∙ ap (λ (n : ℕ). Some (with_entries one (begun n one.plan.number (entries_at n number exchanges)))) over.same_worker in
+    let away = refuses.refused.turned_away in
+    let is : away.shard ≡ here = same_found _ _ _ away.known now in
+    ⊎_elim
+    (λ (out : CannotEnter middle.worker away.shard away.new). inl (subst (λ (n : ℕ). IsFalse (can_enter n here)) same
+    (subst (λ (s : JournaledShard). IsFalse (can_enter middle.worker s)) is out.full)))
+    (λ (out : CannotCall middle.worker away.shard call away.new). inr
+    (subst (λ (n : ℕ). IsJournalFull here.plan (reverse (entered n here).journal) call) same
+    (subst (λ (s : JournaledShard). IsJournalFull s.plan (reverse (entered middle.worker s).journal) call) is out.full)))
+    away.turned_away
+
+pub stopped_is_beginning : WritesSessions → WritesRefusedSessions → StaysOnePort → IsOutsideAll → StoppedRunsAreBeginnings
+stopped_is_beginning sessions writes stays leaves verified options start before after shard frame outside was =
     let stopped = was.stopped in
     let same : was.later.worker ≡ start.worker =
     stopped.refused.same_port.same_worker ∙ (stays was.port stopped.middle stopped.exchanges stopped.chain).same_worker ∙
     was.over.same_worker in
+    let of_middle : stopped.middle.worker ≡ start.worker =
+    (stays was.port stopped.middle stopped.exchanges stopped.chain).same_worker ∙ was.over.same_worker in
+    let away = stopped.refused.refused.turned_away in
+    let count : length stopped.middle.shards.now ≡ length before =
+    chain_count was.port stopped.middle stopped.exchanges stopped.chain ∙ ap (λ (shards : List JournaledShard). length shards) was.over.same_shards in
     record {
       exchanges = stopped.exchanges;
       refused = stopped.call;
@@ -97,6 +147,12 @@ stopped_is_beginning writes stays leaves verified options start before after sha
       waiting = stopped.waiting;
       trace = stopped.trace;
       kept_back = stopped.frame_left;
+      refused_within = subst (λ (n : ℕ). n < length before) (sym stopped.names_the_shard)
+          (subst (λ (n : ℕ). shard_of_call stopped.call < n) count
+          (slice_get_within stopped.middle.shards.now (shard_of_call stopped.call) away.shard away.known));
+      full = λ one known. was_full sessions start.worker options before was.port stopped.middle was.later stopped.exchanges stopped.call was.over
+          stopped.chain of_middle stopped.refused outside one
+          (subst (λ (n : ℕ). slice_get before n ≡ Some one) stopped.names_the_shard known);
       written = written_but writes start.worker options before after was.port stopped.middle was.later stopped.exchanges stopped.call
           was.over stopped.chain stopped.refused was.finished outside;
       legal = are_legal was.later.image.now.maps was.later.options after was.finished.serve;

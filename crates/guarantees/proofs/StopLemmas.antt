@@ -1,6 +1,6 @@
 -- A trace that waits for a reply which a full journal refused, as the events of its worker.
-use Rattle.std.proofs.Common.{◌≡◌, ◌≢◌, ◌⊎◌, inl, inr, ⊎_elim, ℕ, zero, suc, ◌<◌, ◌^◌, ◌==◌, ◌||◌, Bool, true, false, List, [], ◌∷◌, ◌++◌, reverse, refl, sym, ◌∙◌, ap, subst, arith, append-nil}
-use Rattle.std.specs.Prelude.{if◌then◌else◌}
+use Rattle.std.proofs.Common.{◌≡◌, ◌≢◌, ◌⊎◌, inl, inr, ⊎_elim, ℕ, zero, suc, ◌+◌, ◌<◌, ◌^◌, ◌==◌, ◌||◌, Bool, true, false, nat_lt, List, [], ◌∷◌, ◌++◌, length, reverse, refl, sym, ◌∙◌, ap, subst, arith, append-nil}
+use Rattle.std.specs.Prelude.{IsTrue, if◌then◌else◌}
 use Rattle.std.proofs.lemmas.Bool.{cases_eq, ne_eqb}
 use Rattle.std.proofs.lemmas.Bool.Decides.{nat_tests}
 use Rattle.wire.specs.FrameView.{FrameView}
@@ -15,7 +15,11 @@ use Rattle.semantics.specs.MachineState.{MachineState, initial_state}
 use Rattle.semantics.specs.Step.{Step, Continues, CallsMap, Exits, Traps}
 use Rattle.semantics.specs.Semantics.{next_step}
 use Rattle.semantics.specs.RunTrace.{RunTrace, HasExited, HasTrapped, Waits, GoesOn, trace_of, trace_from}
-use Rattle.semantics.specs.History.{shard_of_call, IsJournalFull}
+use Rattle.semantics.specs.declared.call.SectionChange.{SectionChange}
+use Rattle.semantics.specs.declared.call.SectionChange.TheVariants.{Begins, Ends, Stays}
+use Rattle.semantics.specs.Sections.{section_change}
+use Rattle.semantics.specs.Reclamation.{inside_count}
+use Rattle.semantics.specs.History.{shard_of_call, lacks_room, room_for_leave, IsJournalFull}
 use Rattle.semantics.specs.System.{Setting, Idle, Runs, is_entered, run_over, IsInputFrame, input_frame}
 use Rattle.semantics.specs.System as model
 use Rattle.verifier.specs.Verified.{Verified}
@@ -27,7 +31,7 @@ use Rattle.map_port.specs.Exchanges.{Exchange, calls_in, replies_in}
 use Rattle.shared_shards.specs.Passes.{PassView, own_at}
 use Rattle.shard_port.specs.Asking.{enter_entry, leave_entry}
 use Rattle.shard_port.specs.Sessions.{entries_at}
-use Rattle.shard_port.specs.PassSessions.{session_at, IsVisitedAt, HasRefusedSessions}
+use Rattle.shard_port.specs.PassSessions.{session_at, IsKeptOut, IsVisitedAt, HasRefusedSessions}
 use Rattle.frame_runs.specs.FrameRuns.{HasStopped}
 use Rattle.guarantees.specs.SystemRuns.{Writes, Move, IsMove, AreMoves, entries_on, HaveGrown, IsStoppedInSystem, setting_of, HasStoppedInSystem}
 use Rattle.guarantees.specs.Guarantees.{StoppedRunsAreOfTheSystem}
@@ -120,11 +124,34 @@ all_written setting worker state plan count before after exchanges call said rea
     written number within
     ∙ ap (λ (list : List Entry). reverse list ++ own_at before number) (sym (whole_session said setting worker state exchanges reaches number))
 
-full_of : (plan : ShardPlan) (full_at : List Entry) (call : Call) (shard : ℕ) (entries : List Entry) →
-    IsJournalFull plan full_at call ⊎ ((entries ≡ []) × IsJournalFull plan full_at (Enter shard)) →
-    IsJournalFull plan full_at call ⊎ IsJournalFull plan full_at (Enter shard)
-full_of plan full_at call shard entries (inl full) = inl full
-full_of plan full_at call shard entries (inr full) = inr full.1
+-- an Enter asks for more room than any call that a journal can refuse
+full_for_enter : (plan : ShardPlan) (history : List Entry) (shard : ℕ) (call : Call) → IsJournalFull plan history call →
+    IsJournalFull plan history (Enter shard)
+full_for_enter plan history shard call full = by_change (section_change call) (length history + inside_count history) full
+  where
+    by_change : (change : SectionChange) (taken : ℕ) → IsTrue (lacks_room change plan (taken + room_for_leave change + 1)) →
+        IsTrue (nat_lt plan.reserve (taken + 1 + 1))
+    by_change Begins taken full = full
+    by_change Ends taken full = absurd cc
+    by_change Stays taken full = grind (arith, nat_tests)
+
+-- the worker was outside: the Enter's refusal is one
+enter_is_full : (plan : ShardPlan) (full_at : List Entry) (worker : ℕ) (exchanges : List Exchange) (call : Call) (shard : ℕ)
+    (before after : List Entry) → IsJournalFull plan full_at call ⊎ IsKeptOut plan full_at worker exchanges shard before after →
+    IsJournalFull plan full_at (Enter shard)
+enter_is_full plan full_at worker exchanges call shard before after (inl full) = full_for_enter plan full_at shard call full
+enter_is_full plan full_at worker exchanges call shard before after (inr kept) = kept.full
+
+-- the worker was inside, or came in: what was refused is the call
+call_is_full : (plan : ShardPlan) (full_at : List Entry) (worker : ℕ) (exchanges : List Exchange) (call : Call) (shard : ℕ)
+    (before after : List Entry) → (IsKeptOut plan full_at worker exchanges shard before after → ⊥) →
+    IsJournalFull plan full_at call ⊎ IsKeptOut plan full_at worker exchanges shard before after → IsJournalFull plan full_at call
+call_is_full plan full_at worker exchanges call shard before after in_there (inl full) = full
+call_is_full plan full_at worker exchanges call shard before after in_there (inr kept) = absurd (in_there kept)
+
+-- a list is not the same with two more at its front
+two_more : (xs : List Entry) (a b : Entry) → xs ≡ a ∷ b ∷ xs → ⊥
+two_more xs a b same = let longer : length xs ≡ length (a ∷ b ∷ xs) = ap length same in omega (arith, longer)
 
 -- the call's shard has a session already: the call was refused inside
 inside_stop : (setting : Setting) (worker told now : ℕ) (frame : List ℕ) (plan : ℕ → ShardPlan) (count : ℕ) (before after : PassView)
@@ -153,7 +180,8 @@ inside_stop setting worker told now frame plan count before after exchanges call
   );
   full_at = sessions.full_at;
   full_seen = sessions.full_seen;
-  full = full_of (plan (shard_of_call call)) sessions.full_at call (shard_of_call call) _ sessions.full;
+  full = call_is_full (plan (shard_of_call call)) sessions.full_at worker exchanges call (shard_of_call call)
+      (own_at before (shard_of_call call)) (own_at after (shard_of_call call)) not_kept_out sessions.full;
   written = all_written setting worker (initial_state (input_frame frame) told now) plan count before after exchanges call
       (WaitsFor setting call waiting) reaches
       (λ number within. ⊎_elim (λ same. same)
@@ -162,6 +190,13 @@ inside_stop setting worker told now frame plan count before after exchanges call
       (sessions.written number within));
 }
   where
+    not_kept_out : IsKeptOut (plan (shard_of_call call)) sessions.full_at worker exchanges (shard_of_call call) (own_at before (shard_of_call call))
+        (own_at after (shard_of_call call)) → ⊥
+    not_kept_out kept =
+        let some : is_entered (shard_of_call call) reaches.after ≡ is_some_entry (entries_at worker (shard_of_call call) exchanges) =
+        reaches.stays (shard_of_call call) in
+        let none : is_some_entry (entries_at worker (shard_of_call call) exchanges) ≡ false = ap is_some_entry kept.first_call in cc
+
     not_visited : (number : ℕ) → IsVisitedAt worker exchanges call number (own_at before number) (own_at after number) → ⊥
     not_visited number visited =
         let some : is_entered number reaches.after ≡ is_some_entry (entries_at worker number exchanges) = reaches.stays number in
@@ -198,7 +233,8 @@ outside_stop setting worker told now frame plan count before after exchanges cal
   );
   full_at = sessions.full_at;
   full_seen = sessions.full_seen;
-  full = full_of (plan (shard_of_call call)) sessions.full_at call (shard_of_call call) _ sessions.full;
+  full = enter_is_full (plan (shard_of_call call)) sessions.full_at worker exchanges call (shard_of_call call)
+      (own_at before (shard_of_call call)) (own_at after (shard_of_call call)) sessions.full;
   written = all_written setting worker (initial_state (input_frame frame) told now) plan count before after exchanges call
       (WaitsFor setting call waiting) reaches written;
 }
@@ -292,7 +328,9 @@ visit_stop setting worker told now frame plan count before after exchanges call 
       );
       full_at = sessions.full_at;
       full_seen = sessions.full_seen;
-      full = full_of (plan shard) sessions.full_at call shard _ sessions.full;
+      full = call_is_full (plan shard) sessions.full_at worker exchanges call shard (own_at before shard) (own_at after shard)
+          (λ (kept : IsKeptOut (plan shard) sessions.full_at worker exchanges shard (own_at before shard) (own_at after shard)).
+          two_more (own_at before shard) (leave_entry worker shard) (enter_entry worker shard) (sym kept.nothing ∙ visited.written)) sessions.full;
       written = λ number within. ⊎_elim
           (λ (here : number ≡ shard). visited_own number here)
           (λ (apart : number ≢ shard).

@@ -1,5 +1,5 @@
 -- What the calls of one run give, and what a run over shards comes to.
-use Rattle.std.specs.Prelude.{◌≡◌, ◌⊎◌, ℕ, ◌≤◌, List, [], ◌∷◌, ◌++◌, Some, slice_get, IsFalse}
+use Rattle.std.specs.Prelude.{◌≡◌, ◌⊎◌, ℕ, ◌<◌, ◌≤◌, List, [], ◌∷◌, ◌++◌, length, reverse, Some, slice_get, IsFalse}
 use Rattle.ebpf_decode.specs.InstructionEncoding.{total_slots}
 use Rattle.wire.specs.FrameView.{FrameView}
 use Rattle.semantics.specs.declared.call.Call.{Call}
@@ -7,16 +7,16 @@ use Rattle.semantics.specs.declared.options.Options.{Options}
 use Rattle.semantics.specs.declared.verdict.Verdict.{Verdict}
 use Rattle.semantics.specs.MachineState.{MachineState, initial_state}
 use Rattle.semantics.specs.Program.{Program}
-use Rattle.semantics.specs.History.{shard_of_call, IsLegalJournal}
+use Rattle.semantics.specs.History.{shard_of_call, IsJournalFull, IsLegalJournal}
 use Rattle.semantics.specs.RunTrace.{HasExited, Waits}
 use Rattle.verifier.specs.Verified.{Verified}
 use Rattle.shard_core.specs.JournaledShard.{JournaledShard}
 use Rattle.map_port.specs.Exchanges.{Exchange, calls_in, replies_in}
-use Rattle.shard_port.specs.Asking.{is_in, enter_entry, leave_entry, all_left}
+use Rattle.shard_port.specs.Asking.{is_in, can_enter, entered, enter_entry, leave_entry, all_left}
 use Rattle.shard_port.specs.PortView.{ServesMaps}
 use Rattle.shard_port.specs.declared.plain.PlainPort.{PlainPort}
 use Rattle.shard_port.specs.PlainPorts.{PortGives, PortRefuses}
-use Rattle.shard_port.specs.Sessions.{with_entries, session, entries_at}
+use Rattle.shard_port.specs.Sessions.{with_entries, begun, session, entries_at}
 use Rattle.machine.specs.declared.exit.Stop.{Stop}
 use Rattle.machine.specs.declared.exit.Stop.TheVariants.{JournalFull}
 use Rattle.machine.specs.declared.moment.Moment.{Moment}
@@ -86,8 +86,14 @@ abbrev pub AreWrittenBut : Call → ℕ → List Exchange → List JournaledShar
 AreWrittenBut call worker exchanges before after =
     (number : ℕ) (shard : JournaledShard) → slice_get before number ≡ Some shard →
     (slice_get after number ≡ Some (with_entries shard (session worker shard.plan.number (entries_at worker number exchanges))))
-    ⊎ ((shard_of_call call ≡ number) × (slice_get after number ≡ Some
+    ⊎ ((shard_of_call call ≡ number) × (entries_at worker number exchanges ≡ []) × (slice_get after number ≡ Some
     (with_entries shard (enter_entry worker shard.plan.number ∷ leave_entry worker shard.plan.number ∷ []))))
+
+-- after what the run had asked of the call's shard, which stood so before it, the journal had no room for the worker's Enter, or for the call
+abbrev pub WasFull : Call → ℕ → List Exchange → JournaledShard → Type 0
+WasFull call worker exchanges shard =
+    let here : JournaledShard = with_entries shard (begun worker shard.plan.number (entries_at worker (shard_of_call call) exchanges)) in
+    IsFalse (can_enter worker here) ⊎ IsJournalFull here.plan (reverse (entered worker here).journal) call
 
 -- the run is the meaning of its program on the replies that stand in the journals, which are legal; and it left every shard
 pub record IsTheMeaning (program : Program) (start : Start) (before after : List JournaledShard) (verdict : Verdict) (steps : ℕ)
@@ -104,8 +110,8 @@ pub record IsTheMeaning (program : Program) (start : Start) (before after : List
   pub legal : ∥ AreLegal after ∥₁
   pub outside : IsOutside start.worker after
 
--- the run made the calls of its program up to the refused one, which no journal has; the frame is that of the state in which it waits for
--- the reply; and it left every shard
+-- the run made the calls of its program up to the refused one, which no journal has, and for which, or for the Enter before it, its shard's journal
+-- was full; the frame is that of the state in which it waits for the reply; and it left every shard
 pub record IsTheBeginning (program : Program) (start : Start) (before after : List JournaledShard) (shard : ℕ) (frame : FrameView) : Type 0 where
   pub exchanges : List Exchange
   pub refused : Call
@@ -115,6 +121,8 @@ pub record IsTheBeginning (program : Program) (start : Start) (before after : Li
       whole_trace program (state_at start) (replies_in exchanges) ≡
       record { calls = calls_in exchanges ++ refused ∷ []; stand = Waits waiting }
   pub kept_back : frame ≡ waiting.frame
+  pub refused_within : shard < length before
+  pub full : (one : JournaledShard) → slice_get before shard ≡ Some one → WasFull refused start.worker exchanges one
   pub written : AreWrittenBut refused start.worker exchanges before after
   pub legal : ∥ AreLegal after ∥₁
   pub outside : IsOutside start.worker after

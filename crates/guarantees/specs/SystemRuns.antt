@@ -141,7 +141,7 @@ pub record IsStoppedInSystem (setting : Setting) (worker told now : ℕ) (frame 
       AreMoves setting worker (Runs waiting entered) (record { event = CallsShard worker; asked = Refused refused } ∷ leaving) Idle
   pub full_at : List Entry
   pub full_seen : BeginsWith (seen_at after (shard_of_call call)) full_at
-  pub full : IsJournalFull (plan (shard_of_call call)) full_at call ⊎ IsJournalFull (plan (shard_of_call call)) full_at (Enter (shard_of_call call))
+  pub full : IsJournalFull (plan (shard_of_call call)) full_at refused
   pub written : HaveGrown count (run ++ leaving) before after
 
 -- the system of a verified image, over shards that were opened so

@@ -9,6 +9,7 @@
 //! meanwhile, as events of the system of which the first sentence speaks.
 #![tactic(auto)]
 
+pub mod replays;
 pub mod running;
 pub mod sharing;
 #[cfg(test)]
@@ -87,11 +88,12 @@ pub fn runs_are_their_meaning()
 }
 
 /// The same of a run that stopped because a shard's journal was full: its calls are those that the trace makes up to the refused one,
-/// and they stand in the journals. The refused call stands in none; its shard may have an Enter and a Leave with no call between. The
-/// frame is that of the state in which the run waits for the reply.
+/// and they stand in the journals. The refused call stands in none; its shard's journal was full for it, or for the Enter before it, and may have an
+/// Enter and a Leave with no call between. The frame is that of the state in which the run waits for the reply.
 pub fn stopped_runs_are_beginnings()
     ensures { StoppedRunsAreBeginnings }
 {
+    journals_have_the_calls();
     journals_after_a_refusal();
     stays_one_port();
     finish_leaves();

@@ -2,4 +2,5 @@
 
 mod addresses;
 mod programs;
+mod replays;
 mod runs;

@@ -7,10 +7,12 @@
 
 mod append;
 mod journal_of_shard;
+mod kept_bytes;
 mod row;
 #[cfg(test)]
 mod tests;
 
 pub use append::{AtomicChange, CellRange};
 pub use journal_of_shard::Journal;
+pub use kept_bytes::{key_at, value_at};
 pub use semantics::{Caller, Entry};

@@ -1,9 +1,10 @@
 //! An entry as a journal keeps it.
 
 ghost use Rattle.std.specs.Prelude.{◌≡◌, ◌+◌, ◌≤◌, length};
-ghost use Rattle.journal.specs.Rows.{part, who_of, call_of, reply_of, entry_of, IsWithin};
+ghost use Rattle.journal.specs.Rows.{who_of, call_of, reply_of, entry_of, IsWithin};
 
-use semantics::{Call, Caller, CellRef, Entry, Key, Reply, Value};
+use crate::kept_bytes::{key_at, value_at};
+use semantics::{Call, Caller, CellRef, Entry, Reply};
 
 /// A call with its reply. Its key, and behind it its value, stand among the journal's bytes from `at` on; the shard is the
 /// journal's. Small fields stand first, so that no variant has more than 40 bytes.
@@ -157,34 +158,4 @@ impl Row {
             Row::Reclaimed { .. } => Call::Reclaim { shard },
         }
     }
-}
-
-/// So many bytes from a place on.
-fn part(bytes: &[u8], at: u64, size: u32) -> &[u8]
-    requires { at + size ≤ length bytes.now }
-    ensures bytes { result.now ≡ part at size bytes.now }
-    ensures size { length result.now ≡ size }
-{
-    let at = at as usize;
-    &bytes[at..at + size as usize]
-}
-
-fn key_at(bytes: &[u8], at: u64, size: u32) -> Key
-    requires within { at + size ≤ length bytes.now }
-    requires size { size ≤ 32 }
-    ensures { result ≡ part at size bytes.now }
-{
-    let mut key = Key::empty();
-    key.append(part(bytes, at, size));
-    key
-}
-
-fn value_at(bytes: &[u8], at: u64, size: u32) -> Value
-    requires within { at + size ≤ length bytes.now }
-    requires size { size ≤ 256 }
-    ensures { result ≡ part at size bytes.now }
-{
-    let mut value = Value::empty();
-    value.append(part(bytes, at, size));
-    value
 }

@@ -17,8 +17,18 @@ use Rattle.semantics.specs.ShardPlan.{AreOptions}
 use Rattle.semantics.specs.History.{shard_of_call}
 use Rattle.journal_files.specs.JournalText.{line_of, header_text, ended, entries_text, all_entries}
 use Rattle.journal_files.specs.EntryForm.{EntryFits, IsFileEntry}
-use Rattle.journal_files.specs.JournalReading.{Lacks, IsOfShard, AreListedFrom, IsEntryLine, TellsEntry, IsKnownEntry, BeginsWithNoEntry, BeginsWithNoneFrom, IsFirstEntry, NeverFalls, last_shard, AreDivided, AreRead}
+use Rattle.journal_files.specs.JournalReading.{Lacks, IsOfShard, AreListedFrom, IsEntryLine, TellsEntry, IsKnownEntry, BeginsWithNoneFrom, NeverFalls, last_shard, AreDivided, AreRead}
 use Rattle.journal_files.proofs.Bytes.{all_bytes, within, printed, lacks_from, each_passes, line_printed}
+
+-- the first line is no entry's, or there is no whole line
+abbrev pub BeginsWithNoEntry : List MapDef → Options → List ℕ → Type 0
+BeginsWithNoEntry maps options text =
+    (entry : Entry) (line more : List ℕ) → IsEntryLine maps options entry line → text ≢ line ++ 10 ∷ more
+
+-- the first line is this entry's
+pub record IsFirstEntry (maps : List MapDef) (options : Options) (text : List ℕ) (entry : Entry) (rest : List ℕ) : Type 0 where
+  pub known : IsKnownEntry maps options entry
+  pub text_is : text ≡ ended (line_of entry) ++ rest
 
 -- ---- marks
 

@@ -1,7 +1,8 @@
 -- What is read of a file of journals: the journals, or the first line that is none.
-use Rattle.std.specs.Prelude.{◌≡◌, ◌≢◌, ℕ, ◌+◌, ◌<◌, ◌≤◌, ◌⊎◌, ◌==◌, List, [], ◌∷◌, ◌++◌, length, take, slice_index, Option, Some, None, count_by, get_or, ⊤}
+use Rattle.std.specs.Prelude.{◌≡◌, ◌≢◌, ℕ, ◌+◌, ◌<◌, ◌≤◌, ◌⊎◌, List, [], ◌∷◌, ◌++◌, length, slice_index, Option, Some, None, get_or, ⊤}
 use Rattle.std.specs.List.{AllByRecursion}
-use Rattle.std.specs.Str.{IsUtf8, IsValidUpTo}
+use Rattle.std.specs.Str.{IsUtf8}
+use Rattle.text_lines.specs.NoText.{IsNoText}
 use Rattle.ebpf_decode.specs.declared.map.MapDef.{MapDef}
 use Rattle.semantics.specs.declared.call.Entry.{Entry}
 use Rattle.semantics.specs.declared.options.Options.{Options}
@@ -59,20 +60,10 @@ TellsEntry maps options line (Some entry) =
 abbrev pub IsKnownEntry : List MapDef → Options → Entry → Type 0
 IsKnownEntry maps options entry = TellsEntry maps options (line_of entry) (Some entry)
 
--- the first line is no entry's, or there is no whole line
-abbrev pub BeginsWithNoEntry : List MapDef → Options → List ℕ → Type 0
-BeginsWithNoEntry maps options text =
-    (entry : Entry) (line more : List ℕ) → IsEntryLine maps options entry line → text ≢ line ++ 10 ∷ more
-
--- nor one's of this shard or a later one
+-- the first line is no entry's of this shard or a later one, or there is no whole line
 abbrev pub BeginsWithNoneFrom : List MapDef → Options → ℕ → List ℕ → Type 0
 BeginsWithNoneFrom maps options least text =
     (entry : Entry) (line more : List ℕ) → IsEntryLine maps options entry line → least ≤ shard_of_call entry.call → text ≢ line ++ 10 ∷ more
-
--- the first line is this entry's
-pub record IsFirstEntry (maps : List MapDef) (options : Options) (text : List ℕ) (entry : Entry) (rest : List ℕ) : Type 0 where
-  pub known : IsKnownEntry maps options entry
-  pub text_is : text ≡ ended (line_of entry) ++ rest
 
 -- shard numbers never fall
 abbrev pub NeverFalls : ℕ → List Entry → Type 0
@@ -130,13 +121,6 @@ pub record IsBadAfter (maps : List MapDef) (text : List ℕ) (line : ℕ) : Type
   pub text_is : text ≡ ended (header_text options) ++ (entries_text entries ++ rest)
   pub not_ended : 0 < length rest
   pub stops : BeginsWithNoneFrom maps options (last_shard 0 entries) rest
-
--- the line of the first byte that is no UTF-8
-pub record IsNoText (bytes : List ℕ) (line : ℕ) : Type 0 where
-  pub valid : ℕ
-  pub not_utf8 : ¬ IsUtf8 bytes
-  pub valid_up_to : IsValidUpTo bytes valid
-  pub line_is : line ≡ 1 + count_by (λ byte. byte == 10) (take valid bytes)
 
 -- the line, counted from 1, for which the bytes are refused
 abbrev pub IsBadLine : List MapDef → List ℕ → ℕ → Type 0

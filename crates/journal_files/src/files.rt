@@ -57,7 +57,8 @@ pub fn read_journals<S: Source>(
     requires { S.failure_count source.old < 2 ^ 64 - 1 }
     ensures found { IfOk result (λ journals. IfKnown (S.left source.old) (λ bytes. IsJournalsFile image.now.maps bytes journals)) }
     ensures refused { IfErr result (λ fault. (fault ≡ Device) ⊎ IfKnown (S.left source.old) (λ bytes. Refuses image.now.maps bytes fault)) }
-    ensures only { (journals : Lists) → IfKnown (S.left source.old) (λ bytes. IsJournalsFile image.now.maps bytes journals → IfOk result (λ made. made ≡ journals)) }
+    ensures only { (journals : Lists) → IfKnown (S.left source.old)
+        (λ bytes. IsJournalsFile image.now.maps bytes journals → IfOk result (λ made. made ≡ journals)) }
     ensures device { IsErrOf result Device ↔ (S.failure_count source.new ≡ S.failure_count source.old + 1) }
     ensures steady { IsErrOf result Device ⊎ (S.failure_count source.new ≡ S.failure_count source.old) }
 {

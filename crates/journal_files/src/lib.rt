@@ -7,8 +7,6 @@ mod files;
 mod parsing;
 mod printing;
 mod reading;
-#[cfg(test)]
-mod tests;
 mod verb;
 
 pub use fault::FileFault;

@@ -1,6 +1,6 @@
 //! Journals read from their text.
 
-ghost use Rattle.std.specs.Prelude.{◌≡◌, ◌≢◌, ◌↔◌, ◌≤◌, ◌+◌, ◌*◌, ◌<◌, ◌==◌, ◌++◌, ◌∷◌, true, [], List, ℕ, count_by, length, take, IfOk, IfErr, OnOk};
+ghost use Rattle.std.specs.Prelude.{◌≡◌, ◌≢◌, ◌↔◌, ◌≤◌, ◌+◌, ◌*◌, ◌<◌, ◌++◌, ◌∷◌, true, [], List, ℕ, length, IfOk, IfErr, OnOk};
 ghost use Rattle.std.specs.Option.{MatchOption};
 ghost use Rattle.std.specs.Str.{IsUtf8};
 ghost use Rattle.semantics.specs.ShardPlan.{AreOptions};
@@ -9,7 +9,7 @@ ghost use Rattle.journal_files.specs.declared.fault.FileFault.TheVariants.{BadJo
 ghost use Rattle.journal_files.specs.EntryForm.{HasSizesOf, IsCallOn};
 ghost use Rattle.journal_files.specs.JournalText.{ended, header_text};
 ghost use Rattle.semantics.specs.declared.call.Entry.{Entry as Told};
-ghost use Rattle.journal_files.specs.JournalReading.{TellsEntry, BeginsWithNoHeader, IsHeadedBy, AreDivided, AreRead, IsNoText, IsJournalsFile, Refuses};
+ghost use Rattle.journal_files.specs.JournalReading.{TellsEntry, BeginsWithNoHeader, IsHeadedBy, AreDivided, AreRead, IsJournalsFile, Refuses};
 
 use crate::fault::FileFault;
 use crate::printing::{put_header, put_line};
@@ -19,6 +19,7 @@ use journals::{EntryList, Journals, ShardJournal, are_options};
 use semantics::{Call, Entry, Options};
 use std::alloc::{AllocError, Global};
 use std::mem;
+use text_lines::text_or_line;
 
 /// Whether the call's key and value have the map's lengths.
 #[tactic(auto, unfolding(crate::specs::EntryForm::HasSizesOf))]
@@ -164,28 +165,6 @@ fn header_of<'a>(
     }
 }
 
-/// The line, counted from 1, of the byte at an index.
-fn line_at(bytes: &[u8], index: usize) -> usize
-    requires { index < length bytes.now }
-    ensures { result ≡ 1 + count_by (λ byte. byte == 10) (take index bytes.now) }
-{
-    let before = &bytes[..index];
-    1 + before.iter().filter(|byte| **byte == b'\n').count()
-}
-
-/// The bytes as text, or the line of the first byte that is none.
-fn text_of(bytes: &[u8]) -> Result<&str, FileFault>
-    ensures text { IfOk result (λ text. (text.now ≡ bytes.now) × IsUtf8 bytes.now) }
-    ensures no_text { IfErr result (λ fault. (line : ℕ) × (fault ≡ BadJournalFile line) × IsNoText bytes.now line) }
-{
-    match str::from_utf8(bytes) {
-        Ok(text) => Ok(text),
-        Err(error) => Err(FileFault::BadJournalFile {
-            line: line_at(bytes, error.valid_up_to()),
-        }),
-    }
-}
-
 /// The journals of all shards: those that are done, the present list, and empty ones.
 fn journals_from(
     alloc: Global,
@@ -238,8 +217,8 @@ pub(crate) fn journals_of(
     ensures refused { IfErr result (Refuses maps.now bytes.now) }
     ensures only { (journals : Lists) → IsJournalsFile maps.now bytes.now journals → IfOk result (λ made. made ≡ journals) }
 {
-    match text_of(bytes) {
+    match text_or_line(bytes) {
         Ok(text) => journals_of_text(alloc, maps, text),
-        Err(fault) => Err(fault),
+        Err(line) => Err(FileFault::BadJournalFile { line }),
     }
 }

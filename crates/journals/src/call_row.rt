@@ -1,9 +1,9 @@
 //! A call as a list of entries keeps it.
 
 ghost use Rattle.std.specs.Prelude.{◌≡◌, ◌+◌, ◌≤◌, ◌++◌, length, vec_len, vec_capacity};
-ghost use Rattle.journal.specs.Rows.{part};
 ghost use Rattle.journals.specs.EntryRows.{bytes_of, row_of, call_of, FitsRow, IsWithin};
 
+use journal::{key_at, value_at};
 use semantics::{Call, CellRef, Key, Value};
 
 /// A call whose key, and behind it its value, stand among the list's bytes from `at` on.
@@ -169,34 +169,4 @@ fn value_size(value: &Value) -> u32
     ensures at_most { length value.now ≤ 256 }
 {
     value.as_slice().len() as u32
-}
-
-/// So many bytes from a place on.
-fn part(bytes: &[u8], at: u64, size: u32) -> &[u8]
-    requires { at + size ≤ length bytes.now }
-    ensures bytes { result.now ≡ part at size bytes.now }
-    ensures size { length result.now ≡ size }
-{
-    let at = at as usize;
-    &bytes[at..at + size as usize]
-}
-
-fn key_at(bytes: &[u8], at: u64, size: u32) -> Key
-    requires within { at + size ≤ length bytes.now }
-    requires size { size ≤ 32 }
-    ensures { result ≡ part at size bytes.now }
-{
-    let mut key = Key::empty();
-    key.append(part(bytes, at, size));
-    key
-}
-
-fn value_at(bytes: &[u8], at: u64, size: u32) -> Value
-    requires within { at + size ≤ length bytes.now }
-    requires size { size ≤ 256 }
-    ensures { result ≡ part at size bytes.now }
-{
-    let mut value = Value::empty();
-    value.append(part(bytes, at, size));
-    value
 }

@@ -1,5 +1,4 @@
 pub mod Machine
-pub mod Opening
 pub mod Words
 pub mod Advance
 pub mod Ready

@@ -20,6 +20,3 @@ pub use exit::{Exit, Stop};
 pub use map_port::MapPort;
 pub use moment::Moment;
 pub use runner::run;
-
-#[cfg(test)]
-mod tests;

@@ -1,5 +1,7 @@
 -- What a contract sees of a shard's cells: the bytes of each cell that is kept, by its id; and which cells wait for their readers.
-use Rattle.std.specs.Prelude.{◌≢◌, ℕ, ◌+◌, ◌-◌, ◌<◌, ◌≤◌, Bool, not, nat_lt, List, [], ◌∷◌, ◌++◌, length, take, drop, filter, Option, Some, None, is_some, slice_index_or, slice_set}
+use Rattle.std.specs.Prelude.{◌≢◌, ℕ, ◌+◌, ◌-◌, ◌*◌, ◌<◌, ◌≤◌, Bool, not, nat_lt, List, [], ◌∷◌, ◌++◌, length, take, drop, filter, Option, Some, None, is_some, slice_index_or, slice_set}
+use Rattle.isa.specs.declared.operation.AtomicOp.{AtomicOp}
+use Rattle.isa.specs.Atomic.{atomic_result}
 use Rattle.wire.specs.FrameView.{overwritten_at}
 use Rattle.semantics.specs.LittleEndian.{number_of_bytes, bytes_of_number}
 use Rattle.map_cells.specs.declared.retired.Retired.{Retired}
@@ -50,6 +52,11 @@ with_bytes table id bytes = record table { cells = slice_set table.cells id (Som
 
 abbrev pub with_number : CellTable → ℕ → ℕ → ℕ → ℕ → CellTable
 with_number table id offset width value = with_bytes table id (overwritten_at offset (bytes_of_number width value) (bytes_at table id))
+
+-- the number that these bytes make is changed by an atomic operation
+abbrev pub with_change : CellTable → ℕ → ℕ → ℕ → AtomicOp → ℕ → ℕ → CellTable
+with_change table id offset width operation operand expected =
+    with_number table id offset width (atomic_result (8 * width) operation (number_at table id offset width) operand expected)
 
 abbrev pub with_retired : CellTable → ℕ → ℕ → CellTable
 with_retired table id stamp = record table { retired = table.retired ++ (record { id = id; stamp = stamp }) ∷ [] }

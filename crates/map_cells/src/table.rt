@@ -4,7 +4,7 @@ ghost use Rattle.std.specs.Prelude.{◌≡◌, ◌≢◌, ◌<◌, ◌≤◌, �
 ghost use Rattle.std.specs.Prelude.{true, false, List, [], ◌∷◌, ◌++◌, length, filter, vec_len, vec_capacity, slice_index_or};
 ghost use Rattle.isa.specs.Atomic.{atomic_result};
 ghost use Rattle.map_cells.specs.Places.{place_at};
-ghost use Rattle.map_cells.specs.CellTable.{CellTable, empty_table, is_kept, bytes_at, number_at, with_new_cell, with_bytes, with_number, with_retired};
+ghost use Rattle.map_cells.specs.CellTable.{CellTable, empty_table, is_kept, bytes_at, number_at, with_new_cell, with_bytes, with_number, with_change, with_retired};
 ghost use Rattle.map_cells.specs.CellTable.{is_below, freed_below, oldest_stamp, without_oldest, IsLowestStamp, IsNotRetired, IsLatestStamp};
 
 use crate::blocks::{block_at, write_at};
@@ -160,7 +160,7 @@ impl Cells {
         requires operand { operand < 256 ^ width }
         requires expected { expected < 256 ^ width }
         ensures old { result ≡ number_at self.old id offset width }
-        ensures table { self.new ≡ with_number self.old id offset width (atomic_result (8 * width) operation (number_at self.old id offset width) operand expected) }
+        ensures table { self.new ≡ with_change self.old id offset width operation operand expected }
     {
         let old = self.load(id, offset, width);
         let new = changed(width, operation, old, operand, expected);

@@ -81,7 +81,7 @@ pub record IsAtomic (served : Maps) (held : Held) (cell : CellRef) (offset width
 
 -- ---- handles: the numbers by which a port names the cells that it handed out
 
--- more than this never stand for a cell: a handle leaves nine bits of a word for an offset
+-- this number and larger ones never stand for a cell: a handle leaves nine bits of a word for an offset
 abbrev pub handle_limit : ℕ
 handle_limit = 2 ^ 55
 

@@ -1,5 +1,5 @@
 -- The one-thread shard: what contracts see of it, and what its fields are.
-use Rattle.std.specs.Prelude.{◌≡◌, ◌+◌, ◌<◌, ◌≤◌, ◌^◌, List, length, reverse, IsTrue}
+use Rattle.std.specs.Prelude.{◌≡◌, ◌∷◌, ◌+◌, ◌<◌, ◌≤◌, ◌^◌, List, length, reverse, IsTrue}
 use Rattle.semantics.specs.declared.call.Entry.{Entry}
 use Rattle.semantics.specs.declared.call.Call.{Call}
 use Rattle.semantics.specs.declared.call.Call.TheVariants.{Enter, Leave, Lookup, Load, Store, Atomic, Update, Delete, Reclaim}
@@ -14,6 +14,10 @@ pub record OneThread : Type 0 where
   pub plan : ShardPlan
   pub history : List Entry
 
+-- one entry more
+abbrev pub with_entry : OneThread → Entry → OneThread
+with_entry shard entry = record { plan = shard.plan; history = entry ∷ shard.history }
+
 -- the lists that the fields hold
 abbrev pub state_of : ShardState → SequentialShard
 state_of state = record { present = state.present.items; cells = state.cells.items; retired = state.retired.items }
@@ -24,7 +28,7 @@ pub record IsOneThread (plan : ShardPlan) (journal : List Entry) (state : Sequen
   pub led : state ≡ shard_after plan (reverse journal)
   pub legal : IsLegalHistory plan (reverse journal)
 
--- the sizes in a call that a shard serves: a key of the map's length, a width of at most 8, bytes within 64, numbers within the
+-- the sizes in a call that a shard serves: a key of the map's length, a width of at most 8, bytes within 256, numbers within the
 -- width
 abbrev pub IsSized : ShardPlan → Call → Type 0
 IsSized plan (Enter shard) = Unit {0}

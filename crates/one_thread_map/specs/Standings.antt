@@ -1,12 +1,13 @@
 -- What a shard knows of a caller before its call, from which the caller's condition follows.
-use Rattle.std.specs.Prelude.{◌≡◌, ℕ, Bool, false, List, Option, Some, None}
+use Rattle.std.specs.Prelude.{◌≡◌, ◌&&◌, ℕ, Bool, false, List, Option, Some, None, is_some}
+use Rattle.isa.specs.InstructionCodes.{atomic_op_of}
 use Rattle.semantics.specs.declared.call.Caller.{Caller}
 use Rattle.semantics.specs.declared.call.CellRef.{CellRef}
 use Rattle.semantics.specs.declared.call.Call.{Call}
 use Rattle.semantics.specs.declared.call.Call.TheVariants.{Load, Store, Atomic}
 use Rattle.semantics.specs.declared.call.Entry.{Entry}
 use Rattle.semantics.specs.declared.plan.ShardPlan.{ShardPlan}
-use Rattle.semantics.specs.History.{is_inside_worker, is_holder}
+use Rattle.semantics.specs.History.{is_inside_worker, is_holder, is_atomic_width, is_in_cell, is_aligned, fits_width, is_expected}
 use Rattle.one_thread_map.specs.declared.conditions.Standing.{Standing}
 
 -- the cell whose bytes the call reads or writes
@@ -15,6 +16,12 @@ cell_of_call (Load cell offset width) = Some cell
 cell_of_call (Store cell offset width value) = Some cell
 cell_of_call (Atomic cell offset width op value expected) = Some cell
 cell_of_call call = None
+
+-- an atomic operation of this width may be made at this offset with these numbers
+abbrev pub is_atomic : ShardPlan → ℕ → ℕ → ℕ → ℕ → ℕ → Bool
+is_atomic plan offset width op value expected =
+    is_atomic_width width && (is_in_cell plan offset width && is_aligned offset width) && is_some (atomic_op_of op) && fits_width value width &&
+    fits_width expected width && is_expected op expected
 
 abbrev pub is_holder_of : ShardPlan → List Entry → Caller → Option CellRef → Bool
 is_holder_of plan history who (Some cell) = is_holder plan history who cell.id

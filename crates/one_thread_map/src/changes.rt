@@ -2,6 +2,7 @@
 
 ghost use Rattle.std.specs.Prelude.{◌≡◌, ◌<◌, ◌≤◌, ◌+◌, ◌^◌, ◌==◌, ℤ, IsTrue, Option, Some, None, OnOk, OnErr, length, reverse, vec_len, vec_capacity};
 ghost use Rattle.semantics.specs.PlanLimits.{IsWithinLimits, IsIndexSize};
+ghost use Rattle.semantics.specs.declared.call.Call.TheVariants.{Update, Delete};
 ghost use Rattle.one_thread_map.specs.OneThread.{state_of, IsSized};
 ghost use Rattle.semantics.specs.History.{is_atomic_width};
 ghost use Rattle.semantics.specs.SequentialShard.{with_cell, with_number_in_cell, number_in_cell, changed_by, without_key, without_found, after_eviction, with_new_key, cell_of_key, with_value, updated_where, update_answer, delete_answer, present_key, shard_after_call};
@@ -97,7 +98,8 @@ fn put_value(
 ) -> Result<(), AllocError>
     requires limits { IsWithinLimits plan.now }
     requires size { length key.now ≡ plan.now.definition.key_size }
-    ensures ok { OnOk result (state_of state.new ≡ with_value plan.now (reverse journal.now) (state_of state.old) key.now value.now (cell_of_key plan.now (state_of state.old) key.now)) }
+    ensures ok { OnOk result (state_of state.new ≡ with_value plan.now (reverse journal.now) (state_of state.old) key.now value.now
+        (cell_of_key plan.now (state_of state.old) key.now)) }
     ensures err { OnErr result (state_of state.new ≡ state_of state.old) }
 {
     match cell_of_key(plan, state, key) {
@@ -125,7 +127,8 @@ fn update(
 ) -> Result<(), AllocError>
     requires limits { IsWithinLimits plan.now }
     requires size { length key.now ≡ plan.now.definition.key_size }
-    ensures ok { OnOk result (state_of state.new ≡ updated_where (update_answer plan.now (state_of state.old) key.now flags) (with_value plan.now (reverse journal.now) (state_of state.old) key.now value.now (cell_of_key plan.now (state_of state.old) key.now)) (state_of state.old)) }
+    ensures ok { OnOk result (state_of state.new ≡ shard_after_call plan.now (reverse journal.now) (state_of state.old)
+        (Update plan.now.number key.now value.now flags)) }
     ensures err { OnErr result (state_of state.new ≡ state_of state.old) }
 {
     if update_answer(plan, state, key, flags) == 0 {
@@ -137,7 +140,8 @@ fn update(
 
 /// Takes a key out, if it is there.
 fn remove(journal: &[Entry], state: &mut ShardState, key: &Key) -> Result<(), AllocError>
-    ensures ok { OnOk result (state_of state.new ≡ without_found (state_of state.old) (length (reverse journal.now)) (present_key (state_of state.old) key.now)) }
+    ensures ok { OnOk result (state_of state.new ≡ without_found (state_of state.old) (length (reverse journal.now))
+        (present_key (state_of state.old) key.now)) }
     ensures err { OnErr result (state_of state.new ≡ state_of state.old) }
 {
     match present_key(&state.present, key) {
@@ -159,7 +163,8 @@ fn delete(
 ) -> Result<(), AllocError>
     requires limits { IsWithinLimits plan.now }
     requires size { length key.now ≡ plan.now.definition.key_size }
-    ensures ok { OnOk result (state_of state.new ≡ updated_where (delete_answer plan.now (state_of state.old) key.now) (without_found (state_of state.old) (length (reverse journal.now)) (present_key (state_of state.old) key.now)) (state_of state.old)) }
+    ensures ok { OnOk result (state_of state.new ≡ shard_after_call plan.now (reverse journal.now) (state_of state.old)
+        (Delete plan.now.number key.now)) }
     ensures err { OnErr result (state_of state.new ≡ state_of state.old) }
 {
     if delete_answer(plan, state, key) == 0 {

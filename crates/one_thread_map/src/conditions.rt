@@ -3,11 +3,10 @@
 ghost use Rattle.std.specs.Prelude.{◌≡◌, ◌<◌, ◌≤◌, ◌==◌, ◌+◌, ◌%◌, ◌^◌, ◌&&◌, Bool, List, IsTrue, length, reverse, nat_lt, is_some};
 ghost use Rattle.semantics.specs.declared.call.Entry.{Entry};
 ghost use Rattle.semantics.specs.declared.plan.ShardPlan.{ShardPlan};
-ghost use Rattle.one_thread_map.specs.Standings.{cell_of_call, IsStanding};
+ghost use Rattle.one_thread_map.specs.Standings.{cell_of_call, is_atomic, IsStanding};
 ghost use Rattle.semantics.specs.PlanLimits.{IsWithinLimits, IsIndexSize};
 ghost use Rattle.semantics.specs.Reclamation.{inside_count};
 ghost use Rattle.semantics.specs.Program.{shard_number_of_key, part_of_key, shard_of_key};
-ghost use Rattle.isa.specs.InstructionCodes.{atomic_op_of};
 ghost use Rattle.semantics.specs.History.{is_outside_worker, is_inside_worker, is_holder, may_change_keys, is_reclaimer, are_bytes, is_own_key, is_value, are_flags, is_load_width, is_atomic_width, is_in_cell, is_aligned, fits_width, is_expected, meets_part, meets, room_for_leave, room_needed, lacks_room, journal_is_full};
 
 use crate::history::{holds, inside_count, is_inside};
@@ -231,7 +230,7 @@ fn is_load(plan: &ShardPlan, offset: u64, width: u64) -> bool
 
 /// Whether an atomic operation of this width may be made at this offset with these numbers.
 fn is_atomic(plan: &ShardPlan, offset: u64, width: u64, op: u64, value: u64, expected: u64) -> bool
-    ensures { result ≡ (is_atomic_width width && (is_in_cell plan.now offset width && is_aligned offset width) && is_some (atomic_op_of op) && fits_width value width && fits_width expected width && is_expected op expected) }
+    ensures { result ≡ is_atomic plan.now offset width op value expected }
 {
     is_atomic_width(width)
         && (is_in_cell(plan, offset, width) && is_aligned(offset, width))

@@ -4,6 +4,7 @@ ghost use Rattle.std.specs.Prelude.{◌≡◌, ◌<◌, [], ◌∷◌, List, IsF
 ghost use Rattle.semantics.specs.PlanLimits.{IsWithinLimits, IsPlan};
 ghost use Rattle.semantics.specs.SequentialShard.{reply_of, shard_after};
 ghost use Rattle.semantics.specs.History.{meets, Meets, journal_is_full, IsLegalHistory, IsLegalStep};
+ghost use Rattle.one_thread_map.specs.OneThread.{with_entry};
 
 use crate::answers::reply_of;
 use crate::changes::apply;
@@ -97,7 +98,7 @@ impl OneThreadShard {
         requires met { Meets self.old.plan self.old.history who call.now }
         requires room { IsFalse (journal_is_full self.old.plan self.old.history call.now) }
         ensures replied { IfOk result (λ reply. reply ≡ reply_of self.old.plan self.old.history (shard_after self.old.plan self.old.history) call.now) }
-        ensures entered { IfOk result (λ reply. self.new ≡ record { plan = self.old.plan; history = (record { who = who; call = call.now; reply = reply }) ∷ self.old.history }) }
+        ensures entered { IfOk result (λ reply. self.new ≡ with_entry self.old (record { who = who; call = call.now; reply = reply })) }
         ensures legal { IfOk result (λ reply. IsLegalStep self.old.plan self.old.history (record { who = who; call = call.now; reply = reply })) }
         ensures unchanged { OnErr result (self.new ≡ self.old) }
     {

@@ -1,3 +1,4 @@
+pub mod BlockLemmas
 pub mod Keys
 pub mod Narrowing
 pub mod Lookups

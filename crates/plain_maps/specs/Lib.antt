@@ -1,5 +1,6 @@
 pub mod Keyed
 pub mod Hashing
 pub mod Buckets
+pub mod NumberBlocks
 pub mod HashTable
 pub mod ArrayTable

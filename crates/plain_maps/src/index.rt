@@ -6,6 +6,7 @@ ghost use Rattle.plain_maps.specs.Hashing.{home_of};
 ghost use Rattle.plain_maps.specs.Buckets.{bucket_at};
 
 use crate::buckets::{Bucket, cleared, found_in, home_of, placed};
+use crate::number_list::NumberList;
 use crate::search::{key_at, search};
 use map_cells::blocks::write_at;
 use std::alloc::{AllocError, Global};
@@ -23,11 +24,10 @@ pub struct KeyIndex {
     is_there: Vec<bool>,
     buckets: Vec<Bucket>,
     /// The numbers that stand in no bucket, by rising keys.
-    order: Vec<u32>,
+    order: NumberList,
 }
 
 impl Model for KeyIndex {
-    ghost use Rattle.std.specs.Prelude.{vec_capacity};
     ghost use Rattle.plain_maps.specs.Keyed.{KeyMap, key_map};
     ghost use Rattle.plain_maps.specs.Buckets.{IsIndex};
 
@@ -35,7 +35,7 @@ impl Model for KeyIndex {
 
     ghost view = { λ x. key_map x.size x.capacity x.keys.items x.is_there.items };
 
-    ghost invariant = { λ x. IsIndex x.size x.capacity x.keys.items x.is_there.items x.order.items (vec_capacity x.order) x.buckets.items };
+    ghost invariant = { λ x. IsIndex x.size x.capacity x.keys.items x.is_there.items x.order.numbers x.order.room x.buckets.items };
 }
 
 impl KeyIndex {
@@ -52,7 +52,7 @@ impl KeyIndex {
             keys: vec![in alloc; 0; capacity * size]?,
             is_there: vec![in alloc; false; capacity]?,
             buckets: vec![in alloc; Bucket::EMPTY; bucket_count(capacity)]?,
-            order: Vec::with_capacity(alloc, capacity)?,
+            order: NumberList::new(alloc, capacity)?,
         })
     }
 
@@ -71,7 +71,7 @@ impl KeyIndex {
             return None;
         }
         match search(&self.keys, self.size, self.capacity, &self.order, key) {
-            Ok(at) => Some(self.order[at]),
+            Ok(at) => Some(self.order.get(at)),
             Err(_) => None,
         }
     }
@@ -115,8 +115,7 @@ impl KeyIndex {
             Ok(_) => unreachable!(),
             Err(at) => at,
         };
-        let put = self.order.insert(at, number);
-        prove!(put.is_ok());
+        self.order.insert(at, number);
         let over = bucket.over + 1;
         self.buckets[home] = Bucket { over, ..bucket };
         write_at(&mut self.keys, self.size, number as usize, 0, key);

@@ -5,6 +5,8 @@ pub mod array;
 pub mod buckets;
 pub mod hash;
 pub mod index;
+mod number_block;
+mod number_list;
 mod search;
 
 pub use array::ArrayShard;

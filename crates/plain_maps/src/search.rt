@@ -1,9 +1,9 @@
 //! The search among the keys in order.
 
 ghost use Rattle.std.specs.Prelude.{◌≡◌, ◌<◌, ◌≤◌, ◌+◌, ◌*◌, length, IfOk, IfErr};
-ghost use borrow.Rule.Slice.PartMut.{put_mid};
 ghost use Rattle.plain_maps.specs.Keyed.{key_of, IsOrder, IsAt, IsGapFor};
 
+use crate::number_list::NumberList;
 use std::cmp::Ordering;
 
 /// The key of an entry number.
@@ -15,33 +15,23 @@ pub(crate) fn key_at(keys: &[u8], size: usize, number: usize) -> &[u8]
     &keys[start..start + size]
 }
 
-/// Writes the key of an entry number.
-pub(crate) fn write_key(keys: &mut Vec<u8>, size: usize, number: usize, key: &[u8])
-    requires { (length key.now ≡ size) × (number * size + size ≤ length keys.old.items) }
-    ensures items { keys.new.items ≡ put_mid (number * size) size keys.old.items key.now }
-    ensures len { length keys.new.items ≡ length keys.old.items }
-{
-    let start = number * size;
-    keys[start..start + size].copy_from_slice(key);
-}
-
 /// Where the key stands, or where it would go.
 pub(crate) fn search(
     keys: &[u8],
     size: usize,
     capacity: usize,
-    order: &[u32],
+    order: &NumberList,
     key: &[u8],
 ) -> Result<usize, usize>
-    requires { IsOrder size capacity keys.now order.now }
-    ensures found { IfOk result (IsAt size keys.now order.now key.now) }
-    ensures absent { IfErr result (IsGapFor size keys.now order.now key.now) }
+    requires { IsOrder size capacity keys.now order.now.numbers }
+    ensures found { IfOk result (IsAt size keys.now order.now.numbers key.now) }
+    ensures absent { IfErr result (IsGapFor size keys.now order.now.numbers key.now) }
 {
     let mut low = 0;
     let mut high = order.len();
     while low < high {
         let middle = low + (high - low) / 2;
-        let other = key_at(keys, size, order[middle] as usize);
+        let other = key_at(keys, size, order.get(middle) as usize);
         match other.cmp(&key) {
             Ordering::Less => low = middle + 1,
             Ordering::Equal => return Ok(middle),

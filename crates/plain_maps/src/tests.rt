@@ -6,6 +6,8 @@ use crate::{ArrayShard, HashShard, KeyIndex};
 use map_cells::Cells;
 use std::alloc::AllocError;
 
+mod number_lists;
+
 #[test]
 fn a_key_comes_and_goes(rt: HostRuntime) -> Result<(), AllocError> {
     let mut index = KeyIndex::new(rt.alloc(), 5, 4)?;

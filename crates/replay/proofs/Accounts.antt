@@ -1,6 +1,7 @@
 -- The account of a replay.
 use Rattle.std.proofs.Common.{◌≡◌, ◌⊎◌, ℕ, zero, suc, ◌+◌, ◌<◌, List, [], ◌∷◌, ◌++◌, length, get_or, refl, sym, ap, ◌∙◌, subst, arith, inl, inr, append_assoc}
 use Rattle.std.specs.Prelude.{reverse, map, Vec}
+use Rattle.std.specs.declared.alloc.Global.{Global}
 use mathlib.Core.Option.{some, some-injective, some-ne-none}
 use lib.ListN.{get_elem?}
 use Rattle.wire.specs.declared.records.Sent.{Sent}
@@ -22,8 +23,9 @@ use Rattle.frame_runs.specs.FrameRuns.{HasRun, WasRefused, HasStopped}
 use Rattle.shared_shards.specs.CallerView.{CallerView, BeginsWith}
 use Rattle.journals.specs.JournalsView.{JournalsView, entries_at}
 use Rattle.shared_shards.specs.Passes.{PassView, own_at, seen_at, pass_at, no_pass, AreSettled}
-use Rattle.shard_port.specs.Sessions.{entries_at as calls_at}
+use Rattle.shard_port.specs.PassSessions.{IsKeptOut}
 use Rattle.actors.proofs.shared.FullStays.{full_stays}
+use Rattle.workers.specs.declared.counts.Counts.{Counts}
 use Rattle.workers.specs.declared.crew.Handled.{Handled}
 use Rattle.workers.specs.declared.run_end.Ran.{Ran}
 use Rattle.workers.specs.declared.run_end.RunEnd.{RunEnd}
@@ -33,9 +35,19 @@ use Rattle.workers.specs.Crews.{Each, IsHandled, IsPart}
 use Rattle.workers.specs.Runs.{IsRunAt, IsChainOfRuns, HasHandled}
 use Rattle.workers.specs.Shares.{frames_of, share}
 use Rattle.workers.specs.Jobs.{records_of}
+use Rattle.replay.specs.declared.outcome.Outcome.{Outcome}
 use Rattle.replay.specs.declared.shard_runner.Working.{Working}
 use Rattle.replay.specs.Runs.{IsNewPass, IsNewAt, IsIdle, IsRunOf, IsRunBy, IsRunIn, IsExit, IsStop, IsStopIn, StopsFor, IsFullAtEnd, pass_in, start_of}
 use Rattle.replay.specs.Accounted.{IsWorkOf}
+
+-- ---- an outcome by its parts
+
+pub outcome_is : (outcome : Outcome) (counts : Counts) (sent : Vec Sent Global) (journals : JournalsView) → outcome.counts ≡ counts → outcome.sent ≡ sent
+    → outcome.journals ≡ journals → outcome ≡ record { counts = counts; refused = outcome.refused; sent = sent; journals = journals }
+outcome_is outcome counts sent journals of_counts of_sent of_journals =
+    subst (λ (it : Counts). outcome ≡ record { counts = it; refused = outcome.refused; sent = sent; journals = journals }) of_counts
+    (subst (λ (it : Vec Sent Global). outcome ≡ record { counts = outcome.counts; refused = outcome.refused; sent = it; journals = journals }) of_sent
+    (subst (λ (it : JournalsView). outcome ≡ record { counts = outcome.counts; refused = outcome.refused; sent = outcome.sent; journals = it }) of_journals refl))
 
 -- ---- histories that begin with others
 
@@ -104,12 +116,13 @@ stop_stands plan count program worker journals captured before after frame (Jour
   where
     by_case : (full_at : List Entry) → BeginsWith (reverse (entries_at journals (shard_of_call was.refused))) full_at →
         (IsJournalFull (plan (shard_of_call was.refused)) full_at was.refused
-        ⊎ ((calls_at worker (shard_of_call was.refused) was.exchanges ≡ []) × IsJournalFull (plan (shard_of_call was.refused)) full_at (Enter (shard_of_call was.refused))))
+        ⊎ IsKeptOut (plan (shard_of_call was.refused)) full_at worker was.exchanges (shard_of_call was.refused) (own_at before (shard_of_call was.refused))
+        (own_at after (shard_of_call was.refused)))
         → IsFullAtEnd plan journals worker was.exchanges was.refused
     by_case full_at begins (inl full) =
         inl (full_later (plan (shard_of_call was.refused)) (reverse (entries_at journals (shard_of_call was.refused))) full_at was.refused begins full)
     by_case full_at begins (inr full) =
-        inr (full.0, full_later (plan (shard_of_call was.refused)) (reverse (entries_at journals (shard_of_call was.refused))) full_at (Enter (shard_of_call was.refused)) begins full.1)
+        inr (full.first_call, full_later (plan (shard_of_call was.refused)) (reverse (entries_at journals (shard_of_call was.refused))) full_at (Enter (shard_of_call was.refused)) begins full.full)
 
 run_stands : (plan : ℕ → ShardPlan) (count : ℕ) (program : Program) (worker : ℕ) (journals : JournalsView) (captured : Sent) (before : PassView)
     (end : RunEnd) (after : PassView) → IsSeenOf count journals after → IsRunOf count plan program worker captured before end after →

@@ -27,10 +27,11 @@ use Rattle.control.specs.declared.command.Command.{Command}
 use Rattle.control.specs.MapUpdates.{MapUpdate}
 use Rattle.actors.specs.declared.applied.Applied.{Applied}
 use Rattle.actors.specs.SharedUpdates.{shard_in, shard_of, update_call}
-use Rattle.actors.specs.Commands.{CommanderView, CommandDone, IsAccount, IsFullFor}
+use Rattle.actors.specs.Commands.{CommanderView, CommandDone, IsAccount, IsFullFor, ServesScript}
 use Rattle.actors.specs.Jobs.{command_jobs, AreRoundsMade}
 use Rattle.actors.specs.Rounds.{AreReclaimed, IsReclaimedBy}
 use Rattle.workers.specs.Actors.{numbers_from, commands_from}
+use Rattle.maglev.specs.RingSize.{IsRingSize}
 use Rattle.replay.specs.Parts.{HasCommanded, HasReclaimed, IsScriptRun, IsFullInJournal, IsScriptAccounted, AreRoundsAccounted, numbers_of, refused_of}
 use Rattle.replay.proofs.Accounts.{full_later}
 
@@ -177,10 +178,13 @@ full_stands plan maps options count journals pass plans are settled (Some update
 
 pub script_stands : (plan : ℕ → ShardPlan) (maps : List MapDef) (options : Options) (count : ℕ) (script : List Command) (size : ℕ) (noted : List Applied)
     (pass : PassView) (journals : JournalsView) (refused : List Applied) → ArePlans maps options count plan → AreOptions maps options →
-    IsScriptRun plan maps options script size noted pass → AreSettled count journals pass → refused ≡ refused_of noted →
+    IsRingSize size → ServesScript maps size script → IsScriptRun plan maps options script size noted pass → AreSettled count journals pass →
+    refused ≡ refused_of noted →
     IsScriptAccounted plan maps options count script journals refused
-script_stands plan maps options count script size noted pass journals refused plans are run settled refused_are = record {
+script_stands plan maps options count script size noted pass journals refused plans are served serves run settled refused_are = record {
   size = size;
+  size_is_served = served;
+  serves = serves;
   noted = noted;
   each_once = run.each_once;
   done = run.account.done;

@@ -17,7 +17,7 @@ use Rattle.control.specs.Controlling.{ControllerState}
 use Rattle.control.specs.MapUpdates.{MapUpdate}
 use Rattle.actors.specs.declared.applied.Applied.{Applied}
 use Rattle.actors.specs.SharedUpdates.{shard_of, update_call}
-use Rattle.actors.specs.Commands.{CommanderView, CommandDone, AreNotedOf, AreDone, IsAccount, opened_controller, made_in, with_updates}
+use Rattle.actors.specs.Commands.{CommanderView, CommandDone, AreNotedOf, AreDone, IsAccount, ServesScript, opened_controller, made_in, with_updates}
 use Rattle.actors.specs.Jobs.{AreCommandsTaken, AreRoundsMade, IsAccounted as IsControllersAccount}
 use Rattle.actors.specs.Rounds.{IsReclaimedBy}
 use Rattle.workers.specs.Actors.{numbers_from}
@@ -77,11 +77,14 @@ pub record IsFullInJournal (plan : ℕ → ShardPlan) (maps : List MapDef) (opti
       IsJournalFull (plan (shard_of maps options update)) (reverse (entries_at journals (shard_of maps options update)))
       (update_call (shard_of maps options update) update)
 
--- Each command of the script was applied once, in the script's order, and did what it says in the state that the one before it left; the controller's
--- entries in each journal are their updates to that shard, in order; where one met a full journal, that journal is full for it at its end.
+-- Each command of the script was applied once, in the script's order, and did what it says in the state that the one before it left, for a lookup
+-- table of a size that is served, the one that the maps have (without commands any served size does); the controller's entries in each journal
+-- are their updates to that shard, in order; where one met a full journal, that journal is full for it at its end.
 pub record IsScriptAccounted (plan : ℕ → ShardPlan) (maps : List MapDef) (options : Options) (count : ℕ) (script : List Command) (journals : JournalsView)
     (refused : List Applied) : Type 0 where
   pub size : ℕ
+  pub size_is_served : IsRingSize size
+  pub serves : ServesScript maps size script
   pub noted : List Applied
   pub each_once : numbers_of noted ≡ numbers_from 0 (length script)
   pub done : List CommandDone

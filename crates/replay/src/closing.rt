@@ -3,10 +3,12 @@
 ghost use Rattle.std.specs.Prelude.{◌≡◌, ◌<◌, length, IfOk};
 ghost use Rattle.semantics.specs.declared.call.Caller.TheVariants.{Reclaimer};
 ghost use Rattle.machine.specs.Running.{program_of};
+ghost use Rattle.maglev.specs.RingSize.{IsRingSize};
+ghost use Rattle.actors.specs.Commands.{ServesScript};
 ghost use Rattle.actors.specs.Rounds.{AreReclaimed};
-ghost use Rattle.workers.specs.Crews.{Each, IsHandled};
+ghost use Rattle.workers.specs.Crews.{AreHandled};
 ghost use Rattle.replay.specs.Accounted.{IsAccounted};
-ghost use Rattle.replay.specs.Parts.{IsScriptRun, rounds_of};
+ghost use Rattle.replay.specs.Parts.{IsScriptRun, rounds_of, refused_of};
 ghost use Rattle.replay.specs.Runs.{IsNewAt, IsRunBy};
 
 use crate::actor_parts::Commanded;
@@ -14,13 +16,30 @@ use crate::outcome::Outcome;
 use crate::passes::all_passes;
 use crate::scripts::refused;
 use crate::shard_runner::Working;
+use actors::Applied;
 use control::Script;
+use journals::Journals;
 use shared_shards::{Naming, Pass, Shards};
 use std::alloc::{AllocError, Global};
 use std::sync::Wait;
 use verifier::Verified;
-use wire::Capture;
-use workers::{Handled, account, parted};
+use wire::{Capture, Sent};
+use workers::{Counts, Handled, account, parted};
+
+/// What a replay tells: of the commands those that were refused.
+fn outcome_of(counts: Counts, noted: Vec<Applied>, sent: Vec<Sent>, journals: Journals) -> Outcome
+    ensures counts { result.counts ≡ counts }
+    ensures refused { result.refused.items ≡ refused_of noted.items }
+    ensures sent { result.sent ≡ sent }
+    ensures journals { result.journals ≡ journals }
+{
+    Outcome {
+        counts,
+        refused: refused(noted),
+        sent,
+        journals,
+    }
+}
 
 /// Closes the shards, and counts what the workers did.
 pub(crate) fn closed<B: Naming, R: Wait>(
@@ -38,7 +57,10 @@ pub(crate) fn closed<B: Naming, R: Wait>(
     requires maps { shards.maps ≡ verified.now.maps }
     requires some { 0 < shards.options.workers }
     requires count { length handled.items ≡ shards.options.workers }
-    requires handled { Each (IsHandled IsNewAt (IsRunBy B.count B.plan (program_of verified.now shards.options.shards)) capture.now.records.items shards.options.workers) 0 handled.items }
+    requires handled { AreHandled IsNewAt (IsRunBy B.count B.plan (program_of verified.now shards.options.shards)) capture.now.records.items
+        shards.options.workers handled.items }
+    requires size { IsRingSize size }
+    requires serves { ServesScript shards.maps size script.now }
     requires script { IsScriptRun B.plan shards.maps shards.options script.now size commanded.noted.items commanded.pass }
     requires rounds { AreReclaimed B.plan B.count (rounds_of (length capture.now.records.items)) reclaimed × (reclaimed.who ≡ Reclaimer) }
     ensures accounted { IfOk result (IsAccounted (program_of verified.now shards.options.shards) script.now shards.options capture.now.records.items) }
@@ -52,10 +74,5 @@ pub(crate) fn closed<B: Naming, R: Wait>(
     let Commanded { pass, noted } = commanded;
     let passes = all_passes(alloc, working, pass, reclaimed)?;
     let journals = shards.close(rt, passes);
-    Ok(Outcome {
-        counts,
-        refused: refused(noted),
-        sent,
-        journals,
-    })
+    Ok(outcome_of(counts, noted, sent, journals))
 }

@@ -9,8 +9,6 @@ mod passes;
 mod replaying;
 mod scripts;
 mod shard_runner;
-#[cfg(test)]
-mod tests;
 mod threads;
 
 pub use actors::Applied;

@@ -3,7 +3,7 @@
 ghost use Rattle.std.specs.Prelude.{◌≡◌, ◌≤◌, [], ℕ, length, map, IfOk, IfSome, IsNone};
 ghost use Rattle.maglev.specs.RingSize.{IsRingSize};
 ghost use Rattle.control.specs.declared.command.Command.{Command as Line};
-ghost use Rattle.actors.specs.Commands.{ServesScript};
+ghost use Rattle.actors.specs.Commands.{ServesScript, StaysOf};
 ghost use Rattle.workers.specs.Actors.{numbers_from};
 ghost use Rattle.replay.specs.Parts.{HasNoTable, numbers_of, refused_of};
 
@@ -44,7 +44,7 @@ pub(crate) fn apply_first<B: Naming, W: Wait, G: Gate>(
 ) -> Result<usize, AllocError>
     requires nothing { commander.old.noted ≡ [] }
     ensures first { IfOk result (λ first. (numbers_of commander.new.noted ≡ numbers_from 0 first) × (first ≤ length commander.new.script)) }
-    ensures same { (commander.new.script ≡ commander.old.script) × (commander.new.port.maps ≡ commander.old.port.maps) × (commander.new.port.options ≡ commander.old.port.options) × (commander.new.controller.size ≡ commander.old.controller.size) }
+    ensures same { StaysOf commander.old commander.new }
 {
     let count = commander.script().len();
     'commands: for number in 0..count {

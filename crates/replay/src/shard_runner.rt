@@ -85,7 +85,8 @@ impl<'a, B: Naming, R: Wait, G: Gate> Runner<Working<B>> for ShardRunner<'a, B, 
 
     ghost is_idle = { λ runner worker working. IsIdle B.count worker runner.shards.now.options working.pass };
 
-    ghost runs = { λ runner worker sent before end after. IsRunOf B.count B.plan (program_of runner.verified.now runner.shards.now.options.shards) worker sent before.pass end after.pass };
+    ghost runs = { λ runner worker sent before end after. IsRunOf B.count B.plan
+        (program_of runner.verified.now runner.shards.now.options.shards) worker sent before.pass end after.pass };
 
     fn run(
         &self,

@@ -9,7 +9,7 @@ ghost use Rattle.shared_shards.specs.CallerView.{nothing_seen};
 ghost use Rattle.shared_shards.specs.Passes.{view_at};
 ghost use Rattle.actors.specs.Commands.{ServesScript};
 ghost use Rattle.actors.specs.Rounds.{AreReclaimed};
-ghost use Rattle.workers.specs.Crews.{Each, IsHandled};
+ghost use Rattle.workers.specs.Crews.{Each, AreHandled};
 ghost use Rattle.replay.specs.Parts.{IsStarted, IsScriptRun, rounds_of};
 ghost use Rattle.replay.specs.Runs.{IsNewAt, IsRunBy};
 
@@ -91,9 +91,13 @@ pub(crate) fn run_threads<'x, B: Naming + Send + Sync, R: Threads + Wait + Sync,
     requires started { IsStarted runner.now.shards.now.maps runner.now.shards.now.options script.now size controller.commander first }
     requires nothing { (number : ℕ) → view_at reclaimer.reclaiming number ≡ nothing_seen }
     ensures count { IfOk result (λ it. length it.workers.items ≡ runner.now.shards.now.options.workers) }
-    ensures handled { IfOk result (λ it. Each (IsHandled IsNewAt (IsRunBy B.count B.plan (program_of runner.now.verified.now runner.now.shards.now.options.shards)) capture.now.records.items runner.now.shards.now.options.workers) 0 it.workers.items) }
-    ensures script { IfOk result (λ it. IsScriptRun B.plan runner.now.shards.now.maps runner.now.shards.now.options script.now size it.controller.noted.items it.controller.pass) }
-    ensures rounds { IfOk result (λ it. AreReclaimed B.plan B.count (rounds_of (length capture.now.records.items)) it.reclaimer × (it.reclaimer.who ≡ Reclaimer)) }
+    ensures handled { IfOk result (λ it. AreHandled IsNewAt
+        (IsRunBy B.count B.plan (program_of runner.now.verified.now runner.now.shards.now.options.shards)) capture.now.records.items
+        runner.now.shards.now.options.workers it.workers.items) }
+    ensures script { IfOk result (λ it. IsScriptRun B.plan runner.now.shards.now.maps runner.now.shards.now.options script.now size
+        it.controller.noted.items it.controller.pass) }
+    ensures rounds { IfOk result (λ it. AreReclaimed B.plan B.count (rounds_of (length capture.now.records.items)) it.reclaimer ×
+        (it.reclaimer.who ≡ Reclaimer)) }
 {
     let _ = script;
     let _ = size;

@@ -7,6 +7,7 @@
 mod flow_spread;
 mod job;
 mod passes;
+mod patience;
 mod queues;
 mod rule;
 #[cfg(test)]

@@ -2,6 +2,7 @@
 
 ghost use Rattle.std.specs.Prelude.{◌≡◌, ◌+◌, length};
 
+use crate::patience::Bell;
 use crate::rule::{Queue, QueuePass};
 
 /// A queue for each worker, one for the controller and one for the reclaimer. Threads share it by reference.
@@ -9,6 +10,7 @@ use crate::rule::{Queue, QueuePass};
 pub struct Queues {
     pub(crate) queues: Vec<Queue>,
     pub(crate) workers: usize,
+    pub(crate) bell: Bell,
     ghost sized: { length queues.items ≡ workers + 2 },
 }
 
@@ -24,4 +26,6 @@ pub struct PutPass {
 pub struct TakePass {
     pub(crate) queue: usize,
     pub(crate) pass: QueuePass,
+    /// How often it asked for a job, modulo 256.
+    pub(crate) questions: u8,
 }

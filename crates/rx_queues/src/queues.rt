@@ -8,12 +8,13 @@ ghost use Rattle.shards.specs.declared.fault.OpenFault.TheVariants.{BadOptions};
 
 use crate::job::Job;
 use crate::passes::{PutPass, Queues, TakePass};
+use crate::patience::{Bell, Patience, SPINS};
 use crate::rule::{Puts, Queue, QueuePass, Roles, Takes};
 use semantics::Caller;
 use shards::OpenFault;
 use std::alloc::{AllocError, Global};
+use std::hint;
 use std::sync::Wait;
-use std::thread;
 
 /// How many jobs a queue holds at most.
 const CAPACITY: usize = 64;
@@ -41,9 +42,22 @@ impl Queues {
             let (line, put, take) = opened(alloc)?;
             queues.push(line)?;
             puts.push(put)?;
-            takes.push(TakePass { queue, pass: take })?;
+            takes.push(TakePass {
+                queue,
+                pass: take,
+                questions: 0,
+            })?;
         }
-        Ok((Queues { queues, workers }, PutPass { passes: puts }, takes))
+        let bell = Bell::new();
+        Ok((
+            Queues {
+                queues,
+                workers,
+                bell,
+            },
+            PutPass { passes: puts },
+            takes,
+        ))
     }
 
     // The place of the caller's queue.
@@ -82,40 +96,49 @@ impl Queues {
         ensures pass { IsTakePassOf self.now pass.new × (place_taken_from pass.new ≡ place_taken_from pass.old) }
         ensures taken { MatchOption result (jobs_taken pass.new ≡ jobs_taken pass.old) (λ job. jobs_taken pass.new ≡ jobs_taken pass.old ++ job ∷ []) }
     {
+        pass.questions = pass.questions.wrapping_add(1);
+        self.bell.ring(pass.queue, pass.questions);
         let queue = &self.queues[pass.queue];
         pop(rt, queue, &mut pass.pass)
     }
 }
 
 impl Queues {
-    /// Puts a job into the caller's queue, and gives the processor away while it is full. Takes no memory. It may not return: where
-    /// nobody takes from the queue, it stays full.
+    /// Puts a job into the caller's queue, and waits while it is full: asking again for a moment, then asleep. Takes no memory. It may
+    /// not return: where nobody takes from the queue, it stays full.
     pub fn put_waiting<R: Wait>(&self, rt: &R, who: Caller, job: Job, pass: &mut PutPass)
         requires queue { HasQueue (workers_of self.now) who }
         requires pass { IsPutPassOf self.now pass.old }
         ensures pass { IsPutPassOf self.now pass.new }
         ensures put { jobs_put pass.new ≡ with_job_at (queue_of (workers_of self.now) who) job (jobs_put pass.old) }
     {
+        let place = self.place(who);
+        let mut spins = SPINS;
         'tries: for _ in rt.forever() {
             match self.put(rt, who, job, pass) {
                 Ok(()) => return,
-                Err(_) => thread::yield_now(),
+                Err(_) if spins > 0 => {
+                    spins -= 1;
+                    hint::spin_loop();
+                }
+                Err(_) => self.bell.sleep(rt, place),
             }
         }
         unreachable!()
     }
 
-    /// Takes the oldest job from the pass's queue, and gives the processor away while it is empty. Takes no memory. It may not
-    /// return: where nobody puts into the queue, it stays empty.
+    /// Takes the oldest job from the pass's queue, and waits while it is empty: asking again for a moment, then asleep. Takes no
+    /// memory. It may not return: where nobody puts into the queue, it stays empty.
     pub fn take_waiting<R: Wait>(&self, rt: &R, pass: &mut TakePass) -> Job
         requires { IsTakePassOf self.now pass.old }
         ensures pass { IsTakePassOf self.now pass.new × (place_taken_from pass.new ≡ place_taken_from pass.old) }
         ensures taken { jobs_taken pass.new ≡ jobs_taken pass.old ++ result ∷ [] }
     {
+        let mut patience = Patience::new(pass.queue < self.workers);
         'tries: for _ in rt.forever() {
             match self.take(rt, pass) {
                 Some(job) => return job,
-                None => thread::yield_now(),
+                None => patience.wait(rt),
             }
         }
         unreachable!()
@@ -129,7 +152,11 @@ impl Queues {
         ensures pass { IsPutPassOf self.now put.new × (jobs_put put.new ≡ jobs_put put.old) }
         ensures in_order { IsTakenInOrder (jobs_taken take) (slice_index_or (jobs_put put.old) (place_taken_from take) []) }
     {
-        let TakePass { queue: place, pass } = take;
+        let TakePass {
+            queue: place,
+            pass,
+            ..
+        } = take;
         let queue = &self.queues[place];
         let mine = &mut put.passes[place];
         join(queue, mine, pass);

@@ -19,7 +19,7 @@ use Rattle.semantics.specs.declared.linux.UpdateFlags.{UpdateFlags}
 use Rattle.semantics.specs.declared.linux.UpdateFlags.TheVariants.{Any, NoExist, Exist}
 use Rattle.semantics.specs.Linux.{update_flags_of}
 use Rattle.semantics.specs.ShardPlan.{ShardPlan}
-use Rattle.semantics.specs.Reclamation.{is_worker, entered_by, entered_at, found_cell, held_by, holds, worker_numbers, began_after, is_reclaimable}
+use Rattle.semantics.specs.Reclamation.{is_worker, entered_by, entered_at, found_cell, held_by, holds, worker_numbers, began_after, is_reclaimable, Holds, IsReclaimable}
 use Rattle.semantics.specs.LeastRecentlyUsed.{is_least_recently_used}
 use Rattle.semantics.specs.SequentialShard.{SequentialShard, without_key, without_found, after_eviction, with_new_key, with_value, with_cell, updated_where, shard_after_call, shard_after, cell_of_key, cell_of_kind, update_answer, update_answer_by, delete_answer, delete_answer_of_kind, present_key, lookup_reply, reply_of}
 use Rattle.semantics.specs.History.{shard_of_call, is_inside_worker, is_own_key, meets_part, IsLegalStep, IsLegalHistory}
@@ -303,7 +303,12 @@ each_held_stays plan history worker cell below legal holds =
     fails_at (λ one. began_after gone.since (entered_at one history)) worker below
     (began_no_later gone.since by.entered (entered_at worker history) by.is (late same))) (shard_after plan history).retired by.late
 
-pub held_stays : (plan : ShardPlan) (history : List Entry) (worker cell : ℕ) → worker < 8 → IsLegalHistory plan history → holds worker cell history ≡ true → All (λ (gone : RetiredCell). gone.cell ≡ cell → is_reclaimable history gone ≡ false) (shard_after plan history).retired
+-- the law's words: such a cell is not reclaimable
+pub held_stays : (plan : ShardPlan) (history : List Entry) (worker cell : ℕ) → worker < 8 → IsLegalHistory plan history → Holds worker cell history →
+    All (λ (gone : RetiredCell). gone.cell ≡ cell → ¬ IsReclaimable history gone) (shard_after plan history).retired
 held_stays plan history worker cell below legal holds =
-    All-from_recursion (λ (gone : RetiredCell). gone.cell ≡ cell → is_reclaimable history gone ≡ false) (shard_after plan history).retired
-    (each_held_stays plan history worker cell below legal holds)
+    All-from_recursion (λ (gone : RetiredCell). gone.cell ≡ cell → ¬ IsReclaimable history gone) (shard_after plan history).retired
+    (each_weaker (λ (gone : RetiredCell). gone.cell ≡ cell → is_reclaimable history gone ≡ false)
+    (λ (gone : RetiredCell). gone.cell ≡ cell → ¬ IsReclaimable history gone)
+    (λ gone kept same yes. let no : is_reclaimable history gone ≡ false = kept same in cc)
+    (shard_after plan history).retired (each_held_stays plan history worker cell below legal holds))

@@ -2,7 +2,7 @@
 use Rattle.std.specs.Prelude.{◌≡◌, ℕ, ◌<◌, ◌≤◌, List, ◌∷◌, ◌++◌, length, All, IsTrue, IsFalse}
 use Rattle.semantics.specs.declared.call.Entry.{Entry}
 use Rattle.semantics.specs.declared.plan.RetiredCell.{RetiredCell}
-use Rattle.semantics.specs.Reclamation.{holds, is_reclaimable}
+use Rattle.semantics.specs.Reclamation.{Holds, IsReclaimable}
 use Rattle.semantics.specs.ShardPlan.{ShardPlan}
 use Rattle.semantics.specs.PlanLimits.{IsPlan}
 use Rattle.semantics.specs.SequentialShard.{SequentialShard, shard_after, with_new_key, is_kept}
@@ -43,11 +43,11 @@ NewKeyHasNextCell =
 abbrev pub HeldCellStays : Type 0
 HeldCellStays =
     (plan : ShardPlan) (history : List Entry) (worker cell : ℕ) → worker < 8 → IsLegalHistory plan history →
-    IsTrue (holds worker cell history) →
-    All (λ (retired : RetiredCell). retired.cell ≡ cell → IsFalse (is_reclaimable history retired)) (shard_after plan history).retired
+    Holds worker cell history →
+    All (λ (retired : RetiredCell). retired.cell ≡ cell → ¬ IsReclaimable history retired) (shard_after plan history).retired
 
 -- so it is kept: it has a present key, or waits for its readers; an array's shard has a cell for each of its indices
 abbrev pub HeldCellIsKept : Type 0
 HeldCellIsKept =
     (plan : ShardPlan) (history : List Entry) (worker cell : ℕ) → IsPlan plan →
-    worker < 8 → IsLegalHistory plan history → IsTrue (holds worker cell history) → IsTrue (is_kept plan (shard_after plan history) cell)
+    worker < 8 → IsLegalHistory plan history → Holds worker cell history → IsTrue (is_kept plan (shard_after plan history) cell)

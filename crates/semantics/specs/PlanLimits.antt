@@ -19,7 +19,7 @@ pub record IsWithinLimits (plan : ShardPlan) : Type 0 where
   pub value_size : plan.definition.value_size ≤ 256
   pub some_part : 0 < plan.parts
 
--- the sizes that the image format allows a map
+-- no larger than the image format allows a map
 pub record HasImageSizes (definition : MapDef) : Type 0 where
   pub key_size : definition.key_size ≤ 32
   pub index_size : IsIndexSize definition.kind definition.key_size

@@ -15,7 +15,12 @@ use Rattle.isa.specs.InstructionCodes.{atomic_op_of}
 use Rattle.semantics.specs.History.{shard_of_call, is_holder, is_own_key, is_value, are_bytes, are_flags, is_load_width, is_atomic_width, is_in_cell, is_aligned, fits_width, is_expected, may_change_keys, is_inside_worker, meets_part, meets, IsLegalHistory}
 use Rattle.semantics.proofs.ConditionLemmas.{first_true, second_true}
 use Rattle.semantics.proofs.KeptLemmas.{held_is_kept_of_plan}
-use Rattle.shard_core.specs.Calls.{IsRangeOf}
+
+-- a caller that holds the cell asks for these bytes of it
+pub record IsRangeOf (plan : ShardPlan) (history : List Entry) (cell offset width : ℕ) : Type 0 where
+  pub kept : IsTrue (is_kept plan (shard_after plan history) cell)
+  pub narrow : width ≤ 8
+  pub within : offset + width ≤ plan.definition.value_size
 
 -- a cell that its caller holds is kept
 holder_kept : (plan : ShardPlan) (history : List Entry) (who : Caller) (cell : ℕ) → IsPlan plan → IsLegalHistory plan history → IsTrue (is_holder plan history who cell) → IsTrue (is_kept plan (shard_after plan history) cell)

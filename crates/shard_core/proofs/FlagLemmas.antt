@@ -2,7 +2,7 @@
 use Rattle.std.proofs.Common.{◌≡◌, ℕ, zero, suc, ◌<◌, ◌≤◌, Bool, true, false, List, [], ◌∷◌, length, Option, get_or, arith, refl, sym, ◌∙◌, ap}
 use Rattle.std.proofs.lemmas.List.{set_past}
 use Rattle.std.proofs.lemmas.Bool.Decides.{nat_tests}
-use Rattle.std.specs.Prelude.{◌==◌, count_by, is_some, if◌then◌else◌, map}
+use Rattle.std.specs.Prelude.{◌==◌, count_by, is_some, if◌then◌else◌, map, slice_set}
 use Rattle.semantics.specs.declared.call.Caller.{Caller}
 use Rattle.semantics.specs.declared.call.Caller.TheVariants.{Worker, Controller, Reclaimer}
 use Rattle.semantics.specs.declared.call.Call.{Call}
@@ -10,7 +10,15 @@ use Rattle.semantics.specs.declared.call.Call.TheVariants.{Enter, Leave}
 use Rattle.semantics.specs.declared.call.Reply.{Reply}
 use Rattle.semantics.specs.declared.call.Entry.{Entry}
 use Rattle.semantics.specs.Reclamation.{is_worker, entered_by, entered_at, is_inside, worker_numbers, inside_count}
-use Rattle.shard_core.specs.Sections.{inside_flags, with_flag}
+
+-- of each worker, by its number, whether it is inside
+abbrev pub inside_flags : List Entry → List Bool
+inside_flags history = map (λ worker. is_inside worker history) worker_numbers
+
+-- the flags with one worker's changed
+abbrev pub with_flag : Caller → Bool → List Bool → List Bool
+with_flag (Worker number) flag flags = slice_set flags number flag
+with_flag who flag flags = flags
 
 -- a call that neither begins nor ends a section changes no flag
 abbrev pub KeepsSections : Call → Type 0

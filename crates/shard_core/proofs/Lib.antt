@@ -11,3 +11,4 @@ mod StepLemmas
 mod ChangeLemmas
 mod OpeningLemmas
 mod NewestLemmas
+mod FewHeldLemmas

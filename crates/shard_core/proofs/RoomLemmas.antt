@@ -14,8 +14,7 @@ use Rattle.semantics.specs.declared.plan.ShardPlan.{ShardPlan}
 use Rattle.semantics.specs.Reclamation.{is_inside, inside_count}
 use Rattle.semantics.specs.History.{shard_of_call, is_inside_worker, meets_part, meets, journal_is_full, IsLegalHistory}
 use Rattle.semantics.proofs.ConditionLemmas.{first_true, second_true}
-use Rattle.shard_core.specs.Sections.{inside_flags, with_flag}
-use Rattle.shard_core.proofs.FlagLemmas.{KeepsSections, inside_flags_kept, inside_flags_entered, inside_flags_left, inside_flags-at}
+use Rattle.shard_core.proofs.FlagLemmas.{inside_flags, with_flag, KeepsSections, inside_flags_kept, inside_flags_entered, inside_flags_left, inside_flags-at}
 
 -- one flag set is one more at most
 one_more : (who : Caller) (flags : List Bool) → count_by (λ flag. flag) (with_flag who true flags) ≤ count_by (λ flag. flag) flags + 1

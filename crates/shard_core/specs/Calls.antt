@@ -1,13 +1,10 @@
 -- A call on a shard, and what a call leaves that is served.
-use Rattle.std.specs.Prelude.{ℕ, ◌+◌, ◌≤◌, List, reverse, IsTrue}
+use Rattle.std.specs.Prelude.{ℕ, List, reverse}
 use Rattle.semantics.specs.declared.call.Caller.{Caller}
 use Rattle.semantics.specs.declared.call.CellRef.{CellRef}
 use Rattle.semantics.specs.declared.call.Call.{Call}
 use Rattle.semantics.specs.declared.call.Call.TheVariants.{Enter, Leave, Lookup, Load, Store, Atomic, Update, Delete, Reclaim}
 use Rattle.semantics.specs.declared.call.Reply.{Reply}
-use Rattle.semantics.specs.declared.call.Entry.{Entry}
-use Rattle.semantics.specs.declared.plan.ShardPlan.{ShardPlan}
-use Rattle.semantics.specs.SequentialShard.{is_kept, shard_after}
 use Rattle.semantics.specs.History.{Meets, IsJournalFull}
 use Rattle.journal.specs.declared.append.CellRange.{CellRange}
 use Rattle.journal.specs.declared.append.AtomicChange.{AtomicChange}
@@ -56,9 +53,3 @@ IsFullFor shard call = IsJournalFull shard.plan (reverse shard.journal) call
 -- the shard with one entry more, of this call and its reply
 abbrev pub after_call : JournaledShard → Caller → Call → Reply → JournaledShard
 after_call shard who call reply = with_entry shard (record { who = who; call = call; reply = reply })
-
--- a caller that holds the cell asks for these bytes of it
-pub record IsRangeOf (plan : ShardPlan) (history : List Entry) (cell offset width : ℕ) : Type 0 where
-  pub kept : IsTrue (is_kept plan (shard_after plan history) cell)
-  pub narrow : width ≤ 8
-  pub within : offset + width ≤ plan.definition.value_size

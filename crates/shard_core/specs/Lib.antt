@@ -5,3 +5,4 @@ pub mod KeyTables
 pub mod Contents
 pub mod ShardFields
 pub mod Laws
+pub mod FewHeld

@@ -1,9 +1,9 @@
 -- Who is inside a shard: of each worker the place of its Enter, kept beside the journal so that no call has to read it.
-use Rattle.std.specs.Prelude.{ℕ, nat_lt, Bool, Option, Some, None, List, [], ◌∷◌, map, slice_set, if◌then◌else◌}
+use Rattle.std.specs.Prelude.{ℕ, nat_lt, Option, Some, None, List, [], ◌∷◌, map, slice_set, if◌then◌else◌}
 use Rattle.semantics.specs.declared.call.Caller.{Caller}
 use Rattle.semantics.specs.declared.call.Caller.TheVariants.{Worker}
 use Rattle.semantics.specs.declared.call.Entry.{Entry}
-use Rattle.semantics.specs.Reclamation.{entered_at, is_inside, worker_numbers}
+use Rattle.semantics.specs.Reclamation.{entered_at, worker_numbers}
 
 -- of each worker, by its number, the place of its Enter that no Leave follows
 abbrev pub entered_places : List Entry → List (Option ℕ)
@@ -13,15 +13,6 @@ entered_places history = map (λ worker. entered_at worker history) worker_numbe
 abbrev pub with_place : Caller → Option ℕ → List (Option ℕ) → List (Option ℕ)
 with_place (Worker number) place places = slice_set places number place
 with_place who place places = places
-
--- of each worker, by its number, whether it is inside
-abbrev pub inside_flags : List Entry → List Bool
-inside_flags history = map (λ worker. is_inside worker history) worker_numbers
-
--- the flags with one worker's changed
-abbrev pub with_flag : Caller → Bool → List Bool → List Bool
-with_flag (Worker number) flag flags = slice_set flags number flag
-with_flag who flag flags = flags
 
 -- the lower of two places, one of which may be none
 abbrev pub earlier : Option ℕ → ℕ → ℕ

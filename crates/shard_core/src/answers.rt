@@ -1,10 +1,11 @@
 //! What an Update and a Delete answer.
 
-ghost use Rattle.std.specs.Prelude.{◌≡◌, Option, None, length};
+ghost use Rattle.std.specs.Prelude.{◌≡◌, Option, None};
+ghost use Rattle.shard_core.specs.Contents.{AsCounted};
 ghost use Rattle.ebpf_decode.specs.declared.map.MapKind.TheVariants.{Hash};
 ghost use Rattle.semantics.specs.PlanLimits.{IsPlan};
 ghost use Rattle.semantics.specs.Linux.{errno_code, success};
-ghost use Rattle.semantics.specs.SequentialShard.{SequentialShard, new_key_answer, absent_key_answer, update_answer_of_kind, delete_answer_of_kind};
+ghost use Rattle.semantics.specs.SequentialShard.{new_key_answer, absent_key_answer, update_answer_of_kind, delete_answer_of_kind};
 
 use ebpf_decode::MapKind;
 use one_thread_map::answers::present_key_answer;
@@ -20,7 +21,7 @@ pub struct Counts {
 /// What an Update of a new key answers: -7 where a hash shard is full of keys, -12 where no cell is free.
 fn new_key_answer(plan: &ShardPlan, counts: Counts) -> i32
     requires { IsPlan plan.now }
-    ensures { (state : SequentialShard) → counts.present ≡ length state.present → counts.waiting ≡ length state.retired → result ≡ new_key_answer plan.now state }
+    ensures { AsCounted counts (λ state. result ≡ new_key_answer plan.now state) }
 {
     let capacity = u64::from(plan.definition.max_entries / plan.parts);
     if plan.definition.kind == MapKind::Hash && capacity <= counts.present as u64 {
@@ -35,7 +36,7 @@ fn new_key_answer(plan: &ShardPlan, counts: Counts) -> i32
 /// What an Update of an absent key answers: -2 where it must be present, else as a new key.
 fn absent_key_answer(plan: &ShardPlan, counts: Counts, flags: UpdateFlags) -> i32
     requires { IsPlan plan.now }
-    ensures { (state : SequentialShard) → counts.present ≡ length state.present → counts.waiting ≡ length state.retired → result ≡ absent_key_answer plan.now state flags }
+    ensures { AsCounted counts (λ state. result ≡ absent_key_answer plan.now state flags) }
 {
     match flags {
         UpdateFlags::Any => new_key_answer(plan, counts),
@@ -52,7 +53,7 @@ pub(crate) fn update_answer(
     cell: Option<u64>,
 ) -> i32
     requires { IsPlan plan.now }
-    ensures { (state : SequentialShard) → counts.present ≡ length state.present → counts.waiting ≡ length state.retired → result ≡ update_answer_of_kind plan.now.definition.kind plan.now state flags cell }
+    ensures { AsCounted counts (λ state. result ≡ update_answer_of_kind plan.now.definition.kind plan.now state flags cell) }
 {
     if cell.is_some() {
         return present_key_answer(flags);

@@ -17,6 +17,3 @@ pub use semantics::{
     Call, Caller, CellRef, Entry, JournalFull, Key, Options, Reply, ShardPlan, Value,
 };
 pub use shard::Shard;
-
-#[cfg(test)]
-mod tests;

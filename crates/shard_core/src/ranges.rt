@@ -1,8 +1,7 @@
 //! Numbers in some bytes of a kept cell, the lowest byte first.
 
-ghost use Rattle.std.specs.Prelude.{◌≡◌, ◌⊎◌, ◌+◌, ◌*◌, ◌≤◌, ◌<◌, ◌^◌, IsTrue};
-ghost use Rattle.isa.specs.Atomic.{atomic_result};
-ghost use Rattle.map_cells.specs.CellTable.{is_kept, number_at, with_number};
+ghost use Rattle.std.specs.Prelude.{◌≡◌, ◌⊎◌, ◌+◌, ◌≤◌, ◌<◌, ◌^◌, IsTrue};
+ghost use Rattle.map_cells.specs.CellTable.{is_kept, number_at, with_number, with_change};
 
 use isa::AtomicOp;
 use journal::{AtomicChange, CellRange};
@@ -43,7 +42,7 @@ pub(crate) fn change_number(
     requires operand { change.now.value < 256 ^ range.now.width }
     requires expected { change.now.expected < 256 ^ range.now.width }
     ensures old { result ≡ number_at cells.old range.now.cell range.now.offset range.now.width }
-    ensures table { cells.new ≡ with_number cells.old range.now.cell range.now.offset range.now.width (atomic_result (8 * range.now.width) op (number_at cells.old range.now.cell range.now.offset range.now.width) change.now.value change.now.expected) }
+    ensures table { cells.new ≡ with_change cells.old range.now.cell range.now.offset range.now.width op change.now.value change.now.expected }
 {
     let offset = range.offset as usize;
     let width = range.width as usize;

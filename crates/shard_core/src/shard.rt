@@ -6,6 +6,7 @@ ghost use Rattle.semantics.specs.Reclamation.{is_inside, holds, inside_count};
 ghost use Rattle.semantics.specs.PlanLimits.{IsPlan};
 ghost use Rattle.semantics.specs.SequentialShard.{update_answer, delete_answer, number_in_cell, lookup_reply};
 ghost use Rattle.semantics.specs.History.{journal_is_full, IsLegalJournal};
+ghost use Rattle.shard_core.specs.FewHeld.{FewAreHeld};
 ghost use Rattle.shard_core.specs.JournaledShard.{opened_shard, state_of, sequential_reply};
 ghost use Rattle.shard_core.specs.Calls.{MayCall, IsFullFor, after_call, enter_call, leave_call, lookup_call, load_call, store_call, atomic_call, update_call, delete_call, reclaim_call};
 
@@ -85,6 +86,14 @@ impl Shard {
         ensures legal { IsLegalJournal self.now.plan self.now.journal }
     {
         &self.journal
+    }
+
+    /// A worker holds no more cells than the shard has: two for each entry of the capacity. The function does nothing: it brings this fact
+    /// into a proof.
+    pub fn few_held(&self)
+        ensures { FewAreHeld self.now.plan (reverse self.now.journal) }
+    {
+        let _inside = self.inside;
     }
 
     /// Whether the worker is inside a read-side section: it has an Enter with no later Leave.

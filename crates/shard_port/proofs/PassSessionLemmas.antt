@@ -284,7 +284,7 @@ pub record IsRefusedHere (plan : ShardPlan) (worker number : ℕ) (entries : Lis
     pub outside : is_inside worker after.own ≡ false
     pub full_at : List Entry
     pub full_seen : BeginsWith after.seen full_at
-    pub full : IsJournalFull plan full_at call ⊎ ((entries ≡ []) × IsJournalFull plan full_at (Enter number))
+    pub full : IsJournalFull plan full_at call ⊎ ((entries ≡ []) × (after.own ≡ before.own) × IsJournalFull plan full_at (Enter number))
 
 left_begins : (plan : ShardPlan) (worker number : ℕ) (inside : Bool) (before after : CallerView) →
     IsLeft inside plan number worker before after → BeginsWith after.seen before.seen
@@ -309,7 +309,11 @@ refused_enter plan worker number entries call before middle after finished writt
       outside = whole.outside;
       full_at = after.seen;
       full_seen = left_begins plan worker number (is_inside worker after.own) after finished left;
-      full = inr (none, cannot.refused.full);
+      full = inr (
+        none,
+        whole.grown.own ∙ ap (λ (list : List Entry). reverse (session worker number list) ++ before.own) none,
+        cannot.refused.full,
+      );
     }
 
 call_begins : (plan : ShardPlan) (worker number : ℕ) (call : Call) (middle after : CallerView) →
@@ -418,7 +422,11 @@ writes_refused_own_sessions plan count worker before middle after finished excha
   outside = λ number within. (ended number within).outside;
   full_at = there.full_at;
   full_seen = there.full_seen;
-  full = there.full;
+  full = ⊎_elim (λ (full : IsJournalFull (plan (shard_of_call call)) there.full_at call). inl full)
+      (λ (kept : (entries_at worker (shard_of_call call) exchanges ≡ [])
+      × (own_at finished (shard_of_call call) ≡ own_at before.pass (shard_of_call call))
+      × IsJournalFull (plan (shard_of_call call)) there.full_at (Enter (shard_of_call call))).
+      inr (record { first_call = kept.0; nothing = kept.1; full = kept.2 })) there.full;
 }
   where
     middle_who : middle.pass.who ≡ Worker worker

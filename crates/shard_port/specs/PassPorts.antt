@@ -13,7 +13,7 @@ use Rattle.semantics.specs.History.{shard_of_call, Meets, IsLegalHistory, IsJour
 use Rattle.semantics.specs.RunTrace.{IsReplyTo}
 use Rattle.map_port.specs.Served.{Maps, program_over}
 use Rattle.shared_shards.specs.CallerView.{CallerView, BeginsWith, IsServed, IsRefused}
-use Rattle.shared_shards.specs.Passes.{PassView, view_at, own_at, IsElsewhereSame, is_inside_of}
+use Rattle.shared_shards.specs.Passes.{PassView, view_at, own_at, IsElsewhereSame}
 use Rattle.shared_shards.specs.SharedMaps.{SharedMaps}
 use Rattle.shared_shards.specs.HeldCells.{holds_own}
 use Rattle.shard_port.specs.Asking.{enter_entry, leave_entry, asked_entry}
@@ -73,6 +73,24 @@ abbrev pub IsLeft : Bool → ShardPlan → ℕ → ℕ → CallerView → Caller
 IsLeft true plan number worker before after = IsServed plan before after (leave_entry worker number)
 IsLeft false plan number worker before after = after ≡ before
 
+-- ---- one shard, by the worker's pass
+
+-- once it is inside, the worker may make the call on the shard of this number
+abbrev pub MayAskOnceInside : ShardPlan → ℕ → PassView → Call → Type 0
+MayAskOnceInside plan number pass call = Meets plan (inside_own (worker_of pass.who) number (own_at pass number)) pass.who call
+
+abbrev pub IsAskedBy : ShardPlan → ℕ → PassView → PassView → Call → Reply → Type 0
+IsAskedBy plan number before after call reply =
+    IsAskedAt plan number (worker_of before.who) (view_at before number) (view_at after number) call reply
+
+abbrev pub IsTurnedAwayBy : ShardPlan → ℕ → PassView → PassView → Call → Type 0
+IsTurnedAwayBy plan number before after call = IsTurnedAwayAt plan number (worker_of before.who) (view_at before number) (view_at after number) call
+
+abbrev pub IsLeftBy : ShardPlan → ℕ → PassView → PassView → Type 0
+IsLeftBy plan number before after =
+    IsLeft (is_inside (worker_of before.who) (own_at before number)) plan number (worker_of before.who) (view_at before number)
+    (view_at after number)
+
 -- ---- the port
 
 -- the maps that it serves, and the pass
@@ -101,9 +119,7 @@ pub record IsGivenBy (plan : ℕ → ShardPlan) (count : ℕ) (before : PassPort
   pub is_worker : before.pass.who ≡ Worker (worker_of before.pass.who)
   pub run_call : IsRunCall call
   pub formed : IsReplyTo (program_over before.served) call reply
-  pub asked :
-      IsAskedAt (plan (shard_of_call call)) (shard_of_call call) (worker_of before.pass.who) (view_at before.pass (shard_of_call call))
-      (view_at after.pass (shard_of_call call)) call reply
+  pub asked : IsAskedBy (plan (shard_of_call call)) (shard_of_call call) before.pass after.pass call reply
 
 -- the call's shard had no room for the Enter or for the call; its views of the others stay
 pub record IsRefusedBy (plan : ℕ → ShardPlan) (count : ℕ) (before : PassPort) (call : Call) (after : PassPort) : Type 0 where
@@ -111,13 +127,9 @@ pub record IsRefusedBy (plan : ℕ → ShardPlan) (count : ℕ) (before : PassPo
   pub within : shard_of_call call < count
   pub elsewhere : IsElsewhereSame (shard_of_call call) before.pass after.pass
   pub is_worker : before.pass.who ≡ Worker (worker_of before.pass.who)
-  pub turned_away :
-      IsTurnedAwayAt (plan (shard_of_call call)) (shard_of_call call) (worker_of before.pass.who) (view_at before.pass (shard_of_call call))
-      (view_at after.pass (shard_of_call call)) call
+  pub turned_away : IsTurnedAwayBy (plan (shard_of_call call)) (shard_of_call call) before.pass after.pass call
 
 -- the worker left every one of so many shards that it was inside of
 pub record IsFinishedBy (plan : ℕ → ShardPlan) (count : ℕ) (before after : PassView) : Type 0 where
   pub same_caller : after.who ≡ before.who
-  pub left :
-      (number : ℕ) → number < count → IsLeft (is_inside (worker_of before.who) (own_at before number)) (plan number) number
-      (worker_of before.who) (view_at before number) (view_at after number)
+  pub left : (number : ℕ) → number < count → IsLeftBy (plan number) number before after

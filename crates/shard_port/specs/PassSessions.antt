@@ -42,9 +42,16 @@ pub record IsVisitedAt (worker : ℕ) (exchanges : List Exchange) (call : Call) 
   pub first_call : entries_at worker number exchanges ≡ []
   pub written : after ≡ leave_entry worker number ∷ enter_entry worker number ∷ before
 
+-- the worker had not called the shard, its Enter met a full journal, and it wrote nothing there
+pub record IsKeptOut (plan : ShardPlan) (full_at : List Entry) (worker : ℕ) (exchanges : List Exchange) (number : ℕ) (before after : List Entry) :
+    Type 0 where
+  pub first_call : entries_at worker number exchanges ≡ []
+  pub nothing : after ≡ before
+  pub full : IsJournalFull plan full_at (Enter number)
+
 -- the same of a run that ended because a call was refused, but that the shard of this call, if it was the first there, may have an Enter
--- and a Leave with no call between. There the journal was full for the call, or for the Enter, at the end of a history that the pass's
--- now begins with.
+-- and a Leave with no call between. There the journal was full for the call at the end of a history that the pass's now begins with; or it was
+-- full for the Enter, and then the worker has written nothing there.
 pub record HasRefusedSessions (plan : ℕ → ShardPlan) (count worker : ℕ) (exchanges : List Exchange) (call : Call) (before after : PassView) : Type 0
   where
     pub same_caller : after.who ≡ before.who
@@ -59,7 +66,8 @@ pub record HasRefusedSessions (plan : ℕ → ShardPlan) (count worker : ℕ) (e
     pub full_seen : BeginsWith (seen_at after (shard_of_call call)) full_at
     pub full :
         IsJournalFull (plan (shard_of_call call)) full_at call
-        ⊎ ((entries_at worker (shard_of_call call) exchanges ≡ []) × IsJournalFull (plan (shard_of_call call)) full_at (Enter (shard_of_call call)))
+        ⊎ IsKeptOut (plan (shard_of_call call)) full_at worker exchanges (shard_of_call call) (own_at before (shard_of_call call))
+        (own_at after (shard_of_call call))
 
 -- ---- the laws: of a run from a pass whose worker is outside so many shards
 

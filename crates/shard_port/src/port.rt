@@ -1,14 +1,12 @@
 //! The port of a worker's pass, over shards that many callers share.
 
 ghost use Rattle.std.specs.Prelude.{◌≡◌, ◌<◌, IsTrue, IfOk, IfErr, OnOk, OnErr};
-ghost use Rattle.semantics.specs.History.{Meets};
 ghost use Rattle.journal.specs.Entries.{found_reply};
 ghost use Rattle.map_port.specs.Served.{handle_limit};
 ghost use Rattle.gates.specs.Gates.{next_count};
-ghost use Rattle.shared_shards.specs.Passes.{view_at, own_at, IsElsewhereSame};
+ghost use Rattle.shared_shards.specs.Passes.{IsElsewhereSame};
 ghost use Rattle.shard_port.specs.PortView.{handle_of, has_small_cell};
-ghost use Rattle.shard_port.specs.PassPorts.{is_worker_below, worker_of, inside_own, IsAskedAt, IsTurnedAwayAt, IsLeft, IsFinishedBy};
-ghost use Rattle.semantics.specs.Reclamation.{is_inside};
+ghost use Rattle.shard_port.specs.PassPorts.{is_worker_below, MayAskOnceInside, IsAskedBy, IsTurnedAwayBy, IsLeftBy, IsFinishedBy};
 
 use crate::plain::{cell_of_handle, definition_at};
 use gates::{Gate, Tally};
@@ -74,12 +72,13 @@ impl<'a, B: Naming, W: Wait, G: Gate> ShardPort<'a, B, W, G> {
     /// Enter or for the call.
     fn ask<C: Ask>(&mut self, shard: u32, ask: C) -> Result<C::Answer, JournalFull>
         requires shard { shard < B.count }
-        requires met { Meets (B.plan shard) (inside_own (worker_of self.old.pass.now.who) shard (own_at self.old.pass.now shard)) self.old.pass.now.who (C.asks ask shard) }
+        requires met { MayAskOnceInside (B.plan shard) shard self.old.pass.now (C.asks ask shard) }
         ensures same_pass { self.new.pass.ghost_name ≡ self.old.pass.ghost_name }
         ensures same_shards { self.new.shards ≡ self.old.shards }
         ensures elsewhere { IsElsewhereSame shard self.old.pass.now self.new.pass.now }
-        ensures answered { IfOk result (λ answer. IsAskedAt (B.plan shard) shard (worker_of self.old.pass.now.who) (view_at self.old.pass.now shard) (view_at self.new.pass.now shard) (C.asks ask shard) (C.replies shard answer)) }
-        ensures turned_away { OnErr result (IsTurnedAwayAt (B.plan shard) shard (worker_of self.old.pass.now.who) (view_at self.old.pass.now shard) (view_at self.new.pass.now shard) (C.asks ask shard)) }
+        ensures answered { IfOk result (λ answer. IsAskedBy (B.plan shard) shard self.old.pass.now self.new.pass.now (C.asks ask shard)
+            (C.replies shard answer)) }
+        ensures turned_away { OnErr result (IsTurnedAwayBy (B.plan shard) shard self.old.pass.now self.new.pass.now (C.asks ask shard)) }
         ensures names_the_shard { IfErr result (λ fault. fault.shard ≡ shard) }
         ensures same_actor { self.new.tally.who ≡ self.old.tally.who }
         ensures told { OnOk result (self.new.tally.count ≡ next_count self.old.tally.count) }
@@ -275,10 +274,10 @@ fn ask_at<B: Naming, C: Ask>(
 ) -> Result<C::Answer, JournalFull>
     requires shard { shard < B.count }
     requires worker { IsTrue (is_worker_below shards.now.options.workers pass.old.who) }
-    requires met { Meets (B.plan shard) (inside_own (worker_of pass.old.who) shard (own_at pass.old shard)) pass.old.who (C.asks ask shard) }
+    requires met { MayAskOnceInside (B.plan shard) shard pass.old (C.asks ask shard) }
     ensures elsewhere { IsElsewhereSame shard pass.old pass.new }
-    ensures answered { IfOk result (λ answer. IsAskedAt (B.plan shard) shard (worker_of pass.old.who) (view_at pass.old shard) (view_at pass.new shard) (C.asks ask shard) (C.replies shard answer)) }
-    ensures turned_away { OnErr result (IsTurnedAwayAt (B.plan shard) shard (worker_of pass.old.who) (view_at pass.old shard) (view_at pass.new shard) (C.asks ask shard)) }
+    ensures answered { IfOk result (λ answer. IsAskedBy (B.plan shard) shard pass.old pass.new (C.asks ask shard) (C.replies shard answer)) }
+    ensures turned_away { OnErr result (IsTurnedAwayBy (B.plan shard) shard pass.old pass.new (C.asks ask shard)) }
     ensures names_the_shard { IfErr result (λ fault. fault.shard ≡ shard) }
 {
     shards.planned();
@@ -297,7 +296,7 @@ fn leave<B: Naming>(rt: &impl Wait, shards: &Shards<B>, pass: &mut Pass<B>, shar
     requires shard { shard < B.count }
     requires worker { IsTrue (is_worker_below shards.now.options.workers pass.old.who) }
     ensures elsewhere { IsElsewhereSame shard pass.old pass.new }
-    ensures left { IsLeft (is_inside (worker_of pass.old.who) (own_at pass.old shard)) (B.plan shard) shard (worker_of pass.old.who) (view_at pass.old shard) (view_at pass.new shard) }
+    ensures left { IsLeftBy (B.plan shard) shard pass.old pass.new }
 {
     shards.planned();
     if pass.is_inside(shard) {

@@ -6,7 +6,7 @@ use thiserror::Error;
 /// Why no shards were opened. Where both apply, it is the one of the lower number; nothing is left behind.
 #[derive(Clone, Copy, Debug, PartialEq, Eq, Error)]
 pub enum OpenFault {
-    /// There are not 1 to 8 workers, a map has not one shard, a map's entries are no multiple of its shards, or a journal has
+    /// There are not 1 to 8 workers, not 1, 2, 4 or 8 shards for each map, a map's entries are no multiple of its shards, or a journal has
     /// not room for 16 to 1,048,576 entries.
     #[error("fault 51 BadOptions")]
     BadOptions,

@@ -1,6 +1,6 @@
 -- What a pass knows once the badge of one shard is another.
-use Rattle.std.proofs.Common.{◌≡◌, ◌≢◌, ◌⊎◌, ℕ, zero, suc, ◌<◌, Bool, true, List, [], ◌∷◌, length, set, refl, sym, ap, ◌∙◌, subst, ⊎_elim, arith}
-use Rattle.std.specs.Prelude.{map, slice_index_or, slice_set}
+use Rattle.std.proofs.Common.{◌≡◌, ◌≢◌, ℕ, zero, suc, ◌<◌, Bool, true, List, [], ◌∷◌, length, refl, sym, ap, ◌∙◌, subst, ⊎_elim, arith}
+use Rattle.std.specs.Prelude.{map, slice_set}
 use Rattle.atomic_table.specs.Seated.{TableId}
 use Rattle.atomic_table.specs.declared.badge.Badge.{Badge}
 use Rattle.semantics.specs.declared.call.Caller.{Caller}
@@ -8,9 +8,9 @@ use Rattle.semantics.specs.declared.plan.ShardPlan.{ShardPlan}
 use Rattle.shared_shards.specs.declared.rule.Known.{Known}
 use Rattle.semantics.specs.declared.call.Entry.{Entry}
 use Rattle.semantics.specs.History.{IsLegalHistory}
-use Rattle.shared_shards.specs.CallerView.{CallerView, nothing_seen, HasLooked}
+use Rattle.shared_shards.specs.CallerView.{CallerView, HasLooked}
 use Rattle.shared_shards.specs.Seats.{view_of}
-use Rattle.shared_shards.specs.Passes.{PassView, view_at, IsElsewhereSame, blank, badge_at, view_of_badge, known_in, pass_view, IsBadgeOf, IsPass, IsFlagOf, flag_at}
+use Rattle.shared_shards.specs.Passes.{view_at, IsElsewhereSame, badge_at, view_of_badge, known_in, pass_view, IsBadgeOf, IsPass, IsFlagOf, flag_at}
 use Rattle.shared_shards.specs.HeldCells.{HeldIds, held_at, AreHeldOf}
 use Rattle.shared_shards.proofs.Settling.{same_or_other}
 

@@ -1,5 +1,5 @@
 -- A caller's seats are taken out of the rows: they make its pass, and the rows keep those of the others.
-use Rattle.std.proofs.Common.{◌≡◌, ◌≢◌, ◌⊎◌, ◌<◌, ◌≤◌, ℕ, zero, suc, Bool, true, false, true≢false, List, [], ◌∷◌, length, get_or, refl, sym, ap, ◌∙◌, subst, ⊎_elim, inl, inr, arith}
+use Rattle.std.proofs.Common.{◌≡◌, ◌≢◌, ◌⊎◌, ◌<◌, ◌≤◌, ℕ, zero, suc, Bool, true, false, true≢false, List, [], length, refl, sym, ap, ◌∙◌, subst, ⊎_elim, inl, inr, arith}
 use Rattle.std.specs.Prelude.{slice_set, replicate}
 use Rattle.atomic_table.specs.Seated.{TableId}
 use Rattle.atomic_table.specs.declared.badge.Badge.{Badge}
@@ -11,8 +11,8 @@ use Rattle.shared_shards.specs.CallerView.{CallerView, nothing_seen}
 use Rattle.shared_shards.specs.LengthRule.{caller_at, place_of, pass_of}
 use Rattle.shared_shards.specs.Seats.{view_of}
 use Rattle.shared_shards.specs.Passes.{badge_at, blank, view_of_badge, known_in, view_at, pass_view, IsBadgeOf, IsPass, IsFlagOf, flag_at}
-use Rattle.shared_shards.specs.NewShards.{IsNewBadge, row_at, is_dealt_at, IsRow, IsDealer}
-use Rattle.shared_shards.specs.HeldCells.{HeldIds, held_at, AreHeldOf, room_of}
+use Rattle.shared_shards.specs.NewShards.{IsNewBadge, row_at, is_dealt_at, IsDealer}
+use Rattle.shared_shards.specs.HeldCells.{HeldIds, held_at, AreHeldOf, room_at, room_of}
 use Rattle.shared_shards.proofs.Badges.{view_is}
 use Rattle.shared_shards.proofs.HeldLemmas.{held_by_none}
 use Rattle.shared_shards.proofs.Each.{or_set_here, or_set_else, or_past}
@@ -42,8 +42,8 @@ flag_of_none Reclaimer = tt
 view_of_new : (table : TableId) (who : Caller) (badge : Badge Known) → IsNewBadge table who badge → view_of_badge badge ≡ nothing_seen
 view_of_new table who badge new = ap (λ (ks : List Known). view_of (known_in ks)) new.fresh
 
-module _ (table : ℕ → TableId) (plan : ℕ → ShardPlan) (count room : ℕ) (dealt : List Bool) (rows : List (List (Badge Known))) (place : ℕ) (who : Caller) (seats : List (Badge Known))
-    (dealer : IsDealer table plan count room dealt rows) (waits : is_dealt_at dealt place ≡ false) (placed : place ≡ place_of who)
+module _ (table : ℕ → TableId) (plan : ℕ → ShardPlan) (count : ℕ) (rooms : List ℕ) (dealt : List Bool) (rows : List (List (Badge Known))) (place : ℕ) (who : Caller) (seats : List (Badge Known))
+    (dealer : IsDealer table plan count rooms dealt rows) (waits : is_dealt_at dealt place ≡ false) (placed : place ≡ place_of who)
     (same_count : length seats ≡ length rows) (taken : (number : ℕ) → number < length rows → badge_at seats number ≡ badge_at (row_at rows number) place) where
   pub place_within : (number : ℕ) → number < length rows → place < length (row_at rows number)
   place_within number below = (dealer.waiting number (let sized = dealer.sized in omega (arith, sized)) place waits).0
@@ -64,8 +64,8 @@ module _ (table : ℕ → TableId) (plan : ℕ → ShardPlan) (count room : ℕ)
       below_or_past zero (suc b) = inl (omega arith)
       below_or_past (suc a) (suc b) = ⊎_elim (λ (h : a < b). inl (omega arith)) (λ (h : b ≤ a). inr (omega arith)) (below_or_past a b)
 
-  pub new_pass : (flags : List Bool) (held : List HeldIds) → flags ≡ replicate (length rows) false → length held ≡ length rows →
-      ((number : ℕ) → number < length rows → (held_at held number).ids ≡ []) → ((number : ℕ) → number < length rows → room_of who room ≤ (held_at held number).room) →
+  pub new_pass : (flags : List Bool) (held : List HeldIds) → flags ≡ replicate (length rows) false → length held ≡ length rooms →
+      ((number : ℕ) → number < length rooms → (held_at held number).ids ≡ []) → ((number : ℕ) → number < length rooms → room_of who (room_at rooms number) ≤ (held_at held number).room) →
       IsPass table plan count who seats flags held
   new_pass flags held flags_are as_many none enough = record {
     sized = same_count ∙ dealer.sized;
@@ -73,18 +73,18 @@ module _ (table : ℕ → TableId) (plan : ℕ → ShardPlan) (count room : ℕ)
     flagged = ap (λ (fs : List Bool). length fs) flags_are ∙ count_of_falses (length rows) ∙ dealer.sized;
     flags_are = λ number below. subst (λ (v : CallerView). IsFlagOf who v.own (flag_at flags number)) (sym (nothing_at number))
         (subst (IsFlagOf who []) (sym (ap (λ (fs : List Bool). flag_at fs number) flags_are ∙ false_at (length rows) number)) (flag_of_none who));
-    listed = as_many ∙ dealer.sized;
+    listed = as_many ∙ dealer.roomed;
     held_are = λ number below.
-        let within : number < length rows = (let sized = dealer.sized in omega (arith, sized, below)) in
+        let within : number < length rooms = (let roomed = dealer.roomed in omega (arith, roomed, below)) in
         subst (λ (v : CallerView). AreHeldOf who (plan number) v.own (held_at held number)) (sym (nothing_at number))
-        (held_by_none who (plan number) room (held_at held number) (none number within) (enough number within) (dealer.enough number below));
+        (held_by_none who (plan number) (room_at rooms number) (held_at held number) (none number within) (enough number within) (dealer.enough number below));
   }
 
-pub rest_of_rows : (table : ℕ → TableId) (plan : ℕ → ShardPlan) (count room : ℕ) (dealt : List Bool) (rows rows' : List (List (Badge Known))) (place : ℕ) →
-    IsDealer table plan count room dealt rows → place < length dealt → length rows' ≡ length rows →
+pub rest_of_rows : (table : ℕ → TableId) (plan : ℕ → ShardPlan) (count : ℕ) (rooms : List ℕ) (dealt : List Bool) (rows rows' : List (List (Badge Known))) (place : ℕ) →
+    IsDealer table plan count rooms dealt rows → place < length dealt → length rows' ≡ length rows →
     ((number other : ℕ) → other ≢ place → badge_at (row_at rows' number) other ≡ badge_at (row_at rows number) other) →
     ((number : ℕ) → length (row_at rows' number) ≡ length (row_at rows number)) →
-    IsDealer table plan count room (slice_set dealt place true) rows'
+    IsDealer table plan count rooms (slice_set dealt place true) rows'
 rest_of_rows table plan count room dealt rows rows' place dealer below same_count others lengths = record {
   sized = same_count ∙ dealer.sized;
   waiting = λ number within other waits.
@@ -94,5 +94,6 @@ rest_of_rows table plan count room dealt rows rows' place dealer below same_coun
       let long = lengths number in
       let here = was.0 in
       (omega (arith, long, here), subst (IsNewBadge (table number) (caller_at other)) (sym (others number other apart)) was.1);
+  roomed = dealer.roomed;
   enough = dealer.enough;
 }

@@ -1,7 +1,7 @@
 -- The list of the cells that a worker holds, when it makes a call.
-use Rattle.std.proofs.Common.{◌≡◌, ◌<◌, ◌≤◌, ◌+◌, ℕ, Bool, true, false, true≢false, ◌||◌, List, [], ◌∷◌, ◌++◌, length, eq-eqb, refl, sym, ap, ◌∙◌, subst, length-append, arith}
-use Rattle.std.specs.Prelude.{◌==◌, ◌&&◌, Result, Ok, Err, IfOk, OnErr, IsTrue, IsFalse, nat_lt, filter, if◌then◌else◌}
-use Rattle.std.proofs.lemmas.Bool.Decides.{nat_tests}
+use Rattle.std.proofs.Common.{◌≡◌, ◌<◌, ◌≤◌, ℕ, zero, suc, Bool, true, false, true≢false, ◌||◌, List, [], ◌∷◌, ◌++◌, length, eq-eqb, ne_eqb, refl, sym, ap, ◌∙◌, subst, inl, inr, length-append, arith}
+use Rattle.std.specs.Prelude.{◌==◌, Result, Ok, Err, IfOk, OnErr, IsTrue, slice_index_or, if◌then◌else◌}
+use Rattle.std.proofs.lemmas.Bool.Decides.{eqb_tells}
 use Rattle.semantics.specs.declared.call.Caller.{Caller}
 use Rattle.semantics.specs.declared.call.Caller.TheVariants.{Worker, Controller, Reclaimer}
 use Rattle.semantics.specs.declared.call.Call.{Call}
@@ -11,14 +11,17 @@ use Rattle.semantics.specs.declared.call.Reply.TheVariants.{Entered, Left, Cell,
 use Rattle.semantics.specs.declared.call.Entry.{Entry}
 use Rattle.semantics.specs.declared.full.JournalFull.{JournalFull}
 use Rattle.semantics.specs.declared.plan.ShardPlan.{ShardPlan}
-use Rattle.semantics.specs.Reclamation.{held_by, holds, inside_count}
-use Rattle.semantics.specs.CallerLaws.{own_entries, is_caller}
-use Rattle.semantics.specs.History.{IsLegalHistory, is_inside_worker, is_own_key, meets_part, shard_of_call, journal_is_full}
+use Rattle.semantics.specs.Reclamation.{held_by, holds}
+use Rattle.semantics.specs.CallerLaws.{own_entries}
+use Rattle.semantics.specs.History.{IsLegalHistory, is_own_key, meets_part, shard_of_call}
 use Rattle.semantics.proofs.ConditionLemmas.{first_true, second_true}
+use Rattle.semantics.proofs.CallerLemmas.{own_holds}
+use Rattle.shard_core.specs.FewHeld.{is_among, AreOnce, FewAreHeld}
+use Rattle.shared_shards.proofs.EntryLemmas.{worker_within}
 use Rattle.shared_shards.specs.CallerView.{CallerView, IsServed, IsRefused}
 use Rattle.shared_shards.specs.declared.held.HeldChange.{HeldChange}
 use Rattle.shared_shards.specs.declared.held.HeldChange.TheVariants.{LetsGo, Finds, Stays}
-use Rattle.shared_shards.specs.HeldCells.{held_change, found_change, HeldIds, is_among, ids_after, held_after, held_when, HasRoomFor, AreHeld, AreHeldOf, room_of}
+use Rattle.shared_shards.specs.HeldCells.{held_change, found_change, HeldIds, ids_after, held_after, held_when, most_held, HasRoomFor, AreHeld, AreHeldOf, room_of}
 
 -- ---- what the list says
 
@@ -35,11 +38,35 @@ among_more : (cell id : ℕ) (ids : List ℕ) → is_among cell (ids ++ id ∷ [
 among_more cell id [] = refl
 among_more cell id (other ∷ ids) = ap (λ (rest : Bool). (other == cell) || rest) (among_more cell id ids) ∙ or_moves (other == cell) (id == cell) (is_among cell ids)
 
+either_true : (a : Bool) → (a || true) ≡ true
+either_true true = refl
+either_true false = refl
+
+present : (cell id : ℕ) (ids : List ℕ) → is_among id ids ≡ true → is_among cell ids ≡ ((id == cell) || is_among cell ids)
+present cell id ids there = elim (eqb_tells id cell) [
+  | inl same ↦ rw same.0 (ap (λ (n : ℕ). is_among n ids) (sym same.1) ∙ there)
+  | inr apart ↦ rw apart.0 refl
+]
+
+-- what stands at a place is among them
+pub among_at : (id place : ℕ) (ids : List ℕ) → place < length ids → slice_index_or ids place 0 ≡ id → is_among id ids ≡ true
+among_at id place [] below is = absurd (omega (arith, below))
+among_at id zero (x ∷ ids) below is = ap (λ (here : Bool). here || is_among id ids) (eq-eqb x id is)
+among_at id (suc place) (x ∷ ids) below is =
+    ap (λ (later : Bool). (x == id) || later) (among_at id place ids (omega (arith, below)) is) ∙ either_true (x == id)
+
+among_new : (cell id : ℕ) (ids : List ℕ) → is_among cell (ids_after (Finds id) ids) ≡ ((id == cell) || is_among cell ids)
+among_new cell id ids = by_test (is_among id ids) refl
+  where
+    by_test : (there : Bool) → is_among id ids ≡ there → is_among cell (if there then ids else (ids ++ id ∷ [])) ≡ ((id == cell) || is_among cell ids)
+    by_test true there = present cell id ids there
+    by_test false apart = among_more cell id ids
+
 among_found : (shard : ℕ) (key : List ℕ) (reply : Reply) (cell : ℕ) (ids : List ℕ) →
     is_among cell (ids_after (found_change reply) ids) ≡ held_by (Lookup shard key) reply cell (is_among cell ids)
 among_found shard key Entered cell ids = refl
 among_found shard key Left cell ids = refl
-among_found shard key (Cell found) cell ids = among_more cell found.id ids
+among_found shard key (Cell found) cell ids = among_new cell found.id ids
 among_found shard key Null cell ids = refl
 among_found shard key (Word value) cell ids = refl
 among_found shard key Done cell ids = refl
@@ -58,26 +85,44 @@ among_after (Update shard key value flags) reply cell ids = refl
 among_after (Delete shard key) reply cell ids = refl
 among_after (Reclaim shard) reply cell ids = refl
 
-few_found : (reply : Reply) (ids : List ℕ) → length (ids_after (found_change reply) ids) ≤ length ids + 1
-few_found Entered ids = omega arith
-few_found Left ids = omega arith
-few_found (Cell found) ids = simp (length-append) (omega arith)
-few_found Null ids = omega arith
-few_found (Word value) ids = omega arith
-few_found Done ids = omega arith
-few_found (Answer code) ids = omega arith
-few_found (Freed count) ids = omega arith
+-- ---- each cell stands there once
 
-few_after : (call : Call) (reply : Reply) (ids : List ℕ) → length (ids_after (held_change call reply) ids) ≤ length ids + 1
-few_after (Enter shard) reply ids = omega arith
-few_after (Leave shard) reply ids = omega arith
-few_after (Lookup shard key) reply ids = few_found reply ids
-few_after (Load at offset width) reply ids = omega arith
-few_after (Store at offset width value) reply ids = omega arith
-few_after (Atomic at offset width op value expected) reply ids = omega arith
-few_after (Update shard key value flags) reply ids = omega arith
-few_after (Delete shard key) reply ids = omega arith
-few_after (Reclaim shard) reply ids = omega arith
+once_more : (id : ℕ) (ids : List ℕ) → AreOnce ids → is_among id ids ≡ false → AreOnce (ids ++ id ∷ [])
+once_more id [] once apart = (refl, tt)
+once_more id (x ∷ ids) once apart = elim (eqb_tells x id) [
+  | inl same ↦ (let no = rw same.0 at apart in absurd (true≢false no))
+  | inr differs ↦ (let later = rw differs.0 at apart in
+      let other : (id == x) ≡ false = ne_eqb id x (λ same. differs.1 (sym same)) in
+      (among_more x id ids ∙ rw other once.0, once_more id ids once.1 later))
+]
+
+once_new : (id : ℕ) (ids : List ℕ) → AreOnce ids → AreOnce (ids_after (Finds id) ids)
+once_new id ids once = by_test (is_among id ids) refl
+  where
+    by_test : (there : Bool) → is_among id ids ≡ there → AreOnce (if there then ids else (ids ++ id ∷ []))
+    by_test true there = once
+    by_test false apart = once_more id ids once apart
+
+once_found : (reply : Reply) (ids : List ℕ) → AreOnce ids → AreOnce (ids_after (found_change reply) ids)
+once_found Entered ids once = once
+once_found Left ids once = once
+once_found (Cell found) ids once = once_new found.id ids once
+once_found Null ids once = once
+once_found (Word value) ids once = once
+once_found Done ids once = once
+once_found (Answer code) ids once = once
+once_found (Freed count) ids once = once
+
+once_after : (call : Call) (reply : Reply) (ids : List ℕ) → AreOnce ids → AreOnce (ids_after (held_change call reply) ids)
+once_after (Enter shard) reply ids once = tt
+once_after (Leave shard) reply ids once = tt
+once_after (Lookup shard key) reply ids once = once_found reply ids once
+once_after (Load at offset width) reply ids once = once
+once_after (Store at offset width value) reply ids once = once
+once_after (Atomic at offset width op value expected) reply ids once = once
+once_after (Update shard key value flags) reply ids once = once
+once_after (Delete shard key) reply ids once = once
+once_after (Reclaim shard) reply ids once = once
 
 holds_after : (number cell : ℕ) (call : Call) (reply : Reply) (own : List Entry) →
     holds number cell ((record { who = Worker number; call = call; reply = reply }) ∷ own) ≡ held_by call reply cell (holds number cell own)
@@ -88,7 +133,7 @@ are_held : (number : ℕ) (plan : ShardPlan) (call : Call) (reply : Reply) (own 
     AreHeld number plan ((record { who = Worker number; call = call; reply = reply }) ∷ own) (held_after (held_change call reply) held)
 are_held number plan call reply own held are = record {
   some_room = are.some_room;
-  few = (let most = few_after call reply held.ids in let few = are.few in omega (arith, most, few));
+  once = once_after call reply held.ids are.once;
   each = λ cell. among_after call reply cell held.ids ∙ ap (held_by call reply cell) (are.each cell) ∙ sym (holds_after number cell call reply own);
 }
 
@@ -107,67 +152,49 @@ held_moves (Err full) plan who call replies before after held served refused are
 
 -- ---- there is room for what a Lookup found
 
-few_kept : {A : Type 0} (test : A → Bool) (xs : List A) → length (filter test xs) ≤ length xs
-few_kept test [] = omega arith
-few_kept {A} test (x ∷ xs) = by_test (test x) (few_kept test xs)
-  where
-    by_test : (t : Bool) → length (filter test xs) ≤ length xs → length (if t then (x ∷ filter test xs) else (filter test xs)) ≤ length (x ∷ xs)
-    by_test true rest = omega arith
-    by_test false rest = omega arith
+room_from : (change : HeldChange) (held : HeldIds) → length (ids_after change held.ids) ≤ held.room → HasRoomFor change held
+room_from LetsGo held enough = tt
+room_from (Finds id) held enough = λ new. (let long = length-append held.ids (id ∷ []) in let within = rw new at enough in omega (arith, long, within))
+room_from Stays held enough = tt
 
-within_reserve : (reserve all inside : ℕ) → IsFalse (nat_lt reserve (all + inside + 0 + 1)) → all + 1 ≤ reserve
-within_reserve reserve all inside room = grind (arith, nat_tests)
-
-room_at : (plan : ShardPlan) (who : Caller) (shard : ℕ) (key : List ℕ) (id : ℕ) (reply : Reply) (before after : CallerView) (held : HeldIds) →
-    IsServed plan before after (record { who = who; call = Lookup shard key; reply = reply }) → after.own ≡ own_entries who after.seen →
-    AreHeldOf who plan before.own held → HasRoomFor (Finds id) held
-room_at plan Controller shard key id reply before after held served mine are =
-    let legal = subst (IsLegalHistory plan) served.seen served.legal in
-    absurd (true≢false (sym (first_true false (is_own_key plan key) (second_true (shard == plan.number) (meets_part plan served.earlier Controller (Lookup shard key)) legal.0.step.met))))
-room_at plan Reclaimer shard key id reply before after held served mine are =
-    let legal = subst (IsLegalHistory plan) served.seen served.legal in
-    absurd (true≢false (sym (first_true false (is_own_key plan key) (second_true (shard == plan.number) (meets_part plan served.earlier Reclaimer (Lookup shard key)) legal.0.step.met))))
-room_at plan (Worker number) shard key id reply before after held served mine are =
-    let legal = subst (IsLegalHistory plan) served.seen served.legal in
-    let all = within_reserve plan.reserve (length served.earlier) (inside_count served.earlier) legal.0.room in
-    let grown = ap (λ (own : List Entry). length own) served.own in
-    let longer = ap (λ (seen : List Entry). length seen) served.seen in
-    let few = few_kept (λ (entry : Entry). is_caller (Worker number) entry.who) after.seen in
-    let same = ap (λ (own : List Entry). length own) mine in
-    let within = are.few in
-    let enough = are.some_room in
-    omega (arith, all, grown, longer, few, same, within, enough)
-
-room_found : (plan : ShardPlan) (who : Caller) (shard : ℕ) (key : List ℕ) (found reply : Reply) (before after : CallerView) (held : HeldIds) →
-    IsServed plan before after (record { who = who; call = Lookup shard key; reply = reply }) → after.own ≡ own_entries who after.seen →
-    AreHeldOf who plan before.own held → HasRoomFor (found_change found) held
-room_found plan who shard key Entered reply before after held served mine are = tt
-room_found plan who shard key Left reply before after held served mine are = tt
-room_found plan who shard key (Cell cell) reply before after held served mine are = room_at plan who shard key cell.id reply before after held served mine are
-room_found plan who shard key Null reply before after held served mine are = tt
-room_found plan who shard key (Word value) reply before after held served mine are = tt
-room_found plan who shard key Done reply before after held served mine are = tt
-room_found plan who shard key (Answer code) reply before after held served mine are = tt
-room_found plan who shard key (Freed count) reply before after held served mine are = tt
+-- who is no worker finds nothing
+room_of_others : (plan : ShardPlan) (earlier : List Entry) (who : Caller) → ((shard : ℕ) (key : List ℕ) → IsTrue (meets_part plan earlier who (Lookup shard key)) → ⊥) →
+    (call : Call) (reply : Reply) (held : HeldIds) → IsTrue (meets_part plan earlier who call) → HasRoomFor (held_change call reply) held
+room_of_others plan earlier who never (Enter shard) reply held met = tt
+room_of_others plan earlier who never (Leave shard) reply held met = tt
+room_of_others plan earlier who never (Lookup shard key) reply held met = absurd (never shard key met)
+room_of_others plan earlier who never (Load at offset width) reply held met = tt
+room_of_others plan earlier who never (Store at offset width value) reply held met = tt
+room_of_others plan earlier who never (Atomic at offset width op value expected) reply held met = tt
+room_of_others plan earlier who never (Update shard key value flags) reply held met = tt
+room_of_others plan earlier who never (Delete shard key) reply held met = tt
+room_of_others plan earlier who never (Reclaim shard) reply held met = tt
 
 room_after : (plan : ShardPlan) (who : Caller) (call : Call) (reply : Reply) (before after : CallerView) (held : HeldIds) →
-    IsServed plan before after (record { who = who; call = call; reply = reply }) → after.own ≡ own_entries who after.seen →
+    IsServed plan before after (record { who = who; call = call; reply = reply }) → after.own ≡ own_entries who after.seen → FewAreHeld plan after.seen →
     AreHeldOf who plan before.own held → HasRoomFor (held_change call reply) held
-room_after plan who (Enter shard) reply before after held served mine are = tt
-room_after plan who (Leave shard) reply before after held served mine are = tt
-room_after plan who (Lookup shard key) reply before after held served mine are = room_found plan who shard key reply reply before after held served mine are
-room_after plan who (Load at offset width) reply before after held served mine are = tt
-room_after plan who (Store at offset width value) reply before after held served mine are = tt
-room_after plan who (Atomic at offset width op value expected) reply before after held served mine are = tt
-room_after plan who (Update shard key value flags) reply before after held served mine are = tt
-room_after plan who (Delete shard key) reply before after held served mine are = tt
-room_after plan who (Reclaim shard) reply before after held served mine are = tt
+room_after plan Controller call reply before after held served mine few are =
+    let legal = subst (IsLegalHistory plan) served.seen served.legal in
+    room_of_others plan served.earlier Controller (λ shard key met. true≢false (sym (first_true false (is_own_key plan key) met))) call reply held
+    (second_true (shard_of_call call == plan.number) (meets_part plan served.earlier Controller call) legal.0.step.met)
+room_after plan Reclaimer call reply before after held served mine few are =
+    let legal = subst (IsLegalHistory plan) served.seen served.legal in
+    room_of_others plan served.earlier Reclaimer (λ shard key met. true≢false (sym (first_true false (is_own_key plan key) met))) call reply held
+    (second_true (shard_of_call call == plan.number) (meets_part plan served.earlier Reclaimer call) legal.0.step.met)
+room_after plan (Worker number) call reply before after held served mine few are =
+    let legal = subst (IsLegalHistory plan) served.seen served.legal in
+    let known = worker_within plan served.earlier number call (second_true (shard_of_call call == plan.number) (meets_part plan served.earlier (Worker number) call) legal.0.step.met) in
+    let grown : AreHeld number plan after.own (held_after (held_change call reply) held) = held_one (Worker number) plan call reply before.own after.own held served.own are in
+    let all = few.most number (ids_after (held_change call reply) held.ids) known grown.once
+    (λ cell among. sym (own_holds number cell after.seen) ∙ ap (holds number cell) (sym mine) ∙ sym (grown.each cell) ∙ among) in
+    let enough = are.some_room in
+    room_from (held_change call reply) held (omega (arith, all, enough))
 
 room_when : {A : Type 0} (answer : Result A JournalFull) (plan : ShardPlan) (who : Caller) (call : Call) (replies : A → Reply) (before after : CallerView) (held : HeldIds) →
-    IfOk answer (λ a. IsServed plan before after (record { who = who; call = call; reply = replies a })) → after.own ≡ own_entries who after.seen →
+    IfOk answer (λ a. IsServed plan before after (record { who = who; call = call; reply = replies a })) → after.own ≡ own_entries who after.seen → FewAreHeld plan after.seen →
     AreHeldOf who plan before.own held → IfOk answer (λ a. HasRoomFor (held_change call (replies a)) held)
-room_when (Ok a) plan who call replies before after held served mine are = room_after plan who call (replies a) before after held served mine are
-room_when (Err full) plan who call replies before after held served mine are = served
+room_when (Ok a) plan who call replies before after held served mine few are = room_after plan who call (replies a) before after held served mine few are
+room_when (Err full) plan who call replies before after held served mine few are = served
 
 -- ---- the same, where the shard's number is known under two names
 
@@ -180,19 +207,19 @@ module _ {A : Type 0} (plan : ℕ → ShardPlan) (asks : ℕ → Call) (replies 
       (held_moves answer (plan n) who (asks n) (replies n) before after held served refused (subst (λ (k : ℕ). AreHeldOf who (plan k) before.own held) (sym here) are))
 
   pub room_when_at : (answer : Result A JournalFull) →
-      IfOk answer (λ a. IsServed (plan n) before after (record { who = who; call = asks n; reply = replies n a })) → after.own ≡ own_entries who after.seen →
+      IfOk answer (λ a. IsServed (plan n) before after (record { who = who; call = asks n; reply = replies n a })) → after.own ≡ own_entries who after.seen → FewAreHeld (plan n) after.seen →
       AreHeldOf who (plan number) before.own held → IfOk answer (λ a. HasRoomFor (held_change (asks number) (replies number a)) held)
-  room_when_at answer served mine are =
+  room_when_at answer served mine few are =
       subst (λ (k : ℕ). IfOk answer (λ a. HasRoomFor (held_change (asks k) (replies k a)) held)) here
-      (room_when answer (plan n) who (asks n) (replies n) before after held served mine (subst (λ (k : ℕ). AreHeldOf who (plan k) before.own held) (sym here) are))
+      (room_when answer (plan n) who (asks n) (replies n) before after held served mine few (subst (λ (k : ℕ). AreHeldOf who (plan k) before.own held) (sym here) are))
 
 -- ---- at the beginning
 
-pub held_by_none : (who : Caller) (plan : ShardPlan) (room : ℕ) (held : HeldIds) → held.ids ≡ [] → room_of who room ≤ held.room → plan.reserve ≤ room →
+pub held_by_none : (who : Caller) (plan : ShardPlan) (room : ℕ) (held : HeldIds) → held.ids ≡ [] → room_of who room ≤ held.room → most_held plan ≤ room →
     AreHeldOf who plan [] held
 held_by_none (Worker number) plan room held none enough reserve = record {
   some_room = omega (arith, enough, reserve);
-  few = (let short = ap (λ (ids : List ℕ). length ids) none in omega (arith, short));
+  once = subst AreOnce (sym none) tt;
   each = λ cell. ap (is_among cell) none;
 }
 held_by_none Controller plan room held none enough reserve = tt

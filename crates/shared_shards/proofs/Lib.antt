@@ -5,6 +5,8 @@ pub mod Settling
 pub mod Conditions
 pub mod Dealing
 pub mod Each
+pub mod EntryLemmas
+pub mod FiveEntries
 pub mod Flags
 pub mod HeldLemmas
 pub mod ImageMaps

@@ -1,18 +1,17 @@
 -- Each step keeps the rule.
-use Rattle.std.proofs.Common.{◌≡◌, ◌≢◌, ◌⊎◌, ℕ, zero, suc, ◌+◌, ◌<◌, ◌≤◌, cond, eqb, eq-eqb, ne_eqb, List, [], ◌∷◌, ◌++◌, length, set, Bool, true, false, true≢false, refl, sym, ap, ◌∙◌, subst, ⊎_elim, inl, inr, arith, append-nil}
+use Rattle.std.proofs.Common.{◌≡◌, ◌≢◌, ◌⊎◌, ℕ, zero, suc, ◌+◌, ◌<◌, cond, eqb, eq-eqb, ne_eqb, List, [], ◌∷◌, ◌++◌, length, set, true, false, true≢false, refl, sym, ap, ◌∙◌, subst, ⊎_elim, inl, inr, arith, append-nil}
 use Rattle.std.specs.Prelude.{slice_index, reverse}
-use mathlib.Core.Option.{Option, some, none, some-ne-none, some-injective}
+use mathlib.Core.Option.{some, none, some-ne-none, some-injective}
 use prog.Atomic.{either}
 use lib.ListN.{get_elem?}
-use Rattle.atomic_table.specs.Table.{State, Splits, Joins, Allows, Me, Act, keeps, step, opening}
+use Rattle.atomic_table.specs.Table.{Splits, Joins, Allows, Me, keeps, step, opening}
 use Rattle.atomic_table.proofs.Lists.{at_set}
 use Rattle.semantics.specs.declared.call.Caller.{Caller}
 use Rattle.semantics.specs.declared.call.Entry.{Entry}
 use Rattle.semantics.specs.CallerLaws.{own_entries}
 use Rattle.shard_core.specs.JournaledShard.{JournaledShard}
 use Rattle.shared_shards.specs.declared.rule.Known.{Known}
-use Rattle.shared_shards.specs.CallerView.{BeginsWith}
-use Rattle.shared_shards.specs.LengthRule.{caller_at, place_of, keeper_of, pass_of, nobody, one_more, newcomer, joined, keeper_part, pass_part, KeeperFits, PassFits, Fits, IsKept, with_history, with_told, all_seen, Adds, Sees}
+use Rattle.shared_shards.specs.LengthRule.{caller_at, place_of, keeper_of, nobody, one_more, newcomer, joined, keeper_part, pass_part, Fits, IsKept, with_history, with_told, all_seen, Adds, Sees}
 use Rattle.shared_shards.proofs.Callers.{place_at, own_of_maker, own_of_other}
 
 off : false ≡ true → ⊥

@@ -1,18 +1,17 @@
 -- The names that a program picks for opened shards fit, and all callers wait for their passes.
-use Rattle.std.proofs.Common.{◌≡◌, ◌<◌, ◌≤◌, ◌+◌, ◌*◌, ◌/◌, ◌%◌, ◌⊎◌, ℕ, zero, suc, Bool, true, false, true≢false, List, [], ◌∷◌, length, get_or, refl, sym, ap, ◌∙◌, subst, ⊎_elim, inl, inr, arith}
+use Rattle.std.proofs.Common.{◌≡◌, ◌<◌, ◌+◌, ◌/◌, ℕ, zero, suc, Bool, false, true≢false, List, [], length, sym, ap, ◌∙◌, subst, arith}
 use Rattle.std.specs.Prelude.{Option, Some, None, replicate, slice_get}
-use mathlib.Core.Option.{some}
-use lib.ListN.{get_elem?}
 use Rattle.atomic_table.specs.Seated.{TableId}
 use Rattle.atomic_table.specs.declared.badge.Badge.{Badge}
 use Rattle.ebpf_decode.specs.declared.map.MapDef.{MapDef}
 use Rattle.semantics.specs.declared.options.Options.{Options}
 use Rattle.semantics.specs.declared.plan.ShardPlan.{ShardPlan}
-use Rattle.semantics.specs.ShardPlan.{plan_at, plan_for_map}
+use Rattle.semantics.specs.ShardPlan.{plan_for_map}
 use Rattle.shared_shards.specs.declared.rule.Known.{Known}
 use Rattle.shared_shards.specs.Each.{Each}
-use Rattle.shared_shards.specs.NewShards.{NewShardView, no_shard, new_at, OpenedShards, IsOpening, IsNamed, IsNamedAt, row_at, is_dealt_at, IsRowOf, IsDealer}
-use Rattle.shared_shards.proofs.Each.{within, at_or, each_at, each_start, or_past, or_within}
+use Rattle.shared_shards.specs.NewShards.{NewShardView, no_shard, new_at, IsOpening, IsNamed, IsNamedAt, row_at, is_dealt_at, IsRowOf, IsDealer}
+use Rattle.shared_shards.specs.HeldCells.{room_at, IsRoomOf}
+use Rattle.shared_shards.proofs.Each.{within, at_or, each_at, each_start, or_within}
 
 -- a plan has the number that it was asked for
 number_of : (options : Options) (number : ℕ) (plan : ShardPlan) (found : Option MapDef) → plan_for_map options number found ≡ Some plan → plan.number ≡ number
@@ -39,28 +38,16 @@ named_each count table plan maps options shards opening named = each_start (IsNa
     })
 
 -- and the reserve of the options
-reserve_of : (options : Options) (number : ℕ) (plan : ShardPlan) (found : Option MapDef) → plan_for_map options number found ≡ Some plan → plan.reserve ≡ options.journal
-reserve_of options number plan None is = absurd (none_is_some is) where
-  none_is_some : None ≡ Some plan → ⊥
-  none_is_some e = subst (λ (o : Option ShardPlan). is_none o) e tt where
-    is_none : Option ShardPlan → Type 0
-    is_none None = Unit {0}
-    is_none (Some p) = ⊥
-reserve_of options number plan (Some definition) is = sym (ap (λ (o : Option ShardPlan). reserve_in o) is) where
-  reserve_in : Option ShardPlan → ℕ
-  reserve_in (Some p) = p.reserve
-  reserve_in None = 0
-
 -- among so many that are not dealt, only the places past the end count as dealt
 below_places : (places place : ℕ) → is_dealt_at (replicate places false) place ≡ false → place < places
 below_places zero place waits = absurd (true≢false waits)
 below_places (suc places) zero waits = omega arith
 below_places (suc places) (suc place) waits = (let rest = below_places places place waits in omega (arith, rest))
 
-pub all_wait : (table : ℕ → TableId) (plan : ℕ → ShardPlan) (count room : ℕ) (maps : List MapDef) (options : Options) (shards : List NewShardView) (rows : List (List (Badge Known))) (dealt : List Bool) →
-    IsOpening maps options shards → IsNamed count table plan (record { maps = maps; options = options; shards = shards }) → options.journal ≤ room → length rows ≡ length shards → Each (IsRowOf table shards) 0 rows →
-    dealt ≡ replicate (options.workers + 2) false → IsDealer table plan count room dealt rows
-all_wait table plan count room maps options shards rows dealt opening named journal rows_are_as_many rows_are dealt_is = record {
+pub all_wait : (table : ℕ → TableId) (plan : ℕ → ShardPlan) (count : ℕ) (rooms : List ℕ) (maps : List MapDef) (options : Options) (shards : List NewShardView) (rows : List (List (Badge Known))) (dealt : List Bool) →
+    IsOpening maps options shards → IsNamed count table plan (record { maps = maps; options = options; shards = shards }) → (length rooms ≡ length shards) → Each (IsRoomOf plan) 0 rooms → length rows ≡ length shards → Each (IsRowOf table shards) 0 rows →
+    dealt ≡ replicate (options.workers + 2) false → IsDealer table plan count rooms dealt rows
+all_wait table plan count rooms maps options shards rows dealt opening named as_many fit rows_are_as_many rows_are dealt_is = record {
   sized = rows_are_as_many ∙ sym named.count_is;
   waiting = λ number below place waits.
       let there : number < length rows = (let a = rows_are_as_many in let count_is = named.count_is in omega (arith, a, count_is)) in
@@ -69,9 +56,8 @@ all_wait table plan count room maps options shards rows dealt opening named jour
       let long : place < length (row_at rows number) =
       (let a = row.count in let b = opening.places number (let a = rows_are_as_many in omega (arith, a, there)) in omega (arith, a, b, few)) in
       (long, row.fresh place long);
+  roomed = as_many ∙ sym named.count_is;
   enough = λ number below.
-      let there : number < length shards = (let count_is = named.count_is in omega (arith, count_is, below)) in
-      let same = reserve_of options number (new_at shards number).plan (slice_get maps (number / options.shards)) (opening.plans number there) in
-      let is = ap (λ (p : ShardPlan). p.reserve) (named.plan_is number) in
-      omega (arith, same, is, journal);
+      let there : number < length rooms = (let count_is = named.count_is in omega (arith, count_is, below, as_many)) in
+      each_at (IsRoomOf plan) rooms number (room_at rooms number) fit there (or_within rooms 0 (room_at rooms number) number there);
 }

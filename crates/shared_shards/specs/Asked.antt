@@ -1,16 +1,28 @@
 -- What a call of a pass makes of its view of the shard.
 use Rattle.std.specs.Prelude.{◌≡◌, ℕ, List, ◌∷◌}
 use Rattle.semantics.specs.declared.call.Call.{Call}
-use Rattle.semantics.specs.declared.call.Call.TheVariants.{Enter}
+use Rattle.semantics.specs.declared.call.Call.TheVariants.{Enter, Load, Store, Atomic}
 use Rattle.semantics.specs.declared.call.Reply.{Reply}
 use Rattle.semantics.specs.declared.call.Entry.{Entry}
 use Rattle.semantics.specs.declared.plan.ShardPlan.{ShardPlan}
 use Rattle.semantics.specs.History.{IsLegalHistory, IsJournalFull, Meets}
-use Rattle.journal.specs.Entries.{enter_entry}
-use Rattle.shared_shards.specs.CallerView.{CallerView, BeginsWith, IsServed, IsRefused}
+use Rattle.journal.specs.declared.append.CellRange.{CellRange}
+use Rattle.journal.specs.declared.append.AtomicChange.{AtomicChange}
+use Rattle.journal.specs.Entries.{cell_of, enter_entry}
+use Rattle.shared_shards.specs.CallerView.{CallerView, BeginsWith, entry_of, IsServed, IsRefused}
 use Rattle.shared_shards.specs.declared.stopped.Stopped.{Stopped}
 use Rattle.shared_shards.specs.declared.stopped.Stopped.TheVariants.{AtEnter, AtCall}
 use Rattle.shared_shards.specs.Passes.{PassView, view_at, own_at}
+
+-- the calls on some bytes of a held cell
+abbrev pub load_call : ℕ → CellRange → Call
+load_call number range = Load (cell_of number range.cell) range.offset range.width
+
+abbrev pub store_call : ℕ → CellRange → ℕ → Call
+store_call number range value = Store (cell_of number range.cell) range.offset range.width value
+
+abbrev pub atomic_call : ℕ → CellRange → AtomicChange → Call
+atomic_call number range change = Atomic (cell_of number range.cell) range.offset range.width change.op change.value change.expected
 
 -- the pass's caller may make the call on the shard of this number: by its own entries alone
 abbrev pub MayAsk : ShardPlan → ℕ → PassView → Call → Type 0
@@ -19,7 +31,7 @@ MayAsk plan number pass call = Meets plan (own_at pass number) pass.who call
 -- the call was served with this reply
 abbrev pub IsAnswered : ShardPlan → ℕ → PassView → PassView → Call → Reply → Type 0
 IsAnswered plan number before after call reply =
-    IsServed plan (view_at before number) (view_at after number) (record { who = before.who; call = call; reply = reply })
+    IsServed plan (view_at before number) (view_at after number) (entry_of before.who call reply)
 
 -- the journal was full for the call
 abbrev pub IsTurnedAway : ShardPlan → ℕ → PassView → PassView → Call → Type 0
@@ -50,7 +62,7 @@ pub record IsServedThenRefused (plan : ShardPlan) (before after : CallerView) (f
 
 abbrev pub EnteredAndAnswered : ShardPlan → ℕ → PassView → PassView → Call → Reply → Type 0
 EnteredAndAnswered plan number before after call reply =
-    AreServed plan (view_at before number) (view_at after number) (enter_entry number before.who) (record { who = before.who; call = call; reply = reply })
+    AreServed plan (view_at before number) (view_at after number) (enter_entry number before.who) (entry_of before.who call reply)
 
 abbrev pub EnteredAndTurnedAway : ShardPlan → ℕ → PassView → PassView → Call → Type 0
 EnteredAndTurnedAway plan number before after call =

@@ -2,6 +2,7 @@
 use Rattle.std.specs.Prelude.{◌≡◌, List, [], ◌∷◌, ◌++◌, reverse}
 use Rattle.semantics.specs.declared.call.Caller.{Caller}
 use Rattle.semantics.specs.declared.call.Entry.{Entry}
+use Rattle.semantics.specs.declared.call.Reply.{Reply}
 use Rattle.semantics.specs.declared.plan.ShardPlan.{ShardPlan}
 use Rattle.semantics.specs.CallerLaws.{own_entries}
 use Rattle.semantics.specs.History.{IsLegalHistory, IsJournalFull}
@@ -19,6 +20,9 @@ BeginsWith history earlier = (later : List Entry) × (history ≡ later ++ earli
 
 abbrev pub nothing_seen : CallerView
 nothing_seen = record { seen = []; own = [] }
+
+abbrev pub entry_of : Caller → Call → Reply → Entry
+entry_of who call reply = record { who = who; call = call; reply = reply }
 
 -- a call was served: what was seen then is legal, begins with what was seen before, and ends with the call; and the call is one more of
 -- the caller's own

@@ -1,6 +1,5 @@
 -- The cells that a worker holds in a shard, as its pass keeps them.
-use Rattle.std.specs.Prelude.{◌≡◌, ◌≤◌, ◌<◌, ◌==◌, ◌&&◌, ℕ, Bool, true, false, List, [], ◌∷◌, ◌++◌, length, slice_index_or, Result, Ok, Err}
-use Rattle.std.specs.List.{list_any}
+use Rattle.std.specs.Prelude.{◌≡◌, ◌*◌, ◌≤◌, ◌<◌, ◌&&◌, ℕ, Bool, false, List, [], ◌∷◌, ◌++◌, length, slice_index_or, Result, Ok, Err, if◌then◌else◌}
 use Rattle.semantics.specs.declared.call.Caller.{Caller}
 use Rattle.semantics.specs.declared.call.Caller.TheVariants.{Worker}
 use Rattle.semantics.specs.declared.call.Call.{Call}
@@ -10,7 +9,9 @@ use Rattle.semantics.specs.declared.call.Reply.TheVariants.{Cell}
 use Rattle.semantics.specs.declared.call.Entry.{Entry}
 use Rattle.semantics.specs.declared.full.JournalFull.{JournalFull}
 use Rattle.semantics.specs.declared.plan.ShardPlan.{ShardPlan}
+use Rattle.semantics.specs.ShardPlan.{capacity}
 use Rattle.semantics.specs.Reclamation.{is_inside, holds}
+use Rattle.shard_core.specs.FewHeld.{is_among, AreOnce}
 use Rattle.shared_shards.specs.declared.held.HeldChange.{HeldChange}
 use Rattle.shared_shards.specs.declared.held.HeldChange.TheVariants.{LetsGo, Finds, Stays}
 
@@ -44,12 +45,13 @@ no_ids = record { room = 0; ids = [] }
 abbrev pub held_at : List HeldIds → ℕ → HeldIds
 held_at held number = slice_index_or held number no_ids
 
-abbrev pub is_among : ℕ → List ℕ → Bool
-is_among id ids = list_any (λ other. other == id) ids
+-- how many cells a worker can hold in a shard of this plan, at most: two for each entry (an array's shard has one)
+abbrev pub most_held : ShardPlan → ℕ
+most_held plan = 2 * capacity plan
 
 abbrev pub ids_after : HeldChange → List ℕ → List ℕ
 ids_after LetsGo ids = []
-ids_after (Finds id) ids = ids ++ id ∷ []
+ids_after (Finds id) ids = if is_among id ids then ids else (ids ++ id ∷ [])
 ids_after Stays ids = ids
 
 abbrev pub held_after : HeldChange → HeldIds → HeldIds
@@ -60,23 +62,31 @@ abbrev pub held_when : {A : Type 0} → Result A JournalFull → (A → HeldChan
 held_when (Ok answer) change held = held_after (change answer) held
 held_when (Err full) change held = held
 
--- one cell more has room
+-- one cell more has room, if it is not among them
 abbrev pub HasRoomFor : HeldChange → HeldIds → Type 0
-HasRoomFor (Finds id) held = length held.ids < held.room
+HasRoomFor (Finds id) held = is_among id held.ids ≡ false → length held.ids < held.room
 HasRoomFor change held = Unit {0}
 
 -- ---- a pass's list
 
--- each cell that the worker holds is among them, and no other; they are no more than its own entries, for all of which there is room
+-- each cell that the worker holds is among them once, and no other; there is room for as many as it can hold
 pub record AreHeld (worker : ℕ) (plan : ShardPlan) (own : List Entry) (held : HeldIds) : Type 0 where
-  pub some_room : plan.reserve ≤ held.room
-  pub few : length held.ids ≤ length own
+  pub some_room : most_held plan ≤ held.room
+  pub once : AreOnce held.ids
   pub each : (cell : ℕ) → is_among cell held.ids ≡ holds worker cell own
 
 -- a worker's list tells it; what the others' lists say is nobody's concern, since they hold nothing
 abbrev pub AreHeldOf : Caller → ShardPlan → List Entry → HeldIds → Type 0
 AreHeldOf (Worker number) plan own held = AreHeld number plan own held
 AreHeldOf who plan own held = Unit {0}
+
+-- for how many cells of each shard a worker has room
+abbrev pub room_at : List ℕ → ℕ → ℕ
+room_at rooms number = slice_index_or rooms number 0
+
+-- there is room for as many cells of the shard as a worker can hold
+abbrev pub IsRoomOf : (ℕ → ShardPlan) → ℕ → ℕ → Type 0
+IsRoomOf plan number room = most_held (plan number) ≤ room
 
 -- how many cells the caller can hold in a shard, if a worker can hold so many
 abbrev pub room_of : Caller → ℕ → ℕ

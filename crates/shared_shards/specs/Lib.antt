@@ -2,6 +2,7 @@
 pub mod Each
 pub mod CallerView
 pub mod LengthRule
+pub mod EntryCounts
 pub mod Seats
 pub mod HeldCells
 pub mod Passes

@@ -1,5 +1,5 @@
 -- Shards that were opened and have no callers yet, and the seats that wait for callers.
-use Rattle.std.specs.Prelude.{◌≡◌, ◌<◌, ◌≤◌, ℕ, ◌+◌, ◌*◌, Bool, false, true, List, [], ◌∷◌, length, reverse, Some, slice_index_or, slice_set}
+use Rattle.std.specs.Prelude.{◌≡◌, ◌<◌, ℕ, ◌+◌, ◌*◌, Bool, false, true, List, [], ◌∷◌, length, Some, slice_index_or}
 use Rattle.atomic_table.specs.Seated.{TableId}
 use Rattle.atomic_table.specs.declared.badge.Badge.{Badge}
 use Rattle.atomic_table.specs.declared.shared.Seat.{Seat}
@@ -15,6 +15,7 @@ use Rattle.shared_shards.specs.LengthRule.{caller_at, pass_of, no_table}
 use Rattle.shared_shards.specs.Seats.{IsKeeper, no_plan}
 use Rattle.shared_shards.specs.Passes.{badge_at}
 use Rattle.shared_shards.specs.Each.{Each}
+use Rattle.shared_shards.specs.HeldCells.{room_at, IsRoomOf}
 
 -- ---- one shard
 
@@ -68,13 +69,6 @@ pub record IsNamed (count : ℕ) (table : ℕ → TableId) (plan : ℕ → Shard
   pub table_is : (number : ℕ) → table number ≡ (new_at opened.shards number).table
   pub plan_is : (number : ℕ) → plan number ≡ (new_at opened.shards number).plan
 
--- names that can always be picked
-abbrev pub table_names : OpenedShards → ℕ → TableId
-table_names opened number = (new_at opened.shards number).table
-
-abbrev pub plan_names : OpenedShards → ℕ → ShardPlan
-plan_names opened number = (new_at opened.shards number).plan
-
 -- the new shard has these names
 pub record IsNamedAt (table : ℕ → TableId) (plan : ℕ → ShardPlan) (number : ℕ) (new : NewShardView) : Type 0 where
   pub table_is : new.table ≡ table number
@@ -93,11 +87,11 @@ is_dealt_at dealt place = slice_index_or dealt place true
 abbrev pub IsRow : (ℕ → TableId) → List Bool → ℕ → List (Badge Known) → Type 0
 IsRow table dealt number row = (place : ℕ) → is_dealt_at dealt place ≡ false → (place < length row) × IsNewBadge (table number) (caller_at place) (badge_at row place)
 
-pub record IsDealer (table : ℕ → TableId) (plan : ℕ → ShardPlan) (count room : ℕ) (dealt : List Bool) (rows : List (List (Badge Known))) : Type 0 where
+pub record IsDealer (table : ℕ → TableId) (plan : ℕ → ShardPlan) (count : ℕ) (rooms : List ℕ) (dealt : List Bool) (rows : List (List (Badge Known))) : Type 0 where
   pub sized : length rows ≡ count
   pub waiting : (number : ℕ) → number < count → IsRow table dealt number (row_at rows number)
-  -- a worker holds no more cells than a journal has entries
-  pub enough : (number : ℕ) → number < count → (plan number).reserve ≤ room
+  pub roomed : length rooms ≡ count
+  pub enough : (number : ℕ) → number < count → IsRoomOf plan number (room_at rooms number)
 
 -- ---- how they are made
 

@@ -1,5 +1,5 @@
 -- The shards of an image's maps, as many callers share them.
-use Rattle.std.specs.Prelude.{◌≡◌, ℕ, ◌*◌, ◌<◌, ◌≤◌, List, [], length, Option, Some}
+use Rattle.std.specs.Prelude.{◌≡◌, ℕ, ◌*◌, ◌<◌, ◌≤◌, List, [], length, Some}
 use Rattle.atomic_table.specs.Seated.{TableId}
 use Rattle.atomic_table.specs.declared.owned.Table.{Table}
 use Rattle.ebpf_decode.specs.declared.map.MapDef.{MapDef}

@@ -1,17 +1,17 @@
 -- Two workers on one shard: the first enters, finds a key, loads its value and leaves; the second enters before the first leaves.
-use Rattle.std.specs.Prelude.{◌≡◌, ℕ, List, [], ◌∷◌}
+use Rattle.std.specs.Prelude.{◌≡◌, ℕ, List, [], ◌∷◌, length}
 use Rattle.ebpf_decode.specs.declared.map.MapDef.{MapDef}
 use Rattle.ebpf_decode.specs.declared.map.MapKind.TheVariants.{Array}
 use Rattle.semantics.specs.declared.call.Call.TheVariants.{Enter, Leave, Lookup, Load}
 use Rattle.semantics.specs.declared.call.Reply.TheVariants.{Entered, Left, Cell, Word}
-use Rattle.semantics.specs.declared.call.Caller.{Caller}
-use Rattle.semantics.specs.declared.call.Caller.TheVariants.{Worker}
+use Rattle.semantics.specs.declared.call.Caller.TheVariants.{Worker, Controller, Reclaimer}
 use Rattle.semantics.specs.declared.call.CellRef.{CellRef}
 use Rattle.semantics.specs.declared.call.Entry.{Entry}
 use Rattle.semantics.specs.declared.options.Options.{Options}
 use Rattle.semantics.specs.declared.plan.ShardPlan.{ShardPlan}
 use Rattle.semantics.specs.History.{IsLegalHistory}
 use Rattle.shared_shards.specs.CallerView.{CallerView, BeginsWith}
+use Rattle.shared_shards.specs.Passes.{PassView, own_at}
 
 -- an array of one element, in one shard, whose journal has room for 16 entries
 abbrev pub one_element : MapDef
@@ -71,3 +71,15 @@ pub record AreDone (first second : CallerView) (word : ℕ) : Type 0 where
   pub loaded : HasLoaded before word
   pub left : HasLeft before first word
   pub entered : HasEntered second
+
+-- the passes of all callers that there are: the first worker made four calls and the second one, and the others none
+pub record AreTheFour (passes : List PassView) : Type 0 where
+  pub controller : PassView
+  pub reclaimer : PassView
+  pub first : PassView
+  pub second : PassView
+  pub all : passes ≡ controller ∷ reclaimer ∷ first ∷ second ∷ []
+  pub who : (controller.who ≡ Controller) × (reclaimer.who ≡ Reclaimer) × (first.who ≡ Worker 0) × (second.who ≡ Worker 1)
+  pub none : (own_at controller 0 ≡ []) × (own_at reclaimer 0 ≡ [])
+  pub four : length (own_at first 0) ≡ 4
+  pub one : length (own_at second 0) ≡ 1

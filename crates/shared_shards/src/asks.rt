@@ -35,7 +35,8 @@ pub trait Ask: Copy {
     /// Makes the call for a caller that may make it. Refused where the journal is full; then nothing is changed.
     fn make(self, shard: &mut Shard, who: Caller) -> Result<Self::Answer, JournalFull>
         requires { MayCall shard.old who (asks self shard.old.plan.number) }
-        ensures entered { IfOk result (λ answer. shard.new ≡ after_call shard.old who (asks self shard.old.plan.number) (replies shard.old.plan.number answer)) }
+        ensures entered { IfOk result (λ answer. shard.new ≡ after_call shard.old who (asks self shard.old.plan.number)
+            (replies shard.old.plan.number answer)) }
         ensures legal { IsLegalJournal shard.new.plan shard.new.journal }
         ensures full { IsErr result ↔ IsFullFor shard.old (asks self shard.old.plan.number) }
         ensures names_the_shard { IfErr result (λ fault. fault.shard ≡ shard.old.plan.number) }
@@ -136,13 +137,12 @@ pub struct Loads<'a> {
 }
 
 impl<'a> Ask for Loads<'a> {
-    ghost use Rattle.semantics.specs.declared.call.Call.TheVariants.{Load};
     ghost use Rattle.semantics.specs.declared.call.Reply.TheVariants.{Word};
-    ghost use Rattle.journal.specs.Entries.{cell_of};
+    ghost use Rattle.shared_shards.specs.Asked.{load_call};
 
     type Answer = u64;
 
-    ghost asks = { λ ask number. Load (cell_of number ask.range.now.cell) ask.range.now.offset ask.range.now.width };
+    ghost asks = { λ ask number. load_call number ask.range.now };
 
     ghost replies = { λ number value. Word value };
 
@@ -167,13 +167,12 @@ pub struct Stores<'a> {
 }
 
 impl<'a> Ask for Stores<'a> {
-    ghost use Rattle.semantics.specs.declared.call.Call.TheVariants.{Store};
     ghost use Rattle.semantics.specs.declared.call.Reply.TheVariants.{Done};
-    ghost use Rattle.journal.specs.Entries.{cell_of};
+    ghost use Rattle.shared_shards.specs.Asked.{store_call};
 
     type Answer = ();
 
-    ghost asks = { λ ask number. Store (cell_of number ask.range.now.cell) ask.range.now.offset ask.range.now.width ask.value };
+    ghost asks = { λ ask number. store_call number ask.range.now ask.value };
 
     ghost replies = { λ number answer. Done };
 
@@ -198,13 +197,12 @@ pub struct Changes<'a> {
 }
 
 impl<'a> Ask for Changes<'a> {
-    ghost use Rattle.semantics.specs.declared.call.Call.TheVariants.{Atomic};
     ghost use Rattle.semantics.specs.declared.call.Reply.TheVariants.{Word};
-    ghost use Rattle.journal.specs.Entries.{cell_of};
+    ghost use Rattle.shared_shards.specs.Asked.{atomic_call};
 
     type Answer = u64;
 
-    ghost asks = { λ ask number. Atomic (cell_of number ask.range.now.cell) ask.range.now.offset ask.range.now.width ask.change.now.op ask.change.now.value ask.change.now.expected };
+    ghost asks = { λ ask number. atomic_call number ask.range.now ask.change.now };
 
     ghost replies = { λ number old. Word old };
 

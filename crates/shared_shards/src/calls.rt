@@ -1,11 +1,11 @@
 //! A call of each kind.
 
 ghost use Rattle.std.specs.Prelude.{◌≡◌, ◌<◌, IfOk, IfErr, OnOk, OnErr};
-ghost use Rattle.semantics.specs.declared.call.Call.TheVariants.{Enter, Leave, Lookup, Load, Store, Atomic, Update, Delete, Reclaim};
+ghost use Rattle.semantics.specs.declared.call.Call.TheVariants.{Enter, Leave, Lookup, Update, Delete, Reclaim};
 ghost use Rattle.semantics.specs.declared.call.Reply.TheVariants.{Entered, Left, Word, Done, Answer, Freed};
-ghost use Rattle.journal.specs.Entries.{cell_of, found_reply};
+ghost use Rattle.journal.specs.Entries.{found_reply};
 ghost use Rattle.shared_shards.specs.Passes.{IsElsewhereSame};
-ghost use Rattle.shared_shards.specs.Asked.{MayAsk, IsAnswered, IsTurnedAway};
+ghost use Rattle.shared_shards.specs.Asked.{load_call, store_call, atomic_call, MayAsk, IsAnswered, IsTurnedAway};
 
 use crate::asks::{Changes, Deletes, Enters, Leaves, Loads, Looks, Reclaims, Stores, Updates};
 use crate::naming::Naming;
@@ -68,10 +68,10 @@ impl<B: Naming> Shards<B> {
         range: &CellRange,
     ) -> Result<u64, JournalFull>
         requires shard { shard < B.count }
-        requires met { MayAsk (B.plan shard) shard pass.old (Load (cell_of shard range.now.cell) range.now.offset range.now.width) }
+        requires met { MayAsk (B.plan shard) shard pass.old (load_call shard range.now) }
         ensures elsewhere { IsElsewhereSame shard pass.old pass.new }
-        ensures served { IfOk result (λ value. IsAnswered (B.plan shard) shard pass.old pass.new (Load (cell_of shard range.now.cell) range.now.offset range.now.width) (Word value)) }
-        ensures refused { OnErr result (IsTurnedAway (B.plan shard) shard pass.old pass.new (Load (cell_of shard range.now.cell) range.now.offset range.now.width)) }
+        ensures served { IfOk result (λ value. IsAnswered (B.plan shard) shard pass.old pass.new (load_call shard range.now) (Word value)) }
+        ensures refused { OnErr result (IsTurnedAway (B.plan shard) shard pass.old pass.new (load_call shard range.now)) }
         ensures names_the_shard { IfErr result (λ fault. fault.shard ≡ shard) }
     {
         self.ask(rt, pass, shard, Loads { range })
@@ -87,10 +87,10 @@ impl<B: Naming> Shards<B> {
         value: u64,
     ) -> Result<(), JournalFull>
         requires shard { shard < B.count }
-        requires met { MayAsk (B.plan shard) shard pass.old (Store (cell_of shard range.now.cell) range.now.offset range.now.width value) }
+        requires met { MayAsk (B.plan shard) shard pass.old (store_call shard range.now value) }
         ensures elsewhere { IsElsewhereSame shard pass.old pass.new }
-        ensures served { OnOk result (IsAnswered (B.plan shard) shard pass.old pass.new (Store (cell_of shard range.now.cell) range.now.offset range.now.width value) Done) }
-        ensures refused { OnErr result (IsTurnedAway (B.plan shard) shard pass.old pass.new (Store (cell_of shard range.now.cell) range.now.offset range.now.width value)) }
+        ensures served { OnOk result (IsAnswered (B.plan shard) shard pass.old pass.new (store_call shard range.now value) Done) }
+        ensures refused { OnErr result (IsTurnedAway (B.plan shard) shard pass.old pass.new (store_call shard range.now value)) }
         ensures names_the_shard { IfErr result (λ fault. fault.shard ≡ shard) }
     {
         self.ask(rt, pass, shard, Stores { range, value })
@@ -106,10 +106,10 @@ impl<B: Naming> Shards<B> {
         change: &AtomicChange,
     ) -> Result<u64, JournalFull>
         requires shard { shard < B.count }
-        requires met { MayAsk (B.plan shard) shard pass.old (Atomic (cell_of shard range.now.cell) range.now.offset range.now.width change.now.op change.now.value change.now.expected) }
+        requires met { MayAsk (B.plan shard) shard pass.old (atomic_call shard range.now change.now) }
         ensures elsewhere { IsElsewhereSame shard pass.old pass.new }
-        ensures served { IfOk result (λ value. IsAnswered (B.plan shard) shard pass.old pass.new (Atomic (cell_of shard range.now.cell) range.now.offset range.now.width change.now.op change.now.value change.now.expected) (Word value)) }
-        ensures refused { OnErr result (IsTurnedAway (B.plan shard) shard pass.old pass.new (Atomic (cell_of shard range.now.cell) range.now.offset range.now.width change.now.op change.now.value change.now.expected)) }
+        ensures served { IfOk result (λ value. IsAnswered (B.plan shard) shard pass.old pass.new (atomic_call shard range.now change.now) (Word value)) }
+        ensures refused { OnErr result (IsTurnedAway (B.plan shard) shard pass.old pass.new (atomic_call shard range.now change.now)) }
         ensures names_the_shard { IfErr result (λ fault. fault.shard ≡ shard) }
     {
         self.ask(rt, pass, shard, Changes { range, change })

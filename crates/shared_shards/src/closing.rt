@@ -53,7 +53,8 @@ fn settled<B: Naming>(
     requires number { (desk.plan.number ≡ number) × (number < B.count) }
     requires word { (word.now.shared.table_id ≡ B.table number) × (0 < word.now.shared.table_id.words) }
     ensures legal { IsLegalJournal (B.plan number) result }
-    ensures settled { (place : ℕ) → place < length passes.old.items → IsSettled (pass_at passes.old.items place).who (view_at (pass_at passes.old.items place) number) result }
+    ensures settled { (place : ℕ) → place < length passes.old.items →
+        IsSettled (pass_at passes.old.items place).who (view_at (pass_at passes.old.items place) number) result }
     ensures count { length passes.new.items ≡ length passes.old.items }
     ensures callers { (place : ℕ) → (pass_at passes.new.items place).who ≡ (pass_at passes.old.items place).who }
     ensures others { (place other : ℕ) → other ≢ number → view_at (pass_at passes.new.items place) other ≡ view_at (pass_at passes.old.items place) other }

@@ -8,7 +8,7 @@ ghost use Rattle.shared_shards.specs.Passes.{badge_at, view_at};
 ghost use Rattle.shared_shards.specs.declared.fault.PassFault.TheVariants.{BadOptions, PassTaken};
 
 use crate::fault::PassFault;
-use crate::held::{none_held, room_of};
+use crate::held::none_held;
 use crate::naming::Naming;
 use crate::pass::Pass;
 use crate::rule::Known;
@@ -25,8 +25,8 @@ pub struct Dealer<B: Naming> {
     /// The seats of each shard.
     pub(crate) rows: Vec<Waiting>,
     pub(crate) dealt: Vec<bool>,
-    /// How many cells a worker can hold in a shard: no more than a journal has entries.
-    pub(crate) room: usize,
+    /// How many cells a worker can hold in each shard.
+    pub(crate) rooms: Vec<usize>,
     pub(crate) names: PhantomData<B>,
 }
 
@@ -38,12 +38,12 @@ impl<B: Naming> Model for Dealer<B> {
 
     ghost view = { λ dealer. dealer.dealt.items };
 
-    ghost invariant = { λ dealer. IsDealer B.table B.plan B.count dealer.room dealer.dealt.items dealer.rows.items };
+    ghost invariant = { λ dealer. IsDealer B.table B.plan B.count dealer.rooms.items dealer.dealt.items dealer.rows.items };
 }
 
 impl<B: Naming> Dealer<B> {
-    /// The caller's pass, which has seen nothing. Takes the memory for the cells that a worker can hold. Refused with 51 where there is no such worker, with 54 where the pass was dealt before, and
-    /// with 52 for lack of memory; then nothing is changed.
+    /// The caller's pass, which has seen nothing. Takes the memory for the cells that a worker can hold. Refused with 51 where there is no
+    /// such worker, with 54 where the pass was dealt before, and with 52 for lack of memory; then nothing is changed.
     pub fn pass(&mut self, alloc: Global, who: Caller) -> Result<Pass<B>, PassFault>
         ensures who { IfOk result (λ pass. pass.who ≡ who) }
         ensures nothing { IfOk result (λ pass. (number : ℕ) → view_at pass number ≡ nothing_seen) }
@@ -60,7 +60,7 @@ impl<B: Naming> Dealer<B> {
             return Err(PassFault::PassTaken);
         }
         let inside = vec![in alloc; false; self.rows.len()]?;
-        let held = none_held(alloc, self.rows.len(), room_of(who, self.room))?;
+        let held = none_held(alloc, who, &self.rooms)?;
         let seats = Vec::with_capacity(alloc, self.rows.len())?;
         self.dealt[place] = true;
         let seats = column(&mut self.rows, place, seats);

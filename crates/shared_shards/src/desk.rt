@@ -3,7 +3,8 @@
 ghost use Rattle.std.specs.Prelude.{◌≡◌, ◌<◌, ◌∷◌, IfOk, IfErr, OnErr, reverse};
 ghost use Rattle.semantics.specs.CallerLaws.{own_entries};
 ghost use Rattle.semantics.specs.History.{Meets, meets, IsLegalHistory, IsLegalJournal};
-ghost use Rattle.shared_shards.specs.CallerView.{IsServed, IsRefused, HasLooked, IsSettled};
+ghost use Rattle.shard_core.specs.FewHeld.{FewAreHeld};
+ghost use Rattle.shared_shards.specs.CallerView.{entry_of, IsServed, IsRefused, HasLooked, IsSettled};
 ghost use Rattle.shared_shards.specs.Seats.{IsKeeper, IsSeatOf, view_of};
 
 use crate::asks::Ask;
@@ -83,13 +84,16 @@ impl<B: Naming> Desk<B> {
         requires met { Meets (B.plan self.old.plan.number) seat.me.0.own who (C.asks ask self.old.plan.number) }
         ensures number { self.new.plan.number ≡ self.old.plan.number }
         ensures seat { IsSeatOf (B.table self.old.plan.number) who result.0 }
-        ensures served { IfOk result.1 (λ answer. IsServed (B.plan self.old.plan.number) (view_of seat.me.0) (view_of result.0.me.0) (record { who = who; call = C.asks ask self.old.plan.number; reply = C.replies self.old.plan.number answer })) }
-        ensures refused { OnErr result.1 (IsRefused (B.plan self.old.plan.number) (view_of seat.me.0) (view_of result.0.me.0) (C.asks ask self.old.plan.number)) }
+        ensures served { IfOk result.1 (λ answer. IsServed (B.plan self.old.plan.number) (view_of seat.me.0) (view_of result.0.me.0)
+            (entry_of who (C.asks ask self.old.plan.number) (C.replies self.old.plan.number answer))) }
+        ensures refused { OnErr result.1 (IsRefused (B.plan self.old.plan.number) (view_of seat.me.0) (view_of result.0.me.0)
+            (C.asks ask self.old.plan.number)) }
         ensures names_the_shard { IfErr result.1 (λ fault. fault.shard ≡ self.old.plan.number) }
         ensures legal { IsLegalHistory (B.plan self.old.plan.number) result.0.me.0.seen }
         ensures own { result.0.me.0.own ≡ own_entries who result.0.me.0.seen }
         ensures seen { result.0.me.0.seen ≡ reverse self.new.journal }
-        ensures next { IfOk result.1 (λ answer. result.0.me.0.seen ≡ (record { who = who; call = C.asks ask self.old.plan.number; reply = C.replies self.old.plan.number answer }) ∷ reverse self.old.journal) }
+        ensures next { IfOk result.1 (λ answer. result.0.me.0.seen ≡ entry_of who (C.asks ask self.old.plan.number)
+            (C.replies self.old.plan.number answer) ∷ reverse self.old.journal) }
         ensures unchanged { OnErr result.1 (self.new ≡ self.old) }
     {
         laws::condition_is_own();
@@ -100,6 +104,13 @@ impl<B: Naming> Desk<B> {
             note(word, &mut self.keeper, before, &self.shard, who);
         }
         (part(word, &mut self.keeper, who), answer)
+    }
+
+    /// A worker holds no more cells than the shard has. The function does nothing: it brings this fact into a proof.
+    pub(crate) fn few_held(&self)
+        ensures { FewAreHeld (B.plan self.now.plan.number) (reverse self.now.journal) }
+    {
+        self.shard.few_held();
     }
 
     /// Whether the caller of a seat may make the call now, by the shard's whole journal; the seat has then seen it.

@@ -8,6 +8,7 @@ mod dealer;
 mod desk;
 mod fault;
 mod held;
+pub mod laws;
 mod naming;
 mod new_shard;
 mod opening;

@@ -7,10 +7,12 @@ ghost use Rattle.shards.specs.Opening.{are_served_options, AreOpened};
 ghost use Rattle.shards.specs.declared.fault.OpenFault.TheVariants.{BadOptions};
 ghost use Rattle.shared_shards.specs.Each.{Each};
 ghost use Rattle.shared_shards.specs.NewShards.{AreUnused, IsMadeOf, IsNamed, IsNamedAt, IsRowOf};
+ghost use Rattle.shared_shards.specs.HeldCells.{IsRoomOf};
 ghost use Rattle.shared_shards.specs.SharedMaps.{AreWords};
 
 use crate::dealer::Dealer;
 use crate::desk::Desk;
+use crate::held::most_held;
 use crate::naming::Naming;
 use crate::new_shard::NewShard;
 use crate::rule::Length;
@@ -76,7 +78,7 @@ impl Opened {
         } = self;
         let dealt = vec![in alloc; false; options.workers as usize + 2]?;
         let journals = Vec::with_capacity(alloc, shards.len())?;
-        let (desks, words, rows) = parted::<B>(alloc, shards)?;
+        let (desks, words, rows, rooms) = parted::<B>(alloc, shards)?;
         let shards = Shards {
             desks,
             words,
@@ -88,7 +90,7 @@ impl Opened {
         let dealer = Dealer {
             rows,
             dealt,
-            room: options.journal as usize,
+            rooms,
             names: PhantomData,
         };
         Ok((shards, dealer))
@@ -130,20 +132,22 @@ fn new_shards(
     Ok(all)
 }
 
-/// Each shard under a lock, beside the list of the words, and of the seats that wait.
+/// Each shard under a lock, beside the lists of the words, of the seats that wait, and of how many cells a worker can hold there.
 fn parted<B: Naming>(
     alloc: Global,
     mut shards: Vec<NewShard>,
-) -> Result<(Vec<Mutex<Desk<B>>>, Vec<Length>, Vec<Waiting>), AllocError>
+) -> Result<(Vec<Mutex<Desk<B>>>, Vec<Length>, Vec<Waiting>, Vec<usize>), AllocError>
     requires { Each (IsNamedAt B.table B.plan) 0 shards.items }
     ensures desks { IfOk result (λ all. length all.0.items ≡ length shards.items) }
     ensures words { IfOk result (λ all. (length all.1.items ≡ length shards.items) × AreWords B.table all.1.items) }
     ensures rows { IfOk result (λ all. (length all.2.items ≡ length shards.items) × Each (IsRowOf B.table shards.items) 0 all.2.items) }
+    ensures rooms { IfOk result (λ all. (length all.3.items ≡ length shards.items) × Each (IsRoomOf B.plan) 0 all.3.items) }
 {
     let count = shards.len();
     let mut desks = Vec::with_capacity(alloc, count)?;
     let mut words = Vec::with_capacity(alloc, count)?;
     let mut rows = Vec::with_capacity(alloc, count)?;
+    let mut rooms = Vec::with_capacity(alloc, count)?;
     'shards: for _number in 0..count {
         let NewShard {
             shard,
@@ -151,9 +155,11 @@ fn parted<B: Naming>(
             keeper,
             seats,
         } = shards.remove(0);
+        let room = most_held(shard.plan());
         desks.push_reserved(Mutex::new(Desk::new(shard, keeper)));
         words.push_reserved(word);
         rows.push_reserved(Waiting::new(seats));
+        rooms.push_reserved(room);
     }
-    Ok((desks, words, rows))
+    Ok((desks, words, rows, rooms))
 }

@@ -2,7 +2,7 @@
 
 ghost use Rattle.std.specs.Prelude.{◌≡◌, ◌≢◌, ◌<◌, ◌∷◌, ℕ, length, reverse, IfOk, IfErr, OnErr};
 ghost use Rattle.semantics.specs.History.{meets, shard_of_call};
-ghost use Rattle.shared_shards.specs.CallerView.{HasLooked, IsSettled};
+ghost use Rattle.shared_shards.specs.CallerView.{entry_of, HasLooked, IsSettled};
 ghost use Rattle.shared_shards.specs.Passes.{badge_at, view_at, own_at, seen_at, IsElsewhereSame, is_inside_of, flag_at, flag_after};
 ghost use Rattle.shared_shards.specs.HeldCells.{HasRoomFor, held_at, held_change, held_when, holds_own};
 ghost use Rattle.shared_shards.specs.Asked.{MayAsk, MayAskInside, IsAnswered, IsTurnedAway, EnteredAndAnswered, IsStopped};
@@ -88,12 +88,14 @@ impl<B: Naming> Pass<B> {
         ensures refused { OnErr result (IsTurnedAway (B.plan number) number self.old self.new (C.asks ask number)) }
         ensures names_the_shard { IfErr result (λ fault. fault.shard ≡ number) }
         ensures seen { seen_at self.new number ≡ reverse desk.new.journal }
-        ensures next { IfOk result (λ answer. seen_at self.new number ≡ (record { who = self.old.who; call = C.asks ask number; reply = C.replies number answer }) ∷ reverse desk.old.journal) }
+        ensures next { IfOk result (λ answer. seen_at self.new number ≡ entry_of self.old.who (C.asks ask number) (C.replies number answer) ∷
+            reverse desk.old.journal) }
         ensures unchanged { OnErr result (desk.new ≡ desk.old) }
     {
         let place = number as usize;
         let badge = taken(&mut self.seats, place);
         let (seat, answer) = desk.ask(word, badge.into_seat(), self.who, ask);
+        desk.few_held();
         self.seats[place] = seat.into_badge();
         change(&mut self.inside, place, ask.section(), &answer);
         keep(&mut self.held, number, &ask, &answer);
@@ -199,7 +201,8 @@ fn keep<C: Ask>(
     requires number { number < length held.old.items }
     requires room { IfOk answer.now (λ done. HasRoomFor (held_change (C.asks ask.now number) (C.replies number done)) (held_at held.old.items number)) }
     ensures count { length held.new.items ≡ length held.old.items }
-    ensures here { held_at held.new.items number ≡ held_when answer.now (λ done. held_change (C.asks ask.now number) (C.replies number done)) (held_at held.old.items number) }
+    ensures here { held_at held.new.items number ≡ held_when answer.now (λ done. held_change (C.asks ask.now number) (C.replies number done))
+        (held_at held.old.items number) }
     ensures others { (other : ℕ) → other ≢ number → held_at held.new.items other ≡ held_at held.old.items other }
 {
     if let Ok(done) = answer {

@@ -33,7 +33,8 @@ pub(crate) fn note(word: &Length, keeper: &mut LengthSeat, count: u64, shard: &S
     requires room { count + 1 < 2 ^ 64 }
     requires entry { (entry : Entry) × (reverse shard.now.journal ≡ entry ∷ keeper.old.me.0.all) × (entry.who ≡ who) }
     ensures both { IsBoth word.now.shared.table_id (reverse shard.now.journal) who keeper.new }
-    ensures view { (entry : Entry) → reverse shard.now.journal ≡ entry ∷ keeper.old.me.0.all → view_of keeper.new.me.0 ≡ (record { seen = reverse shard.now.journal; own = entry ∷ keeper.old.me.0.own }) }
+    ensures view { (entry : Entry) → reverse shard.now.journal ≡ entry ∷ keeper.old.me.0.all →
+        view_of keeper.new.me.0 ≡ (record { seen = reverse shard.now.journal; own = entry ∷ keeper.old.me.0.own }) }
 {
     word.shared
         .compare_exchange_with::<Adds>(keeper, 0, count, count + 1, shard);

@@ -43,7 +43,8 @@ impl<B: Naming> Model for Shards<B> {
 
     ghost view = { λ shards. record { maps = shards.maps.items; options = shards.options } };
 
-    ghost invariant = { λ shards. AreShared B.table B.plan B.count (length shards.desks.items) shards.words.items shards.maps.items shards.options shards.journals.items (vec_capacity shards.journals) };
+    ghost invariant = { λ shards. AreShared B.table B.plan B.count (length shards.desks.items) shards.words.items
+        shards.maps.items shards.options shards.journals.items (vec_capacity shards.journals) };
 }
 
 impl<B: Naming> Shards<B> {

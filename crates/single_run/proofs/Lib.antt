@@ -1,3 +1,5 @@
-pub mod OnlyLemmas
-pub mod PassLemmas
+pub mod UpdateLemmas
+pub mod OpeningLemmas
+pub mod RunLemmas
 pub mod AloneLemmas
+pub mod PushLemmas

@@ -1,9 +1,13 @@
-//! One run of an accepted image over maps of its own, with the journals that it leaves.
+//! One run of an accepted image over maps of its own, before which a controller may set values, with the journals that it leaves.
 #![tactic(auto)]
 
-mod passes;
+mod closing;
+mod fault;
 mod running;
+mod shard_runs;
 #[cfg(test)]
 mod tests;
+mod updates;
 
+pub use fault::RunFault;
 pub use running::{SingleRun, run_alone};

@@ -1,7 +1,7 @@
 //! The program, block by block. A jump leaves its block only for the start of a later one, which a comment beside it names.
 //!
-//! What stands where from one block to the next: R6 the context, later the verdict; R7 the packet's start; R8 the service's flags; R9 the packet's length, later
-//! the chosen backend's record. On the stack, below its upper end: the flow's key (16 bytes at -16), the service's key (8 at -24), an index (4 at -28), the
+//! What stands where from one block to the next: R6 the context, later the verdict; R7 the packet's start; R8 the service's flags; R9 the
+//! packet's length, later the chosen backend's record. On the stack, below its upper end: the flow's key (16 bytes at -16), the service's key (8 at -24), an index (4 at -28), the
 //! tunnel's record (the first 16 bytes at -48), the chosen backend's number (8 at -56).
 
 ghost use Rattle.std.specs.Prelude.{◌≡◌, ◌≤◌};

@@ -11,8 +11,8 @@ use ebpf_decode::{Image, Insn, Version};
 use maglev::is_ring_size;
 use std::alloc::Global;
 
-/// The shipped program for a lookup table of `size` slots, over the six maps of steering. Refused with 73 exactly where that is none of Maglev's sizes here (7, 251,
-/// 4093, 65537), and with 74 without memory.
+/// The shipped program for a lookup table of `size` slots, over the six maps of steering. Refused with 73 exactly where that is none of
+/// Maglev's sizes here (7, 251, 4093, 65537), and with 74 without memory.
 #[tactic(auto, using(crate::proofs::Encodable::no_fault))]
 pub fn shipped(alloc: Global, size: u32) -> Result<Image, SteerFault>
     ensures image { IfOk result (λ image. image ≡ shipped_image size) }

@@ -4,6 +4,7 @@ pub mod EntryStates
 pub mod PassLemmas
 pub mod ReaderLemmas
 pub mod MemoryLemmas
+pub mod SurveyLemmas
 pub mod ArrivalLemmas
 pub mod InstructionLemmas
 pub mod ReachLemmas

@@ -8,3 +8,4 @@ pub mod Flat
 pub mod Pending
 pub mod Stops
 pub mod Answers
+pub mod Surveys

@@ -9,14 +9,11 @@ mod pending;
 mod reader;
 mod reject;
 pub mod resolved;
+pub mod survey;
 mod verified;
 
 pub use op::Op;
 pub use reject::Reject;
 pub use resolved::{Memory, Resolved};
+pub use survey::{Broken, Survey, survey_of};
 pub use verified::{Verified, verify};
-
-#[cfg(test)]
-mod tests;
-#[cfg(test)]
-mod version_tests;

@@ -14,7 +14,7 @@ const NO_FAILURES: u64 = 0;
 
 /// A source of what a reader gives: a file or the standard input.
 ///
-/// A call fails where the reader does, and once 2^40 bytes were given.
+/// A call fails where the reader does, and once it could give more than 2^40 bytes in all.
 #[derive(Drop)]
 pub struct StreamSource<R> {
     reader: R,
@@ -24,9 +24,11 @@ pub struct StreamSource<R> {
 }
 
 impl<R: Read> StreamSource<R> {
-    /// A source over a reader, with no failures.
+    /// A source over a reader that has given nothing, with no failures.
     pub fn new(reader: R) -> StreamSource<R>
-        ensures { result.failures ≡ 0 }
+        ensures reader { result.reader ≡ reader }
+        ensures given { result.given ≡ 0 }
+        ensures failures { result.failures ≡ 0 }
     {
         StreamSource {
             reader,
@@ -79,7 +81,8 @@ pub struct StreamSink<W> {
 impl<W: Write> StreamSink<W> {
     /// A sink over a writer, with no failures.
     pub fn new(writer: W) -> StreamSink<W>
-        ensures { result.failures ≡ 0 }
+        ensures writer { result.writer ≡ writer }
+        ensures failures { result.failures ≡ 0 }
     {
         StreamSink {
             writer,

@@ -13,6 +13,14 @@ numbers_from first (suc count) = first ∷ numbers_from (first + 1) count
 abbrev pub commands_from : ℕ → ℕ → List Job
 commands_from first count = map (λ (number : ℕ). Command number) (numbers_from first count)
 
+-- what is so of all commands of the script from this one on
+abbrev pub OfCommandsFrom : ℕ → List ℕ → (List Job → Type 0) → Type 0
+OfCommandsFrom first starts is = (count : ℕ) → first + count ≡ length starts → is (commands_from first count)
+
+-- a round is asked for after every 64 records and once more after them, and then the end comes
+abbrev pub round_jobs : ℕ → List Job
+round_jobs records = replicate (records / 64 + 1) Note ++ End ∷ []
+
 -- the last job is the end
 pub record HasEnded (jobs : List Job) : Type 0 where
   pub before : List Job
@@ -41,7 +49,7 @@ pub record AreHandedOver (place from end : ℕ) (before after : List (List Job))
   pub together : from + count ≡ end
   pub put : ArePutAt place (commands_from from count) before after
 
--- how many commands are due: all from this one on whose records come after as many as were dispatched, up to the first for which it is too early
+-- how many commands are due: all from this one on that stand behind no more records than were dispatched, up to the first for which it is too early
 pub record AreDue (starts : List ℕ) (from number end : ℕ) : Type 0 where
   pub up : from ≤ end
   pub within : end ≤ length starts

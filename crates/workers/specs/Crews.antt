@@ -34,6 +34,10 @@ abbrev pub IsHandled : {S : Type 0} → (ℕ → S → Type 0) → (ℕ → Sent
 IsHandled IsNew IsRun records workers worker handled =
     HasHandled (IsNew worker) (IsRunAt (IsRun worker) records) (share (frames_of records) workers worker (length records)) handled.runs.items handled.state
 
+-- each worker ran its records, in order
+abbrev pub AreHandled : {S : Type 0} → (ℕ → S → Type 0) → (ℕ → Sent → S → RunEnd → S → Type 0) → List Sent → ℕ → List (Handled S) → Type 0
+AreHandled IsNew IsRun records workers all = Each (IsHandled IsNew IsRun records workers) 0 all
+
 -- what the worker of this number made, and its state, each at its place
 pub record IsPart {S : Type 0} (lists : List (List Ran)) (states : List S) (worker : ℕ) (handled : Handled S) : Type 0 where
   pub runs : runs_at lists worker ≡ handled.runs.items

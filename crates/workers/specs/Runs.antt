@@ -1,10 +1,12 @@
 -- The runs of a worker, one after the other.
-use Rattle.std.specs.Prelude.{◌≡◌, ℕ, List, [], ◌∷◌, ◌++◌, Some, slice_get}
+use Rattle.std.specs.Prelude.{◌≡◌, ℕ, false, List, [], ◌∷◌, ◌++◌, Some, slice_get}
 use Rattle.wire.specs.declared.records.Sent.{Sent}
 use Rattle.rx_queues.specs.declared.job.Job.{Job}
 use Rattle.rx_queues.specs.declared.job.Job.TheVariants.{End}
+use Rattle.rx_queues.specs.Passes.{jobs_taken}
 use Rattle.workers.specs.declared.run_end.RunEnd.{RunEnd}
 use Rattle.workers.specs.declared.run_end.Ran.{Ran}
+use Rattle.workers.specs.declared.worker.WorkerEnded.{WorkerEnded}
 use Rattle.workers.specs.Jobs.{jobs_of, records_of}
 
 -- a run of the frame of the record
@@ -32,6 +34,11 @@ pub record HasWorked {S : Type 0} (IsNew : S → Type 0) (IsRun : S → Ran → 
   pub before : S
   pub is_new : IsNew before
   pub chain : IsChainOfRuns IsRun before runs after
+
+-- a worker that was not refused memory did the jobs that it took
+abbrev pub HasDoneItsJobs : {S : Type 0} → (S → Type 0) → (Sent → S → RunEnd → S → Type 0) → List Sent → WorkerEnded S → Type 0
+HasDoneItsJobs IsNew IsRun records ended =
+    (ended.is_refused ≡ false) → HasWorked IsNew (IsRunAt IsRun records) (jobs_taken ended.take) ended.runs.items ended.state
 
 -- a worker ran these records, in order
 pub record HasHandled {S : Type 0} (IsNew : S → Type 0) (IsRun : S → Ran → S → Type 0) (records : List ℕ) (runs : List Ran) (after : S) : Type 0

@@ -69,9 +69,11 @@ pub fn account(
 ) -> Result<(Counts, Vec<Sent>), AllocError>
     requires workers { 0 < length runs.now }
     requires runs { AreRunsOfShares (frames_of capture.now.records.items) (length runs.now) (length capture.now.records.items) (lists_of runs.now) }
-    ensures counts { IfOk result (λ account. account.0 ≡ counts_of (frames_of capture.now.records.items) (length runs.now) (lists_of runs.now) (length capture.now.records.items)) }
+    ensures counts { IfOk result (λ account. account.0 ≡ counts_of (frames_of capture.now.records.items) (length runs.now) (lists_of runs.now)
+        (length capture.now.records.items)) }
     ensures frames { IfOk result (λ account. frames_in account.0 ≡ length capture.now.records.items) }
-    ensures sent { IfOk result (λ account. sent_frames account.1.items ≡ sent_of (frames_of capture.now.records.items) (length runs.now) (lists_of runs.now) (length capture.now.records.items)) }
+    ensures sent { IfOk result (λ account. sent_frames account.1.items ≡ sent_of (frames_of capture.now.records.items) (length runs.now) (lists_of runs.now)
+        (length capture.now.records.items)) }
 {
     let mut next = vec![in alloc; 0; runs.len()]?;
     let mut counts = Counts::none();

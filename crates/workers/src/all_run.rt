@@ -1,10 +1,10 @@
 //! Workers, controller and reclaimer from their start to their end.
 
-ghost use Rattle.std.specs.Prelude.{◌≡◌, ◌<◌, ◌≤◌, ◌+◌, ◌/◌, ◌∷◌, ◌++◌, [], ℕ, length, replicate, IfOk, IfSome};
+ghost use Rattle.std.specs.Prelude.{◌≡◌, ◌<◌, ◌≤◌, ◌+◌, ◌/◌, ◌∷◌, ◌++◌, [], length, replicate, IfOk, IfSome};
 ghost use Rattle.rx_queues.specs.declared.job.Job.TheVariants.{Note, End};
 ghost use Rattle.rx_queues.specs.Passes.{IsPutPassOf, IsTakePassOf, TakeAtTheirPlaces, AreTakePasses, place_taken_from, jobs_taken, workers_of, jobs_put};
-ghost use Rattle.workers.specs.Actors.{HasNoEnd, commands_from};
-ghost use Rattle.workers.specs.Crews.{Each, IsReadyAt, IsHandled};
+ghost use Rattle.workers.specs.Actors.{HasNoEnd, OfCommandsFrom, round_jobs};
+ghost use Rattle.workers.specs.Crews.{Each, IsReadyAt, AreHandled};
 ghost use Rattle.workers.specs.Puts.{put_at};
 
 use crate::actor::Actor;
@@ -70,8 +70,10 @@ fn start_both<
     requires ready { C.is_ready controller × D.is_ready reclaimer }
     ensures put { IsPutPassOf queues.now put.new }
     ensures puts { IfSome result (λ both. jobs_put put.new ≡ jobs_put put.old) }
-    ensures controller { IfSome result (λ both. (both.0.promise.queues.now ≡ queues.now) × (both.0.promise.place ≡ workers) × (both.0.promise.actor.value ≡ controller)) }
-    ensures reclaimer { IfSome result (λ both. (both.1.promise.queues.now ≡ queues.now) × (both.1.promise.place ≡ workers + 1) × (both.1.promise.actor.value ≡ reclaimer)) }
+    ensures controller { IfSome result (λ both. (both.0.promise.queues.now ≡ queues.now) × (both.0.promise.place ≡ workers) ×
+        (both.0.promise.actor.value ≡ controller)) }
+    ensures reclaimer { IfSome result (λ both. (both.1.promise.queues.now ≡ queues.now) × (both.1.promise.place ≡ workers + 1) ×
+        (both.1.promise.actor.value ≡ reclaimer)) }
 {
     let (of_controller, of_reclaimer) = takes;
     let commanding = start_actor(scope, rt, alloc, queues, controller, workers, of_controller)?;
@@ -102,10 +104,14 @@ fn close_both<E: Drop, F: Drop, C: Actor<E>, D: Actor<F>, R: Threads + Wait>(
     reclaiming: ActorThread<F, D>,
 ) -> Option<(E, F)>
     requires put { IsPutPassOf queues.now put.old }
-    requires controller { (commanding.promise.queues.now ≡ queues.now) × (commanding.promise.place ≡ workers_of queues.now) × HasNoEnd (put_at (jobs_put put.old) (workers_of queues.now)) }
-    requires reclaimer { (reclaiming.promise.queues.now ≡ queues.now) × (reclaiming.promise.place ≡ workers_of queues.now + 1) × HasNoEnd (put_at (jobs_put put.old) (workers_of queues.now + 1)) }
-    ensures controller { IfSome result (λ given. C.gives commanding.entry.promise.actor.value (put_at (jobs_put put.old) (workers_of queues.now) ++ End ∷ []) given.0) }
-    ensures reclaimer { IfSome result (λ given. D.gives reclaiming.entry.promise.actor.value (put_at (jobs_put put.old) (workers_of queues.now + 1) ++ Note ∷ End ∷ []) given.1) }
+    requires controller { (commanding.promise.queues.now ≡ queues.now) × (commanding.promise.place ≡ workers_of queues.now) ×
+        HasNoEnd (put_at (jobs_put put.old) (workers_of queues.now)) }
+    requires reclaimer { (reclaiming.promise.queues.now ≡ queues.now) × (reclaiming.promise.place ≡ workers_of queues.now + 1) ×
+        HasNoEnd (put_at (jobs_put put.old) (workers_of queues.now + 1)) }
+    ensures controller { IfSome result (λ given. C.gives commanding.entry.promise.actor.value
+        (put_at (jobs_put put.old) (workers_of queues.now) ++ End ∷ []) given.0) }
+    ensures reclaimer { IfSome result (λ given. D.gives reclaiming.entry.promise.actor.value
+        (put_at (jobs_put put.old) (workers_of queues.now + 1) ++ Note ∷ End ∷ []) given.1) }
 {
     ask_round(rt, queues, put);
     end_both(rt, queues, put);
@@ -135,8 +141,8 @@ fn work_all<'s, X, S: Drop + Send + 's, W: Runner<S> + Sync + 's, R: Threads + W
     requires states { Each (IsReadyAt (W.is_new runner.now) (W.is_idle runner.now)) 0 states.items }
     ensures put { IsPutPassOf queues.now put.new }
     ensures count { IfOk result (λ all. length all.items ≡ length states.items) }
-    ensures handled { IfOk result (λ all. Each (IsHandled (W.is_new runner.now) (W.runs runner.now) capture.now.records.items (length states.items)) 0 all.items) }
-    ensures commands { IfOk result (λ all. (count : ℕ) → first + count ≡ length starts.now → put_at (jobs_put put.new) (workers_of queues.now) ≡ commands_from first count) }
+    ensures handled { IfOk result (λ all. AreHandled (W.is_new runner.now) (W.runs runner.now) capture.now.records.items (length states.items) all.items) }
+    ensures commands { IfOk result (λ all. OfCommandsFrom first starts.now (λ jobs. put_at (jobs_put put.new) (workers_of queues.now) ≡ jobs)) }
     ensures notes { IfOk result (λ all. put_at (jobs_put put.new) (workers_of queues.now + 1) ≡ replicate (length capture.now.records.items / 64) Note) }
 {
     let workers = states.len();
@@ -189,9 +195,10 @@ fn run_all_in<
     requires states { Each (IsReadyAt (W.is_new runner.now) (W.is_idle runner.now)) 0 states.items }
     requires ready { C.is_ready controller × D.is_ready reclaimer }
     ensures count { IfOk result (λ it. length it.workers.items ≡ length states.items) }
-    ensures handled { IfOk result (λ it. Each (IsHandled (W.is_new runner.now) (W.runs runner.now) capture.now.records.items (length states.items)) 0 it.workers.items) }
-    ensures controller { IfOk result (λ it. (count : ℕ) → first + count ≡ length starts.now → C.gives controller (commands_from first count ++ End ∷ []) it.controller) }
-    ensures reclaimer { IfOk result (λ it. D.gives reclaimer (replicate (length capture.now.records.items / 64 + 1) Note ++ End ∷ []) it.reclaimer) }
+    ensures handled { IfOk result (λ it. AreHandled (W.is_new runner.now) (W.runs runner.now) capture.now.records.items
+        (length states.items) it.workers.items) }
+    ensures controller { IfOk result (λ it. OfCommandsFrom first starts.now (λ jobs. C.gives controller (jobs ++ End ∷ []) it.controller)) }
+    ensures reclaimer { IfOk result (λ it. D.gives reclaimer (round_jobs (length capture.now.records.items)) it.reclaimer) }
 {
     let workers = states.len();
     let last = last_two(queues, &mut takes, workers);
@@ -254,9 +261,10 @@ pub fn run_all<
     requires states { Each (IsReadyAt (W.is_new runner.now) (W.is_idle runner.now)) 0 states.items }
     requires ready { C.is_ready controller × D.is_ready reclaimer }
     ensures count { IfOk result (λ it. length it.workers.items ≡ length states.items) }
-    ensures handled { IfOk result (λ it. Each (IsHandled (W.is_new runner.now) (W.runs runner.now) capture.now.records.items (length states.items)) 0 it.workers.items) }
-    ensures controller { IfOk result (λ it. (count : ℕ) → first + count ≡ length starts.now → C.gives controller (commands_from first count ++ End ∷ []) it.controller) }
-    ensures reclaimer { IfOk result (λ it. D.gives reclaimer (replicate (length capture.now.records.items / 64 + 1) Note ++ End ∷ []) it.reclaimer) }
+    ensures handled { IfOk result (λ it. AreHandled (W.is_new runner.now) (W.runs runner.now) capture.now.records.items
+        (length states.items) it.workers.items) }
+    ensures controller { IfOk result (λ it. OfCommandsFrom first starts.now (λ jobs. C.gives controller (jobs ++ End ∷ []) it.controller)) }
+    ensures reclaimer { IfOk result (λ it. D.gives reclaimer (round_jobs (length capture.now.records.items)) it.reclaimer) }
 {
     thread::scope(
         thread::scope_env(),
@@ -269,9 +277,10 @@ pub fn run_all<
             requires states { Each (IsReadyAt (W.is_new runner.now) (W.is_idle runner.now)) 0 states.items }
             requires ready { C.is_ready controller × D.is_ready reclaimer }
             ensures count { IfOk result (λ it. length it.workers.items ≡ length states.items) }
-            ensures handled { IfOk result (λ it. Each (IsHandled (W.is_new runner.entry.now) (W.runs runner.entry.now) capture.entry.now.records.items (length states.items)) 0 it.workers.items) }
-            ensures controller { IfOk result (λ it. (count : ℕ) → first + count ≡ length starts.entry.now → C.gives controller (commands_from first count ++ End ∷ []) it.controller) }
-            ensures reclaimer { IfOk result (λ it. D.gives reclaimer (replicate (length capture.entry.now.records.items / 64 + 1) Note ++ End ∷ []) it.reclaimer) }
+            ensures handled { IfOk result (λ it. AreHandled (W.is_new runner.entry.now) (W.runs runner.entry.now)
+                capture.entry.now.records.items (length states.items) it.workers.items) }
+            ensures controller { IfOk result (λ it. OfCommandsFrom first starts.entry.now (λ jobs. C.gives controller (jobs ++ End ∷ []) it.controller)) }
+            ensures reclaimer { IfOk result (λ it. D.gives reclaimer (round_jobs (length capture.entry.now.records.items)) it.reclaimer) }
         {
             run_all_in(
                 scope, rt, alloc, queues, capture, starts, first, runner, controller, reclaimer,

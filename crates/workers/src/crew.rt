@@ -4,7 +4,7 @@ ghost use Rattle.std.specs.Prelude.{◌≡◌, ◌<◌, ◌≤◌, ◌++◌, ◌
 ghost use Rattle.rx_queues.specs.declared.job.Job.TheVariants.{End};
 ghost use Rattle.rx_queues.specs.Passes.{IsPutPassOf, TakeAtTheirPlaces, workers_of, jobs_put};
 ghost use Rattle.workers.specs.Accounts.{lists_of};
-ghost use Rattle.workers.specs.Crews.{Each, IsReadyAt, IsLane, IsHandled, IsPart};
+ghost use Rattle.workers.specs.Crews.{Each, IsReadyAt, IsLane, AreHandled, IsPart};
 ghost use Rattle.workers.specs.Puts.{AreAllPut, put_at, frame_jobs};
 ghost use Rattle.workers.specs.Runs.{IsRunAt, HasHandled};
 ghost use Rattle.workers.specs.Shares.{frames_of, share};
@@ -29,7 +29,13 @@ pub struct Handled<S> {
 }
 
 /// Starts each worker, on the first rights to take and with its state. Where one can't be started, those that were are given back.
-pub fn start_all<'s, E, S: Drop + Send + 's, W: Runner<S> + Sync + 's, R: Threads + Wait + Sync>(
+pub(crate) fn start_all<
+    's,
+    E,
+    S: Drop + Send + 's,
+    W: Runner<S> + Sync + 's,
+    R: Threads + Wait + Sync,
+>(
     scope: &Scope<'s, E>,
     rt: &'s R,
     alloc: Global,
@@ -72,7 +78,7 @@ pub fn start_all<'s, E, S: Drop + Send + 's, W: Runner<S> + Sync + 's, R: Thread
 }
 
 /// Ends the workers that were started, and joins them.
-pub fn abandon<S: Drop, W: Runner<S>, R: Threads + Wait>(
+pub(crate) fn abandon<S: Drop, W: Runner<S>, R: Threads + Wait>(
     rt: &R,
     queues: &Queues,
     put: &mut PutPass,
@@ -102,7 +108,8 @@ fn settled<S: Drop, W: Runner<S>, R: Threads + Wait>(
 ) -> Option<Handled<S>>
     requires lane { IsLane queues.now capture.now runner.now worker lane }
     requires put { IsPutPassOf queues.now put.old }
-    requires jobs { put_at (jobs_put put.old) worker ≡ frame_jobs (share (frames_of capture.now.records.items) workers worker (length capture.now.records.items)) ++ End ∷ [] }
+    requires jobs { put_at (jobs_put put.old) worker ≡
+        frame_jobs (share (frames_of capture.now.records.items) workers worker (length capture.now.records.items)) ++ End ∷ [] }
     ensures put { IsPutPassOf queues.now put.new × (jobs_put put.new ≡ jobs_put put.old) }
     ensures handled { IfSome result (λ it. HasHandled (W.is_new runner.now worker) (IsRunAt (W.runs runner.now worker) capture.now.records.items)
         (share (frames_of capture.now.records.items) workers worker (length capture.now.records.items)) it.runs.items it.state) }
@@ -134,7 +141,7 @@ fn added<T: Drop>(all: Option<Vec<T>>, one: Option<T>) -> Option<Vec<T>>
 }
 
 /// Joins all workers, and holds what each did against what was put for it. None where one was refused memory.
-pub fn finish_all<S: Drop, W: Runner<S>, R: Threads + Wait>(
+pub(crate) fn finish_all<S: Drop, W: Runner<S>, R: Threads + Wait>(
     rt: &R,
     alloc: Global,
     queues: &Queues,
@@ -148,7 +155,8 @@ pub fn finish_all<S: Drop, W: Runner<S>, R: Threads + Wait>(
     requires jobs { AreAllPut (frames_of capture.now.records.items) (length lanes.items) (length capture.now.records.items) (jobs_put put.old) }
     ensures put { IsPutPassOf queues.now put.new × (jobs_put put.new ≡ jobs_put put.old) }
     ensures count { IfSome result (λ all. length all.items ≡ length lanes.entry.items) }
-    ensures handled { IfSome result (λ all. Each (IsHandled (W.is_new runner.now) (W.runs runner.now) capture.now.records.items (length lanes.entry.items)) 0 all.items) }
+    ensures handled { IfSome result (λ all. AreHandled (W.is_new runner.now) (W.runs runner.now) capture.now.records.items
+        (length lanes.entry.items) all.items) }
 {
     let count = lanes.len();
     let mut all = Some(Vec::new(alloc));

@@ -4,7 +4,7 @@ ghost use Rattle.std.specs.Prelude.{◌≡◌, ◌<◌, ◌≤◌, ◌+◌, ◌+
 ghost use Rattle.rx_queues.specs.Passes.{IsPutPassOf, workers_of, jobs_put};
 ghost use Rattle.workers.specs.Shares.{frames_of, frame_at, is_short, worker_of_frame};
 ghost use Rattle.workers.specs.Actors.{AreDispatched};
-ghost use Rattle.workers.specs.Puts.{ArePut, ArePutWithEnd, with_record};
+ghost use Rattle.workers.specs.Puts.{ArePutWithEnd, with_record};
 
 use crate::handing::{ask_due_round, due, hand_commands};
 use rx_queues::{Caller, Job, PutPass, Queues, spread};
@@ -62,25 +62,6 @@ fn hand<R: Wait>(
     }
 }
 
-/// Hands each record to its worker, in the capture's order.
-pub fn dispatch<R: Wait>(
-    rt: &R,
-    queues: &Queues,
-    put: &mut PutPass,
-    capture: &Capture,
-    workers: usize,
-)
-    requires workers { (workers_of queues.now ≡ workers) × (0 < workers) × (workers ≤ 8) }
-    requires pass { IsPutPassOf queues.now put.old }
-    requires nothing { ArePut (frames_of capture.now.records.items) workers 0 (jobs_put put.old) }
-    ensures pass { IsPutPassOf queues.now put.new }
-    ensures put { ArePut (frames_of capture.now.records.items) workers (length capture.now.records.items) (jobs_put put.new) }
-{
-    'records: for number in 0..capture.records.len() {
-        hand(rt, queues, put, capture, workers, number);
-    }
-}
-
 /// Hands each record to its worker, in the capture's order, and the commands from `first` on to the controller: each once as many records as `starts`
 /// says were dispatched, and no later than after the last one. Asks the reclaimer for a round after every 64 records.
 pub(crate) fn dispatch_all<R: Wait>(
@@ -111,7 +92,7 @@ pub(crate) fn dispatch_all<R: Wait>(
 }
 
 /// Tells each worker to end.
-pub fn end_all<R: Wait>(rt: &R, queues: &Queues, put: &mut PutPass, workers: usize)
+pub(crate) fn end_all<R: Wait>(rt: &R, queues: &Queues, put: &mut PutPass, workers: usize)
     requires workers { (workers_of queues.now ≡ workers) × (workers ≤ 8) }
     requires pass { IsPutPassOf queues.now put.old }
     ensures pass { IsPutPassOf queues.now put.new }

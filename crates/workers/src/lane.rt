@@ -1,8 +1,8 @@
 //! A worker's thread.
 
-ghost use Rattle.std.specs.Prelude.{◌≡◌, [], false, IfSome};
+ghost use Rattle.std.specs.Prelude.{◌≡◌, [], IfSome};
 ghost use Rattle.rx_queues.specs.Passes.{IsTakePassOf, place_taken_from, jobs_taken};
-ghost use Rattle.workers.specs.Runs.{IsRunAt, HasWorked};
+ghost use Rattle.workers.specs.Runs.{HasDoneItsJobs};
 
 use crate::runner::Runner;
 use crate::worker::{WorkerEnded, work};
@@ -22,12 +22,12 @@ pub struct Task<'a, W> {
 }
 
 impl<'a, S, W: Runner<S>> Promise<WorkerEnded<S>> for Task<'a, W> {
-    ghost use Rattle.std.specs.Prelude.{◌≡◌, false};
+    ghost use Rattle.std.specs.Prelude.{◌≡◌};
     ghost use Rattle.rx_queues.specs.Passes.{IsTakePassOf, place_taken_from, jobs_taken};
-    ghost use Rattle.workers.specs.Runs.{IsRunAt, HasWorked};
+    ghost use Rattle.workers.specs.Runs.{HasDoneItsJobs};
 
     ghost kept_by = { λ task ended. IsTakePassOf task.queues.now ended.take × (place_taken_from ended.take ≡ task.worker)
-        × ((ended.is_refused ≡ false) → HasWorked (W.is_new task.runner.now task.worker) (IsRunAt (W.runs task.runner.now task.worker) task.capture.now.records.items) (jobs_taken ended.take) ended.runs.items ended.state) };
+        × HasDoneItsJobs (W.is_new task.runner.now task.worker) (W.runs task.runner.now task.worker) task.capture.now.records.items ended };
 }
 
 /// The dispatcher's side of a worker that was started.
@@ -58,7 +58,8 @@ pub(crate) fn start<'s, E, S: Drop + Send + 's, W: Runner<S> + Sync + 's, R: Wai
 ) -> Option<Lane<'s, S, W>>
     requires take { IsTakePassOf queues.now take × (place_taken_from take ≡ worker) × (jobs_taken take ≡ []) }
     requires state { W.is_new runner.now worker state × W.is_idle runner.now worker state }
-    ensures { IfSome result (λ lane. (lane.queues.now ≡ queues.now) × (lane.capture.now ≡ capture.now) × (lane.runner.now ≡ runner.now) × (lane.worker ≡ worker)) }
+    ensures { IfSome result (λ lane. (lane.queues.now ≡ queues.now) × (lane.capture.now ≡ capture.now) × (lane.runner.now ≡ runner.now) ×
+        (lane.worker ≡ worker)) }
 {
     let thread = scope
         .spawn_with(
@@ -72,7 +73,8 @@ pub(crate) fn start<'s, E, S: Drop + Send + 's, W: Runner<S> + Sync + 's, R: Wai
                 requires take { IsTakePassOf queues.now take × (place_taken_from take ≡ worker) × (jobs_taken take ≡ []) }
                 requires state { W.is_new runner.now worker state × W.is_idle runner.now worker state }
                 ensures take { IsTakePassOf queues.entry.now result.take × (place_taken_from result.take ≡ worker) }
-                ensures worked { (result.is_refused ≡ false) → HasWorked (W.is_new runner.entry.now worker) (IsRunAt (W.runs runner.entry.now worker) capture.entry.now.records.items) (jobs_taken result.take) result.runs.items result.state }
+                ensures worked { HasDoneItsJobs (W.is_new runner.entry.now worker) (W.runs runner.entry.now worker)
+                    capture.entry.now.records.items result }
             { work(rt, alloc, queues, capture, runner, worker, take, state) },
         )
         .ok()?;
@@ -89,7 +91,8 @@ impl<'a, S: Drop, W: Runner<S>> Lane<'a, S, W> {
     /// Waits for the worker's end.
     pub(crate) fn join<R: Threads + Wait>(self, rt: &R) -> WorkerEnded<S>
         ensures take { IsTakePassOf self.entry.queues.now result.take × (place_taken_from result.take ≡ self.entry.worker) }
-        ensures worked { (result.is_refused ≡ false) → HasWorked (W.is_new self.entry.runner.now self.entry.worker) (IsRunAt (W.runs self.entry.runner.now self.entry.worker) self.entry.capture.now.records.items) (jobs_taken result.take) result.runs.items result.state }
+        ensures worked { HasDoneItsJobs (W.is_new self.entry.runner.now self.entry.worker) (W.runs self.entry.runner.now self.entry.worker)
+            self.entry.capture.now.records.items result }
     {
         let Lane { thread, .. } = self;
         thread.join(rt)

@@ -1,8 +1,8 @@
 //! What a worker does.
 
-ghost use Rattle.std.specs.Prelude.{◌≡◌, [], false, IsTrue};
+ghost use Rattle.std.specs.Prelude.{◌≡◌, [], IsTrue};
 ghost use Rattle.rx_queues.specs.Passes.{IsTakePassOf, place_taken_from, jobs_taken};
-ghost use Rattle.workers.specs.Runs.{IsRunAt, IsOneMore, HasWorked};
+ghost use Rattle.workers.specs.Runs.{IsRunAt, IsOneMore, HasDoneItsJobs};
 
 use crate::run_end::Ran;
 use crate::runner::Runner;
@@ -33,7 +33,8 @@ fn ran<S: Drop, W: Runner<S>>(
 ) -> bool
     requires state { W.is_idle runner.now worker state.old }
     ensures state { W.is_idle runner.now worker state.new }
-    ensures ran { IsTrue result → IsOneMore (IsRunAt (W.runs runner.now worker) capture.now.records.items) number state.old runs.old.items state.new runs.new.items }
+    ensures ran { IsTrue result → IsOneMore (IsRunAt (W.runs runner.now worker) capture.now.records.items) number state.old runs.old.items
+        state.new runs.new.items }
 {
     if runs.reserve(1).is_err() {
         return false;
@@ -66,7 +67,7 @@ pub(crate) fn work<S: Drop, W: Runner<S>, R: Wait>(
     requires take { IsTakePassOf queues.now take × (place_taken_from take ≡ worker) × (jobs_taken take ≡ []) }
     requires state { W.is_new runner.now worker state × W.is_idle runner.now worker state }
     ensures take { IsTakePassOf queues.now result.take × (place_taken_from result.take ≡ worker) }
-    ensures worked { (result.is_refused ≡ false) → HasWorked (W.is_new runner.now worker) (IsRunAt (W.runs runner.now worker) capture.now.records.items) (jobs_taken result.take) result.runs.items result.state }
+    ensures worked { HasDoneItsJobs (W.is_new runner.now worker) (W.runs runner.now worker) capture.now.records.items result }
 {
     let mut runs = Vec::new(alloc);
     let mut is_refused = false;

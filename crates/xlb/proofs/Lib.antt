@@ -1,2 +1,3 @@
 -- The lemmas that proofs of this crate share.
-pub mod Numbers
+pub mod LongImages
+pub mod Refusals

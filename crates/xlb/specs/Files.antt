@@ -1,6 +1,5 @@
 -- Files by their names, and images in them.
-use Rattle.std.specs.Prelude.{◌≡◌, ◌≢◌, ◌↔◌, ℕ, List, Option, Some, option_map}
-use Rattle.std.specs.Borrow.{Bor}
+use Rattle.std.specs.Prelude.{◌≢◌, ◌↔◌, ℕ, List, Option, Some}
 use Rattle.ebpf_decode.specs.ImageContents.{Contents}
 use Rattle.ebpf_decode.specs.ImageFormat.{IsImageEncoding}
 
@@ -29,7 +28,3 @@ pub record IsImageFile (files : FileBytes) (name : List ℕ) (image : Contents) 
   pub bytes : List ℕ
   pub read : files name bytes
   pub encoding : IsImageEncoding bytes image
-
--- the word of an option, where it is given
-abbrev pub text_of : Option (Bor (List ℕ)) → Option (List ℕ)
-text_of word = option_map (λ (w : Bor (List ℕ)). w.now) word

@@ -4,6 +4,7 @@ use Rattle.std.specs.List.{flat_map}
 use Rattle.ebpf_decode.specs.ImageContents.{Contents}
 use Rattle.semantics.specs.Safety.{IsSafeImage}
 use Rattle.semantics.specs.declared.options.Options.{Options}
+use Rattle.semantics.specs.Program.{Program}
 use Rattle.wire.specs.CaptureFormat.{IsCaptureFile, capture_bytes}
 use Rattle.wire.specs.declared.records.Sent.{Sent}
 use Rattle.steer.specs.ShippedProgram.{shipped_image}
@@ -18,8 +19,9 @@ use Rattle.workers.specs.Accounts.{frames_in}
 use Rattle.actors.specs.declared.applied.Applied.{Applied}
 use Rattle.replay.specs.declared.outcome.Outcome.{Outcome}
 use Rattle.replay.specs.Accounted.{IsAccounted}
-use Rattle.xlb.specs.declared.command_line.ReplayFiles.{ReplayFiles}
-use Rattle.xlb.specs.Files.{FileBytes, IsImageFile, text_of}
+use Rattle.command_line.specs.declared.commands.ReplayFiles.{ReplayFiles}
+use Rattle.command_line.specs.Reading.{text_of}
+use Rattle.xlb.specs.Files.{FileBytes, IsImageFile}
 
 -- ---- what is read
 
@@ -83,6 +85,10 @@ refusals_text refused = flat_map (λ (one : Applied). refusal_of one.command one
 
 -- ---- a replay
 
+-- the image's program over maps of so many shards each
+abbrev pub program_of_replay : Contents → Options → Program
+program_of_replay image options = record { code = image.code; maps = image.maps; shards = options.shards }
+
 -- The program may run; script and capture are read from their files; the replay accounts for every record, every command and every entry of the
 -- journals; the sent frames and the journals are written to their files; and what is printed are the counts, and the commands that were refused.
 pub record IsReplayed (before after : FileBytes) (files : ReplayFiles) (options : Options) (ring : ℕ) (printed : List ℕ) (refused : List Applied) :
@@ -95,7 +101,7 @@ pub record IsReplayed (before after : FileBytes) (files : ReplayFiles) (options 
   pub records : List Sent
   pub capture : IsCaptureOf before files.capture.now records
   pub outcome : Outcome
-  pub accounted : IsAccounted (record { code = program.code; maps = program.maps; shards = options.shards }) script options records outcome
+  pub accounted : IsAccounted (program_of_replay program options) script options records outcome
   pub refused_are : outcome.refused.items ≡ refused
   -- the journals are written after the sent frames, over them where both have one name
   pub sent : text_of files.journals ≢ Some files.sent.now → after files.sent.now (capture_bytes outcome.sent.items)

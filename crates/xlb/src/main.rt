@@ -1,31 +1,29 @@
 //! The program `xlb`: images of eBPF programs checked, run on a frame, printed and assembled.
 #![tactic(auto)]
 
-mod command_line;
 mod commands;
 mod fault;
-mod files;
-mod folder;
-mod grammar;
-mod memory_folder;
+mod fault_lines;
+mod hints;
+mod progress;
 mod replays;
 mod report;
+mod runs;
 mod serve;
 #[cfg(test)]
 mod tests;
-mod words;
 mod written;
 
-pub use command_line::{ReplayFiles, RunFiles, Settings};
-pub use fault::Fault;
-pub use files::FileFolder;
-pub use folder::{Folder, FolderFault};
-pub use memory_folder::MemoryFolder;
+use command_line::settings;
+pub use fault::{Fault, Refusal};
+pub use fault_lines::fault_line;
+use folders::FileFolder;
+pub use progress::{NoProgress, Progress, TerminalProgress};
 pub use serve::serve;
+use std::io::IsTerminal;
 use std::process::ExitCode;
 use std::{env, io};
 use wire::StreamSink;
-pub use words::{WordsFault, settings};
 
 /// The status of a command line that could not be read.
 const BAD_WORDS: u8 = 2;
@@ -50,6 +48,15 @@ fn main(rt: HostRuntime) -> io::Result<ExitCode> {
     let mut folder = FileFolder::new(&rt);
     let mut out = StreamSink::new(rt.stdout());
     let mut err = StreamSink::new(rt.stderr());
-    let status = serve(&rt, alloc, &settings, &mut folder, &mut out, &mut err);
+    let progress = TerminalProgress::new(&rt, rt.stderr().is_terminal());
+    let status = serve(
+        &rt,
+        alloc,
+        &settings,
+        &mut folder,
+        &progress,
+        &mut out,
+        &mut err,
+    );
     Ok(ExitCode::from(status))
 }

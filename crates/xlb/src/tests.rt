@@ -5,6 +5,7 @@ ghost use Rattle.std.specs.Prelude.{◌≡◌, ◌-◌, ◌<◌, ◌^◌, IfOk};
 mod assembling;
 mod audits;
 mod devices;
+mod explained;
 mod faults;
 mod first_path;
 mod images;
@@ -12,9 +13,12 @@ mod programs;
 mod replays;
 mod run_journals;
 mod runs;
-mod words;
+mod sources;
+mod updates;
 
-use crate::{Folder, FolderFault, MemoryFolder, serve, settings};
+use crate::{NoProgress, serve};
+use command_line::settings;
+use folders::{Folder, FolderFault, MemoryFolder};
 use std::alloc::Global;
 use std::sync::Wait;
 use std::test::Fail;
@@ -55,7 +59,15 @@ fn serve_line<R: Threads + Wait + Sync>(
     let settings = settings(alloc, words.as_slice())?;
     let mut out = MemorySink::new(alloc);
     let mut err = MemorySink::new(alloc);
-    let status = serve(rt, alloc, &settings, &mut folder, &mut out, &mut err);
+    let status = serve(
+        rt,
+        alloc,
+        &settings,
+        &mut folder,
+        &NoProgress,
+        &mut out,
+        &mut err,
+    );
     Ok(Given {
         status,
         out,

@@ -1,5 +1,5 @@
 use Rattle.std.proofs.Common.{length}
-use Rattle.shared_shards.specs.NewShards.{table_names, plan_names}
+use Rattle.shared_shards.proofs.shared.Names.{table_names, plan_names}
 use Rattle.bench_threads.proofs.turn.Given as goal
 
 abbrev pub ghosts-timed_one : goal.ghosts-timed_one

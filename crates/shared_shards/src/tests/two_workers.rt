@@ -1,17 +1,21 @@
 //! A caller that knows what its passes have seen, by the contracts alone.
 
-ghost use Rattle.std.specs.Prelude.{◌≡◌, ◌<◌, ◌∷◌, ℕ, [], IfOk, IfSome, OnOk};
-ghost use Rattle.semantics.specs.declared.call.Caller.TheVariants.{Worker};
+ghost use Rattle.std.specs.Prelude.{◌≡◌, ◌<◌, ◌∷◌, ℕ, [], IfOk, length};
+ghost use Rattle.semantics.specs.declared.call.Caller.TheVariants.{Controller, Reclaimer, Worker};
+ghost use Rattle.journals.specs.JournalsView.{entries_at};
 ghost use Rattle.shared_shards.specs.CallerView.{nothing_seen};
 ghost use Rattle.shared_shards.specs.NewShards.{IsNamed};
-ghost use Rattle.shared_shards.specs.Passes.{view_at};
-ghost use Rattle.shared_shards.specs.TwoWorkers.{one_element, for_two, its_plan, HasLoaded, AreDone};
+ghost use Rattle.shared_shards.specs.Passes.{own_at, view_at};
+ghost use Rattle.shared_shards.specs.TwoWorkers.{one_element, for_two, its_plan, HasLoaded, AreDone, AreTheFour};
 
+use crate::laws::all_entries_are_somebodys;
+use crate::tests::length_of;
 use crate::{Naming, Opened, Pass, Shards};
 use ebpf_decode::{Image, Insn, MapDef, MapKind, Version};
 use journal::CellRange;
+use journals::Journals;
 use semantics::{Caller, JournalFull, Options};
-use std::alloc::Global;
+use std::alloc::{AllocError, Global};
 use std::marker::Brand;
 use std::process::Abort;
 use std::sync::Wait;
@@ -66,6 +70,7 @@ fn two_workers<B: Naming>(
     requires options { shards.now.options ≡ for_two }
     requires first { (first.old.who ≡ Worker 0) × (view_at first.old 0 ≡ nothing_seen) }
     requires second { (second.old.who ≡ Worker 1) × (view_at second.old 0 ≡ nothing_seen) }
+    ensures who { (first.new.who ≡ Worker 0) × (second.new.who ≡ Worker 1) }
     ensures row { IfOk result (λ word. AreDone (view_at first.new 0) (view_at second.new 0) word) }
 {
     let word = enter_find_load(rt, shards, first)?;
@@ -73,6 +78,40 @@ fn two_workers<B: Naming>(
     shards.enter(rt, second, 0)?;
     shards.leave(rt, first, 0);
     Ok(word)
+}
+
+/// The passes of all callers, by their places.
+fn all_four<B: Naming>(
+    alloc: Global,
+    controller: Pass<B>,
+    reclaimer: Pass<B>,
+    first: Pass<B>,
+    second: Pass<B>,
+) -> Result<Vec<Pass<B>>, AllocError>
+    requires controller { (controller.who ≡ Controller) × (own_at controller 0 ≡ []) }
+    requires reclaimer { (reclaimer.who ≡ Reclaimer) × (own_at reclaimer 0 ≡ []) }
+    requires first { (first.who ≡ Worker 0) × (length (own_at first 0) ≡ 4) }
+    requires second { (second.who ≡ Worker 1) × (length (own_at second 0) ≡ 1) }
+    ensures { IfOk result (λ passes. AreTheFour passes.items) }
+{
+    let mut passes = Vec::with_capacity(alloc, 4)?;
+    passes.push_reserved(controller);
+    passes.push_reserved(reclaimer);
+    passes.push_reserved(first);
+    passes.push_reserved(second);
+    Ok(passes)
+}
+
+/// The journal, when the shards are closed: five entries, since each is of one of the four callers.
+fn closed<B: Naming>(rt: &impl Wait, shards: Shards<B>, passes: Vec<Pass<B>>) -> Journals
+    requires maps { shards.maps ≡ one_element ∷ [] }
+    requires options { shards.options ≡ for_two }
+    requires passes { AreTheFour passes.items }
+    ensures { length (entries_at result 0) ≡ 5 }
+{
+    planned(&shards);
+    all_entries_are_somebodys();
+    shards.close(rt, passes)
 }
 
 /// The shard of one array of one element.
@@ -105,10 +144,18 @@ fn row<B: Naming, R: Abort + Wait>(rt: &R, alloc: Global, opened: Opened) -> Res
     requires options { opened.options ≡ for_two }
 {
     let (shards, mut dealer) = opened.share::<B>(alloc)?;
+    let controller = dealer.pass(alloc, Caller::Controller)?;
+    let reclaimer = dealer.pass(alloc, Caller::Reclaimer)?;
     let mut first = dealer.pass(alloc, Caller::Worker { number: 0 })?;
     let mut second = dealer.pass(alloc, Caller::Worker { number: 1 })?;
-    let word = two_workers(rt, &shards, &mut first, &mut second);
-    assert_eq!(rt; word, Ok(0));
+    match two_workers(rt, &shards, &mut first, &mut second) {
+        Ok(word) => {
+            let passes = all_four(alloc, controller, reclaimer, first, second)?;
+            let journals = closed(rt, shards, passes);
+            assert_eq!(rt; (word, length_of(&journals, 0)), (0, 5));
+        }
+        Err(_full) => assert!(rt; false),
+    }
     Ok(())
 }
 

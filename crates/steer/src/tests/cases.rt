@@ -11,8 +11,7 @@ use super::frames::Drawn;
 use super::numbers::Numbers;
 use super::sessions::{put_session, run_session};
 use super::worlds::{Keys, World};
-use conntrack::{Choice, FlowRecord, SteeringMap, choose, index_key};
-use ipip::encapsulate;
+use conntrack::{Choice, SteeringMap, choose, index_key, steer};
 use isa::AtomicOp;
 use semantics::{Call, CellRef, Key, Value};
 use shards::Shards;
@@ -86,8 +85,7 @@ impl Case {
         let bytes = self.drawn.bytes();
         let mut frame = Frame::of(alloc, bytes)?;
         let mut wanted = Frame::of(alloc, bytes)?;
-        let choice = self.choice(&frame);
-        self.send(rt, choice, &mut wanted);
+        let choice = steer(&mut wanted, &self.world.records(&self.keys()));
         let is_put = put_session(verified.image(), shards, &self.world, &self.keys());
         assert_eq!(rt; is_put, Ok(true));
         let exit = run_session(verified, shards, &mut frame)?;
@@ -98,14 +96,6 @@ impl Case {
         } else {
             None
         })
-    }
-
-    /// The frame goes into the tunnel, if the rule sends it.
-    fn send(&self, rt: &impl Abort, choice: Choice, frame: &mut Frame) {
-        if let Choice::Tx { address, .. } = choice {
-            let sent = encapsulate(frame, self.world.tunnel_to(address));
-            assert_eq!(rt; sent, Ok(()));
-        }
     }
 
     /// What the run asked has to be what the rule says: the changes are these and no others, and so many calls are made in all.
@@ -132,18 +122,11 @@ impl Case {
 
 /// What the rule says of the flows: the Update that notes the backend.
 fn note_of(choice: Choice, flow: Option<&FlowKey>) -> Option<Call> {
-    let Choice::Tx {
-        number: backend,
-        updates_flows: true,
-        ..
-    } = choice
-    else {
-        return None;
-    };
+    let (key, value) = choice.flow_update(flow?)?;
     Some(Call::Update {
         shard: SteeringMap::Flows.place(),
-        key: Key::of(&flow?.bytes())?,
-        value: Value::of(&FlowRecord { backend }.bytes())?,
+        key: Key::of(&key)?,
+        value: Value::of(&value)?,
         flags: 0,
     })
 }

@@ -5,7 +5,6 @@ use conntrack::{
     Assigned, BackendRecord, FlowRecord, Records, RingRecord, SteeringMap, TunnelRecord, VipRecord,
     index_key,
 };
-use ipip::Tunnel;
 use wire::{Ipv4Address, fnv1a64};
 
 /// What the maps hold, as bytes.
@@ -285,11 +284,6 @@ impl World {
     fn owner(&self, keys: &Keys) -> Option<u32> {
         let slot = fnv1a64(&keys.flow) % 7;
         RingRecord::of(&self.slots[slot as usize]).owner
-    }
-
-    /// The tunnel to a backend's address.
-    pub(super) fn tunnel_to(&self, address: Ipv4Address) -> Tunnel {
-        TunnelRecord::of(&self.tunnel).to(address)
     }
 
     /// What a frame with these keys finds there.

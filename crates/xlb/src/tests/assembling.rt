@@ -2,7 +2,7 @@
 
 use super::first_path::{IMAGE, TEXT};
 use super::{file, folder_of, serve_line};
-use crate::{Folder, MemoryFolder};
+use folders::{Folder, MemoryFolder};
 use std::test::Fail;
 
 #[rattlefmt::skip]
@@ -11,11 +11,11 @@ const ROWS: [(&str, &[u8], &str); 12] = [
     ("register 11",               b"version 1\nmov r11, 1\nexit\n",               "fault 21 BadLine line 2\n"),
     ("minus zero",                b"version 1\nmov r0, -0\nexit\n",               "fault 21 BadLine line 2\n"),
     ("above its field",           b"version 1\nmov r0, 4294967295\nexit\n",       "fault 21 BadLine line 2\n"),
-    ("a short number",            b"version 1\nlddw r1, 0x2\nexit\n",             "fault 21 BadLine line 2\n"),
-    ("no last line feed",         b"version 1\nexit",                             "fault 21 BadLine line 2\n"),
+    ("a short number",            b"version 1\nlddw r1, 0x2\nexit\n",             "fault 21 BadLine line 2\n  TEXT is in the source form: 'xlb asm --source' makes an image of it\n"),
+    ("no last line feed",         b"version 1\nexit",                             "fault 21 BadLine line 2\n  TEXT is in the source form: 'xlb asm --source' makes an image of it\n"),
     ("no text",                   b"",                                            "fault 21 BadLine line 1\n"),
-    ("no instructions",           b"version 1\n",                                 "fault 22 Image decode 12\n"),
-    ("a map of no entries",       b"version 1\nmap array 4 8 0\nexit\n",          "fault 22 Image decode 11\n"),
+    ("no instructions",           b"version 1\n",                                 "fault 22 Image decode 12\n  there is no instruction\n"),
+    ("a map of no entries",       b"version 1\nmap array 4 8 0\nexit\n",          "fault 22 Image decode 11\n  line 2: map 0 has a size that no such map may have\n"),
     ("not UTF-8, line 1",         b"\xffersion 1\nexit\n",                        "fault 21 BadLine line 1\n"),
     ("not UTF-8, line 3",         b"version 1\nmov r0, 2\nex\xc3(t\n",            "fault 21 BadLine line 3\n"),
     ("not UTF-8 before bad line", b"version 1\nbad\nmov r0, 2\n\xe2\x82\n",       "fault 21 BadLine line 4\n"),

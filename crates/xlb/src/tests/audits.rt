@@ -1,7 +1,7 @@
 //! Files of journals, written by hand, and what an audit says of them.
 
 use super::{Given, file, serve_line};
-use crate::{Folder, MemoryFolder};
+use folders::{Folder, MemoryFolder};
 use std::alloc::Global;
 use std::process::Abort;
 use std::sync::Wait;
@@ -170,9 +170,18 @@ fn refuses_files(rt: HostRuntime) -> Result<(), Fail> {
 
 /// Command lines over a folder that has journals and no image.
 const NOT_THERE: [(&str, &str); 3] = [
-    ("xlb audit nosuch journals", "fault 7 Device\n"),
-    ("xlb audit journals nosuch", "fault 10 BadHead\n"),
-    ("xlb audit image nosuch", "fault 7 Device\n"),
+    (
+        "xlb audit nosuch journals",
+        "fault 7 Device\n  cannot open nosuch: there is no such file\n",
+    ),
+    (
+        "xlb audit journals nosuch",
+        "fault 10 BadHead\n  IMAGE begins as a file of journals does: are the arguments swapped?\n",
+    ),
+    (
+        "xlb audit image nosuch",
+        "fault 7 Device\n  cannot open nosuch: there is no such file\n",
+    ),
 ];
 
 #[test]

@@ -4,8 +4,10 @@ ghost use Rattle.std.specs.Prelude.{None};
 
 use super::first_path::IMAGE;
 use super::folder_of;
-use crate::{Folder, FolderFault, Settings, serve};
-use std::alloc::Global;
+use crate::{NoProgress, serve};
+use command_line::Settings;
+use folders::{Folder, FolderFault, Front};
+use std::alloc::{AllocError, Global};
 use std::test::Fail;
 use wire::{Failed, MemorySink, Sink};
 
@@ -50,6 +52,15 @@ impl Folder for FullFolder {
         }
     }
 
+    fn read_front(
+        &mut self,
+        _alloc: Global,
+        _name: &str,
+        _most: usize,
+    ) -> Result<Front, FolderFault> {
+        Err(FolderFault::Memory)
+    }
+
     fn write(&mut self, _alloc: Global, _name: &str, _bytes: &[u8]) -> Result<(), FolderFault> {
         match self.fault {
             FolderFault::Device => {
@@ -63,6 +74,10 @@ impl Folder for FullFolder {
     fn failures(&self) -> u64 {
         self.failures
     }
+
+    fn complaint(&self, alloc: Global, name: &str) -> Result<String, AllocError> {
+        format!(in alloc; "cannot write {name}: it is full")
+    }
 }
 
 #[test]
@@ -71,8 +86,19 @@ fn tells_a_broken_output(rt: HostRuntime) -> Result<(), Fail> {
     let mut folder = folder_of(alloc, ("image", IMAGE), ("b", ""))?;
     let mut out = BrokenSink { failures: 0 };
     let mut err = MemorySink::new(alloc);
-    let settings = Settings::Check { image: "image" };
-    let status = serve(&rt, alloc, &settings, &mut folder, &mut out, &mut err);
+    let settings = Settings::Check {
+        image: "image",
+        explain: false,
+    };
+    let status = serve(
+        &rt,
+        alloc,
+        &settings,
+        &mut folder,
+        &NoProgress,
+        &mut out,
+        &mut err,
+    );
     assert_eq!(rt; status, 1);
     assert!(rt; err.bytes() == b"fault 7 Device\n".as_slice());
     assert!(rt; out.failures() == 1);
@@ -85,15 +111,29 @@ fn survives_a_broken_error_stream(rt: HostRuntime) -> Result<(), Fail> {
     let mut folder = folder_of(alloc, ("image", IMAGE), ("b", ""))?;
     let mut out = MemorySink::new(alloc);
     let mut err = BrokenSink { failures: 0 };
-    let settings = Settings::Check { image: "nosuch" };
-    let status = serve(&rt, alloc, &settings, &mut folder, &mut out, &mut err);
+    let settings = Settings::Check {
+        image: "nosuch",
+        explain: false,
+    };
+    let status = serve(
+        &rt,
+        alloc,
+        &settings,
+        &mut folder,
+        &NoProgress,
+        &mut out,
+        &mut err,
+    );
     assert_eq!(rt; status, 1);
     assert!(rt; out.bytes().is_empty());
     Ok(())
 }
 
 const FULL: [(FolderFault, &str); 2] = [
-    (FolderFault::Device, "fault 7 Device\n"),
+    (
+        FolderFault::Device,
+        "fault 7 Device\n  cannot write made: it is full\n",
+    ),
     (FolderFault::Memory, "fault 8 Memory\n"),
 ];
 
@@ -112,8 +152,17 @@ fn tells_a_full_folder(rt: HostRuntime) -> Result<(), Fail> {
         let settings = Settings::Asm {
             text: "text",
             out: "made",
+            source: false,
         };
-        let status = serve(&rt, alloc, &settings, &mut folder, &mut out, &mut err);
+        let status = serve(
+            &rt,
+            alloc,
+            &settings,
+            &mut folder,
+            &NoProgress,
+            &mut out,
+            &mut err,
+        );
         assert_eq!(rt; status, 1, "{want}");
         assert!(rt; err.bytes() == want.as_bytes(), "{want}");
     }

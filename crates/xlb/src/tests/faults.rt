@@ -1,21 +1,27 @@
 //! The faults that commands print, and their explanations.
 
 use super::serve_line;
-use crate::{Fault, FolderFault, MemoryFolder};
+use crate::{Fault, fault_line};
 use audit::AuditFault;
+use conntrack::SteerFault;
+use control::ControlFault;
 use disasm::AsmFault;
 use ebpf_decode::DecodeFault;
 use explanations::Explanation;
+use folders::{FolderFault, MemoryFolder};
 use journal_files::FileFault;
 use machine::Stop;
+use replay::ReplayFault;
 use shards::OpenFault;
+use source_form::{Problem, SourceFault};
+use std::alloc::{AllocError, Global};
 use std::test::Fail;
 use verifier::Reject;
-use wire::FrameFault;
+use wire::{CaptureFault, FrameFault};
 
 /// The faults that commands print.
 #[rattlefmt::skip]
-const FAULTS: [Fault; 49] = [
+const FAULTS: [Fault; 71] = [
     Fault::Folder(FolderFault::Device),
     Fault::Folder(FolderFault::Memory),
     Fault::Output,
@@ -65,6 +71,28 @@ const FAULTS: [Fault; 49] = [
     Fault::Journals(FileFault::BadJournalFile { line: 3 }),
     Fault::Audit(AuditFault::Memory),
     Fault::Audit(AuditFault::Illegal { shard: 0, place: 3 }),
+    Fault::Source(SourceFault::BadLine { line: 70_000, problem: Problem::NoNumber }),
+    Fault::Source(SourceFault::Image(DecodeFault::TooLong)),
+    Fault::Source(SourceFault::Memory),
+    Fault::Steering(SteerFault::BadSize),
+    Fault::Steering(SteerFault::Memory),
+    Fault::Script(ControlFault::BadSize),
+    Fault::Script(ControlFault::BadLine { line: 70_000 }),
+    Fault::Script(ControlFault::UnknownBackend),
+    Fault::Script(ControlFault::BackendTwice),
+    Fault::Script(ControlFault::Refused { answer: -7 }),
+    Fault::Script(ControlFault::JournalFull),
+    Fault::Script(ControlFault::Memory),
+    Fault::Capture(CaptureFault::BadMagic),
+    Fault::Capture(CaptureFault::BadVersion),
+    Fault::Capture(CaptureFault::BadLink),
+    Fault::Capture(CaptureFault::CutHead { record: 0 }),
+    Fault::Capture(CaptureFault::CutFrame { record: 5_000_000_000 }),
+    Fault::Capture(CaptureFault::FrameTooLong { record: 3 }),
+    Fault::Capture(CaptureFault::Device),
+    Fault::Capture(CaptureFault::Memory),
+    Fault::Replay(ReplayFault::BadOptions),
+    Fault::Replay(ReplayFault::NoThread),
 ];
 
 /// The number behind the word `fault` of a fault's text.
@@ -78,11 +106,44 @@ fn number_in(text: &str) -> u32 {
 #[test]
 fn faults_are_explained_under_their_names(rt: HostRuntime) -> Result<(), Fail> {
     for fault in FAULTS {
-        let text = format!(in rt.alloc(); "{fault} ")?;
+        let line = fault_line(rt.alloc(), fault)?;
+        let text = format!(in rt.alloc(); "{line} ")?;
         let number = number_in(text.as_str());
         let name = Explanation::of(number).map(|row| row.name).unwrap_or("");
         let want = format!(in rt.alloc(); "fault {number} {name} ")?;
         assert!(rt; text.as_str().starts_with(want.as_str()), "{text}");
+    }
+    Ok(())
+}
+
+/// The text that the fault's own crate gives it.
+fn own_text(alloc: Global, fault: Fault) -> Result<String, AllocError> {
+    match fault {
+        Fault::Folder(fault) => format!(in alloc; "{fault}"),
+        Fault::Decode(fault) => format!(in alloc; "{fault}"),
+        Fault::Text(fault) => format!(in alloc; "{fault}"),
+        Fault::Source(fault) => format!(in alloc; "{fault}"),
+        Fault::Program(fault) => format!(in alloc; "{fault}"),
+        Fault::Frame(fault) => format!(in alloc; "{fault}"),
+        Fault::Options(fault) => format!(in alloc; "{fault}"),
+        Fault::Run(fault) => format!(in alloc; "{fault}"),
+        Fault::Journals(fault) => format!(in alloc; "{fault}"),
+        Fault::Audit(fault) => format!(in alloc; "{fault}"),
+        Fault::Steering(fault) => format!(in alloc; "{fault}"),
+        Fault::Script(fault) => format!(in alloc; "{fault}"),
+        Fault::Capture(fault) => format!(in alloc; "{fault}"),
+        Fault::Replay(fault) => format!(in alloc; "{fault}"),
+        Fault::Output => String::from_str(alloc, "fault 7 Device"),
+        Fault::Memory => String::from_str(alloc, "fault 8 Memory"),
+    }
+}
+
+#[test]
+fn lines_are_the_texts_of_the_crates(rt: HostRuntime) -> Result<(), Fail> {
+    for fault in FAULTS {
+        let line = fault_line(rt.alloc(), fault)?;
+        let text = own_text(rt.alloc(), fault)?;
+        assert_eq!(rt; line.as_str(), text.as_str());
     }
     Ok(())
 }

@@ -34,14 +34,14 @@ const ROWS: [Row; 19] = [
     ("worker 8",                  "0000000000000000000000000003", "xlb run image frame --worker 8", 1, "", "fault 51 BadOptions\n"),
     ("worker 9",                  "0000000000000000000000000003", "xlb run image frame --worker 9", 1, "", "fault 51 BadOptions\n"),
     ("the frame before worker 9", "00000000000000000000000003", "xlb run image frame --worker 9", 1, "", "fault 9 ShortFrame\n"),
-    ("no frame before worker 9",  "0000000000000000000000000003", "xlb run image nosuch --worker 9", 1, "", "fault 7 Device\n"),
-    ("the image before worker 9", "0000000000000000000000000003", "xlb run nosuch frame --worker 9", 1, "", "fault 7 Device\n"),
+    ("no frame before worker 9",  "0000000000000000000000000003", "xlb run image nosuch --worker 9", 1, "", "fault 7 Device\n  cannot open nosuch: there is no such file\n"),
+    ("the image before worker 9", "0000000000000000000000000003", "xlb run nosuch frame --worker 9", 1, "", "fault 7 Device\n  cannot open nosuch: there is no such file\n"),
     ("an image of a frame",       "0000000000000000000000000003", "xlb run frame frame", 1, "", "fault 10 BadHead\n"),
-    ("no frame",                  "0000000000000000000000000003", "xlb run image nosuch", 1, "", "fault 7 Device\n"),
-    ("no image",                  "0000000000000000000000000003", "xlb run nosuch frame", 1, "", "fault 7 Device\n"),
-    ("no image to check",         "", "xlb check nosuch", 1, "", "fault 7 Device\n"),
-    ("no image to print",         "", "xlb disasm nosuch", 1, "", "fault 7 Device\n"),
-    ("no text to assemble",       "", "xlb asm nosuch made", 1, "", "fault 7 Device\n"),
+    ("no frame",                  "0000000000000000000000000003", "xlb run image nosuch", 1, "", "fault 7 Device\n  cannot open nosuch: there is no such file\n"),
+    ("no image",                  "0000000000000000000000000003", "xlb run nosuch frame", 1, "", "fault 7 Device\n  cannot open nosuch: there is no such file\n"),
+    ("no image to check",         "", "xlb check nosuch", 1, "", "fault 7 Device\n  cannot open nosuch: there is no such file\n"),
+    ("no image to print",         "", "xlb disasm nosuch", 1, "", "fault 7 Device\n  cannot open nosuch: there is no such file\n"),
+    ("no text to assemble",       "", "xlb asm nosuch made", 1, "", "fault 7 Device\n  cannot open nosuch: there is no such file\n"),
 ];
 
 #[test]

@@ -1,7 +1,7 @@
 //! Programs judged, each from its text.
 
 use super::{file, serve_line};
-use crate::{Folder, MemoryFolder};
+use folders::{Folder, MemoryFolder};
 use std::test::Fail;
 
 /// What a row shows, the text, the status, and what is printed on the output and on the error stream.

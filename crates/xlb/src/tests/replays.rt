@@ -1,9 +1,9 @@
 //! Replays: what they print, and the files that they leave.
 
 use super::{Given, file, serve_line};
-use crate::{Folder, MemoryFolder};
 use disasm::assemble;
 use ebpf_decode::encode;
+use folders::{Folder, MemoryFolder};
 use std::alloc::Global;
 use std::process::Abort;
 use std::sync::Wait;
@@ -82,7 +82,7 @@ type Input = (
 type Output = (u8, &'static str, &'static str, [&'static str; 3]);
 
 #[rattlefmt::skip]
-const ROWS: [(Input, Output); 18] = [
+const ROWS: [(Input, Output); 19] = [
     (("one frame is sent",        COUNTS_TO_THREE, "", [HEAD, OF_14, ZEROS, "", "", ""], "--image image --journal 16"), (0, ONE_TX, "", [HEAD, OF_14, ZEROS])),
     (("none is",                  SENDS, "", [HEAD, "", "", "", "", ""], "--image image"), (0, NO_FRAME, "", [HEAD, "", ""])),
     (("13 bytes are short",       SENDS, "", [HEAD, OF_13, ZEROS_13, "", "", ""], "--image image"), (0, ONE_SHORT, "", [HEAD, "", ""])),
@@ -95,11 +95,12 @@ const ROWS: [(Input, Output); 18] = [
     (("no script",                "", "", [HEAD, OF_42, DATAGRAM, "", "", ""], "--script script"), (0, ONE_PASS, "", [HEAD, "", ""])),
     (("a backend that isn't up",  "", "0 down 3\n", [HEAD, "", "", "", "", ""], "--script script"), (1, "frames 0\nshort 0\nstopped 0\naborted 0\ndrop 0\npass 0\ntx 0\ncommand 1 refused 91\n", "", [HEAD, "", ""])),
     (("a backend twice",          "", "0 up 0 10.0.0.1\n0 up 0 10.0.0.1\n", [HEAD, "", "", "", "", ""], "--script script"), (1, "frames 0\nshort 0\nstopped 0\naborted 0\ndrop 0\npass 0\ntx 0\ncommand 2 refused 92\n", "", [HEAD, "", ""])),
+    (("a down and a full journal", "", "0 up 0 10.0.0.1\n0 up 1 10.0.0.2\n0 down 0\n0 up 2 10.0.0.3\n", [HEAD, "", "", "", "", ""], "--script script --journal 400"), (1, "frames 0\nshort 0\nstopped 0\naborted 0\ndrop 0\npass 0\ntx 0\ncommand 3 refused 94\ncommand 4 refused 94\n", "", [HEAD, "", ""])),
     (("an image before a script", UNSET, "0 up\n", ["", "", "", "", "", ""], "--image image"), (1, "", "fault 35 UnsetRegister slot 0 register 0\n", ["", "", ""])),
     (("a ring before a script",   "", "0 up\n", ["", "", "", "", "", ""], "--script script --ring 8"), (1, "", "fault 73 BadSize\n", ["", "", ""])),
     (("a script before a capture", "", "0 vip 203.0.113.1 80 udp  notrack\n", ["", "", "", "", "", ""], "--script script"), (1, "", "fault 90 BadLine line 1\n", ["", "", ""])),
-    (("an empty capture",         SENDS, "", ["", "", "", "", "", ""], "--image image --workers 9"), (1, "", "fault 4 CutHead record 0\n", ["", "", ""])),
-    (("a cut third record",       SENDS, "", [HEAD, OF_14, ZEROS, OF_14, ZEROS, "01000000020000000e0000000e00000000"], "--image image"), (1, "", "fault 5 CutFrame record 3\n", ["", "", ""])),
+    (("an empty capture",         SENDS, "", ["", "", "", "", "", ""], "--image image --workers 9"), (1, "", "fault 4 CutHead record 0\n  at byte 0 of 0\n", ["", "", ""])),
+    (("a cut third record",       SENDS, "", [HEAD, OF_14, ZEROS, OF_14, ZEROS, "01000000020000000e0000000e00000000"], "--image image"), (1, "", "fault 5 CutFrame record 3\n  at byte 84 of 101\n", ["", "", ""])),
     (("nine workers",             SENDS, "", [HEAD, OF_14, ZEROS, "", "", ""], "--image image --workers 9"), (1, "", "fault 51 BadOptions\n", ["", "", ""])),
 ];
 

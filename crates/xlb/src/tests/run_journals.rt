@@ -1,7 +1,7 @@
 //! Journals of runs, as `--journals` writes them.
 
 use super::{file, serve_line};
-use crate::{Folder, MemoryFolder};
+use folders::{Folder, MemoryFolder};
 use std::alloc::Global;
 use std::process::Abort;
 use std::sync::Wait;

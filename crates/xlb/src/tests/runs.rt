@@ -1,7 +1,7 @@
 //! Programs run, each from its text.
 
 use super::{Given, file, serve_line};
-use crate::{Folder, MemoryFolder};
+use folders::{Folder, MemoryFolder};
 use std::alloc::{AllocError, Global};
 use std::process::Abort;
 use std::sync::Wait;
@@ -125,7 +125,10 @@ fn refuses_4097_instructions(rt: HostRuntime) -> Result<(), Fail> {
     let mut folder = MemoryFolder::new(alloc);
     folder.write(alloc, "text", text.as_bytes())?;
     let found = serve_line(&rt, alloc, folder, "xlb asm text image")?;
-    assert!(rt; found.err.bytes() == b"fault 22 Image decode 14\n".as_slice());
+    assert!(rt;
+        found.err.bytes()
+            == b"fault 22 Image decode 14\n  line 4098: an image has at most 4096 slots\n".as_slice()
+    );
     Ok(())
 }
 

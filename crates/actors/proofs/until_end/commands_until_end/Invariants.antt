@@ -1,6 +1,6 @@
 use Rattle.std.proofs.Common.{◌≡◌, false}
 use Rattle.rx_queues.specs.Passes.{IsTakePassOf, jobs_taken, place_taken_from}
-use Rattle.actors.specs.Jobs.{AreNotedSince}
+use Rattle.actors.proofs.JobLemmas.{AreNotedSince}
 use Rattle.actors.proofs.until_end.commands_until_end.Given as goal
 
 pub record Taken (g : goal.Over) (l : goal.Live-jobs g) : Type 0 where

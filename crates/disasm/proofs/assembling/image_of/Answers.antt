@@ -1,4 +1,4 @@
-use Rattle.std.proofs.Common.{◌≡◌, ◌++◌, ◌∙◌, ap, sym, ℕ, List, arith, refl, Some, None}
+use Rattle.std.proofs.Common.{◌≡◌, ◌∙◌, sym, arith, refl, Some, None}
 use Rattle.ebpf_decode.specs.declared.fault.DecodeFault.{DecodeFault}
 use Rattle.ebpf_decode.specs.ImageFormat.{first_part_fault}
 use Rattle.disasm.proofs.Texts.{same_parts, bad_after, faulty, no_fault, not_empty, is_empty}

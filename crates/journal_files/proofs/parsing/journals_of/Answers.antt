@@ -6,7 +6,7 @@ use Rattle.journal_files.proofs.parsing.journals_of.Goals as goal
 pub returns-in-Err-clause-refused : goal.returns-in-Err-clause-refused
 returns-in-Err-clause-refused c =
     let bad = c.in-Err.ensures.no_text in
-    rw bad.1 (inl bad.2, λ journals file. bad.2.not_utf8 (is_text c.args.maps.now c.args.bytes.now journals file))
+    (inl bad, λ journals file. bad.not_utf8 (is_text c.args.maps.now c.args.bytes.now journals file))
 
 pub returns-in-Err-clause-only : goal.returns-in-Err-clause-only
-returns-in-Err-clause-only c = λ journals file. absurd (c.in-Err.ensures.no_text.2.not_utf8 (is_text c.args.maps.now c.args.bytes.now journals file))
+returns-in-Err-clause-only c = λ journals file. absurd (c.in-Err.ensures.no_text.not_utf8 (is_text c.args.maps.now c.args.bytes.now journals file))

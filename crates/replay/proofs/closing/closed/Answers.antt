@@ -7,7 +7,9 @@ use Rattle.workers.specs.Accounts.{lists_of, AreRunsOfShares, counts_of, sent_of
 use Rattle.workers.specs.Shares.{frames_of}
 use Rattle.replay.specs.Parts.{IsScriptAccounted, rounds_of}
 use Rattle.replay.specs.Runs.{pass_in}
-use Rattle.replay.proofs.Accounts.{shares, work, of_lists, of_read}
+use Rattle.replay.specs.Accounted.{IsAccounted}
+use Rattle.replay.specs.declared.outcome.Outcome.{Outcome}
+use Rattle.replay.proofs.Accounts.{shares, work, of_lists, of_read, outcome_is}
 use Rattle.replay.proofs.PartLemmas.{all_settled, script_stands, rounds_stand}
 use Rattle.replay.proofs.closing.closed.Goals as goal
 
@@ -34,8 +36,10 @@ returns g c =
     let workers_passes : length (map pass_in working) ≡ workers = length-map working pass_in ∙ c.in_ok-runs.ensures.count.1 ∙ c.requires.count in
     let settled = all_settled g.B.Naming.count journals c.in_ok-passes.passes.items (map pass_in working) c.args.commanded.pass c.args.reclaimed
     c.in_ok-passes.ensures c.close-journals.ensures.settled in
+    let told = c.outcome_of.ensures in
+    let is = outcome_is c.outcome_of.result c.in_ok-counts.counts c.in_ok-counts.sent journals told.counts told.sent told.journals in
     record {
-      accounted = record {
+      accounted = subst (λ (outcome : Outcome). IsAccounted program c.args.script.now c.args.shards.options records outcome) (sym is) (record {
         maps = c.close-journals.ensures.maps ∙ c.requires.maps;
         options_are = c.close-journals.ensures.options;
         count = g.B.Naming.count;
@@ -53,12 +57,12 @@ returns g c =
         each_once = c.in_ok-counts.ensures.frames;
         sent = of_lists (λ n runs. sent_frames c.in_ok-counts.sent.items ≡ sent_of frames n runs (length records)) c.deref.result.now lists workers c.deref.ensures.value
             as_many c.in_ok-counts.ensures.sent;
-        commands = subst (λ maps. IsScriptAccounted g.B.Naming.plan maps c.args.shards.options g.B.Naming.count c.args.script.now journals c.refused.result.items)
+        commands = subst (λ maps. IsScriptAccounted g.B.Naming.plan maps c.args.shards.options g.B.Naming.count c.args.script.now journals c.outcome_of.result.refused.items)
             c.requires.maps
             (script_stands g.B.Naming.plan c.args.shards.maps c.args.shards.options g.B.Naming.count c.args.script.now c.args.size c.args.commanded.noted.items
-            c.args.commanded.pass journals c.refused.result.items c.planned.ensures.plans c.planned.ensures.options c.requires.script settled.next
-            c.refused.ensures);
+            c.args.commanded.pass journals c.outcome_of.result.refused.items c.planned.ensures.plans c.planned.ensures.options c.requires.size c.requires.serves c.requires.script
+            settled.next told.refused);
         rounds = rounds_stand g.B.Naming.plan g.B.Naming.count (rounds_of (length records)) journals c.args.reclaimed c.requires.rounds.1 settled.last
             c.requires.rounds.0;
-      };
+      });
     }

@@ -1,4 +1,4 @@
-use Rattle.std.proofs.Common.{◌≡◌, ◌<◌, ◌≤◌, ℕ, List, length, refl, sym, ap, ◌∙◌, subst, arith}
+use Rattle.std.proofs.Common.{◌≡◌, ◌<◌, List, length, sym, ap, ◌∙◌, subst, arith}
 use Rattle.semantics.specs.declared.call.Entry.{Entry}
 use Rattle.shard_core.specs.JournaledShard.{JournaledShard}
 use Rattle.shared_shards.specs.CallerView.{IsSettled}

@@ -1,13 +1,14 @@
 use Rattle.std.proofs.Common.{◌≡◌, ◌≤◌, ◌<◌, ℕ, [], length}
 use Rattle.std.specs.Prelude.{vec_capacity}
-use Rattle.shared_shards.specs.HeldCells.{held_at}
+use Rattle.shared_shards.specs.HeldCells.{held_at, room_at, room_of}
 use Rattle.shared_shards.proofs.held.none_held.Given as goal
 
 pub record Made (l : goal.Live-lists) : Type 0 where
-  pub counted : length l.held.items ≡ l._number
-  pub enough : l.count ≤ vec_capacity l.held
-  pub none : (k : ℕ) → k < l._number → (held_at l.held.items k).ids ≡ []
-  pub room : (k : ℕ) → k < l._number → l.room ≤ (held_at l.held.items k).room
+  pub end_is : l.number-end ≡ length l.rooms
+  pub counted : length l.held.items ≡ l.number
+  pub enough : length l.rooms ≤ vec_capacity l.held
+  pub none : (k : ℕ) → k < l.number → (held_at l.held.items k).ids ≡ []
+  pub room : (k : ℕ) → k < l.number → room_of l.who (room_at l.rooms k) ≤ (held_at l.held.items k).room
 
 abbrev pub invariant-lists : goal.invariant-lists
 invariant-lists l = Made l

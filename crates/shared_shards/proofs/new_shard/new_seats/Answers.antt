@@ -1,4 +1,4 @@
-use Rattle.std.proofs.Common.{◌≡◌, ap, arith}
+use Rattle.std.proofs.Common.{ap}
 use Rattle.shared_shards.proofs.Moves.{deals}
 use Rattle.shared_shards.proofs.new_shard.new_seats.Goals as goal
 

@@ -1,4 +1,4 @@
-use Rattle.std.proofs.Common.{◌≡◌, ◌+◌, ◌<◌, ◌≤◌, ℕ, [], length}
+use Rattle.std.proofs.Common.{◌≡◌, ◌≤◌, [], length}
 use Rattle.std.specs.Prelude.{vec_capacity}
 use Rattle.shared_shards.specs.LengthRule.{keeper_of}
 use Rattle.shared_shards.specs.NewShards.{AreNewSeats}

@@ -1,4 +1,4 @@
-use Rattle.std.proofs.Common.{◌≡◌, ◌<◌, ◌+◌, ℕ, List, [], ◌∷◌, length, refl, sym, ap, ◌∙◌, subst, arith, length-append}
+use Rattle.std.proofs.Common.{◌≡◌, ◌<◌, ◌+◌, ℕ, List, length, sym, ap, ◌∙◌, subst, arith, length-append}
 use Rattle.std.specs.Prelude.{reverse}
 use Rattle.atomic_table.specs.Seated.{TableId}
 use Rattle.atomic_table.specs.declared.badge.Badge.{Badge}
@@ -7,6 +7,7 @@ use Rattle.semantics.specs.declared.plan.ShardPlan.{ShardPlan}
 use Rattle.shared_shards.specs.declared.rule.Known.{Known}
 use Rattle.shared_shards.specs.Each.{Each}
 use Rattle.shared_shards.specs.Seats.{IsKeeper}
+use Rattle.shared_shards.specs.HeldCells.{most_held, IsRoomOf}
 use Rattle.shared_shards.specs.SharedMaps.{IsWordOf, AreWords}
 use Rattle.shared_shards.specs.NewShards.{NewShardView, no_shard, new_at, AreNewSeats, IsNamedAt, IsRowOf}
 use Rattle.shared_shards.proofs.Each.{each_push, each_first, each_rest, each_none, each_start, at_or}
@@ -32,6 +33,9 @@ shards-init g c = record {
   desks_room = (let enough = c.in_ok-desks.ensures.capacity in omega (arith, enough));
   words_room = (let enough = c.in_ok-words.ensures.capacity in omega (arith, enough));
   rows_room = (let enough = c.in_ok-rows.ensures.capacity in omega (arith, enough));
+  rooms_made = ap (λ xs. length xs) c.in_ok-rooms.ensures.items;
+  rooms_are = subst (λ xs. Each (IsRoomOf g.B.Naming.plan) 0 xs) (sym c.in_ok-rooms.ensures.items) (each_none (IsRoomOf g.B.Naming.plan) 0);
+  rooms_room = (let enough = c.in_ok-rooms.ensures.capacity in omega (arith, enough));
 }
 
 pub new-requires-clause-plan : goal.new-requires-clause-plan
@@ -61,7 +65,11 @@ shards-preserved g c =
     let table_is : c.shard.inside.word.shared.table_id ≡ g.B.Naming.table c.shards._number = ap (λ (v : NewShardView). v.table) c.shard.view_is ∙ first.1.table_is in
     let desks = c.push_reserved.ensures.items in
     let words = c.push_reserved-in-shards.ensures.items in
-    let rows = c.push_reserved-in-shards-2.ensures.items in record {
+    let rows = c.push_reserved-in-shards-2.ensures.items in
+    let rooms = c.push_reserved-in-shards-3.ensures.items in
+    let planned : c.shard.inside.shard.plan ≡ g.B.Naming.plan c.shards._number = ap (λ (v : NewShardView). v.plan) c.shard.view_is ∙ first.1.plan_is in
+    let cells : c.most_held-room.result ≡ most_held (g.B.Naming.plan c.shards._number) = c.most_held-room.ensures ∙ ap most_held (c.plan.ensures.plan ∙ planned) in
+    record {
       desks_made = ap (λ xs. length xs) desks ∙ length-append c.shards.desks.items _ ∙ ap (λ n. n + 1) i.desks_made;
       words_made = ap (λ xs. length xs) words ∙ length-append c.shards.words.items _ ∙ ap (λ n. n + 1) i.words_made;
       words_are = subst (λ xs. AreWords g.B.Naming.table xs) (sym words)
@@ -81,4 +89,8 @@ shards-preserved g c =
       desks_room = (let r = i.desks_room in let grown = c.push_reserved.ensures.capacity in omega (arith, r, grown));
       words_room = (let r = i.words_room in let grown = c.push_reserved-in-shards.ensures.capacity in omega (arith, r, grown));
       rows_room = (let r = i.rows_room in let grown = c.push_reserved-in-shards-2.ensures.capacity in omega (arith, r, grown));
+      rooms_made = ap (λ xs. length xs) rooms ∙ length-append c.shards.rooms.items _ ∙ ap (λ n. n + 1) i.rooms_made;
+      rooms_are = subst (λ xs. Each (IsRoomOf g.B.Naming.plan) 0 xs) (sym rooms)
+          (each_push (IsRoomOf g.B.Naming.plan) c.shards.rooms.items c.shards._number c.most_held-room.result i.rooms_made i.rooms_are (omega (arith, cells)));
+      rooms_room = (let r = i.rooms_room in let grown = c.push_reserved-in-shards-3.ensures.capacity in omega (arith, r, grown));
     }

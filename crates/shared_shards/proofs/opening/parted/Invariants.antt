@@ -4,6 +4,7 @@ use Rattle.atomic_table.specs.declared.badge.Badge.{Badge}
 use Rattle.shared_shards.specs.declared.rule.Known.{Known}
 use Rattle.shared_shards.specs.Each.{Each}
 use Rattle.shared_shards.specs.SharedMaps.{AreWords}
+use Rattle.shared_shards.specs.HeldCells.{IsRoomOf}
 use Rattle.shared_shards.specs.NewShards.{NewShardView, new_at, IsNamedAt, IsRowOf}
 use Rattle.shared_shards.proofs.opening.parted.Given as goal
 
@@ -19,6 +20,9 @@ pub record Parted (g : goal.Over) (l : goal.Live-shards g) : Type 0 where
   pub desks_room : l.count ≤ vec_capacity l.desks
   pub words_room : l.count ≤ vec_capacity l.words
   pub rows_room : l.count ≤ vec_capacity l.rows
+  pub rooms_made : length l.rooms.items ≡ l._number
+  pub rooms_are : Each (IsRoomOf g.B.Naming.plan) 0 l.rooms.items
+  pub rooms_room : l.count ≤ vec_capacity l.rooms
 
 abbrev pub invariant-shards : goal.invariant-shards
 invariant-shards g l = Parted g l

@@ -1,4 +1,4 @@
-use Rattle.std.proofs.Common.{◌≡◌, ap, sym, ◌∙◌}
+use Rattle.std.proofs.Common.{ap, ◌∙◌}
 use Rattle.shared_shards.proofs.Moves.{joins, sees}
 use Rattle.shared_shards.proofs.seats.join.Goals as goal
 

@@ -1,4 +1,4 @@
-use Rattle.std.proofs.Common.{◌≡◌, ap, sym, ◌∙◌}
+use Rattle.std.proofs.Common.{sym, ◌∙◌}
 use Rattle.shared_shards.proofs.Moves.{adds}
 use Rattle.shared_shards.proofs.seats.note.Goals as goal
 

@@ -1,5 +1,5 @@
 use Rattle.std.proofs.Common.{length}
-use Rattle.shared_shards.specs.NewShards.{table_names, plan_names}
+use Rattle.shared_shards.proofs.shared.Names.{table_names, plan_names}
 use Rattle.shared_shards.proofs.tests.a_run_keeps_room_for_its_leave.Given as goal
 
 abbrev pub ghosts-filled : goal.ghosts-filled

@@ -1,5 +1,5 @@
 use Rattle.std.proofs.Common.{length}
-use Rattle.shared_shards.specs.NewShards.{table_names, plan_names}
+use Rattle.shared_shards.proofs.shared.Names.{table_names, plan_names}
 use Rattle.shared_shards.proofs.tests.an_enter_after_14_entries_is_served.Given as goal
 
 abbrev pub ghosts-filled : goal.ghosts-filled

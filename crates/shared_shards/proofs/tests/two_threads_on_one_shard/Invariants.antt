@@ -1,5 +1,5 @@
 use Rattle.std.proofs.Common.{length}
-use Rattle.shared_shards.specs.NewShards.{table_names, plan_names}
+use Rattle.shared_shards.proofs.shared.Names.{table_names, plan_names}
 use Rattle.shared_shards.proofs.tests.two_threads_on_one_shard.Given as goal
 
 abbrev pub ghosts-by_two_threads : goal.ghosts-by_two_threads

@@ -1,8 +1,15 @@
-use Rattle.std.proofs.Common.{◌≡◌, ◌≢◌, ◌↔◌, ℕ, List, Option, Some, None, sym, subst}
+use Rattle.std.proofs.Common.{◌≡◌, ◌≢◌, ◌↔◌, ℕ, List, Option, Some, None, Result, Err, ap, sym, subst}
+use Rattle.std.proofs.lemmas.Result.{err_from_is_err_and}
+use Rattle.ebpf_decode.specs.ImageContents.{Contents}
 use Rattle.wire.specs.CaptureFormat.{capture_bytes}
 use Rattle.wire.specs.declared.records.Sent.{Sent}
 use Rattle.control.specs.declared.command.Command.{Command}
+use Rattle.replay.specs.declared.fault.ReplayFault.{ReplayFault}
+use Rattle.command_line.specs.declared.commands.ReplayFiles.{ReplayFiles}
+use Rattle.command_line.specs.Reading.{text_of}
 use Rattle.xlb.specs.Replays.{IsScriptOf, IsCaptureOf}
+use Rattle.xlb.specs.Refused.{IsReplayProgram, AreReplayInputs, no_replay_program, no_replay_script, no_replay_capture, given_up, not_written_down, no_room}
+use Rattle.xlb.proofs.Refusals.{kept_twice, failed_since, unwritten_since, script_refusal_before, capture_refusal_before}
 use Rattle.xlb.specs.Files.{FileBytes, AreKept, AreOthersKept, AreAllButKept}
 use Rattle.xlb.proofs.replays.replay_files.Goals as goal
 
@@ -79,3 +86,102 @@ returns-clause-kept g c =
     all_but_kept _ _ _ _ _
     (others_kept _ _ _ _ _ _ c.program_of.ensures.kept c.script_of.ensures.kept c.capture_of.ensures.kept c.write_sent.ensures.others)
     c.write_journals_to.ensures.others
+
+-- what was read: the program, and after it the script and the capture
+inputs : (a b c : FileBytes) (names : ReplayFiles) (ring : ℕ) (program : Contents) (script : List Command) (records : List Sent) → AreKept a b → AreKept b c
+    → IsReplayProgram a (text_of names.image) ring program → IsScriptOf b (text_of names.script) script → IsCaptureOf c names.capture.now records
+    → AreReplayInputs a names ring program script records
+inputs a b c names ring program script records first second is spelled captured = record {
+  program_is = is;
+  script_is = script_before a b first (text_of names.script) script spelled;
+  capture_is = capture_before a b c first second names.capture.now records captured;
+}
+
+abbrev result_of : (A : Type 0) → ReplayFault → Result A ReplayFault
+result_of A why = Err why
+
+same_fault : {A : Type 0} (why other : ReplayFault) → result_of A why ≡ result_of A other → why ≡ other
+same_fault why other e = cc
+
+pub returns-in_err-verified-clause-refused : goal.returns-in_err-verified-clause-refused
+returns-in_err-verified-clause-refused g c =
+    let p = err_from_is_err_and c.from_residual.result c.from_residual.ensures.1 in
+    rw (p.1, p.2) (no_replay_program c.program_of.ensures.kept c.in_err-verified.ensures.refused)
+
+pub returns-in_err-script-clause-refused : goal.returns-in_err-script-clause-refused
+returns-in_err-script-clause-refused g c =
+    let program : Contents =
+    record { version = c.in_ok-verified.verified.version; maps = c.in_ok-verified.verified.maps; code = c.in_ok-verified.verified.code } in
+    let p = err_from_is_err_and c.from_residual-in_err-script.result c.from_residual-in_err-script.ensures.1 in
+    rw (p.1, p.2)
+    (no_replay_script program (kept_twice _ _ _ c.program_of.ensures.kept c.script_of.ensures.kept)
+    (record { is = c.in_ok-verified.ensures.program; safe = c.in_ok-verified.ensures.safe })
+    (script_refusal_before _ _ _ _ _ _ c.program_of.ensures.kept (failed_since _ _ _ c.in_ok-verified.ensures.steady) c.in_err-script.ensures.refused))
+
+pub returns-in_err-capture-clause-refused : goal.returns-in_err-capture-clause-refused
+returns-in_err-capture-clause-refused g c =
+    let program : Contents =
+    record { version = c.in_ok-verified.verified.version; maps = c.in_ok-verified.verified.maps; code = c.in_ok-verified.verified.code } in
+    let p = err_from_is_err_and c.from_residual-in_err-capture.result c.from_residual-in_err-capture.ensures.1 in
+    rw (p.1, p.2)
+    (no_replay_capture program c.in_ok-script.script
+    (kept_twice _ _ _ (kept_twice _ _ _ c.program_of.ensures.kept c.script_of.ensures.kept) c.capture_of.ensures.kept)
+    (record { is = c.in_ok-verified.ensures.program; safe = c.in_ok-verified.ensures.safe })
+    (script_before _ _ c.program_of.ensures.kept _ _ c.in_ok-script.ensures.script)
+    (capture_refusal_before _ _ _ _ _ _ (kept_twice _ _ _ c.program_of.ensures.kept c.script_of.ensures.kept)
+    (λ failed. failed_since _ _ _ c.in_ok-verified.ensures.steady (failed_since _ _ _ c.in_ok-script.ensures.steady failed))
+    c.in_err-capture.ensures.refused))
+
+pub returns-in-Err-clause-refused : goal.returns-in-Err-clause-refused
+returns-in-Err-clause-refused g c =
+    let program : Contents =
+    record { version = c.in_ok-verified.verified.version; maps = c.in_ok-verified.verified.maps; code = c.in_ok-verified.verified.code } in
+    let why = c.in-Err.ensures.bad_options in
+    given_up program c.in_ok-script.script c.in_ok-capture.capture.records.items c.in-Err.fault
+    (kept_twice _ _ _ (kept_twice _ _ _ c.program_of.ensures.kept c.script_of.ensures.kept) c.capture_of.ensures.kept)
+    (inputs _ _ _ c.args.files.now c.args.ring program _ _ c.program_of.ensures.kept c.script_of.ensures.kept
+    (record { is = c.in_ok-verified.ensures.program; safe = c.in_ok-verified.ensures.safe }) c.in_ok-script.ensures.script c.in_ok-capture.ensures.capture)
+    ((λ e. why.0 (ap (λ (fault : ReplayFault). Err fault) e)), (λ broken. same_fault _ _ (why.1 broken)))
+    c.from.ensures
+
+pub returns-in_err-write_sent-clause-refused : goal.returns-in_err-write_sent-clause-refused
+returns-in_err-write_sent-clause-refused g c =
+    let program : Contents =
+    record { version = c.in_ok-verified.verified.version; maps = c.in_ok-verified.verified.maps; code = c.in_ok-verified.verified.code } in
+    let p = err_from_is_err_and c.from_residual-in_err-write_sent.result c.from_residual-in_err-write_sent.ensures.1 in
+    rw (p.1, p.2)
+    (not_written_down program c.in_ok-script.script c.in_ok-capture.capture.records.items c.in-Ok.outcome
+    (inputs _ _ _ c.args.files.now c.args.ring program _ _ c.program_of.ensures.kept c.script_of.ensures.kept
+    (record { is = c.in_ok-verified.ensures.program; safe = c.in_ok-verified.ensures.safe }) c.in_ok-script.ensures.script c.in_ok-capture.ensures.capture)
+    c.in-Ok.ensures.accounted
+    (unwritten_since _ _ _
+    (λ failed. failed_since _ _ _ c.in_ok-verified.ensures.steady
+    (failed_since _ _ _ c.in_ok-script.ensures.steady (failed_since _ _ _ c.in_ok-capture.ensures.steady failed)))
+    c.in_err-write_sent.ensures.refused))
+
+pub returns-in_err-write_journals_to-clause-refused : goal.returns-in_err-write_journals_to-clause-refused
+returns-in_err-write_journals_to-clause-refused g c =
+    let program : Contents =
+    record { version = c.in_ok-verified.verified.version; maps = c.in_ok-verified.verified.maps; code = c.in_ok-verified.verified.code } in
+    let p = err_from_is_err_and c.from_residual-in_err-write_journals_to.result c.from_residual-in_err-write_journals_to.ensures.1 in
+    rw (p.1, p.2)
+    (not_written_down program c.in_ok-script.script c.in_ok-capture.capture.records.items c.in-Ok.outcome
+    (inputs _ _ _ c.args.files.now c.args.ring program _ _ c.program_of.ensures.kept c.script_of.ensures.kept
+    (record { is = c.in_ok-verified.ensures.program; safe = c.in_ok-verified.ensures.safe }) c.in_ok-script.ensures.script c.in_ok-capture.ensures.capture)
+    c.in-Ok.ensures.accounted
+    (unwritten_since _ _ _
+    (λ failed. failed_since _ _ _ c.in_ok-verified.ensures.steady
+    (failed_since _ _ _ c.in_ok-script.ensures.steady
+    (failed_since _ _ _ c.in_ok-capture.ensures.steady (failed_since _ _ _ c.in_ok-write_sent.ensures.steady failed))))
+    c.in_err-write_journals_to.ensures.refused))
+
+pub returns-in_err-replayed-clause-refused : goal.returns-in_err-replayed-clause-refused
+returns-in_err-replayed-clause-refused g c =
+    let program : Contents =
+    record { version = c.in_ok-verified.verified.version; maps = c.in_ok-verified.verified.maps; code = c.in_ok-verified.verified.code } in
+    let p = err_from_is_err_and c.from_residual-in_err-replayed.result c.from_residual-in_err-replayed.ensures.1 in
+    rw p.1
+    (not_written_down program c.in_ok-script.script c.in_ok-capture.capture.records.items c.in-Ok.outcome
+    (inputs _ _ _ c.args.files.now c.args.ring program _ _ c.program_of.ensures.kept c.script_of.ensures.kept
+    (record { is = c.in_ok-verified.ensures.program; safe = c.in_ok-verified.ensures.safe }) c.in_ok-script.ensures.script c.in_ok-capture.ensures.capture)
+    c.in-Ok.ensures.accounted (no_room p.2))

@@ -1,16 +1,13 @@
-use Rattle.std.proofs.Common.{refl, codes, rules}
+use Rattle.std.proofs.Common.{ℕ, List, sym, subst}
+use Rattle.explanations.specs.Refusals.{IsRefusalText}
+use Rattle.xlb.specs.FaultLines.{fault_line}
+use Rattle.xlb.specs.Refused.{in_full, lacks_text}
 use Rattle.xlb.proofs.serve.refuse.Goals as goal
 
 pub returns-in-Ok-clause-told : goal.returns-in-Ok-clause-told
-returns-in-Ok-clause-told g c = λ same. record {
-  line = c.as_bytes.result.now;
-  ends = search rules;
-  printed = c.print.ensures same;
-}
+returns-in-Ok-clause-told g c = λ same.
+    let line = fault_line c.args.refusal.now.fault in
+    in_full c.deref.result.now (subst (λ (text : List ℕ). IsRefusalText line text) (sym c.deref.ensures.value) c.in-Ok.ensures) (c.print.ensures same)
 
 pub returns-in-Err-clause-told : goal.returns-in-Err-clause-told
-returns-in-Err-clause-told g c = λ same. record {
-  line = codes "fault 8 Memory\n";
-  ends = record { front = codes "fault 8 Memory"; ended = refl };
-  printed = c.print-in-Err.ensures same;
-}
+returns-in-Err-clause-told g c = λ same. lacks_text (c.print-in-Err.ensures same)

@@ -1,5 +1,6 @@
 use Rattle.std.proofs.Common.{◌≡◌, ℕ}
-use Rattle.actors.specs.Rounds.{AreReclaimed, IsInRound}
+use Rattle.actors.specs.Rounds.{AreReclaimed}
+use Rattle.actors.proofs.RoundLemmas.{IsInRound}
 use Rattle.actors.proofs.reclaiming.Reclaiming.round.Given as goal
 
 pub record Turned (g : goal.Over) (l : goal.Live-shards g) : Type 0 where

@@ -1,5 +1,4 @@
-use Rattle.std.proofs.Common.{◌<◌, ◌≤◌, length, sym, ◌∙◌, arith, vec_len, vec_capacity}
-use Rattle.std.proofs.lemmas.Bool.{false≢true}
+use Rattle.std.proofs.Common.{◌<◌, ◌≤◌, length, sym, ◌∙◌, arith}
 use Rattle.plain_maps.specs.Hashing.{home_of}
 use Rattle.plain_maps.specs.Buckets.{bucket_at}
 use Rattle.plain_maps.proofs.Found.{key_within, unset_if_unused, none_there, overwritten_whole, length_of_key}
@@ -18,10 +17,10 @@ invariant_of-self c =
     let size = rw (← c.self.view_is) at c.requires.size in
     let unset = unset_if_unused inside.size inside.keys.items inside.is_there.items c.self.invariant.apart c.args.number unused in
     let none = none_there inside.size inside.keys.items inside.is_there.items c.self.invariant.apart c.args.key.now absent in
-    let fits = key_within inside.size inside.capacity inside.keys.items inside.is_there.items inside.order.items _ inside.buckets.items c.self.invariant c.args.number small in
+    let fits = key_within inside.size inside.capacity inside.keys.items inside.is_there.items inside.order.numbers _ inside.buckets.items c.self.invariant c.args.number small in
     let here = c.write_at.ensures.here ∙ overwritten_whole c.args.key.now _ (size ∙ sym (length_of_key inside.size inside.keys.items c.args.number fits)) in
     let put = sym (rw (bucket, c.in-Some.is) at c.placed.ensures) in
-    rw home (put_in_bucket inside.size inside.capacity inside.keys.items inside.is_there.items inside.order.items _ inside.buckets.items c.self.invariant c.args.key.now within c.args.number small unset none c.write_at.new.bytes.items c.write_at.ensures.len here c.write_at.ensures.elsewhere c.in-Some.more put)
+    rw home (put_in_bucket inside.size inside.capacity inside.keys.items inside.is_there.items inside.order.numbers _ inside.buckets.items c.self.invariant c.args.key.now within c.args.number small unset none c.write_at.new.bytes.items c.write_at.ensures.len here c.write_at.ensures.elsewhere c.in-Some.more put)
 
 pub returns-in-Some-clause-count : goal.returns-in-Some-clause-count
 returns-in-Some-clause-count c =
@@ -35,9 +34,9 @@ returns-in-Some-clause-count c =
     let size = rw (← c.self.view_is) at c.requires.size in
     let unset = unset_if_unused inside.size inside.keys.items inside.is_there.items c.self.invariant.apart c.args.number unused in
     let none = none_there inside.size inside.keys.items inside.is_there.items c.self.invariant.apart c.args.key.now absent in
-    let fits = key_within inside.size inside.capacity inside.keys.items inside.is_there.items inside.order.items _ inside.buckets.items c.self.invariant c.args.number small in
+    let fits = key_within inside.size inside.capacity inside.keys.items inside.is_there.items inside.order.numbers _ inside.buckets.items c.self.invariant c.args.number small in
     let here = c.write_at.ensures.here ∙ overwritten_whole c.args.key.now _ (size ∙ sym (length_of_key inside.size inside.keys.items c.args.number fits)) in
-    rw (← c.self.view_is) (inserted_count inside.size inside.capacity inside.keys.items inside.is_there.items inside.order.items _ inside.buckets.items c.self.invariant c.args.key.now within c.args.number small unset none c.write_at.new.bytes.items c.write_at.ensures.len here c.write_at.ensures.elsewhere)
+    rw (← c.self.view_is) (inserted_count inside.size inside.capacity inside.keys.items inside.is_there.items inside.order.numbers _ inside.buckets.items c.self.invariant c.args.key.now within c.args.number small unset none c.write_at.new.bytes.items c.write_at.ensures.len here c.write_at.ensures.elsewhere)
 
 pub returns-in-Some-clause-lookups : goal.returns-in-Some-clause-lookups
 returns-in-Some-clause-lookups c =
@@ -51,26 +50,30 @@ returns-in-Some-clause-lookups c =
     let size = rw (← c.self.view_is) at c.requires.size in
     let unset = unset_if_unused inside.size inside.keys.items inside.is_there.items c.self.invariant.apart c.args.number unused in
     let none = none_there inside.size inside.keys.items inside.is_there.items c.self.invariant.apart c.args.key.now absent in
-    let fits = key_within inside.size inside.capacity inside.keys.items inside.is_there.items inside.order.items _ inside.buckets.items c.self.invariant c.args.number small in
+    let fits = key_within inside.size inside.capacity inside.keys.items inside.is_there.items inside.order.numbers _ inside.buckets.items c.self.invariant c.args.number small in
     let here = c.write_at.ensures.here ∙ overwritten_whole c.args.key.now _ (size ∙ sym (length_of_key inside.size inside.keys.items c.args.number fits)) in
-    rw (← c.self.view_is) (inserted_lookups inside.size inside.capacity inside.keys.items inside.is_there.items inside.order.items _ inside.buckets.items c.self.invariant c.args.key.now within c.args.number small unset none c.write_at.new.bytes.items c.write_at.ensures.len here c.write_at.ensures.elsewhere)
+    rw (← c.self.view_is) (inserted_lookups inside.size inside.capacity inside.keys.items inside.is_there.items inside.order.numbers _ inside.buckets.items c.self.invariant c.args.key.now within c.args.number small unset none c.write_at.new.bytes.items c.write_at.ensures.len here c.write_at.ensures.elsewhere)
 
 pub unreachable-requires : goal.unreachable-requires
 unreachable-requires c =
     let inside = c.self.inside in
     let absent = rw (← c.self.view_is) at c.requires.absent in
-    let is_at = rw (c.deref-3.ensures.value, c.deref-4.ensures.value) at c.in-Ok.ensures.found in
+    let is_at = rw c.deref-3.ensures.value at c.in-Ok.ensures.found in
     none_there inside.size inside.keys.items inside.is_there.items c.self.invariant.apart c.args.key.now absent _ (c.self.invariant.listed c.in-Ok.field-0 is_at.in_range) is_at.has_key
 
-pub prove-unreachable-requires : goal.prove-unreachable-requires
-prove-unreachable-requires c =
+pub insert-requires-clause-place : goal.insert-requires-clause-place
+insert-requires-clause-place c =
+    let gap = rw c.deref-3.ensures.value at c.in-Err.ensures.absent in
+    gap.in_range
+
+pub insert-requires-clause-room : goal.insert-requires-clause-room
+insert-requires-clause-room c =
     let inside = c.self.inside in
     let small = rw (← c.self.view_is) at c.requires.number in
     let unused = rw (← c.self.view_is) at c.requires.unused in
     let unset = unset_if_unused inside.size inside.keys.items inside.is_there.items c.self.invariant.apart c.args.number unused in
-    let room = room_in_order inside.size inside.capacity inside.keys.items inside.is_there.items inside.order.items _ inside.buckets.items c.self.invariant c.args.number small unset in
-    let fits : vec_len inside.order < vec_capacity inside.order = omega (arith, room, c.self.invariant.room) in
-    false≢true (sym c.if-prove.true ∙ (c.is_ok.ensures.value ∙ c.insert-put.ensures.succeeds fits))
+    let room = room_in_order inside.size inside.capacity inside.keys.items inside.is_there.items inside.order.numbers _ inside.buckets.items c.self.invariant c.args.number small unset in
+    omega (arith, room, c.self.invariant.room)
 
 pub overflow_add-over : goal.overflow_add-over
 overflow_add-over c =
@@ -81,7 +84,7 @@ overflow_add-over c =
     let small = rw (← c.self.view_is) at c.requires.number in
     let unused = rw (← c.self.view_is) at c.requires.unused in
     let unset = unset_if_unused inside.size inside.keys.items inside.is_there.items c.self.invariant.apart c.args.number unused in
-    let over : (bucket_at inside.buckets.items (home_of (length inside.buckets.items) c.args.key.now)).over < 4294967295 = over_small inside.size inside.capacity inside.keys.items inside.is_there.items inside.order.items _ inside.buckets.items c.self.invariant c.args.number small unset (home_of (length inside.buckets.items) c.args.key.now) within in
+    let over : (bucket_at inside.buckets.items (home_of (length inside.buckets.items) c.args.key.now)).over < 4294967295 = over_small inside.size inside.capacity inside.keys.items inside.is_there.items inside.order.numbers _ inside.buckets.items c.self.invariant c.args.number small unset (home_of (length inside.buckets.items) c.args.key.now) within in
     rw bucket (omega (arith, over))
 
 pub invariant_of-self-2 : goal.invariant_of-self-2
@@ -96,15 +99,12 @@ invariant_of-self-2 c =
     let size = rw (← c.self.view_is) at c.requires.size in
     let unset = unset_if_unused inside.size inside.keys.items inside.is_there.items c.self.invariant.apart c.args.number unused in
     let none = none_there inside.size inside.keys.items inside.is_there.items c.self.invariant.apart c.args.key.now absent in
-    let fits_key = key_within inside.size inside.capacity inside.keys.items inside.is_there.items inside.order.items _ inside.buckets.items c.self.invariant c.args.number small in
+    let fits_key = key_within inside.size inside.capacity inside.keys.items inside.is_there.items inside.order.numbers _ inside.buckets.items c.self.invariant c.args.number small in
     let here = c.write_at-2.ensures.here ∙ overwritten_whole c.args.key.now _ (size ∙ sym (length_of_key inside.size inside.keys.items c.args.number fits_key)) in
     let full = sym (rw (bucket, c.in_default.is) at c.placed.ensures) in
-    let gap = rw (c.deref-3.ensures.value, c.deref-4.ensures.value) at c.in-Err.ensures.absent in
-    let room = room_in_order inside.size inside.capacity inside.keys.items inside.is_there.items inside.order.items _ inside.buckets.items c.self.invariant c.args.number small unset in
-    let fits : vec_len inside.order < vec_capacity inside.order = omega (arith, room, c.self.invariant.room) in
-    let items = rw (c.insert-put.ensures.succeeds fits) at c.insert-put.ensures.items in
-    let spots : inside.capacity ≤ vec_capacity c.insert-put.new.self = omega (arith, c.self.invariant.room, c.insert-put.ensures.capacity) in
-    rw (home, bucket, items) (put_in_order inside.size inside.capacity inside.keys.items inside.is_there.items inside.order.items _ inside.buckets.items c.self.invariant c.args.key.now within c.args.number small unset none c.write_at-2.new.bytes.items c.write_at-2.ensures.len here c.write_at-2.ensures.elsewhere c.in-Err.at gap full c.self.invariant.room (vec_capacity c.insert-put.new.self) spots)
+    let gap = rw c.deref-3.ensures.value at c.in-Err.ensures.absent in
+    let spots : inside.capacity ≤ c.insert.new.self.room = omega (arith, c.self.invariant.room, c.insert.ensures.room) in
+    rw (home, bucket, c.insert.ensures.numbers) (put_in_order inside.size inside.capacity inside.keys.items inside.is_there.items inside.order.numbers _ inside.buckets.items c.self.invariant c.args.key.now within c.args.number small unset none c.write_at-2.new.bytes.items c.write_at-2.ensures.len here c.write_at-2.ensures.elsewhere c.in-Err.at gap full c.self.invariant.room c.insert.new.self.room spots)
 
 pub returns-clause-count : goal.returns-clause-count
 returns-clause-count c =
@@ -118,9 +118,9 @@ returns-clause-count c =
     let size = rw (← c.self.view_is) at c.requires.size in
     let unset = unset_if_unused inside.size inside.keys.items inside.is_there.items c.self.invariant.apart c.args.number unused in
     let none = none_there inside.size inside.keys.items inside.is_there.items c.self.invariant.apart c.args.key.now absent in
-    let fits = key_within inside.size inside.capacity inside.keys.items inside.is_there.items inside.order.items _ inside.buckets.items c.self.invariant c.args.number small in
+    let fits = key_within inside.size inside.capacity inside.keys.items inside.is_there.items inside.order.numbers _ inside.buckets.items c.self.invariant c.args.number small in
     let here = c.write_at-2.ensures.here ∙ overwritten_whole c.args.key.now _ (size ∙ sym (length_of_key inside.size inside.keys.items c.args.number fits)) in
-    rw (← c.self.view_is) (inserted_count inside.size inside.capacity inside.keys.items inside.is_there.items inside.order.items _ inside.buckets.items c.self.invariant c.args.key.now within c.args.number small unset none c.write_at-2.new.bytes.items c.write_at-2.ensures.len here c.write_at-2.ensures.elsewhere)
+    rw (← c.self.view_is) (inserted_count inside.size inside.capacity inside.keys.items inside.is_there.items inside.order.numbers _ inside.buckets.items c.self.invariant c.args.key.now within c.args.number small unset none c.write_at-2.new.bytes.items c.write_at-2.ensures.len here c.write_at-2.ensures.elsewhere)
 
 pub returns-clause-lookups : goal.returns-clause-lookups
 returns-clause-lookups c =
@@ -134,6 +134,6 @@ returns-clause-lookups c =
     let size = rw (← c.self.view_is) at c.requires.size in
     let unset = unset_if_unused inside.size inside.keys.items inside.is_there.items c.self.invariant.apart c.args.number unused in
     let none = none_there inside.size inside.keys.items inside.is_there.items c.self.invariant.apart c.args.key.now absent in
-    let fits = key_within inside.size inside.capacity inside.keys.items inside.is_there.items inside.order.items _ inside.buckets.items c.self.invariant c.args.number small in
+    let fits = key_within inside.size inside.capacity inside.keys.items inside.is_there.items inside.order.numbers _ inside.buckets.items c.self.invariant c.args.number small in
     let here = c.write_at-2.ensures.here ∙ overwritten_whole c.args.key.now _ (size ∙ sym (length_of_key inside.size inside.keys.items c.args.number fits)) in
-    rw (← c.self.view_is) (inserted_lookups inside.size inside.capacity inside.keys.items inside.is_there.items inside.order.items _ inside.buckets.items c.self.invariant c.args.key.now within c.args.number small unset none c.write_at-2.new.bytes.items c.write_at-2.ensures.len here c.write_at-2.ensures.elsewhere)
+    rw (← c.self.view_is) (inserted_lookups inside.size inside.capacity inside.keys.items inside.is_there.items inside.order.numbers _ inside.buckets.items c.self.invariant c.args.key.now within c.args.number small unset none c.write_at-2.new.bytes.items c.write_at-2.ensures.len here c.write_at-2.ensures.elsewhere)

@@ -7,8 +7,8 @@ key_at-requires c =
     let inside = c.self.inside in
     let had = rw (← c.self.view_is) at c.requires.1 in
     let there = (there_lookup inside.size inside.keys.items inside.is_there.items c.requires.0 c.args.number had).0 in
-    let small = small_there inside.size inside.capacity inside.keys.items inside.is_there.items inside.order.items _ inside.buckets.items c.self.invariant c.args.number there in
-    rw c.deref.ensures.value (key_within inside.size inside.capacity inside.keys.items inside.is_there.items inside.order.items _ inside.buckets.items c.self.invariant c.args.number small)
+    let small = small_there inside.size inside.capacity inside.keys.items inside.is_there.items inside.order.numbers _ inside.buckets.items c.self.invariant c.args.number there in
+    rw c.deref.ensures.value (key_within inside.size inside.capacity inside.keys.items inside.is_there.items inside.order.numbers _ inside.buckets.items c.self.invariant c.args.number small)
 
 pub returns-clause-key : goal.returns-clause-key
 returns-clause-key c =
@@ -23,6 +23,6 @@ returns-clause-size c =
     let inside = c.self.inside in
     let had = rw (← c.self.view_is) at c.requires.1 in
     let there = (there_lookup inside.size inside.keys.items inside.is_there.items c.requires.0 c.args.number had).0 in
-    let small = small_there inside.size inside.capacity inside.keys.items inside.is_there.items inside.order.items _ inside.buckets.items c.self.invariant c.args.number there in
+    let small = small_there inside.size inside.capacity inside.keys.items inside.is_there.items inside.order.numbers _ inside.buckets.items c.self.invariant c.args.number there in
     let read = rw c.deref.ensures.value at c.key_at.ensures in
-    rw (← c.self.view_is, read) (length_of_key inside.size inside.keys.items c.args.number (key_within inside.size inside.capacity inside.keys.items inside.is_there.items inside.order.items _ inside.buckets.items c.self.invariant c.args.number small))
+    rw (← c.self.view_is, read) (length_of_key inside.size inside.keys.items c.args.number (key_within inside.size inside.capacity inside.keys.items inside.is_there.items inside.order.numbers _ inside.buckets.items c.self.invariant c.args.number small))

@@ -1,5 +1,4 @@
 use Rattle.std.proofs.Common.{length, sym, arith}
-use Rattle.std.proofs.lemmas.List.{get_or_read}
 use Rattle.plain_maps.specs.Keyed.{entry_of, key_map}
 use Rattle.plain_maps.specs.Hashing.{home_of}
 use Rattle.plain_maps.specs.Buckets.{bucket_at}
@@ -14,7 +13,7 @@ found_in-requires-clause-within c =
     let home = rw c.deref.ensures.value at c.home_in-home.ensures.home in
     let within = rw (c.deref.ensures.value, home) at c.home_in-home.ensures.within in
     let bucket = rw (c.deref-2.ensures.value, home) at c.bucket_in-bucket.ensures in
-    rw (bucket, c.deref-3.ensures.value) (slots_within inside.size inside.capacity inside.keys.items inside.is_there.items inside.order.items _ inside.buckets.items c.self.invariant _ within)
+    rw (bucket, c.deref-3.ensures.value) (slots_within inside.size inside.capacity inside.keys.items inside.is_there.items inside.order.numbers _ inside.buckets.items c.self.invariant _ within)
 
 pub index_mut-requires-in-Some : goal.index_mut-requires-in-Some
 index_mut-requires-in-Some c =
@@ -23,7 +22,7 @@ index_mut-requires-in-Some c =
     let within = rw (c.deref.ensures.value, home) at c.home_in-home.ensures.within in
     let bucket = rw (c.deref-2.ensures.value, home) at c.bucket_in-bucket.ensures in
     let found = sym (rw (bucket, c.deref-3.ensures.value, c.in-Some.is) at c.found_in.ensures) in
-    let is = found_in_bucket inside.size inside.capacity inside.keys.items inside.is_there.items inside.order.items _ inside.buckets.items c.self.invariant c.args.key.now within c.in-Some.number found in
+    let is = found_in_bucket inside.size inside.capacity inside.keys.items inside.is_there.items inside.order.numbers _ inside.buckets.items c.self.invariant c.args.key.now within c.in-Some.number found in
     let lt = there_below inside.is_there.items c.in-Some.number is.0 in
     omega (arith, lt)
 
@@ -34,9 +33,9 @@ invariant_of-self c =
     let within = rw (c.deref.ensures.value, home) at c.home_in-home.ensures.within in
     let bucket = rw (c.deref-2.ensures.value, home) at c.bucket_in-bucket.ensures in
     let found = sym (rw (bucket, c.deref-3.ensures.value, c.in-Some.is) at c.found_in.ensures) in
-    let is = found_in_bucket inside.size inside.capacity inside.keys.items inside.is_there.items inside.order.items _ inside.buckets.items c.self.invariant c.args.key.now within c.in-Some.number found in
+    let is = found_in_bucket inside.size inside.capacity inside.keys.items inside.is_there.items inside.order.numbers _ inside.buckets.items c.self.invariant c.args.key.now within c.in-Some.number found in
     let stands = (found_some inside.size inside.keys.items c.args.key.now (bucket_at inside.buckets.items (home_of (length inside.buckets.items) c.args.key.now)) c.in-Some.number found).0 in
-    rw (c.cleared.ensures, bucket, home) (cleared_from_bucket inside.size inside.capacity inside.keys.items inside.is_there.items inside.order.items _ inside.buckets.items c.self.invariant c.args.key.now within c.in-Some.number is.0 is.1 stands)
+    rw (c.cleared.ensures, bucket, home) (cleared_from_bucket inside.size inside.capacity inside.keys.items inside.is_there.items inside.order.numbers _ inside.buckets.items c.self.invariant c.args.key.now within c.in-Some.number is.0 is.1 stands)
 
 pub returns-in-Some-clause-value : goal.returns-in-Some-clause-value
 returns-in-Some-clause-value c =
@@ -45,7 +44,7 @@ returns-in-Some-clause-value c =
     let within = rw (c.deref.ensures.value, home) at c.home_in-home.ensures.within in
     let bucket = rw (c.deref-2.ensures.value, home) at c.bucket_in-bucket.ensures in
     let found = sym (rw (bucket, c.deref-3.ensures.value, c.in-Some.is) at c.found_in.ensures) in
-    let is = found_in_bucket inside.size inside.capacity inside.keys.items inside.is_there.items inside.order.items _ inside.buckets.items c.self.invariant c.args.key.now within c.in-Some.number found in
+    let is = found_in_bucket inside.size inside.capacity inside.keys.items inside.is_there.items inside.order.numbers _ inside.buckets.items c.self.invariant c.args.key.now within c.in-Some.number found in
     rw (← c.self.view_is) (sym (lookup_there inside.size inside.keys.items inside.is_there.items c.args.key.now c.self.invariant.apart c.in-Some.number is.0 is.1))
 
 pub returns-in-Some-clause-count : goal.returns-in-Some-clause-count
@@ -55,8 +54,8 @@ returns-in-Some-clause-count c =
     let within = rw (c.deref.ensures.value, home) at c.home_in-home.ensures.within in
     let bucket = rw (c.deref-2.ensures.value, home) at c.bucket_in-bucket.ensures in
     let found = sym (rw (bucket, c.deref-3.ensures.value, c.in-Some.is) at c.found_in.ensures) in
-    let is = found_in_bucket inside.size inside.capacity inside.keys.items inside.is_there.items inside.order.items _ inside.buckets.items c.self.invariant c.args.key.now within c.in-Some.number found in
-    rw (← c.self.view_is) (removed_count inside.size inside.capacity inside.keys.items inside.is_there.items inside.order.items _ inside.buckets.items c.self.invariant c.args.key.now within c.in-Some.number is.0 is.1)
+    let is = found_in_bucket inside.size inside.capacity inside.keys.items inside.is_there.items inside.order.numbers _ inside.buckets.items c.self.invariant c.args.key.now within c.in-Some.number found in
+    rw (← c.self.view_is) (removed_count inside.size inside.capacity inside.keys.items inside.is_there.items inside.order.numbers _ inside.buckets.items c.self.invariant c.args.key.now within c.in-Some.number is.0 is.1)
 
 pub returns-in-Some-clause-lookups : goal.returns-in-Some-clause-lookups
 returns-in-Some-clause-lookups c =
@@ -65,8 +64,8 @@ returns-in-Some-clause-lookups c =
     let within = rw (c.deref.ensures.value, home) at c.home_in-home.ensures.within in
     let bucket = rw (c.deref-2.ensures.value, home) at c.bucket_in-bucket.ensures in
     let found = sym (rw (bucket, c.deref-3.ensures.value, c.in-Some.is) at c.found_in.ensures) in
-    let is = found_in_bucket inside.size inside.capacity inside.keys.items inside.is_there.items inside.order.items _ inside.buckets.items c.self.invariant c.args.key.now within c.in-Some.number found in
-    rw (← c.self.view_is) (removed_lookups inside.size inside.capacity inside.keys.items inside.is_there.items inside.order.items _ inside.buckets.items c.self.invariant c.args.key.now within c.in-Some.number is.0 is.1)
+    let is = found_in_bucket inside.size inside.capacity inside.keys.items inside.is_there.items inside.order.numbers _ inside.buckets.items c.self.invariant c.args.key.now within c.in-Some.number found in
+    rw (← c.self.view_is) (removed_lookups inside.size inside.capacity inside.keys.items inside.is_there.items inside.order.numbers _ inside.buckets.items c.self.invariant c.args.key.now within c.in-Some.number is.0 is.1)
 
 pub returns-then-bucket-eq0-clause-value : goal.returns-then-bucket-eq0-clause-value
 returns-then-bucket-eq0-clause-value c =
@@ -76,7 +75,7 @@ returns-then-bucket-eq0-clause-value c =
     let bucket = rw (c.deref-2.ensures.value, home) at c.bucket_in-bucket.ensures in
     let none = sym (rw (bucket, c.deref-3.ensures.value, c.in_default.is) at c.found_in.ensures) in
     let idle = rw bucket at c.if-bucket-eq0.true in
-    rw (← c.self.view_is) (sym (lookup_none inside.size inside.keys.items inside.is_there.items c.args.key.now (nowhere inside.size inside.capacity inside.keys.items inside.is_there.items inside.order.items _ inside.buckets.items c.self.invariant c.args.key.now within none idle)))
+    rw (← c.self.view_is) (sym (lookup_none inside.size inside.keys.items inside.is_there.items c.args.key.now (nowhere inside.size inside.capacity inside.keys.items inside.is_there.items inside.order.numbers _ inside.buckets.items c.self.invariant c.args.key.now within none idle)))
 
 pub returns-then-bucket-eq0-clause-lookups : goal.returns-then-bucket-eq0-clause-lookups
 returns-then-bucket-eq0-clause-lookups c =
@@ -86,7 +85,7 @@ returns-then-bucket-eq0-clause-lookups c =
     let bucket = rw (c.deref-2.ensures.value, home) at c.bucket_in-bucket.ensures in
     let none = sym (rw (bucket, c.deref-3.ensures.value, c.in_default.is) at c.found_in.ensures) in
     let idle = rw bucket at c.if-bucket-eq0.true in
-    let absent = lookup_none inside.size inside.keys.items inside.is_there.items c.args.key.now (nowhere inside.size inside.capacity inside.keys.items inside.is_there.items inside.order.items _ inside.buckets.items c.self.invariant c.args.key.now within none idle) in
+    let absent = lookup_none inside.size inside.keys.items inside.is_there.items c.args.key.now (nowhere inside.size inside.capacity inside.keys.items inside.is_there.items inside.order.numbers _ inside.buckets.items c.self.invariant c.args.key.now within none idle) in
     rw (← c.self.view_is) (absent_lookups c.args.key.now (entry_of (key_map inside.size inside.capacity inside.keys.items inside.is_there.items)) absent)
 
 pub invariant_of-self-in-Ok : goal.invariant_of-self-in-Ok
@@ -95,17 +94,17 @@ invariant_of-self-in-Ok c =
     let home = rw c.deref.ensures.value at c.home_in-home.ensures.home in
     let within = rw (c.deref.ensures.value, home) at c.home_in-home.ensures.within in
     let bucket = rw (c.deref-2.ensures.value, home) at c.bucket_in-bucket.ensures in
-    let is_at = rw (c.deref-4.ensures.value, c.deref-5.ensures.value) at c.in-Ok.ensures.found in
-    let number = sym (get_or_read _ _ _ is_at.in_range c.remove-number.ensures.value 0) in
+    let is_at = rw c.deref-4.ensures.value at c.in-Ok.ensures.found in
+    let number = sym c.remove-number.ensures.number in
     let there = rw number at (c.self.invariant.listed c.in-Ok.at is_at.in_range) in
     let has = rw number at is_at.has_key in
-    rw (home, bucket, c.remove-number.ensures.items) (taken_from_order inside.size inside.capacity inside.keys.items inside.is_there.items inside.order.items _ inside.buckets.items c.self.invariant c.args.key.now within c.remove-number.result there has c.in-Ok.at is_at.in_range number _ (omega (arith, c.self.invariant.room, c.remove-number.ensures.capacity)))
+    rw (home, bucket, c.remove-number.ensures.numbers) (taken_from_order inside.size inside.capacity inside.keys.items inside.is_there.items inside.order.numbers _ inside.buckets.items c.self.invariant c.args.key.now within c.remove-number.result there has c.in-Ok.at is_at.in_range number _ (omega (arith, c.self.invariant.room, c.remove-number.ensures.room)))
 
 pub returns-in-Ok-clause-value : goal.returns-in-Ok-clause-value
 returns-in-Ok-clause-value c =
     let inside = c.self.inside in
-    let is_at = rw (c.deref-4.ensures.value, c.deref-5.ensures.value) at c.in-Ok.ensures.found in
-    let number = sym (get_or_read _ _ _ is_at.in_range c.remove-number.ensures.value 0) in
+    let is_at = rw c.deref-4.ensures.value at c.in-Ok.ensures.found in
+    let number = sym c.remove-number.ensures.number in
     let there = rw number at (c.self.invariant.listed c.in-Ok.at is_at.in_range) in
     let has = rw number at is_at.has_key in
     rw (← c.self.view_is) (sym (lookup_there inside.size inside.keys.items inside.is_there.items c.args.key.now c.self.invariant.apart c.remove-number.result there has))
@@ -116,11 +115,11 @@ returns-in-Ok-clause-count c =
     let home = rw c.deref.ensures.value at c.home_in-home.ensures.home in
     let within = rw (c.deref.ensures.value, home) at c.home_in-home.ensures.within in
     let bucket = rw (c.deref-2.ensures.value, home) at c.bucket_in-bucket.ensures in
-    let is_at = rw (c.deref-4.ensures.value, c.deref-5.ensures.value) at c.in-Ok.ensures.found in
-    let number = sym (get_or_read _ _ _ is_at.in_range c.remove-number.ensures.value 0) in
+    let is_at = rw c.deref-4.ensures.value at c.in-Ok.ensures.found in
+    let number = sym c.remove-number.ensures.number in
     let there = rw number at (c.self.invariant.listed c.in-Ok.at is_at.in_range) in
     let has = rw number at is_at.has_key in
-    rw (← c.self.view_is) (removed_count inside.size inside.capacity inside.keys.items inside.is_there.items inside.order.items _ inside.buckets.items c.self.invariant c.args.key.now within c.remove-number.result there has)
+    rw (← c.self.view_is) (removed_count inside.size inside.capacity inside.keys.items inside.is_there.items inside.order.numbers _ inside.buckets.items c.self.invariant c.args.key.now within c.remove-number.result there has)
 
 pub returns-in-Ok-clause-lookups : goal.returns-in-Ok-clause-lookups
 returns-in-Ok-clause-lookups c =
@@ -128,11 +127,11 @@ returns-in-Ok-clause-lookups c =
     let home = rw c.deref.ensures.value at c.home_in-home.ensures.home in
     let within = rw (c.deref.ensures.value, home) at c.home_in-home.ensures.within in
     let bucket = rw (c.deref-2.ensures.value, home) at c.bucket_in-bucket.ensures in
-    let is_at = rw (c.deref-4.ensures.value, c.deref-5.ensures.value) at c.in-Ok.ensures.found in
-    let number = sym (get_or_read _ _ _ is_at.in_range c.remove-number.ensures.value 0) in
+    let is_at = rw c.deref-4.ensures.value at c.in-Ok.ensures.found in
+    let number = sym c.remove-number.ensures.number in
     let there = rw number at (c.self.invariant.listed c.in-Ok.at is_at.in_range) in
     let has = rw number at is_at.has_key in
-    rw (← c.self.view_is) (removed_lookups inside.size inside.capacity inside.keys.items inside.is_there.items inside.order.items _ inside.buckets.items c.self.invariant c.args.key.now within c.remove-number.result there has)
+    rw (← c.self.view_is) (removed_lookups inside.size inside.capacity inside.keys.items inside.is_there.items inside.order.numbers _ inside.buckets.items c.self.invariant c.args.key.now within c.remove-number.result there has)
 
 pub returns-in-Err-clause-value : goal.returns-in-Err-clause-value
 returns-in-Err-clause-value c =
@@ -141,8 +140,8 @@ returns-in-Err-clause-value c =
     let within = rw (c.deref.ensures.value, home) at c.home_in-home.ensures.within in
     let bucket = rw (c.deref-2.ensures.value, home) at c.bucket_in-bucket.ensures in
     let none = sym (rw (bucket, c.deref-3.ensures.value, c.in_default.is) at c.found_in.ensures) in
-    let gap = rw (c.deref-4.ensures.value, c.deref-5.ensures.value) at c.in-Err.ensures.absent in
-    rw (← c.self.view_is) (sym (lookup_none inside.size inside.keys.items inside.is_there.items c.args.key.now (not_in_gap inside.size inside.capacity inside.keys.items inside.is_there.items inside.order.items _ inside.buckets.items c.self.invariant c.args.key.now within none _ gap)))
+    let gap = rw c.deref-4.ensures.value at c.in-Err.ensures.absent in
+    rw (← c.self.view_is) (sym (lookup_none inside.size inside.keys.items inside.is_there.items c.args.key.now (not_in_gap inside.size inside.capacity inside.keys.items inside.is_there.items inside.order.numbers _ inside.buckets.items c.self.invariant c.args.key.now within none _ gap)))
 
 pub returns-in-Err-clause-lookups : goal.returns-in-Err-clause-lookups
 returns-in-Err-clause-lookups c =
@@ -151,8 +150,8 @@ returns-in-Err-clause-lookups c =
     let within = rw (c.deref.ensures.value, home) at c.home_in-home.ensures.within in
     let bucket = rw (c.deref-2.ensures.value, home) at c.bucket_in-bucket.ensures in
     let none = sym (rw (bucket, c.deref-3.ensures.value, c.in_default.is) at c.found_in.ensures) in
-    let gap = rw (c.deref-4.ensures.value, c.deref-5.ensures.value) at c.in-Err.ensures.absent in
-    let absent = lookup_none inside.size inside.keys.items inside.is_there.items c.args.key.now (not_in_gap inside.size inside.capacity inside.keys.items inside.is_there.items inside.order.items _ inside.buckets.items c.self.invariant c.args.key.now within none _ gap) in
+    let gap = rw c.deref-4.ensures.value at c.in-Err.ensures.absent in
+    let absent = lookup_none inside.size inside.keys.items inside.is_there.items c.args.key.now (not_in_gap inside.size inside.capacity inside.keys.items inside.is_there.items inside.order.numbers _ inside.buckets.items c.self.invariant c.args.key.now within none _ gap) in
     rw (← c.self.view_is) (absent_lookups c.args.key.now (entry_of (key_map inside.size inside.capacity inside.keys.items inside.is_there.items)) absent)
 
 pub returns-in-Some-clause-within : goal.returns-in-Some-clause-within
@@ -162,8 +161,8 @@ returns-in-Some-clause-within c =
     let within = rw (c.deref.ensures.value, home) at c.home_in-home.ensures.within in
     let bucket = rw (c.deref-2.ensures.value, home) at c.bucket_in-bucket.ensures in
     let found = sym (rw (bucket, c.deref-3.ensures.value, c.in-Some.is) at c.found_in.ensures) in
-    let is = found_in_bucket inside.size inside.capacity inside.keys.items inside.is_there.items inside.order.items _ inside.buckets.items c.self.invariant c.args.key.now within c.in-Some.number found in
-    rw (← c.self.view_is) (small_there inside.size inside.capacity inside.keys.items inside.is_there.items inside.order.items _ inside.buckets.items c.self.invariant c.in-Some.number is.0)
+    let is = found_in_bucket inside.size inside.capacity inside.keys.items inside.is_there.items inside.order.numbers _ inside.buckets.items c.self.invariant c.args.key.now within c.in-Some.number found in
+    rw (← c.self.view_is) (small_there inside.size inside.capacity inside.keys.items inside.is_there.items inside.order.numbers _ inside.buckets.items c.self.invariant c.in-Some.number is.0)
 
 pub returns-in-Some-clause-freed : goal.returns-in-Some-clause-freed
 returns-in-Some-clause-freed c =
@@ -172,8 +171,8 @@ returns-in-Some-clause-freed c =
     let within = rw (c.deref.ensures.value, home) at c.home_in-home.ensures.within in
     let bucket = rw (c.deref-2.ensures.value, home) at c.bucket_in-bucket.ensures in
     let found = sym (rw (bucket, c.deref-3.ensures.value, c.in-Some.is) at c.found_in.ensures) in
-    let is = found_in_bucket inside.size inside.capacity inside.keys.items inside.is_there.items inside.order.items _ inside.buckets.items c.self.invariant c.args.key.now within c.in-Some.number found in
-    removed_freed inside.size inside.capacity inside.keys.items inside.is_there.items inside.order.items _ inside.buckets.items c.self.invariant c.args.key.now within c.in-Some.number is.0 is.1
+    let is = found_in_bucket inside.size inside.capacity inside.keys.items inside.is_there.items inside.order.numbers _ inside.buckets.items c.self.invariant c.args.key.now within c.in-Some.number found in
+    removed_freed inside.size inside.capacity inside.keys.items inside.is_there.items inside.order.numbers _ inside.buckets.items c.self.invariant c.args.key.now within c.in-Some.number is.0 is.1
 
 pub returns-in-Ok-clause-within : goal.returns-in-Ok-clause-within
 returns-in-Ok-clause-within c =
@@ -181,11 +180,11 @@ returns-in-Ok-clause-within c =
     let home = rw c.deref.ensures.value at c.home_in-home.ensures.home in
     let within = rw (c.deref.ensures.value, home) at c.home_in-home.ensures.within in
     let bucket = rw (c.deref-2.ensures.value, home) at c.bucket_in-bucket.ensures in
-    let is_at = rw (c.deref-4.ensures.value, c.deref-5.ensures.value) at c.in-Ok.ensures.found in
-    let number = sym (get_or_read _ _ _ is_at.in_range c.remove-number.ensures.value 0) in
+    let is_at = rw c.deref-4.ensures.value at c.in-Ok.ensures.found in
+    let number = sym c.remove-number.ensures.number in
     let there = rw number at (c.self.invariant.listed c.in-Ok.at is_at.in_range) in
     let has = rw number at is_at.has_key in
-    rw (← c.self.view_is) (small_there inside.size inside.capacity inside.keys.items inside.is_there.items inside.order.items _ inside.buckets.items c.self.invariant c.remove-number.result there)
+    rw (← c.self.view_is) (small_there inside.size inside.capacity inside.keys.items inside.is_there.items inside.order.numbers _ inside.buckets.items c.self.invariant c.remove-number.result there)
 
 pub returns-in-Ok-clause-freed : goal.returns-in-Ok-clause-freed
 returns-in-Ok-clause-freed c =
@@ -193,8 +192,8 @@ returns-in-Ok-clause-freed c =
     let home = rw c.deref.ensures.value at c.home_in-home.ensures.home in
     let within = rw (c.deref.ensures.value, home) at c.home_in-home.ensures.within in
     let bucket = rw (c.deref-2.ensures.value, home) at c.bucket_in-bucket.ensures in
-    let is_at = rw (c.deref-4.ensures.value, c.deref-5.ensures.value) at c.in-Ok.ensures.found in
-    let number = sym (get_or_read _ _ _ is_at.in_range c.remove-number.ensures.value 0) in
+    let is_at = rw c.deref-4.ensures.value at c.in-Ok.ensures.found in
+    let number = sym c.remove-number.ensures.number in
     let there = rw number at (c.self.invariant.listed c.in-Ok.at is_at.in_range) in
     let has = rw number at is_at.has_key in
-    removed_freed inside.size inside.capacity inside.keys.items inside.is_there.items inside.order.items _ inside.buckets.items c.self.invariant c.args.key.now within c.remove-number.result there has
+    removed_freed inside.size inside.capacity inside.keys.items inside.is_there.items inside.order.numbers _ inside.buckets.items c.self.invariant c.args.key.now within c.remove-number.result there has

@@ -6,7 +6,6 @@ use Rattle.semantics.specs.History.{meets, journal_is_full}
 use Rattle.semantics.specs.SequentialShard.{shard_after, number_in_cell}
 use Rattle.map_cells.specs.CellTable.{number_at}
 use Rattle.journal.specs.Entries.{load_entry}
-use Rattle.shard_core.specs.Calls.{IsRangeOf}
 use Rattle.shard_core.proofs.AskedLemmas.{load_asked}
 use Rattle.shard_core.proofs.ContentLemmas.{contents_on}
 use Rattle.shard_core.proofs.StepLemmas.{step_taken, table_keeps, kept_number}

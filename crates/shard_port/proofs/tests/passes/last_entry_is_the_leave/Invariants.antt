@@ -1,5 +1,5 @@
 use Rattle.std.proofs.Common.{length}
-use Rattle.shared_shards.specs.NewShards.{table_names, plan_names}
+use Rattle.shared_shards.proofs.shared.Names.{table_names, plan_names}
 use Rattle.shard_port.proofs.tests.passes.last_entry_is_the_leave.Given as goal
 
 abbrev pub ghosts-session : goal.ghosts-session

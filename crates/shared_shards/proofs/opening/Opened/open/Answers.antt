@@ -1,4 +1,4 @@
-use Rattle.std.proofs.Common.{◌≡◌, ◌+◌, List, length, refl, sym, ap, ◌∙◌, subst, arith}
+use Rattle.std.proofs.Common.{List, refl, sym, ◌∙◌, subst}
 use Rattle.shard_core.specs.JournaledShard.{JournaledShard}
 use Rattle.shards.specs.Opening.{AreOpened}
 use Rattle.shared_shards.proofs.ImageMaps.{image_maps}

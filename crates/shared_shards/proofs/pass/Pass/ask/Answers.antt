@@ -1,14 +1,15 @@
 use Rattle.std.proofs.Common.{◌≡◌, ◌<◌, ℕ, Bool, List, slice_set, length, ap, sym, ◌∙◌, subst, arith}
 use Rattle.std.specs.Prelude.{reverse}
 use Rattle.atomic_table.specs.declared.badge.Badge.{Badge}
-use Rattle.semantics.specs.declared.plan.ShardPlan.{ShardPlan}
+use Rattle.semantics.specs.declared.call.Entry.{Entry}
+use Rattle.shard_core.specs.FewHeld.{FewAreHeld}
 use Rattle.semantics.specs.declared.call.SectionChange.{SectionChange}
 use Rattle.semantics.specs.Sections.{section_change}
 use Rattle.semantics.specs.History.{IsLegalHistory}
 use Rattle.shared_shards.specs.declared.rule.Known.{Known}
 use Rattle.shared_shards.specs.CallerView.{CallerView}
 use Rattle.shared_shards.specs.Seats.{view_of}
-use Rattle.shared_shards.specs.Passes.{PassView, view_at, view_of_badge, known_in, badge_at, pass_view, IsElsewhereSame, IsFlagOf, flag_at, flag_after}
+use Rattle.shared_shards.specs.Passes.{PassView, view_at, view_of_badge, known_in, pass_view, IsElsewhereSame, IsFlagOf, flag_at, flag_after}
 use Rattle.shared_shards.proofs.Badges.{view_is, view_after, same_elsewhere, pass_after}
 use Rattle.shared_shards.specs.HeldCells.{HeldIds, held_at, held_change, held_when, AreHeldOf}
 use Rattle.shared_shards.proofs.Flags.{flag_moves}
@@ -107,6 +108,9 @@ keep-requires-clause-room g c =
     sym (ap (λ (vs : List Known). view_of (known_in vs)) c.into_seat.ensures.2)
     ∙ ap view_of_badge c.taken-badge.ensures.badge
     ∙ sym (view_is who c.self.inside.seats.items number) in
+    let few : FewAreHeld (g.B.Naming.plan c.args.desk.now.plan.number) c.ask-seat.result.0.me.0.seen =
+    subst (λ (h : List Entry). FewAreHeld (g.B.Naming.plan c.args.desk.now.plan.number) h) (sym c.ask-seat.ensures.seen)
+    (subst (λ (n : ℕ). FewAreHeld (g.B.Naming.plan n) (reverse c.ask-seat.new.self.journal)) c.ask-seat.ensures.number c.few_held.ensures) in
     room_when_at g.B.Naming.plan (g.C.Ask.asks c.args.ask) g.C.Ask.replies c.args.desk.now.plan.number number who (view_of c.into_seat.result.me.0) (view_of c.ask-seat.result.0.me.0) list c.requires.number.0
-    c.ask-seat.result.1 c.ask-seat.ensures.served c.ask-seat.ensures.own
+    c.ask-seat.result.1 c.ask-seat.ensures.served c.ask-seat.ensures.own few
     (subst (λ (v : CallerView). AreHeldOf who (g.B.Naming.plan number) v.own list) (sym was) (c.self.invariant.held_are number c.requires.number.1))

@@ -4,7 +4,7 @@ use Rattle.semantics.specs.History.{shard_of_call}
 use Rattle.shared_shards.specs.declared.rule.Known.{Known}
 use Rattle.shared_shards.specs.CallerView.{CallerView}
 use Rattle.shared_shards.specs.Seats.{view_of}
-use Rattle.shared_shards.specs.Passes.{PassView, view_at, view_of_badge, known_in, badge_at, pass_view, IsElsewhereSame}
+use Rattle.shared_shards.specs.Passes.{PassView, view_at, view_of_badge, known_in, pass_view, IsElsewhereSame}
 use Rattle.shared_shards.proofs.Badges.{view_is, view_after, same_elsewhere, pass_still}
 use Rattle.semantics.specs.History.{meets}
 use Rattle.shared_shards.proofs.Transport.{looked_at}

@@ -1,4 +1,4 @@
-use Rattle.std.proofs.Common.{◌≡◌, ◌<◌, ℕ, List, slice_set, length, ap, sym, ◌∙◌, subst, arith}
+use Rattle.std.proofs.Common.{List, slice_set, ◌∙◌, subst}
 use Rattle.atomic_table.specs.declared.badge.Badge.{Badge}
 use Rattle.shared_shards.specs.declared.rule.Known.{Known}
 use Rattle.shared_shards.specs.Passes.{PassView, pass_view, IsElsewhereSame}

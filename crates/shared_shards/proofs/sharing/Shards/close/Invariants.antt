@@ -1,4 +1,4 @@
-use Rattle.std.proofs.Common.{◌≡◌, ◌≢◌, ◌≤◌, ◌<◌, ◌+◌, ◌*◌, ℕ, [], length}
+use Rattle.std.proofs.Common.{◌≡◌, ◌≤◌, ◌<◌, ◌+◌, ◌*◌, ℕ, [], length}
 use Rattle.std.specs.Prelude.{vec_capacity, slice_index_or}
 use Rattle.semantics.specs.ShardPlan.{AreOptions}
 use Rattle.semantics.specs.History.{IsLegalJournal}

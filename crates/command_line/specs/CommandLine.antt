@@ -1,0 +1,105 @@
+-- The commands of the program and their words, as the parser of command lines sees them.
+use Rattle.std.specs.Prelude.{ℕ, [], ◌∷◌, Some, true, codes}
+use Rattle.clap.specs.Walk.{Rule, Text}
+use Rattle.clap.specs.Simple.{App, new_app, new_rule, on_top, with_rule, with_subcommand}
+use Rattle.clap.specs.declared.builder.action.ArgAction.TheVariants.{Append, Set, SetTrue}
+use Rattle.clap.specs.declared.builder.value_parser.ValueParser.TheVariants.{Unsigned}
+
+-- a file that has to be named
+abbrev pub file_rule : Text → Rule
+file_rule id = record (new_rule id) { required = true; action = Some Set }
+
+-- an option `--id FILE`, which may be missing
+abbrev pub option_rule : Text → Rule
+option_rule id = record (new_rule id) { long = Some id; action = Some Set; value_names = 1 }
+
+-- an option `--id A B C`, which may be given any number of times
+abbrev pub three_words_rule : Text → Rule
+three_words_rule id = record (new_rule id) { long = Some id; action = Some Append; value_names = 3 }
+
+-- an option `--id N`, a number of at most `most`, which is the default where it is not given
+abbrev pub number_rule : Text → ℕ → Text → Rule
+number_rule id most default = record (new_rule id) {
+  long = Some id;
+  action = Some Set;
+  value_names = 1;
+  parser = Some (Unsigned 0 most);
+  defaults = default ∷ [];
+}
+
+-- a number of at most `most` that has to be named
+abbrev pub named_number_rule : Text → ℕ → Rule
+named_number_rule id most = record (new_rule id) { required = true; action = Some Set; parser = Some (Unsigned 0 most) }
+
+-- a switch `--id`, which may be missing
+abbrev pub switch_rule : Text → Rule
+switch_rule id = record (new_rule id) { long = Some id; action = Some SetTrue }
+
+abbrev pub check_command : App
+check_command = with_rule (with_rule (new_app (codes "check")) (file_rule (codes "IMAGE"))) (switch_rule (codes "explain"))
+
+-- a run: its image, its frame, the file of the journals, and updates
+abbrev pub run_named : App
+run_named =
+    with_rule
+    (with_rule
+    (with_rule (with_rule (new_app (codes "run")) (file_rule (codes "IMAGE"))) (file_rule (codes "FRAME")))
+    (option_rule (codes "journals")))
+    (three_words_rule (codes "update"))
+
+-- and its numbers
+abbrev pub run_command : App
+run_command =
+    with_rule
+    (with_rule run_named (number_rule (codes "now") 18446744073709551615 (codes "0")))
+    (number_rule (codes "worker") 4294967295 (codes "0"))
+
+abbrev pub disasm_command : App
+disasm_command = with_rule (with_rule (new_app (codes "disasm")) (file_rule (codes "IMAGE"))) (switch_rule (codes "source"))
+
+abbrev pub asm_command : App
+asm_command =
+    with_rule
+    (with_rule (with_rule (new_app (codes "asm")) (file_rule (codes "TEXT"))) (file_rule (codes "OUT")))
+    (switch_rule (codes "source"))
+
+abbrev pub audit_command : App
+audit_command = with_rule (with_rule (new_app (codes "audit")) (file_rule (codes "IMAGE"))) (file_rule (codes "JOURNALS"))
+
+abbrev pub explain_command : App
+explain_command = with_rule (new_app (codes "explain")) (named_number_rule (codes "NUMBER") 4294967295)
+
+-- a replay: its capture, and the file of what is sent
+abbrev pub replay_named : App
+replay_named = with_rule (with_rule (new_app (codes "replay")) (file_rule (codes "CAPTURE"))) (file_rule (codes "SENT"))
+
+-- the other files
+abbrev pub replay_files : App
+replay_files =
+    with_rule (with_rule (with_rule replay_named (option_rule (codes "image"))) (option_rule (codes "script"))) (option_rule (codes "journals"))
+
+-- and its numbers
+abbrev pub replay_command : App
+replay_command =
+    with_rule
+    (with_rule
+    (with_rule (with_rule replay_files (number_rule (codes "workers") 4294967295 (codes "1"))) (number_rule (codes "shards") 4294967295 (codes "1")))
+    (number_rule (codes "journal") 4294967295 (codes "65536")))
+    (number_rule (codes "ring") 4294967295 (codes "251"))
+
+-- the name, with `--version`; a command has to be given, and `help` tells of the commands
+abbrev pub program_name : App
+program_name =
+    on_top (λ s. record s { has_version = true; subcommand_required = true }) (new_app (codes "xlb"))
+
+abbrev pub program : App
+program =
+    with_subcommand
+    (with_subcommand
+    (with_subcommand
+    (with_subcommand
+    (with_subcommand (with_subcommand (with_subcommand program_name check_command.top) run_command.top) disasm_command.top)
+    asm_command.top)
+    audit_command.top)
+    explain_command.top)
+    replay_command.top

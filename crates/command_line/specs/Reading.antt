@@ -1,0 +1,151 @@
+-- What the settings are of a command and what was found for its arguments.
+use Rattle.std.specs.Prelude.{◌≡◌, ◌<◌, ◌^◌, ◌*◌, ◌+◌, ◌/◌, ℕ, Bool, List, [], length, true, false, ◌&&◌, Option, Some, option_map, IsTrue, IsFalse, codes, is_some, unwrap_or, slice_get, slice_index_or}
+use Rattle.std.specs.Borrow.{Bor}
+use Rattle.std.specs.Str.{bytes_eq}
+use Rattle.std.specs.Str.Parse.{IsNumeral, digits_value, without_leading_plus}
+use Rattle.clap.specs.Walk.{Row, Text, all_of, first_of, one_of}
+use Rattle.clap.specs.Values.{kind_of}
+use Rattle.clap.specs.declared.error.kind.ErrorKind.{ErrorKind}
+use Rattle.clap.specs.declared.error.kind.ErrorKind.TheVariants.{ArgumentConflict, OutOfMemory, ValueValidation}
+use Rattle.semantics.specs.declared.options.Options.{Options}
+use Rattle.command_line.specs.declared.commands.ReplayFiles.{ReplayFiles}
+use Rattle.command_line.specs.declared.commands.RunFiles.{RunFiles}
+use Rattle.command_line.specs.declared.commands.Settings.{Settings}
+use Rattle.command_line.specs.declared.commands.Settings.TheVariants.{Check, Run, Disasm, Audit, Explain, Asm, Replay}
+use Rattle.command_line.specs.declared.words.WordsFault.{WordsFault}
+use Rattle.command_line.specs.declared.words.WordsFault.TheVariants.{Parser, UnknownFault, Both, Update}
+use Rattle.command_line.specs.declared.words.Asked.{Asked}
+use Rattle.command_line.specs.declared.words.Asked.TheVariants.{Command, NoSuchFault, ImageAndScript, NoUpdate}
+use Rattle.explanations.specs.Explanations.{is_fault}
+use Rattle.map_updates.specs.UpdateWords.{IsWritten, IsMistaken}
+use Rattle.map_updates.specs.declared.reading.Mistake.{Mistake}
+use Rattle.map_updates.specs.declared.reading.Mistake.TheVariants.{Memory}
+use Rattle.map_updates.specs.declared.update.MapUpdate.{MapUpdate}
+
+-- the word of an option, where it is given
+abbrev pub text_of : Option (Bor (List ℕ)) → Option (List ℕ)
+text_of word = option_map (λ (w : Bor (List ℕ)). w.now) word
+
+-- the word of an argument, which the parser found
+abbrev pub word_of : Text → List Row → Text
+word_of id rows = unwrap_or (first_of id rows) []
+
+-- the number that the argument's text writes, where it writes one below 2 ^ bits
+abbrev pub IsNumberOf : ℕ → Text → List Row → ℕ → Type 0
+IsNumberOf bits id rows number =
+    (text : Text) → one_of id rows ≡ Some text → IsNumeral 10 (without_leading_plus text) → digits_value 10 (without_leading_plus text) < 2 ^ bits
+    → number ≡ digits_value 10 (without_leading_plus text)
+
+-- a switch is on where the parser found it given, and off where it found it missing
+abbrev pub IsSwitchOf : Text → List Row → Bool → Type 0
+IsSwitchOf id rows switch = (one_of id rows ≡ Some (codes "true") → switch ≡ true) × (one_of id rows ≡ Some (codes "false") → switch ≡ false)
+
+abbrev pub is_named : Text → Text → Type 0
+is_named name wanted = IsTrue (bytes_eq name wanted)
+
+-- a replay has both an image and a script
+abbrev pub names_both : ReplayFiles → Bool
+names_both files = is_some files.image && is_some files.script
+
+-- the files of a run are what was found for its arguments
+abbrev pub AreRunFiles : List Row → RunFiles → Type 0
+AreRunFiles rows files = (files.image.now ≡ word_of (codes "IMAGE") rows)
+    × (files.frame.now ≡ word_of (codes "FRAME") rows)
+    × (text_of files.journals ≡ first_of (codes "journals") rows)
+
+-- the words of an option that may be given any number of times, those of all uses
+abbrev pub words_of : Text → List Row → List Text
+words_of id rows = unwrap_or (all_of id rows) []
+
+abbrev pub word_at : List Text → ℕ → Text
+word_at words place = slice_index_or words place []
+
+-- each three of the words say one update, in their order
+pub record AreUpdates (words : List Text) (updates : List MapUpdate) : Type 0 where
+  pub count : length updates ≡ length words / 3
+  pub each :
+      (place : ℕ) (update : MapUpdate) → slice_get updates place ≡ Some update →
+      IsWritten (word_at words (3 * place)) (word_at words (3 * place + 1)) (word_at words (3 * place + 2)) update
+
+-- the update at a place, from 0, is none, and has this mistake first
+pub record IsBadUpdate (words : List Text) (place : ℕ) (mistake : Mistake) : Type 0 where
+  pub within : place < length words / 3
+  pub mistaken :
+      IsMistaken (word_at words (3 * place)) (word_at words (3 * place + 1)) (word_at words (3 * place + 2)) mistake
+
+-- the files of a replay are what was found for its arguments
+abbrev pub AreReplayFiles : List Row → ReplayFiles → Type 0
+AreReplayFiles rows files = (files.capture.now ≡ word_of (codes "CAPTURE") rows)
+    × (files.sent.now ≡ word_of (codes "SENT") rows)
+    × (text_of files.image ≡ first_of (codes "image") rows)
+    × (text_of files.script ≡ first_of (codes "script") rows)
+    × (text_of files.journals ≡ first_of (codes "journals") rows)
+
+-- and so are its options
+abbrev pub AreReplayOptions : List Row → Options → Type 0
+AreReplayOptions rows options = IsNumberOf 32 (codes "workers") rows options.workers
+    × IsNumberOf 32 (codes "shards") rows options.shards
+    × IsNumberOf 32 (codes "journal") rows options.journal
+
+-- the settings are those of the command of this name, with what was found for its arguments
+abbrev pub IsReadFrom : Text → List Row → Settings → Type 0
+IsReadFrom name rows (Check image explain) = is_named name (codes "check")
+    × (image.now ≡ word_of (codes "IMAGE") rows)
+    × IsSwitchOf (codes "explain") rows explain
+IsReadFrom name rows (Run files now worker updates) = is_named name (codes "run")
+    × AreRunFiles rows files
+    × IsNumberOf 64 (codes "now") rows now
+    × IsNumberOf 32 (codes "worker") rows worker
+    × AreUpdates (words_of (codes "update") rows) updates.items
+IsReadFrom name rows (Disasm image source) = is_named name (codes "disasm")
+    × (image.now ≡ word_of (codes "IMAGE") rows)
+    × IsSwitchOf (codes "source") rows source
+IsReadFrom name rows (Audit image journals) = is_named name (codes "audit")
+    × (image.now ≡ word_of (codes "IMAGE") rows)
+    × (journals.now ≡ word_of (codes "JOURNALS") rows)
+IsReadFrom name rows (Explain about) = is_named name (codes "explain")
+    × IsNumberOf 32 (codes "NUMBER") rows about.number
+    × (is_fault about.number ≡ true)
+IsReadFrom name rows (Asm text out source) = IsFalse (bytes_eq name (codes "check"))
+    × IsFalse (bytes_eq name (codes "run"))
+    × IsFalse (bytes_eq name (codes "disasm"))
+    × IsFalse (bytes_eq name (codes "audit"))
+    × IsFalse (bytes_eq name (codes "explain"))
+    × IsFalse (bytes_eq name (codes "replay"))
+    × (text.now ≡ word_of (codes "TEXT") rows)
+    × (out.now ≡ word_of (codes "OUT") rows)
+    × IsSwitchOf (codes "source") rows source
+IsReadFrom name rows (Replay files options ring) = is_named name (codes "replay")
+    × AreReplayFiles rows files
+    × AreReplayOptions rows options
+    × IsNumberOf 32 (codes "ring") rows ring
+    × IsFalse (names_both files)
+
+-- what was asked for: a command, what a number means that no fault has, a replay of both an image and a script, or an update that is none
+abbrev pub IsAsked : Text → List Row → Asked → Type 0
+IsAsked name rows (Command settings) = IsReadFrom name rows settings
+IsAsked name rows (NoSuchFault number) = is_named name (codes "explain")
+    × IsNumberOf 32 (codes "NUMBER") rows number
+    × (is_fault number ≡ false)
+IsAsked name rows ImageAndScript = is_named name (codes "replay")
+    × IsTrue (is_some (first_of (codes "image") rows) && is_some (first_of (codes "script") rows))
+IsAsked name rows (NoUpdate place mistake) = is_named name (codes "run")
+    × IsBadUpdate (words_of (codes "update") rows) place mistake
+
+-- the words ask for what there is not: what a number means that no fault has, a replay of both an image and a script, or an update that is none
+abbrev pub AsksInVain : Text → List Row → WordsFault → Type 0
+AsksInVain name rows (UnknownFault number) = IsAsked name rows (NoSuchFault number)
+AsksInVain name rows Both = IsAsked name rows ImageAndScript
+AsksInVain name rows (Update place mistake) = IsAsked name rows (NoUpdate place mistake)
+AsksInVain name rows (Parser error) = ⊥
+
+-- the parser's word for what the user asked for, or got wrong
+abbrev pub kind_of_mistake : Mistake → ErrorKind
+kind_of_mistake Memory = OutOfMemory
+kind_of_mistake mistake = ValueValidation
+
+abbrev pub kind_in : WordsFault → ErrorKind
+kind_in (Parser error) = kind_of error
+kind_in (UnknownFault number) = ValueValidation
+kind_in Both = ArgumentConflict
+kind_in (Update place mistake) = kind_of_mistake mistake

@@ -1,0 +1,71 @@
+//! What a command line says.
+
+use explanations::Explanation;
+use map_updates::MapUpdate;
+use semantics::Options;
+
+/// A command with its words: names of files as they were given, and numbers.
+#[derive(Debug, Drop)]
+pub enum Settings<'a> {
+    /// Judges an image, and tells why where it is asked to explain.
+    Check {
+        image: &'a str,
+        explain: bool,
+    },
+    /// Runs an image on one frame, at a time in nanoseconds, as the worker of a number, after these updates of its maps.
+    Run {
+        files: RunFiles<'a>,
+        now: u64,
+        worker: u32,
+        updates: Vec<MapUpdate>,
+    },
+    /// Prints an image as text, or in the source form.
+    Disasm {
+        image: &'a str,
+        source: bool,
+    },
+    /// Tells whether journals are legal for an image's maps.
+    Audit {
+        image: &'a str,
+        journals: &'a str,
+    },
+    /// Tells what a fault means.
+    Explain {
+        about: Explanation,
+    },
+    /// Writes the image of a text, or of a text in the source form.
+    Asm {
+        text: &'a str,
+        out: &'a str,
+        source: bool,
+    },
+    /// Runs the frames of a capture by some workers over shared maps, and writes those that are sent. It has no image, or no script.
+    Replay {
+        files: ReplayFiles<'a>,
+        options: Options,
+        /// How many slots the lookup table of the shipped program has.
+        ring: u32,
+    },
+}
+
+/// The files of a run.
+#[derive(Clone, Copy, Debug, PartialEq, Eq)]
+pub struct RunFiles<'a> {
+    pub image: &'a str,
+    pub frame: &'a str,
+    /// Where the journals are written to.
+    pub journals: Option<&'a str>,
+}
+
+/// The files of a replay.
+#[derive(Clone, Copy, Debug, PartialEq, Eq)]
+pub struct ReplayFiles<'a> {
+    pub capture: &'a str,
+    /// Where the sent frames are written to.
+    pub sent: &'a str,
+    /// The image's file; the shipped program is run where it is missing.
+    pub image: Option<&'a str>,
+    pub script: Option<&'a str>,
+    /// Where the journals are written to.
+    pub journals: Option<&'a str>,
+}

@@ -1,0 +1,412 @@
+//! The commands, their words and their help.
+
+ghost use Rattle.std.specs.Prelude.{◌≡◌, IfOk, false};
+ghost use Rattle.clap.specs.Words.{app_of, new_app, rule_of};
+ghost use Rattle.clap.specs.declared.builder.command.Command.TheViews.{out-Command};
+ghost use Rattle.command_line.specs.CommandLine as line;
+
+use clap::builder::ValueParser;
+use clap::{Arg, ArgAction, Command};
+use std::alloc::{AllocError, Global};
+
+/// The file of an image.
+pub const IMAGE: &str = "IMAGE";
+
+/// The file of a frame's bytes.
+pub const FRAME: &str = "FRAME";
+
+/// The file of journals.
+pub const JOURNALS: &str = "JOURNALS";
+
+/// The file of an image's text.
+pub const TEXT: &str = "TEXT";
+
+/// The file that is written.
+pub const OUT: &str = "OUT";
+
+/// The number of a fault.
+pub const NUMBER: &str = "NUMBER";
+
+/// Whether a check tells why.
+pub const EXPLAIN: &str = "explain";
+
+/// Whether a text is in the source form.
+pub const SOURCE: &str = "source";
+
+/// The time of a run.
+pub const NOW: &str = "now";
+
+/// The worker of a run.
+pub const WORKER: &str = "worker";
+
+/// The file of a capture.
+pub const CAPTURE: &str = "CAPTURE";
+
+/// The capture that is written.
+pub const SENT: &str = "SENT";
+
+/// The image of a replay.
+pub const REPLAY_IMAGE: &str = "image";
+
+/// The script of a replay.
+pub const SCRIPT: &str = "script";
+
+/// How many workers a replay has.
+pub const WORKERS: &str = "workers";
+
+/// How many shards each map has.
+pub const SHARDS: &str = "shards";
+
+/// The room of each journal.
+pub const JOURNAL: &str = "journal";
+
+/// The size of the ring.
+pub const RING: &str = "ring";
+
+/// A value that is set before a run.
+pub const UPDATE: &str = "update";
+
+/// The file of journals that a run or a replay writes.
+pub const JOURNALS_OUT: &str = "journals";
+
+const ABOUT: &str = "Checks, runs, prints and assembles images of eBPF programs";
+
+const VERSION: &str = "0.1.0";
+
+const AFTER: &str = "\
+A file that cannot be read, or that is refused, is told on the standard error
+as `fault <number> <name>`, with what it is about, and the status is 1. The
+status is 2 where the command line is wrong, and 0 where the command is done.
+'xlb <COMMAND> --help' tells more of a command, and 'xlb explain <NUMBER>' of a
+fault.";
+
+const AFTER_CHECK: &str = "\
+Prints one line:
+  accepted slots <slots> maps <maps> reader <yes or no>
+A slot has eight bytes; an instruction takes one or two. A reader changes no
+map and does the same on each worker. A program that may not run is refused
+with the first rule that it breaks and the slot of the instruction, counted
+from 0. With --explain more lines follow: of a refused program what was known
+at that instruction, the rule and the usual remedy; of an accepted one what is
+known before each instruction, and why it is no reader.
+An image of version 2 may besides take addresses in the values of its maps
+(the instruction ldval), and have values of up to 256 bytes.";
+
+const AFTER_RUN: &str = "\
+Prints three lines:
+  verdict <aborted, drop, pass or tx>
+  instructions <how many were run>
+  frame <the frame afterwards, in hexadecimal>
+A dropped frame is thrown away, a passed one goes to the host, and tx sends it
+out; aborted: the program's answer is none of these. The maps are new: the
+elements of an array are zeros, other maps have no keys. With --update, which
+may be given any number of times, a key of a map gets a value before the run,
+as the controller sets it: MAP is the map's place in the image, from 0, KEY and
+VALUE are its bytes in hexadecimal, as many as the map's keys and values have.
+With --journals the file has the calls that the controller and the run made on
+each map, with their replies, where the run came to its end.";
+
+const AFTER_DISASM: &str = "\
+Prints `version 1`, a line for each map and a line for each instruction: what
+asm reads. The program is not judged. With --source it prints the source form:
+labels in place of distances, and each instruction's slot in a comment.";
+
+const AFTER_ASM: &str = "\
+Prints nothing. An image has one text: another spelling is refused with its
+line, counted from 1. With --source the text may have comments, blank lines,
+labels, hexadecimal numbers and names of helpers.";
+
+const AFTER_AUDIT: &str = "\
+Prints `legal` where each entry of each journal is a call that its caller may
+make, with the reply that a map on one thread gives, and none came past a full
+journal. Else the first entry that is not is told, by its shard and its place
+there, counted from 0. Only the image's maps count: its program is not judged.";
+
+const AFTER_EXPLAIN: &str = "\
+Prints what the fault means, what mostly leads to it, and an example. A number
+that no fault has is a mistake of the command line.";
+
+const AFTER_REPLAY: &str = "\
+Prints how many frames there were, and of them the ones shorter than an
+Ethernet header, those whose run was stopped by a full journal, and those of
+each verdict:
+  frames <n>
+  short <n>
+  stopped <n>
+  aborted <n>
+  drop <n>
+  pass <n>
+  tx <n>
+and for each command of the script that was refused
+  command <its number, from 1> refused <fault number>
+in which case the status is 1. A frame is handled by the worker of its flow,
+so that a flow's frames stay in order.";
+
+/// A file that has to be named.
+fn file<'a>(alloc: Global, id: &'a str, help: &'a str) -> Arg<'a>
+    ensures rule { rule_of result ≡ line.file_rule id.entry.now }
+    ensures local { result.global ≡ false }
+{
+    Arg::new(alloc, id)
+        .required(true)
+        .action(ArgAction::Set)
+        .help(help)
+}
+
+/// A file that may be named by an option.
+fn option<'a>(alloc: Global, id: &'a str, help: &'a str) -> Arg<'a>
+    ensures rule { rule_of result ≡ line.option_rule id.entry.now }
+    ensures local { result.global ≡ false }
+{
+    Arg::new(alloc, id)
+        .long(id)
+        .action(ArgAction::Set)
+        .value_name("FILE")
+        .help(help)
+}
+
+/// An option of three words that may be given any number of times.
+fn three_words<'a>(alloc: Global, id: &'a str, names: &'a [&'a str; 3], help: &'a str) -> Arg<'a>
+    ensures rule { rule_of result ≡ line.three_words_rule id.entry.now }
+    ensures local { result.global ≡ false }
+{
+    Arg::new(alloc, id)
+        .long(id)
+        .action(ArgAction::Append)
+        .value_names(names)
+        .help(help)
+}
+
+/// A number that may be given, at most `most`.
+fn number<'a>(alloc: Global, id: &'a str, most: u64, default: &'a str, help: &'a str) -> Arg<'a>
+    ensures rule { rule_of result ≡ line.number_rule id.entry.now most default.entry.now }
+    ensures local { result.global ≡ false }
+{
+    Arg::new(alloc, id)
+        .long(id)
+        .action(ArgAction::Set)
+        .value_name("N")
+        .value_parser(ValueParser::unsigned(0, most))
+        .default_value(default)
+        .help(help)
+}
+
+/// A number that has to be named, at most `most`.
+fn named_number<'a>(alloc: Global, id: &'a str, most: u64, help: &'a str) -> Arg<'a>
+    ensures rule { rule_of result ≡ line.named_number_rule id.entry.now most }
+    ensures local { result.global ≡ false }
+{
+    Arg::new(alloc, id)
+        .required(true)
+        .action(ArgAction::Set)
+        .value_parser(ValueParser::unsigned(0, most))
+        .help(help)
+}
+
+/// A switch, which is off where it is not given.
+fn switch<'a>(alloc: Global, id: &'a str, help: &'a str) -> Arg<'a>
+    ensures rule { rule_of result ≡ line.switch_rule id.entry.now }
+    ensures local { result.global ≡ false }
+{
+    Arg::new(alloc, id)
+        .long(id)
+        .action(ArgAction::SetTrue)
+        .help(help)
+}
+
+/// A command of a name, with its help, and as yet no words.
+fn command<'a>(alloc: Global, name: &'a str, about: &'a str, after: &'a str) -> Command<'a>
+    ensures app { app_of result ≡ new_app name.entry.now }
+    ensures local { (out-Command result).has_globals ≡ false }
+{
+    Command::new(alloc, name).about(about).after_help(after)
+}
+
+fn check<'a>(alloc: Global) -> Result<Command<'a>, AllocError>
+    ensures app { IfOk result (λ command. app_of command ≡ line.check_command) }
+    ensures local { IfOk result (λ command. (out-Command command).has_globals ≡ false) }
+{
+    let image = file(alloc, IMAGE, "The image's file");
+    let explain = switch(alloc, EXPLAIN, "Tells why");
+    command(alloc, "check", "Judges an image", AFTER_CHECK)
+        .arg(image)?
+        .arg(explain)
+}
+
+/// The words of a run that name files and updates.
+fn run_named<'a>(alloc: Global) -> Result<Command<'a>, AllocError>
+    ensures app { IfOk result (λ command. app_of command ≡ line.run_named) }
+    ensures local { IfOk result (λ command. (out-Command command).has_globals ≡ false) }
+{
+    let image = file(alloc, IMAGE, "The image's file");
+    let frame = file(
+        alloc,
+        FRAME,
+        "The file of the frame's bytes, 14 to 2048 of them",
+    );
+    let journals = option(alloc, JOURNALS_OUT, "The file to write the journals to");
+    let updates = three_words(
+        alloc,
+        UPDATE,
+        &["MAP", "KEY", "VALUE"],
+        "Sets a value before the run",
+    );
+    command(alloc, "run", "Runs an image on one frame", AFTER_RUN)
+        .arg(image)?
+        .arg(frame)?
+        .arg(journals)?
+        .arg(updates)
+}
+
+fn run<'a>(alloc: Global) -> Result<Command<'a>, AllocError>
+    ensures app { IfOk result (λ command. app_of command ≡ line.run_command) }
+    ensures local { IfOk result (λ command. (out-Command command).has_globals ≡ false) }
+{
+    let now = number(alloc, NOW, u64::MAX, "0", "The time in nanoseconds");
+    let worker = number(
+        alloc,
+        WORKER,
+        u32::MAX as u64,
+        "0",
+        "The worker's number, 0 to 7",
+    );
+    run_named(alloc)?.arg(now)?.arg(worker)
+}
+
+fn disasm<'a>(alloc: Global) -> Result<Command<'a>, AllocError>
+    ensures app { IfOk result (λ command. app_of command ≡ line.disasm_command) }
+    ensures local { IfOk result (λ command. (out-Command command).has_globals ≡ false) }
+{
+    let image = file(alloc, IMAGE, "The image's file");
+    let source = switch(alloc, SOURCE, "Prints the source form");
+    command(alloc, "disasm", "Prints an image as text", AFTER_DISASM)
+        .arg(image)?
+        .arg(source)
+}
+
+fn asm<'a>(alloc: Global) -> Result<Command<'a>, AllocError>
+    ensures app { IfOk result (λ command. app_of command ≡ line.asm_command) }
+    ensures local { IfOk result (λ command. (out-Command command).has_globals ≡ false) }
+{
+    let text = file(alloc, TEXT, "The text's file");
+    let out = file(alloc, OUT, "The file to write the image to");
+    let source = switch(alloc, SOURCE, "Reads the source form");
+    command(alloc, "asm", "Writes the image of a text", AFTER_ASM)
+        .arg(text)?
+        .arg(out)?
+        .arg(source)
+}
+
+fn audit<'a>(alloc: Global) -> Result<Command<'a>, AllocError>
+    ensures app { IfOk result (λ command. app_of command ≡ line.audit_command) }
+    ensures local { IfOk result (λ command. (out-Command command).has_globals ≡ false) }
+{
+    let image = file(alloc, IMAGE, "The image's file");
+    let journals = file(alloc, JOURNALS, "The file of the journals");
+    command(
+        alloc,
+        "audit",
+        "Tells whether journals are legal",
+        AFTER_AUDIT,
+    )
+    .arg(image)?
+    .arg(journals)
+}
+
+fn explain<'a>(alloc: Global) -> Result<Command<'a>, AllocError>
+    ensures app { IfOk result (λ command. app_of command ≡ line.explain_command) }
+    ensures local { IfOk result (λ command. (out-Command command).has_globals ≡ false) }
+{
+    let number = named_number(alloc, NUMBER, u32::MAX as u64, "The fault's number");
+    command(alloc, "explain", "Tells what a fault means", AFTER_EXPLAIN).arg(number)
+}
+
+/// A number of 32 bits that may be given.
+fn count<'a>(alloc: Global, id: &'a str, default: &'a str, help: &'a str) -> Arg<'a>
+    ensures rule { rule_of result ≡ line.number_rule id.entry.now 4294967295 default.entry.now }
+    ensures local { result.global ≡ false }
+{
+    number(alloc, id, u32::MAX as u64, default, help)
+}
+
+/// The words of a replay that name a capture and the file of what is sent.
+fn replay_named<'a>(alloc: Global) -> Result<Command<'a>, AllocError>
+    ensures app { IfOk result (λ command. app_of command ≡ line.replay_named) }
+    ensures local { IfOk result (λ command. (out-Command command).has_globals ≡ false) }
+{
+    let capture = file(alloc, CAPTURE, "The capture's file, in the pcap format");
+    let sent = file(alloc, SENT, "The file to write the sent frames to");
+    command(
+        alloc,
+        "replay",
+        "Runs the frames of a capture by some workers",
+        AFTER_REPLAY,
+    )
+    .arg(capture)?
+    .arg(sent)
+}
+
+/// All its words that name files.
+fn replay_files<'a>(alloc: Global) -> Result<Command<'a>, AllocError>
+    ensures app { IfOk result (λ command. app_of command ≡ line.replay_files) }
+    ensures local { IfOk result (λ command. (out-Command command).has_globals ≡ false) }
+{
+    let image = option(
+        alloc,
+        REPLAY_IMAGE,
+        "The image's file; without it the shipped program is run",
+    );
+    let script = option(alloc, SCRIPT, "The controller's script; not with --image");
+    let journals = option(alloc, JOURNALS_OUT, "The file to write the journals to");
+    replay_named(alloc)?.arg(image)?.arg(script)?.arg(journals)
+}
+
+fn replay<'a>(alloc: Global) -> Result<Command<'a>, AllocError>
+    ensures app { IfOk result (λ command. app_of command ≡ line.replay_command) }
+    ensures local { IfOk result (λ command. (out-Command command).has_globals ≡ false) }
+{
+    let workers = count(alloc, WORKERS, "1", "How many workers, 1 to 8");
+    let shards = count(
+        alloc,
+        SHARDS,
+        "1",
+        "How many shards each map has: 1, 2, 4 or 8",
+    );
+    let journal = count(
+        alloc,
+        JOURNAL,
+        "65536",
+        "How many calls each shard may have, 16 to 1048576",
+    );
+    let ring = count(
+        alloc,
+        RING,
+        "251",
+        "The slots of the shipped program's ring: 7, 251, 4093 or 65537",
+    );
+    replay_files(alloc)?
+        .arg(workers)?
+        .arg(shards)?
+        .arg(journal)?
+        .arg(ring)
+}
+
+/// The program's commands.
+pub fn program<'a>(alloc: Global) -> Result<Command<'a>, AllocError>
+    ensures app { IfOk result (λ command. app_of command ≡ line.program) }
+    ensures local { IfOk result (λ command. (out-Command command).has_globals ≡ false) }
+{
+    let top = Command::new(alloc, "xlb")
+        .bin_name("xlb")?
+        .about(ABOUT)
+        .version(VERSION)
+        .after_help(AFTER)
+        .subcommand_required(true);
+    top.subcommand(check(alloc)?)?
+        .subcommand(run(alloc)?)?
+        .subcommand(disasm(alloc)?)?
+        .subcommand(asm(alloc)?)?
+        .subcommand(audit(alloc)?)?
+        .subcommand(explain(alloc)?)?
+        .subcommand(replay(alloc)?)
+}

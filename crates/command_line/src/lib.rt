@@ -1,0 +1,9 @@
+//! The program's command line: its commands with their words and help, and what a user's words say.
+#![tactic(auto)]
+
+mod commands;
+mod grammar;
+mod words;
+
+pub use commands::{ReplayFiles, RunFiles, Settings};
+pub use words::{WordsFault, settings};

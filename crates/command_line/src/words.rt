@@ -1,0 +1,341 @@
+//! The command line, read.
+
+ghost use Rattle.std.specs.Prelude.{◌≡◌, ◌≢◌, ◌⊎◌, ◌<◌, ◌+◌, ◌*◌, ◌/◌, List, [], Some, IfOk, IfErr, IsFalse, length, map, codes};
+ghost use Rattle.std.specs.Str.{bytes_eq};
+ghost use Rattle.clap.specs.Kinds.{FailsBy, IsAmong};
+ghost use Rattle.clap.specs.Walk.{first_of, texts};
+ghost use Rattle.map_updates.specs.UpdateWords.{IsWritten, IsMistaken};
+ghost use Rattle.clap.specs.Words.{Row, Text, fault_of, found_of, rows_of, subcommand_of};
+ghost use Rattle.command_line.specs.CommandLine.{program};
+ghost use Rattle.command_line.specs.Reading.{IsReadFrom, IsAsked, IsBadUpdate, IsSwitchOf, AreRunFiles, AreUpdates, AreReplayFiles, AreReplayOptions, AsksInVain, IsNumberOf, kind_in, text_of, word_at, word_of, words_of};
+ghost use Rattle.clap.specs.declared.error.kind.ErrorKind.TheVariants.{DisplayHelp, DisplayVersion, OutOfMemory};
+
+use crate::commands::{ReplayFiles, RunFiles, Settings};
+use crate::grammar::{
+    CAPTURE, EXPLAIN, FRAME, IMAGE, JOURNAL, JOURNALS, JOURNALS_OUT, NOW, NUMBER, OUT,
+    REPLAY_IMAGE, RING, SCRIPT, SENT, SHARDS, SOURCE, TEXT, UPDATE, WORKER, WORKERS, program,
+};
+use clap::{ArgMatches, Error};
+use explanations::Explanation;
+use map_updates::{MapUpdate, Mistake, update_of};
+use semantics::Options;
+use std::alloc::Global;
+use std::convert::AsStr;
+use std::{fmt, io};
+
+/// What is told of a replay of both an image and a script.
+const TOGETHER: &str = "error: the options --image and --script cannot be used together";
+
+/// Why words are no command, or which text they ask for: help or the version.
+#[derive(Debug, Drop)]
+pub enum WordsFault {
+    /// The parser's own answer, whose text is for the user.
+    Parser(Error),
+    /// No fault has the number that was asked about.
+    UnknownFault(u32),
+    /// A replay has both an image and a script.
+    Both,
+    /// An update of a run, at this place among its updates, from 0, is none; or memory was refused for it.
+    Update { place: usize, mistake: Mistake },
+}
+
+/// What words ask for that the parser finds no fault in.
+#[derive(Debug, Drop)]
+enum Asked<'a> {
+    /// A command.
+    Command(Settings<'a>),
+    /// What a number means that no fault has.
+    NoSuchFault(u32),
+    /// A replay of both an image and a script.
+    ImageAndScript,
+    /// A run with an update that is none.
+    NoUpdate { place: usize, mistake: Mistake },
+}
+
+impl WordsFault {
+    /// The status that the program ends with: 0 where help or the version was asked for, 2 for a mistake.
+    pub fn status(&self) -> u8
+        ensures shown { (kind_in self.now ≡ DisplayHelp) ⊎ (kind_in self.now ≡ DisplayVersion) → result ≡ 0 }
+        ensures mistake { (kind_in self.now ≢ DisplayHelp) → (kind_in self.now ≢ DisplayVersion) → result ≡ 2 }
+    {
+        match self {
+            WordsFault::Parser(error) => { if error.use_stderr() { 2 } else { 0 } }
+            WordsFault::UnknownFault(_) => 2,
+            WordsFault::Both => 2,
+            WordsFault::Update { .. } => 2,
+        }
+    }
+
+    /// Prints the text: help and the version on the standard output, a mistake on the standard error.
+    pub fn print<R: Print + Eprint>(&self, rt: &R) -> io::Result<()> {
+        match self {
+            WordsFault::Parser(error) => error.print(rt),
+            WordsFault::UnknownFault(number) => eprintln!(rt; "error: there is no fault {number}"),
+            WordsFault::Both => eprintln!(rt; "{TOGETHER}"),
+            WordsFault::Update { place, mistake } => {
+                let number = place.saturating_add(1);
+                eprintln!(rt; "error: update {number}: {mistake}")
+            }
+        }
+    }
+}
+
+impl fmt::Display for WordsFault {
+    fn fmt<W: fmt::Write>(&self, f: &mut fmt::Formatter<W>) -> fmt::Result {
+        match self {
+            WordsFault::Parser(error) => write!(f, "{error}"),
+            WordsFault::UnknownFault(number) => write!(f, "error: there is no fault {number}"),
+            WordsFault::Both => write!(f, "{TOGETHER}"),
+            WordsFault::Update { place, mistake } => {
+                let number = place.saturating_add(1);
+                write!(f, "error: update {number}: {mistake}")
+            }
+        }
+    }
+}
+
+/// The command that the words say; the first word is the program's name.
+///
+/// There is one exactly where the parser finds no fault in the words, and they don't ask what a number means that no fault has, for a
+/// replay of both an image and a script, or for a run with an update that is none. A fault is of the first kind that the parser finds, or one
+/// of these three, or memory was refused.
+pub fn settings<'a, S: AsStr>(alloc: Global, words: &'a [S]) -> Result<Settings<'a>, WordsFault>
+    ensures found { IfOk result (λ settings. (name : Text) × (rows : List Row)
+        × (subcommand_of program (map S.text words.entry.now) ≡ Some (name, rows)) × IsReadFrom name rows settings) }
+    ensures faultless { IfOk result (λ _. fault_of program (map S.text words.entry.now) ≡ []) }
+    ensures faulty { IfErr result (λ fault. (kind_in fault ≡ OutOfMemory)
+        ⊎ IsAmong (kind_in fault) (fault_of program (map S.text words.entry.now))
+        ⊎ ((name : Text) × (rows : List Row) × (subcommand_of program (map S.text words.entry.now) ≡ Some (name, rows)) × AsksInVain name rows fault)) }
+{
+    match parsed(alloc, words) {
+        Ok(Asked::Command(settings)) => Ok(settings),
+        Ok(Asked::NoSuchFault(number)) => Err(WordsFault::UnknownFault(number)),
+        Ok(Asked::ImageAndScript) => Err(WordsFault::Both),
+        Ok(Asked::NoUpdate { place, mistake }) => Err(WordsFault::Update { place, mistake }),
+        Err(error) => Err(WordsFault::Parser(error)),
+    }
+}
+
+/// What the parser makes of the words.
+fn parsed<'a, S: AsStr>(alloc: Global, words: &'a [S]) -> Result<Asked<'a>, Error>
+    ensures found { IfOk result (λ asked. (name : Text) × (rows : List Row)
+        × (subcommand_of program (map S.text words.entry.now) ≡ Some (name, rows)) × IsAsked name rows asked) }
+    ensures kinds { FailsBy (fault_of program (map S.text words.entry.now)) result }
+{
+    let command = program(alloc)?;
+    let matches = command.try_get_matches_from(words)?;
+    match matches.subcommand() {
+        Some((name, found)) => Ok(asked_of(alloc, name, found)),
+        None => unreachable!(),
+    }
+}
+
+/// What the command of a name asks for, with its words.
+fn asked_of<'a>(alloc: Global, name: &str, found: &ArgMatches<'a>) -> Asked<'a>
+    ensures { IsAsked name.now (rows_of (found_of found.now)) result }
+{
+    if name == "run" {
+        return run_of(alloc, found);
+    }
+    if name == "explain" {
+        return explain_of(found);
+    }
+    if name == "replay" {
+        return replay_of(found);
+    }
+    Asked::Command(command_of(name, found))
+}
+
+/// What is asked of a fault's number.
+fn explain_of<'a>(found: &ArgMatches<'a>) -> Asked<'a>
+    ensures { IsAsked (codes "explain") (rows_of (found_of found.now)) result }
+{
+    let number = number_of(found, NUMBER, 0);
+    match Explanation::of(number) {
+        Some(about) => Asked::Command(Settings::Explain { about }),
+        None => Asked::NoSuchFault(number),
+    }
+}
+
+/// What is asked of a replay.
+fn replay_of<'a>(found: &ArgMatches<'a>) -> Asked<'a>
+    ensures { IsAsked (codes "replay") (rows_of (found_of found.now)) result }
+{
+    let files = replay_files_of(found);
+    if files.image.is_some() && files.script.is_some() {
+        return Asked::ImageAndScript;
+    }
+    Asked::Command(Settings::Replay {
+        files,
+        options: options_of(found),
+        ring: number_of(found, RING, 251),
+    })
+}
+
+/// The files of a replay.
+fn replay_files_of<'a>(found: &ArgMatches<'a>) -> ReplayFiles<'a>
+    ensures { AreReplayFiles (rows_of (found_of found.now)) result }
+{
+    ReplayFiles {
+        capture: word(found, CAPTURE),
+        sent: word(found, SENT),
+        image: option(found, REPLAY_IMAGE),
+        script: option(found, SCRIPT),
+        journals: option(found, JOURNALS_OUT),
+    }
+}
+
+/// How the shards of a replay are opened.
+fn options_of(found: &ArgMatches<'_>) -> Options
+    ensures { AreReplayOptions (rows_of (found_of found.now)) result }
+{
+    Options {
+        workers: number_of(found, WORKERS, 1),
+        shards: number_of(found, SHARDS, 1),
+        journal: number_of(found, JOURNAL, 65_536),
+    }
+}
+
+/// The number of an argument.
+fn number_of(found: &ArgMatches<'_>, id: &str, default: u32) -> u32
+    ensures { IsNumberOf 32 id.now (rows_of (found_of found.now)) result }
+{
+    found.get_one::<u32>(id).unwrap_or(default)
+}
+
+/// The word of an option, where it is given.
+fn option<'a>(found: &ArgMatches<'a>, id: &str) -> Option<&'a str>
+    ensures { text_of result ≡ first_of id.now (rows_of (found_of found.now)) }
+{
+    found.get_str(id)
+}
+
+/// Whether a switch is on.
+fn switch(found: &ArgMatches<'_>, id: &str) -> bool
+    ensures { IsSwitchOf id.now (rows_of (found_of found.now)) result }
+{
+    found.get_flag(id)
+}
+
+/// The command of a name, but for `run`, `explain` and `replay`, with its words.
+fn command_of<'a>(name: &str, found: &ArgMatches<'a>) -> Settings<'a>
+    requires run { IsFalse (bytes_eq name.now (codes "run")) }
+    requires explain { IsFalse (bytes_eq name.now (codes "explain")) }
+    requires replay { IsFalse (bytes_eq name.now (codes "replay")) }
+    ensures { IsReadFrom name.now (rows_of (found_of found.now)) result }
+{
+    if name == "check" {
+        return Settings::Check {
+            image: word(found, IMAGE),
+            explain: switch(found, EXPLAIN),
+        };
+    }
+    if name == "disasm" {
+        return Settings::Disasm {
+            image: word(found, IMAGE),
+            source: switch(found, SOURCE),
+        };
+    }
+    if name == "audit" {
+        return Settings::Audit {
+            image: word(found, IMAGE),
+            journals: word(found, JOURNALS),
+        };
+    }
+    Settings::Asm {
+        text: word(found, TEXT),
+        out: word(found, OUT),
+        source: switch(found, SOURCE),
+    }
+}
+
+/// What is asked of a run.
+fn run_of<'a>(alloc: Global, found: &ArgMatches<'a>) -> Asked<'a>
+    ensures { IsAsked (codes "run") (rows_of (found_of found.now)) result }
+{
+    match updates_found(alloc, found) {
+        Ok(updates) => Asked::Command(run_with(found, updates)),
+        Err((place, mistake)) => Asked::NoUpdate { place, mistake },
+    }
+}
+
+/// The settings of a run with these updates.
+fn run_with<'a>(found: &ArgMatches<'a>, updates: Vec<MapUpdate>) -> Settings<'a>
+    requires { AreUpdates (words_of (codes "update") (rows_of (found_of found.now))) updates.items }
+    ensures { IsReadFrom (codes "run") (rows_of (found_of found.now)) result }
+{
+    Settings::Run {
+        files: run_files_of(found),
+        now: found.get_one::<u64>(NOW).unwrap_or(0),
+        worker: number_of(found, WORKER, 0),
+        updates,
+    }
+}
+
+/// The updates of a run; or the place of the first that is none, with its first mistake.
+fn updates_found(alloc: Global, found: &ArgMatches<'_>) -> Result<Vec<MapUpdate>, (usize, Mistake)>
+    ensures read { IfOk result (λ updates. AreUpdates (words_of (codes "update") (rows_of (found_of found.now))) updates.items) }
+    ensures mistaken { IfErr result (λ bad. IsBadUpdate (words_of (codes "update") (rows_of (found_of found.now))) bad.0 bad.1) }
+{
+    match found.get_raw(UPDATE) {
+        Some(words) => updates_of(alloc, words),
+        None => Ok(Vec::new(alloc)),
+    }
+}
+
+/// The updates that words say, three words each; or the place of the first that is none, with its first mistake.
+fn updates_of(alloc: Global, words: &[&str]) -> Result<Vec<MapUpdate>, (usize, Mistake)>
+    ensures read { IfOk result (λ updates. AreUpdates (texts words.now) updates.items) }
+    ensures mistaken { IfErr result (λ bad. IsBadUpdate (texts words.now) bad.0 bad.1) }
+{
+    let mut updates = Vec::new(alloc);
+    'updates: for place in 0..words.len() / 3 {
+        match update_at(alloc, words, place) {
+            Ok(update) => match updates.push(update) {
+                Ok(()) => {}
+                Err(_) => return Err((place, Mistake::Memory)),
+            },
+            Err(mistake) => return Err((place, mistake)),
+        }
+    }
+    Ok(updates)
+}
+
+/// The update at a place, that three words say.
+fn update_at(alloc: Global, words: &[&str], place: usize) -> Result<MapUpdate, Mistake>
+    requires { place < length words.now / 3 }
+    ensures read { IfOk result (IsWritten (word_at (texts words.now) (3 * place)) (word_at (texts words.now) (3 * place + 1)) (word_at (texts words.now) (3 * place + 2))) }
+    ensures mistaken { IfErr result (IsMistaken (word_at (texts words.now) (3 * place)) (word_at (texts words.now) (3 * place + 1)) (word_at (texts words.now) (3 * place + 2))) }
+{
+    let first = 3 * place;
+    let map = nth_word(words, first);
+    let key = nth_word(words, first + 1);
+    let value = nth_word(words, first + 2);
+    update_of(alloc, map, key, value)
+}
+
+/// The word at a place.
+fn nth_word<'a>(words: &[&'a str], place: usize) -> &'a str
+    requires { place < length words.now }
+    ensures { result.now ≡ word_at (texts words.now) place }
+{
+    words[place]
+}
+
+/// The files of a run.
+fn run_files_of<'a>(found: &ArgMatches<'a>) -> RunFiles<'a>
+    ensures { AreRunFiles (rows_of (found_of found.now)) result }
+{
+    RunFiles {
+        image: word(found, IMAGE),
+        frame: word(found, FRAME),
+        journals: option(found, JOURNALS_OUT),
+    }
+}
+
+/// The word of a required argument.
+fn word<'a>(found: &ArgMatches<'a>, id: &str) -> &'a str
+    ensures { result.now ≡ word_of id.now (rows_of (found_of found.now)) }
+{
+    found.get_str(id).unwrap_or("")
+}

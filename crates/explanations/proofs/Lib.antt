@@ -1,0 +1,2 @@
+-- The lemmas that proofs of this crate share.
+pub mod PlaceLemmas

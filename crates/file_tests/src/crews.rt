@@ -1,0 +1,196 @@
+//! What no clause says: that threads start and calls return where there is memory, each once at least; and rows worked out elsewhere.
+
+ghost use Rattle.std.specs.Prelude.{◌≡◌, ◌<◌, ◌≤◌};
+
+use rx_queues::{Job, Queues, TakePass};
+use std::alloc::Global;
+use std::process::Abort;
+use std::sync::Wait;
+use std::test::Fail;
+use std::thread::Threads;
+use wire::{Capture, MemorySink, MemorySource, Sent, read_capture, write_capture};
+use workers::{Actor, ActorEnded, Handled, RunEnd, Runner, run_all};
+
+/// Passes each frame, and counts in a worker's state how many it has run.
+#[derive(Drop)]
+struct Passing;
+
+impl Runner<u64> for Passing {
+    ghost use Rattle.std.specs.Prelude.{⊤};
+
+    ghost is_new = { λ _ _ _. ⊤ };
+
+    ghost is_idle = { λ _ _ _. ⊤ };
+
+    ghost runs = { λ _ _ _ _ _ _. ⊤ };
+
+    fn run(&self, alloc: Global, worker: u8, sent: &Sent, state: &mut u64) -> Option<RunEnd> {
+        let _ = alloc;
+        let _ = worker;
+        let _ = sent;
+        *state = state.wrapping_add(1);
+        Some(RunEnd::Passed)
+    }
+}
+
+/// What an actor was handed: the command that comes next where all came in order, and how many rounds it was asked for.
+#[derive(Clone, Copy, Debug, PartialEq, Eq)]
+struct Heard {
+    next: usize,
+    rounds: u64,
+}
+
+/// Listens to its jobs.
+#[derive(Drop)]
+struct Hearing {
+    first: usize,
+}
+
+impl Actor<Heard> for Hearing {
+    ghost use Rattle.std.specs.Prelude.{⊤};
+
+    ghost is_ready = { λ _. ⊤ };
+
+    ghost gives = { λ _ _ _. ⊤ };
+
+    fn until_end<R: Wait>(
+        self,
+        rt: &R,
+        alloc: Global,
+        queues: &Queues,
+        mut take: TakePass,
+    ) -> ActorEnded<Heard> {
+        let _ = alloc;
+        let mut given = Heard {
+            next: self.first,
+            rounds: 0,
+        };
+        'jobs: for _ in rt.forever() {
+            match queues.take_waiting(rt, &mut take) {
+                Job::End => break,
+                Job::Note => given.rounds = given.rounds.wrapping_add(1),
+                Job::Command(number) if number == given.next => {
+                    given.next = number.wrapping_add(1)
+                }
+                _ => {}
+            }
+        }
+        ActorEnded {
+            take,
+            given,
+            is_refused: false,
+        }
+    }
+}
+
+/// A TCP segment without data from this port of 198.51.100.7 to port 80 of 203.0.113.1.
+fn segment(source_port: u16) -> [u8; 54] {
+    let [high, low] = source_port.to_be_bytes();
+    [
+        2, 0, 0, 0, 0, 1, 2, 0, 0, 0, 0, 2, 8, 0, 0x45, 0, 0, 40, 0, 1, 0, 0, 64, 6, 0, 0, 198, 51,
+        100, 7, 203, 0, 113, 1, high, low, 0, 80, 0, 0, 0, 0, 0, 0, 0, 0, 0x50, 0, 0, 0, 0, 0, 0,
+        0,
+    ]
+}
+
+/// A record of these bytes.
+fn one_record(alloc: Global, number: u32, bytes: &[u8]) -> Result<Sent, Fail> {
+    let bytes = if bytes.len() <= 2048 { bytes } else { &[] };
+    Ok(Sent {
+        seconds: 7,
+        micros: number,
+        bytes: Vec::from_slice(alloc, bytes)?,
+    })
+}
+
+/// So many records of 40 flows in turn, each hundredth one of 13 bytes only.
+fn capture(alloc: Global, count: u32) -> Result<Capture, Fail> {
+    let mut records = Vec::new(alloc);
+    for number in 0..count {
+        if number % 100 == 99 {
+            records.push(one_record(alloc, number, &[0; 13])?)?;
+        } else {
+            let bytes = segment(40000 + (number % 40) as u16);
+            records.push(one_record(alloc, number, &bytes)?)?;
+        }
+    }
+    let mut sink = MemorySink::new(alloc);
+    write_capture(&mut sink, &records)?;
+    let bytes = sink.bytes();
+    let bytes = if bytes.len() <= 1_000_000 { bytes } else { &[] };
+    Ok(read_capture(alloc, &mut MemorySource::new(bytes))?)
+}
+
+/// How many records, over how many workers; how many runs each worker makes, and how many rounds are asked for.
+#[derive(Clone, Copy)]
+struct Row<'a> {
+    records: u32,
+    workers: usize,
+    runs: &'a [u64],
+    rounds: u64,
+}
+
+// The workers' runs stand as a separate program computed them from the hashes of the flows.
+#[rattlefmt::skip]
+const ROWS: [Row; 5] = [
+    Row { records: 0,    workers: 1, runs: &[0],      rounds: 1 },
+    Row { records: 63,   workers: 1, runs: &[63],     rounds: 1 },
+    Row { records: 64,   workers: 2, runs: &[32, 32], rounds: 2 },
+    Row { records: 1000, workers: 1, runs: &[990],    rounds: 16 },
+    Row { records: 1000, workers: 4, runs: &[250, 240, 250, 250], rounds: 16 },
+];
+
+/// After how many records each command comes. The first one was applied before.
+const STARTS: [u32; 5] = [0, 0, 64, 500, 4_000_000_000];
+
+fn runs_are(workers: &[Handled<u64>], want: &[u64]) -> bool {
+    workers.iter().all(|it| it.runs.len() as u64 == it.state)
+        && workers.iter().map(|it| it.state).eq(want.iter().copied())
+}
+
+/// Runs the row with a controller and a reclaimer, and compares.
+fn run_beside<R: Abort + Threads + Wait + Sync>(
+    rt: &R,
+    alloc: Global,
+    row: Row<'_>,
+) -> Result<(), Fail>
+    requires { (0 < row.workers) × (row.workers ≤ 8) }
+{
+    let capture = capture(alloc, row.records)?;
+    let (queues, put, takes) = Queues::open(alloc, row.workers)?;
+    let states = vec![in alloc; 0; row.workers]?;
+    let ended = run_all(
+        rt,
+        alloc,
+        &queues,
+        &capture,
+        &STARTS,
+        1,
+        &Passing,
+        Hearing { first: 1 },
+        Hearing { first: 0 },
+        put,
+        takes,
+        states,
+    )?;
+    let workers = row.workers;
+    assert!(rt; runs_are(&ended.workers, row.runs), "{workers} workers");
+    assert_eq!(rt; ended.controller, Heard { next: 5, rounds: 0 });
+    assert_eq!(rt;
+        ended.reclaimer,
+        Heard {
+            next: 0,
+            rounds: row.rounds
+        }
+    );
+    Ok(())
+}
+
+#[test]
+fn each_record_is_run_once(rt: HostRuntime) -> Result<(), Fail> {
+    for row in ROWS {
+        prove!(0 < row.workers && row.workers <= 8);
+        run_beside(&rt, rt.alloc(), row)?;
+    }
+    Ok(())
+}

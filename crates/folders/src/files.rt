@@ -1,0 +1,202 @@
+//! The system's files.
+
+ghost use Rattle.std.specs.Prelude.{◌≡◌, ◌+◌, ◌-◌, ◌<◌, ◌^◌, IfOk};
+ghost use Rattle.folders.specs.Fronts.{IsShortFront};
+
+use crate::folder::{Folder, FolderFault, Front};
+use std::alloc::{AllocError, Global};
+use std::io::{ErrorKind, Read, Write};
+use std::rt::Files;
+use std::{fs, io};
+
+/// The most bytes that are read of a file: one that gives more has no end.
+const MOST: u64 = 1 << 40;
+
+/// What was done with a file when its device failed.
+#[derive(Clone, Copy, Debug, PartialEq, Eq)]
+enum Step {
+    Opening,
+    Reading,
+    Making,
+    Writing,
+}
+
+/// A call that failed, and the system's word for why.
+#[derive(Clone, Copy, Debug)]
+struct Failure {
+    step: Step,
+    error: io::Error,
+}
+
+/// Why a file was not read.
+#[derive(Clone, Copy, Debug)]
+enum Trouble {
+    Device(Failure),
+    Memory,
+}
+
+/// The system's files, whose bytes no contract tells.
+#[derive(Drop)]
+pub struct FileFolder<'a, R> {
+    rt: &'a R,
+    failures: u64,
+    /// The last call that failed.
+    last: Option<Failure>,
+}
+
+impl<'a, R> FileFolder<'a, R> {
+    /// The files of this runtime, with no failures.
+    pub fn new(rt: &'a R) -> FileFolder<'a, R>
+        ensures { result.failures ≡ 0 }
+    {
+        FileFolder {
+            rt,
+            failures: 0,
+            last: None,
+        }
+    }
+}
+
+impl Step {
+    /// What could not be done.
+    fn word(self) -> &'static str {
+        match self {
+            Step::Opening => "open",
+            Step::Reading => "read",
+            Step::Making => "make",
+            Step::Writing => "write",
+        }
+    }
+}
+
+/// Keeps the first bytes of what a reader gives, at most `most`, and counts the others.
+fn read_front<S: Read>(alloc: Global, reader: &mut S, most: usize) -> Result<Front, Trouble>
+    ensures { IfOk result (IsShortFront most) }
+{
+    let mut bytes = Vec::new(alloc);
+    let mut length = 0;
+    let mut buffer = [0; 4096];
+    'reading: loop {
+        let count = match reader.read(&mut buffer) {
+            Ok(0) => return Ok(Front { bytes, length }),
+            Ok(count) => count,
+            Err(error) => return Err(failed(Step::Reading, error)),
+        };
+        if MOST - length < count as u64 {
+            let error = io::Error::new(ErrorKind::FileTooLarge, "it has no end");
+            return Err(failed(Step::Reading, error));
+        }
+        length += count as u64;
+        let room = most - bytes.len();
+        let kept = if room < count { room } else { count };
+        if bytes.extend_from_slice(&buffer[..kept]).is_err() {
+            return Err(Trouble::Memory);
+        }
+    }
+}
+
+/// A call that failed at this step.
+fn failed(step: Step, error: io::Error) -> Trouble {
+    Trouble::Device(Failure { step, error })
+}
+
+/// The first bytes of a file.
+fn front_of<R: Files>(rt: &R, alloc: Global, name: &str, most: usize) -> Result<Front, Trouble>
+    ensures { IfOk result (IsShortFront most) }
+{
+    match fs::open(rt, name) {
+        Ok(mut file) => read_front(alloc, &mut file, most),
+        Err(error) => Err(failed(Step::Opening, error)),
+    }
+}
+
+/// Gives all bytes to a writer.
+fn put_all<K: Write>(writer: &mut K, bytes: &[u8]) -> Result<(), Failure> {
+    let mut at = 0;
+    'writing: while at < bytes.len() {
+        match writer.write(&bytes[at..]) {
+            Ok(0) => {
+                let error = io::Error::new(ErrorKind::WriteZero, "nothing more is taken");
+                return Err(Failure {
+                    step: Step::Writing,
+                    error,
+                });
+            }
+            Ok(count) => at += count,
+            Err(error) => {
+                return Err(Failure {
+                    step: Step::Writing,
+                    error,
+                });
+            }
+        }
+    }
+    Ok(())
+}
+
+/// Makes a file of the bytes.
+fn make<R: Files>(rt: &R, name: &str, bytes: &[u8]) -> Result<(), Failure> {
+    match fs::create(rt, name) {
+        Ok(mut file) => put_all(&mut file, bytes),
+        Err(error) => Err(Failure {
+            step: Step::Making,
+            error,
+        }),
+    }
+}
+
+impl<R> FileFolder<'_, R> {
+    /// Counts a failure, and keeps it for `complaint`.
+    fn fail(&mut self, failure: Failure) -> FolderFault
+        requires { self.old.failures < 2 ^ 64 - 1 }
+        ensures fault { result ≡ FolderFault.Device }
+        ensures counted { self.new.failures ≡ self.old.failures + 1 }
+    {
+        self.failures += 1;
+        self.last = Some(failure);
+        FolderFault::Device
+    }
+}
+
+impl<R: Files> Folder for FileFolder<'_, R> {
+    ghost holds = { λ _ _ _. Unit {0} };
+
+    ghost failure_count = { λ folder. folder.failures };
+
+    fn read(&mut self, alloc: Global, name: &str) -> Result<Vec<u8>, FolderFault> {
+        match front_of(self.rt, alloc, name, usize::MAX) {
+            Ok(front) => Ok(front.bytes),
+            Err(Trouble::Device(failure)) => Err(self.fail(failure)),
+            Err(Trouble::Memory) => Err(FolderFault::Memory),
+        }
+    }
+
+    fn read_front(&mut self, alloc: Global, name: &str, most: usize) -> Result<Front, FolderFault> {
+        match front_of(self.rt, alloc, name, most) {
+            Ok(front) => Ok(front),
+            Err(Trouble::Device(failure)) => Err(self.fail(failure)),
+            Err(Trouble::Memory) => Err(FolderFault::Memory),
+        }
+    }
+
+    fn write(&mut self, _alloc: Global, name: &str, bytes: &[u8]) -> Result<(), FolderFault> {
+        match make(self.rt, name, bytes) {
+            Ok(()) => Ok(()),
+            Err(failure) => Err(self.fail(failure)),
+        }
+    }
+
+    fn failures(&self) -> u64 {
+        self.failures
+    }
+
+    fn complaint(&self, alloc: Global, name: &str) -> Result<String, AllocError> {
+        match self.last {
+            Some(Failure { step, error }) => {
+                let word = step.word();
+                format!(in alloc; "cannot {word} {name}: {error}")
+            }
+            None => Ok(String::new(alloc)),
+        }
+    }
+}

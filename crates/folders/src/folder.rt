@@ -1,0 +1,79 @@
+//! Whole files by their names.
+
+ghost use Rattle.std.specs.Prelude.{◌≡◌, ◌≢◌, ℕ, ◌+◌, ◌-◌, ◌^◌, ◌<◌, ◌==◌, List, length, IfOk, OnOk, OnErr, ◌↔◌, IsErrOf, IsTrue};
+ghost use Rattle.folders.specs.Fronts.{HasFront, IsFrontOf};
+
+use std::alloc::{AllocError, Global};
+use thiserror::Error;
+
+/// Why a file was not read or written.
+#[derive(Clone, Copy, Debug, PartialEq, Eq, Error)]
+pub enum FolderFault {
+    /// 7: it could not be opened, read or written.
+    #[error("fault 7 Device")]
+    Device,
+    /// 8: memory was refused.
+    #[error("fault 8 Memory")]
+    Memory,
+}
+
+/// The first bytes of a file.
+#[derive(Debug, Drop)]
+pub struct Front {
+    pub bytes: Vec<u8>,
+    /// How many bytes the file has in all.
+    pub length: u64,
+}
+
+impl Front {
+    /// Whether these are all bytes of the file.
+    pub fn is_whole(&self) -> bool
+        ensures all { IsTrue result → (bytes : List ℕ) (most : ℕ) → IsFrontOf bytes most self.now → bytes ≡ self.now.bytes.items }
+        ensures counted { result ≡ (length self.now.bytes.items == self.now.length) }
+    {
+        self.bytes.len() as u64 == self.length
+    }
+}
+
+/// Files by their names: in memory, or the system's.
+pub trait Folder {
+    /// The file of a name has these bytes; anything may where the type does not tell.
+    ghost holds: { Self → List ℕ → List ℕ → Type 0 };
+
+    /// How many calls failed.
+    ghost failure_count: { Self → ℕ };
+
+    /// The bytes of a file.
+    fn read(&mut self, alloc: Global, name: &str) -> Result<Vec<u8>, FolderFault>
+        requires { failure_count self.old < 2 ^ 64 - 1 }
+        ensures bytes { IfOk result (λ bytes. holds self.old name.now bytes.items) }
+        ensures kept { (other bytes : List ℕ) → (holds self.old other bytes ↔ holds self.new other bytes) }
+        ensures steady { OnOk result (failure_count self.new ≡ failure_count self.old) }
+        ensures device { IsErrOf result FolderFault.Device ↔ (failure_count self.new ≡ failure_count self.old + 1) }
+        ensures no_device { IsErrOf result FolderFault.Memory → failure_count self.new ≡ failure_count self.old };
+
+    /// The first bytes of a file, at most so many, and how many it has. It takes no more memory, however long the file is.
+    fn read_front(&mut self, alloc: Global, name: &str, most: usize) -> Result<Front, FolderFault>
+        requires { failure_count self.old < 2 ^ 64 - 1 }
+        ensures front { IfOk result (HasFront (holds self.old name.now) most) }
+        ensures kept { (other bytes : List ℕ) → (holds self.old other bytes ↔ holds self.new other bytes) }
+        ensures steady { OnOk result (failure_count self.new ≡ failure_count self.old) }
+        ensures device { IsErrOf result FolderFault.Device ↔ (failure_count self.new ≡ failure_count self.old + 1) }
+        ensures no_device { IsErrOf result FolderFault.Memory → failure_count self.new ≡ failure_count self.old };
+
+    /// Makes a file of the bytes, in place of one that has the name already. After a fault that file may be gone.
+    fn write(&mut self, alloc: Global, name: &str, bytes: &[u8]) -> Result<(), FolderFault>
+        requires { failure_count self.old < 2 ^ 64 - 1 }
+        ensures written { OnOk result (holds self.new name.now bytes.now) }
+        ensures others { (other bytes : List ℕ) → other ≢ name.now → (holds self.old other bytes ↔ holds self.new other bytes) }
+        ensures steady { OnOk result (failure_count self.new ≡ failure_count self.old) }
+        ensures device { IsErrOf result FolderFault.Device ↔ (failure_count self.new ≡ failure_count self.old + 1) }
+        ensures no_device { IsErrOf result FolderFault.Memory → failure_count self.new ≡ failure_count self.old };
+
+    /// How many calls of this folder failed so far.
+    fn failures(&self) -> u64
+        ensures { result ≡ failure_count self.now };
+
+    /// What a person is told of the last call that failed, which was of the file of this name: what could not be done, and why.
+    fn complaint(&self, alloc: Global, name: &str) -> Result<String, AllocError>;
+}

@@ -1,0 +1,12 @@
+//! Whole files by their names: the system's, or in memory.
+#![tactic(auto)]
+
+mod files;
+mod folder;
+mod memory_folder;
+#[cfg(test)]
+mod tests;
+
+pub use files::FileFolder;
+pub use folder::{Folder, FolderFault, Front};
+pub use memory_folder::MemoryFolder;

@@ -1,0 +1,71 @@
+//! The replay of which the law on programs that only read speaks, made.
+
+ghost use Rattle.std.specs.Prelude.{◌≡◌, ◌<◌, ◌≤◌, ◌↔◌, [], ℕ, length, All, IfOk, IsErrOf, IsFalse};
+ghost use Rattle.std.specs.List.{AllByRecursion};
+ghost use Rattle.verifier.specs.Readers.{IsReader};
+ghost use Rattle.machine.specs.Running.{program_of};
+ghost use Rattle.shards.specs.Opening.{are_served_options};
+ghost use Rattle.workers.specs.Accounts.{sent_frames};
+ghost use Rattle.replay.specs.declared.fault.ReplayFault.TheVariants.{BadOptions};
+ghost use Rattle.guarantees.specs.ReaderReplays.{IsCaptured, all_sent_at_opening};
+
+use crate::readers_send_as_at_opening;
+use control::Script;
+use gates::Gate;
+use replay::{Outcome, ReplayFault, replay};
+use semantics::Options;
+use std::alloc::Global;
+use std::sync::Wait;
+use std::thread::Threads;
+use verifier::Verified;
+use wire::{Capture, Sent};
+
+/// Bytes have 8 bits.
+fn bytes_have_8_bits(bytes: &[u8])
+    ensures { All (λ byte. byte < 256) bytes.now }
+{
+    let _ = bytes;
+}
+
+/// A record with no more bytes than a captured frame may have is one that a capture has.
+fn is_captured(sent: &Sent)
+    requires { length sent.now.bytes.items ≤ 2048 }
+    ensures { IsCaptured sent.now }
+{
+    bytes_have_8_bits(&sent.bytes);
+}
+
+/// Each record of a capture is one that a capture has: the type of each says so.
+fn all_are_captured(capture: &Capture)
+    ensures { AllByRecursion IsCaptured capture.now.records.items }
+{
+    'records: for number in 0..capture.records.len() {
+        is_captured(&capture.records[number]);
+    }
+}
+
+/// `replay`, for a program that only reads and a script without commands: where no run was stopped, what is sent is frame by frame what the
+/// program's run over maps in which nothing has happened sends, and so the same for every number of workers. It shows that what
+/// `readers_send_as_at_opening` asks for is what `replay` gives.
+pub fn reader_replay<R: Threads + Wait + Sync, G: Gate + Sync>(
+    rt: &R,
+    alloc: Global,
+    verified: &Verified,
+    capture: &Capture,
+    script: &Script,
+    options: Options,
+    gate: &G,
+) -> Result<Outcome, ReplayFault>
+    requires reads { IsReader verified.now.code verified.now.states }
+    requires no_commands { script.now ≡ [] }
+    ensures sent { IfOk result (λ outcome. outcome.counts.stopped ≡ 0 →
+        sent_frames outcome.sent.items ≡ all_sent_at_opening (program_of verified.now options.shards) capture.now.records.items
+        (length capture.now.records.items)) }
+    ensures bad_options { IsErrOf result BadOptions ↔ IsFalse (are_served_options verified.now.maps options) }
+{
+    readers_send_as_at_opening(verified);
+    all_are_captured(capture);
+    let outcome = replay(rt, alloc, verified, capture, script, options, gate)?;
+    let _ = outcome.journals.options();
+    Ok(outcome)
+}

@@ -1,0 +1,273 @@
+//! Programs on frames, worked out by hand.
+
+ghost use Rattle.std.specs.Prelude.{◌<◌};
+
+mod addresses;
+mod arithmetic;
+mod asking;
+mod memory;
+mod nothing;
+mod programs;
+mod scripted;
+
+use ebpf_decode::Insn;
+use isa::Register::{R0, R1, R2, R3, R4, R5, R10};
+use isa::{AluOp, Register, Size, Source, Test, Width};
+use machine::{Exit, Moment, Stop};
+use programs::{
+    EXIT, MOMENT, accepted, add, alu, call, checked, copy, jump_if, load, mov, ran, store,
+};
+use semantics::Verdict;
+use std::alloc::Global;
+use std::process::Abort;
+use std::test::Fail;
+
+fn exit(verdict: Verdict, steps: u64) -> Exit {
+    Exit { verdict, steps }
+}
+
+/// A run of the program ends so, and leaves the frame as it was.
+fn ends(
+    rt: &impl Abort,
+    alloc: Global,
+    moment: &Moment,
+    head: &[Insn],
+    tail: &[Insn],
+    bytes: &[u8],
+    want: Exit,
+    name: &str,
+) -> Result<(), Fail>
+    requires { moment.now.worker < 8 }
+{
+    let verified = accepted(alloc, &[], head, tail)?;
+    let ran = ran(alloc, &verified, moment, bytes)?;
+    assert_eq!(rt; ran.exit, want, "{name}");
+    assert_eq!(rt; ran.frame.bytes(), bytes, "{name}");
+    Ok(())
+}
+
+#[rattlefmt::skip]
+const HEADS: [(&str, &[Insn], Exit); 6] = [
+    ("a verdict alone",                 &[Insn::Alu { width: Width::Bits64, op: AluOp::Mov, dst: Register::R0, source: Source::Imm(2) }], Exit { verdict: Verdict::Pass, steps: 2 }),
+    ("a number above 32 bits",          &[Insn::Lddw { dst: Register::R0, value: 0x1_0000_0001 }],                                        Exit { verdict: Verdict::Drop, steps: 2 }),
+    ("helper 5 is the time",            &[Insn::CallHelper { helper: 5 }],                                                                Exit { verdict: Verdict::Tx,   steps: 2 }),
+    ("helper 8 is the worker",          &[Insn::CallHelper { helper: 8 }],                                                                Exit { verdict: Verdict::Pass, steps: 2 }),
+    ("so is the receive queue",         &[Insn::Ldx { size: Size::U32, dst: Register::R0, src: Register::R1, offset: 16 }],               Exit { verdict: Verdict::Pass, steps: 2 }),
+    ("the frame came from interface 1", &[Insn::Ldx { size: Size::U32, dst: Register::R0, src: Register::R1, offset: 12 }],               Exit { verdict: Verdict::Drop, steps: 2 }),
+];
+
+/// The low 32 bits of R0 are the verdict, and a wide instruction is one step.
+#[test]
+fn one_instruction_and_an_exit(rt: HostRuntime) -> Result<(), Fail> {
+    for (name, head, want) in HEADS {
+        ends(
+            &rt,
+            rt.alloc(),
+            &MOMENT,
+            head,
+            &[EXIT],
+            &[0; 14],
+            want,
+            name,
+        )?;
+    }
+    Ok(())
+}
+
+#[test]
+fn the_longest_run(rt: HostRuntime) -> Result<(), Fail> {
+    let mut code = Vec::new(rt.alloc());
+    for _ in 0..4095 {
+        code.push(mov(R0, 1))?;
+    }
+    let want = exit(Verdict::Drop, 4096);
+    ends(
+        &rt,
+        rt.alloc(),
+        &MOMENT,
+        &code,
+        &[EXIT],
+        &[0; 14],
+        want,
+        "4096 slots",
+    )
+}
+
+#[rattlefmt::skip]
+const LAST_BYTES: [(&str, u8, Verdict); 5] = [
+    ("1 drops",      1,    Verdict::Drop),
+    ("2 passes",     2,    Verdict::Pass),
+    ("3 sends",      3,    Verdict::Tx),
+    ("0 aborts",     0,    Verdict::Aborted),
+    ("and all else", 0xff, Verdict::Aborted),
+];
+
+/// Byte 13 is the verdict, where the packet has 14 bytes.
+#[test]
+fn a_byte_that_a_test_covers(rt: HostRuntime) -> Result<(), Fail> {
+    let head = checked(14, 1);
+    let tail = [load(Size::U8, R0, R2, 13), EXIT];
+    for (name, last, verdict) in LAST_BYTES {
+        let want = exit(verdict, 8);
+        let mut bytes = [0; 15];
+        bytes[13] = last;
+        ends(
+            &rt,
+            rt.alloc(),
+            &MOMENT,
+            &head,
+            &tail,
+            &bytes[..14],
+            want,
+            name,
+        )?;
+        ends(&rt, rt.alloc(), &MOMENT, &head, &tail, &bytes, want, name)?;
+    }
+    Ok(())
+}
+
+#[rattlefmt::skip]
+const STRICT_ROWS: [(&str, &[u8], Exit); 2] = [
+    ("14 bytes", &[0, 0, 0, 0, 0, 0, 0, 0, 0, 0, 0, 0, 0, 0],    Exit { verdict: Verdict::Pass, steps: 7 }),
+    ("15 bytes", &[0, 0, 0, 0, 0, 0, 0, 0, 0, 0, 0, 0, 0, 0, 1], Exit { verdict: Verdict::Drop, steps: 8 }),
+];
+
+/// Byte 14 is the verdict, where the packet has more than 14 bytes.
+#[test]
+fn a_byte_that_a_strict_test_covers(rt: HostRuntime) -> Result<(), Fail> {
+    let mut head = checked(14, 1);
+    head[5] = jump_if(Test::Ge, R4, Source::Reg(R3), 1);
+    let tail = [load(Size::U8, R0, R2, 14), EXIT];
+    for (name, bytes, want) in STRICT_ROWS {
+        ends(&rt, rt.alloc(), &MOMENT, &head, &tail, bytes, want, name)?;
+    }
+    Ok(())
+}
+
+#[rattlefmt::skip]
+const PLACES: [(&str, u8, Exit); 2] = [
+    ("byte 3",       3,  Exit { verdict: Verdict::Drop, steps: 13 }),
+    ("past the end", 14, Exit { verdict: Verdict::Pass, steps: 12 }),
+];
+
+/// Byte 13 tells where the byte is that is the verdict.
+#[test]
+fn a_place_that_the_packet_tells(rt: HostRuntime) -> Result<(), Fail> {
+    let head = checked(14, 6);
+    let tail = [
+        load(Size::U8, R5, R2, 13),
+        alu(AluOp::Add, R2, Source::Reg(R5)),
+        copy(R4, R2),
+        add(R4, 1),
+        jump_if(Test::Gt, R4, Source::Reg(R3), 1),
+        load(Size::U8, R0, R2, 0),
+        EXIT,
+    ];
+    for (name, place, want) in PLACES {
+        let mut bytes = [0; 14];
+        bytes[3] = 1;
+        bytes[13] = place;
+        ends(&rt, rt.alloc(), &MOMENT, &head, &tail, &bytes, want, name)?;
+    }
+    Ok(())
+}
+
+#[rattlefmt::skip]
+const MOMENTS: [(&str, i32, Verdict); 2] = [
+    ("the worker's number is 3",                8, Verdict::Tx),
+    ("the low 32 bits of the time are 1",       5, Verdict::Drop),
+];
+
+/// Each worker is told its own number, and each run its own time.
+#[test]
+fn each_run_has_its_moment(rt: HostRuntime) -> Result<(), Fail> {
+    let moment = Moment {
+        now_ns: 0xffff_ffff_0000_0001,
+        worker: 3,
+    };
+    for (name, helper, verdict) in MOMENTS {
+        let head = [call(helper)];
+        let want = exit(verdict, 2);
+        ends(
+            &rt,
+            rt.alloc(),
+            &moment,
+            &head,
+            &[EXIT],
+            &[0; 14],
+            want,
+            name,
+        )?;
+    }
+    Ok(())
+}
+
+#[test]
+fn a_spilled_context(rt: HostRuntime) -> Result<(), Fail> {
+    let head = [
+        store(Size::U64, R10, -8, R1),
+        load(Size::U64, R2, R10, -8),
+        load(Size::U32, R0, R2, 12),
+    ];
+    let want = exit(Verdict::Drop, 4);
+    ends(
+        &rt,
+        rt.alloc(),
+        &MOMENT,
+        &head,
+        &[EXIT],
+        &[0; 14],
+        want,
+        "drop",
+    )
+}
+
+#[test]
+fn a_spilled_packet_pointer(rt: HostRuntime) -> Result<(), Fail> {
+    let tail = [
+        store(Size::U64, R10, -8, R2),
+        load(Size::U64, R5, R10, -8),
+        load(Size::U8, R0, R5, 13),
+        EXIT,
+    ];
+    let mut bytes = [0; 14];
+    bytes[13] = 3;
+    let want = exit(Verdict::Tx, 10);
+    ends(
+        &rt,
+        rt.alloc(),
+        &MOMENT,
+        &checked(14, 3),
+        &tail,
+        &bytes,
+        want,
+        "byte 13",
+    )
+}
+
+#[rattlefmt::skip]
+const JUMPS: [(&str, i32, Insn, Exit); 4] = [
+    ("ja goes past what it skips",   1, Insn::Ja { distance: 1 },   Exit { verdict: Verdict::Drop, steps: 5 }),
+    ("so does the jump of 32 bits",  1, Insn::Ja32 { distance: 1 }, Exit { verdict: Verdict::Drop, steps: 5 }),
+    ("a jump comes behind it",       2, Insn::Ja { distance: 1 },   Exit { verdict: Verdict::Tx, steps: 4 }),
+    ("whichever it is",              2, Insn::Ja32 { distance: 1 }, Exit { verdict: Verdict::Tx, steps: 4 }),
+];
+
+#[test]
+fn jumps_over_slots(rt: HostRuntime) -> Result<(), Fail> {
+    for (name, number, jump, want) in JUMPS {
+        let head = [mov(R0, number), jump_if(Test::Eq, R0, Source::Imm(2), 2)];
+        let tail = [mov(R0, 1), jump, mov(R0, 3), EXIT];
+        ends(&rt, rt.alloc(), &MOMENT, &head, &tail, &[0; 14], want, name)?;
+    }
+    Ok(())
+}
+
+#[test]
+fn stops_are_printed(rt: HostRuntime) -> Result<(), Fail> {
+    let stop = Stop::JournalFull { shard: 7 };
+    assert_eq!(rt; stop.number(), 60);
+    let text = format!(in rt.alloc(); "{stop}")?;
+    assert_eq!(rt; text.as_str(), "fault 60 JournalFull shard 7");
+    Ok(())
+}

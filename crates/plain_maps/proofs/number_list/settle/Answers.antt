@@ -1,0 +1,6 @@
+use Rattle.std.proofs.Common.{rules}
+use Rattle.plain_maps.proofs.BlockLemmas.{settled}
+use Rattle.plain_maps.proofs.number_list.settle.Goals as goal
+
+pub returns-clause-shaped : goal.returns-clause-shaped
+returns-clause-shaped c = settled c.args.len c.blocks-2.blocks.items c.blocks-2.here c.blocks-2.invariant.over (search rules)

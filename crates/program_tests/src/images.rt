@@ -1,0 +1,581 @@
+use ebpf_decode::*;
+use isa::{
+    AluOp, AtomicOp, ByteOrder, Extension, Register, ShortExtension, Size, Source, SwapWidth, Test,
+    Width,
+};
+use std::alloc::{AllocError, Global};
+use std::test::Fail;
+
+const HEAD: [u8; 8] = [0x58, 0x4c, 0x42, 0x50, 1, 0, 0, 0];
+
+/// The fault's number, or 0 for an image.
+fn number_of(alloc: Global, bytes: &[u8]) -> u8 {
+    match decode(alloc, bytes) {
+        Ok(_) => 0,
+        Err(fault) => fault.number(),
+    }
+}
+
+/// An image without maps, of these slots.
+fn with_head(alloc: Global, slots: &[u8]) -> Result<Vec<u8>, AllocError> {
+    let mut bytes = Vec::new(alloc);
+    bytes.extend_from_slice(&HEAD)?;
+    bytes.extend_from_slice(slots)?;
+    Ok(bytes)
+}
+
+/// An image of one slot.
+fn one_slot(alloc: Global, slot: [u8; 8]) -> Result<Vec<u8>, AllocError> {
+    with_head(alloc, &slot)
+}
+
+/// An image of two slots.
+fn two_slots(alloc: Global, first: [u8; 8], second: [u8; 8]) -> Result<Vec<u8>, AllocError> {
+    let mut bytes = with_head(alloc, &first)?;
+    bytes.extend_from_slice(&second)?;
+    Ok(bytes)
+}
+
+/// A head and one map, without a program.
+fn one_map(alloc: Global, version: u8, map: [u8; 16]) -> Result<Vec<u8>, AllocError> {
+    let mut bytes = Vec::new(alloc);
+    bytes.extend_from_slice(&[0x58, 0x4c, 0x42, 0x50, version, 1, 0, 0])?;
+    bytes.extend_from_slice(&map)?;
+    Ok(bytes)
+}
+
+// By the high and the low four bits of an opcode in a slot of zeros (byte swaps: of width 16): 0 where there is an instruction.
+#[rattlefmt::skip]
+const OPCODES: [[u8; 16]; 16] = [
+    [15, 15, 15, 15,  0,  0,  0,  0, 15, 15, 15, 15,  0, 15, 15,  0],
+    [15, 15, 15, 15,  0,  0,  0,  0, 19, 15, 15, 15,  0,  0,  0,  0],
+    [16, 15, 15, 15,  0,  0,  0,  0, 16, 15, 15, 15,  0,  0,  0,  0],
+    [16, 15, 15, 15,  0,  0,  0,  0, 15, 15, 15, 15,  0,  0,  0,  0],
+    [16, 15, 15, 15,  0,  0,  0,  0, 16, 15, 15, 15,  0,  0,  0,  0],
+    [16, 15, 15, 15,  0,  0,  0,  0, 15, 15, 15, 15,  0,  0,  0,  0],
+    [15,  0,  0,  0,  0,  0,  0,  0, 15,  0,  0,  0,  0,  0,  0,  0],
+    [15,  0,  0,  0,  0,  0,  0,  0, 15,  0,  0,  0,  0,  0,  0,  0],
+    [15,  0, 15, 15,  0,  0, 15,  0, 15,  0, 15, 15, 15, 15, 15, 15],
+    [15,  0, 15, 15,  0,  0, 15,  0, 15, 15, 15, 15,  0, 15, 15,  0],
+    [15, 15, 15, 15,  0,  0,  0,  0, 15, 15, 15, 15,  0,  0,  0,  0],
+    [15, 15, 15, 15,  0,  0,  0,  0, 15, 15, 15, 15,  0,  0,  0,  0],
+    [15, 15, 15,  0,  0,  0,  0,  0, 15, 15, 15, 15,  0,  0,  0,  0],
+    [15, 15, 15, 15,  0,  0,  0,  0, 15, 15, 15,  0,  0,  0,  0, 15],
+    [15, 15, 15, 15, 15, 15, 15, 15, 15, 15, 15, 15, 15, 15, 15, 15],
+    [15, 15, 15, 15, 15, 15, 15, 15, 15, 15, 15, 15, 15, 15, 15, 15],
+];
+
+#[test]
+fn opcodes(rt: HostRuntime) -> Result<(), Fail> {
+    let mut opcode = 0u8;
+    for row in OPCODES {
+        for want in row {
+            let swaps = opcode == 0xd4 || opcode == 0xdc || opcode == 0xd7;
+            let width = if swaps { 16 } else { 0 };
+            let bytes = one_slot(rt.alloc(), [opcode, 0, 0, 0, width, 0, 0, 0])?;
+            assert_eq!(rt; number_of(rt.alloc(), &bytes), want, "opcode {opcode}");
+            opcode = opcode.wrapping_add(1);
+        }
+    }
+    Ok(())
+}
+
+#[rattlefmt::skip]
+const SLOTS: [(&str, [u8; 8], u8); 41] = [
+    ("div with offset 2 is unknown",            [0x37, 0x00, 0x02, 0x00, 0x01, 0x00, 0x00, 0x00], 15),
+    ("register 11 is none",                     [0xb7, 0x0b, 0x00, 0x00, 0x00, 0x00, 0x00, 0x00], 17),
+    ("X form with an immediate",                [0xbf, 0x01, 0x00, 0x00, 0x05, 0x00, 0x00, 0x00], 18),
+    ("wide without its second slot",            [0x18, 0x01, 0x00, 0x00, 0x00, 0x00, 0x00, 0x00], 19),
+    ("mod with offset -1 is unknown",           [0x97, 0x00, 0xff, 0xff, 0x01, 0x00, 0x00, 0x00], 15),
+    ("mov X with offset 5 is unknown",          [0xbf, 0x00, 0x05, 0x00, 0x00, 0x00, 0x00, 0x00], 15),
+    ("movsx32 to 32 bits is unknown",           [0xbc, 0x00, 0x20, 0x00, 0x00, 0x00, 0x00, 0x00], 15),
+    ("movsx32 to 64 bits",                      [0xbf, 0x00, 0x20, 0x00, 0x00, 0x00, 0x00, 0x00], 0),
+    ("mov K with an offset",                    [0xb7, 0x00, 0x08, 0x00, 0x00, 0x00, 0x00, 0x00], 18),
+    ("add with an offset",                      [0x07, 0x00, 0x01, 0x00, 0x00, 0x00, 0x00, 0x00], 18),
+    ("K form with a source",                    [0x07, 0x10, 0x00, 0x00, 0x00, 0x00, 0x00, 0x00], 18),
+    ("K form's source is no register",          [0x07, 0xf0, 0x00, 0x00, 0x00, 0x00, 0x00, 0x00], 18),
+    ("X form's source is a register",           [0x0f, 0xb0, 0x00, 0x00, 0x00, 0x00, 0x00, 0x00], 17),
+    ("neg with a source",                       [0x87, 0x10, 0x00, 0x00, 0x00, 0x00, 0x00, 0x00], 18),
+    ("neg with an immediate",                   [0x87, 0x00, 0x00, 0x00, 0x01, 0x00, 0x00, 0x00], 18),
+    ("swap of 8 bits is unknown",               [0xd4, 0x00, 0x00, 0x00, 0x08, 0x00, 0x00, 0x00], 15),
+    ("swap with an offset",                     [0xdc, 0x00, 0x01, 0x00, 0x10, 0x00, 0x00, 0x00], 18),
+    ("swap with a source",                      [0xd7, 0x10, 0x00, 0x00, 0x40, 0x00, 0x00, 0x00], 18),
+    ("ja with a destination",                   [0x05, 0x01, 0x00, 0x00, 0x00, 0x00, 0x00, 0x00], 18),
+    ("ja with an immediate",                    [0x05, 0x00, 0x00, 0x00, 0x01, 0x00, 0x00, 0x00], 18),
+    ("ja32 with an offset",                     [0x06, 0x00, 0x01, 0x00, 0x00, 0x00, 0x00, 0x00], 18),
+    ("conditional X with an immediate",         [0x1d, 0x00, 0x00, 0x00, 0x01, 0x00, 0x00, 0x00], 18),
+    ("conditional on register 12",              [0x15, 0x0c, 0x00, 0x00, 0x00, 0x00, 0x00, 0x00], 17),
+    ("program-local call",                      [0x85, 0x10, 0x00, 0x00, 0x00, 0x00, 0x00, 0x00], 16),
+    ("kernel function",                         [0x85, 0x20, 0x00, 0x00, 0x00, 0x00, 0x00, 0x00], 16),
+    ("call with source 3 is unknown",           [0x85, 0x30, 0x00, 0x00, 0x00, 0x00, 0x00, 0x00], 15),
+    ("call with a destination",                 [0x85, 0x01, 0x00, 0x00, 0x00, 0x00, 0x00, 0x00], 18),
+    ("exit with an immediate",                  [0x95, 0x00, 0x00, 0x00, 0x01, 0x00, 0x00, 0x00], 18),
+    ("load with an immediate",                  [0x61, 0x00, 0x00, 0x00, 0x01, 0x00, 0x00, 0x00], 18),
+    ("store of an immediate with a source",     [0x62, 0x10, 0x00, 0x00, 0x00, 0x00, 0x00, 0x00], 18),
+    ("store of a register with an immediate",   [0x63, 0x00, 0x00, 0x00, 0x01, 0x00, 0x00, 0x00], 18),
+    ("atomic nand is unknown",                  [0xc3, 0x00, 0x00, 0x00, 0x52, 0x00, 0x00, 0x00], 15),
+    ("atomic exchange",                         [0xdb, 0x21, 0x08, 0x00, 0xe1, 0x00, 0x00, 0x00], 0),
+    ("atomic on register 15",                   [0xdb, 0xf1, 0x08, 0x00, 0xe1, 0x00, 0x00, 0x00], 17),
+    ("wide source 2",                           [0x18, 0x20, 0x00, 0x00, 0x00, 0x00, 0x00, 0x00], 16),
+    ("wide source 6",                           [0x18, 0x60, 0x00, 0x00, 0x00, 0x00, 0x00, 0x00], 16),
+    ("wide source 7 is unknown",                [0x18, 0x70, 0x00, 0x00, 0x00, 0x00, 0x00, 0x00], 15),
+    ("wide on register 11, cut too",            [0x18, 0x0b, 0x00, 0x00, 0x00, 0x00, 0x00, 0x00], 17),
+    ("wide with an offset, cut too",            [0x18, 0x00, 0x01, 0x00, 0x00, 0x00, 0x00, 0x00], 18),
+    ("unknown before bad register",             [0x37, 0x0b, 0x02, 0x00, 0x00, 0x00, 0x00, 0x00], 15),
+    ("bad register before unused field",        [0xbf, 0x0b, 0x00, 0x00, 0x05, 0x00, 0x00, 0x00], 17),
+];
+
+#[test]
+fn faults_of_one_slot(rt: HostRuntime) -> Result<(), Fail> {
+    for (name, slot, want) in SLOTS {
+        let bytes = one_slot(rt.alloc(), slot)?;
+        assert_eq!(rt; number_of(rt.alloc(), &bytes), want, "{name}");
+    }
+    Ok(())
+}
+
+#[rattlefmt::skip]
+const WIDE: [(&str, [u8; 8], [u8; 8], u8); 6] = [
+    ("number of 64 bits",                           [0x18, 0x01, 0x00, 0x00, 0x02, 0x00, 0x00, 0x00],
+        [0x00, 0x00, 0x00, 0x00, 0x01, 0x00, 0x00, 0x00], 0),
+    ("map",                                         [0x18, 0x11, 0x00, 0x00, 0x00, 0x00, 0x00, 0x00],
+        [0x00, 0x00, 0x00, 0x00, 0x00, 0x00, 0x00, 0x00], 0),
+    ("second slot of a number with an opcode",      [0x18, 0x01, 0x00, 0x00, 0x02, 0x00, 0x00, 0x00],
+        [0x95, 0x00, 0x00, 0x00, 0x00, 0x00, 0x00, 0x00], 18),
+    ("second slot of a number with registers",      [0x18, 0x01, 0x00, 0x00, 0x02, 0x00, 0x00, 0x00],
+        [0x00, 0x10, 0x00, 0x00, 0x00, 0x00, 0x00, 0x00], 18),
+    ("second slot of a number with an offset",      [0x18, 0x01, 0x00, 0x00, 0x02, 0x00, 0x00, 0x00],
+        [0x00, 0x00, 0x01, 0x00, 0x00, 0x00, 0x00, 0x00], 18),
+    ("second slot of a map with an immediate",      [0x18, 0x11, 0x00, 0x00, 0x00, 0x00, 0x00, 0x00],
+        [0x00, 0x00, 0x00, 0x00, 0x01, 0x00, 0x00, 0x00], 18),
+];
+
+#[test]
+fn wide_instructions(rt: HostRuntime) -> Result<(), Fail> {
+    for (name, first, second, want) in WIDE {
+        let bytes = two_slots(rt.alloc(), first, second)?;
+        assert_eq!(rt; number_of(rt.alloc(), &bytes), want, "{name}");
+    }
+    Ok(())
+}
+
+#[rattlefmt::skip]
+const INSTRUCTIONS: [(&str, Insn, [u8; 8]); 19] = [
+    ("add K, negative",
+        Insn::Alu { width: Width::Bits64, op: AluOp::Add, dst: Register::R1, source: Source::Imm(-5) },
+        [0x07, 0x01, 0x00, 0x00, 0xfb, 0xff, 0xff, 0xff]),
+    ("sdiv X",
+        Insn::Alu { width: Width::Bits32, op: AluOp::Sdiv, dst: Register::R3, source: Source::Reg(Register::R4) },
+        [0x3c, 0x43, 0x01, 0x00, 0x00, 0x00, 0x00, 0x00]),
+    ("mov X",
+        Insn::Alu { width: Width::Bits64, op: AluOp::Mov, dst: Register::R2, source: Source::Reg(Register::R10) },
+        [0xbf, 0xa2, 0x00, 0x00, 0x00, 0x00, 0x00, 0x00]),
+    ("neg",
+        Insn::Neg { width: Width::Bits32, dst: Register::R9 },
+        [0x84, 0x09, 0x00, 0x00, 0x00, 0x00, 0x00, 0x00]),
+    ("movsx16",
+        Insn::Movsx { extension: Extension::I16, dst: Register::R1, src: Register::R2 },
+        [0xbf, 0x21, 0x10, 0x00, 0x00, 0x00, 0x00, 0x00]),
+    ("movsx8 to 32 bits",
+        Insn::Movsx32 { extension: ShortExtension::Short8, dst: Register::R1, src: Register::R2 },
+        [0xbc, 0x21, 0x08, 0x00, 0x00, 0x00, 0x00, 0x00]),
+    ("be32",
+        Insn::End { order: ByteOrder::ToBig, swap_width: SwapWidth::Swap32, dst: Register::R1 },
+        [0xdc, 0x01, 0x00, 0x00, 0x20, 0x00, 0x00, 0x00]),
+    ("swap64",
+        Insn::End { order: ByteOrder::Swapped, swap_width: SwapWidth::Swap64, dst: Register::R1 },
+        [0xd7, 0x01, 0x00, 0x00, 0x40, 0x00, 0x00, 0x00]),
+    ("ja, backward",
+        Insn::Ja { distance: -2 },
+        [0x05, 0x00, 0xfe, 0xff, 0x00, 0x00, 0x00, 0x00]),
+    ("ja32",
+        Insn::Ja32 { distance: 70000 },
+        [0x06, 0x00, 0x00, 0x00, 0x70, 0x11, 0x01, 0x00]),
+    ("jeq K",
+        Insn::JumpIf { width: Width::Bits64, test: Test::Eq, dst: Register::R0, source: Source::Imm(0), distance: 3 },
+        [0x15, 0x00, 0x03, 0x00, 0x00, 0x00, 0x00, 0x00]),
+    ("jslt X, low halves",
+        Insn::JumpIf { width: Width::Bits32, test: Test::Slt, dst: Register::R5, source: Source::Reg(Register::R6), distance: 1 },
+        [0xce, 0x65, 0x01, 0x00, 0x00, 0x00, 0x00, 0x00]),
+    ("ldxw",
+        Insn::Ldx { size: Size::U32, dst: Register::R2, src: Register::R1, offset: 4 },
+        [0x61, 0x12, 0x04, 0x00, 0x00, 0x00, 0x00, 0x00]),
+    ("ldxsb",
+        Insn::Ldxs { extension: Extension::I8, dst: Register::R1, src: Register::R2, offset: -1 },
+        [0x91, 0x21, 0xff, 0xff, 0x00, 0x00, 0x00, 0x00]),
+    ("stw",
+        Insn::St { size: Size::U32, dst: Register::R10, offset: -4, immediate: 7 },
+        [0x62, 0x0a, 0xfc, 0xff, 0x07, 0x00, 0x00, 0x00]),
+    ("stxdw",
+        Insn::Stx { size: Size::U64, dst: Register::R10, src: Register::R1, offset: -8 },
+        [0x7b, 0x1a, 0xf8, 0xff, 0x00, 0x00, 0x00, 0x00]),
+    ("compare and exchange",
+        Insn::AtomicUpdate { width: Width::Bits64, op: AtomicOp::CompareExchange, dst: Register::R1, src: Register::R2, offset: 8 },
+        [0xdb, 0x21, 0x08, 0x00, 0xf1, 0x00, 0x00, 0x00]),
+    ("call",
+        Insn::CallHelper { helper: 44 },
+        [0x85, 0x00, 0x00, 0x00, 0x2c, 0x00, 0x00, 0x00]),
+    ("exit",
+        Insn::Exit,
+        [0x95, 0x00, 0x00, 0x00, 0x00, 0x00, 0x00, 0x00]),
+];
+
+#[test]
+fn instructions_and_their_slots(rt: HostRuntime) -> Result<(), Fail> {
+    for (name, insn, slot) in INSTRUCTIONS {
+        let bytes = one_slot(rt.alloc(), slot)?;
+        let image = decode(rt.alloc(), &bytes)?;
+        assert_eq!(rt; image.code(), [insn].as_slice(), "{name}");
+        let again = encode(rt.alloc(), &image)?;
+        assert_eq!(rt; again.as_slice(), bytes.as_slice(), "{name}");
+    }
+    Ok(())
+}
+
+#[test]
+fn wide_instructions_and_their_slots(rt: HostRuntime) -> Result<(), Fail> {
+    let mut code = Vec::new(rt.alloc());
+    code.push(Insn::Lddw {
+        dst: Register::R1,
+        value: 0x8877_6655_4433_2211,
+    })?;
+    code.push(Insn::Ldmap {
+        dst: Register::R2,
+        map: -1,
+    })?;
+    let image = Image::of(Version::V1, Vec::new(rt.alloc()), code)?;
+    let bytes = encode(rt.alloc(), &image)?;
+    let want: [u8; 40] = [
+        0x58, 0x4c, 0x42, 0x50, 1, 0, 0, 0, 0x18, 0x01, 0, 0, 0x11, 0x22, 0x33, 0x44, 0, 0, 0, 0,
+        0x55, 0x66, 0x77, 0x88, 0x18, 0x12, 0, 0, 0xff, 0xff, 0xff, 0xff, 0, 0, 0, 0, 0, 0, 0, 0,
+    ];
+    assert_eq!(rt; bytes.as_slice(), want.as_slice());
+    let again = decode(rt.alloc(), &bytes)?;
+    assert_eq!(rt; again.code(), image.code());
+    Ok(())
+}
+
+#[rattlefmt::skip]
+const MAPS: [(&str, [u8; 16], u8); 17] = [
+    ("array",                          [0x02, 0x00, 0x00, 0x00, 0x04, 0x00, 0x00, 0x00, 0x08, 0x00, 0x00, 0x00, 0x01, 0x00, 0x00, 0x00], 12),
+    ("largest array",                  [0x02, 0x00, 0x00, 0x00, 0x04, 0x00, 0x00, 0x00, 0x40, 0x00, 0x00, 0x00, 0x00, 0x00, 0x02, 0x00], 12),
+    ("hash",                           [0x01, 0x00, 0x00, 0x00, 0x04, 0x00, 0x00, 0x00, 0x08, 0x00, 0x00, 0x00, 0x01, 0x00, 0x00, 0x00], 12),
+    ("LRU hash",                       [0x09, 0x00, 0x00, 0x00, 0x04, 0x00, 0x00, 0x00, 0x08, 0x00, 0x00, 0x00, 0x01, 0x00, 0x00, 0x00], 12),
+    ("largest hash",                   [0x01, 0x00, 0x00, 0x00, 0x20, 0x00, 0x00, 0x00, 0x40, 0x00, 0x00, 0x00, 0x00, 0x00, 0x02, 0x00], 12),
+    ("LRU hash with a key of a byte",  [0x09, 0x00, 0x00, 0x00, 0x01, 0x00, 0x00, 0x00, 0x08, 0x00, 0x00, 0x00, 0x01, 0x00, 0x00, 0x00], 12),
+    ("hash without a key",             [0x01, 0x00, 0x00, 0x00, 0x00, 0x00, 0x00, 0x00, 0x08, 0x00, 0x00, 0x00, 0x01, 0x00, 0x00, 0x00], 11),
+    ("hash with a key of 33 bytes",    [0x01, 0x00, 0x00, 0x00, 0x21, 0x00, 0x00, 0x00, 0x08, 0x00, 0x00, 0x00, 0x01, 0x00, 0x00, 0x00], 11),
+    ("type 3 is none",                 [0x03, 0x00, 0x00, 0x00, 0x04, 0x00, 0x00, 0x00, 0x08, 0x00, 0x00, 0x00, 0x01, 0x00, 0x00, 0x00], 11),
+    ("type 258 is none",               [0x02, 0x01, 0x00, 0x00, 0x04, 0x00, 0x00, 0x00, 0x08, 0x00, 0x00, 0x00, 0x01, 0x00, 0x00, 0x00], 11),
+    ("array with a key of 8 bytes",    [0x02, 0x00, 0x00, 0x00, 0x08, 0x00, 0x00, 0x00, 0x08, 0x00, 0x00, 0x00, 0x01, 0x00, 0x00, 0x00], 11),
+    ("value of 12 bytes",              [0x02, 0x00, 0x00, 0x00, 0x04, 0x00, 0x00, 0x00, 0x0c, 0x00, 0x00, 0x00, 0x01, 0x00, 0x00, 0x00], 11),
+    ("value of 0 bytes",               [0x02, 0x00, 0x00, 0x00, 0x04, 0x00, 0x00, 0x00, 0x00, 0x00, 0x00, 0x00, 0x01, 0x00, 0x00, 0x00], 11),
+    ("value of 72 bytes",              [0x02, 0x00, 0x00, 0x00, 0x04, 0x00, 0x00, 0x00, 0x48, 0x00, 0x00, 0x00, 0x01, 0x00, 0x00, 0x00], 11),
+    ("value of 256 bytes",             [0x02, 0x00, 0x00, 0x00, 0x04, 0x00, 0x00, 0x00, 0x00, 0x01, 0x00, 0x00, 0x01, 0x00, 0x00, 0x00], 11),
+    ("no entries",                     [0x02, 0x00, 0x00, 0x00, 0x04, 0x00, 0x00, 0x00, 0x08, 0x00, 0x00, 0x00, 0x00, 0x00, 0x00, 0x00], 11),
+    ("131073 entries",                 [0x02, 0x00, 0x00, 0x00, 0x04, 0x00, 0x00, 0x00, 0x08, 0x00, 0x00, 0x00, 0x01, 0x00, 0x02, 0x00], 11),
+];
+
+// In version 2.
+#[rattlefmt::skip]
+const WIDER_MAPS: [(&str, [u8; 16], u8); 7] = [
+    ("array",                          [0x02, 0x00, 0x00, 0x00, 0x04, 0x00, 0x00, 0x00, 0x08, 0x00, 0x00, 0x00, 0x01, 0x00, 0x00, 0x00], 12),
+    ("value of 72 bytes",              [0x02, 0x00, 0x00, 0x00, 0x04, 0x00, 0x00, 0x00, 0x48, 0x00, 0x00, 0x00, 0x01, 0x00, 0x00, 0x00], 12),
+    ("value of 256 bytes",             [0x02, 0x00, 0x00, 0x00, 0x04, 0x00, 0x00, 0x00, 0x00, 0x01, 0x00, 0x00, 0x01, 0x00, 0x00, 0x00], 12),
+    ("hash of 256 bytes",              [0x01, 0x00, 0x00, 0x00, 0x20, 0x00, 0x00, 0x00, 0x00, 0x01, 0x00, 0x00, 0x01, 0x00, 0x00, 0x00], 12),
+    ("value of 264 bytes",             [0x02, 0x00, 0x00, 0x00, 0x04, 0x00, 0x00, 0x00, 0x08, 0x01, 0x00, 0x00, 0x01, 0x00, 0x00, 0x00], 11),
+    ("value of 68 bytes",              [0x02, 0x00, 0x00, 0x00, 0x04, 0x00, 0x00, 0x00, 0x44, 0x00, 0x00, 0x00, 0x01, 0x00, 0x00, 0x00], 11),
+    ("type 3 is none",                 [0x03, 0x00, 0x00, 0x00, 0x04, 0x00, 0x00, 0x00, 0x08, 0x00, 0x00, 0x00, 0x01, 0x00, 0x00, 0x00], 11),
+];
+
+#[test]
+fn maps(rt: HostRuntime) -> Result<(), Fail> {
+    for (name, map, want) in MAPS {
+        let bytes = one_map(rt.alloc(), 1, map)?;
+        assert_eq!(rt; number_of(rt.alloc(), &bytes), want, "{name}");
+    }
+    for (name, map, want) in WIDER_MAPS {
+        let bytes = one_map(rt.alloc(), 2, map)?;
+        assert_eq!(rt; number_of(rt.alloc(), &bytes), want, "{name} in version 2");
+    }
+    Ok(())
+}
+
+// A wide slot and the slot after it, in an image of this version.
+#[rattlefmt::skip]
+const ADDRESSES: [(&str, u8, [u8; 8], [u8; 8], u8); 12] = [
+    ("an address in version 2",            2, [0x18, 0x21, 0, 0, 0, 0, 0, 0],    [0, 0, 0, 0, 8, 0, 0, 0],             0),
+    ("the largest offset",                 2, [0x18, 0x21, 0, 0, 0, 0, 0, 0],    [0, 0, 0, 0, 0xff, 0xff, 0xff, 0xff], 0),
+    ("a map below 0",                      2, [0x18, 0x21, 0, 0, 255, 255, 255, 255], [0, 0, 0, 0, 0, 0, 0, 0],        0),
+    ("an address in version 1",            1, [0x18, 0x21, 0, 0, 0, 0, 0, 0],    [0, 0, 0, 0, 8, 0, 0, 0],             16),
+    ("source 3 in version 2",              2, [0x18, 0x31, 0, 0, 0, 0, 0, 0],    [0, 0, 0, 0, 0, 0, 0, 0],             16),
+    ("source 7 in version 2",              2, [0x18, 0x71, 0, 0, 0, 0, 0, 0],    [0, 0, 0, 0, 0, 0, 0, 0],             15),
+    ("in register 11",                     2, [0x18, 0x2b, 0, 0, 0, 0, 0, 0],    [0, 0, 0, 0, 0, 0, 0, 0],             17),
+    ("an offset field",                    2, [0x18, 0x21, 1, 0, 0, 0, 0, 0],    [0, 0, 0, 0, 0, 0, 0, 0],             18),
+    ("a second opcode",                    2, [0x18, 0x21, 0, 0, 0, 0, 0, 0],    [0x95, 0, 0, 0, 0, 0, 0, 0],          18),
+    ("a second offset field",              2, [0x18, 0x21, 0, 0, 0, 0, 0, 0],    [0, 0, 0, 1, 0, 0, 0, 0],             18),
+    ("a map in version 2",                 2, [0x18, 0x11, 0, 0, 0, 0, 0, 0],    [0, 0, 0, 0, 0, 0, 0, 0],             0),
+    ("a map with an offset in version 2",  2, [0x18, 0x11, 0, 0, 0, 0, 0, 0],    [0, 0, 0, 0, 8, 0, 0, 0],             18),
+];
+
+#[test]
+fn addresses_in_values(rt: HostRuntime) -> Result<(), Fail> {
+    for (name, version, first, second, want) in ADDRESSES {
+        let mut bytes = Vec::new(rt.alloc());
+        bytes.extend_from_slice(&[0x58, 0x4c, 0x42, 0x50, version, 0, 0, 0])?;
+        bytes.extend_from_slice(&first)?;
+        bytes.extend_from_slice(&second)?;
+        assert_eq!(rt; number_of(rt.alloc(), &bytes), want, "{name}");
+    }
+    let mut code = Vec::new(rt.alloc());
+    code.push(ADDRESS)?;
+    let image = Image::of(Version::V2, Vec::new(rt.alloc()), code)?;
+    let bytes = encode(rt.alloc(), &image)?;
+    let want: [u8; 24] = [
+        0x58, 0x4c, 0x42, 0x50, 2, 0, 0, 0, 0x18, 0x21, 0, 0, 0, 0, 0, 0, 0, 0, 0, 0, 8, 0, 0, 0,
+    ];
+    assert_eq!(rt; bytes.as_slice(), want.as_slice());
+    let again = decode(rt.alloc(), &bytes)?;
+    assert_eq!(rt; again.version(), Version::V2);
+    assert_eq!(rt; again.code(), image.code());
+    assert_eq!(rt; again.slots(), 2);
+    Ok(())
+}
+
+#[rattlefmt::skip]
+const HEADS: [(&str, [u8; 8], u8); 10] = [
+    ("head alone",           [0x58, 0x4c, 0x42, 0x50, 1, 0, 0, 0],    12),
+    ("another magic",        [0x59, 0x4c, 0x42, 0x50, 1, 0, 0, 0],    10),
+    ("another second byte",  [0x58, 0x4d, 0x42, 0x50, 1, 0, 0, 0],    10),
+    ("version 0",            [0x58, 0x4c, 0x42, 0x50, 0, 0, 0, 0],    10),
+    ("version 2",            [0x58, 0x4c, 0x42, 0x50, 2, 0, 0, 0],    12),
+    ("version 3",            [0x58, 0x4c, 0x42, 0x50, 3, 0, 0, 0],    10),
+    ("a cut list of maps",   [0x58, 0x4c, 0x42, 0x50, 1, 1, 0, 0],    10),
+    ("seventeen maps",       [0x58, 0x4c, 0x42, 0x50, 1, 17, 0, 0],   10),
+    ("a seventh byte of 1",  [0x58, 0x4c, 0x42, 0x50, 1, 0, 1, 0],    10),
+    ("an eighth byte of 1",  [0x58, 0x4c, 0x42, 0x50, 1, 0, 0, 1],    10),
+];
+
+#[test]
+fn heads(rt: HostRuntime) {
+    for (name, head, want) in HEADS {
+        assert_eq!(rt; number_of(rt.alloc(), &head), want, "{name}");
+    }
+    assert_eq!(rt;
+        number_of(rt.alloc(), &HEAD[..7]),
+        10,
+        "without its last byte"
+    );
+}
+
+// Reads the packet's fourteenth byte and adds it to an array's first value.
+#[rattlefmt::skip]
+const FIRST_RUN: [u8; 168] = [
+    0x58, 0x4c, 0x42, 0x50, 0x01, 0x01, 0x00, 0x00,
+    0x02, 0x00, 0x00, 0x00, 0x04, 0x00, 0x00, 0x00,
+    0x08, 0x00, 0x00, 0x00, 0x01, 0x00, 0x00, 0x00,
+    0x61, 0x12, 0x00, 0x00, 0x00, 0x00, 0x00, 0x00,
+    0x61, 0x13, 0x04, 0x00, 0x00, 0x00, 0x00, 0x00,
+    0xbf, 0x24, 0x00, 0x00, 0x00, 0x00, 0x00, 0x00,
+    0x07, 0x04, 0x00, 0x00, 0x0e, 0x00, 0x00, 0x00,
+    0xb7, 0x00, 0x00, 0x00, 0x02, 0x00, 0x00, 0x00,
+    0x2d, 0x34, 0x0b, 0x00, 0x00, 0x00, 0x00, 0x00,
+    0x71, 0x26, 0x0d, 0x00, 0x00, 0x00, 0x00, 0x00,
+    0x62, 0x0a, 0xfc, 0xff, 0x00, 0x00, 0x00, 0x00,
+    0xbf, 0xa2, 0x00, 0x00, 0x00, 0x00, 0x00, 0x00,
+    0x07, 0x02, 0x00, 0x00, 0xfc, 0xff, 0xff, 0xff,
+    0x18, 0x11, 0x00, 0x00, 0x00, 0x00, 0x00, 0x00,
+    0x00, 0x00, 0x00, 0x00, 0x00, 0x00, 0x00, 0x00,
+    0x85, 0x00, 0x00, 0x00, 0x01, 0x00, 0x00, 0x00,
+    0x15, 0x00, 0x03, 0x00, 0x00, 0x00, 0x00, 0x00,
+    0x79, 0x07, 0x00, 0x00, 0x00, 0x00, 0x00, 0x00,
+    0x0f, 0x76, 0x00, 0x00, 0x00, 0x00, 0x00, 0x00,
+    0xbf, 0x60, 0x00, 0x00, 0x00, 0x00, 0x00, 0x00,
+    0x95, 0x00, 0x00, 0x00, 0x00, 0x00, 0x00, 0x00,
+];
+
+/// The fault of a beginning of FIRST_RUN.
+fn want_at(length: usize) -> u8 {
+    if length < 24 {
+        10
+    } else if length == 24 {
+        12
+    } else if length % 8 != 0 {
+        13
+    } else if length == 112 {
+        19
+    } else {
+        0
+    }
+}
+
+#[test]
+fn beginnings(rt: HostRuntime) {
+    for length in 0..FIRST_RUN.len() + 1 {
+        let want = want_at(length);
+        assert_eq!(rt;
+            number_of(rt.alloc(), &FIRST_RUN[..length]),
+            want,
+            "{length} bytes"
+        );
+    }
+    let cut = decode(rt.alloc(), &FIRST_RUN[..112]);
+    assert!(rt; matches!(cut, Err(DecodeFault::WideCut { slot: 10 })));
+}
+
+#[test]
+fn first_run(rt: HostRuntime) -> Result<(), Fail> {
+    let image = decode(rt.alloc(), &FIRST_RUN)?;
+    assert_eq!(rt; image.code().len(), 17);
+    let map = MapDef {
+        kind: MapKind::Array,
+        key_size: 4,
+        value_size: 8,
+        max_entries: 1,
+    };
+    assert_eq!(rt; image.maps(), [map].as_slice());
+    let bytes = encode(rt.alloc(), &image)?;
+    assert_eq!(rt; bytes.as_slice(), FIRST_RUN.as_slice());
+    Ok(())
+}
+
+/// An image of so many moves and an exit.
+fn moves(alloc: Global, count: u32) -> Result<Vec<u8>, AllocError> {
+    let mut bytes = with_head(alloc, &[])?;
+    for _ in 0..count {
+        bytes.extend_from_slice(&[0xb7, 0, 0, 0, 1, 0, 0, 0])?;
+    }
+    bytes.extend_from_slice(&[0x95, 0, 0, 0, 0, 0, 0, 0])?;
+    Ok(bytes)
+}
+
+#[test]
+fn lengths(rt: HostRuntime) -> Result<(), Fail> {
+    assert_eq!(rt;
+        number_of(rt.alloc(), &moves(rt.alloc(), 4095)?),
+        0,
+        "4096 slots"
+    );
+    assert_eq!(rt;
+        number_of(rt.alloc(), &moves(rt.alloc(), 4096)?),
+        14,
+        "4097 slots"
+    );
+    Ok(())
+}
+
+/// The fault of an image of these parts, or 0.
+fn part_fault(
+    alloc: Global,
+    version: Version,
+    maps: u32,
+    map: MapDef,
+    code: u32,
+    insn: Insn,
+) -> Result<u8, AllocError> {
+    let mut all_maps = Vec::new(alloc);
+    for _ in 0..maps {
+        all_maps.push(map)?;
+    }
+    let mut all_code = Vec::new(alloc);
+    for _ in 0..code {
+        all_code.push(insn)?;
+    }
+    match Image::of(version, all_maps, all_code) {
+        Ok(_) => Ok(0),
+        Err(fault) => Ok(fault.number()),
+    }
+}
+
+const ARRAY: MapDef = MapDef {
+    kind: MapKind::Array,
+    key_size: 4,
+    value_size: 8,
+    max_entries: 1,
+};
+
+const HASH: MapDef = MapDef {
+    kind: MapKind::Hash,
+    key_size: 4,
+    value_size: 8,
+    max_entries: 1,
+};
+
+const WIDE_VALUE: MapDef = MapDef {
+    kind: MapKind::Array,
+    key_size: 4,
+    value_size: 72,
+    max_entries: 1,
+};
+
+const WIDE_MOVE: Insn = Insn::Lddw {
+    dst: Register::R0,
+    value: 0,
+};
+
+const ADDRESS: Insn = Insn::Ldval {
+    dst: Register::R1,
+    map: 0,
+    offset: 8,
+};
+
+#[rattlefmt::skip]
+const PARTS: [(&str, Version, u32, MapDef, u32, Insn, u8); 12] = [
+    ("sixteen maps",                     Version::V1, 16, ARRAY, 1,    Insn::Exit, 0),
+    ("seventeen maps",                   Version::V1, 17, ARRAY, 1,    Insn::Exit, 10),
+    ("a hash",                           Version::V1, 1,  HASH,  1,    Insn::Exit, 0),
+    ("a value of 72 bytes in version 1", Version::V1, 1,  WIDE_VALUE, 1, Insn::Exit, 11),
+    ("a value of 72 bytes in version 2", Version::V2, 1,  WIDE_VALUE, 1, Insn::Exit, 0),
+    ("maps before instructions",         Version::V1, 17, WIDE_VALUE, 0, Insn::Exit, 10),
+    ("no instruction",                   Version::V1, 0,  ARRAY, 0,    Insn::Exit, 12),
+    ("4096 instructions",                Version::V1, 0,  ARRAY, 4096, Insn::Exit, 0),
+    ("4097 instructions",                Version::V1, 0,  ARRAY, 4097, Insn::Exit, 14),
+    ("2049 wide instructions",           Version::V1, 0,  ARRAY, 2049, WIDE_MOVE,  14),
+    ("an address in version 1",          Version::V1, 0,  ARRAY, 2,    ADDRESS,    16),
+    ("an address in version 2",          Version::V2, 0,  ARRAY, 2,    ADDRESS,    0),
+];
+
+#[test]
+fn images_of_parts(rt: HostRuntime) -> Result<(), Fail> {
+    for (name, version, maps, map, code, insn, want) in PARTS {
+        let number = part_fault(rt.alloc(), version, maps, map, code, insn)?;
+        assert_eq!(rt; number, want, "{name}");
+    }
+    Ok(())
+}
+
+#[rattlefmt::skip]
+const TEXTS: [(DecodeFault, &str); 11] = [
+    (DecodeFault::BadHead,                   "fault 10 BadHead"),
+    (DecodeFault::BadMap { map: 0 },         "fault 11 BadMap map 0"),
+    (DecodeFault::Empty,                     "fault 12 Empty"),
+    (DecodeFault::NotWhole,                  "fault 13 NotWhole"),
+    (DecodeFault::TooLong,                   "fault 14 TooLong"),
+    (DecodeFault::UnknownOpcode { slot: 0 }, "fault 15 UnknownOpcode slot 0"),
+    (DecodeFault::NotInProfile { slot: 1 },  "fault 16 NotInProfile slot 1"),
+    (DecodeFault::BadRegister { slot: 2 },   "fault 17 BadRegister slot 2"),
+    (DecodeFault::FieldNotZero { slot: 3 },  "fault 18 FieldNotZero slot 3"),
+    (DecodeFault::WideCut { slot: 4095 },    "fault 19 WideCut slot 4095"),
+    (DecodeFault::Memory,                    "fault 20 Memory"),
+];
+
+#[test]
+fn texts(rt: HostRuntime) -> Result<(), Fail> {
+    for (fault, want) in TEXTS {
+        let text = format!(in rt.alloc(); "{fault}")?;
+        assert_eq!(rt; text.as_str(), want);
+    }
+    Ok(())
+}
+
+// Run with each request of memory refused in turn, decode answers 20 or the image.
+#[test]
+fn refused_memory_is_20(rt: HostRuntime) {
+    let number = number_of(rt.alloc(), &FIRST_RUN);
+    assert!(rt; number == 0 || number == 20);
+}
+
+#[test]
+fn laws() {
+    one_encoding();
+}

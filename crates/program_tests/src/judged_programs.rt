@@ -1,0 +1,644 @@
+//! Programs that are accepted, and programs with their first reject, worked out by hand.
+
+use ebpf_decode::{Image, Insn, MapDef, MapKind, Version};
+use isa::{AluOp, AtomicOp, Register, Size, Source, Test, Width};
+use std::alloc::Global;
+use std::test::Fail;
+use verifier::*;
+
+const MAPS: [MapDef; 1] = [MapDef {
+    kind: MapKind::Array,
+    key_size: 4,
+    value_size: 8,
+    max_entries: 1,
+}];
+
+const EXIT: Insn = Insn::Exit;
+
+const PASS: Insn = Insn::Alu {
+    width: Width::Bits64,
+    op: AluOp::Mov,
+    dst: Register::R0,
+    source: Source::Imm(2),
+};
+
+const LEAK: Insn = Insn::Alu {
+    width: Width::Bits64,
+    op: AluOp::Mov,
+    dst: Register::R0,
+    source: Source::Reg(Register::R1),
+};
+
+const OVER_R10: Insn = Insn::Alu {
+    width: Width::Bits64,
+    op: AluOp::Mov,
+    dst: Register::R10,
+    source: Source::Imm(1),
+};
+
+const JA_1: Insn = Insn::Ja { distance: 1 };
+
+const JA_BACK: Insn = Insn::Ja { distance: -1 };
+
+const NUMBER: Insn = Insn::Lddw {
+    dst: Register::R0,
+    value: 2,
+};
+
+const CALL_99: Insn = Insn::CallHelper { helper: 99 };
+
+const TIME: Insn = Insn::CallHelper { helper: 5 };
+
+const WORKER: Insn = Insn::CallHelper { helper: 8 };
+
+// The packet in R2, its end in R3, and a place past it in R4 that is tested against the end.
+const START: Insn = Insn::Ldx {
+    size: Size::U32,
+    dst: Register::R2,
+    src: Register::R1,
+    offset: 0,
+};
+
+const END: Insn = Insn::Ldx {
+    size: Size::U32,
+    dst: Register::R3,
+    src: Register::R1,
+    offset: 4,
+};
+
+const PLACE: Insn = Insn::Alu {
+    width: Width::Bits64,
+    op: AluOp::Mov,
+    dst: Register::R4,
+    source: Source::Reg(Register::R2),
+};
+
+const ADD_14: Insn = Insn::Alu {
+    width: Width::Bits64,
+    op: AluOp::Add,
+    dst: Register::R4,
+    source: Source::Imm(14),
+};
+
+const JGT_1: Insn = Insn::JumpIf {
+    width: Width::Bits64,
+    test: Test::Gt,
+    dst: Register::R4,
+    source: Source::Reg(Register::R3),
+    distance: 1,
+};
+
+const JGE_1: Insn = Insn::JumpIf {
+    width: Width::Bits64,
+    test: Test::Ge,
+    dst: Register::R4,
+    source: Source::Reg(Register::R3),
+    distance: 1,
+};
+
+const JGT_6: Insn = Insn::JumpIf {
+    width: Width::Bits64,
+    test: Test::Gt,
+    dst: Register::R4,
+    source: Source::Reg(Register::R3),
+    distance: 6,
+};
+
+const BYTE_0: Insn = Insn::Ldx {
+    size: Size::U8,
+    dst: Register::R0,
+    src: Register::R2,
+    offset: 0,
+};
+
+const BYTE_1: Insn = Insn::Ldx {
+    size: Size::U8,
+    dst: Register::R0,
+    src: Register::R2,
+    offset: 1,
+};
+
+const BYTE_13: Insn = Insn::Ldx {
+    size: Size::U8,
+    dst: Register::R0,
+    src: Register::R2,
+    offset: 13,
+};
+
+const BYTE_14: Insn = Insn::Ldx {
+    size: Size::U8,
+    dst: Register::R0,
+    src: Register::R2,
+    offset: 14,
+};
+
+const LENGTH: Insn = Insn::Ldx {
+    size: Size::U8,
+    dst: Register::R5,
+    src: Register::R2,
+    offset: 13,
+};
+
+const WIDE_LENGTH: Insn = Insn::Ldx {
+    size: Size::U32,
+    dst: Register::R5,
+    src: Register::R2,
+    offset: 10,
+};
+
+const ADD_LENGTH: Insn = Insn::Alu {
+    width: Width::Bits64,
+    op: AluOp::Add,
+    dst: Register::R2,
+    source: Source::Reg(Register::R5),
+};
+
+const ADD_1: Insn = Insn::Alu {
+    width: Width::Bits64,
+    op: AluOp::Add,
+    dst: Register::R4,
+    source: Source::Imm(1),
+};
+
+// A lookup in map 0.
+const KEY: Insn = Insn::St {
+    size: Size::U32,
+    dst: Register::R10,
+    offset: -4,
+    immediate: 0,
+};
+
+const KEY_AT: Insn = Insn::Alu {
+    width: Width::Bits64,
+    op: AluOp::Mov,
+    dst: Register::R2,
+    source: Source::Reg(Register::R10),
+};
+
+const KEY_DOWN: Insn = Insn::Alu {
+    width: Width::Bits64,
+    op: AluOp::Add,
+    dst: Register::R2,
+    source: Source::Imm(-4),
+};
+
+const MAP: Insn = Insn::Ldmap {
+    dst: Register::R1,
+    map: 0,
+};
+
+const LOOKUP: Insn = Insn::CallHelper { helper: 1 };
+
+const JEQ_NULL: Insn = Insn::JumpIf {
+    width: Width::Bits64,
+    test: Test::Eq,
+    dst: Register::R0,
+    source: Source::Imm(0),
+    distance: 1,
+};
+
+const JNE_NULL: Insn = Insn::JumpIf {
+    width: Width::Bits64,
+    test: Test::Ne,
+    dst: Register::R0,
+    source: Source::Imm(0),
+    distance: 1,
+};
+
+const VALUE: Insn = Insn::Ldx {
+    size: Size::U64,
+    dst: Register::R3,
+    src: Register::R0,
+    offset: 0,
+};
+
+const COPY: Insn = Insn::Alu {
+    width: Width::Bits64,
+    op: AluOp::Mov,
+    dst: Register::R6,
+    source: Source::Reg(Register::R0),
+};
+
+const COPY_VALUE: Insn = Insn::Ldx {
+    size: Size::U64,
+    dst: Register::R3,
+    src: Register::R6,
+    offset: 0,
+};
+
+const SPILL: Insn = Insn::Stx {
+    size: Size::U64,
+    dst: Register::R10,
+    src: Register::R1,
+    offset: -8,
+};
+
+const FILL: Insn = Insn::Ldx {
+    size: Size::U64,
+    dst: Register::R2,
+    src: Register::R10,
+    offset: -8,
+};
+
+const NARROW_FILL: Insn = Insn::Ldx {
+    size: Size::U32,
+    dst: Register::R2,
+    src: Register::R10,
+    offset: -8,
+};
+
+const FIELD_12: Insn = Insn::Ldx {
+    size: Size::U32,
+    dst: Register::R0,
+    src: Register::R2,
+    offset: 12,
+};
+
+const FIELD_8: Insn = Insn::Ldx {
+    size: Size::U32,
+    dst: Register::R0,
+    src: Register::R1,
+    offset: 8,
+};
+
+const QUEUE: Insn = Insn::Ldx {
+    size: Size::U32,
+    dst: Register::R0,
+    src: Register::R1,
+    offset: 16,
+};
+
+const UNSET_BYTE: Insn = Insn::Ldx {
+    size: Size::U8,
+    dst: Register::R0,
+    src: Register::R10,
+    offset: -1,
+};
+
+const LOWEST: Insn = Insn::St {
+    size: Size::U64,
+    dst: Register::R10,
+    offset: -512,
+    immediate: 0,
+};
+
+const TOO_LOW: Insn = Insn::St {
+    size: Size::U64,
+    dst: Register::R10,
+    offset: -520,
+    immediate: 0,
+};
+
+const TOO_HIGH: Insn = Insn::St {
+    size: Size::U32,
+    dst: Register::R10,
+    offset: 0,
+    immediate: 0,
+};
+
+const CROOKED: Insn = Insn::St {
+    size: Size::U32,
+    dst: Register::R10,
+    offset: -6,
+    immediate: 0,
+};
+
+// Helpers that change a map or move the packet's start, and what they take.
+const CHANGED_VALUE: Insn = Insn::St {
+    size: Size::U64,
+    dst: Register::R10,
+    offset: -16,
+    immediate: 2,
+};
+
+const VALUE_AT: Insn = Insn::Alu {
+    width: Width::Bits64,
+    op: AluOp::Mov,
+    dst: Register::R3,
+    source: Source::Reg(Register::R10),
+};
+
+const VALUE_DOWN: Insn = Insn::Alu {
+    width: Width::Bits64,
+    op: AluOp::Add,
+    dst: Register::R3,
+    source: Source::Imm(-16),
+};
+
+const FLAGS: Insn = Insn::Alu {
+    width: Width::Bits64,
+    op: AluOp::Mov,
+    dst: Register::R4,
+    source: Source::Imm(0),
+};
+
+const UPDATE: Insn = Insn::CallHelper { helper: 2 };
+
+const DELETE: Insn = Insn::CallHelper { helper: 3 };
+
+const ONE: Insn = Insn::Alu {
+    width: Width::Bits64,
+    op: AluOp::Mov,
+    dst: Register::R1,
+    source: Source::Imm(1),
+};
+
+const JEQ_NULL_3: Insn = Insn::JumpIf {
+    width: Width::Bits64,
+    test: Test::Eq,
+    dst: Register::R0,
+    source: Source::Imm(0),
+    distance: 3,
+};
+
+const FETCH_ADD: Insn = Insn::AtomicUpdate {
+    width: Width::Bits64,
+    op: AtomicOp::FetchAdd,
+    dst: Register::R0,
+    src: Register::R1,
+    offset: 0,
+};
+
+const STORE_VALUE: Insn = Insn::St {
+    size: Size::U64,
+    dst: Register::R0,
+    offset: 0,
+    immediate: 5,
+};
+
+const STORE_PAST: Insn = Insn::St {
+    size: Size::U64,
+    dst: Register::R0,
+    offset: 8,
+    immediate: 5,
+};
+
+const COUNT: Insn = Insn::Ldx {
+    size: Size::U64,
+    dst: Register::R0,
+    src: Register::R0,
+    offset: 0,
+};
+
+const BACK_20: Insn = Insn::Alu {
+    width: Width::Bits64,
+    op: AluOp::Mov,
+    dst: Register::R2,
+    source: Source::Imm(-20),
+};
+
+const MOVE_HEAD: Insn = Insn::CallHelper { helper: 44 };
+
+const KEPT_START: Insn = Insn::Ldx {
+    size: Size::U32,
+    dst: Register::R6,
+    src: Register::R1,
+    offset: 0,
+};
+
+const THROUGH_KEPT: Insn = Insn::Ldx {
+    size: Size::U8,
+    dst: Register::R0,
+    src: Register::R6,
+    offset: 0,
+};
+
+#[rattlefmt::skip]
+const ACCEPTED: [(&str, &[Insn], bool); 16] = [
+    ("a verdict alone",                           &[PASS, EXIT], true),
+    ("the byte that a test covers",               &[START, END, PLACE, ADD_14, PASS, JGT_1, BYTE_13, EXIT], true),
+    ("one byte more by a strict test",            &[START, END, PLACE, ADD_14, PASS, JGE_1, BYTE_14, EXIT], true),
+    ("a byte past a length that the packet has",  &[START, END, PLACE, ADD_14, PASS, JGT_6, LENGTH, ADD_LENGTH, PLACE, ADD_1, JGT_1, BYTE_0, EXIT], true),
+    ("a value past its null test",                &[KEY, KEY_AT, KEY_DOWN, MAP, LOOKUP, JEQ_NULL, VALUE, PASS, EXIT], true),
+    ("a copy past the test of the original",      &[KEY, KEY_AT, KEY_DOWN, MAP, LOOKUP, COPY, JEQ_NULL, COPY_VALUE, PASS, EXIT], true),
+    ("a spilled context",                         &[SPILL, FILL, FIELD_12, EXIT], true),
+    ("the lowest bytes of the stack",             &[LOWEST, PASS, EXIT], true),
+    ("a number of 64 bits",                       &[NUMBER, EXIT], true),
+    ("the time",                                  &[TIME, EXIT], true),
+    ("the worker's number is no reader's",        &[WORKER, EXIT], false),
+    ("nor is that of the receive queue",          &[QUEUE, EXIT], false),
+    ("an update and an atomic count",             &[KEY, CHANGED_VALUE, KEY_AT, KEY_DOWN, VALUE_AT, VALUE_DOWN, FLAGS, MAP, UPDATE, KEY_AT, KEY_DOWN, MAP, LOOKUP, JEQ_NULL_3, ONE, FETCH_ADD, COUNT, EXIT], false),
+    ("a store to a value",                        &[KEY, KEY_AT, KEY_DOWN, MAP, LOOKUP, JEQ_NULL, STORE_VALUE, PASS, EXIT], false),
+    ("a deletion",                                &[KEY, KEY_AT, KEY_DOWN, MAP, DELETE, EXIT], false),
+    ("a moved head only reads",                   &[BACK_20, MOVE_HEAD, PASS, EXIT], true),
+];
+
+#[rattlefmt::skip]
+const REFUSED: [(&str, &[Insn], Reject); 28] = [
+    ("no verdict",                          &[EXIT], Reject::UnsetRegister { slot: 0, register: 0 }),
+    ("a packet byte without a test",        &[START, BYTE_0, EXIT], Reject::PacketBounds { slot: 1 }),
+    ("past what the test covers",           &[START, END, PLACE, ADD_14, PASS, JGT_1, BYTE_14, EXIT], Reject::PacketBounds { slot: 6 }),
+    ("past the second test",                &[START, END, PLACE, ADD_14, PASS, JGT_6, LENGTH, ADD_LENGTH, PLACE, ADD_1, JGT_1, BYTE_1, EXIT], Reject::PacketBounds { slot: 11 }),
+    ("a length of 32 bits",                 &[START, END, PLACE, ADD_14, PASS, JGT_6, WIDE_LENGTH, ADD_LENGTH, PLACE, ADD_1, JGT_1, BYTE_0, EXIT], Reject::PacketBounds { slot: 7 }),
+    ("a value without a null test",         &[KEY, KEY_AT, KEY_DOWN, MAP, LOOKUP, VALUE, PASS, EXIT], Reject::WrongKind { slot: 6, register: 0 }),
+    ("a value on the null edge",            &[KEY, KEY_AT, KEY_DOWN, MAP, LOOKUP, JNE_NULL, VALUE, PASS, EXIT], Reject::WrongKind { slot: 7, register: 0 }),
+    ("a jump into a wide instruction",      &[JA_1, NUMBER, EXIT], Reject::JumpIntoWide { slot: 0 }),
+    ("a jump back",                         &[PASS, JA_BACK, EXIT], Reject::JumpBackward { slot: 1 }),
+    ("an instruction that no path reaches", &[PASS, JA_1, PASS, EXIT], Reject::Unreachable { slot: 2 }),
+    ("a pointer as the verdict",            &[LEAK, EXIT], Reject::PointerLeak { slot: 1 }),
+    ("a lookup without a map",              &[KEY, KEY_AT, KEY_DOWN, LOOKUP, EXIT], Reject::BadArgument { slot: 3, register: 1 }),
+    ("a key of unset bytes",                &[KEY_AT, KEY_DOWN, MAP, LOOKUP, EXIT], Reject::StackUnset { slot: 4 }),
+    ("a key past the stack",                &[KEY_AT, MAP, LOOKUP, EXIT], Reject::StackBounds { slot: 3 }),
+    ("a crooked store",                     &[CROOKED, PASS, EXIT], Reject::Misaligned { slot: 0 }),
+    ("a store above the stack",             &[TOO_HIGH, PASS, EXIT], Reject::StackBounds { slot: 0 }),
+    ("a store below the stack",             &[TOO_LOW, PASS, EXIT], Reject::StackBounds { slot: 0 }),
+    ("an unset byte",                       &[UNSET_BYTE, EXIT], Reject::StackUnset { slot: 0 }),
+    ("no such field of the context",        &[FIELD_8, EXIT], Reject::ContextAccess { slot: 0 }),
+    ("a write of R10",                      &[OVER_R10, EXIT], Reject::ReadOnlyFp { slot: 0 }),
+    ("a part of a spilled pointer",         &[SPILL, NARROW_FILL, FIELD_12, EXIT], Reject::PointerLeak { slot: 1 }),
+    ("no such helper, before what is unset", &[CALL_99, EXIT], Reject::UnknownHelper { slot: 0 }),
+    ("the last instruction is no exit",     &[PASS], Reject::FallsOff { slot: 0 }),
+    ("structure goes before kinds",         &[BYTE_0, JA_BACK, EXIT], Reject::JumpBackward { slot: 1 }),
+    ("the first of two broken rules",       &[OVER_R10, CALL_99, EXIT], Reject::ReadOnlyFp { slot: 0 }),
+    ("a packet pointer over a moved head",  &[KEPT_START, BACK_20, MOVE_HEAD, THROUGH_KEPT, EXIT], Reject::UnsetRegister { slot: 3, register: 6 }),
+    ("a store past a value",                &[KEY, KEY_AT, KEY_DOWN, MAP, LOOKUP, JEQ_NULL, STORE_PAST, PASS, EXIT], Reject::ValueBounds { slot: 7 }),
+    ("an update of unset bytes",            &[KEY, KEY_AT, KEY_DOWN, VALUE_AT, VALUE_DOWN, FLAGS, MAP, UPDATE, PASS, EXIT], Reject::StackUnset { slot: 8 }),
+];
+
+/// An image of this program with one map.
+fn image_of(alloc: Global, code: &[Insn]) -> Result<Image, Fail> {
+    image_over(alloc, &MAPS, code)
+}
+
+/// An image of this program with these maps.
+fn image_over(alloc: Global, maps: &[MapDef], code: &[Insn]) -> Result<Image, Fail> {
+    let mut all_maps = Vec::new(alloc);
+    all_maps.extend_from_slice(maps)?;
+    let mut all = Vec::new(alloc);
+    all.extend_from_slice(code)?;
+    Ok(Image::of(Version::V1, all_maps, all)?)
+}
+
+#[test]
+fn accepted(rt: HostRuntime) -> Result<(), Fail> {
+    for (name, code, reads) in ACCEPTED {
+        match verify(rt.alloc(), image_of(rt.alloc(), code)?) {
+            Ok(verified) => {
+                assert_eq!(rt; verified.is_reader(), reads, "{name}");
+                assert_eq!(rt; verified.image().code().len(), code.len(), "{name}");
+            }
+            Err(reject) => assert!(rt; false, "{name}: {reject}"),
+        }
+    }
+    Ok(())
+}
+
+/// Maps of every kind are accepted; keys have the map's size.
+#[test]
+fn maps_of_every_kind(rt: HostRuntime) -> Result<(), Fail> {
+    const COUNTED: [Insn; 18] = [
+        KEY,
+        CHANGED_VALUE,
+        KEY_AT,
+        KEY_DOWN,
+        VALUE_AT,
+        VALUE_DOWN,
+        FLAGS,
+        MAP,
+        UPDATE,
+        KEY_AT,
+        KEY_DOWN,
+        MAP,
+        LOOKUP,
+        JEQ_NULL_3,
+        ONE,
+        FETCH_ADD,
+        COUNT,
+        EXIT,
+    ];
+    #[rattlefmt::skip]
+    const ROWS: [(&str, MapKind, u32, Option<Reject>); 5] = [
+        ("an array",             MapKind::Array,   4, None),
+        ("a hash map",           MapKind::Hash,    4, None),
+        ("an LRU map",           MapKind::LruHash, 4, None),
+        ("a key of 5 bytes",     MapKind::Hash,    5, Some(Reject::StackBounds { slot: 9 })),
+        ("a key of 1 byte",      MapKind::LruHash, 1, None),
+    ];
+    for (name, kind, key_size, wanted) in ROWS {
+        let maps = [MapDef {
+            kind,
+            key_size,
+            value_size: 8,
+            max_entries: 8,
+        }];
+        let reject = match verify(rt.alloc(), image_over(rt.alloc(), &maps, &COUNTED)?) {
+            Ok(_) => None,
+            Err(reject) => Some(reject),
+        };
+        assert_eq!(rt; reject, wanted, "{name}");
+    }
+    Ok(())
+}
+
+#[test]
+fn refused(rt: HostRuntime) -> Result<(), Fail> {
+    for (name, code, wanted) in REFUSED {
+        match verify(rt.alloc(), image_of(rt.alloc(), code)?) {
+            Ok(_) => assert!(rt; false, "{name} is accepted"),
+            Err(reject) => assert_eq!(rt; reject, wanted, "{name}"),
+        }
+    }
+    Ok(())
+}
+
+#[test]
+fn no_map_in_the_list(rt: HostRuntime) -> Result<(), Fail> {
+    let mut code = Vec::new(rt.alloc());
+    code.extend_from_slice(&[MAP, PASS, EXIT])?;
+    match verify(
+        rt.alloc(),
+        Image::of(Version::V1, Vec::new(rt.alloc()), code)?,
+    ) {
+        Ok(_) => assert!(rt; false, "a map that is none is accepted"),
+        Err(reject) => assert_eq!(rt; reject, Reject::UnknownMap { slot: 0 }, "no map 0"),
+    }
+    Ok(())
+}
+
+/// What a flat instruction is, of those in the rows below.
+fn sort(op: &Op) -> &'static str {
+    match op {
+        Op::StoreStack64R { .. } => "to the stack",
+        Op::LoadStack64 { .. } => "from the stack",
+        Op::LoadPacket { .. } => "from the packet",
+        Op::Load { memory, .. } => match memory {
+            Memory::Context => "from the context",
+            Memory::Value => "from a value",
+            _ => "from elsewhere",
+        },
+        Op::Exit => "exit",
+        Op::Hole => "hole",
+        _ => "another",
+    }
+}
+
+#[test]
+fn resolved_instructions(rt: HostRuntime) -> Result<(), Fail> {
+    #[rattlefmt::skip]
+    const ROWS: [(&str, &[Insn], usize, &str); 8] = [
+        ("a spill goes to the stack",            &[SPILL, FILL, FIELD_12, EXIT], 0, "to the stack"),
+        ("a fill comes from there",              &[SPILL, FILL, FIELD_12, EXIT], 1, "from the stack"),
+        ("a field of the filled context",        &[SPILL, FILL, FIELD_12, EXIT], 2, "from the context"),
+        ("an exit touches nothing",              &[SPILL, FILL, FIELD_12, EXIT], 3, "exit"),
+        ("nothing past the end",                 &[SPILL, FILL, FIELD_12, EXIT], 4, "none"),
+        ("nothing inside a wide instruction",    &[NUMBER, EXIT], 1, "hole"),
+        ("a byte of the packet",                 &[START, END, PLACE, ADD_14, PASS, JGT_1, BYTE_13, EXIT], 6, "from the packet"),
+        ("a value of a map, behind a wide one",  &[KEY, KEY_AT, KEY_DOWN, MAP, LOOKUP, JEQ_NULL, VALUE, PASS, EXIT], 7, "from a value"),
+    ];
+    for (name, code, slot, wanted) in ROWS {
+        match verify(rt.alloc(), image_of(rt.alloc(), code)?) {
+            Ok(verified) => {
+                assert_eq!(rt; verified.op(slot).map_or("none", sort), wanted, "{name}");
+            }
+            Err(reject) => assert!(rt; false, "{name}: {reject}"),
+        }
+    }
+    Ok(())
+}
+
+#[test]
+fn the_longest_program(rt: HostRuntime) -> Result<(), Fail> {
+    let mut code = Vec::new(rt.alloc());
+    for _ in 0..4095 {
+        code.push(PASS)?;
+    }
+    code.push(EXIT)?;
+    let longest = verify(
+        rt.alloc(),
+        Image::of(Version::V1, Vec::new(rt.alloc()), code)?,
+    );
+    assert!(rt; matches!(longest, Ok(_)), "4096 slots are accepted");
+    Ok(())
+}
+
+#[test]
+fn printed_rejects(rt: HostRuntime) -> Result<(), Fail> {
+    #[rattlefmt::skip]
+    const TEXTS: [(Reject, &str); 20] = [
+        (Reject::JumpBackward { slot: 1 },               "fault 30 JumpBackward slot 1"),
+        (Reject::JumpOutside { slot: 5 },                "fault 31 JumpOutside slot 5"),
+        (Reject::JumpIntoWide { slot: 0 },               "fault 32 JumpIntoWide slot 0"),
+        (Reject::FallsOff { slot: 4095 },                "fault 33 FallsOff slot 4095"),
+        (Reject::Unreachable { slot: 2 },                "fault 34 Unreachable slot 2"),
+        (Reject::UnsetRegister { slot: 0, register: 0 }, "fault 35 UnsetRegister slot 0 register 0"),
+        (Reject::WrongKind { slot: 3, register: 10 },    "fault 36 WrongKind slot 3 register 10"),
+        (Reject::PacketBounds { slot: 6 },               "fault 37 PacketBounds slot 6"),
+        (Reject::StackBounds { slot: 7 },                "fault 38 StackBounds slot 7"),
+        (Reject::StackUnset { slot: 8 },                 "fault 39 StackUnset slot 8"),
+        (Reject::ValueBounds { slot: 9 },                "fault 40 ValueBounds slot 9"),
+        (Reject::Misaligned { slot: 10 },                "fault 41 Misaligned slot 10"),
+        (Reject::ContextAccess { slot: 11 },             "fault 42 ContextAccess slot 11"),
+        (Reject::ReadOnlyFp { slot: 12 },                "fault 43 ReadOnlyFp slot 12"),
+        (Reject::UnknownHelper { slot: 13 },             "fault 44 UnknownHelper slot 13"),
+        (Reject::BadArgument { slot: 14, register: 2 },  "fault 45 BadArgument slot 14 register 2"),
+        (Reject::PointerLeak { slot: 15 },               "fault 46 PointerLeak slot 15"),
+        (Reject::UnknownMap { slot: 16 },                "fault 47 UnknownMap slot 16"),
+        (Reject::Memory,                                 "fault 48 Memory"),
+        (Reject::NotArrayMap { slot: 17 },               "fault 49 NotArrayMap slot 17"),
+    ];
+    for (reject, wanted) in TEXTS {
+        let text = format!(in rt.alloc(); "{reject}")?;
+        assert_eq!(rt; text.as_str(), wanted, "{wanted}");
+    }
+    Ok(())
+}

@@ -1,0 +1,13 @@
+//! Tests of the public calls of `ebpf_decode`, `abstract_state` and `verifier`.
+#![tactic(auto)]
+
+#[cfg(test)]
+mod images;
+#[cfg(test)]
+mod judged_in_version_two;
+#[cfg(test)]
+mod judged_programs;
+#[cfg(test)]
+mod map_values;
+#[cfg(test)]
+mod straight_code;

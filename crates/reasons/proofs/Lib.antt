@@ -1,0 +1,3 @@
+pub mod IndexedLemmas
+pub mod TellingLemmas
+pub mod OriginLemmas

@@ -1,0 +1,422 @@
+//! Rows that run a shard.
+
+ghost use Rattle.semantics.specs.PlanLimits.{IsPlan};
+
+use ebpf_decode::{MapDef, MapKind};
+use semantics::{Call, Caller, CellRef, JournalFull, Key, Reply, ShardPlan, Value};
+use shard_core::shard::Shard;
+use std::process::Abort;
+use std::test::Fail;
+
+mod parts;
+mod recent;
+mod wide;
+
+const ANY: u64 = 0;
+
+const NOEXIST: u64 = 1;
+
+const EXIST: u64 = 2;
+
+/// The number of the shard in every row.
+const SHARD: u32 = 3;
+
+/// A call in one row of a table, on a map with values of eight bytes.
+#[derive(Clone, Copy)]
+enum Ask {
+    /// By a worker.
+    Enter(u8),
+    Leave(u8),
+    /// Worker, index.
+    Look(u8, u32),
+    /// Worker, cell, offset, width.
+    Load(u8, u64, u64, u64),
+    /// Worker, cell, offset, width, number.
+    Store(u8, u64, u64, u64, u64),
+    /// Worker, cell, operation, number, expected: on the first eight bytes.
+    Change(u8, u64, u64, u64, u64),
+    /// By the controller: index, byte, flags.
+    Put(u32, u8, u64),
+    Remove(u32),
+    /// By the reclaimer.
+    Reclaim,
+}
+
+type Row = (&'static str, Ask, Reply);
+
+fn plan_of(kind: MapKind, value_size: u32, max_entries: u32, reserve: u32) -> ShardPlan
+    ensures { IsPlan result }
+{
+    ShardPlan {
+        number: SHARD,
+        part: 0,
+        parts: 1,
+        definition: MapDef {
+            kind,
+            key_size: 4,
+            value_size: value_size.min(256),
+            max_entries: max_entries.max(1).min(131_072),
+        },
+        workers: 2,
+        reserve: reserve.max(16).min(1_048_576),
+    }
+}
+
+fn plan(value_size: u32, max_entries: u32, reserve: u32) -> ShardPlan
+    ensures { IsPlan result }
+{
+    plan_of(MapKind::Array, value_size, max_entries, reserve)
+}
+
+fn key_of(index: u32) -> Key {
+    Key::of(&index.to_le_bytes()).unwrap_or(Key::empty())
+}
+
+fn value_of(byte: u8) -> Value {
+    Value::of(&[byte; 8]).unwrap_or(Value::empty())
+}
+
+fn caller_of(ask: Ask) -> Caller {
+    match ask {
+        Ask::Enter(number) => Caller::Worker { number },
+        Ask::Leave(number) => Caller::Worker { number },
+        Ask::Look(number, _) => Caller::Worker { number },
+        Ask::Load(number, _, _, _) => Caller::Worker { number },
+        Ask::Store(number, _, _, _, _) => Caller::Worker { number },
+        Ask::Change(number, _, _, _, _) => Caller::Worker { number },
+        Ask::Put(_, _, _) => Caller::Controller,
+        Ask::Remove(_) => Caller::Controller,
+        Ask::Reclaim => Caller::Reclaimer,
+    }
+}
+
+fn cell(id: u64) -> CellRef {
+    CellRef { shard: SHARD, id }
+}
+
+fn call_of(ask: Ask) -> Call {
+    match ask {
+        Ask::Enter(_) => Call::Enter { shard: SHARD },
+        Ask::Leave(_) => Call::Leave { shard: SHARD },
+        Ask::Look(_, index) => Call::Lookup {
+            shard: SHARD,
+            key: key_of(index),
+        },
+        Ask::Load(_, id, offset, width) => Call::Load {
+            cell: cell(id),
+            offset,
+            width,
+        },
+        Ask::Store(_, id, offset, width, value) => Call::Store {
+            cell: cell(id),
+            offset,
+            width,
+            value,
+        },
+        Ask::Change(_, id, op, value, expected) => Call::Atomic {
+            cell: cell(id),
+            offset: 0,
+            width: 8,
+            op,
+            value,
+            expected,
+        },
+        Ask::Put(index, byte, flags) => Call::Update {
+            shard: SHARD,
+            key: key_of(index),
+            value: value_of(byte),
+            flags,
+        },
+        Ask::Remove(index) => Call::Delete {
+            shard: SHARD,
+            key: key_of(index),
+        },
+        Ask::Reclaim => Call::Reclaim { shard: SHARD },
+    }
+}
+
+/// Makes a call that its caller may make.
+fn make(
+    rt: &impl Abort,
+    shard: &mut Shard,
+    ask: Ask,
+    name: &'static str,
+) -> Result<Reply, JournalFull> {
+    let who = caller_of(ask);
+    let call = call_of(ask);
+    assert!(rt; shard.meets(&who, &call), "{name}");
+    shard.apply(who, &call)
+}
+
+/// Caller, call and reply of the newest entry.
+fn newest(shard: &Shard) -> Option<(Caller, Call, Reply)> {
+    let journal = shard.journal();
+    let count = journal.len();
+    if count == 0 {
+        return None;
+    }
+    let entry = journal.entry(count - 1);
+    Some((entry.who, entry.call, entry.reply))
+}
+
+/// Makes the calls of the rows in turn. Each is served, and its entry is the newest.
+fn serves(rt: &impl Abort, shard: &mut Shard, rows: &[Row]) {
+    for (name, ask, want) in rows {
+        let reply = make(rt, shard, *ask, name);
+        assert_eq!(rt; reply, Ok(*want), "{name}");
+        let newest = newest(shard);
+        assert_eq!(rt;
+            newest,
+            Some((caller_of(*ask), call_of(*ask), *want)),
+            "{name}"
+        );
+    }
+}
+
+/// A full journal refuses the call of each row, and nothing is changed.
+fn refuses(rt: &impl Abort, shard: &mut Shard, rows: &[(&'static str, Ask)]) {
+    for (name, ask) in rows {
+        let before = shard.journal().len();
+        let reply = make(rt, shard, *ask, name);
+        assert_eq!(rt; reply, Err(JournalFull { shard: SHARD }), "{name}");
+        assert_eq!(rt; shard.journal().len(), before, "{name}");
+    }
+}
+
+#[rattlefmt::skip]
+const ARRAY_OF_TWO: [Row; 26] = [
+    ("an index out of range under NOEXIST",       Ask::Put(2, 7, NOEXIST), Reply::Answer { code: -7 }),
+    ("an index is there under NOEXIST",           Ask::Put(0, 7, NOEXIST), Reply::Answer { code: -17 }),
+    ("unknown flags",                             Ask::Put(0, 7, 3),       Reply::Answer { code: -22 }),
+    ("unknown flags out of range",                Ask::Put(2, 7, 3),       Reply::Answer { code: -22 }),
+    ("an index under EXIST",                      Ask::Put(0, 1, EXIST),   Reply::Answer { code: 0 }),
+    ("an index under ANY",                        Ask::Put(1, 2, ANY),     Reply::Answer { code: 0 }),
+    ("an array deletes nothing",                  Ask::Remove(0),          Reply::Answer { code: -22 }),
+    ("nor out of range",                          Ask::Remove(2),          Reply::Answer { code: -22 }),
+    ("a worker enters",                           Ask::Enter(0),           Reply::Entered),
+    ("an index out of range is not found",        Ask::Look(0, 2),         Reply::Null),
+    ("nor one that is 0 in its low half",         Ask::Look(0, 0x10000),   Reply::Null),
+    ("index 1 has cell 1",                        Ask::Look(0, 1),         Reply::Cell { cell: CellRef { shard: SHARD, id: 1 } }),
+    ("index 0 has cell 0",                        Ask::Look(0, 0),         Reply::Cell { cell: CellRef { shard: SHARD, id: 0 } }),
+    ("failed updates changed nothing",            Ask::Load(0, 0, 0, 8),   Reply::Word { value: 0x01010101_01010101 }),
+    ("a store of two bytes",                      Ask::Store(0, 1, 2, 2, 0xabcd), Reply::Done),
+    ("bytes are little-endian",                   Ask::Load(0, 1, 0, 8),   Reply::Word { value: 0x02020202_abcd0202 }),
+    ("one byte",                                  Ask::Load(0, 1, 3, 1),   Reply::Word { value: 0xab }),
+    ("an atomic addition replies the old number", Ask::Change(0, 1, 0x00, 0xfe, 0), Reply::Word { value: 0x02020202_abcd0202 }),
+    ("and adds once",                             Ask::Load(0, 1, 0, 8),   Reply::Word { value: 0x02020202_abcd0300 }),
+    ("a comparison that fails",                   Ask::Change(0, 1, 0xf1, 5, 6), Reply::Word { value: 0x02020202_abcd0300 }),
+    ("stores nothing",                            Ask::Load(0, 1, 0, 8),   Reply::Word { value: 0x02020202_abcd0300 }),
+    ("an Update of a held cell",                  Ask::Put(1, 9, ANY),     Reply::Answer { code: 0 }),
+    ("is seen at once",                           Ask::Load(0, 1, 4, 4),   Reply::Word { value: 0x09090909 }),
+    ("the other cell stays",                      Ask::Load(0, 0, 4, 4),   Reply::Word { value: 0x01010101 }),
+    ("an array retires nothing",                  Ask::Reclaim,            Reply::Freed { count: 0 }),
+    ("the worker leaves",                         Ask::Leave(0),           Reply::Left),
+];
+
+#[test]
+fn array_of_two_entries(rt: HostRuntime) -> Result<(), Fail> {
+    let mut shard = Shard::open(rt.alloc(), plan(8, 2, 64))?;
+    serves(&rt, &mut shard, &ARRAY_OF_TWO);
+    assert_eq!(rt; shard.journal().len(), ARRAY_OF_TWO.len());
+    Ok(())
+}
+
+/// The size of a value, and how many entries the map has.
+#[rattlefmt::skip]
+const SIZES: [(u32, u32); 10] = [
+    (8, 1), (16, 2), (24, 3), (32, 4), (40, 5), (48, 6), (56, 7), (64, 8), (8, 4096), (64, 256),
+];
+
+#[test]
+fn arrays_of_each_size(rt: HostRuntime) -> Result<(), Fail> {
+    for (value_size, max_entries) in SIZES {
+        let mut shard = Shard::open(rt.alloc(), plan(value_size, max_entries, 16))?;
+        let last = max_entries.saturating_sub(1);
+        let found = cell(u64::from(last));
+        let place = u64::from(value_size.saturating_sub(8));
+        let rows = [
+            ("a worker enters", Ask::Enter(1), Reply::Entered),
+            ("past the end", Ask::Look(1, max_entries), Reply::Null),
+            (
+                "the last index",
+                Ask::Look(1, last),
+                Reply::Cell { cell: found },
+            ),
+            (
+                "its last bytes are zeros",
+                Ask::Load(1, found.id, place, 8),
+                Reply::Word { value: 0 },
+            ),
+        ];
+        serves(&rt, &mut shard, &rows);
+    }
+    Ok(())
+}
+
+#[rattlefmt::skip]
+const HASH_OF_ONE: [Row; 5] = [
+    ("a new key",                         Ask::Put(1, 1, ANY),     Reply::Answer { code: 0 }),
+    ("it is there under NOEXIST",         Ask::Put(1, 2, NOEXIST), Reply::Answer { code: -17 }),
+    ("the shard is full of keys",         Ask::Put(2, 1, ANY),     Reply::Answer { code: -7 }),
+    ("the key goes",                      Ask::Remove(1),          Reply::Answer { code: 0 }),
+    ("and is there no more",              Ask::Remove(1),          Reply::Answer { code: -2 }),
+];
+
+#[rattlefmt::skip]
+const CELLS_RUN_OUT: [Row; 8] = [
+    ("an absent key under EXIST",         Ask::Put(1, 1, EXIST),   Reply::Answer { code: -2 }),
+    ("a first key",                       Ask::Put(1, 1, ANY),     Reply::Answer { code: 0 }),
+    ("goes",                              Ask::Remove(1),          Reply::Answer { code: 0 }),
+    ("a second key",                      Ask::Put(2, 1, ANY),     Reply::Answer { code: 0 }),
+    ("goes",                              Ask::Remove(2),          Reply::Answer { code: 0 }),
+    ("two cells wait",                    Ask::Put(3, 1, ANY),     Reply::Answer { code: -12 }),
+    ("nobody is inside",                  Ask::Reclaim,            Reply::Freed { count: 2 }),
+    ("there is a cell again",             Ask::Put(3, 1, ANY),     Reply::Answer { code: 0 }),
+];
+
+#[rattlefmt::skip]
+const HELD_CELL_STAYS: [Row; 14] = [
+    ("a key",                             Ask::Put(1, 1, ANY),     Reply::Answer { code: 0 }),
+    ("a worker enters",                   Ask::Enter(0),           Reply::Entered),
+    ("an absent key",                     Ask::Look(0, 2),         Reply::Null),
+    ("the key's cell",                    Ask::Look(0, 1),         Reply::Cell { cell: CellRef { shard: SHARD, id: 0 } }),
+    ("the key goes",                      Ask::Remove(1),          Reply::Answer { code: 0 }),
+    ("its cell is held",                  Ask::Reclaim,            Reply::Freed { count: 0 }),
+    ("another key",                       Ask::Put(2, 2, ANY),     Reply::Answer { code: 0 }),
+    ("has another cell",                  Ask::Look(0, 2),         Reply::Cell { cell: CellRef { shard: SHARD, id: 1 } }),
+    ("the held cell has its bytes",       Ask::Load(0, 0, 0, 8),   Reply::Word { value: 0x01010101_01010101 }),
+    ("and takes others",                  Ask::Change(0, 0, 0x00, 1, 0), Reply::Word { value: 0x01010101_01010101 }),
+    ("for itself",                        Ask::Load(0, 1, 0, 8),   Reply::Word { value: 0x02020202_02020202 }),
+    ("the worker leaves",                 Ask::Leave(0),           Reply::Left),
+    ("its cell is freed",                 Ask::Reclaim,            Reply::Freed { count: 1 }),
+    ("and none is left to free",          Ask::Reclaim,            Reply::Freed { count: 0 }),
+];
+
+fn hash_plan(max_entries: u32) -> ShardPlan
+    ensures { IsPlan result }
+{
+    plan_of(MapKind::Hash, 8, max_entries, 64)
+}
+
+#[test]
+fn hash_of_one_entry(rt: HostRuntime) -> Result<(), Fail> {
+    let mut shard = Shard::open(rt.alloc(), hash_plan(1))?;
+    serves(&rt, &mut shard, &HASH_OF_ONE);
+    let mut shard = Shard::open(rt.alloc(), hash_plan(1))?;
+    serves(&rt, &mut shard, &CELLS_RUN_OUT);
+    let mut shard = Shard::open(rt.alloc(), hash_plan(1))?;
+    serves(&rt, &mut shard, &HELD_CELL_STAYS);
+    Ok(())
+}
+
+#[test]
+fn large_hash(rt: HostRuntime) -> Result<(), Fail> {
+    let mut shard = Shard::open(rt.alloc(), hash_plan(131_072))?;
+    serves(&rt, &mut shard, &HELD_CELL_STAYS);
+    Ok(())
+}
+
+/// With one run inside and 15 entries, a journal of 16 has room for that run's Leave alone.
+#[test]
+fn last_entry_is_a_leave(rt: HostRuntime) -> Result<(), Fail> {
+    let mut shard = Shard::open(rt.alloc(), plan(8, 2, 16))?;
+    serves(
+        &rt,
+        &mut shard,
+        &[("a worker enters", Ask::Enter(0), Reply::Entered)],
+    );
+    for _ in 0..14 {
+        serves(
+            &rt,
+            &mut shard,
+            &[("an index out of range", Ask::Look(0, 2), Reply::Null)],
+        );
+    }
+    let rows = [
+        ("a Lookup", Ask::Look(0, 0)),
+        ("another run", Ask::Enter(1)),
+        ("the controller", Ask::Put(0, 1, ANY)),
+    ];
+    refuses(&rt, &mut shard, &rows);
+    serves(
+        &rt,
+        &mut shard,
+        &[("the run leaves", Ask::Leave(0), Reply::Left)],
+    );
+    assert_eq!(rt; shard.journal().len(), 16);
+    refuses(
+        &rt,
+        &mut shard,
+        &[("a Reclaim", Ask::Reclaim), ("an Enter", Ask::Enter(0))],
+    );
+    Ok(())
+}
+
+/// With no run inside, a run that enters needs room for its Enter and for its Leave.
+#[test]
+fn last_enter_needs_two_places(rt: HostRuntime) -> Result<(), Fail> {
+    let put = [("an Update", Ask::Put(0, 1, ANY), Reply::Answer { code: 0 })];
+    let mut shard = Shard::open(rt.alloc(), plan(8, 2, 16))?;
+    for _ in 0..14 {
+        serves(&rt, &mut shard, &put);
+    }
+    serves(
+        &rt,
+        &mut shard,
+        &[("after 14 entries", Ask::Enter(0), Reply::Entered)],
+    );
+    let mut shard = Shard::open(rt.alloc(), plan(8, 2, 16))?;
+    for _ in 0..15 {
+        serves(&rt, &mut shard, &put);
+    }
+    refuses(&rt, &mut shard, &[("after 15 entries", Ask::Enter(0))]);
+    serves(&rt, &mut shard, &put);
+    refuses(
+        &rt,
+        &mut shard,
+        &[("after 16 entries", Ask::Put(0, 1, ANY))],
+    );
+    Ok(())
+}
+
+/// What a caller can ask of a shard before it calls.
+#[test]
+fn tests_for_callers(rt: HostRuntime) -> Result<(), Fail> {
+    let mut shard = Shard::open(rt.alloc(), plan(8, 2, 16))?;
+    let rows = [
+        ("a worker enters", Ask::Enter(1), Reply::Entered),
+        (
+            "it finds cell 0",
+            Ask::Look(1, 0),
+            Reply::Cell { cell: cell(0) },
+        ),
+    ];
+    serves(&rt, &mut shard, &rows);
+    assert!(rt; shard.is_inside(1) && !shard.is_inside(0), "who is inside");
+    assert!(rt;
+        shard.holds(1, 0) && !shard.holds(1, 1) && !shard.holds(0, 0),
+        "who holds"
+    );
+    serves(
+        &rt,
+        &mut shard,
+        &[("it leaves", Ask::Leave(1), Reply::Left)],
+    );
+    assert!(rt;
+        !shard.is_inside(1) && !shard.holds(1, 0),
+        "after the Leave"
+    );
+    assert!(rt; !shard.is_full(&call_of(Ask::Reclaim)), "there is room");
+    assert_eq!(rt; shard.plan().number, SHARD);
+    Ok(())
+}
+
+/// The printed fault.
+#[test]
+fn fault_text(rt: HostRuntime) -> Result<(), Fail> {
+    let fault = JournalFull { shard: 7 };
+    let text = format!(in rt.alloc(); "{fault}")?;
+    assert_eq!(rt; text.as_str(), "fault 50 JournalFull shard 7");
+    assert_eq!(rt; fault.number(), 50);
+    Ok(())
+}

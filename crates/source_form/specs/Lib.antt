@@ -1,0 +1,3 @@
+pub mod SourceText
+pub mod Told
+pub mod SourceImage

@@ -1,0 +1,258 @@
+//! What is wrong with a line, in words.
+
+ghost use Rattle.std.specs.Prelude.{◌≤◌, length};
+
+use crate::fault::{LineFault, Problem, SourceFault};
+use crate::images::image_note;
+use crate::lines::{parts_at, statements_of};
+use crate::meaning::line_text;
+use crate::numbers::number_text;
+use crate::words::{Form, after_first_word, first_word, form_of, is_heading};
+use disasm::is_first_word;
+use std::alloc::{AllocError, Global};
+
+/// What an operand may be.
+#[derive(Clone, Copy, Debug, PartialEq, Eq)]
+enum Kind {
+    Register,
+    Number,
+    RegisterOrNumber,
+    Place,
+    Target,
+    Wide,
+}
+
+/// The kinds of operands behind the first word of an instruction.
+#[rattlefmt::skip]
+fn kinds_of(word: &str) -> &'static [Kind] {
+    if word == "exit" { return &[]; }
+    if word == "call" { return &[Kind::Number]; }
+    if word == "ja" || word == "ja32" { return &[Kind::Target]; }
+    if word.starts_with("j") { return &[Kind::Register, Kind::RegisterOrNumber, Kind::Target]; }
+    if word == "lddw" { return &[Kind::Register, Kind::Wide]; }
+    if word == "ldmap" { return &[Kind::Register, Kind::Number]; }
+    if word == "ldval" { return &[Kind::Register, Kind::Number, Kind::Number]; }
+    if word.starts_with("ldx") { return &[Kind::Register, Kind::Place]; }
+    if word.starts_with("stx") { return &[Kind::Place, Kind::Register]; }
+    if word.starts_with("st") { return &[Kind::Place, Kind::Number]; }
+    if word.starts_with("movsx") { return &[Kind::Register, Kind::Register]; }
+    if word.starts_with("neg") || word.starts_with("le") || word.starts_with("be") || word.starts_with("swap") { return &[Kind::Register]; }
+    if word == "add" || word == "add32" || word == "and" || word == "and32" || word == "arsh" || word == "arsh32" {
+        return &[Kind::Register, Kind::RegisterOrNumber];
+    }
+    if word.starts_with("a") { return &[Kind::Place, Kind::Register]; }
+    &[Kind::Register, Kind::RegisterOrNumber]
+}
+
+fn kind_text(kind: Kind) -> &'static str {
+    match kind {
+        Kind::Register => "a register, r0 to r10",
+        Kind::Number => "a number of 32 bits",
+        Kind::RegisterOrNumber => "a register, r0 to r10, or a signed number of 32 bits",
+        Kind::Place => "a place as [r1+0] or [r10-8]",
+        Kind::Target => "a label, or a distance with its sign as +3",
+        Kind::Wide => "a number of 64 bits",
+    }
+}
+
+fn is_register(token: &str) -> bool {
+    match token.strip_prefix("r") {
+        Some("10") => true,
+        Some(digit) => digit.len() == 1 && digit.parse::<u8>().is_ok(),
+        None => false,
+    }
+}
+
+fn is_number(token: &str) -> bool {
+    !token.starts_with("+") && token.parse::<i64>().is_ok()
+}
+
+fn is_distance(token: &str) -> bool {
+    (token.starts_with("+") || token.starts_with("-")) && token.parse::<i32>().is_ok()
+}
+
+/// Whether it is a register with an offset of 16 bits behind its sign.
+fn is_based(register: &str, sign: &str, digits: &str) -> bool {
+    is_register(register)
+        && !digits.starts_with("+")
+        && !digits.starts_with("-")
+        && (digits.parse::<i16>().is_ok() || (sign == "-" && digits == "32768"))
+}
+
+fn is_place(token: &str) -> bool {
+    let Some(opened) = token.strip_prefix("[") else {
+        return false;
+    };
+    let Some(inner) = opened.strip_suffix("]") else {
+        return false;
+    };
+    match (inner.split_once('+'), inner.split_once('-')) {
+        (Some((register, digits)), _) => is_based(register, "+", digits),
+        (None, Some((register, digits))) => is_based(register, "-", digits),
+        (None, None) => false,
+    }
+}
+
+/// Whether an operand of the exact text may be of this kind.
+fn is_of_kind(kind: Kind, token: &str) -> bool {
+    match kind {
+        Kind::Register => is_register(token),
+        Kind::Number => is_number(token),
+        Kind::RegisterOrNumber => is_register(token) || token.parse::<i32>().is_ok(),
+        Kind::Place => is_place(token),
+        Kind::Target => is_distance(token),
+        Kind::Wide => token.starts_with("0x"),
+    }
+}
+
+/// The operands of a list.
+fn operands_of(alloc: Global, list: &str) -> Result<Vec<&str>, AllocError> {
+    if list.is_empty() {
+        return Ok(Vec::new(alloc));
+    }
+    parts_at(alloc, list, ',')
+}
+
+fn last_operand(list: &str) -> &str {
+    match list.rsplit_once(',') {
+        Some((_, last)) => last.trim(),
+        None => list,
+    }
+}
+
+/// The first operand that is no number though it has an `x`.
+fn no_number(alloc: Global, statement: &str) -> Result<&str, AllocError> {
+    let list = after_first_word(statement);
+    if form_of(first_word(statement)) == Form::Wide {
+        return Ok(last_operand(list));
+    }
+    for operand in &operands_of(alloc, list)? {
+        match number_text(alloc, operand.trim()) {
+            Err(LineFault::Bad(_)) => return Ok(operand.trim()),
+            Err(LineFault::Memory) => return Err(AllocError),
+            Ok(_) => {}
+        }
+    }
+    Ok(list)
+}
+
+/// The first operand that is not of its kind.
+fn wrong_operand(
+    alloc: Global,
+    word: &str,
+    operands: &[&str],
+    exact: &[&str],
+) -> Result<String, AllocError> {
+    let mut place = 0;
+    for kind in kinds_of(word) {
+        match (operands.get(place), exact.get(place)) {
+            (Some(operand), Some(token)) => {
+                if !is_of_kind(*kind, token.trim()) {
+                    return format!(in alloc;
+                        "\"{}\": expected {}",
+                        operand.trim(),
+                        kind_text(*kind)
+                    );
+                }
+            }
+            _ => return format!(in alloc;
+                "\"{word}\": an operand is missing: {}",
+                kind_text(*kind)
+            ),
+        }
+        place += 1;
+    }
+    match operands.get(place) {
+        Some(operand) => format!(in alloc; "\"{}\": no operand is expected here", operand.trim()),
+        None => String::from_str(
+            alloc,
+            "no right spelling of the text form, or not in its place: first version 1 or version 2, then maps, then instructions",
+        ),
+    }
+}
+
+/// What is wrong with an instruction that is no right spelling.
+fn wrong_spelling(alloc: Global, statement: &str, exact: &str) -> Result<String, AllocError> {
+    let word = first_word(statement);
+    if word.is_empty() || is_heading(word) {
+        return String::from_str(
+            alloc,
+            "expected version 1 or version 2 on the first line, then map KIND KEY-BYTES VALUE-BYTES ENTRIES (hash, array or lru) before the instructions",
+        );
+    }
+    if !is_first_word(word) {
+        return format!(in alloc; "\"{word}\": no such instruction");
+    }
+    let operands = operands_of(alloc, after_first_word(statement))?;
+    let tokens = operands_of(alloc, after_first_word(exact))?;
+    wrong_operand(alloc, word, &operands, &tokens)
+}
+
+/// What is wrong with the line, in words.
+fn problem_text(
+    alloc: Global,
+    statements: &[&str],
+    place: usize,
+    statement: &str,
+    problem: Problem,
+) -> Result<String, AllocError>
+    requires { place ≤ length statements.now }
+{
+    let word = first_word(statement);
+    let last = last_operand(after_first_word(statement));
+    match problem {
+        Problem::NoNumber | Problem::NoSpelling if word.ends_with(":") => format!(in alloc;
+            "\"{word}\": a label stands on a line of its own"
+        ),
+        Problem::LabelTwice => format!(in alloc; "\"{statement}\": an earlier line is this label"),
+        Problem::NoLabelName => format!(in alloc;
+            "\"{statement}\": expected a label's name before the colon: letters, digits, _ and ., no digit first"
+        ),
+        Problem::UnknownLabel => format!(in alloc;
+            "\"{last}\": no line is the label {last}: (a distance has its sign, as +3)"
+        ),
+        Problem::UnknownHelper => format!(in alloc;
+            "\"{last}\": no such helper: expected a number, map_lookup_elem, map_update_elem, map_delete_elem, ktime_get_ns, get_smp_processor_id or xdp_adjust_head"
+        ),
+        Problem::NoNumber => format!(in alloc;
+            "\"{}\": no number: expected decimal digits, or 0x and hexadecimal digits, of 64 bits at most",
+            no_number(alloc, statement)?
+        ),
+        Problem::NoSpelling => match line_text(alloc, statements, place, statement) {
+            Ok(exact) => wrong_spelling(alloc, statement, exact.trim()),
+            Err(_) => String::from_str(alloc, "no right spelling of the text form"),
+        },
+    }
+}
+
+/// What is wrong with the line of this number, counted from 1; empty where there is no such line.
+fn line_note(
+    alloc: Global,
+    statements: &[&str],
+    line: usize,
+    problem: Problem,
+) -> Result<String, AllocError> {
+    let place = line.saturating_sub(1);
+    if place < statements.len() {
+        problem_text(alloc, statements, place, statements[place], problem)
+    } else {
+        Ok(String::new(alloc))
+    }
+}
+
+/// The line for people below the fault's own: two spaces, the token of the source that is wrong and what was expected, or where every line is right
+/// the first line that no image has, with a line feed; or nothing where there is no more to tell. An exact text is a source too. It can fail only for
+/// lack of memory.
+pub fn explain(alloc: Global, source: &str, fault: SourceFault) -> Result<String, AllocError> {
+    let statements = statements_of(alloc, source)?;
+    let note = match fault {
+        SourceFault::BadLine { line, problem } => line_note(alloc, &statements, line, problem)?,
+        SourceFault::Image(why) => image_note(alloc, &statements, why)?,
+        SourceFault::Memory => String::new(alloc),
+    };
+    if note.is_empty() {
+        Ok(note)
+    } else {
+        format!(in alloc; "  {note}\n")
+    }
+}

@@ -1,0 +1,68 @@
+//! Why a source means no text, or its text spells no image.
+
+ghost use Rattle.std.specs.Prelude.{◌≡◌};
+
+use disasm::AsmFault;
+use ebpf_decode::DecodeFault;
+use std::alloc::AllocError;
+use thiserror::Error;
+
+/// What is wrong with a line.
+#[derive(Clone, Copy, Debug, PartialEq, Eq)]
+pub enum Problem {
+    /// The label stands on an earlier line too.
+    LabelTwice,
+    /// What stands before the colon is no name.
+    NoLabelName,
+    /// No line is the label to which the jump goes.
+    UnknownLabel,
+    /// No helper has the name that is called.
+    UnknownHelper,
+    /// An operand with an `x` is no number in hexadecimal of 64 bits, or that of `lddw` no number of 64 bits.
+    NoNumber,
+    /// Without comment, label and names it is no right spelling of the text form.
+    NoSpelling,
+}
+
+/// Why no image comes of a source.
+#[derive(Clone, Copy, Debug, Error, PartialEq, Eq)]
+pub enum SourceFault {
+    /// 21: this line of the source, counted from 1, is bad.
+    #[error("fault 21 BadLine line {line}")]
+    BadLine { line: usize, problem: Problem },
+    /// 22: every line is right, but no image has these maps and instructions.
+    #[error("fault 22 Image decode {}", .0.number())]
+    Image(DecodeFault),
+    /// 23: memory was refused.
+    #[error("fault 23 Memory")]
+    Memory,
+}
+
+/// Why a line has no text.
+#[derive(Clone, Copy, Debug, PartialEq, Eq)]
+pub(crate) enum LineFault {
+    /// The line is bad.
+    Bad(Problem),
+    /// Memory was refused.
+    Memory,
+}
+
+impl From<AllocError> for LineFault {
+    ghost use Rattle.source_form.specs.declared.fault.LineFault.TheVariants.{Memory};
+
+    ghost from_gives = { λ _ fault. fault ≡ Memory };
+
+    fn from(_error: AllocError) -> LineFault {
+        LineFault::Memory
+    }
+}
+
+impl From<AllocError> for SourceFault {
+    ghost use Rattle.source_form.specs.declared.fault.SourceFault.TheVariants.{Memory};
+
+    ghost from_gives = { λ _ fault. fault ≡ Memory };
+
+    fn from(_error: AllocError) -> SourceFault {
+        SourceFault::Memory
+    }
+}

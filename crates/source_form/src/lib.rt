@@ -1,0 +1,20 @@
+//! The text form as people write it: with comments, labels, hexadecimal numbers and helpers' names.
+#![tactic(auto)]
+
+mod assembling;
+mod explaining;
+pub mod fault;
+mod images;
+mod labels;
+mod lines;
+mod meaning;
+mod numbers;
+mod operands;
+mod printing;
+mod words;
+
+pub use assembling::assemble_source;
+pub use explaining::explain;
+pub use fault::{Problem, SourceFault};
+pub use meaning::exact_text;
+pub use printing::source;

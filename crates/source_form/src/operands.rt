@@ -1,0 +1,135 @@
+//! The operands of an instruction, as the exact text writes them.
+
+ghost use Rattle.std.specs.Prelude.{◌≡◌, ◌≤◌, IfOk, IfErr, Ok, map, length, string_bytes, List, ℕ, []};
+ghost use Rattle.std.specs.Str.{trim};
+ghost use Rattle.std.specs.Option.{option_map};
+ghost use Rattle.source_form.specs.SourceText.{parts_at, helper_number, helper_told, helper_meaning, plain_name, last_meaning, operands_meaning, instruction_meaning};
+ghost use Rattle.source_form.specs.Told.{IsToldBy};
+
+use crate::fault::{LineFault, Problem};
+use crate::labels::target_text;
+use crate::numbers::{number_text, wide_text};
+use crate::words::{Form, begins_number, form_of};
+use std::alloc::{AllocError, Global};
+
+/// The name without `bpf_` in front.
+fn plain_name(name: &str) -> &str
+    ensures { result.now ≡ plain_name name.now }
+{
+    match name.strip_prefix("bpf_") {
+        Some(plain) => plain,
+        None => name,
+    }
+}
+
+/// The number of a helper's name.
+pub(crate) fn helper_number(name: &str) -> Option<&'static str>
+    ensures { option_map (λ number. number.now) result ≡ helper_number name.now }
+{
+    if name == "map_lookup_elem" {
+        return Some("1");
+    }
+    if name == "map_update_elem" {
+        return Some("2");
+    }
+    if name == "map_delete_elem" {
+        return Some("3");
+    }
+    if name == "ktime_get_ns" {
+        return Some("5");
+    }
+    if name == "get_smp_processor_id" {
+        return Some("8");
+    }
+    if name == "xdp_adjust_head" {
+        Some("44")
+    } else {
+        None
+    }
+}
+
+/// The number of the helper that is called.
+fn helper_text(alloc: Global, operand: &str) -> Result<String, LineFault>
+    ensures ok { IfOk result (λ text. helper_meaning operand.now ≡ Ok (string_bytes text)) }
+    ensures err { IfErr result (λ fault. IsToldBy (helper_meaning operand.now) fault) }
+{
+    if begins_number(operand) {
+        return number_text(alloc, operand);
+    }
+    match helper_number(plain_name(operand)) {
+        Some(number) => Ok(String::from_str(alloc, number)?),
+        None => Err(LineFault::Bad(Problem::UnknownHelper)),
+    }
+}
+
+/// The last operand of an instruction on a line.
+fn last_text(
+    alloc: Global,
+    statements: &[&str],
+    place: usize,
+    form: Form,
+    operand: &str,
+) -> Result<String, LineFault>
+    requires { place ≤ length statements.now }
+    ensures ok { IfOk result (λ text. last_meaning (map (λ line. line.now) statements.now) place form operand.now ≡ Ok (string_bytes text)) }
+    ensures err { IfErr result (λ fault. IsToldBy (last_meaning (map (λ line. line.now) statements.now) place form operand.now) fault) }
+{
+    match form {
+        Form::Plain => number_text(alloc, operand),
+        Form::Jump => target_text(alloc, statements, place, operand),
+        Form::Call => helper_text(alloc, operand),
+        Form::Wide => wide_text(alloc, operand),
+    }
+}
+
+/// The operands of a list, behind what stands so far.
+fn operands_text(
+    alloc: Global,
+    statements: &[&str],
+    place: usize,
+    form: Form,
+    so_far: String,
+    list: &str,
+) -> Result<String, LineFault>
+    requires { place ≤ length statements.now }
+    ensures ok { IfOk result (λ text. operands_meaning (map (λ line. line.now) statements.now) place form (string_bytes so_far)
+        (map trim (parts_at 44 list.now)) ≡ Ok (string_bytes text)) }
+    ensures err { IfErr result (λ fault. IsToldBy (operands_meaning (map (λ line. line.now) statements.now) place form (string_bytes so_far)
+        (map trim (parts_at 44 list.now))) fault) }
+{
+    let mut out = so_far;
+    let mut rest = list;
+    'operands: while let Some((operand, more)) = rest.split_once(',') {
+        match number_text(alloc, operand.trim()) {
+            Ok(text) => out.push_str(&text)?,
+            Err(fault) => return Err(fault),
+        }
+        out.push_str(", ")?;
+        rest = more;
+    }
+    match last_text(alloc, statements, place, form, rest.trim()) {
+        Ok(text) => out.push_str(&text)?,
+        Err(fault) => return Err(fault),
+    }
+    Ok(out)
+}
+
+/// A first word and its operands.
+pub(crate) fn instruction_text(
+    alloc: Global,
+    statements: &[&str],
+    place: usize,
+    word: &str,
+    list: &str,
+) -> Result<String, LineFault>
+    requires { place ≤ length statements.now }
+    ensures ok { IfOk result (λ text. instruction_meaning (map (λ line. line.now) statements.now) place word.now list.now ≡ Ok (string_bytes text)) }
+    ensures err { IfErr result (λ fault. IsToldBy (instruction_meaning (map (λ line. line.now) statements.now) place word.now list.now) fault) }
+{
+    let mut out = String::from_str(alloc, word)?;
+    if list.is_empty() {
+        return Ok(out);
+    }
+    out.push_str(" ")?;
+    operands_text(alloc, statements, place, form_of(word), out, list)
+}

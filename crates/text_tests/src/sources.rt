@@ -1,0 +1,242 @@
+//! Worked sources.
+
+use disasm::{assemble, text};
+use ebpf_decode::DecodeFault;
+use source_form::{Problem, SourceFault, assemble_source, exact_text, explain, source};
+use std::alloc::Global;
+use std::test::Fail;
+
+const FIRST_RUN: &str =
+    "version 1\nmap array 4 8 1\nldxw r2, [r1+0]\nldxw r3, [r1+4]\nmov r4, r2\nadd r4, 14\nmov r0, 2\njgt r4, r3, +11\nldxb r6, [r2+13]\nstw [r10-4], 0\nmov r2, r10\nadd r2, -4\nldmap r1, 0\ncall 1\njeq r0, 0, +3\nldxdw r7, [r0+0]\nadd r6, r7\nmov r0, r6\nexit\n";
+
+/// The same program as people write it.
+const FIRST_RUN_SOURCE: &str =
+    "# adds a number to the byte 13\nversion 1\nmap array 4 8 1   # key 0: the number\n\n  ldxw r2, [r1+0]\n  ldxw r3,[r1+0x4]\n  mov\tr4, r2\n  add r4, 0xe\n  mov   r0,2\n  jgt r4, r3, out   # no byte 13\r\n  ldxb r6, [r2+0x0D]\n  stw [r10-0x4], 0\n  mov r2, r10\n  add r2, -0x4\n  ldmap r1, 0\n  call bpf_map_lookup_elem\n  jeq r0, 0x0, out\n  ldxdw r7, [r0+0]\n  add r6, r7\n  mov r0, r6\nout:\n  exit";
+
+/// `examples/first_run.source.txt`.
+const EXAMPLE: &str =
+    "# Answers byte 13 of the frame plus the number in element 0: 1 drops the frame, 2 passes it on, 3 sends it.\nversion 1\nmap array 4 8 1                # map 0: the number to add\n\n    ldxw r2, [r1+0]            # where the frame begins\n    ldxw r3, [r1+4]            # where it ends\n    mov  r4, r2\n    add  r4, 0xe\n    mov  r0, 2\n    jgt  r4, r3, out           # fewer than 14 bytes: pass\n\n    ldxb r6, [r2+0xd]          # byte 13\n    stw  [r10-4], 0            # the key 0\n    mov  r2, r10\n    add  r2, -4\n    ldmap r1, 0\n    call map_lookup_elem\n    jeq  r0, 0, out            # no such element\n\n    ldxdw r7, [r0+0]\n    add  r6, r7\n    mov  r0, r6\nout:\n    exit\n";
+
+#[test]
+fn first_run(rt: HostRuntime) -> Result<(), Fail> {
+    let alloc = rt.alloc();
+    assert_eq!(rt; exact_text(alloc, EXAMPLE)?.as_str(), FIRST_RUN);
+    assert_eq!(rt; exact_text(alloc, FIRST_RUN_SOURCE)?.as_str(), FIRST_RUN);
+    let image = assemble_source(alloc, FIRST_RUN_SOURCE)?;
+    assert_eq!(rt; text(alloc, &image)?.as_str(), FIRST_RUN);
+    Ok(())
+}
+
+// A line of a source, behind a first line, and the line of the exact text.
+#[rattlefmt::skip]
+const LINES: [(&str, &str); 24] = [
+    ("add r1, -0x5",              "add r1, -5\n"),
+    ("\tmov\t r1 ,\tr2  # moved", "mov r1, r2\n"),
+    ("exit#",                     "exit\n"),
+    ("#exit",                     ""),
+    ("",                          ""),
+    ("name.1_a:",                 ""),
+    ("stxdw [r10-0x10],r1",       "stxdw [r10-16], r1\n"),
+    ("ldxw r1, [r2+0xFf]",        "ldxw r1, [r2+255]\n"),
+    ("acmpxchgdw [r1+0x0],  r2",  "acmpxchgdw [r1+0], r2\n"),
+    ("lddw r1, 0x2",              "lddw r1, 0x0000000000000002\n"),
+    ("lddw r1,18446744073709551615", "lddw r1, 0xffffffffffffffff\n"),
+    ("lddw r1, 0xFFFFFFFFFFFFFFFF", "lddw r1, 0xffffffffffffffff\n"),
+    ("ldval r1, 0x1, 0x8",        "ldval r1, 1, 8\n"),
+    ("ja +0x10",                  "ja +16\n"),
+    ("jeq32 r1, 0xa, -0x1",       "jeq32 r1, 10, -1\n"),
+    ("call 0x1",                  "call 1\n"),
+    ("call -1",                   "call -1\n"),
+    ("call map_lookup_elem",      "call 1\n"),
+    ("call map_update_elem",      "call 2\n"),
+    ("call bpf_map_delete_elem",  "call 3\n"),
+    ("call ktime_get_ns",         "call 5\n"),
+    ("call bpf_get_smp_processor_id", "call 8\n"),
+    ("call xdp_adjust_head",      "call 44\n"),
+    ("map hash 4 8 16 # a map",   "map hash 4 8 16\n"),
+];
+
+#[test]
+fn lines(rt: HostRuntime) -> Result<(), Fail> {
+    let alloc = rt.alloc();
+    for (written, exact) in &LINES {
+        let meant = exact_text(alloc, &format!(in alloc; "version 1\n{written}")?)?;
+        assert_eq!(rt;
+            meant.as_str(),
+            format!(in alloc; "version 1\n{exact}")?.as_str()
+        );
+    }
+    Ok(())
+}
+
+// The slots: a heading has none, a wide instruction two.
+#[rattlefmt::skip]
+const LABELS: [(&str, &str); 5] = [
+    ("ja x\nlddw r1, 1\nx:\nexit\n",           "ja +2\nlddw r1, 0x0000000000000001\nexit\n"),
+    ("version 1\nmap hash 4 8 1\nja x\nx:\n",  "version 1\nmap hash 4 8 1\nja +0\n"),
+    ("x:\n\n# back\nmov r0, 1\nja32 x\n",      "mov r0, 1\nja32 -2\n"),
+    ("x:\njne r1, r2, x\ny:\njne r1, 0x2, y",  "jne r1, r2, -1\njne r1, 2, -1\n"),
+    ("ja a\nldmap r1, 0\nb:\nldval r1, 0, 8\na:\nja b\n", "ja +4\nldmap r1, 0\nldval r1, 0, 8\nja -3\n"),
+];
+
+#[test]
+fn labels(rt: HostRuntime) -> Result<(), Fail> {
+    let alloc = rt.alloc();
+    for (written, exact) in &LABELS {
+        assert_eq!(rt; exact_text(alloc, *written)?.as_str(), *exact);
+    }
+    Ok(())
+}
+
+// A bad source, the line, what is wrong, and the words for it.
+#[rattlefmt::skip]
+const BAD: [(&str, usize, Problem, &str); 25] = [
+    ("version 1\na:\nexit\n a: # again\n", 4, Problem::LabelTwice, "  \"a:\": an earlier line is this label\n"),
+    ("version 1\n5a:\nexit\n", 2, Problem::NoLabelName, "  \"5a:\": expected a label's name before the colon: letters, digits, _ and ., no digit first\n"),
+    ("version 1\na b:\nexit\n", 2, Problem::NoLabelName, "  \"a b:\": expected a label's name before the colon: letters, digits, _ and ., no digit first\n"),
+    (":", 1, Problem::NoLabelName, "  \":\": expected a label's name before the colon: letters, digits, _ and ., no digit first\n"),
+    ("version 1\njeq r1, 2, out\nexit\n", 2, Problem::UnknownLabel, "  \"out\": no line is the label out: (a distance has its sign, as +3)\n"),
+    ("version 1\ncall map_lookup\n", 2, Problem::UnknownHelper, "  \"map_lookup\": no such helper: expected a number, map_lookup_elem, map_update_elem, map_delete_elem, ktime_get_ns, get_smp_processor_id or xdp_adjust_head\n"),
+    ("version 1\n\nmov r1, 0xg\n", 3, Problem::NoNumber, "  \"0xg\": no number: expected decimal digits, or 0x and hexadecimal digits, of 64 bits at most\n"),
+    ("version 1\nmov r1, 10x5\n", 2, Problem::NoNumber, "  \"10x5\": no number: expected decimal digits, or 0x and hexadecimal digits, of 64 bits at most\n"),
+    ("version 1\nmov r1, 0x\n", 2, Problem::NoNumber, "  \"0x\": no number: expected decimal digits, or 0x and hexadecimal digits, of 64 bits at most\n"),
+    ("version 1\nmov r1, 0x+5\n", 2, Problem::NoNumber, "  \"0x+5\": no number: expected decimal digits, or 0x and hexadecimal digits, of 64 bits at most\n"),
+    ("version 1\nlddw r1, 0x10000000000000000\n", 2, Problem::NoNumber, "  \"0x10000000000000000\": no number: expected decimal digits, or 0x and hexadecimal digits, of 64 bits at most\n"),
+    ("version 1\nlddw r1, -1\n", 2, Problem::NoNumber, "  \"-1\": no number: expected decimal digits, or 0x and hexadecimal digits, of 64 bits at most\n"),
+    ("version 1\n# c\njqe r1, 2, +3\nexit\n", 3, Problem::NoSpelling, "  \"jqe\": no such instruction\n"),
+    ("version 1\nexit\nmov r11, 2\n", 3, Problem::NoSpelling, "  \"r11\": expected a register, r0 to r10\n"),
+    ("version 1\na:\nmov r1, 0xffffffff\n", 3, Problem::NoSpelling, "  \"0xffffffff\": expected a register, r0 to r10, or a signed number of 32 bits\n"),
+    ("version 1\njeq r1, 5\n", 2, Problem::NoSpelling, "  \"jeq\": an operand is missing: a label, or a distance with its sign as +3\n"),
+    ("version 1\njeq r1, 5, 3\n", 2, Problem::NoSpelling, "  \"3\": expected a label, or a distance with its sign as +3\n"),
+    ("version 1\nexit r1\n", 2, Problem::NoSpelling, "  \"r1\": no operand is expected here\n"),
+    ("version 1\nldxw r0, [r1]\n", 2, Problem::NoSpelling, "  \"[r1]\": expected a place as [r1+0] or [r10-8]\n"),
+    ("version 1\nstw [4+r1], 0\n", 2, Problem::NoSpelling, "  \"[4+r1]\": expected a place as [r1+0] or [r10-8]\n"),
+    ("version 1\nstdw [r10-8], r1\n", 2, Problem::NoSpelling, "  \"r1\": expected a number of 32 bits\n"),
+    ("version 1\nout: exit\n", 2, Problem::NoNumber, "  \"out:\": a label stands on a line of its own\n"),
+    ("version 1\nback: mov r0, 2\n", 2, Problem::NoSpelling, "  \"back:\": a label stands on a line of its own\n"),
+    ("version 3\nexit\n", 1, Problem::NoSpelling, "  expected version 1 or version 2 on the first line, then map KIND KEY-BYTES VALUE-BYTES ENTRIES (hash, array or lru) before the instructions\n"),
+    ("", 1, Problem::NoSpelling, "  expected version 1 or version 2 on the first line, then map KIND KEY-BYTES VALUE-BYTES ENTRIES (hash, array or lru) before the instructions\n"),
+];
+
+#[test]
+fn bad_lines(rt: HostRuntime) -> Result<(), Fail> {
+    let alloc = rt.alloc();
+    for (written, line, problem, words) in &BAD {
+        let fault = SourceFault::BadLine {
+            line: *line,
+            problem: *problem,
+        };
+        match assemble_source(alloc, *written) {
+            Ok(_) => assert!(rt; false),
+            Err(told) => assert_eq!(rt; told, fault),
+        }
+        assert_eq!(rt; explain(alloc, *written, fault)?.as_str(), *words);
+    }
+    Ok(())
+}
+
+// A source that no image comes of though each line is right, why, and the words for it.
+#[rattlefmt::skip]
+const NO_IMAGE: [(&str, DecodeFault, &str); 5] = [
+    ("version 1\nmap array 4 8 1\n# two\nmap hash 4 8 0\nexit\n", DecodeFault::BadMap { map: 1 }, "  line 4: map 1 has a size that no such map may have\n"),
+    ("version 1\nmap array 4 8 1\nmap array 4 8 1\nmap array 4 8 1\nmap array 4 8 1\nmap array 4 8 1\nmap array 4 8 1\nmap array 4 8 1\nmap array 4 8 1\nmap array 4 8 1\nmap array 4 8 1\nmap array 4 8 1\nmap array 4 8 1\nmap array 4 8 1\nmap array 4 8 1\nmap array 4 8 1\nmap array 4 8 1\nmap array 4 8 1\nexit\n", DecodeFault::BadHead, "  line 18: an image has at most 16 maps\n"),
+    ("# nothing\nversion 1\nmap array 4 8 1\nend:\n", DecodeFault::Empty, "  there is no instruction\n"),
+    ("version 1\nmap array 4 8 1\n\nldval r1, 0, 0\nexit\n", DecodeFault::NotInProfile { slot: 0 }, "  line 4, slot 0: images of this version have no such instruction\n"),
+    ("version 1\nmap array 4 8 1\nlddw r1, 0x5\nmov r2, r1\na:  # three slots\nldval r1, 0, 0\nexit\n", DecodeFault::NotInProfile { slot: 3 }, "  line 6, slot 3: images of this version have no such instruction\n"),
+];
+
+#[test]
+fn no_image(rt: HostRuntime) -> Result<(), Fail> {
+    let alloc = rt.alloc();
+    for (written, why, words) in &NO_IMAGE {
+        let fault = SourceFault::Image(*why);
+        match assemble_source(alloc, *written) {
+            Ok(_) => assert!(rt; false),
+            Err(told) => assert_eq!(rt; told, fault),
+        }
+        assert_eq!(rt; explain(alloc, *written, fault)?.as_str(), *words);
+    }
+    Ok(())
+}
+
+/// After 4095 slots on the lines up to 2050, a label, and an instruction of these words.
+fn long_source(alloc: Global, last: &str) -> Result<String, Fail> {
+    let mut written = String::from_str(alloc, "version 1\n\n")?;
+    for _ in 0..2047 {
+        written.push_str("lddw r1, 0\n")?;
+    }
+    written.push_str("mov r0, 2\nend:\n")?;
+    written.push_str(last)?;
+    Ok(written)
+}
+
+#[test]
+fn too_long(rt: HostRuntime) -> Result<(), Fail> {
+    let alloc = rt.alloc();
+    let fits = long_source(alloc, "exit\n")?;
+    assert!(rt; assemble_source(alloc, &fits).is_ok());
+    let long = long_source(alloc, "lddw r1, 0\n")?;
+    let fault = SourceFault::Image(DecodeFault::TooLong);
+    match assemble_source(alloc, &long) {
+        Ok(_) => assert!(rt; false),
+        Err(told) => assert_eq!(rt; told, fault),
+    }
+    let words = "  line 2052: an image has at most 4096 slots\n";
+    assert_eq!(rt; explain(alloc, &long, fault)?.as_str(), words);
+    Ok(())
+}
+
+// An instruction of each form, and jumps to all sides: to a label, into a wide instruction, and out of the program.
+const FORMS: &str =
+    "version 2\nmap hash 4 8 16\nmap array 4 8 1\nmap lru 2 16 3\nadd r1, -5\nxor32 r2, r3\nneg r1\nneg32 r4\nmovsx8 r1, r2\nmovsx1632 r1, r2\nle16 r1\nswap64 r1\nja +3\nja32 -4\njeq r1, 5, +0\njsle32 r1, r2, -1\njgt r1, r2, +6\nja -100\nldxdw r1, [r2-8]\nldxsb r1, [r2+1]\nstw [r10-4], -7\nstxb [r10-4], r1\naaddw [r1+0], r2\nafxordw [r1+0], r2\nlddw r1, 0x00000000ffffffff\nja -2\nldmap r1, 2\nldval r1, 1, 8\ncall 44\nexit\n";
+
+/// The text of the image of what `source` prints of a text's image.
+fn there_and_back(alloc: Global, exact: &str) -> Result<String, Fail> {
+    let image = assemble(alloc, exact)?;
+    let printed = source(alloc, &image)?;
+    let again = assemble_source(alloc, &printed)?;
+    Ok(text(alloc, &again)?)
+}
+
+#[test]
+fn each_form_there_and_back(rt: HostRuntime) -> Result<(), Fail> {
+    let alloc = rt.alloc();
+    assert_eq!(rt; there_and_back(alloc, FORMS)?.as_str(), FORMS);
+    assert_eq!(rt; there_and_back(alloc, FIRST_RUN)?.as_str(), FIRST_RUN);
+    Ok(())
+}
+
+const SMALL: &str =
+    "version 1\nmap array 4 8 1\njeq r1, 5, +2\nlddw r1, 0x0000000000000001\nja -4\n";
+
+const SMALL_SOURCE: &str =
+    "version 1\nmap array 4 8 1                  # map 0\nL0:\n    jeq r1, 5, L3                # slot 0\n    lddw r1, 0x0000000000000001  # slot 1\nL3:\n    ja L0                        # slot 3\n";
+
+#[test]
+fn printed_source(rt: HostRuntime) -> Result<(), Fail> {
+    let alloc = rt.alloc();
+    let image = assemble(alloc, SMALL)?;
+    assert_eq!(rt; source(alloc, &image)?.as_str(), SMALL_SOURCE);
+    Ok(())
+}
+
+/// A program of 4,096 slots whose first jump goes to its last instruction.
+fn largest(alloc: Global, first: &str, last: &str) -> Result<String, Fail> {
+    let mut out = String::from_str(alloc, "version 1\n")?;
+    out.push_str(first)?;
+    for _ in 0..4094 {
+        out.push_str("mov r0, 2\n")?;
+    }
+    out.push_str(last)?;
+    Ok(out)
+}
+
+#[test]
+fn a_large_source(rt: HostRuntime) -> Result<(), Fail> {
+    let alloc = rt.alloc();
+    let exact = largest(alloc, "ja +4094\n", "exit\n")?;
+    let written = largest(alloc, "ja end\n", "end:\nexit\n")?;
+    assert!(rt; exact_text(alloc, &written)?.as_str() == exact.as_str());
+    assert!(rt; there_and_back(alloc, &exact)?.as_str() == exact.as_str());
+    Ok(())
+}

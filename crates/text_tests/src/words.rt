@@ -1,0 +1,202 @@
+//! Command lines.
+
+use command_line::{ReplayFiles, RunFiles, Settings, WordsFault, settings};
+use map_updates::MapUpdate;
+use semantics::Options;
+use std::alloc::{AllocError, Global};
+use std::test::Fail;
+
+/// The settings' words and numbers in one line.
+fn shown(alloc: Global, settings: Settings<'_>) -> Result<String, AllocError> {
+    match settings {
+        Settings::Check { image, explain } => format!(in alloc; "check {image} {explain}"),
+        Settings::Run {
+            files,
+            now,
+            worker,
+            updates,
+        } => {
+            let mut text = run_shown(alloc, files, now, worker)?;
+            put_updates(alloc, &mut text, &updates)?;
+            Ok(text)
+        }
+        Settings::Disasm { image, source } => format!(in alloc; "disasm {image} {source}"),
+        Settings::Audit { image, journals } => format!(in alloc; "audit {image} {journals}"),
+        Settings::Explain { about } => {
+            let number = about.number;
+            format!(in alloc; "explain {number}")
+        }
+        Settings::Asm { text, out, source } => format!(in alloc; "asm {text} {out} {source}"),
+        Settings::Replay {
+            files,
+            options,
+            ring,
+        } => replay_shown(alloc, files, options, ring),
+    }
+}
+
+/// The bytes of each update.
+fn put_updates(alloc: Global, text: &mut String, updates: &[MapUpdate]) -> Result<(), AllocError> {
+    for update in updates {
+        let key = hex::encode(alloc, update.key.as_slice())?;
+        let value = hex::encode(alloc, update.value.as_slice())?;
+        let map = update.map;
+        let shown = format!(in alloc; " {map}={key}:{value}")?;
+        text.push_str(shown.as_str())?;
+    }
+    Ok(())
+}
+
+/// A run's words, each at its place.
+fn run_shown(
+    alloc: Global,
+    files: RunFiles<'_>,
+    now: u64,
+    worker: u32,
+) -> Result<String, AllocError> {
+    let RunFiles {
+        image,
+        frame,
+        journals,
+    } = files;
+    let journals = journals.unwrap_or("-");
+    format!(in alloc; "run {image} {frame} {now} {worker} {journals}")
+}
+
+/// A replay's words, each at its place.
+fn replay_shown(
+    alloc: Global,
+    files: ReplayFiles<'_>,
+    options: Options,
+    ring: u32,
+) -> Result<String, AllocError> {
+    let ReplayFiles {
+        capture,
+        sent,
+        image,
+        script,
+        journals,
+    } = files;
+    let Options {
+        workers,
+        shards,
+        journal,
+    } = options;
+    let image = image.unwrap_or("-");
+    let script = script.unwrap_or("-");
+    let journals = journals.unwrap_or("-");
+    format!(in alloc;
+        "replay {capture} {sent} {image} {script} {workers} {shards} {journal} {ring} {journals}"
+    )
+}
+
+#[rattlefmt::skip]
+const READ: [(&str, &str); 25] = [
+    ("xlb check a",                             "check a false"),
+    ("xlb check --explain a",                   "check a true"),
+    ("xlb check a --explain",                   "check a true"),
+    ("xlb disasm a",                            "disasm a false"),
+    ("xlb disasm a --source",                   "disasm a true"),
+    ("xlb asm a b",                             "asm a b false"),
+    ("xlb asm --source a b",                    "asm a b true"),
+    ("xlb asm -- --source b",                   "asm --source b false"),
+    ("xlb audit a b",                           "audit a b"),
+    ("xlb explain 1",                           "explain 1"),
+    ("xlb explain +095",                        "explain 95"),
+    ("xlb run a b",                             "run a b 0 0 -"),
+    ("xlb run a b --now 5",                     "run a b 5 0 -"),
+    ("xlb run --worker=9 a b --now=7",          "run a b 7 9 -"),
+    ("xlb run a b --now 18446744073709551615",  "run a b 18446744073709551615 0 -"),
+    ("xlb run a b --worker 4294967295",         "run a b 0 4294967295 -"),
+    ("xlb run a b --journals j --now 1",        "run a b 1 0 j"),
+    ("xlb run a b --update 0 07 02",             "run a b 0 0 - 0=07:02"),
+    ("xlb run --update 3 0A 00ff a --update 1 00 01 b --now 7 --update 3 0a 00", "run a b 7 0 - 3=0a:00ff 1=00:01 3=0a:00"),
+    ("xlb run a b --update +1 00 00",           "run a b 0 0 - 1=00:00"),
+    ("xlb check -- -a",                         "check -a false"),
+    ("another check check",                     "check check false"),
+    ("xlb replay a b",                          "replay a b - - 1 1 65536 251 -"),
+    ("xlb replay --script s a b --journals j",  "replay a b - s 1 1 65536 251 j"),
+    ("xlb replay a b --image i --workers 4 --shards 8 --journal 16 --ring 7", "replay a b i - 4 8 16 7 -"),
+];
+
+#[test]
+fn reads_commands(rt: HostRuntime) -> Result<(), Fail> {
+    let alloc = rt.alloc();
+    for (line, want) in READ {
+        let words: Vec<&str> = line.split(' ').collect(alloc)?;
+        let found = settings(alloc, words.as_slice())?;
+        let found = shown(alloc, found)?;
+        assert!(rt; found.as_str() == want, "{line}");
+    }
+    Ok(())
+}
+
+/// A command line, the status, and what its text begins with.
+#[rattlefmt::skip]
+const REFUSED: [(&str, u8, &str); 41] = [
+    ("xlb",                                     2, "error: 'xlb' requires a subcommand but one was not provided"),
+    ("xlb play a b",                            2, "error: unrecognized subcommand 'play'"),
+    ("xlb replay a",                            2, "error: the following required arguments were not provided:\n  <SENT>"),
+    ("xlb replay a b --image i --script s",     2, "error: the options --image and --script cannot be used together"),
+    ("xlb help",                                0, "Checks, runs, prints and assembles images of eBPF programs"),
+    ("xlb check",                               2, "error: the following required arguments were not provided:\n  <IMAGE>"),
+    ("xlb check a b",                           2, "error: unexpected argument 'b' found"),
+    ("xlb check a --now 1",                     2, "error: unexpected argument '--now' found"),
+    ("xlb run a",                               2, "error: the following required arguments were not provided:\n  <FRAME>"),
+    ("xlb run a b c",                           2, "error: unexpected argument 'c' found"),
+    ("xlb run a b --now",                       2, "error: a value is required for '--now <N>' but none was supplied"),
+    ("xlb run a b --now x",                     2, "error: invalid value 'x' for '--now <N>'"),
+    ("xlb run a b --now 18446744073709551616",  2, "error: invalid value '18446744073709551616' for '--now <N>'"),
+    ("xlb run a b --worker 4294967296",         2, "error: invalid value '4294967296' for '--worker <N>'"),
+    ("xlb run a b --worker=-1",                 2, "error: invalid value '-1' for '--worker <N>'"),
+    ("xlb run a b --worker 1 --worker 2",       2, "error: the argument '--worker <N>' cannot be used multiple times"),
+    ("xlb run a b --update 0 07",               2, "error: 3 values required for '--update <MAP> <KEY> <VALUE>' but 2 were provided"),
+    ("xlb run a b --update 0 07 02 c",          2, "error: unexpected argument 'c' found"),
+    ("xlb run a b --update",                    2, "error: a value is required for '--update <MAP> <KEY> <VALUE>' but none was supplied"),
+    ("xlb run a b --update x 07 02",            2, "error: update 1: its map is no number below 4294967296"),
+    ("xlb run a b --update 0 07 02 --update 0 7 02", 2, "error: update 2: its key has not two hexadecimal digits for each of at most 32 bytes"),
+    ("xlb run a b --update 0 07 0x",            2, "error: update 1: its value has not two hexadecimal digits for each of at most 256 bytes"),
+    ("xlb run a b --update 0 -7 02",            2, "error: unexpected argument '-7' found"),
+    ("xlb check a --update 0 07 02",            2, "error: unexpected argument '--update' found"),
+    ("xlb run a b --workers 1",                 2, "error: unexpected argument '--workers' found"),
+    ("xlb check a --explain --explain",         2, "error: the argument '--explain' cannot be used multiple times"),
+    ("xlb check a --explain=yes",               2, "error: unexpected value 'yes' for '--explain' found; no more were expected"),
+    ("xlb check a --source",                    2, "error: unexpected argument '--source' found"),
+    ("xlb disasm",                              2, "error: the following required arguments were not provided:\n  <IMAGE>"),
+    ("xlb audit a",                             2, "error: the following required arguments were not provided:\n  <JOURNALS>"),
+    ("xlb explain",                             2, "error: the following required arguments were not provided:\n  <NUMBER>"),
+    ("xlb explain 0",                           2, "error: there is no fault 0"),
+    ("xlb explain 24",                          2, "error: there is no fault 24"),
+    ("xlb explain PacketBounds",                2, "error: invalid value 'PacketBounds' for '<NUMBER>'"),
+    ("xlb explain 4294967296",                  2, "error: invalid value '4294967296' for '<NUMBER>'"),
+    ("xlb help nosuch",                         2, "error: unrecognized subcommand 'nosuch'"),
+    ("xlb asm a",                               2, "error: the following required arguments were not provided:\n  <OUT>"),
+    ("xlb help run",                            0, "Runs an image on one frame"),
+    ("xlb --help",                              0, "Checks, runs, prints and assembles images of eBPF programs"),
+    ("xlb run --help",                          0, "Runs an image on one frame"),
+    ("xlb --version",                           0, "xlb 0.1.0\n"),
+];
+
+/// The text of a fault, and the status of it.
+fn told(alloc: Global, line: &str) -> Result<(u8, String), Fail> {
+    let words: Vec<&str> = line.split(' ').collect(alloc)?;
+    match settings(alloc, words.as_slice()) {
+        Ok(_) => Err(Fail::from("settings")),
+        Err(fault) => Ok((fault.status(), text_of(alloc, &fault)?)),
+    }
+}
+
+fn text_of(alloc: Global, fault: &WordsFault) -> Result<String, Fail> {
+    Ok(format!(in alloc; "{fault}")?)
+}
+
+#[test]
+fn refuses_wrong_words(rt: HostRuntime) -> Result<(), Fail> {
+    let alloc = rt.alloc();
+    for (line, status, text) in REFUSED {
+        let found = told(alloc, line)?;
+        assert_eq!(rt; found.0, status, "status of {line}");
+        assert!(rt; found.1.as_str().starts_with(text), "text of {line}");
+    }
+    Ok(())
+}

@@ -1,0 +1,108 @@
+//! How far a replay is.
+
+use ebpf_decode::MapKind;
+use gates::Gate;
+use semantics::{Caller, Options};
+use std::rt::Clock;
+use std::time::Instant;
+use verifier::Verified;
+use wire::Capture;
+
+/// After so many rounds of the reclaimer it is told how far a replay is.
+const ROUNDS: u64 = 512;
+
+/// The reclaimer goes round after so many frames.
+const FRAMES_A_ROUND: u64 = 64;
+
+/// What is told how far a replay is.
+pub trait Progress {
+    /// So many frames of this number were handed to the workers.
+    fn handed(&self, frames: u64, all: u64);
+}
+
+/// Nobody is told.
+#[derive(Clone, Copy, Debug, PartialEq, Eq)]
+pub struct NoProgress;
+
+impl Progress for NoProgress {
+    fn handed(&self, _frames: u64, _all: u64) {}
+}
+
+/// A person at a terminal is told on the standard error: how many frames, and how many a second.
+#[derive(Drop)]
+pub struct TerminalProgress<'a, R> {
+    rt: &'a R,
+    /// When the program began, if the standard error is a terminal and the clock tells.
+    start: Option<Instant>,
+}
+
+impl<'a, R: Clock> TerminalProgress<'a, R> {
+    /// From now on, if the standard error is a terminal.
+    pub fn new(rt: &'a R, is_terminal: bool) -> TerminalProgress<'a, R> {
+        let start = if is_terminal {
+            Instant::now(rt).ok()
+        } else {
+            None
+        };
+        TerminalProgress { rt, start }
+    }
+}
+
+impl<R: Clock + Eprint> Progress for TerminalProgress<'_, R> {
+    fn handed(&self, frames: u64, all: u64) {
+        let Some(start) = self.start else {
+            return;
+        };
+        let Ok(spent) = start.elapsed(self.rt) else {
+            return;
+        };
+        let millis = spent.as_millis();
+        let rate = if millis == 0 {
+            0
+        } else {
+            frames as u128 * 1000 / millis
+        };
+        let _ = eprintln!(self.rt; "  {frames} of {all} frames, {rate} a second");
+    }
+}
+
+/// A gate that holds nobody, and tells by the reclaimer's rounds how far a replay is.
+#[derive(Clone, Copy)]
+pub(crate) struct Rounds<'a, P> {
+    pub progress: &'a P,
+    /// How many shards a round reclaims: those of maps that are no arrays.
+    pub shards: u64,
+    /// How many frames the replay has.
+    pub frames: u64,
+}
+
+impl<'a, P> Rounds<'a, P> {
+    /// The rounds of a replay.
+    pub(crate) fn of(
+        progress: &'a P,
+        verified: &Verified,
+        options: &Options,
+        capture: &Capture,
+    ) -> Rounds<'a, P> {
+        let maps = verified.image().maps();
+        let keyed = maps.iter().filter(|map| map.kind != MapKind::Array).count() as u64;
+        Rounds {
+            progress,
+            shards: keyed.saturating_mul(options.shards as u64),
+            frames: capture.records.len() as u64,
+        }
+    }
+}
+
+impl<P: Progress> Gate for Rounds<'_, P> {
+    fn replied(&self, who: Caller, nth: u64) {
+        if who != Caller::Reclaimer || self.shards == 0 || nth % self.shards != 0 {
+            return;
+        }
+        let rounds = nth / self.shards;
+        if rounds % ROUNDS == 0 {
+            self.progress
+                .handed(rounds.saturating_mul(FRAMES_A_ROUND), self.frames);
+        }
+    }
+}
