@@ -15,7 +15,7 @@ use Rattle.reasons.specs.Explanations.{broken_text, IsCause, IsExplanation, of_b
 
 ends_broken : (version : Version) (maps : List MapDef) (code : List Insn) (count : ℕ) (end : Option Broken) (broken : Broken) →
     end ≡ Some broken → EndsSo version maps code count end → IsBroken version maps code broken
-ends_broken version maps code count end broken e ends = let so = rw e at ends in so
+ends_broken version maps code count end broken e ends = let so = rw e at ends in so.0
 
 pub tells_broken : (version : Version) (maps : List MapDef) (code : List Insn) (survey : Survey) (broken : Broken) (advice : Advice) (text : List ℕ) →
     IsSurvey version maps code survey → survey.broken ≡ Some broken →

@@ -1,5 +1,5 @@
 -- What is known along a program, instruction by instruction, up to the first that breaks a rule.
-use Rattle.std.specs.Prelude.{◌≡◌, ◌<◌, ℕ, List, length, take, Option, Some, None, slice_index_or}
+use Rattle.std.specs.Prelude.{◌≡◌, ◌<◌, ◌+◌, ℕ, List, length, take, Option, Some, None, slice_index_or}
 use Rattle.ebpf_decode.specs.declared.insn.Insn.{Insn}
 use Rattle.ebpf_decode.specs.declared.map.MapDef.{MapDef}
 use Rattle.ebpf_decode.specs.declared.version.Version.{Version}
@@ -19,10 +19,14 @@ pub record IsBroken (version : Version) (maps : List MapDef) (code : List Insn) 
   pub here : instruction_at code broken.slot ≡ Some broken.insn
   pub known : known_at (states_of version maps code) broken.slot ≡ Some broken.state
 
+-- the last of so many instructions begins at the slot
+abbrev pub IsLast : List Insn → ℕ → ℕ → Type 0
+IsLast code count slot = (index : ℕ) × (count ≡ index + 1) × (slot_of code index ≡ slot)
+
 -- how the instructions end of which something is known: all are looked at and none breaks a rule, or the last of them breaks one
 abbrev pub EndsSo : Version → List MapDef → List Insn → ℕ → Option Broken → Type 0
 EndsSo version maps code count None = Accepts version maps code (states_of version maps code) × (count ≡ length code)
-EndsSo version maps code count (Some broken) = IsBroken version maps code broken
+EndsSo version maps code count (Some broken) = IsBroken version maps code broken × IsLast code count broken.slot
 
 -- of each instruction that was looked at, what is known at its slot
 pub record IsSurvey (version : Version) (maps : List MapDef) (code : List Insn) (survey : Survey) : Type 0 where

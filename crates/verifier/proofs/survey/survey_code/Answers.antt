@@ -40,8 +40,15 @@ returns-in-Err-Rule c =
       known = noted_in (slot_of c.args.code.now) (states_of c.args.version c.args.maps.now c.args.code.now) c.slots.known.items
           (entry_of c.slots.entry) c.note.new.known.items c.in_ok-note.ensures c.slots.invariant.known
           (here ∙ ap (known_at (states_of c.args.version c.args.maps.now c.args.code.now)) (c.slots.invariant.at ∙ ap (slot_of c.args.code.now) (sym c.slots.invariant.count)));
-      ends = broken_here _ _ _ _ _ c.slots.entry c.slots.pending _ _ (search rules) c.requires.shape (instruction_here _ _ _ _ c.slots-test.true c.slots.invariant.at)
-          within (c.in-Err-Rule.ensures.broken c.in-Err-Rule.why (search rules)) c.slots.invariant.held;
+      ends = (
+        broken_here _ _ _ _ _ c.slots.entry c.slots.pending _ _ (search rules) c.requires.shape (instruction_here _ _ _ _ c.slots-test.true c.slots.invariant.at)
+            within (c.in-Err-Rule.ensures.broken c.in-Err-Rule.why (search rules)) c.slots.invariant.held,
+        (
+          c.slots.insn-index,
+          ap length c.in_ok-note.ensures ∙ length-append c.slots.known.items (entry_of c.slots.entry ∷ []) ∙ ap (λ n. n + 1) c.slots.invariant.count,
+          sym c.slots.invariant.at,
+        ),
+      );
     }
 
 pub slots-preserved : goal.slots-preserved
