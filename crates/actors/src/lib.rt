@@ -7,8 +7,6 @@ mod commander;
 mod gated_updates;
 mod reclaiming;
 mod shared_updates;
-#[cfg(test)]
-mod tests;
 mod until_end;
 
 pub use applied::Applied;

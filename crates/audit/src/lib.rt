@@ -6,8 +6,6 @@ mod fault;
 mod held_cells;
 mod plans;
 mod standings;
-#[cfg(test)]
-mod tests;
 
 pub use auditing::audit;
 pub use fault::AuditFault;

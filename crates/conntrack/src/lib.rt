@@ -12,8 +12,6 @@ mod keys;
 mod records;
 mod steering;
 mod steering_maps;
-#[cfg(test)]
-mod tests;
 
 pub use choosing::{Assigned, Choice, Records, choose};
 pub use fault::SteerFault;

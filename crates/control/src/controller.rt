@@ -1,6 +1,7 @@
 //! The controller: it knows which backends are up, and makes of each command the updates that it asks.
 
-ghost use Rattle.std.specs.Prelude.{◌≡◌, ◌∷◌, ◌↔◌, ◌⊎◌, ◌≢◌, ℤ, pos, ◌&&◌, ◌||◌, nat_lt, [], List, false, true, Some, Err, Option, IfOk, IfErr, IsErrOf, IsTrue, OnOk, OnErr};
+ghost use Rattle.std.specs.Prelude.{◌≡◌, ◌≢◌, ◌↔◌, ◌⊎◌, ◌&&◌, ◌||◌, false, true, IsTrue, nat_lt, ℤ, pos};
+ghost use Rattle.std.specs.Prelude.{List, [], ◌∷◌, Option, Some, Err, IfOk, IfErr, IsErrOf, OnOk, OnErr};
 ghost use Rattle.std.specs.List.{list_any};
 ghost use Rattle.maglev.specs.RingSize.{IsRingSize};
 ghost use Rattle.conntrack.specs.SteeringMaps.{steering_maps};
@@ -8,7 +9,9 @@ ghost use Rattle.control.specs.declared.command.Action.{Action as Act};
 ghost use Rattle.control.specs.declared.fault.ControlFault.{ControlFault as Fault};
 ghost use Rattle.control.specs.declared.fault.ControlFault.TheVariants as faults;
 ghost use Rattle.control.specs.MapUpdates.{map_update, StandsInArray, HasOwner};
-ghost use Rattle.control.specs.Controlling.{ControllerState, IsController, AreUp, IsTable, has_number, has_address, action_refusal, refusal_of, first_updates, up_after, IsCarriedOut, IsStopped, IsUnchanged, IsAnswered, IsLeft};
+ghost use Rattle.control.specs.Controlling.{ControllerState, IsController, AreUp, IsTable, has_number, has_address};
+ghost use Rattle.control.specs.Controlling.{action_refusal, refusal_of, first_updates, up_after};
+ghost use Rattle.control.specs.Controlling.{IsCarriedOut, IsStopped, IsUnchanged, IsAnswered, IsLeft};
 
 use crate::backends_up::{
     backend_of, is_address_up, is_number_up, owners, ring_of, with_backend, without_backend,

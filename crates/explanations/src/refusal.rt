@@ -1,7 +1,7 @@
 //! The text of a refusal: the fault's line, and lines below it for people.
 
 ghost use Rattle.std.specs.Prelude.{◌≡◌, ◌==◌, ◌++◌, ◌∷◌, [], true, IfOk, OnOk};
-ghost use Rattle.explanations.specs.Refusals.{IsRefusalText, next_place, place_after, place_of_start, one_line};
+ghost use Rattle.explanations.specs.Refusals.{IsRefusalText, end_of, front_of, indented, is_line_start, next_place, note_lines, one_line, place_after};
 ghost use Rattle.explanations.specs.declared.refusal.Place.TheVariants.{LineStart, Within};
 
 use std::alloc::{AllocError, Global};
@@ -53,7 +53,7 @@ impl Place {
 
 /// Whether each line begins with two blanks, and the last one ends.
 fn are_indented(notes: &[u8]) -> bool
-    ensures { result ≡ true → place_after LineStart notes.now ≡ LineStart }
+    ensures { result ≡ is_line_start (place_after LineStart notes.now) }
 {
     let mut place = Place::LineStart;
     'notes: for byte in notes {
@@ -77,10 +77,8 @@ fn line_of(alloc: Global, text: &[u8]) -> Result<Vec<u8>, AllocError>
 }
 
 /// Puts two blanks at the front of a line.
-#[tactic(auto, using(crate::proofs::PlaceLemmas::with_blanks))]
 fn begin(lines: &mut Vec<u8>, is_start: bool) -> Result<(), AllocError>
-    requires { place_after LineStart lines.old.items ≡ place_of_start is_start }
-    ensures { OnOk result (place_after LineStart lines.new.items ≡ Within) }
+    ensures { OnOk result (lines.new.items ≡ lines.old.items ++ front_of is_start) }
 {
     if is_start {
         lines.extend_from_slice(b"  ")
@@ -89,54 +87,50 @@ fn begin(lines: &mut Vec<u8>, is_start: bool) -> Result<(), AllocError>
     }
 }
 
-/// Puts a byte into a line.
-#[tactic(auto, using(crate::proofs::PlaceLemmas::with_byte))]
-fn put(lines: &mut Vec<u8>, byte: u8) -> Result<(), AllocError>
-    requires { place_after LineStart lines.old.items ≡ Within }
-    ensures { OnOk result (place_after LineStart lines.new.items ≡ place_of_start (byte == 10)) }
-{
-    lines.push(byte)?;
-    Ok(())
-}
-
 /// Ends the last line.
 fn end(lines: &mut Vec<u8>, is_start: bool) -> Result<(), AllocError>
-    requires { place_after LineStart lines.old.items ≡ place_of_start is_start }
-    ensures { OnOk result (place_after LineStart lines.new.items ≡ LineStart) }
+    ensures { OnOk result (lines.new.items ≡ lines.old.items ++ end_of is_start) }
 {
-    if is_start { Ok(()) } else { put(lines, b'\n') }
+    if is_start {
+        Ok(())
+    } else {
+        lines.extend_from_slice(b"\n")
+    }
 }
 
-/// Lines with two blanks before each.
+/// The notes with two blanks before each line, and the last one ended.
 fn indented(alloc: Global, notes: &[u8]) -> Result<Vec<u8>, AllocError>
-    ensures { IfOk result (λ lines. place_after LineStart lines.items ≡ LineStart) }
+    ensures { IfOk result (λ lines. lines.items ≡ indented true notes.now) }
 {
     let mut lines = Vec::new(alloc);
     let mut is_start = true;
     'notes: for byte in notes {
         begin(&mut lines, is_start)?;
-        put(&mut lines, *byte)?;
+        lines.push(*byte)?;
         is_start = *byte == b'\n';
     }
     end(&mut lines, is_start)?;
     Ok(lines)
 }
 
-/// The text that a refusal is told by: the fault's line, and below it the notes, each line of which begins with two blanks. Notes that do so already
-/// stay as they are.
+/// Puts the lines that notes become behind a text.
+fn put_notes(alloc: Global, text: &mut Vec<u8>, notes: &[u8]) -> Result<(), AllocError>
+    ensures { OnOk result (text.new.items ≡ text.old.items ++ note_lines notes.now) }
+{
+    if are_indented(notes) {
+        text.extend_from_slice(notes)
+    } else {
+        text.extend_from_slice(&indented(alloc, notes)?)
+    }
+}
+
+/// The text that a refusal is told by: the fault's line, and below it the notes in their order, each line of which begins with two blanks. Notes that do
+/// so already stay as they are.
 pub fn refusal_text(alloc: Global, fault: &str, notes: &str) -> Result<Vec<u8>, AllocError>
-    ensures form { IfOk result (λ text. IsRefusalText fault.now text.items) }
+    ensures form { IfOk result (λ text. IsRefusalText fault.now notes.now text.items) }
     ensures alone { notes.now ≡ [] → IfOk result (λ text. text.items ≡ one_line fault.now ++ 10 ∷ []) }
 {
     let mut text = line_of(alloc, fault.as_bytes())?;
-    if notes.is_empty() {
-        return Ok(text);
-    }
-    let notes = notes.as_bytes();
-    if are_indented(notes) {
-        text.extend_from_slice(notes)?;
-    } else {
-        text.extend_from_slice(&indented(alloc, notes)?)?;
-    }
+    put_notes(alloc, &mut text, notes.as_bytes())?;
     Ok(text)
 }

@@ -51,7 +51,7 @@ pub(crate) fn frames(number: u8) -> Explanation
             number: 6,
             name: "FrameTooLong",
             meaning: "A frame has more than 2048 bytes.",
-            causes: "The capture has frames that a network card joined, or the named file is no frame.",
+            causes: "The capture has frames that a network card joined, or the named file is no frame: a frame's file holds its bytes, no hexadecimal digits.",
             example: "Captures taken with receive offload on have such frames.",
         },
         7 => Explanation {
@@ -386,8 +386,8 @@ pub(crate) fn shards(number: u8) -> Explanation
             number: 51,
             name: "BadOptions",
             meaning: "Shards cannot be opened with these options, or there is no such worker.",
-            causes: "Workers are 1 to 8; shards for each map are 1, 2, 4 or 8, and a map's entries a multiple of that; a journal has 16 to 1,048,576 entries; \
-                workers are numbered from 0.",
+            causes: "`--workers` is 1 to 8; `--shards`, of each map, is 1, 2, 4 or 8, and each map's entries are a multiple of it; `--journal`, the entries \
+                of each shard, is 16 to 1,048,576; `--worker`, whose run it is, counts from 0.",
             example: "`xlb run IMAGE FRAME --worker 8`.",
         },
         52 => Explanation {
@@ -527,8 +527,8 @@ pub(crate) fn scripts(number: u8) -> Explanation
             number: 90,
             name: "BadLine",
             meaning: "A line of a script is no command in its one spelling.",
-            causes: "A misspelt command, a number with a leading zero or too large, a frame number below that of the line above, two spaces, or a last line \
-                without its line feed.",
+            causes: "A misspelt command, capitals, a number with a leading zero or too large, a frame number below that of the line above, two spaces, a space \
+                or a carriage return at the line's end, or a last line without its line feed.",
             example: "`0 up 0 192.0.2.01`.",
         },
         91 => Explanation {
@@ -548,15 +548,15 @@ pub(crate) fn scripts(number: u8) -> Explanation
         93 => Explanation {
             number: 93,
             name: "Refused",
-            meaning: "A map refused a service's address; the answer is Linux's error number, negated.",
-            causes: "The map of services is full: -7.",
+            meaning: "A map refused what the controller set, a service's address or a value of `xlb run --update`; the answer is Linux's error number, negated.",
+            causes: "The map is full: -7; an array has no such element: -7.",
             example: "The 65th service of one shard.",
         },
         94 => Explanation {
             number: 94,
             name: "JournalFull",
             meaning: "A journal was full when the controller changed maps.",
-            causes: "The journal was opened too small; every later command is refused alike.",
+            causes: "The journal was opened too small (`--journal`); every later command is refused alike.",
             example: "A journal of 16 entries and a ring of 251 slots.",
         },
         _ => Explanation {

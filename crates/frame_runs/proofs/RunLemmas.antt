@@ -1,5 +1,5 @@
 -- What a run by a pass comes to, from what its calls ensure.
-use Rattle.std.proofs.Common.{◌≡◌, ℕ, ◌<◌, List, [], ◌∷◌, refl, sym, ◌∙◌, ap, subst, zero, suc, ◌+◌, ◌%◌, ◌^◌, length, arith}
+use Rattle.std.proofs.Common.{◌≡◌, ℕ, ◌<◌, List, [], ◌∷◌, sym, ◌∙◌, ap, subst, suc, ◌+◌, ◌%◌, ◌^◌, length, arith}
 use Rattle.std.specs.Prelude.{Result, Ok, Err, IfOk, IfErr}
 use Rattle.wire.specs.FrameView.{FrameView}
 use Rattle.ebpf_decode.specs.declared.map.MapDef.{MapDef}
@@ -16,14 +16,13 @@ use Rattle.map_port.specs.Exchanges.{Exchange, IsChain}
 use Rattle.machine.specs.declared.exit.Exit.{Exit}
 use Rattle.machine.specs.declared.exit.Stop.{Stop}
 use Rattle.machine.specs.declared.exit.Stop.TheVariants.{JournalFull}
-use Rattle.machine.specs.Running.{Ends, Stops, StopsSo}
+use Rattle.machine.specs.Running.{Ends, StopsSo}
 use Rattle.shared_shards.specs.Passes.{PassView}
 use Rattle.shard_port.specs.PassPorts.{PassPort, IsGivenBy, IsRefusedBy, IsFinishedBy}
 use Rattle.shard_port.specs.PassSessions.{HasSessions, HasRefusedSessions, IsOutsideAt, WritesOwnSessions, WritesRefusedOwnSessions}
 use Rattle.shard_port.proofs.shared.Chains.{chain_of, chain_keeps}
-use Rattle.frame_runs.specs.FrameRuns.{AreFormed, HasRun, WasRefused, HasStopped, ToldPort, IsGivenTold, IsRefusedUntold, HasRunTold, HasStoppedTold}
+use Rattle.frame_runs.specs.FrameRuns.{AreFormed, HasRun, HasStopped, ToldPort, IsGivenTold, IsRefusedUntold, HasRunTold, HasStoppedTold}
 use Rattle.std.proofs.Math.Nat.{mod-lt, mod-eq_of_lt, mod-add-mod}
-use Rattle.gates.specs.Gates.{next_count, count_after}
 
 -- ---- the port, as contracts see it
 
@@ -122,16 +121,18 @@ ran_so writes plan count worker program state old final before after verdict ste
 }
 
 pub stopped_so : WritesRefusedOwnSessions → (plan : ℕ → ShardPlan) (count worker : ℕ) (program : Program) (state : MachineState)
-    (old final : PassView) (before after : PassPort) (frame : FrameView) (stop : Stop) → before.pass ≡ old → old.who ≡ Worker worker →
+    (old final : PassView) (before after : PassPort) (frame : FrameView) (stop : Stop) → before.pass ≡ old →
+    before.served ≡ maps_in program → old.who ≡ Worker worker →
     ((number : ℕ) → number < count → IsOutsideAt worker old number) →
     StopsSo (IsGivenBy plan count) (IsRefusedBy plan count) program state before after frame stop →
     IsFinishedBy plan count after.pass final → HasStopped program state plan count worker old final frame stop
-stopped_so writes plan count worker program state old final before after frame (JournalFull shard) same who outside stops finished = record {
+stopped_so writes plan count worker program state old final before after frame (JournalFull shard) same served who outside stops finished = record {
   exchanges = stops.exchanges;
   refused = stops.call;
   named = stops.names_the_shard;
   waiting = stops.waiting;
   trace = stops.trace;
+  formed = formed_by_chain program plan count before stops.middle stops.exchanges served stops.chain;
   kept_back = stops.frame_left;
   sessions =
       subst (λ (first : PassView). HasRefusedSessions plan count worker stops.exchanges stops.call first final) same
@@ -182,14 +183,15 @@ ran_told writes plan count worker program state old final before after verdict s
 )
 
 pub stopped_told : WritesRefusedOwnSessions → (plan : ℕ → ShardPlan) (count worker : ℕ) (program : Program) (state : MachineState)
-    (old final : PassView) (before after : ToldPort) (frame : FrameView) (stop : Stop) → before.port.pass ≡ old → old.who ≡ Worker worker →
+    (old final : PassView) (before after : ToldPort) (frame : FrameView) (stop : Stop) → before.port.pass ≡ old →
+    before.port.served ≡ maps_in program → old.who ≡ Worker worker →
     ((number : ℕ) → number < count → IsOutsideAt worker old number) → before.told < 2 ^ 64 →
     StopsSo (IsGivenTold plan count) (IsRefusedUntold plan count) program state before after frame stop →
     IsFinishedBy plan count after.port.pass final →
     HasStoppedTold program state plan count worker old final frame before.told after.told stop
 unfolding stopped_so stops_seen
-stopped_told writes plan count worker program state old final before after frame (JournalFull shard) same who outside below stops finished = (
-  stopped_so writes plan count worker program state old final before.port after.port frame (JournalFull shard) same who outside
+stopped_told writes plan count worker program state old final before after frame (JournalFull shard) same served who outside below stops finished = (
+  stopped_so writes plan count worker program state old final before.port after.port frame (JournalFull shard) same served who outside
       (stops_seen before after (λ (one : ToldPort). one.port) (IsGivenTold plan count) (IsRefusedUntold plan count) (IsGivenBy plan count)
       (IsRefusedBy plan count) (λ one two call reply given. given.0) (λ one two call refused. refused.0) program state frame (JournalFull shard)
       stops)

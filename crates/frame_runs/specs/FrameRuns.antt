@@ -48,6 +48,7 @@ pub record WasRefused (program : Program) (state : MachineState) (plan : ℕ →
   pub trace :
       whole_trace program state (replies_in exchanges) ≡
       record { calls = calls_in exchanges ++ refused ∷ []; stand = Waits waiting }
+  pub formed : AreFormed program exchanges
   pub kept_back : frame ≡ waiting.frame
   pub sessions : HasRefusedSessions plan count worker exchanges refused before after
 

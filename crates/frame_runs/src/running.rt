@@ -1,9 +1,10 @@
 //! One run of a worker, from its pass and back to it.
 
 ghost use Rattle.std.specs.Prelude.{◌≡◌, ◌<◌, ℕ, IsTrue, IfOk, IfErr};
+ghost use Rattle.semantics.specs.declared.call.Caller.TheVariants.{Worker};
 ghost use Rattle.semantics.specs.MachineState.{initial_state};
 ghost use Rattle.machine.specs.Running.{program_of, Ends, StopsSo};
-ghost use Rattle.shard_port.specs.PassPorts.{is_worker_below, worker_of, port_of};
+ghost use Rattle.shard_port.specs.PassPorts.{is_worker_below, worker_of, port_of, IsFinishedBy};
 ghost use Rattle.shard_port.specs.PassSessions.{IsOutsideAt};
 ghost use Rattle.frame_runs.specs.FrameRuns.{IsGivenTold, IsRefusedUntold, told_port, HasRunTold, HasStoppedTold};
 
@@ -16,6 +17,25 @@ use shared_shards::{Naming, Pass, Shards};
 use std::sync::Wait;
 use verifier::Verified;
 use wire::Frame;
+
+/// The moment's worker, which has had so many replies, and the gate that is told of its next ones.
+fn tally_of<'a, G: Gate>(gate: &'a G, moment: &Moment, replies: u64) -> Tally<'a, G>
+    ensures who { result.who ≡ Worker moment.now.worker }
+    ensures count { result.count ≡ replies }
+{
+    let who = Caller::Worker {
+        number: moment.worker,
+    };
+    Tally::new(gate, who, replies)
+}
+
+/// Leaves the shards, and keeps how many replies the gate was told of.
+fn leave<'a, B: Naming, W: Wait, G: Gate>(port: ShardPort<'a, B, W, G>, replies: &mut u64)
+    ensures left { IsFinishedBy B.plan B.count port.entry.pass.now port.exit.0.now }
+    ensures told { replies.new ≡ port.entry.tally.count }
+{
+    *replies = port.finish();
+}
 
 /// `run` at the port of a pass, which is the same port after it, whether the run ended or stopped. The gate is told of each reply.
 fn run_at<B: Naming, W: Wait, G: Gate>(
@@ -78,12 +98,9 @@ pub fn run_frame<B: Naming, W: Wait, G: Gate>(
 {
     own_entries_are_sessions();
     own_entries_after_a_refusal();
-    let who = Caller::Worker {
-        number: moment.worker,
-    };
-    let tally = Tally::new(gate, who, *replies);
+    let tally = tally_of(gate, moment, *replies);
     let mut port = ShardPort::over(rt, shards, pass, tally);
     let ended = run_at(verified, frame, moment, &mut port);
-    *replies = port.finish();
+    leave(port, replies);
     ended
 }

@@ -7,8 +7,6 @@ mod byte_swap;
 mod comparison;
 mod halves;
 pub mod operation;
-#[cfg(test)]
-mod table_tests;
 
 pub use arithmetic::{alu32, alu64, movsx32, movsx64, neg32, neg64, sign_extend_immediate};
 pub use atomics::atomic;

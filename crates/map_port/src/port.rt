@@ -91,10 +91,12 @@ pub trait MapPort {
     ghost stays: { (before after : Self) (call : Call) → refuses before call after → serves after ≡ serves before };
 
     /// A call leaves the maps as they are, and what was handed out stays so, under the same handle.
-    ghost keeps: { (before after : Self) (call : Call) (reply : Reply) → gives before call reply after → Keeps (serves before) (serves after) (has_handed_out before) (has_handed_out after) (cell_of before) (cell_of after) };
+    ghost keeps: { (before after : Self) (call : Call) (reply : Reply) → gives before call reply after
+        → Keeps (serves before) (serves after) (has_handed_out before) (has_handed_out after) (cell_of before) (cell_of after) };
 
     /// A cell that a lookup finds is handed out.
-    ghost hands_out: { (before after : Self) (call : Call) (reply : Reply) → gives before call reply after → IsHandedOut (program_over (serves before)) (has_handed_out after) call reply };
+    ghost hands_out: { (before after : Self) (call : Call) (reply : Reply) → gives before call reply after
+        → IsHandedOut (program_over (serves before)) (has_handed_out after) call reply };
 
     /// Each reply has its call's form and width.
     ghost replies: { (before after : Self) (call : Call) (reply : Reply) → gives before call reply after → IsReplyTo (program_over (serves before)) call reply };

@@ -10,6 +10,3 @@ mod one_thread;
 pub mod state;
 
 pub use one_thread::OneThreadShard;
-
-#[cfg(test)]
-mod tests;

@@ -1,4 +1,4 @@
-//! Tests of the public calls of `ebpf_decode`, `abstract_state` and `verifier`.
+//! Tests of the public calls of `isa`, `ebpf_decode`, `abstract_state` and `verifier`.
 #![tactic(auto)]
 
 #[cfg(test)]
@@ -9,5 +9,7 @@ mod judged_in_version_two;
 mod judged_programs;
 #[cfg(test)]
 mod map_values;
+#[cfg(test)]
+mod operation_rows;
 #[cfg(test)]
 mod straight_code;

@@ -1,9 +1,10 @@
 -- What is printed of a cause: the numbers that the rule is about, the rule and the remedy.
-use Rattle.std.specs.Prelude.{ℕ, List, [], ◌++◌, codes, decimal}
+use Rattle.std.specs.Prelude.{ℕ, ◌==◌, List, [], ◌++◌, codes, decimal, if◌then◌else◌}
 use Rattle.abstract_state.specs.declared.kind.Kind.{Kind}
 use Rattle.reasons.specs.Wording.{kind_text}
+use Rattle.reasons.specs.declared.cause.Need.{Need}
 use Rattle.reasons.specs.declared.cause.Cause.{Cause}
-use Rattle.reasons.specs.declared.cause.Cause.TheVariants.{ClearedByCall, PathsDisagree, NeverCompared, ComparedForFewer, PacketOffsetUnknown, OutsideValue, ValuePointerLeaves, AddressPastValue, StackMisaligned, ValueMisaligned, NoMap}
+use Rattle.reasons.specs.declared.cause.Cause.TheVariants.{ClearedByCall, LeftUnset, PathsDisagree, NoTestShows, ComparedForFewer, PacketOffsetUnknown, OutsideValue, ValuePointerLeaves, AddressPastValue, StackMisaligned, ValueMisaligned, NoMap}
 use Rattle.reasons.specs.declared.advice.Advice.{Advice}
 
 abbrev pub size_text : ℕ → List ℕ
@@ -11,6 +12,9 @@ size_text size = codes "the value has " ++ (decimal size ++ codes " bytes: ")
 
 abbrev pub width_text : ℕ → List ℕ
 width_text width = decimal width ++ codes " bytes wide: "
+
+abbrev pub slot_text : ℕ → List ℕ
+slot_text slot = codes "slot " ++ (decimal slot ++ codes ": ")
 
 unfoldable pub meeting_text : ℕ → List ℕ
 meeting_text slot = codes "they meet at slot " ++ (decimal slot ++ codes ": ")
@@ -22,17 +26,37 @@ from_text from = codes "slot " ++ (decimal from ++ codes " brings ")
 unfoldable pub brought_text : ℕ → Kind → List ℕ
 brought_text from kind = from_text from ++ (kind_text kind ++ codes ", ")
 
+abbrev pub unit_text : ℕ → List ℕ
+unit_text bytes = if bytes == 1 then codes "byte" else codes "bytes"
+
+unfoldable pub count_text : ℕ → List ℕ
+count_text bytes = codes "needs " ++ (decimal bytes ++ (codes " " ++ unit_text bytes))
+
+-- what the bytes of the packet count from
+unfoldable pub base_text : ℕ → List ℕ
+base_text base = if base == 0 then codes " from the packet's start" else codes " from the sum of slot " ++ decimal base
+
+-- and where the register stands, if not there
+unfoldable pub standing_text : ℕ → List ℕ
+standing_text stands = if stands == 0 then [] else codes " (the register stands at +" ++ (decimal stands ++ codes ")")
+
+unfoldable pub bytes_text : Need → List ℕ
+bytes_text need = count_text need.bytes ++ (base_text need.base ++ standing_text need.stands)
+
+unfoldable pub known_text : ℕ → List ℕ
+known_text known = codes ", known " ++ (decimal known ++ codes ": ")
+
 unfoldable pub need_text : Cause → List ℕ
-need_text (NeverCompared needs) = codes "needs " ++ (decimal needs ++ codes ": ")
-need_text (ComparedForFewer needs known) =
-    codes "needs " ++ (decimal needs ++ (codes ", known " ++ (decimal known ++ codes ": ")))
+need_text (NoTestShows need) = bytes_text need ++ codes ": "
+need_text (ComparedForFewer need known) = bytes_text need ++ known_text known
 need_text (PacketOffsetUnknown high) = codes "the number may be up to " ++ (decimal high ++ codes ": ")
 need_text (OutsideValue size) = size_text size
 need_text (ValuePointerLeaves size) = size_text size
 need_text (AddressPastValue size) = size_text size
 need_text (StackMisaligned width) = width_text width
 need_text (ValueMisaligned width) = width_text width
-need_text (ClearedByCall slot) = codes "slot " ++ (decimal slot ++ codes ": ")
+need_text (ClearedByCall slot) = slot_text slot
+need_text (LeftUnset slot) = slot_text slot
 need_text (PathsDisagree slot first one second other) = brought_text first one ++ (brought_text second other ++ meeting_text slot)
 need_text (NoMap count) = codes "the image has " ++ (decimal count ++ codes " maps: ")
 need_text cause = []

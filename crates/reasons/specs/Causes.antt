@@ -23,10 +23,11 @@ use Rattle.abstract_state.specs.declared.state.State.{State}
 use Rattle.abstract_state.specs.States.{Checked, kind_of}
 use Rattle.abstract_state.specs.Calls.{helper_at}
 use Rattle.reasons.specs.declared.cause.Access.{Access}
+use Rattle.reasons.specs.declared.cause.Need.{Need}
 use Rattle.reasons.specs.declared.cause.Role.{Role}
 use Rattle.reasons.specs.declared.cause.Role.TheVariants.{Computes, Tests, Loads, Stores, Updates, Calls, Others}
 use Rattle.reasons.specs.declared.cause.Cause.{Cause}
-use Rattle.reasons.specs.declared.cause.Cause.TheVariants.{JumpsBack, JumpsOutside, JumpsIntoWide, RunsPastEnd, NoPathLeads, NotWritten, NullNotTested, NotAnAddress, PointerArithmetic, UnknownDistance, TestOfKinds, AtomicElsewhere, ExpectedPointer, BeforeBase, NeverCompared, ComparedForFewer, PacketOffsetLeaves, PacketOffsetUnknown, OutsideStack, StackPointerLeaves, ArgumentOutsideStack, LoadUnwritten, ArgumentUnwritten, OutsideValue, ValuePointerLeaves, AddressPastValue, StackMisaligned, ValueMisaligned, AtomicOffsetUnknown, ContextStore, NoContextField, FramePointerWritten, NoHelper, WantsMap, WantsContext, WantsStack, WantsNumber, VerdictPointer, PartOfPointer, PointerStored, NoMap, NoArray}
+use Rattle.reasons.specs.declared.cause.Cause.TheVariants.{JumpsBack, JumpsOutside, JumpsIntoWide, RunsPastEnd, NoPathLeads, NotWritten, NullNotTested, NotAnAddress, PointerArithmetic, UnknownDistance, TestOfKinds, AtomicElsewhere, ExpectedPointer, BeforeBase, NoTestShows, ComparedForFewer, PacketOffsetLeaves, PacketOffsetUnknown, OutsideStack, StackPointerLeaves, ArgumentOutsideStack, LoadUnwritten, ArgumentUnwritten, OutsideValue, ValuePointerLeaves, AddressPastValue, StackMisaligned, ValueMisaligned, AtomicOffsetUnknown, ContextStore, NoContextField, FramePointerWritten, NoHelper, WantsMap, WantsContext, WantsStack, WantsNumber, VerdictPointer, PartOfPointer, PointerStored, NoMap, NoArray}
 
 -- ---- the instruction
 
@@ -102,13 +103,18 @@ wrong_kind role blamed base = addressed blamed
 
 -- ---- 37: the packet
 
--- an access from a place on, of which so many bytes are known from the base
-abbrev pub beyond : ℤ → ℕ → ℕ → Cause
-beyond (pos from) count known = if known == 0 then NeverCompared (from + count) else ComparedForFewer (from + count) known
-beyond (negsuc below) count known = BeforeBase
+-- how far past a base an access ends, and the register stands
+abbrev pub need : ℕ → ℕ → ℕ → Need
+need base stands bytes = record { base = base; stands = stands; bytes = bytes }
+
+-- an access from a place on, of which so many bytes are known from the base; where none are, no comparison shows any
+abbrev pub beyond : ℕ → ℕ → ℤ → ℕ → ℕ → Cause
+beyond base stands (pos from) count known =
+    if known == 0 then NoTestShows (need base stands (from + count)) else ComparedForFewer (need base stands (from + count)) known
+beyond base stands (negsuc below) count known = BeforeBase
 
 abbrev pub packet_cause_at : Kind → ℤ → ℕ → Cause
-packet_cause_at (Packet id off range) distance count = beyond (pos off +ℤ distance) count range
+packet_cause_at (Packet id off range) distance count = beyond id off (pos off +ℤ distance) count range
 packet_cause_at other distance count = PacketOffsetLeaves
 
 abbrev pub packet_cause : Access → Cause

@@ -1,5 +1,5 @@
--- Why a register is unset where it is read: nothing was written to it, a call left it so, or the paths that meet somewhere disagree.
-use Rattle.std.specs.Prelude.{◌≡◌, ℕ, Bool, true, false, not, List, Option, Some, None, IsTrue, if◌then◌else◌}
+-- Why a register is unset where it is read: nothing was written to it, an instruction left it so, or the paths that meet somewhere disagree.
+use Rattle.std.specs.Prelude.{◌≡◌, ◌<◌, ℕ, Bool, true, false, not, List, length, Option, Some, None, IfSome, IsTrue, if◌then◌else◌}
 use Rattle.isa.specs.declared.operation.Register.{Register}
 use Rattle.ebpf_decode.specs.declared.insn.Insn.{Insn}
 use Rattle.ebpf_decode.specs.declared.insn.Insn.TheVariants.{CallHelper}
@@ -11,9 +11,11 @@ use Rattle.abstract_state.specs.declared.kind.Kind.TheVariants.{Unset}
 use Rattle.abstract_state.specs.declared.state.State.{State}
 use Rattle.abstract_state.specs.States.{kind_of}
 use Rattle.abstract_state.specs.Join.{join_kind}
+use Rattle.verifier.specs.declared.survey.Survey.{Survey}
 use Rattle.verifier.specs.Dataflow.{known_at, states_of, arriving_from}
+use Rattle.verifier.specs.Surveys.{slot_of}
 use Rattle.reasons.specs.declared.cause.Cause.{Cause}
-use Rattle.reasons.specs.declared.cause.Cause.TheVariants.{NotWritten, NeverWritten, ClearedByCall, PathsDisagree}
+use Rattle.reasons.specs.declared.cause.Cause.TheVariants.{NeverWritten, ClearedByCall, LeftUnset, PathsDisagree}
 use Rattle.reasons.specs.declared.origin.Arrival.{Arrival}
 use Rattle.reasons.specs.declared.origin.Back.{Back}
 use Rattle.reasons.specs.declared.origin.Back.TheVariants.{Found, Further}
@@ -40,6 +42,11 @@ pub record Brings (version : Version) (maps : List MapDef) (code : List Insn) (t
   pub here : instruction_at code arrival.from ≡ Some arrival.insn
   pub arrives : IsArrival maps arrival.from arrival.insn (known_at (states_of version maps code) arrival.from) target register arrival
 
+-- what the edges from a slot alone bring, if an instruction begins there and something is known before it
+abbrev pub brought_from : Version → List MapDef → List Insn → ℕ → ℕ → Option State
+brought_from version maps code from target =
+    arriving_from maps from (instruction_at code from) (known_at (states_of version maps code) from) target None
+
 -- ---- kinds
 
 abbrev pub is_unset : Kind → Bool
@@ -59,7 +66,18 @@ abbrev pub is_call : Insn → Bool
 is_call (CallHelper helper) = true
 is_call insn = false
 
+-- no edge from a slot before the target brings a kind that is sought
+abbrev pub NoneBrings : Version → List MapDef → List Insn → ℕ → Register → Option Kind → Type 0
+NoneBrings version maps code target register unlike =
+    (from : ℕ) → from < target → IfSome (brought_from version maps code from target) (λ brought. is_sought version unlike (kind_of brought register) ≡ false)
+
 -- ---- where a register becomes unset
+
+-- it is, in what is known at the slot
+pub record IsUnsetAt (version : Version) (maps : List MapDef) (code : List Insn) (register : Register) (slot : ℕ) : Type 0 where
+  pub state : State
+  pub known : known_at (states_of version maps code) slot ≡ Some state
+  pub unset : kind_of state register ≡ Unset
 
 -- along edges from one slot to another the register is unset wherever they arrive
 pub data StaysUnset (version : Version) (maps : List MapDef) (code : List Insn) (register : Register) : ℕ → ℕ → Type 0 where
@@ -76,34 +94,41 @@ pub record IsDisagreement (version : Version) (maps : List MapDef) (code : List 
   pub disagree : IsTrue (disagree version one.after other.after)
   pub told : cause ≡ PathsDisagree slot one.from one.after other.from other.after
 
--- a call leaves the register unset, which was set before it
+-- what an instruction is told for that leaves a register unset which was set before it: a call does, and a jump whose two edges lead to
+-- one slot with kinds that disagree
+abbrev pub cleared_by : Arrival → Cause
+cleared_by arrival = if is_call arrival.insn then ClearedByCall arrival.from else LeftUnset arrival.from
+
+-- an instruction leaves the register unset, which was set before it
 pub record IsClearing (version : Version) (maps : List MapDef) (code : List Insn) (register : Register) (slot : ℕ) (cause : Cause) : Type 0 where
   pub arrival : Arrival
   pub brings : Brings version maps code slot register arrival
   pub cleared : arrival.after ≡ Unset
   pub set : is_unset arrival.before ≡ false
-  pub calls : IsTrue (is_call arrival.insn)
-  pub told : cause ≡ ClearedByCall arrival.from
+  pub told : cause ≡ cleared_by arrival
 
 -- what an edge that brings the register unset tells
 abbrev pub along : Arrival → Back
-along arrival =
-    if is_unset arrival.before then Further arrival.from
-    else (if is_call arrival.insn then Found (ClearedByCall arrival.from) else Found NotWritten)
+along arrival = if is_unset arrival.before then Further arrival.from else Found (cleared_by arrival)
 
--- what a look at the edges finds that lead to a slot: the cause, or an edge along which the register stays unset
+-- what a look at the edges finds that lead to a slot: the cause, or an edge from before it along which the register stays unset
 pub data LooksBack (version : Version) (maps : List MapDef) (code : List Insn) (register : Register) (slot : ℕ) (back : Back) : Type 0 where
   looks_at_paths : (cause : Cause) → IsDisagreement version maps code register slot cause → back ≡ Found cause → LooksBack version maps code register slot back
-  looks_at_call : (cause : Cause) → IsClearing version maps code register slot cause → back ≡ Found cause → LooksBack version maps code register slot back
-  looks_in_vain : back ≡ Found NotWritten → LooksBack version maps code register slot back
-  looks_further : (arrival : Arrival) → Brings version maps code slot register arrival → arrival.after ≡ Unset → back ≡ Further arrival.from →
-      LooksBack version maps code register slot back
+  looks_at_clearing : (cause : Cause) → IsClearing version maps code register slot cause → back ≡ Found cause → LooksBack version maps code register slot back
+  looks_further : (arrival : Arrival) → Brings version maps code slot register arrival → arrival.after ≡ Unset → arrival.before ≡ Unset → arrival.from < slot →
+      back ≡ Further arrival.from → LooksBack version maps code register slot back
 
--- why the register is unset at the slot, by a path along which it stays so; not_told where no such path was found
+-- why the register is unset at the slot, by a path along which it stays so: from slot 0, where it is unset, or from where it became so
 pub data IsOrigin (version : Version) (maps : List MapDef) (code : List Insn) (register : Register) (slot : ℕ) (cause : Cause) : Type 0 where
-  never_written : StaysUnset version maps code register 0 slot → cause ≡ NeverWritten → IsOrigin version maps code register slot cause
+  never_written : IsUnsetAt version maps code register 0 → StaysUnset version maps code register 0 slot → cause ≡ NeverWritten →
+      IsOrigin version maps code register slot cause
   paths_disagree : (at : ℕ) → IsDisagreement version maps code register at cause → StaysUnset version maps code register at slot →
       IsOrigin version maps code register slot cause
-  cleared_by_call : (at : ℕ) → IsClearing version maps code register at cause → StaysUnset version maps code register at slot →
+  left_unset : (at : ℕ) → IsClearing version maps code register at cause → StaysUnset version maps code register at slot →
       IsOrigin version maps code register slot cause
-  not_told : cause ≡ NotWritten → IsOrigin version maps code register slot cause
+
+-- ---- what a look back needs
+
+-- a survey has what is known of each instruction before the slot
+abbrev pub Covers : List Insn → Survey → ℕ → Type 0
+Covers code survey slot = (index : ℕ) → index < length code → slot_of code index < slot → index < length survey.known.items

@@ -1,9 +1,10 @@
 //! The rule that is broken and the usual remedy, in words: one row for each cause.
 
 ghost use Rattle.std.specs.Prelude.{◌≡◌, ◌++◌, string_bytes, OnOk};
-ghost use Rattle.reasons.specs.Advices.{size_text, width_text, from_text, brought_text, meeting_text, need_text, advice_text};
+ghost use Rattle.reasons.specs.Advices.{unit_text, count_text, base_text, standing_text, bytes_text, known_text, size_text, width_text, slot_text};
+ghost use Rattle.reasons.specs.Advices.{from_text, brought_text, meeting_text, need_text, advice_text};
 
-use crate::cause::Cause;
+use crate::cause::{Cause, Need};
 use crate::wording::put_kind;
 use abstract_state::Kind;
 use std::alloc::{AllocError, Global};
@@ -49,9 +50,13 @@ fn put_need(alloc: Global, out: &mut String, cause: Cause) -> Result<(), AllocEr
     ensures { OnOk result (string_bytes out.new ≡ string_bytes out.old ++ need_text cause) }
 {
     match cause {
-        Cause::NeverCompared { needs } => { out.push_str(&format!(in alloc; "needs {needs}: ")?) }
-        Cause::ComparedForFewer { needs, known } => {
-            out.push_str(&format!(in alloc; "needs {needs}, known {known}: ")?)
+        Cause::NoTestShows { need } => {
+            put_bytes(alloc, out, need)?;
+            out.push_str(": ")
+        }
+        Cause::ComparedForFewer { need, known } => {
+            put_bytes(alloc, out, need)?;
+            put_known(alloc, out, known)
         }
         Cause::PacketOffsetUnknown { high } => {
             out.push_str(&format!(in alloc; "the number may be up to {high}: ")?)
@@ -61,7 +66,8 @@ fn put_need(alloc: Global, out: &mut String, cause: Cause) -> Result<(), AllocEr
         Cause::AddressPastValue { size } => put_size(alloc, out, size),
         Cause::StackMisaligned { width } => put_width(alloc, out, width),
         Cause::ValueMisaligned { width } => put_width(alloc, out, width),
-        Cause::ClearedByCall { slot } => { out.push_str(&format!(in alloc; "slot {slot}: ")?) }
+        Cause::ClearedByCall { slot } => put_slot(alloc, out, slot),
+        Cause::LeftUnset { slot } => put_slot(alloc, out, slot),
         Cause::PathsDisagree {
             slot,
             first,
@@ -78,6 +84,70 @@ fn put_need(alloc: Global, out: &mut String, cause: Cause) -> Result<(), AllocEr
         }
         _ => Ok(()),
     }
+}
+
+fn unit(bytes: u64) -> &'static str
+    ensures { result.now ≡ unit_text bytes }
+{
+    if bytes == 1 { "byte" } else { "bytes" }
+}
+
+#[tactic(auto, unfolding(crate::specs::Advices::count_text))]
+fn put_count(alloc: Global, out: &mut String, bytes: u64) -> Result<(), AllocError>
+    ensures { OnOk result (string_bytes out.new ≡ string_bytes out.old ++ count_text bytes) }
+{
+    let unit = unit(bytes);
+    out.push_str(&format!(in alloc; "needs {bytes} {unit}")?)
+}
+
+/// What the bytes of the packet count from.
+#[tactic(auto, unfolding(crate::specs::Advices::base_text))]
+fn put_base(alloc: Global, out: &mut String, base: u16) -> Result<(), AllocError>
+    ensures { OnOk result (string_bytes out.new ≡ string_bytes out.old ++ base_text base) }
+{
+    if base == 0 {
+        return out.push_str(" from the packet's start");
+    }
+    out.push_str(&format!(in alloc; " from the sum of slot {base}")?)
+}
+
+/// Where the register stands.
+#[tactic(auto, unfolding(crate::specs::Advices::standing_text))]
+fn put_standing(alloc: Global, out: &mut String, stands: u16) -> Result<(), AllocError>
+    ensures { OnOk result (string_bytes out.new ≡ string_bytes out.old ++ standing_text stands) }
+{
+    if stands == 0 {
+        return Ok(());
+    }
+    out.push_str(&format!(in alloc; " (the register stands at +{stands})")?)
+}
+
+/// How many bytes of the packet an access needs, and from where.
+#[tactic(auto, unfolding(crate::specs::Advices::bytes_text))]
+fn put_bytes(alloc: Global, out: &mut String, need: Need) -> Result<(), AllocError>
+    ensures { OnOk result (string_bytes out.new ≡ string_bytes out.old ++ bytes_text need) }
+{
+    let Need {
+        base,
+        stands,
+        bytes,
+    } = need;
+    put_count(alloc, out, bytes)?;
+    put_base(alloc, out, base)?;
+    put_standing(alloc, out, stands)
+}
+
+#[tactic(auto, unfolding(crate::specs::Advices::known_text))]
+fn put_known(alloc: Global, out: &mut String, known: u32) -> Result<(), AllocError>
+    ensures { OnOk result (string_bytes out.new ≡ string_bytes out.old ++ known_text known) }
+{
+    out.push_str(&format!(in alloc; ", known {known}: ")?)
+}
+
+fn put_slot(alloc: Global, out: &mut String, slot: u32) -> Result<(), AllocError>
+    ensures { OnOk result (string_bytes out.new ≡ string_bytes out.old ++ slot_text slot) }
+{
+    out.push_str(&format!(in alloc; "slot {slot}: ")?)
 }
 
 /// Where an edge comes from.
@@ -128,6 +198,7 @@ fn words_of(cause: Cause) -> (&'static str, &'static str) {
         Cause::NotWritten
         | Cause::NeverWritten
         | Cause::ClearedByCall { .. }
+        | Cause::LeftUnset { .. }
         | Cause::PathsDisagree { .. } => unset(cause),
         Cause::NullNotTested
         | Cause::NotAnAddress
@@ -137,7 +208,7 @@ fn words_of(cause: Cause) -> (&'static str, &'static str) {
         | Cause::AtomicElsewhere
         | Cause::ExpectedPointer => kinds(cause),
         Cause::BeforeBase
-        | Cause::NeverCompared { .. }
+        | Cause::NoTestShows { .. }
         | Cause::ComparedForFewer { .. }
         | Cause::PacketOffsetLeaves
         | Cause::PacketOffsetUnknown { .. } => packet(cause),
@@ -193,6 +264,10 @@ fn unset(cause: Cause) -> (&'static str, &'static str) {
             "a call leaves r1 to r5 unset, and helper 44 every pointer into the packet",
             "keep what is needed later in r6 to r9 or on the stack; after helper 44 load the packet and its end again, and test anew",
         ),
+        Cause::LeftUnset { .. } => (
+            "both edges of this jump lead to one slot, with different kinds in the register, so it may not be read",
+            "let the jump go further than to the next slot, or use the register before it",
+        ),
         Cause::PathsDisagree { .. } => (
             "the paths that meet there leave different kinds in the register, so it may not be read",
             "leave the same kind on each path, or use the register before they meet",
@@ -245,9 +320,9 @@ fn packet(cause: Cause) -> (&'static str, &'static str) {
             "the access begins before the place that the pointer counts from",
             "work from the packet's start ([r1+0]) with an offset that is not negative",
         ),
-        Cause::NeverCompared { .. } => (
-            "the bytes were never compared with the packet's end",
-            "load the end ([r1+4]), add so many bytes to a copy of the pointer, and leave where that is greater (jgt copy, end, +n)",
+        Cause::NoTestShows { .. } => (
+            "no comparison with the packet's end shows, on every path to here, that the packet reaches so far",
+            "load the end ([r1+4]), add so many bytes to a copy of the pointer, and leave where that is greater (jgt copy, end, +n); if there is such a test, look at which way it jumps",
         ),
         Cause::ComparedForFewer { .. } => (
             "the packet was compared with its end for fewer bytes",

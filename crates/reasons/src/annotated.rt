@@ -3,7 +3,8 @@
 ghost use Rattle.std.specs.Prelude.{◌≡◌, ◌++◌, ◌<◌, ◌≤◌, string_bytes, OnOk, IfOk, None, length};
 ghost use Rattle.verifier.specs.Dataflow.{states_of};
 ghost use Rattle.verifier.specs.Surveys.{IsSurvey};
-ghost use Rattle.reasons.specs.Annotations.{indexed_text, register_place, word_place, set_item, register_item, is_any, word_item_text, word_item, known_items, state_lines, known_lines, entry_text, program_text};
+ghost use Rattle.reasons.specs.Annotations.{indexed_text, register_place, set_item, register_item, word_place, is_any, word_item_text, word_item};
+ghost use Rattle.reasons.specs.Annotations.{known_items, state_lines, known_lines, entry_text, program_text};
 
 use crate::instruction::put_slot_line;
 use crate::reader::{Reason, put_reason};

@@ -2,7 +2,10 @@
 
 ghost use Rattle.std.specs.Prelude.{◌≡◌, slice_get};
 ghost use Rattle.semantics.specs.Program.{value_size_of};
-ghost use Rattle.reasons.specs.Causes.{role_of, access_of, source_interval, computed, updated, addressed, base_of, wrong_kind, beyond, packet_cause, moved_packet, packet_bounds, stack_bounds, stack_unset, value_size_at, value_bounds, named_size, misaligned_at, misaligned, context_access, helper_called, bad_argument, pointer_stored, pointer_leak, cause_of, cause_of_shape};
+ghost use Rattle.reasons.specs.Causes.{role_of, access_of, base_of, source_interval, computed, updated, addressed, wrong_kind};
+ghost use Rattle.reasons.specs.Causes.{beyond, packet_cause, moved_packet, packet_bounds, stack_bounds, stack_unset};
+ghost use Rattle.reasons.specs.Causes.{value_size_at, named_size, value_bounds, misaligned, misaligned_at, context_access};
+ghost use Rattle.reasons.specs.Causes.{helper_called, bad_argument, pointer_stored, pointer_leak, cause_of, cause_of_shape};
 
 use abstract_scalar::Interval;
 use abstract_state::{Helper, Kind, Refusal, State};
@@ -32,6 +35,17 @@ pub struct Access {
     pub count: u32,
 }
 
+/// How many bytes of the packet an access needs.
+#[derive(Clone, Copy, Debug, PartialEq, Eq)]
+pub struct Need {
+    /// What they count from: 0 is the packet's start, another number the base that the addition at this slot made.
+    pub base: u16,
+    /// How far past it the register stands.
+    pub stands: u16,
+    /// How far past it the access ends.
+    pub bytes: u64,
+}
+
 /// Why an instruction breaks a rule.
 #[derive(Clone, Copy, Debug, PartialEq, Eq)]
 pub enum Cause {
@@ -42,12 +56,16 @@ pub enum Cause {
     RunsPastEnd,
     NoPathLeads,
     // 35: an unset register.
-    /// On some path that leads there nothing was written to it, or the paths leave different kinds.
+    /// Not told apart.
     NotWritten,
     /// On some path from slot 0 nothing was written to it.
     NeverWritten,
     /// The call at a slot left it unset.
     ClearedByCall {
+        slot: u32,
+    },
+    /// The instruction at a slot, which is no call, left it unset: a jump whose two edges lead to one slot with different kinds.
+    LeftUnset {
         slot: u32,
     },
     /// The instructions at two slots bring different kinds of it to a slot.
@@ -70,11 +88,12 @@ pub enum Cause {
     ExpectedPointer,
     // 37: the packet.
     BeforeBase,
-    NeverCompared {
-        needs: u64,
+    /// No comparison with the packet's end shows any byte: none stands on some path, or its other edge leads here.
+    NoTestShows {
+        need: Need,
     },
     ComparedForFewer {
-        needs: u64,
+        need: Need,
         known: u32,
     },
     PacketOffsetLeaves,
@@ -231,18 +250,23 @@ fn wrong_kind(role: Role, blamed: Kind, base: Kind) -> Cause
     }
 }
 
-/// 37 of an access from this place on.
-fn beyond(from: i64, count: u32, known: u32) -> Cause
-    ensures { result ≡ beyond from count known }
+/// 37 of an access from this place on, through a register that stands so far past its base.
+fn beyond(base: u16, stands: u16, from: i64, count: u32, known: u32) -> Cause
+    ensures { result ≡ beyond base stands from count known }
 {
     if from < 0 {
         return Cause::BeforeBase;
     }
-    let needs = from as u64 + u64::from(count);
+    let bytes = from as u64 + u64::from(count);
+    let need = Need {
+        base,
+        stands,
+        bytes,
+    };
     if known == 0 {
-        Cause::NeverCompared { needs }
+        Cause::NoTestShows { need }
     } else {
-        Cause::ComparedForFewer { needs, known }
+        Cause::ComparedForFewer { need, known }
     }
 }
 
@@ -251,7 +275,9 @@ fn packet_cause(access: Access) -> Cause
     ensures { result ≡ packet_cause access }
 {
     match access.base {
-        Kind::Packet { off, range, .. } => beyond(
+        Kind::Packet { id, off, range } => beyond(
+            id,
+            off,
             i64::from(off) + i64::from(access.distance),
             access.count,
             range,

@@ -1,6 +1,6 @@
 //! What is told of a program.
 
-ghost use Rattle.std.specs.Prelude.{string_bytes, IfOk};
+ghost use Rattle.std.specs.Prelude.{◌≡◌, Some, string_bytes, IfOk};
 ghost use Rattle.image_shape.specs.Structure.{HasShape};
 ghost use Rattle.verifier.specs.Surveys.{IsSurvey};
 ghost use Rattle.reasons.specs.Explanations.{IsCause, IsExplanation};
@@ -48,7 +48,8 @@ fn explain_kinds(alloc: Global, image: &Image) -> Result<String, AllocError>
 
 /// Why an instruction breaks a rule.
 fn cause_in(image: &Image, survey: &Survey, broken: &Broken) -> Cause
-    requires { IsSurvey image.now.version image.now.maps image.now.code survey.now }
+    requires survey { IsSurvey image.now.version image.now.maps image.now.code survey.now }
+    requires its_end { survey.now.broken ≡ Some broken.now }
     ensures { IsCause image.now.version image.now.maps image.now.code broken.now.slot broken.now.insn broken.now.state broken.now.why result }
 {
     match broken.why {

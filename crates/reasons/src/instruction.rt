@@ -3,7 +3,9 @@
 ghost use Rattle.std.specs.Prelude.{◌≡◌, ◌++◌, ◌<◌, ◌≤◌, ◌+◌, ◌^◌, string_bytes, OnOk, IfSome};
 ghost use Rattle.std.specs.List.{flat_map};
 ghost use Rattle.abstract_state.specs.States.{word_of};
-ghost use Rattle.reasons.specs.Instructions.{slot_line, register_line, used_line, used_registers, called_registers, source_register, word_head, word_line, place_word, stack_word, stack_word_text, words_text, stack_range_text, argument_text, called_map, sizes_read, arguments_text, touched_text, used_text};
+ghost use Rattle.reasons.specs.Instructions.{slot_line, register_line, used_line, used_registers, called_registers, source_register};
+ghost use Rattle.reasons.specs.Instructions.{word_head, word_line, place_word, stack_word, stack_word_text, words_text, stack_range_text};
+ghost use Rattle.reasons.specs.Instructions.{called_map, sizes_read, argument_text, arguments_text, touched_text, used_text};
 
 use crate::cause::{Access, access_of};
 use crate::wording::{put_kind, put_word};

@@ -12,6 +12,6 @@ mod refused;
 mod wording;
 
 pub use advice::Advice;
-pub use cause::Cause;
+pub use cause::{Cause, Need};
 pub use explaining::explain;
 pub use reader::{Reason, reasons_are_those};

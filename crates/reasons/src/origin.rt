@@ -1,11 +1,13 @@
-//! Why a register is unset where it is read: nothing was written to it, a call left it so, or the paths that meet somewhere disagree.
+//! Why a register is unset where it is read: nothing was written to it, an instruction left it so, or the paths that meet somewhere disagree.
 
 ghost use Rattle.std.specs.Prelude.{◌≡◌, ◌<◌, IfSome, IsTrue, None, length};
+ghost use Rattle.ebpf_decode.specs.InstructionEncoding.{total_slots};
 ghost use Rattle.abstract_state.specs.Soundness.{distance_of_jump};
 ghost use Rattle.abstract_state.specs.InPlace.{flow_by};
-ghost use Rattle.verifier.specs.Dataflow.{is_at, is_target, is_next, joined_where, arriving};
+ghost use Rattle.verifier.specs.Dataflow.{is_at, is_target, is_next, joined_where, arriving, arriving_from};
 ghost use Rattle.verifier.specs.Surveys.{slot_of, IsSurvey};
-ghost use Rattle.reasons.specs.Origins.{brought_by, is_unset, disagree, is_sought, is_call, along, IsArrival, Brings, IsOrigin, LooksBack};
+ghost use Rattle.reasons.specs.Origins.{brought_by, brought_from, is_unset, disagree, is_sought, is_call, cleared_by, along};
+ghost use Rattle.reasons.specs.Origins.{IsArrival, Brings, NoneBrings, IsUnsetAt, LooksBack, IsOrigin, Covers};
 
 use crate::cause::Cause;
 use abstract_state::{Kind, Site, State, Way};
@@ -171,7 +173,8 @@ fn arrival_of(
     register: Register,
 ) -> Option<Arrival>
     requires { slot < 4096 }
-    ensures { IfSome result (IsArrival maps.now slot insn known.now target register) }
+    ensures arrives { IfSome result (IsArrival maps.now slot insn known.now target register) }
+    ensures none { result ≡ None → arriving_from maps.now slot (Some insn) known.now target None ≡ None }
 {
     match known {
         Some(state) => match brought_by(maps, slot, insn, state, target) {
@@ -198,17 +201,24 @@ fn arrival_at(
 ) -> Option<Arrival>
     requires survey { IsSurvey image.now.version image.now.maps image.now.code survey.now }
     requires inside { index < length image.now.code }
+    requires known { index < length survey.now.known.items }
     requires at { slot ≡ slot_of image.now.code index }
-    ensures { IfSome result (Brings image.now.version image.now.maps image.now.code target register) }
+    ensures brings { IfSome result (Brings image.now.version image.now.maps image.now.code target register) }
+    ensures from { IfSome result (λ arrival. arrival.from ≡ slot) }
+    ensures none { result ≡ None → brought_from image.now.version image.now.maps image.now.code slot target ≡ None }
 {
     let insn = image.code()[index];
-    match survey.known.get(index) {
-        Some(known) => arrival_of(image.maps(), slot, insn, known, target, register),
-        None => None,
-    }
+    arrival_of(
+        image.maps(),
+        slot,
+        insn,
+        &survey.known[index],
+        target,
+        register,
+    )
 }
 
-/// What the first instruction brings of a register to a slot that brings what is sought.
+/// What the first instruction before a slot brings of a register there that brings what is sought.
 fn find_arrival(
     image: &Image,
     survey: &Survey,
@@ -216,13 +226,19 @@ fn find_arrival(
     register: Register,
     unlike: Option<Kind>,
 ) -> Option<Arrival>
-    requires { IsSurvey image.now.version image.now.maps image.now.code survey.now }
+    requires survey { IsSurvey image.now.version image.now.maps image.now.code survey.now }
+    requires covers { Covers image.now.code survey.now target }
     ensures brings { IfSome result (Brings image.now.version image.now.maps image.now.code target register) }
     ensures sought { IfSome result (λ arrival. IsTrue (is_sought image.now.version unlike arrival.after)) }
+    ensures before { IfSome result (λ arrival. arrival.from < target) }
+    ensures none { result ≡ None → NoneBrings image.now.version image.now.maps image.now.code target register unlike }
 {
     let version = image.version();
     let mut slot = 0;
     for (index, insn) in image.code().iter().enumerate() {
+        if slot >= target {
+            return None;
+        }
         match arrival_at(image, survey, index, slot, target, register) {
             Some(arrival) => {
                 if is_sought(version, unlike, arrival.after) {
@@ -236,16 +252,25 @@ fn find_arrival(
     None
 }
 
+/// What to tell of an instruction that leaves a register unset.
+fn cleared_by(arrival: Arrival) -> Cause
+    ensures { result ≡ cleared_by arrival }
+{
+    if is_call(arrival.insn) {
+        Cause::ClearedByCall { slot: arrival.from }
+    } else {
+        Cause::LeftUnset { slot: arrival.from }
+    }
+}
+
 /// What to tell of an edge that brings the register unset.
 fn along(arrival: Arrival) -> Back
     ensures { result ≡ along arrival }
 {
     if is_unset(arrival.before) {
         Back::Further(arrival.from)
-    } else if is_call(arrival.insn) {
-        Back::Found(Cause::ClearedByCall { slot: arrival.from })
     } else {
-        Back::Found(Cause::NotWritten)
+        Back::Found(cleared_by(arrival))
     }
 }
 
@@ -264,39 +289,37 @@ fn disagreement(at: u32, one: Arrival, other: Arrival) -> Cause
 
 /// Looks at the edges that lead to a slot at which the register is unset.
 fn look_back(image: &Image, survey: &Survey, at: u32, register: Register) -> Back
-    requires { IsSurvey image.now.version image.now.maps image.now.code survey.now }
+    requires survey { IsSurvey image.now.version image.now.maps image.now.code survey.now }
+    requires covers { Covers image.now.code survey.now at }
+    requires unset { IsUnsetAt image.now.version image.now.maps image.now.code register at }
+    requires past_start { 0 < at }
+    requires inside { at < total_slots image.now.code }
     ensures { LooksBack image.now.version image.now.maps image.now.code register at result }
 {
     let one = match find_arrival(image, survey, at, register, None) {
         Some(one) => one,
-        None => return Back::Found(Cause::NotWritten),
+        None => unreachable!(),
     };
     match find_arrival(image, survey, at, register, Some(one.after)) {
         Some(other) => Back::Found(disagreement(at, one, other)),
-        None => {
-            if is_unset(one.after) {
-                along(one)
-            } else {
-                Back::Found(Cause::NotWritten)
-            }
-        }
+        None => along(one),
     }
 }
 
 /// Why a register is unset at a slot.
 pub(crate) fn origin_of(image: &Image, survey: &Survey, slot: u32, register: Register) -> Cause
-    requires { IsSurvey image.now.version image.now.maps image.now.code survey.now }
+    requires survey { IsSurvey image.now.version image.now.maps image.now.code survey.now }
+    requires covers { Covers image.now.code survey.now slot }
+    requires unset { IsUnsetAt image.now.version image.now.maps image.now.code register slot }
+    requires inside { slot < total_slots image.now.code }
     ensures { IsOrigin image.now.version image.now.maps image.now.code register slot result }
 {
     let mut at = slot;
-    'back: for _ in 0..image.slots() {
-        if at == 0 {
-            return Cause::NeverWritten;
-        }
+    'back: while at > 0 {
         match look_back(image, survey, at, register) {
             Back::Found(cause) => return cause,
             Back::Further(from) => at = from,
         }
     }
-    Cause::NotWritten
+    Cause::NeverWritten
 }

@@ -1,7 +1,8 @@
 //! What is known of a register and of a word of the stack, in words.
 
 ghost use Rattle.std.specs.Prelude.{◌≡◌, ◌++◌, string_bytes, OnOk};
-ghost use Rattle.reasons.specs.Wording.{range_text, packet_base_text, offset_text, packet_text, value_head_text, value_text, kind_text, byte_mark, marks_text, word_text};
+ghost use Rattle.reasons.specs.Wording.{range_text, packet_base_text, offset_text, packet_text, value_head_text, value_text, kind_text};
+ghost use Rattle.reasons.specs.Wording.{byte_mark, marks_text, word_text};
 
 use abstract_state::{Kind, Offsets, StackWord};
 use std::alloc::{AllocError, Global};

@@ -1,5 +1,9 @@
-//! Tests of the public calls of `replay`.
+//! Tests of the public calls of `actors`, `single_run` and `replay`.
 #![tactic(auto)]
 
 #[cfg(test)]
+mod acting;
+#[cfg(test)]
 mod replays;
+#[cfg(test)]
+mod single_runs;

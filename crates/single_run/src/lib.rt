@@ -5,8 +5,6 @@ mod closing;
 mod fault;
 mod running;
 mod shard_runs;
-#[cfg(test)]
-mod tests;
 mod updates;
 
 pub use fault::RunFault;

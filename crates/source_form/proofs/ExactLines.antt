@@ -1,9 +1,9 @@
 -- A line of an exact text means itself in the source form.
-use Rattle.std.proofs.Common.{◌≡◌, ◌∙◌, ℕ, zero, suc, ◌+◌, ◌≤◌, ◌<◌, ◌^◌, ◌/◌, ◌%◌, Bool, true, false, ◌&&◌, not, leb, ltb, eqb, List, [], ◌∷◌, ◌++◌, length, map, drop, refl, sym, ap, arith, append_assoc, length-append, Ok}
+use Rattle.std.proofs.Common.{◌≡◌, ◌∙◌, ℕ, zero, suc, ◌+◌, ◌<◌, ◌^◌, ◌/◌, ◌%◌, Bool, true, false, ◌&&◌, not, leb, ltb, eqb, List, [], ◌∷◌, ◌++◌, length, map, refl, sym, ap, arith, append_assoc, length-append, Ok}
 use Rattle.std.specs.Prelude.{ℤ, pos, negsuc, codes, FitsSigned, Some}
 use Rattle.std.specs.Int.{w16, w32, w64}
 use Rattle.std.specs.Fmt.{decimal, signed_decimal}
-use Rattle.std.specs.Str.{trim, trim_start, trim_end, chars, skip_leading_whitespace}
+use Rattle.std.specs.Str.{trim, skip_leading_whitespace}
 use Rattle.std.specs.Str.Parse.{digits_value}
 use Rattle.std.proofs.lemmas.Bool.Decides.{nat_tests}
 use Rattle.std.proofs.lemmas.Fmt.{decimal_by_steps, decimal_nonempty}
@@ -22,9 +22,6 @@ use Rattle.isa.specs.declared.operation.AtomicOp.TheVariants.{AtomicAdd, AtomicO
 use Rattle.isa.specs.declared.operation.Size.TheVariants.{U8, U16, U32, U64}
 use Rattle.ebpf_decode.specs.declared.insn.Insn.{Insn}
 use Rattle.ebpf_decode.specs.declared.insn.Insn.TheVariants as insns
-use Rattle.ebpf_decode.specs.declared.map.MapDef.{MapDef}
-use Rattle.ebpf_decode.specs.declared.map.MapKind.{MapKind}
-use Rattle.ebpf_decode.specs.declared.map.MapKind.TheVariants.{Hash, Array, LruHash}
 use Rattle.ebpf_decode.specs.InstructionEncoding.{FieldsFit}
 use Rattle.disasm.specs.declared.head.Head.{Head}
 use Rattle.disasm.specs.declared.head.Head.TheVariants as heads
@@ -33,16 +30,15 @@ use Rattle.disasm.specs.declared.operand.Operand.TheVariants.{Register, Number, 
 use Rattle.disasm.specs.declared.operand.Operands.{Operands}
 use Rattle.disasm.specs.declared.operand.Operands.TheVariants.{Zero, One, Two, Three}
 use Rattle.disasm.specs.Names.{head_stem, head_suffix, head_name}
-use Rattle.disasm.specs.AssemblyText.{register_text, with_sign, hex_digit, hex_digits, operand_text, list_text, operands_text, head_of, operands_of, line_of, kind_name, after_space, map_line_of, MapFits}
-use Rattle.disasm.specs.LineReading.{OperandFits, OperandsFit}
-use Rattle.disasm.proofs.Bytes.{all_bytes, word_byte, all_append, weaken, decimal_word, signed_word, sign_word, widest_fits, far_fits, wider_fits, register_word, register_tail}
+use Rattle.disasm.specs.AssemblyText.{register_text, with_sign, hex_digit, hex_digits, operand_text, list_text, head_of, operands_of}
+use Rattle.disasm.specs.LineReading.{OperandFits}
+use Rattle.disasm.proofs.Bytes.{all_bytes, word_byte, all_append, weaken, signed_word, sign_word, widest_fits, far_fits, wider_fits, register_word, register_tail}
 use Rattle.disasm.proofs.Numbers.{whole, hex_value, hex_all}
-use Rattle.disasm.proofs.Lines.{fits_again}
 use Rattle.source_form.specs.declared.words.Form.{Form}
 use Rattle.source_form.specs.declared.words.Form.TheVariants.{Plain, Jump, Call, Wide}
-use Rattle.source_form.specs.SourceText.{statement, parts_at, before_mark, first_word, after_first_word, is_heading, form_of, is_number_byte, begins_number, wide_value, number_in, number_meaning, last_meaning, then_told, operands_meaning, instruction_meaning, words_meaning, text_meaning, line_meaning}
+use Rattle.source_form.specs.SourceText.{parts_at, is_heading, form_of, is_number_byte, begins_number, number_in, number_meaning, last_meaning, operands_meaning}
 use Rattle.source_form.proofs.NumberReading.{number_again}
-use Rattle.source_form.proofs.Trimming.{both, other, before_none, before_first_one, no_mark, one_part, first_part, ascii_byte, solid, EndsWell, ends_word, ends_before, some_bytes, no_colon, begin_kept, IsTrimmed, trim_same, trim_space}
+use Rattle.source_form.proofs.Trimming.{both, other, no_mark, one_part, first_part, ascii_byte, solid, EndsWell, ends_word, ends_before, begin_kept, IsTrimmed, trim_same, trim_space}
 
 -- ---- bytes
 
@@ -52,7 +48,7 @@ exact_byte b = leb 43 b && (not (eqb b 44) && (not (eqb b 58) && ltb b 128))
 
 -- a byte of a line
 abbrev pub line_byte : ℕ → Bool
-line_byte b = leb 32 b && (not (eqb b 35) && ltb b 128)
+line_byte b = leb 32 b && (not (eqb b 35) && (not (eqb b 58) && ltb b 128))
 
 to_solid : (b : ℕ) → exact_byte b ≡ true → solid b ≡ true
 to_solid b e = grind (arith, nat_tests)
@@ -68,6 +64,9 @@ not_feed b e = grind (arith, nat_tests)
 
 pub not_sharp : (b : ℕ) → line_byte b ≡ true → other 35 b ≡ true
 not_sharp b e = grind (arith, nat_tests)
+
+pub not_colon : (b : ℕ) → line_byte b ≡ true → other 58 b ≡ true
+not_colon b e = grind (arith, nat_tests)
 
 pub not_tab : (b : ℕ) → exact_byte b ≡ true → other 9 b ≡ true
 not_tab b e = grind (arith, nat_tests)

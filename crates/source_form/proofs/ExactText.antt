@@ -1,5 +1,5 @@
 -- An exact text means itself in the source form.
-use Rattle.std.proofs.Common.{◌≡◌, ◌∙◌, ℕ, suc, ◌+◌, ◌<◌, ◌^◌, Bool, true, false, cond, eqb, List, [], ◌∷◌, ◌++◌, length, map, drop, refl, sym, ap, arith, append_assoc, Ok}
+use Rattle.std.proofs.Common.{◌≡◌, ◌∙◌, ℕ, ◌+◌, ◌<◌, ◌^◌, Bool, true, false, cond, eqb, List, [], ◌∷◌, ◌++◌, length, map, drop, refl, sym, ap, arith, append_assoc, Ok}
 use Rattle.std.specs.Prelude.{codes}
 use Rattle.std.specs.List.{AllByRecursion, flat_map}
 use Rattle.std.specs.Fmt.{decimal}
@@ -14,7 +14,7 @@ use Rattle.ebpf_decode.specs.declared.map.MapKind.TheVariants.{Hash, Array, LruH
 use Rattle.ebpf_decode.specs.declared.version.Version.{Version}
 use Rattle.ebpf_decode.specs.declared.version.Version.TheVariants.{V1, V2}
 use Rattle.ebpf_decode.specs.InstructionEncoding.{FieldsFit}
-use Rattle.ebpf_decode.specs.ImageContents.{Contents, IsAllowedMap}
+use Rattle.ebpf_decode.specs.ImageContents.{Contents}
 use Rattle.disasm.specs.declared.head.Head.{Head}
 use Rattle.disasm.specs.declared.operand.Operands.{Operands}
 use Rattle.disasm.specs.declared.operand.Operands.TheVariants.{Zero, One, Two, Three}
@@ -24,10 +24,10 @@ use Rattle.disasm.specs.LineReading.{OperandsFit}
 use Rattle.disasm.proofs.Bytes.{all_bytes, all_append, weaken, decimal_word}
 use Rattle.disasm.proofs.Lines.{fits_again}
 use Rattle.disasm.proofs.Texts.{all_fit}
-use Rattle.source_form.specs.SourceText.{statement, statements_of, parts_at, before_mark, first_word, after_first_word, is_heading, form_of, operands_meaning, instruction_meaning, words_meaning, line_meaning, on_line, meaning_from, source_meaning}
+use Rattle.source_form.specs.SourceText.{statement, parts_at, before_mark, first_word, after_first_word, is_heading, instruction_meaning, words_meaning, line_meaning, meaning_from, source_meaning}
 use Rattle.source_form.specs.SourceImage.{IsSource}
-use Rattle.source_form.proofs.Trimming.{other, before_none, before_first_one, first_part, EndsWell, ends_before, some_bytes, no_colon, begin_kept, IsTrimmed, trim_same, trim_space}
-use Rattle.source_form.proofs.ExactLines.{line_byte, IsExact, head_form, exact_line, to_ascii, not_feed, not_sharp, not_tab, not_space, IsFirstWord, is_first_word, trimmed_word, begin_front, IsList, texts_of, one_is_list, two_is_list, three_is_list, number_exact, Stand, stand, operands_mean}
+use Rattle.source_form.proofs.Trimming.{other, before_none, before_first_one, first_part, EndsWell, ends_before, some_bytes, no_mark, begin_kept, IsTrimmed, trim_same, trim_space}
+use Rattle.source_form.proofs.ExactLines.{line_byte, IsExact, head_form, exact_line, to_ascii, not_feed, not_sharp, not_colon, not_tab, not_space, is_first_word, trimmed_word, begin_front, IsList, one_is_list, two_is_list, three_is_list, number_exact, Stand, stand, operands_mean}
 
 -- ---- one line
 
@@ -44,7 +44,7 @@ text_line : (line : List ℕ) → all_bytes line_byte line ≡ true → IsTrimme
 text_line line bytes trimmed words = record {
   one_line = weaken line_byte (other 10) not_feed line bytes;
   whole = ap trim (before_none 35 line (weaken line_byte (other 35) not_sharp line bytes)) ∙ trim_same line trimmed;
-  means = λ statements place. rw (some_is (length line) (some_bytes line trimmed.ends), no_colon line trimmed.ends, words statements place) refl;
+  means = λ statements place. rw (no_mark 58 line (weaken line_byte (other 58) not_colon line bytes), some_is (length line) (some_bytes line trimmed.ends), words statements place) refl;
 }
 
 -- ---- words

@@ -1,15 +1,14 @@
 -- Texts that begin and end with no white space are left as they are by `trim`; and where marks stand in a text.
-use Rattle.std.proofs.Common.{◌≡◌, ◌∙◌, ℕ, zero, suc, ◌+◌, ◌≤◌, ◌<◌, Bool, true, false, ◌&&◌, cond, not, leb, ltb, eqb, List, [], ◌∷◌, ◌++◌, length, take, drop, get_or, refl, sym, ap, arith, append_assoc, length-append}
+use Rattle.std.proofs.Common.{◌≡◌, ◌∙◌, ℕ, zero, suc, ◌+◌, ◌<◌, Bool, true, false, ◌&&◌, cond, not, ltb, eqb, List, [], ◌∷◌, ◌++◌, length, take, get_or, refl, sym, ap, arith, append_assoc, length-append}
 use Rattle.std.specs.Char.{is_whitespace}
-use Rattle.std.specs.List.{slice_split, onto_first, position_or_len, ends_with}
-use Rattle.std.specs.Str.{IsAscii, chars, trim, trim_start, trim_end, skip_leading_whitespace, drop_trailing_whitespace, encode_utf8_all}
+use Rattle.std.specs.List.{onto_first, position_or_len}
+use Rattle.std.specs.Str.{IsAscii, trim, trim_start, trim_end, skip_leading_whitespace, drop_trailing_whitespace, encode_utf8_all}
 use Rattle.std.proofs.lemmas.Bool.Decides.{nat_tests, Decides-eqb}
-use Rattle.std.proofs.lemmas.List.Prefix.{end_rest}
 use Rattle.std.proofs.lemmas.List.Splits.{slice_split-cons_yes, slice_split-cons_no}
 use Rattle.std.proofs.lemmas.Str.{chars-IsAscii, encodes-IsAscii}
 use Rattle.std.proofs.lemmas.Str.Ascii.{IsAscii-from_reads}
 use Rattle.disasm.proofs.Bytes.{all_bytes}
-use Rattle.source_form.specs.SourceText.{parts_at, before_mark, has_mark, finishes}
+use Rattle.source_form.specs.SourceText.{parts_at, before_mark, has_mark}
 
 pub both : (a b : Bool) → (a && b) ≡ true → (a ≡ true) × (b ≡ true)
 both true b e = (refl, e)
@@ -95,9 +94,9 @@ is_ascii xs a = IsAscii-from_reads xs (length xs) (omega arith) (reads_ascii xs 
 
 -- ---- the end of a text
 
--- neither white space nor a colon
+-- no white space
 abbrev pub solid : ℕ → Bool
-solid b = not (is_whitespace b) && other 58 b
+solid b = not (is_whitespace b)
 
 -- the last byte is solid
 pub record EndsWell (xs : List ℕ) : Type 0 where
@@ -121,7 +120,7 @@ ends_before xs ys ends = record {
 }
 
 not_white : (b : ℕ) → solid b ≡ true → is_whitespace b ≡ false
-not_white b e = by_test (is_whitespace b) (both (not (is_whitespace b)) (other 58 b) e).0
+not_white b e = by_test (is_whitespace b) e
   where
     by_test : (test : Bool) → not test ≡ true → test ≡ false
     by_test true e = absurd cc
@@ -147,11 +146,6 @@ kept_to (x ∷ front) last good =
 
 pub end_kept : (xs : List ℕ) → EndsWell xs → drop_trailing_whitespace xs ≡ xs
 end_kept xs ends = ap drop_trailing_whitespace ends.is ∙ kept_to ends.front ends.last ends.good ∙ sym ends.is
-
-pub no_colon : (xs : List ℕ) → EndsWell xs → finishes xs (58 ∷ []) ≡ false
-no_colon xs ends =
-    let apart : eqb 58 ends.last ≡ false = grind (arith, nat_tests, both (not (is_whitespace ends.last)) (other 58 ends.last) ends.good) in
-    rw (end_rest xs (ends.last ∷ []) ends.front ends.is) (rw apart refl)
 
 -- ---- the beginning of a text
 

@@ -55,13 +55,20 @@ first_word s = before_mark 9 (before_mark 32 s)
 abbrev pub after_first_word : List ℕ → List ℕ
 after_first_word s = trim (drop (length (first_word s)) s)
 
--- a label ends with a colon
-abbrev pub is_label : List ℕ → Bool
-is_label s = finishes s (codes ":")
+-- a statement is a label and its colon, then an instruction or a heading; each of the two may be missing
+abbrev pub has_label : List ℕ → Bool
+has_label s = has_mark 58 s
 
--- the statement is a line of the exact text
+abbrev pub label_of : List ℕ → List ℕ
+label_of s = before_mark 58 s
+
+-- the instruction or heading
+abbrev pub words_of : List ℕ → List ℕ
+words_of s = if has_label s then trim (after_mark 58 s) else s
+
+-- the statement means a line of the exact text
 abbrev pub has_text : List ℕ → Bool
-has_text s = not (length s == 0) && not (is_label s)
+has_text s = not (length (words_of s) == 0)
 
 -- the first line and those of maps stand as they are
 abbrev pub is_heading : List ℕ → Bool
@@ -83,16 +90,16 @@ slots_of_word word =
     else (if bytes_eq word (codes "lddw") || (bytes_eq word (codes "ldmap") || bytes_eq word (codes "ldval")) then 2 else 1)
 
 abbrev pub slots_of : List ℕ → ℕ
-slots_of s = if has_text s then slots_of_word (first_word s) else 0
+slots_of s = if has_text s then slots_of_word (first_word (words_of s)) else 0
 
 -- the slot of the first instruction from a line on
 abbrev pub slot_at : List (List ℕ) → ℕ → ℕ
 slot_at statements place = sum_by slots_of (take place statements)
 
 abbrev pub is_label_of : List ℕ → List ℕ → Bool
-is_label_of name s = is_label s && bytes_eq (all_but_last s) name
+is_label_of name s = has_label s && bytes_eq (label_of s) name
 
--- the first line that is the label of this name
+-- the first line that has the label of this name
 abbrev pub label_place : List (List ℕ) → List ℕ → Option ℕ
 label_place statements name = position (is_label_of name) statements
 
@@ -233,11 +240,16 @@ words_meaning statements place s = if is_heading (first_word s) then Ok s else i
 abbrev pub text_meaning : List (List ℕ) → ℕ → List ℕ → Result (List ℕ) Problem
 text_meaning statements place s = then_told (words_meaning statements place s) (λ text. Ok (text ++ codes "\n"))
 
+-- the label in front of an instruction, which means nothing where it may stand there
+abbrev pub front_meaning : List (List ℕ) → ℕ → List ℕ → Result (List ℕ) Problem
+front_meaning statements place s = if has_label s then label_meaning statements place (label_of s) else Ok []
+
+abbrev pub rest_meaning : List (List ℕ) → ℕ → List ℕ → Result (List ℕ) Problem
+rest_meaning statements place words = if length words == 0 then Ok [] else text_meaning statements place words
+
 -- what the statement of the line at a place means
 abbrev pub line_meaning : List (List ℕ) → ℕ → List ℕ → Result (List ℕ) Problem
-line_meaning statements place s =
-    if length s == 0 then Ok []
-    else (if is_label s then label_meaning statements place (all_but_last s) else text_meaning statements place s)
+line_meaning statements place s = then_told (front_meaning statements place s) (λ _. rest_meaning statements place (words_of s))
 
 -- ---- sources
 

@@ -7,7 +7,7 @@ use crate::images::image_note;
 use crate::lines::{parts_at, statements_of};
 use crate::meaning::line_text;
 use crate::numbers::number_text;
-use crate::words::{Form, after_first_word, first_word, form_of, is_heading};
+use crate::words::{Form, after_first_word, first_word, form_of, is_heading, label_of, words_of};
 use disasm::is_first_word;
 use std::alloc::{AllocError, Global};
 
@@ -198,28 +198,30 @@ fn problem_text(
 ) -> Result<String, AllocError>
     requires { place ≤ length statements.now }
 {
-    let word = first_word(statement);
-    let last = last_operand(after_first_word(statement));
+    let label = label_of(statement).unwrap_or("");
+    let words = words_of(statement);
+    let word = first_word(words);
+    let last = last_operand(after_first_word(words));
     match problem {
         Problem::NoNumber | Problem::NoSpelling if word.ends_with(":") => format!(in alloc;
-            "\"{word}\": a label stands on a line of its own"
+            "\"{word}\": a line has one label at most"
         ),
-        Problem::LabelTwice => format!(in alloc; "\"{statement}\": an earlier line is this label"),
+        Problem::LabelTwice => format!(in alloc; "\"{label}:\": an earlier line has this label"),
         Problem::NoLabelName => format!(in alloc;
-            "\"{statement}\": expected a label's name before the colon: letters, digits, _ and ., no digit first"
+            "\"{label}:\": expected a label's name before the colon: letters, digits, _ and ., no digit first"
         ),
         Problem::UnknownLabel => format!(in alloc;
-            "\"{last}\": no line is the label {last}: (a distance has its sign, as +3)"
+            "\"{last}\": no line has the label {last}: (a distance has its sign, as +3)"
         ),
         Problem::UnknownHelper => format!(in alloc;
             "\"{last}\": no such helper: expected a number, map_lookup_elem, map_update_elem, map_delete_elem, ktime_get_ns, get_smp_processor_id or xdp_adjust_head"
         ),
         Problem::NoNumber => format!(in alloc;
             "\"{}\": no number: expected decimal digits, or 0x and hexadecimal digits, of 64 bits at most",
-            no_number(alloc, statement)?
+            no_number(alloc, words)?
         ),
         Problem::NoSpelling => match line_text(alloc, statements, place, statement) {
-            Ok(exact) => wrong_spelling(alloc, statement, exact.trim()),
+            Ok(exact) => wrong_spelling(alloc, words, exact.trim()),
             Err(_) => String::from_str(alloc, "no right spelling of the text form"),
         },
     }

@@ -14,7 +14,7 @@ pub enum Problem {
     LabelTwice,
     /// What stands before the colon is no name.
     NoLabelName,
-    /// No line is the label to which the jump goes.
+    /// No line has the label to which the jump goes.
     UnknownLabel,
     /// No helper has the name that is called.
     UnknownHelper,

@@ -1,7 +1,7 @@
 //! Which line of a source no image has, in words.
 
 use crate::labels::slots_of;
-use crate::words::first_word;
+use crate::words::{first_word, words_of};
 use ebpf_decode::DecodeFault;
 use std::alloc::{AllocError, Global};
 
@@ -11,7 +11,7 @@ fn line_of_map(statements: &[&str], map: usize) -> usize {
     let mut before = 0usize;
     'lines: for statement in statements {
         line = line.saturating_add(1);
-        if first_word(*statement) == "map" {
+        if first_word(words_of(*statement)) == "map" {
             if before >= map {
                 return line;
             }

@@ -2,12 +2,13 @@
 
 ghost use Rattle.std.specs.Prelude.{◌≡◌, ◌≤◌, ◌<◌, ◌+◌, ◌*◌, ◌^◌, IfOk, IfErr, Ok, map, length, string_bytes, List, ℕ};
 ghost use Rattle.disasm.specs.AssemblyText.{with_sign};
-ghost use Rattle.source_form.specs.SourceText.{slots_of_word, slots_of, slot_at, is_label_of, label_place, distance, target_told, target_meaning, is_name, label_told, label_meaning};
+ghost use Rattle.source_form.specs.SourceText.{slots_of_word, slots_of, slot_at, distance, target_told, target_meaning};
+ghost use Rattle.source_form.specs.SourceText.{is_label_of, label_place, is_name, label_told, label_meaning, front_meaning};
 ghost use Rattle.source_form.specs.Told.{IsToldBy, label_answer};
 
 use crate::fault::{LineFault, Problem};
 use crate::numbers::number_text;
-use crate::words::{begins_number, first_word, has_text, is_heading, is_name, without_end};
+use crate::words::{begins_number, first_word, has_text, is_heading, is_name, label_of, words_of};
 use std::alloc::{AllocError, Global};
 
 fn slots_of_word(word: &str) -> u128
@@ -30,7 +31,7 @@ pub(crate) fn slots_of(statement: &str) -> u128
     ensures few { result ≤ 2 }
 {
     if has_text(statement) {
-        slots_of_word(first_word(statement))
+        slots_of_word(first_word(words_of(statement)))
     } else {
         0
     }
@@ -54,13 +55,13 @@ fn slot_at(statements: &[&str], place: usize) -> u128
 fn is_label_of(name: &str, statement: &str) -> bool
     ensures { result ≡ is_label_of name.now statement.now }
 {
-    match without_end(statement, ":") {
-        Some(front) => front == name,
+    match label_of(statement) {
+        Some(label) => label == name,
         None => false,
     }
 }
 
-/// The first line that is the label of this name.
+/// The first line that has the label of this name.
 fn label_place(statements: &[&str], name: &str) -> Option<usize>
     ensures { result ≡ label_place (map (λ line. line.now) statements.now) name.now }
 {
@@ -104,7 +105,7 @@ pub(crate) fn target_text(
 }
 
 /// Whether a label may stand on a line: its name is one, and no earlier line has it.
-pub(crate) fn label_problem(statements: &[&str], place: usize, name: &str) -> Option<Problem>
+fn label_problem(statements: &[&str], place: usize, name: &str) -> Option<Problem>
     ensures { (label_meaning (map (λ line. line.now) statements.now) place name.now) ≡ label_answer result }
 {
     if !is_name(name) {
@@ -118,6 +119,16 @@ pub(crate) fn label_problem(statements: &[&str], place: usize, name: &str) -> Op
                 Some(Problem::LabelTwice)
             }
         }
+        None => None,
+    }
+}
+
+/// What is wrong with the label of the line at a place, if it has one.
+pub(crate) fn front_problem(statements: &[&str], place: usize, statement: &str) -> Option<Problem>
+    ensures { (front_meaning (map (λ line. line.now) statements.now) place statement.now) ≡ label_answer result }
+{
+    match label_of(statement) {
+        Some(name) => label_problem(statements, place, name),
         None => None,
     }
 }

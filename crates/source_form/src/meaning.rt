@@ -1,14 +1,14 @@
 //! The exact text that a source means.
 
 ghost use Rattle.std.specs.Prelude.{◌≡◌, ◌≤◌, ◌<◌, ◌^◌, [], IfOk, IfErr, Ok, map, length, string_bytes, List, ℕ};
-ghost use Rattle.source_form.specs.SourceText.{words_meaning, text_meaning, line_meaning, meaning_from, source_meaning};
+ghost use Rattle.source_form.specs.SourceText.{words_meaning, text_meaning, rest_meaning, line_meaning, meaning_from, source_meaning};
 ghost use Rattle.source_form.specs.Told.{IsToldBy, IsToldOf, fault_at};
 
 use crate::fault::{LineFault, SourceFault};
-use crate::labels::label_problem;
+use crate::labels::front_problem;
 use crate::lines::statements_of;
 use crate::operands::instruction_text;
-use crate::words::{after_first_word, first_word, is_heading, label_name};
+use crate::words::{after_first_word, first_word, is_heading, words_of};
 use std::alloc::{AllocError, Global};
 
 fn words_text(
@@ -44,6 +44,24 @@ fn text_of(
     Ok(out)
 }
 
+/// What the words behind a label mean, if there are any.
+fn rest_text(
+    alloc: Global,
+    statements: &[&str],
+    place: usize,
+    words: &str,
+) -> Result<String, LineFault>
+    requires { place ≤ length statements.now }
+    ensures ok { IfOk result (λ text. rest_meaning (map (λ line. line.now) statements.now) place words.now ≡ Ok (string_bytes text)) }
+    ensures err { IfErr result (λ fault. IsToldBy (rest_meaning (map (λ line. line.now) statements.now) place words.now) fault) }
+{
+    if words.is_empty() {
+        Ok(String::new(alloc))
+    } else {
+        text_of(alloc, statements, place, words)
+    }
+}
+
 /// What the statement of the line at a place means.
 pub(crate) fn line_text(
     alloc: Global,
@@ -55,15 +73,9 @@ pub(crate) fn line_text(
     ensures ok { IfOk result (λ text. line_meaning (map (λ line. line.now) statements.now) place statement.now ≡ Ok (string_bytes text)) }
     ensures err { IfErr result (λ fault. IsToldBy (line_meaning (map (λ line. line.now) statements.now) place statement.now) fault) }
 {
-    if statement.is_empty() {
-        return Ok(String::new(alloc));
-    }
-    match label_name(statement) {
-        None => text_of(alloc, statements, place, statement),
-        Some(name) => match label_problem(statements, place, name) {
-            Some(problem) => Err(LineFault::Bad(problem)),
-            None => Ok(String::new(alloc)),
-        },
+    match front_problem(statements, place, statement) {
+        Some(problem) => Err(LineFault::Bad(problem)),
+        None => rest_text(alloc, statements, place, words_of(statement)),
     }
 }
 

@@ -2,7 +2,9 @@
 
 ghost use Rattle.std.specs.Prelude.{◌≡◌, ◌<◌, IfSome, IfNone, true, false, slice_index_or, length};
 ghost use Rattle.std.specs.List.{list_all};
-ghost use Rattle.source_form.specs.SourceText.{before_mark, finishes, all_but_last, statement, first_word, after_first_word, is_label, has_text, is_heading, form_of, is_number_byte, begins_number, is_name, is_name_byte};
+ghost use Rattle.source_form.specs.SourceText.{before_mark, finishes, all_but_last, statement, first_word, after_first_word};
+ghost use Rattle.source_form.specs.SourceText.{has_label, label_of, words_of, has_text, is_heading, form_of};
+ghost use Rattle.source_form.specs.SourceText.{is_number_byte, begins_number, is_name, is_name_byte};
 
 /// What the last operand of an instruction may be.
 #[derive(Clone, Copy, Debug, PartialEq, Eq)]
@@ -64,19 +66,32 @@ pub(crate) fn without_end<'a>(text: &'a str, mark: &str) -> Option<&'a str>
     }
 }
 
-/// The name of the label that the statement is.
-pub(crate) fn label_name(statement: &str) -> Option<&str>
-    ensures some { IfSome result (λ name. (name.now ≡ all_but_last statement.now) × (is_label statement.now ≡ true)) }
-    ensures none { IfNone result (is_label statement.now ≡ false) }
+/// The name of the statement's label: what stands before its colon.
+pub(crate) fn label_of(statement: &str) -> Option<&str>
+    ensures some { IfSome result (λ name. (name.now ≡ label_of statement.now) × (has_label statement.now ≡ true)) }
+    ensures none { IfNone result (has_label statement.now ≡ false) }
 {
-    without_end(statement, ":")
+    match statement.split_once(':') {
+        Some((name, _)) => Some(name),
+        None => None,
+    }
 }
 
-/// Whether the statement is a line of the exact text.
+/// The instruction or heading of the statement, without its label.
+pub(crate) fn words_of(statement: &str) -> &str
+    ensures { result.now ≡ words_of statement.now }
+{
+    match statement.split_once(':') {
+        Some((_, words)) => words.trim(),
+        None => statement,
+    }
+}
+
+/// Whether the statement means a line of the exact text.
 pub(crate) fn has_text(statement: &str) -> bool
     ensures { result ≡ has_text statement.now }
 {
-    !statement.is_empty() && label_name(statement).is_none()
+    !words_of(statement).is_empty()
 }
 
 /// Whether the word begins the first line or that of a map.

@@ -1,5 +1,6 @@
 -- The shipped program: the steering rule over the six maps of steering, as a list of blocks. A jump leaves its block only for the start of a later one.
-use Rattle.std.specs.Prelude.{ℕ, zero, suc, ℤ, pos, negsuc, List, [], ◌∷◌, ◌++◌}
+use Rattle.std.specs.Prelude.{ℕ, zero, suc, ℤ, pos, negsuc, List, [], ◌∷◌, ◌++◌, map}
+use Rattle.std.specs.List.{flat_map}
 use Rattle.isa.specs.declared.operation.Register.TheVariants.{R0, R1, R2, R3, R4, R6, R7, R8, R9, R10}
 use Rattle.isa.specs.declared.operation.Size.TheVariants.{U8, U16, U32, U64}
 use Rattle.isa.specs.declared.operation.Source.TheVariants.{Imm, Reg}
@@ -112,53 +113,26 @@ tracking_block =
     Alu Bits64 Rsh R3 (Imm (pos 32)) ∷
     JumpIf Bits64 Eq R3 (Imm (pos 1)) (pos 77) ∷ []
 
+-- the byte at an offset on the stack goes into the hash
+abbrev pub hash_byte : ℤ → List Insn
+hash_byte offset =
+    Ldx U8 R3 R10 offset ∷
+    Alu Bits64 Xor R0 (Reg R3) ∷
+    Alu Bits64 Mul R0 (Reg R4) ∷ []
+
+-- where the bytes of the flow's key stand that may be other than zero
+abbrev pub key_offsets : List ℤ
+key_offsets = map minus (16 ∷ 15 ∷ 14 ∷ 13 ∷ 12 ∷ 11 ∷ 10 ∷ 9 ∷ 8 ∷ 7 ∷ 6 ∷ 5 ∷ 4 ∷ [])
+
 -- the flow's hash: FNV-1a of the sixteen bytes of its key, the last three of them zero
 abbrev pub hash_block : List Insn
 hash_block =
     Lddw R0 0xcbf29ce484222325 ∷
     Lddw R4 0x00000100000001b3 ∷
-    Ldx U8 R3 R10 (minus 16) ∷
-    Alu Bits64 Xor R0 (Reg R3) ∷
+    (flat_map hash_byte key_offsets
+    ++ Alu Bits64 Mul R0 (Reg R4) ∷
     Alu Bits64 Mul R0 (Reg R4) ∷
-    Ldx U8 R3 R10 (minus 15) ∷
-    Alu Bits64 Xor R0 (Reg R3) ∷
-    Alu Bits64 Mul R0 (Reg R4) ∷
-    Ldx U8 R3 R10 (minus 14) ∷
-    Alu Bits64 Xor R0 (Reg R3) ∷
-    Alu Bits64 Mul R0 (Reg R4) ∷
-    Ldx U8 R3 R10 (minus 13) ∷
-    Alu Bits64 Xor R0 (Reg R3) ∷
-    Alu Bits64 Mul R0 (Reg R4) ∷
-    Ldx U8 R3 R10 (minus 12) ∷
-    Alu Bits64 Xor R0 (Reg R3) ∷
-    Alu Bits64 Mul R0 (Reg R4) ∷
-    Ldx U8 R3 R10 (minus 11) ∷
-    Alu Bits64 Xor R0 (Reg R3) ∷
-    Alu Bits64 Mul R0 (Reg R4) ∷
-    Ldx U8 R3 R10 (minus 10) ∷
-    Alu Bits64 Xor R0 (Reg R3) ∷
-    Alu Bits64 Mul R0 (Reg R4) ∷
-    Ldx U8 R3 R10 (minus 9) ∷
-    Alu Bits64 Xor R0 (Reg R3) ∷
-    Alu Bits64 Mul R0 (Reg R4) ∷
-    Ldx U8 R3 R10 (minus 8) ∷
-    Alu Bits64 Xor R0 (Reg R3) ∷
-    Alu Bits64 Mul R0 (Reg R4) ∷
-    Ldx U8 R3 R10 (minus 7) ∷
-    Alu Bits64 Xor R0 (Reg R3) ∷
-    Alu Bits64 Mul R0 (Reg R4) ∷
-    Ldx U8 R3 R10 (minus 6) ∷
-    Alu Bits64 Xor R0 (Reg R3) ∷
-    Alu Bits64 Mul R0 (Reg R4) ∷
-    Ldx U8 R3 R10 (minus 5) ∷
-    Alu Bits64 Xor R0 (Reg R3) ∷
-    Alu Bits64 Mul R0 (Reg R4) ∷
-    Ldx U8 R3 R10 (minus 4) ∷
-    Alu Bits64 Xor R0 (Reg R3) ∷
-    Alu Bits64 Mul R0 (Reg R4) ∷
-    Alu Bits64 Mul R0 (Reg R4) ∷
-    Alu Bits64 Mul R0 (Reg R4) ∷
-    Alu Bits64 Mul R0 (Reg R4) ∷ []
+    Alu Bits64 Mul R0 (Reg R4) ∷ [])
 
 -- the owner of the flow's slot, if it is up, is noted for the flow
 abbrev pub ring_block : ℕ → List Insn

@@ -4,8 +4,8 @@
 //! packet's length, later the chosen backend's record. On the stack, below its upper end: the flow's key (16 bytes at -16), the service's key (8 at -24), an index (4 at -28), the
 //! tunnel's record (the first 16 bytes at -48), the chosen backend's number (8 at -56).
 
-ghost use Rattle.std.specs.Prelude.{◌≡◌, ◌≤◌};
-ghost use Rattle.steer.specs.ShippedProgram.{ring_block};
+ghost use Rattle.std.specs.Prelude.{◌≡◌, ◌≤◌, ◌++◌, OnOk};
+ghost use Rattle.steer.specs.ShippedProgram.{hash_block, hash_byte, ring_block};
 
 use ebpf_decode::Insn;
 use ebpf_decode::Insn::{
@@ -20,6 +20,7 @@ use isa::Source::{Imm, Reg};
 use isa::SwapWidth::Swap16;
 use isa::Test::{Eq, Gt, Lt, Ne, Set};
 use isa::Width::{Bits32, Bits64};
+use std::alloc::AllocError;
 
 /// Has the frame a flow? An unfragmented IPv4 datagram without options, of TCP or UDP, whole in the frame. Else it passes.
 #[rattlefmt::skip]
@@ -118,54 +119,46 @@ pub(crate) const TRACKING: [Insn; 17] = [
     JumpIf { width: Bits64, test: Eq, dst: R3, source: Imm(1), distance: 77 }, // tunnel
 ];
 
-/// R0 is the flow's hash: FNV-1a of the sixteen bytes of its key, the last three of which are zero.
+/// R0 is the basis of FNV-1a, and R4 its prime.
 #[rattlefmt::skip]
-pub(crate) const HASH: [Insn; 44] = [
+const HASH_START: [Insn; 2] = [
     Lddw { dst: R0, value: 0xcbf29ce484222325 },
     Lddw { dst: R4, value: 0x00000100000001b3 },
-    Ldx { size: U8, dst: R3, src: R10, offset: -16 },
-    Alu { width: Bits64, op: Xor, dst: R0, source: Reg(R3) },
-    Alu { width: Bits64, op: Mul, dst: R0, source: Reg(R4) },
-    Ldx { size: U8, dst: R3, src: R10, offset: -15 },
-    Alu { width: Bits64, op: Xor, dst: R0, source: Reg(R3) },
-    Alu { width: Bits64, op: Mul, dst: R0, source: Reg(R4) },
-    Ldx { size: U8, dst: R3, src: R10, offset: -14 },
-    Alu { width: Bits64, op: Xor, dst: R0, source: Reg(R3) },
-    Alu { width: Bits64, op: Mul, dst: R0, source: Reg(R4) },
-    Ldx { size: U8, dst: R3, src: R10, offset: -13 },
-    Alu { width: Bits64, op: Xor, dst: R0, source: Reg(R3) },
-    Alu { width: Bits64, op: Mul, dst: R0, source: Reg(R4) },
-    Ldx { size: U8, dst: R3, src: R10, offset: -12 },
-    Alu { width: Bits64, op: Xor, dst: R0, source: Reg(R3) },
-    Alu { width: Bits64, op: Mul, dst: R0, source: Reg(R4) },
-    Ldx { size: U8, dst: R3, src: R10, offset: -11 },
-    Alu { width: Bits64, op: Xor, dst: R0, source: Reg(R3) },
-    Alu { width: Bits64, op: Mul, dst: R0, source: Reg(R4) },
-    Ldx { size: U8, dst: R3, src: R10, offset: -10 },
-    Alu { width: Bits64, op: Xor, dst: R0, source: Reg(R3) },
-    Alu { width: Bits64, op: Mul, dst: R0, source: Reg(R4) },
-    Ldx { size: U8, dst: R3, src: R10, offset: -9 },
-    Alu { width: Bits64, op: Xor, dst: R0, source: Reg(R3) },
-    Alu { width: Bits64, op: Mul, dst: R0, source: Reg(R4) },
-    Ldx { size: U8, dst: R3, src: R10, offset: -8 },
-    Alu { width: Bits64, op: Xor, dst: R0, source: Reg(R3) },
-    Alu { width: Bits64, op: Mul, dst: R0, source: Reg(R4) },
-    Ldx { size: U8, dst: R3, src: R10, offset: -7 },
-    Alu { width: Bits64, op: Xor, dst: R0, source: Reg(R3) },
-    Alu { width: Bits64, op: Mul, dst: R0, source: Reg(R4) },
-    Ldx { size: U8, dst: R3, src: R10, offset: -6 },
-    Alu { width: Bits64, op: Xor, dst: R0, source: Reg(R3) },
-    Alu { width: Bits64, op: Mul, dst: R0, source: Reg(R4) },
-    Ldx { size: U8, dst: R3, src: R10, offset: -5 },
-    Alu { width: Bits64, op: Xor, dst: R0, source: Reg(R3) },
-    Alu { width: Bits64, op: Mul, dst: R0, source: Reg(R4) },
-    Ldx { size: U8, dst: R3, src: R10, offset: -4 },
-    Alu { width: Bits64, op: Xor, dst: R0, source: Reg(R3) },
-    Alu { width: Bits64, op: Mul, dst: R0, source: Reg(R4) },
-    Alu { width: Bits64, op: Mul, dst: R0, source: Reg(R4) }, // the 14th byte is zero
-    Alu { width: Bits64, op: Mul, dst: R0, source: Reg(R4) }, // the 15th
-    Alu { width: Bits64, op: Mul, dst: R0, source: Reg(R4) }, // the 16th
 ];
+
+/// Where the bytes of the flow's key stand on the stack that may be other than zero.
+const KEY_OFFSETS: [i16; 13] = [-16, -15, -14, -13, -12, -11, -10, -9, -8, -7, -6, -5, -4];
+
+/// The byte at an offset goes into the hash.
+#[rattlefmt::skip]
+fn hash_byte(offset: i16) -> [Insn; 3]
+    ensures { result ≡ hash_byte offset }
+{
+    [
+        Ldx { size: U8, dst: R3, src: R10, offset },
+        Alu { width: Bits64, op: Xor, dst: R0, source: Reg(R3) },
+        Alu { width: Bits64, op: Mul, dst: R0, source: Reg(R4) },
+    ]
+}
+
+/// A byte that is zero goes into the hash.
+#[rattlefmt::skip]
+const HASH_ZERO: [Insn; 1] = [
+    Alu { width: Bits64, op: Mul, dst: R0, source: Reg(R4) },
+];
+
+/// R0 is the flow's hash: FNV-1a of the sixteen bytes of its key, the last three of which are zero.
+pub(crate) fn put_hash(code: &mut Vec<Insn>) -> Result<(), AllocError>
+    ensures { OnOk result (code.new.items ≡ code.old.items ++ hash_block) }
+{
+    code.extend_from_slice(&HASH_START)?;
+    'bytes: for offset in &KEY_OFFSETS {
+        code.extend_from_slice(&hash_byte(*offset))?;
+    }
+    code.extend_from_slice(&HASH_ZERO)?;
+    code.extend_from_slice(&HASH_ZERO)?;
+    code.extend_from_slice(&HASH_ZERO)
+}
 
 /// The owner of the flow's slot, if it is up, else the frame is dropped. It is noted for the flow, unless the service is without tracking.
 #[rattlefmt::skip]

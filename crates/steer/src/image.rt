@@ -41,7 +41,7 @@ fn code(alloc: Global, size: u32) -> Result<Vec<Insn>, SteerFault>
     code.extend_from_slice(&blocks::VIP)?;
     code.extend_from_slice(&blocks::GUARDS)?;
     code.extend_from_slice(&blocks::TRACKING)?;
-    code.extend_from_slice(&blocks::HASH)?;
+    blocks::put_hash(&mut code)?;
     code.extend_from_slice(&blocks::ring_block(size))?;
     code.extend_from_slice(&blocks::TUNNEL)?;
     code.extend_from_slice(&blocks::CHECKSUM)?;

@@ -29,13 +29,16 @@ fn first_run(rt: HostRuntime) -> Result<(), Fail> {
 
 // A line of a source, behind a first line, and the line of the exact text.
 #[rattlefmt::skip]
-const LINES: [(&str, &str); 24] = [
+const LINES: [(&str, &str); 27] = [
     ("add r1, -0x5",              "add r1, -5\n"),
     ("\tmov\t r1 ,\tr2  # moved", "mov r1, r2\n"),
     ("exit#",                     "exit\n"),
     ("#exit",                     ""),
     ("",                          ""),
     ("name.1_a:",                 ""),
+    ("drop: mov r0, 0x1 # both",  "mov r0, 1\n"),
+    ("a:exit",                    "exit\n"),
+    (" a:\tmap hash 4 8 16",      "map hash 4 8 16\n"),
     ("stxdw [r10-0x10],r1",       "stxdw [r10-16], r1\n"),
     ("ldxw r1, [r2+0xFf]",        "ldxw r1, [r2+255]\n"),
     ("acmpxchgdw [r1+0x0],  r2",  "acmpxchgdw [r1+0], r2\n"),
@@ -71,12 +74,15 @@ fn lines(rt: HostRuntime) -> Result<(), Fail> {
 
 // The slots: a heading has none, a wide instruction two.
 #[rattlefmt::skip]
-const LABELS: [(&str, &str); 5] = [
+const LABELS: [(&str, &str); 8] = [
     ("ja x\nlddw r1, 1\nx:\nexit\n",           "ja +2\nlddw r1, 0x0000000000000001\nexit\n"),
     ("version 1\nmap hash 4 8 1\nja x\nx:\n",  "version 1\nmap hash 4 8 1\nja +0\n"),
     ("x:\n\n# back\nmov r0, 1\nja32 x\n",      "mov r0, 1\nja32 -2\n"),
     ("x:\njne r1, r2, x\ny:\njne r1, 0x2, y",  "jne r1, r2, -1\njne r1, 2, -1\n"),
     ("ja a\nldmap r1, 0\nb:\nldval r1, 0, 8\na:\nja b\n", "ja +4\nldmap r1, 0\nldval r1, 0, 8\nja -3\n"),
+    ("jeq r1, 0, drop\nexit\ndrop: mov r0, 1\nexit\n", "jeq r1, 0, +1\nexit\nmov r0, 1\nexit\n"),
+    ("x: lddw r1, 1\ny: ja x\nja y",          "lddw r1, 0x0000000000000001\nja -3\nja -2\n"),
+    ("a: ja a\nb: ja32 b",                    "ja -1\nja32 -1\n"),
 ];
 
 #[test]
@@ -90,12 +96,12 @@ fn labels(rt: HostRuntime) -> Result<(), Fail> {
 
 // A bad source, the line, what is wrong, and the words for it.
 #[rattlefmt::skip]
-const BAD: [(&str, usize, Problem, &str); 25] = [
-    ("version 1\na:\nexit\n a: # again\n", 4, Problem::LabelTwice, "  \"a:\": an earlier line is this label\n"),
+const BAD: [(&str, usize, Problem, &str); 29] = [
+    ("version 1\na:\nexit\n a: # again\n", 4, Problem::LabelTwice, "  \"a:\": an earlier line has this label\n"),
     ("version 1\n5a:\nexit\n", 2, Problem::NoLabelName, "  \"5a:\": expected a label's name before the colon: letters, digits, _ and ., no digit first\n"),
     ("version 1\na b:\nexit\n", 2, Problem::NoLabelName, "  \"a b:\": expected a label's name before the colon: letters, digits, _ and ., no digit first\n"),
     (":", 1, Problem::NoLabelName, "  \":\": expected a label's name before the colon: letters, digits, _ and ., no digit first\n"),
-    ("version 1\njeq r1, 2, out\nexit\n", 2, Problem::UnknownLabel, "  \"out\": no line is the label out: (a distance has its sign, as +3)\n"),
+    ("version 1\njeq r1, 2, out\nexit\n", 2, Problem::UnknownLabel, "  \"out\": no line has the label out: (a distance has its sign, as +3)\n"),
     ("version 1\ncall map_lookup\n", 2, Problem::UnknownHelper, "  \"map_lookup\": no such helper: expected a number, map_lookup_elem, map_update_elem, map_delete_elem, ktime_get_ns, get_smp_processor_id or xdp_adjust_head\n"),
     ("version 1\n\nmov r1, 0xg\n", 3, Problem::NoNumber, "  \"0xg\": no number: expected decimal digits, or 0x and hexadecimal digits, of 64 bits at most\n"),
     ("version 1\nmov r1, 10x5\n", 2, Problem::NoNumber, "  \"10x5\": no number: expected decimal digits, or 0x and hexadecimal digits, of 64 bits at most\n"),
@@ -112,8 +118,12 @@ const BAD: [(&str, usize, Problem, &str); 25] = [
     ("version 1\nldxw r0, [r1]\n", 2, Problem::NoSpelling, "  \"[r1]\": expected a place as [r1+0] or [r10-8]\n"),
     ("version 1\nstw [4+r1], 0\n", 2, Problem::NoSpelling, "  \"[4+r1]\": expected a place as [r1+0] or [r10-8]\n"),
     ("version 1\nstdw [r10-8], r1\n", 2, Problem::NoSpelling, "  \"r1\": expected a number of 32 bits\n"),
-    ("version 1\nout: exit\n", 2, Problem::NoNumber, "  \"out:\": a label stands on a line of its own\n"),
-    ("version 1\nback: mov r0, 2\n", 2, Problem::NoSpelling, "  \"back:\": a label stands on a line of its own\n"),
+    ("version 1\na: out: exit\n", 2, Problem::NoNumber, "  \"out:\": a line has one label at most\n"),
+    ("version 1\na: b:\nexit\n", 2, Problem::NoSpelling, "  \"b:\": a line has one label at most\n"),
+    ("version 1\na: exit\na: exit\n", 3, Problem::LabelTwice, "  \"a:\": an earlier line has this label\n"),
+    ("version 1\nmov r0: 2\n", 2, Problem::NoLabelName, "  \"mov r0:\": expected a label's name before the colon: letters, digits, _ and ., no digit first\n"),
+    ("version 1\nja x\nx: mov r0, two\n", 3, Problem::NoSpelling, "  \"two\": expected a register, r0 to r10, or a signed number of 32 bits\n"),
+    ("version 1\nout: call lookup # none\n", 2, Problem::UnknownHelper, "  \"lookup\": no such helper: expected a number, map_lookup_elem, map_update_elem, map_delete_elem, ktime_get_ns, get_smp_processor_id or xdp_adjust_head\n"),
     ("version 3\nexit\n", 1, Problem::NoSpelling, "  expected version 1 or version 2 on the first line, then map KIND KEY-BYTES VALUE-BYTES ENTRIES (hash, array or lru) before the instructions\n"),
     ("", 1, Problem::NoSpelling, "  expected version 1 or version 2 on the first line, then map KIND KEY-BYTES VALUE-BYTES ENTRIES (hash, array or lru) before the instructions\n"),
 ];
@@ -138,11 +148,11 @@ fn bad_lines(rt: HostRuntime) -> Result<(), Fail> {
 // A source that no image comes of though each line is right, why, and the words for it.
 #[rattlefmt::skip]
 const NO_IMAGE: [(&str, DecodeFault, &str); 5] = [
-    ("version 1\nmap array 4 8 1\n# two\nmap hash 4 8 0\nexit\n", DecodeFault::BadMap { map: 1 }, "  line 4: map 1 has a size that no such map may have\n"),
+    ("version 1\nmap array 4 8 1\n# two\nx: map hash 4 8 0\nexit\n", DecodeFault::BadMap { map: 1 }, "  line 4: map 1 has a size that no such map may have\n"),
     ("version 1\nmap array 4 8 1\nmap array 4 8 1\nmap array 4 8 1\nmap array 4 8 1\nmap array 4 8 1\nmap array 4 8 1\nmap array 4 8 1\nmap array 4 8 1\nmap array 4 8 1\nmap array 4 8 1\nmap array 4 8 1\nmap array 4 8 1\nmap array 4 8 1\nmap array 4 8 1\nmap array 4 8 1\nmap array 4 8 1\nmap array 4 8 1\nexit\n", DecodeFault::BadHead, "  line 18: an image has at most 16 maps\n"),
     ("# nothing\nversion 1\nmap array 4 8 1\nend:\n", DecodeFault::Empty, "  there is no instruction\n"),
     ("version 1\nmap array 4 8 1\n\nldval r1, 0, 0\nexit\n", DecodeFault::NotInProfile { slot: 0 }, "  line 4, slot 0: images of this version have no such instruction\n"),
-    ("version 1\nmap array 4 8 1\nlddw r1, 0x5\nmov r2, r1\na:  # three slots\nldval r1, 0, 0\nexit\n", DecodeFault::NotInProfile { slot: 3 }, "  line 6, slot 3: images of this version have no such instruction\n"),
+    ("version 1\nmap array 4 8 1\nlddw r1, 0x5\nb: mov r2, r1\na:  # three slots\nldval r1, 0, 0\nexit\n", DecodeFault::NotInProfile { slot: 3 }, "  line 6, slot 3: images of this version have no such instruction\n"),
 ];
 
 #[test]

@@ -35,10 +35,13 @@ const STRUCTURE: [Row; 5] = [
 ];
 
 #[rattlefmt::skip]
-const KINDS: [Row; 16] = [
+const KINDS: [Row; 18] = [
     (V1, "exit\n", "  slot 0: exit\n  r0: unset\n  nothing is written to the register on a path that leads here from slot 0\n"),
     (V1, "mov r2, 1\nmov r0, r2\nadd r0, r7\nexit\n", "  slot 2: add r0, r7\n  r0: number 1\n  r7: unset\n  nothing is written to the register on a path"),
     (V1, "mov r2, 1\ncall 5\nmov r3, 1\nmov r0, r2\nexit\n", "  slot 3: mov r0, r2\n  r2: unset\n  slot 1: a call leaves r1 to r5 unset"),
+    (V1, "call 5\nmov r2, r1\nmov r0, 2\nexit\n", "  slot 1: mov r2, r1\n  r1: unset\n  slot 0: a call leaves r1 to r5 unset"),
+    (LOOKUP, "jeq r0, 0, +0\nldxdw r3, [r0+0]\nmov r0, 2\nexit\n",
+        "  slot 7: ldxdw r3, [r0+0]\n  r0: unset\n  slot 6: both edges of this jump lead to one slot"),
     (V1, "ldxw r2, [r1+16]\nmov r0, 2\njeq r2, 0, +2\nmov r3, 1\nja +1\nmov r3, r1\nmov r4, 1\nadd r0, r3\nexit\n",
         "  slot 7: add r0, r3\n  r0: number 2\n  r3: unset\n  slot 4 brings number 1, slot 5 brings context, they meet at slot 6: the paths that meet there leave different kinds"),
     (V1, "ldxw r2, [r1+16]\nmov r0, 2\njeq r2, 0, +1\nmov r3, 1\nadd r0, r3\nexit\n",
@@ -61,11 +64,15 @@ const KINDS: [Row; 16] = [
 ];
 
 #[rattlefmt::skip]
-const PACKETS: [Row; 7] = [
+const PACKETS: [Row; 9] = [
     (V1, "ldxw r2, [r1+0]\nldxb r0, [r2+13]\nexit\n",
-        "  slot 1: ldxb r0, [r2+13]\n  r2: packet +0, 0 bytes known\n  needs 14: the bytes were never compared with the packet's end\n  remedy: load the end"),
+        "  slot 1: ldxb r0, [r2+13]\n  r2: packet +0, 0 bytes known\n  needs 14 bytes from the packet's start: no comparison with the packet's end shows, on every path to here, that the packet reaches so far\n  remedy: load the end"),
     (V1, "ldxw r2, [r1+0]\nldxw r3, [r1+4]\nmov r4, r2\nadd r4, 14\nmov r0, 2\njgt r4, r3, +1\nldxb r0, [r2+14]\nexit\n",
-        "  slot 6: ldxb r0, [r2+14]\n  r2: packet +0, 14 bytes known\n  needs 15, known 14: the packet was compared"),
+        "  slot 6: ldxb r0, [r2+14]\n  r2: packet +0, 14 bytes known\n  needs 15 bytes from the packet's start, known 14: the packet was compared"),
+    (V1, "ldxw r2, [r1+0]\nldxw r3, [r1+4]\nmov r4, r2\nadd r4, 14\nmov r0, 2\njgt r3, r4, +1\nldxb r0, [r2+13]\nexit\n",
+        "  slot 6: ldxb r0, [r2+13]\n  r2: packet +0, 0 bytes known\n  needs 14 bytes from the packet's start: no comparison with the packet's end shows"),
+    (V1, "ldxw r2, [r1+0]\nldxw r3, [r1+4]\nmov r4, r2\nadd r4, 24\nmov r0, 2\njgt r4, r3, +2\nadd r2, 24\nldxdw r0, [r2+16]\nexit\n",
+        "  slot 7: ldxdw r0, [r2+16]\n  r2: packet +24, 24 bytes known\n  needs 48 bytes from the packet's start (the register stands at +24), known 24: the packet was compared"),
     (V1, "ldxw r2, [r1+0]\nldxb r0, [r2-1]\nexit\n",
         "  slot 1: ldxb r0, [r2-1]\n  r2: packet +0, 0 bytes known\n  the access begins before"),
     (V1, "ldxw r2, [r1+0]\nadd r2, 65536\nmov r0, 2\nexit\n",
@@ -74,7 +81,7 @@ const PACKETS: [Row; 7] = [
     (V1, "ldxw r6, [r1+0]\ncall 5\nadd r6, r0\nmov r0, 2\nexit\n",
         "  slot 2: add r6, r0\n  r6: packet +0, 0 bytes known\n  r0: number 0..18446744073709551615\n  the number may be up to 18446744073709551615: a number that is added"),
     (V1, "ldxw r6, [r1+0]\nldxw r3, [r1+16]\nadd r6, r3\nldxb r0, [r6+0]\nexit\n",
-        "  slot 3: ldxb r0, [r6+0]\n  r6: packet past the sum of slot 2 +0, 0 bytes known\n  needs 1: the bytes were never compared"),
+        "  slot 3: ldxb r0, [r6+0]\n  r6: packet past the sum of slot 2 +0, 0 bytes known\n  needs 1 byte from the sum of slot 2: no comparison with the packet's end"),
 ];
 
 #[rattlefmt::skip]

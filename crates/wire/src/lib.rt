@@ -4,8 +4,6 @@
 mod big_endian;
 mod capture_fault;
 mod capture_reader;
-#[cfg(test)]
-mod capture_tests;
 mod capture_writer;
 mod checksum;
 mod device;
@@ -16,8 +14,6 @@ mod hash;
 mod memory;
 mod records;
 mod stream;
-#[cfg(test)]
-mod table_tests;
 mod transfer;
 
 pub use big_endian::{be_bytes, word_at};

@@ -1,29 +1,13 @@
-//! The program `xlb`: images of eBPF programs checked, run on a frame, printed and assembled.
+//! The program `xlb`: reads the command line and has it done by `xlb_commands`.
 #![tactic(auto)]
 
-mod commands;
-mod fault;
-mod fault_lines;
-mod hints;
-mod progress;
-mod replays;
-mod report;
-mod runs;
-mod serve;
-#[cfg(test)]
-mod tests;
-mod written;
-
 use command_line::settings;
-pub use fault::{Fault, Refusal};
-pub use fault_lines::fault_line;
 use folders::FileFolder;
-pub use progress::{NoProgress, Progress, TerminalProgress};
-pub use serve::serve;
 use std::io::IsTerminal;
 use std::process::ExitCode;
 use std::{env, io};
 use wire::StreamSink;
+use xlb_commands::{TerminalProgress, serve};
 
 /// The status of a command line that could not be read.
 const BAD_WORDS: u8 = 2;

@@ -1,4 +1,3 @@
-use Rattle.std.proofs.Common.{rules}
 use Rattle.std.proofs.lemmas.Result.{IfOk-weaker, IfErr-weaker}
 use Rattle.shard_port.specs.PassPorts.{port_of}
 use Rattle.frame_runs.specs.FrameRuns.{told_port}

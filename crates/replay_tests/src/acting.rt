@@ -1,0 +1,344 @@
+//! What no clause says: that the actors work where there is memory, what the gate is told, and rows worked out elsewhere.
+
+ghost use Rattle.std.specs.Prelude.{◌≡◌, ◌≤◌, [], IfOk};
+ghost use Rattle.rx_queues.specs.Passes.{HasQueue, IsTakePassOf, jobs_taken};
+ghost use Rattle.shared_shards.specs.NewShards.{IsNamed};
+
+use actors::{Applied, Commander, Reclaiming, commands_until_end, rounds_until_end};
+use conntrack::{maps, table_size};
+use control::parse_script;
+use ebpf_decode::{Image, Insn, Version};
+use gates::{Gate, NoGate};
+use journals::Journals;
+use rx_queues::{Job, OpenFault, Queues, TakePass};
+use semantics::{Caller, Options};
+use shared_shards::{Naming, Opened};
+use std::alloc::Global;
+use std::cell::Cell;
+use std::marker::Brand;
+use std::process::Abort;
+use std::sync::Wait;
+use std::test::Fail;
+
+/// A gate that keeps how often it was told of a reply, and the last number.
+#[derive(Drop)]
+struct Told {
+    times: Cell<u64>,
+    last: Cell<u64>,
+}
+
+impl Gate for Told {
+    fn replied(&self, _who: Caller, nth: u64) {
+        self.times.set(self.times.get().wrapping_add(1));
+        self.last.set(nth);
+    }
+}
+
+fn nothing_told() -> Told {
+    Told {
+        times: Cell::new(0),
+        last: Cell::new(0),
+    }
+}
+
+/// The six maps of steering, for a lookup table of seven slots.
+fn opened(alloc: Global, shards: u32, journal: u32) -> Result<Opened, Fail> {
+    let mut code = Vec::new(alloc);
+    code.push(Insn::Exit)?;
+    let image = Image::of(Version::V1, maps(alloc, 7)?, code)?;
+    let options = Options {
+        workers: 1,
+        shards,
+        journal,
+    };
+    Ok(Opened::open(alloc, &image, options)?)
+}
+
+/// What a script does: the number of each command's fault (0: none), how many answers were told, and how many entries each shard's journal has.
+#[derive(Clone, Copy)]
+struct Row<'a> {
+    text: &'a str,
+    faults: &'a [u8],
+    told: u64,
+    lengths: &'a [usize],
+}
+
+fn faults_are(noted: &[Applied], want: &[u8]) -> bool {
+    noted
+        .iter()
+        .map(|one| match one.fault {
+            Some(fault) => fault.number(),
+            None => 0,
+        })
+        .eq(want.iter().copied())
+}
+
+fn length_of(journals: &Journals, number: usize) -> usize {
+    if number < journals.count() {
+        journals.journal(number).len()
+    } else {
+        0
+    }
+}
+
+fn lengths_are(journals: &Journals, want: &[usize]) -> bool {
+    (0..journals.count())
+        .map(|number| length_of(journals, number))
+        .eq(want.iter().copied())
+}
+
+/// Applies the row's script, and compares.
+fn applied<B: Naming, R: Abort + Wait>(
+    rt: &R,
+    alloc: Global,
+    opened: Opened,
+    row: Row<'_>,
+) -> Result<(), Fail>
+    requires { IsNamed B.count B.table B.plan opened }
+{
+    let script = parse_script(alloc, row.text.as_bytes())?;
+    let gate = nothing_told();
+    let (shards, mut dealer) = opened.share::<B>(alloc)?;
+    let pass = dealer.pass(alloc, Caller::Controller)?;
+    let size = table_size(shards.maps());
+    assert!(rt; size.is_some());
+    let Some(size) = size else {
+        return Ok(());
+    };
+    let mut commander = Commander::over(alloc, rt, &shards, pass, &gate, script.commands(), size);
+    for number in 0..script.commands().len() {
+        if number < commander.script().len() {
+            commander.apply(alloc, number)?;
+        }
+    }
+    let (pass, noted) = commander.finish();
+    assert!(rt; faults_are(&noted, row.faults));
+    assert_eq!(rt; gate.times.get(), row.told);
+    assert_eq!(rt; gate.last.get(), row.told);
+    let mut passes = Vec::with_capacity(alloc, 1)?;
+    passes.push(pass)?;
+    let journals = shards.close(rt, passes);
+    assert!(rt; lengths_are(&journals, row.lengths));
+    Ok(())
+}
+
+#[test]
+fn up_and_down(rt: HostRuntime) -> Result<(), Fail> {
+    let row = Row {
+        text: "0 up 0 192.0.2.1\n0 down 0\n",
+        faults: &[0, 0],
+        told: 16,
+        lengths: &[0, 0, 14, 2, 0, 0],
+    };
+    let opened = opened(rt.alloc(), 1, 16)?;
+    applied::<Brand, HostRuntime>(&rt, rt.alloc(), opened, row)
+}
+
+/// Slots 0, 2, 4 and 6 are one shard's, the odd ones the other's.
+#[test]
+fn up_and_down_over_two_shards(rt: HostRuntime) -> Result<(), Fail> {
+    let row = Row {
+        text: "0 up 1 192.0.2.1\n7 down 1\n",
+        faults: &[0, 0],
+        told: 16,
+        lengths: &[0, 0, 0, 0, 8, 6, 0, 2, 0, 0, 0, 0],
+    };
+    let opened = opened(rt.alloc(), 2, 64)?;
+    applied::<Brand, HostRuntime>(&rt, rt.alloc(), opened, row)
+}
+
+/// A refused command asks nothing, and is not told of; later ones go on.
+#[test]
+fn refused_commands_ask_nothing(rt: HostRuntime) -> Result<(), Fail> {
+    let row = Row {
+        text: "0 down 3\n0 up 7 10.0.0.1\n0 gateway 10.0.0.9 02:00:00:00:00:0a 02:00:00:00:00:0b\n0 up 0 10.0.0.1\n0 up 0 10.0.0.1\n9 vip 203.0.113.1 80 udp\n",
+        faults: &[91, 91, 0, 0, 92, 0],
+        told: 10,
+        lengths: &[1, 0, 7, 1, 1, 0],
+    };
+    let opened = opened(rt.alloc(), 1, 16)?;
+    applied::<Brand, HostRuntime>(&rt, rt.alloc(), opened, row)
+}
+
+/// The third table meets a full journal at its third slot: the record and two slots stand, and every later command is refused.
+#[test]
+fn a_full_journal_stops_the_controller(rt: HostRuntime) -> Result<(), Fail> {
+    let row = Row {
+        text: "0 up 0 192.0.2.1\n0 down 0\n0 up 0 192.0.2.1\n0 down 0\n0 vip 203.0.113.1 80 udp\n",
+        faults: &[0, 0, 94, 94, 94],
+        told: 19,
+        lengths: &[0, 0, 16, 3, 0, 0],
+    };
+    let opened = opened(rt.alloc(), 1, 16)?;
+    applied::<Brand, HostRuntime>(&rt, rt.alloc(), opened, row)
+}
+
+/// The map of services has 64 entries: the 65th service is refused, and its answer stands in the journal.
+#[test]
+fn the_65th_service(rt: HostRuntime) -> Result<(), Fail> {
+    let mut text = String::new(rt.alloc());
+    for port in 0..65u32 {
+        text.push_str(&format!(in rt.alloc(); "0 vip 203.0.113.1 {port} udp\n")?)?;
+    }
+    let mut faults = [0; 65];
+    faults[64] = 93;
+    let row = Row {
+        text: &text,
+        faults: &faults,
+        told: 65,
+        lengths: &[65, 0, 0, 0, 0, 0],
+    };
+    let opened = opened(rt.alloc(), 1, 66)?;
+    applied::<Brand, HostRuntime>(&rt, rt.alloc(), opened, row)
+}
+
+/// Makes so many rounds, and compares how many Reclaims were told, and how many entries each shard's journal has.
+fn reclaimed<B: Naming, R: Abort + Wait>(
+    rt: &R,
+    alloc: Global,
+    opened: Opened,
+    rounds: u32,
+    row: Row<'_>,
+) -> Result<(), Fail>
+    requires { IsNamed B.count B.table B.plan opened }
+{
+    let gate = nothing_told();
+    let (shards, mut dealer) = opened.share::<B>(alloc)?;
+    let pass = dealer.pass(alloc, Caller::Reclaimer)?;
+    let mut reclaiming = Reclaiming::over(rt, &shards, pass, &gate);
+    for _ in 0..rounds {
+        reclaiming.round();
+    }
+    assert_eq!(rt; gate.times.get(), row.told);
+    let mut passes = Vec::with_capacity(alloc, 1)?;
+    passes.push(reclaiming.finish())?;
+    let journals = shards.close(rt, passes);
+    assert!(rt; lengths_are(&journals, row.lengths));
+    Ok(())
+}
+
+/// A hash and an LRU map are asked, once in each shard; the arrays are not.
+#[test]
+fn three_rounds_over_two_shards(rt: HostRuntime) -> Result<(), Fail> {
+    let row = Row {
+        text: "",
+        faults: &[],
+        told: 12,
+        lengths: &[3, 3, 3, 3, 0, 0, 0, 0, 0, 0, 0, 0],
+    };
+    let opened = opened(rt.alloc(), 2, 16)?;
+    reclaimed::<Brand, HostRuntime>(&rt, rt.alloc(), opened, 3, row)
+}
+
+#[test]
+fn rounds_pass_over_full_journals(rt: HostRuntime) -> Result<(), Fail> {
+    let row = Row {
+        text: "",
+        faults: &[],
+        told: 32,
+        lengths: &[16, 16, 0, 0, 0, 0],
+    };
+    let opened = opened(rt.alloc(), 1, 16)?;
+    reclaimed::<Brand, HostRuntime>(&rt, rt.alloc(), opened, 20, row)
+}
+
+/// Queues of one worker, with so many jobs in one of the others' and then the end; and the right to take from the queue at this place.
+fn filled<R: Wait>(
+    rt: &R,
+    alloc: Global,
+    who: Caller,
+    place: usize,
+    count: usize,
+) -> Result<(Queues, TakePass), OpenFault>
+    requires who { HasQueue 1 who }
+    requires place { place ≤ 2 }
+    ensures { IfOk result (λ filled. IsTakePassOf filled.0 filled.1 × (jobs_taken filled.1 ≡ [])) }
+{
+    let (queues, mut put, mut takes) = Queues::open(alloc, 1)?;
+    let take = takes.remove(place);
+    'puts: for number in 0..count {
+        let job = match who {
+            Caller::Reclaimer => Job::Note,
+            _ => Job::Command(number),
+        };
+        queues.put_waiting(rt, who, job, &mut put);
+    }
+    queues.put_waiting(rt, who, Job::End, &mut put);
+    Ok((queues, take))
+}
+
+/// Hands the commands of the row's script over to the controller, lets it take them to the end, and compares.
+fn commanded<B: Naming, R: Abort + Wait>(
+    rt: &R,
+    alloc: Global,
+    opened: Opened,
+    row: Row<'_>,
+) -> Result<(), Fail>
+    requires { IsNamed B.count B.table B.plan opened }
+{
+    let script = parse_script(alloc, row.text.as_bytes())?;
+    let (shards, mut dealer) = opened.share::<B>(alloc)?;
+    let pass = dealer.pass(alloc, Caller::Controller)?;
+    let size = table_size(shards.maps());
+    assert!(rt; size.is_some());
+    let Some(size) = size else {
+        return Ok(());
+    };
+    let count = script.commands().len();
+    let (queues, take) = filled(rt, alloc, Caller::Controller, 1, count)?;
+    let commander = Commander::over(alloc, rt, &shards, pass, &NoGate, script.commands(), size);
+    let ended = commands_until_end(rt, alloc, &queues, take, commander);
+    assert!(rt; !ended.is_refused);
+    assert!(rt; faults_are(&ended.noted, row.faults));
+    let mut passes = Vec::with_capacity(alloc, 1)?;
+    passes.push(ended.pass)?;
+    let journals = shards.close(rt, passes);
+    assert!(rt; lengths_are(&journals, row.lengths));
+    Ok(())
+}
+
+#[test]
+fn commands_until_their_end(rt: HostRuntime) -> Result<(), Fail> {
+    let row = Row {
+        text: "0 vip 203.0.113.1 80 udp\n0 up 0 192.0.2.1\n1 down 9\n1 down 0\n",
+        faults: &[0, 0, 91, 0],
+        told: 0,
+        lengths: &[1, 0, 14, 2, 0, 0],
+    };
+    let opened = opened(rt.alloc(), 1, 16)?;
+    commanded::<Brand, HostRuntime>(&rt, rt.alloc(), opened, row)
+}
+
+/// Asks the reclaimer for so many rounds, lets it make them to the end, and compares.
+fn asked<B: Naming, R: Abort + Wait>(
+    rt: &R,
+    alloc: Global,
+    opened: Opened,
+    rounds: usize,
+    row: Row<'_>,
+) -> Result<(), Fail>
+    requires { IsNamed B.count B.table B.plan opened }
+{
+    let (shards, mut dealer) = opened.share::<B>(alloc)?;
+    let pass = dealer.pass(alloc, Caller::Reclaimer)?;
+    let (queues, take) = filled(rt, alloc, Caller::Reclaimer, 2, rounds)?;
+    let reclaiming = Reclaiming::over(rt, &shards, pass, &NoGate);
+    let ended = rounds_until_end(rt, &queues, take, reclaiming);
+    let mut passes = Vec::with_capacity(alloc, 1)?;
+    passes.push(ended.pass)?;
+    let journals = shards.close(rt, passes);
+    assert!(rt; lengths_are(&journals, row.lengths));
+    Ok(())
+}
+
+#[test]
+fn rounds_until_their_end(rt: HostRuntime) -> Result<(), Fail> {
+    let row = Row {
+        text: "",
+        faults: &[],
+        told: 0,
+        lengths: &[4, 4, 0, 0, 0, 0],
+    };
+    let opened = opened(rt.alloc(), 1, 16)?;
+    asked::<Brand, HostRuntime>(&rt, rt.alloc(), opened, 4, row)
+}

@@ -1,0 +1,54 @@
+//! Short journals that are legal, and others with one entry that is not.
+
+use audit::{AuditFault, audit};
+use ebpf_decode::{MapDef, MapKind};
+use journals::{EntryList, Journals, ShardJournal};
+use semantics::{Call, Caller, CellRef, Entry, Options, Reply};
+use std::alloc::Global;
+use std::test::Fail;
+
+fn entry(worker: u8, call: Call, reply: Reply) -> Entry {
+    let who = Caller::Worker { number: worker };
+    Entry { who, call, reply }
+}
+
+/// The journals of one array of one value: two workers enter, and one may load from a cell that it did not look up.
+fn journals(alloc: Global, is_loaded: bool) -> Result<Journals, Fail> {
+    let shard = 0;
+    let mut entries = EntryList::new(alloc);
+    entries.push(&entry(1, Call::Enter { shard }, Reply::Entered))?;
+    entries.push(&entry(0, Call::Enter { shard }, Reply::Entered))?;
+    if is_loaded {
+        let load = Call::Load {
+            cell: CellRef { shard, id: 0 },
+            offset: 0,
+            width: 8,
+        };
+        entries.push(&entry(1, load, Reply::Word { value: 0 }))?;
+    }
+    let mut maps = Vec::new(alloc);
+    maps.push(MapDef {
+        kind: MapKind::Array,
+        key_size: 4,
+        value_size: 8,
+        max_entries: 1,
+    })?;
+    let options = Options {
+        workers: 2,
+        shards: 1,
+        journal: 16,
+    };
+    let mut shards = Vec::new(alloc);
+    shards.push(ShardJournal::listed(entries))?;
+    Ok(Journals::of(maps, options, shards))
+}
+
+#[test]
+fn first_illegal_entries(rt: HostRuntime) -> Result<(), Fail> {
+    let legal = journals(rt.alloc(), false)?;
+    assert_eq!(rt; audit(rt.alloc(), &legal), Ok(()));
+    let illegal = journals(rt.alloc(), true)?;
+    let want = Err(AuditFault::Illegal { shard: 0, place: 2 });
+    assert_eq!(rt; audit(rt.alloc(), &illegal), want);
+    Ok(())
+}

@@ -1,0 +1,47 @@
+-- What a refusal by a later call says of the files as they stood before the earlier ones.
+use Rattle.std.proofs.Common.{◌≡◌, ℕ, List, Option, Some, None, arith}
+use Rattle.xlb_commands.specs.declared.fault.Fault.{Fault}
+use Rattle.xlb_commands.specs.Files.{FileBytes, AreKept}
+use Rattle.xlb_commands.specs.Refused.{HasFailed, IsUnserved, device_failed, lacks_memory, IsUnwritten, not_written, no_room, IsFrameRefusal, no_frame_bytes, too_long, too_short, no_frame_memory}
+use Rattle.xlb_commands.specs.Refused.{IsScriptRefusal, no_script_bytes, no_script, IsCaptureRefusal, no_capture_bytes, no_capture}
+
+-- one failure more, counted from before a call that did not fail
+pub failed_since : (first second third : ℕ) → second ≡ first → HasFailed second third → HasFailed first third
+failed_since first second third same failed = omega arith
+
+pub unserved_since : (failed since : Type 0) (fault : Fault) → (failed → since) → IsUnserved failed fault → IsUnserved since fault
+unserved_since failed since fault so (device_failed device is) = device_failed (so device) is
+unserved_since failed since fault so (lacks_memory is) = lacks_memory is
+
+pub unwritten_since : (failed since : Type 0) (fault : Fault) → (failed → since) → IsUnwritten failed fault → IsUnwritten since fault
+unwritten_since failed since fault so (not_written unserved) = not_written (unserved_since failed since fault so unserved)
+unwritten_since failed since fault so (no_room is) = no_room is
+
+pub frame_refusal_before : (before after : FileBytes) (failed since : Type 0) (name : List ℕ) (fault : Fault) → AreKept before after → (failed → since)
+    → IsFrameRefusal after failed name fault → IsFrameRefusal before since name fault
+frame_refusal_before before after failed since name fault kept so (no_frame_bytes unserved) = no_frame_bytes (unserved_since failed since fault so unserved)
+frame_refusal_before before after failed since name fault kept so (too_long bytes read size is) = too_long bytes ((kept name bytes).1 read) size is
+frame_refusal_before before after failed since name fault kept so (too_short bytes read size is) = too_short bytes ((kept name bytes).1 read) size is
+frame_refusal_before before after failed since name fault kept so (no_frame_memory bytes read least most is) =
+    no_frame_memory bytes ((kept name bytes).1 read) least most is
+
+-- kept by one reading after another
+pub kept_twice : (a b c : FileBytes) → AreKept a b → AreKept b c → AreKept a c
+kept_twice a b c first second = λ name bytes. (
+  (λ had. (second name bytes).0 ((first name bytes).0 had)),
+  (λ has. (first name bytes).1 ((second name bytes).1 has)),
+)
+
+pub script_refusal_before : (before after : FileBytes) (failed since : Type 0) (name : Option (List ℕ)) (fault : Fault) → AreKept before after → (failed → since)
+    → IsScriptRefusal after failed name fault → IsScriptRefusal before since name fault
+script_refusal_before before after failed since None fault kept so is = is
+script_refusal_before before after failed since (Some name) fault kept so (no_script_bytes unserved) =
+    no_script_bytes (unserved_since failed since fault so unserved)
+script_refusal_before before after failed since (Some name) fault kept so (no_script bytes why read explains is) =
+    no_script bytes why ((kept name bytes).1 read) explains is
+
+pub capture_refusal_before : (before after : FileBytes) (failed since : Type 0) (name : List ℕ) (fault : Fault) → AreKept before after → (failed → since)
+    → IsCaptureRefusal after failed name fault → IsCaptureRefusal before since name fault
+capture_refusal_before before after failed since name fault kept so (no_capture_bytes unserved) =
+    no_capture_bytes (unserved_since failed since fault so unserved)
+capture_refusal_before before after failed since name fault kept so (no_capture bytes read is) = no_capture bytes ((kept name bytes).1 read) is

@@ -1,0 +1,187 @@
+use Rattle.std.proofs.Common.{◌≡◌, ◌≢◌, ◌↔◌, ℕ, List, Option, Some, None, Result, Err, ap, sym, subst}
+use Rattle.std.proofs.lemmas.Result.{err_from_is_err_and}
+use Rattle.ebpf_decode.specs.ImageContents.{Contents}
+use Rattle.wire.specs.CaptureFormat.{capture_bytes}
+use Rattle.wire.specs.declared.records.Sent.{Sent}
+use Rattle.control.specs.declared.command.Command.{Command}
+use Rattle.replay.specs.declared.fault.ReplayFault.{ReplayFault}
+use Rattle.command_line.specs.declared.commands.ReplayFiles.{ReplayFiles}
+use Rattle.command_line.specs.Reading.{text_of}
+use Rattle.xlb_commands.specs.Replays.{IsScriptOf, IsCaptureOf}
+use Rattle.xlb_commands.specs.Refused.{IsReplayProgram, AreReplayInputs, no_replay_program, no_replay_script, no_replay_capture, given_up, not_written_down, no_room}
+use Rattle.xlb_commands.proofs.Refusals.{kept_twice, failed_since, unwritten_since, script_refusal_before, capture_refusal_before}
+use Rattle.xlb_commands.specs.Files.{FileBytes, AreKept, AreOthersKept, AreAllButKept}
+use Rattle.xlb_commands.proofs.replays.replay_files.Goals as goal
+
+-- after three readings and a writing
+others_kept : (a b c d e : FileBytes) (sent : List ℕ) → AreKept a b → AreKept b c → AreKept c d → AreOthersKept d e sent → AreOthersKept a e sent
+others_kept a b c d e sent first second third last = λ name bytes other. (
+  (λ had. (last name bytes other).0 ((third name bytes).0 ((second name bytes).0 ((first name bytes).0 had)))),
+  (λ has. (first name bytes).1 ((second name bytes).1 ((third name bytes).1 ((last name bytes other).1 has)))),
+)
+
+-- and after one more
+all_but_kept : (a b c : FileBytes) (sent : List ℕ) (journals : Option (List ℕ)) → AreOthersKept a b sent
+    → ((file bytes : List ℕ) → journals ≢ Some file → (b file bytes ↔ c file bytes)) → AreAllButKept a c sent journals
+all_but_kept a b c sent journals before later = λ name bytes not_sent not_journals. (
+  (λ had. (later name bytes not_journals).0 ((before name bytes not_sent).0 had)),
+  (λ has. (before name bytes not_sent).1 ((later name bytes not_journals).1 has)),
+)
+
+-- what was read after others is what stood there before
+script_before : (a b : FileBytes) → AreKept a b → (name : Option (List ℕ)) (script : List Command) → IsScriptOf b name script → IsScriptOf a name script
+script_before a b kept None script is = is
+script_before a b kept (Some name) script is = record { bytes = is.bytes; read = (kept name is.bytes).1 is.read; spelled = is.spelled }
+
+capture_before : (a b c : FileBytes) → AreKept a b → AreKept b c → (name : List ℕ) (records : List Sent) → IsCaptureOf c name records → IsCaptureOf a name records
+capture_before a b c first second name records is =
+    record { bytes = is.bytes; read = (first name is.bytes).1 ((second name is.bytes).1 is.read); spelled = is.spelled }
+
+-- before it
+others_are_all_but_kept : (a b : FileBytes) (sent : List ℕ) (journals : Option (List ℕ)) → AreOthersKept a b sent → AreAllButKept a b sent journals
+others_are_all_but_kept a b sent journals before = λ name bytes not_sent not_journals. before name bytes not_sent
+
+pub returns-in_err-write_sent-clause-kept : goal.returns-in_err-write_sent-clause-kept
+returns-in_err-write_sent-clause-kept g c =
+    others_are_all_but_kept _ _ _ _
+    (others_kept _ _ _ _ _ _ c.program_of.ensures.kept c.script_of.ensures.kept c.capture_of.ensures.kept c.write_sent.ensures.others)
+
+pub returns-in_err-write_journals_to-clause-kept : goal.returns-in_err-write_journals_to-clause-kept
+returns-in_err-write_journals_to-clause-kept g c =
+    all_but_kept _ _ _ _ _
+    (others_kept _ _ _ _ _ _ c.program_of.ensures.kept c.script_of.ensures.kept c.capture_of.ensures.kept c.write_sent.ensures.others)
+    c.write_journals_to.ensures.others
+
+pub returns-in_err-replayed-clause-kept : goal.returns-in_err-replayed-clause-kept
+returns-in_err-replayed-clause-kept g c =
+    all_but_kept _ _ _ _ _
+    (others_kept _ _ _ _ _ _ c.program_of.ensures.kept c.script_of.ensures.kept c.capture_of.ensures.kept c.write_sent.ensures.others)
+    c.write_journals_to.ensures.others
+
+pub returns-clause-done : goal.returns-clause-done
+returns-clause-done g c =
+    let sent = subst (λ (frames : List Sent). g.D.Folder.holds c.write_sent.new.folder c.args.files.now.sent.now (capture_bytes frames)) c.deref.ensures.value
+    c.in_ok-write_sent.ensures.written in (
+      c.deref-2.result.now,
+      record {
+        program = record { version = c.in_ok-verified.verified.version; maps = c.in_ok-verified.verified.maps; code = c.in_ok-verified.verified.code };
+        program_is = c.in_ok-verified.ensures.program;
+        safe = c.in_ok-verified.ensures.safe;
+        script = c.in_ok-script.script;
+        script_is = script_before _ _ c.program_of.ensures.kept _ _ c.in_ok-script.ensures.script;
+        records = c.in_ok-capture.capture.records.items;
+        capture = capture_before _ _ _ c.program_of.ensures.kept c.script_of.ensures.kept _ _ c.in_ok-capture.ensures.capture;
+        outcome = c.in-Ok.outcome;
+        accounted = c.in-Ok.ensures.accounted;
+        refused_are = sym c.deref-2.ensures.value;
+        sent = λ other. (c.write_journals_to.ensures.others _ _ other).0 sent;
+        journals = c.in_ok-write_journals_to.ensures.written;
+        lines = c.in_ok-replayed.ensures.text;
+      },
+      c.in_ok-replayed.ensures.refused,
+    )
+
+pub returns-clause-kept : goal.returns-clause-kept
+returns-clause-kept g c =
+    all_but_kept _ _ _ _ _
+    (others_kept _ _ _ _ _ _ c.program_of.ensures.kept c.script_of.ensures.kept c.capture_of.ensures.kept c.write_sent.ensures.others)
+    c.write_journals_to.ensures.others
+
+-- what was read: the program, and after it the script and the capture
+inputs : (a b c : FileBytes) (names : ReplayFiles) (ring : ℕ) (program : Contents) (script : List Command) (records : List Sent) → AreKept a b → AreKept b c
+    → IsReplayProgram a (text_of names.image) ring program → IsScriptOf b (text_of names.script) script → IsCaptureOf c names.capture.now records
+    → AreReplayInputs a names ring program script records
+inputs a b c names ring program script records first second is spelled captured = record {
+  program_is = is;
+  script_is = script_before a b first (text_of names.script) script spelled;
+  capture_is = capture_before a b c first second names.capture.now records captured;
+}
+
+abbrev result_of : (A : Type 0) → ReplayFault → Result A ReplayFault
+result_of A why = Err why
+
+same_fault : {A : Type 0} (why other : ReplayFault) → result_of A why ≡ result_of A other → why ≡ other
+same_fault why other e = cc
+
+pub returns-in_err-verified-clause-refused : goal.returns-in_err-verified-clause-refused
+returns-in_err-verified-clause-refused g c =
+    let p = err_from_is_err_and c.from_residual.result c.from_residual.ensures.1 in
+    rw (p.1, p.2) (no_replay_program c.program_of.ensures.kept c.in_err-verified.ensures.refused)
+
+pub returns-in_err-script-clause-refused : goal.returns-in_err-script-clause-refused
+returns-in_err-script-clause-refused g c =
+    let program : Contents =
+    record { version = c.in_ok-verified.verified.version; maps = c.in_ok-verified.verified.maps; code = c.in_ok-verified.verified.code } in
+    let p = err_from_is_err_and c.from_residual-in_err-script.result c.from_residual-in_err-script.ensures.1 in
+    rw (p.1, p.2)
+    (no_replay_script program (kept_twice _ _ _ c.program_of.ensures.kept c.script_of.ensures.kept)
+    (record { is = c.in_ok-verified.ensures.program; safe = c.in_ok-verified.ensures.safe })
+    (script_refusal_before _ _ _ _ _ _ c.program_of.ensures.kept (failed_since _ _ _ c.in_ok-verified.ensures.steady) c.in_err-script.ensures.refused))
+
+pub returns-in_err-capture-clause-refused : goal.returns-in_err-capture-clause-refused
+returns-in_err-capture-clause-refused g c =
+    let program : Contents =
+    record { version = c.in_ok-verified.verified.version; maps = c.in_ok-verified.verified.maps; code = c.in_ok-verified.verified.code } in
+    let p = err_from_is_err_and c.from_residual-in_err-capture.result c.from_residual-in_err-capture.ensures.1 in
+    rw (p.1, p.2)
+    (no_replay_capture program c.in_ok-script.script
+    (kept_twice _ _ _ (kept_twice _ _ _ c.program_of.ensures.kept c.script_of.ensures.kept) c.capture_of.ensures.kept)
+    (record { is = c.in_ok-verified.ensures.program; safe = c.in_ok-verified.ensures.safe })
+    (script_before _ _ c.program_of.ensures.kept _ _ c.in_ok-script.ensures.script)
+    (capture_refusal_before _ _ _ _ _ _ (kept_twice _ _ _ c.program_of.ensures.kept c.script_of.ensures.kept)
+    (λ failed. failed_since _ _ _ c.in_ok-verified.ensures.steady (failed_since _ _ _ c.in_ok-script.ensures.steady failed))
+    c.in_err-capture.ensures.refused))
+
+pub returns-in-Err-clause-refused : goal.returns-in-Err-clause-refused
+returns-in-Err-clause-refused g c =
+    let program : Contents =
+    record { version = c.in_ok-verified.verified.version; maps = c.in_ok-verified.verified.maps; code = c.in_ok-verified.verified.code } in
+    let why = c.in-Err.ensures.bad_options in
+    given_up program c.in_ok-script.script c.in_ok-capture.capture.records.items c.in-Err.fault
+    (kept_twice _ _ _ (kept_twice _ _ _ c.program_of.ensures.kept c.script_of.ensures.kept) c.capture_of.ensures.kept)
+    (inputs _ _ _ c.args.files.now c.args.ring program _ _ c.program_of.ensures.kept c.script_of.ensures.kept
+    (record { is = c.in_ok-verified.ensures.program; safe = c.in_ok-verified.ensures.safe }) c.in_ok-script.ensures.script c.in_ok-capture.ensures.capture)
+    ((λ e. why.0 (ap (λ (fault : ReplayFault). Err fault) e)), (λ broken. same_fault _ _ (why.1 broken)))
+    c.from.ensures
+
+pub returns-in_err-write_sent-clause-refused : goal.returns-in_err-write_sent-clause-refused
+returns-in_err-write_sent-clause-refused g c =
+    let program : Contents =
+    record { version = c.in_ok-verified.verified.version; maps = c.in_ok-verified.verified.maps; code = c.in_ok-verified.verified.code } in
+    let p = err_from_is_err_and c.from_residual-in_err-write_sent.result c.from_residual-in_err-write_sent.ensures.1 in
+    rw (p.1, p.2)
+    (not_written_down program c.in_ok-script.script c.in_ok-capture.capture.records.items c.in-Ok.outcome
+    (inputs _ _ _ c.args.files.now c.args.ring program _ _ c.program_of.ensures.kept c.script_of.ensures.kept
+    (record { is = c.in_ok-verified.ensures.program; safe = c.in_ok-verified.ensures.safe }) c.in_ok-script.ensures.script c.in_ok-capture.ensures.capture)
+    c.in-Ok.ensures.accounted
+    (unwritten_since _ _ _
+    (λ failed. failed_since _ _ _ c.in_ok-verified.ensures.steady
+    (failed_since _ _ _ c.in_ok-script.ensures.steady (failed_since _ _ _ c.in_ok-capture.ensures.steady failed)))
+    c.in_err-write_sent.ensures.refused))
+
+pub returns-in_err-write_journals_to-clause-refused : goal.returns-in_err-write_journals_to-clause-refused
+returns-in_err-write_journals_to-clause-refused g c =
+    let program : Contents =
+    record { version = c.in_ok-verified.verified.version; maps = c.in_ok-verified.verified.maps; code = c.in_ok-verified.verified.code } in
+    let p = err_from_is_err_and c.from_residual-in_err-write_journals_to.result c.from_residual-in_err-write_journals_to.ensures.1 in
+    rw (p.1, p.2)
+    (not_written_down program c.in_ok-script.script c.in_ok-capture.capture.records.items c.in-Ok.outcome
+    (inputs _ _ _ c.args.files.now c.args.ring program _ _ c.program_of.ensures.kept c.script_of.ensures.kept
+    (record { is = c.in_ok-verified.ensures.program; safe = c.in_ok-verified.ensures.safe }) c.in_ok-script.ensures.script c.in_ok-capture.ensures.capture)
+    c.in-Ok.ensures.accounted
+    (unwritten_since _ _ _
+    (λ failed. failed_since _ _ _ c.in_ok-verified.ensures.steady
+    (failed_since _ _ _ c.in_ok-script.ensures.steady
+    (failed_since _ _ _ c.in_ok-capture.ensures.steady (failed_since _ _ _ c.in_ok-write_sent.ensures.steady failed))))
+    c.in_err-write_journals_to.ensures.refused))
+
+pub returns-in_err-replayed-clause-refused : goal.returns-in_err-replayed-clause-refused
+returns-in_err-replayed-clause-refused g c =
+    let program : Contents =
+    record { version = c.in_ok-verified.verified.version; maps = c.in_ok-verified.verified.maps; code = c.in_ok-verified.verified.code } in
+    let p = err_from_is_err_and c.from_residual-in_err-replayed.result c.from_residual-in_err-replayed.ensures.1 in
+    rw p.1
+    (not_written_down program c.in_ok-script.script c.in_ok-capture.capture.records.items c.in-Ok.outcome
+    (inputs _ _ _ c.args.files.now c.args.ring program _ _ c.program_of.ensures.kept c.script_of.ensures.kept
+    (record { is = c.in_ok-verified.ensures.program; safe = c.in_ok-verified.ensures.safe }) c.in_ok-script.ensures.script c.in_ok-capture.ensures.capture)
+    c.in-Ok.ensures.accounted (no_room p.2))

@@ -1,0 +1,156 @@
+use Rattle.std.proofs.Common.{◌≡◌, ◌∙◌, ◌<◌, ℕ, List, Option, arith, rules, subst}
+use Rattle.std.proofs.lemmas.Result.{err_from_is_err_and}
+use Rattle.ebpf_decode.specs.ImageContents.{Contents}
+use Rattle.journals.specs.JournalsView.{JournalsView}
+use Rattle.machine.specs.declared.exit.Stop.{Stop}
+use Rattle.map_updates.specs.declared.update.MapUpdate.{MapUpdate}
+use Rattle.semantics.specs.Program.{Program}
+use Rattle.semantics.specs.Safety.{IsSafeImage}
+use Rattle.semantics.specs.System.{IsInputFrame}
+use Rattle.semantics.specs.declared.verdict.Verdict.{Verdict}
+use Rattle.single_run.specs.SingleRuns.{HasRunAlone, HasStoppedAlone}
+use Rattle.wire.specs.FrameView.{FrameView}
+use Rattle.command_line.specs.declared.commands.RunFiles.{RunFiles}
+use Rattle.xlb_commands.specs.Files.{FileBytes, AreKept, AreAllKeptBut, IsImageFile}
+use Rattle.xlb_commands.specs.Refused.{IsProgramFile, AreRunInputs, IsEndedRun, no_room, no_run_program, no_run_frame, no_worker, not_run, stopped, not_told}
+use Rattle.xlb_commands.specs.Results.{run_options, program_of_run, start_of_run}
+use Rattle.xlb_commands.proofs.Refusals.{kept_twice, frame_refusal_before, failed_since, unwritten_since}
+use Rattle.xlb_commands.proofs.runs.run_once.Goals as goal
+
+-- after two readings and a writing
+kept_but : (a b c d : FileBytes) (written : Option (List ℕ)) → AreKept a b → AreKept b c → AreAllKeptBut c d written → AreAllKeptBut a d written
+kept_but a b c d written first second last = λ name bytes other. (
+  (λ had. (last name bytes other).0 ((second name bytes).0 ((first name bytes).0 had))),
+  (λ has. (first name bytes).1 ((second name bytes).1 ((last name bytes other).1 has))),
+)
+
+pub returns-in_err-write_journals_to-clause-kept : goal.returns-in_err-write_journals_to-clause-kept
+returns-in_err-write_journals_to-clause-kept g c =
+    kept_but _ _ _ _ _ c.judged_of.ensures.kept c.frame_of.ensures.kept c.write_journals_to.ensures.others
+
+pub returns-in_err-outcome-clause-kept : goal.returns-in_err-outcome-clause-kept
+returns-in_err-outcome-clause-kept g c =
+    kept_but _ _ _ _ _ c.judged_of.ensures.kept c.frame_of.ensures.kept c.write_journals_to.ensures.others
+
+pub returns-clause-kept : goal.returns-clause-kept
+returns-clause-kept g c =
+    kept_but _ _ _ _ _ c.judged_of.ensures.kept c.frame_of.ensures.kept c.write_journals_to.ensures.others
+
+-- what a run reads: the frame after the image
+inputs : (a b : FileBytes) (run : RunFiles) (program : Contents) (bytes : List ℕ) → AreKept a b → IsImageFile a run.image.now program
+    → IsSafeImage program.maps program.code → b run.frame.now bytes → IsInputFrame bytes → AreRunInputs a run program bytes
+inputs a b run program bytes kept file safe read size = record { file = file; safe = safe; read = (kept run.frame.now bytes).1 read; size = size }
+
+-- a run at the moment that was made of these numbers is one of these numbers
+stopped_so : (program : Program) (bytes : List ℕ) (updates : List MapUpdate) (frame : FrameView) (stop : Stop) (journals : JournalsView)
+    (worker now made_worker made_now : ℕ) → made_worker ≡ worker → made_now ≡ now
+    → HasStoppedAlone program (start_of_run bytes made_worker made_now) run_options made_worker updates frame stop journals
+    → HasStoppedAlone program (start_of_run bytes worker now) run_options worker updates frame stop journals
+stopped_so program bytes updates frame stop journals worker now made_worker made_now same_worker same_now is =
+    subst (λ (it : ℕ). HasStoppedAlone program (start_of_run bytes it now) run_options it updates frame stop journals) same_worker
+    (subst (λ (it : ℕ). HasStoppedAlone program (start_of_run bytes made_worker it) run_options made_worker updates frame stop journals) same_now is)
+
+ended_so : (program : Program) (bytes : List ℕ) (updates : List MapUpdate) (verdict : Verdict) (steps : ℕ) (frame : FrameView) (journals : JournalsView)
+    (worker now made_worker made_now : ℕ) → made_worker ≡ worker → made_now ≡ now
+    → HasRunAlone program (start_of_run bytes made_worker made_now) run_options made_worker updates verdict steps frame journals
+    → HasRunAlone program (start_of_run bytes worker now) run_options worker updates verdict steps frame journals
+ended_so program bytes updates verdict steps frame journals worker now made_worker made_now same_worker same_now is =
+    subst (λ (it : ℕ). HasRunAlone program (start_of_run bytes it now) run_options it updates verdict steps frame journals) same_worker
+    (subst (λ (it : ℕ). HasRunAlone program (start_of_run bytes made_worker it) run_options made_worker updates verdict steps frame journals) same_now is)
+
+pub returns-in_err-verified-clause-refused : goal.returns-in_err-verified-clause-refused
+returns-in_err-verified-clause-refused g c =
+    let p = err_from_is_err_and c.from_residual.result c.from_residual.ensures.1 in
+    rw (p.1, p.2) (no_run_program c.judged_of.ensures.kept c.in_err-verified.ensures.refused)
+
+pub returns-in_err-frame-clause-refused : goal.returns-in_err-frame-clause-refused
+returns-in_err-frame-clause-refused g c =
+    let program : IsProgramFile (g.D.Folder.holds c.args.folder.now) c.args.files.now.image.now = record {
+      image = record { version = c.in_ok-verified.verified.version; maps = c.in_ok-verified.verified.maps; code = c.in_ok-verified.verified.code };
+      file = c.in_ok-verified.ensures.file;
+      safe = c.in_ok-verified.ensures.safe;
+    } in
+    let p = err_from_is_err_and c.from_residual-in_err-frame.result c.from_residual-in_err-frame.ensures.1 in
+    rw (p.1, p.2)
+    (no_run_frame (kept_twice _ _ _ c.judged_of.ensures.kept c.frame_of.ensures.kept) program
+    (frame_refusal_before _ _ _ _ _ _ c.in_ok-verified.ensures.kept (failed_since _ _ _ c.in_ok-verified.ensures.steady) c.in_err-frame.ensures.refused))
+
+pub returns-in_err-moment-clause-refused : goal.returns-in_err-moment-clause-refused
+returns-in_err-moment-clause-refused g c =
+    let program : Contents =
+    record { version = c.in_ok-verified.verified.version; maps = c.in_ok-verified.verified.maps; code = c.in_ok-verified.verified.code } in
+    let read = inputs _ _ c.args.files.now program c.in_ok-frame.frame.bytes c.in_ok-verified.ensures.kept c.in_ok-verified.ensures.file
+    c.in_ok-verified.ensures.safe c.in_ok-frame.ensures.read c.in_ok-frame.ensures.size in
+    let p = err_from_is_err_and c.from_residual-in_err-moment.result c.from_residual-in_err-moment.ensures.1 in
+    rw p.1 (no_worker program c.in_ok-frame.frame.bytes (kept_twice _ _ _ c.judged_of.ensures.kept c.frame_of.ensures.kept)
+    read c.in_err-moment.ensures.only.1 (p.2 ∙ c.in_err-moment.ensures.only.0))
+
+pub returns-in_err-ended-clause-refused : goal.returns-in_err-ended-clause-refused
+returns-in_err-ended-clause-refused g c =
+    let program : Contents =
+    record { version = c.in_ok-verified.verified.version; maps = c.in_ok-verified.verified.maps; code = c.in_ok-verified.verified.code } in
+    let read = inputs _ _ c.args.files.now program c.in_ok-frame.frame.bytes c.in_ok-verified.ensures.kept c.in_ok-verified.ensures.file
+    c.in_ok-verified.ensures.safe c.in_ok-frame.ensures.read c.in_ok-frame.ensures.size in
+    let below : c.args.worker < 8 = omega (arith, c.in_ok-moment.ensures.given.1, c.in_ok-moment.ensures.below) in
+    let p = err_from_is_err_and c.from_residual-in_err-ended.result c.from_residual-in_err-ended.ensures.1 in
+    rw (p.1, p.2) (not_run program c.in_ok-frame.frame.bytes (kept_twice _ _ _ c.judged_of.ensures.kept c.frame_of.ensures.kept)
+    read below c.in_err-ended.ensures.refused)
+
+pub returns-in-Err-clause-refused : goal.returns-in-Err-clause-refused
+returns-in-Err-clause-refused g c =
+    let program : Contents =
+    record { version = c.in_ok-verified.verified.version; maps = c.in_ok-verified.verified.maps; code = c.in_ok-verified.verified.code } in
+    let read = inputs _ _ c.args.files.now program c.in_ok-frame.frame.bytes c.in_ok-verified.ensures.kept c.in_ok-verified.ensures.file
+    c.in_ok-verified.ensures.safe c.in_ok-frame.ensures.read c.in_ok-frame.ensures.size in
+    let below : c.args.worker < 8 = omega (arith, c.in_ok-moment.ensures.given.1, c.in_ok-moment.ensures.below) in
+    let at : HasStoppedAlone (program_of_run program) (start_of_run c.in_ok-frame.frame.bytes c.in_ok-moment.moment.worker c.in_ok-moment.moment.now_ns) run_options
+    c.in_ok-moment.moment.worker c.args.updates.now c.run_over.new.frame c.in-Err.stop c.in_ok-ended.journals = search rules in
+    stopped program c.in_ok-frame.frame.bytes c.in-Err.stop (kept_twice _ _ _ c.judged_of.ensures.kept c.frame_of.ensures.kept) read below
+    (record {
+      frame = c.run_over.new.frame;
+      journals = c.in_ok-ended.journals;
+      stopped = stopped_so _ _ _ _ _ _ _ _ _ _ c.in_ok-moment.ensures.given.1 c.in_ok-moment.ensures.given.0 at;
+    })
+    c.from.ensures
+
+pub returns-in_err-write_journals_to-clause-refused : goal.returns-in_err-write_journals_to-clause-refused
+returns-in_err-write_journals_to-clause-refused g c =
+    let program : Contents =
+    record { version = c.in_ok-verified.verified.version; maps = c.in_ok-verified.verified.maps; code = c.in_ok-verified.verified.code } in
+    let read = inputs _ _ c.args.files.now program c.in_ok-frame.frame.bytes c.in_ok-verified.ensures.kept c.in_ok-verified.ensures.file
+    c.in_ok-verified.ensures.safe c.in_ok-frame.ensures.read c.in_ok-frame.ensures.size in
+    let below : c.args.worker < 8 = omega (arith, c.in_ok-moment.ensures.given.1, c.in_ok-moment.ensures.below) in
+    let at : HasRunAlone (program_of_run program) (start_of_run c.in_ok-frame.frame.bytes c.in_ok-moment.moment.worker c.in_ok-moment.moment.now_ns) run_options
+    c.in_ok-moment.moment.worker c.args.updates.now c.in-Ok.exit.verdict c.in-Ok.exit.steps c.run_over.new.frame c.in_ok-ended.journals = search rules in
+    let ended : IsEndedRun program c.in_ok-frame.frame.bytes c.args.now c.args.worker c.args.updates.now = record {
+      verdict = c.in-Ok.exit.verdict;
+      steps = c.in-Ok.exit.steps;
+      frame = c.run_over.new.frame;
+      journals = c.in_ok-ended.journals;
+      ended = ended_so _ _ _ _ _ _ _ _ _ _ _ c.in_ok-moment.ensures.given.1 c.in_ok-moment.ensures.given.0 at;
+    } in
+    let p = err_from_is_err_and c.from_residual-in_err-write_journals_to.result c.from_residual-in_err-write_journals_to.ensures.1 in
+    rw (p.1, p.2)
+    (not_told program c.in_ok-frame.frame.bytes read below ended
+    (unwritten_since _ _ _
+    (λ failed. failed_since _ _ _ c.in_ok-verified.ensures.steady (failed_since _ _ _ c.in_ok-frame.ensures.steady failed))
+    c.in_err-write_journals_to.ensures.refused))
+
+pub returns-in_err-outcome-clause-refused : goal.returns-in_err-outcome-clause-refused
+returns-in_err-outcome-clause-refused g c =
+    let program : Contents =
+    record { version = c.in_ok-verified.verified.version; maps = c.in_ok-verified.verified.maps; code = c.in_ok-verified.verified.code } in
+    let read = inputs _ _ c.args.files.now program c.in_ok-frame.frame.bytes c.in_ok-verified.ensures.kept c.in_ok-verified.ensures.file
+    c.in_ok-verified.ensures.safe c.in_ok-frame.ensures.read c.in_ok-frame.ensures.size in
+    let below : c.args.worker < 8 = omega (arith, c.in_ok-moment.ensures.given.1, c.in_ok-moment.ensures.below) in
+    let at : HasRunAlone (program_of_run program) (start_of_run c.in_ok-frame.frame.bytes c.in_ok-moment.moment.worker c.in_ok-moment.moment.now_ns) run_options
+    c.in_ok-moment.moment.worker c.args.updates.now c.in-Ok.exit.verdict c.in-Ok.exit.steps c.run_over.new.frame c.in_ok-ended.journals = search rules in
+    let ended : IsEndedRun program c.in_ok-frame.frame.bytes c.args.now c.args.worker c.args.updates.now = record {
+      verdict = c.in-Ok.exit.verdict;
+      steps = c.in-Ok.exit.steps;
+      frame = c.run_over.new.frame;
+      journals = c.in_ok-ended.journals;
+      ended = ended_so _ _ _ _ _ _ _ _ _ _ _ c.in_ok-moment.ensures.given.1 c.in_ok-moment.ensures.given.0 at;
+    } in
+    let p = err_from_is_err_and c.from_residual-in_err-outcome.result c.from_residual-in_err-outcome.ensures.1 in
+    rw p.1 (not_told program c.in_ok-frame.frame.bytes read below ended (no_room p.2))

@@ -1,0 +1,361 @@
+-- Which fault a command is refused with: the first of what it reads and does, in that order. `failed` stands for: the device of the files
+-- failed, once, in the command's last use of it.
+use Rattle.std.specs.Prelude.{◌≡◌, ◌≢◌, ◌↔◌, ◌≤◌, ◌<◌, ◌+◌, ◌^◌, ◌⊎◌, ℕ, ℤ, List, [], Option, Some, None, true, false, IsTrue, IsFalse, IsUtf8}
+use Rattle.std.specs.Prelude.{codes, length, String, string_bytes}
+use Rattle.std.specs.Io.KnownBytes.{append_known}
+use Rattle.text_lines.specs.NoText.{IsNoText}
+use Rattle.folders.specs.declared.folder.FolderFault.TheVariants as folder
+use Rattle.ebpf_decode.specs.ImageContents.{Contents}
+use Rattle.ebpf_decode.specs.ImageFormat.{first_decode_fault, may_ask_memory}
+use Rattle.ebpf_decode.specs.declared.fault.DecodeFault.{DecodeFault}
+use Rattle.ebpf_decode.specs.declared.fault.DecodeFault.TheVariants as decode
+use Rattle.semantics.specs.Safety.{IsSafeImage}
+use Rattle.semantics.specs.System.{IsInputFrame}
+use Rattle.verifier.specs.declared.reject.Reject.{Reject}
+use Rattle.verifier.specs.Dataflow.{IsFirstReject}
+use Rattle.wire.specs.declared.frame_buffer.FrameFault.TheVariants as frames
+use Rattle.disasm.specs.declared.fault.AsmFault.{AsmFault}
+use Rattle.disasm.specs.declared.fault.AsmFault.TheVariants as texts
+use Rattle.disasm.specs.TextReading.{Explains as ExplainsText}
+use Rattle.source_form.specs.declared.fault.SourceFault.{SourceFault}
+use Rattle.source_form.specs.SourceImage.{Explains as ExplainsSource}
+use Rattle.journals.specs.JournalsView.{JournalsView}
+use Rattle.journal_files.specs.declared.fault.FileFault.{FileFault}
+use Rattle.journal_files.specs.JournalReading.{IsJournalsFile, Refuses as RefusesJournals}
+use Rattle.audit.specs.declared.fault.AuditFault.{AuditFault}
+use Rattle.audit.specs.Audited.{Explains as ExplainsJournals}
+use Rattle.audit.specs.Audited.{AreLegal}
+use Rattle.disasm.specs.AssemblyText.{IsAssemblyText}
+use Rattle.source_form.specs.SourceImage.{IsSource}
+use Rattle.explanations.specs.Refusals.{IsRefusalText}
+use Rattle.ebpf_decode.specs.declared.map.MapDef.{MapDef}
+use Rattle.wire.specs.FrameView.{FrameView}
+use Rattle.wire.specs.declared.records.Sent.{Sent}
+use Rattle.wire.specs.declared.capture_fault.CaptureFault.{CaptureFault}
+use Rattle.wire.specs.CaptureFormat.{Refuses as RefusesCapture}
+use Rattle.semantics.specs.declared.options.Options.{Options}
+use Rattle.semantics.specs.declared.verdict.Verdict.{Verdict}
+use Rattle.shards.specs.Opening.{are_served_options}
+use Rattle.shards.specs.declared.fault.OpenFault.TheVariants as opens
+use Rattle.machine.specs.declared.exit.Stop.{Stop}
+use Rattle.map_updates.specs.declared.misfit.Misfit.{Misfit}
+use Rattle.map_updates.specs.declared.update.MapUpdate.{MapUpdate}
+use Rattle.single_run.specs.SingleRuns.{HasRunAlone, HasStoppedAlone}
+use Rattle.single_run.specs.Updates.{IsRefusedUpdate, IsFullForUpdate}
+use Rattle.maglev.specs.RingSize.{IsRingSize}
+use Rattle.conntrack.specs.declared.fault.SteerFault.{SteerFault}
+use Rattle.conntrack.specs.declared.fault.SteerFault.TheVariants as steering
+use Rattle.steer.specs.ShippedProgram.{shipped_image}
+use Rattle.control.specs.declared.command.Command.{Command}
+use Rattle.control.specs.declared.fault.ControlFault.{ControlFault}
+use Rattle.control.specs.declared.fault.ControlFault.TheVariants as scripts
+use Rattle.control.specs.ScriptReading.{Explains as ExplainsScript}
+use Rattle.replay.specs.declared.fault.ReplayFault.{ReplayFault}
+use Rattle.replay.specs.declared.fault.ReplayFault.TheVariants as replays
+use Rattle.replay.specs.declared.outcome.Outcome.{Outcome}
+use Rattle.replay.specs.Parts.{HasNoTable}
+use Rattle.replay.specs.Accounted.{IsAccounted}
+use Rattle.command_line.specs.declared.commands.RunFiles.{RunFiles}
+use Rattle.command_line.specs.declared.commands.ReplayFiles.{ReplayFiles}
+use Rattle.command_line.specs.Reading.{text_of}
+use Rattle.command_line.specs.declared.commands.Settings.{Settings}
+use Rattle.command_line.specs.declared.commands.Settings.TheVariants.{Check, Run, Disasm, Audit, Explain, Asm, Replay}
+use Rattle.xlb_commands.specs.declared.fault.Fault.{Fault}
+use Rattle.xlb_commands.specs.declared.fault.Fault.TheVariants as faults
+use Rattle.xlb_commands.specs.Files.{FileBytes, AreKept, IsImageFile}
+use Rattle.xlb_commands.specs.FaultLines.{fault_line, mistake_text}
+use Rattle.xlb_commands.specs.Replays.{IsProgramOf, IsScriptOf, IsCaptureOf, program_of_replay}
+use Rattle.xlb_commands.specs.Results.{IsDone, IsDoneInPart, IsMistake, run_options, program_of_run, start_of_run}
+
+-- ---- files
+
+-- one failure more than before
+abbrev pub HasFailed : ℕ → ℕ → Type 0
+HasFailed before after = after ≡ before + 1
+
+-- a file was not read, or not written: its device failed, or memory was refused
+pub data IsUnserved (failed : Type 0) (fault : Fault) : Type 0 where
+  device_failed : failed → fault ≡ faults.Folder folder.Device → IsUnserved failed fault
+  lacks_memory : fault ≡ faults.Folder folder.Memory → IsUnserved failed fault
+
+-- ---- images
+
+-- the first fault of bytes that encode no image; or memory was refused, where it may have been asked for
+pub record IsDecodeRefusal (bytes : List ℕ) (why : DecodeFault) : Type 0 where
+  pub first : why ≢ decode.Memory → first_decode_fault bytes ≡ Some why
+  pub asked : why ≡ decode.Memory → IsTrue (may_ask_memory bytes)
+
+-- the file was not read, or its bytes are no image
+pub data IsImageRefusal (files : FileBytes) (failed : Type 0) (name : List ℕ) (fault : Fault) : Type 0 where
+  no_image_bytes : IsUnserved failed fault → IsImageRefusal files failed name fault
+  no_image : (bytes : List ℕ) (why : DecodeFault) → files name bytes → IsDecodeRefusal bytes why → fault ≡ faults.Decode why
+      → IsImageRefusal files failed name fault
+
+-- the file is an image, which may run
+pub record IsProgramFile (files : FileBytes) (name : List ℕ) : Type 0 where
+  pub image : Contents
+  pub file : IsImageFile files name image
+  pub safe : IsSafeImage image.maps image.code
+
+-- no image was read, or it breaks a rule: its first reject
+pub data IsProgramRefusal (files : FileBytes) (failed : Type 0) (name : List ℕ) (fault : Fault) : Type 0 where
+  no_program : IsImageRefusal files failed name fault → IsProgramRefusal files failed name fault
+  rejected : (image : Contents) (why : Reject) → IsImageFile files name image → IsFirstReject image.version image.maps image.code why
+      → fault ≡ faults.Program why → IsProgramRefusal files failed name fault
+
+-- xlb check: no program that may run, or it is one, and memory was refused for the line
+pub data IsCheckRefusal (files : FileBytes) (failed : Type 0) (name : List ℕ) (fault : Fault) : Type 0 where
+  not_accepted : IsProgramRefusal files failed name fault → IsCheckRefusal files failed name fault
+  no_line : IsProgramFile files name → fault ≡ faults.Memory → IsCheckRefusal files failed name fault
+
+-- what prints an image, or explains it: no image, or it is one, and memory was refused for the text
+pub data IsTextRefusal (files : FileBytes) (failed : Type 0) (name : List ℕ) (fault : Fault) : Type 0 where
+  none_to_tell : IsImageRefusal files failed name fault → IsTextRefusal files failed name fault
+  no_text : (image : Contents) → IsImageFile files name image → fault ≡ faults.Memory → IsTextRefusal files failed name fault
+
+-- xlb check --explain: no image; or it is one, and memory was refused for the text, or it breaks a rule: its first reject
+pub data IsExplainRefusal (files : FileBytes) (failed : Type 0) (name : List ℕ) (fault : Fault) : Type 0 where
+  none_to_explain : IsImageRefusal files failed name fault → IsExplainRefusal files failed name fault
+  no_explanation : (image : Contents) → IsImageFile files name image → fault ≡ faults.Memory → IsExplainRefusal files failed name fault
+  explained : (image : Contents) (why : Reject) → IsImageFile files name image → IsFirstReject image.version image.maps image.code why
+      → fault ≡ faults.Program why → IsExplainRefusal files failed name fault
+
+-- ---- frames
+
+-- the file was not read, or its bytes are too many or too few; memory is refused only for a right frame
+pub data IsFrameRefusal (files : FileBytes) (failed : Type 0) (name : List ℕ) (fault : Fault) : Type 0 where
+  no_frame_bytes : IsUnserved failed fault → IsFrameRefusal files failed name fault
+  too_long : (bytes : List ℕ) → files name bytes → 2048 < length bytes → fault ≡ faults.Frame frames.FrameTooLong → IsFrameRefusal files failed name fault
+  too_short : (bytes : List ℕ) → files name bytes → length bytes < 14 → fault ≡ faults.Frame frames.ShortFrame → IsFrameRefusal files failed name fault
+  no_frame_memory : (bytes : List ℕ) → files name bytes → 14 ≤ length bytes → length bytes ≤ 2048 → fault ≡ faults.Frame frames.Memory
+      → IsFrameRefusal files failed name fault
+
+-- ---- texts
+
+-- why bytes spell no image: the line of what is no text, or where all is text its fault
+pub data IsSpellingRefusal (bytes : List ℕ) (why : AsmFault) : Type 0 where
+  no_utf8 : (line : ℕ) → IsNoText bytes line → why ≡ texts.BadLine line → IsSpellingRefusal bytes why
+  misspelled : IsUtf8 bytes → ExplainsText bytes why → IsSpellingRefusal bytes why
+
+-- a file was not written: memory was refused for its bytes or for what is printed, or it could not be written
+pub data IsUnwritten (failed : Type 0) (fault : Fault) : Type 0 where
+  not_written : IsUnserved failed fault → IsUnwritten failed fault
+  no_room : fault ≡ faults.Memory → IsUnwritten failed fault
+
+-- xlb asm: the text was not read, or spells no image, and no file changed; or it spells one, whose file was not written
+pub data IsAsmRefusal (files after : FileBytes) (failed : Type 0) (name : List ℕ) (fault : Fault) : Type 0 where
+  no_text_bytes : AreKept files after → IsUnserved failed fault → IsAsmRefusal files after failed name fault
+  no_spelling : (bytes : List ℕ) (why : AsmFault) → AreKept files after → files name bytes → IsSpellingRefusal bytes why → fault ≡ faults.Text why
+      → IsAsmRefusal files after failed name fault
+  no_image_file : (bytes : List ℕ) (image : Contents) → files name bytes → IsAssemblyText bytes image → IsUnwritten failed fault
+      → IsAsmRefusal files after failed name fault
+
+-- xlb asm --source: the same of the source form
+pub data IsSourceRefusal (files after : FileBytes) (failed : Type 0) (name : List ℕ) (fault : Fault) : Type 0 where
+  no_source_bytes : AreKept files after → IsUnserved failed fault → IsSourceRefusal files after failed name fault
+  no_utf8_source : (bytes : List ℕ) (line : ℕ) → AreKept files after → files name bytes → IsNoText bytes line → fault ≡ faults.Text (texts.BadLine line)
+      → IsSourceRefusal files after failed name fault
+  no_meaning : (bytes : List ℕ) (why : SourceFault) → AreKept files after → files name bytes → IsUtf8 bytes → ExplainsSource bytes why
+      → fault ≡ faults.Source why → IsSourceRefusal files after failed name fault
+  no_source_image_file : (bytes : List ℕ) (image : Contents) → files name bytes → IsSource bytes image → IsUnwritten failed fault
+      → IsSourceRefusal files after failed name fault
+
+-- ---- journals
+
+-- the second file has these journals of the maps of the first file's image
+pub record AreJournalsOf (files : FileBytes) (name journals : List ℕ) (told : JournalsView) : Type 0 where
+  pub image : Contents
+  pub file : IsImageFile files name image
+  pub bytes : List ℕ
+  pub read : files journals bytes
+  pub spelled : IsJournalsFile image.maps bytes told
+
+-- xlb audit: no image; journals that were not read, that the file does not spell, or that are not legal; or memory was refused for the line
+pub data IsAuditRefusal (files : FileBytes) (failed : Type 0) (name journals : List ℕ) (fault : Fault) : Type 0 where
+  no_audited_image : IsImageRefusal files failed name fault → IsAuditRefusal files failed name journals fault
+  no_journal_bytes : (image : Contents) → IsImageFile files name image → IsUnserved failed fault → IsAuditRefusal files failed name journals fault
+  no_journals : (image : Contents) (bytes : List ℕ) (why : FileFault) → IsImageFile files name image → files journals bytes
+      → RefusesJournals image.maps bytes why → fault ≡ faults.Journals why → IsAuditRefusal files failed name journals fault
+  not_legal : (told : JournalsView) (why : AuditFault) → AreJournalsOf files name journals told → ExplainsJournals told why
+      → fault ≡ faults.Audit why → IsAuditRefusal files failed name journals fault
+  no_verdict : (told : JournalsView) → AreJournalsOf files name journals told → AreLegal told → fault ≡ faults.Memory
+      → IsAuditRefusal files failed name journals fault
+
+-- ---- runs
+
+-- the files of a run have this program, which may run, and a frame of these bytes
+pub record AreRunInputs (files : FileBytes) (run : RunFiles) (program : Contents) (bytes : List ℕ) : Type 0 where
+  pub file : IsImageFile files run.image.now program
+  pub safe : IsSafeImage program.maps program.code
+  pub read : files run.frame.now bytes
+  pub size : IsInputFrame bytes
+
+-- why no run was made: no shards are opened for these maps; or they are, and memory was refused for them, an update was refused, or its journal was full
+pub data IsRunFault (maps : List MapDef) (updates : List MapUpdate) (fault : Fault) : Type 0 where
+  not_served : IsFalse (are_served_options maps run_options) → fault ≡ faults.Options opens.BadOptions → IsRunFault maps updates fault
+  no_map_memory : IsTrue (are_served_options maps run_options) → fault ≡ faults.Options opens.Memory → IsRunFault maps updates fault
+  update_refused : (place : ℕ) (answer : ℤ) → IsTrue (are_served_options maps run_options) → IsRefusedUpdate maps run_options updates place answer
+      → fault ≡ faults.Script (scripts.Refused answer) → IsRunFault maps updates fault
+  update_full : (place : ℕ) → IsTrue (are_served_options maps run_options) → IsFullForUpdate maps run_options updates place
+      → fault ≡ faults.Script scripts.JournalFull → IsRunFault maps updates fault
+
+-- the run was made, and stopped where a journal was full
+pub record IsStoppedRun (program : Contents) (bytes : List ℕ) (now worker : ℕ) (updates : List MapUpdate) (stop : Stop) : Type 0 where
+  pub frame : FrameView
+  pub journals : JournalsView
+  pub stopped : HasStoppedAlone (program_of_run program) (start_of_run bytes worker now) run_options worker updates frame stop journals
+
+-- the run was made, and came to its end
+pub record IsEndedRun (program : Contents) (bytes : List ℕ) (now worker : ℕ) (updates : List MapUpdate) : Type 0 where
+  pub verdict : Verdict
+  pub steps : ℕ
+  pub frame : FrameView
+  pub journals : JournalsView
+  pub ended : HasRunAlone (program_of_run program) (start_of_run bytes worker now) run_options worker updates verdict steps frame journals
+
+-- xlb run: no program that may run; no frame; a worker that there is not; no run; one that was stopped, and until then no file changed; or one that came to
+-- its end, whose journals were not written or for whose lines memory was refused
+pub data IsRunRefusal (files after : FileBytes) (failed : Type 0) (run : RunFiles) (now worker : ℕ) (updates : List MapUpdate) (fault : Fault) : Type 0 where
+  no_run_program : AreKept files after → IsProgramRefusal files failed run.image.now fault → IsRunRefusal files after failed run now worker updates fault
+  no_run_frame : AreKept files after → IsProgramFile files run.image.now → IsFrameRefusal files failed run.frame.now fault
+      → IsRunRefusal files after failed run now worker updates fault
+  no_worker : (program : Contents) (bytes : List ℕ) → AreKept files after → AreRunInputs files run program bytes → 8 ≤ worker → fault ≡ faults.Options opens.BadOptions
+      → IsRunRefusal files after failed run now worker updates fault
+  not_run : (program : Contents) (bytes : List ℕ) → AreKept files after → AreRunInputs files run program bytes → worker < 8 → IsRunFault program.maps updates fault
+      → IsRunRefusal files after failed run now worker updates fault
+  stopped : (program : Contents) (bytes : List ℕ) (stop : Stop) → AreKept files after → AreRunInputs files run program bytes → worker < 8
+      → IsStoppedRun program bytes now worker updates stop → fault ≡ faults.Run stop → IsRunRefusal files after failed run now worker updates fault
+  not_told : (program : Contents) (bytes : List ℕ) → AreRunInputs files run program bytes → worker < 8
+      → IsEndedRun program bytes now worker updates → IsUnwritten failed fault → IsRunRefusal files after failed run now worker updates fault
+
+-- ---- replays
+
+-- The shipped program: the fault of a lookup table without a size that is served comes exactly for one; else memory was refused. Or the program breaks a
+-- rule: its first reject.
+pub data IsShippedRefusal (ring : ℕ) (fault : Fault) : Type 0 where
+  not_made : (why : SteerFault) → ((why ≡ steering.BadSize) ↔ (¬ IsRingSize ring)) → fault ≡ faults.Steering why → IsShippedRefusal ring fault
+  shipped_rejected : (image : Contents) (why : Reject) → image ≡ shipped_image ring → IsFirstReject image.version image.maps image.code why
+      → fault ≡ faults.Program why → IsShippedRefusal ring fault
+
+-- no program that may run: of the file, or where none is named the shipped one
+abbrev pub IsReplayProgramRefusal : FileBytes → Type 0 → Option (List ℕ) → ℕ → Fault → Type 0
+IsReplayProgramRefusal files failed (Some name) ring fault = IsProgramRefusal files failed name fault
+IsReplayProgramRefusal files failed None ring fault = IsShippedRefusal ring fault
+
+-- the program that is replayed
+pub record IsReplayProgram (files : FileBytes) (name : Option (List ℕ)) (ring : ℕ) (program : Contents) : Type 0 where
+  pub is : IsProgramOf files name ring program
+  pub safe : IsSafeImage program.maps program.code
+
+-- the file was not read, or its bytes are no script
+pub data IsScriptFileRefusal (files : FileBytes) (failed : Type 0) (name : List ℕ) (fault : Fault) : Type 0 where
+  no_script_bytes : IsUnserved failed fault → IsScriptFileRefusal files failed name fault
+  no_script : (bytes : List ℕ) (why : ControlFault) → files name bytes → ExplainsScript bytes why → fault ≡ faults.Script why
+      → IsScriptFileRefusal files failed name fault
+
+-- no script: of the file, or where none is named memory was refused for that of no commands
+abbrev pub IsScriptRefusal : FileBytes → Type 0 → Option (List ℕ) → Fault → Type 0
+IsScriptRefusal files failed (Some name) fault = IsScriptFileRefusal files failed name fault
+IsScriptRefusal files failed None fault = fault ≡ faults.Script scripts.Memory
+
+-- more bytes than a capture is read from, or bytes that are no capture
+pub data IsNoCapture (bytes : List ℕ) (fault : Fault) : Type 0 where
+  too_large : 2 ^ 40 < length bytes → fault ≡ faults.Memory → IsNoCapture bytes fault
+  no_records : (why : CaptureFault) → RefusesCapture bytes why → fault ≡ faults.Capture why → IsNoCapture bytes fault
+
+-- the file was not read, or its bytes are no capture
+pub data IsCaptureRefusal (files : FileBytes) (failed : Type 0) (name : List ℕ) (fault : Fault) : Type 0 where
+  no_capture_bytes : IsUnserved failed fault → IsCaptureRefusal files failed name fault
+  no_capture : (bytes : List ℕ) → files name bytes → IsNoCapture bytes fault → IsCaptureRefusal files failed name fault
+
+-- what a replay reads: a program that may run, a script and a capture
+pub record AreReplayInputs (files : FileBytes) (names : ReplayFiles) (ring : ℕ) (program : Contents) (script : List Command) (records : List Sent) :
+    Type 0 where
+  pub program_is : IsReplayProgram files (text_of names.image) ring program
+  pub script_is : IsScriptOf files (text_of names.script) script
+  pub capture_is : IsCaptureOf files names.capture.now records
+
+-- why the replay was given up: for its options exactly where no shards are opened with them, or the script has commands and the maps are not those of
+-- steering; else memory was refused, or a thread could not be started
+abbrev pub IsGivenUp : List MapDef → List Command → Options → ReplayFault → Type 0
+IsGivenUp maps script options why = (why ≡ replays.BadOptions) ↔ (IsFalse (are_served_options maps options) ⊎ HasNoTable maps script)
+
+-- xlb replay: no program that may run; no script; no capture; a replay that was given up, and until then no file changed; or one that was made, whose sent
+-- frames or journals were not written or for whose report memory was refused
+pub data IsReplayRefusal (files after : FileBytes) (failed : Type 0) (names : ReplayFiles) (options : Options) (ring : ℕ) (fault : Fault) : Type 0 where
+  no_replay_program : AreKept files after → IsReplayProgramRefusal files failed (text_of names.image) ring fault
+      → IsReplayRefusal files after failed names options ring fault
+  no_replay_script : (program : Contents) → AreKept files after → IsReplayProgram files (text_of names.image) ring program
+      → IsScriptRefusal files failed (text_of names.script) fault → IsReplayRefusal files after failed names options ring fault
+  no_replay_capture : (program : Contents) (script : List Command) → AreKept files after → IsReplayProgram files (text_of names.image) ring program
+      → IsScriptOf files (text_of names.script) script → IsCaptureRefusal files failed names.capture.now fault
+      → IsReplayRefusal files after failed names options ring fault
+  given_up : (program : Contents) (script : List Command) (records : List Sent) (why : ReplayFault) → AreKept files after
+      → AreReplayInputs files names ring program script records → IsGivenUp program.maps script options why → fault ≡ faults.Replay why
+      → IsReplayRefusal files after failed names options ring fault
+  not_written_down : (program : Contents) (script : List Command) (records : List Sent) (outcome : Outcome)
+      → AreReplayInputs files names ring program script records → IsAccounted (program_of_replay program options) script options records outcome
+      → IsUnwritten failed fault → IsReplayRefusal files after failed names options ring fault
+
+-- ---- commands
+
+-- the fault that a command is refused with
+abbrev pub IsRefusedWith : FileBytes → FileBytes → Type 0 → Settings → Fault → Type 0
+IsRefusedWith before after failed (Check image false) fault = IsCheckRefusal before failed image.now fault
+IsRefusedWith before after failed (Check image true) fault = IsExplainRefusal before failed image.now fault
+IsRefusedWith before after failed (Run files now worker updates) fault = IsRunRefusal before after failed files now worker updates.items fault
+IsRefusedWith before after failed (Disasm image source) fault = IsTextRefusal before failed image.now fault
+IsRefusedWith before after failed (Audit image journals) fault = IsAuditRefusal before failed image.now journals.now fault
+IsRefusedWith before after failed (Explain about) fault = fault ≡ faults.Memory
+IsRefusedWith before after failed (Asm text out false) fault = IsAsmRefusal before after failed text.now fault
+IsRefusedWith before after failed (Asm text out true) fault = IsSourceRefusal before after failed text.now fault
+IsRefusedWith before after failed (Replay files options ring) fault = IsReplayRefusal before after failed files options ring fault
+
+-- the fault that is told: the command was refused with it; or it was done, and what it prints could not be printed
+pub data IsToldFault (before after : FileBytes) (failed unprinted : Type 0) (settings : Settings) (fault : Fault) : Type 0 where
+  refused_with : IsRefusedWith before after failed settings fault → IsToldFault before after failed unprinted settings fault
+  not_printed : (printed : List ℕ) → IsDone before after settings printed ⊎ IsDoneInPart before after settings printed → unprinted
+      → fault ≡ faults.Output → IsToldFault before after failed unprinted settings fault
+
+-- ---- what is told
+
+-- the notes that go below the fault's line
+abbrev pub notes_told : {Z : Type 0} → Option (String Z) → List ℕ
+notes_told None = []
+notes_told (Some notes) = string_bytes notes
+
+-- A stream that held `before` was given one text more: the fault's line, and below it the notes' lines, each of which begins with two blanks. Where
+-- memory was refused for that text, it is the line of fault 8.
+pub data PrintsRefusal (fault : Fault) (notes : List ℕ) (before after : Option (List ℕ)) : Type 0 where
+  in_full : (text : List ℕ) → IsRefusalText (fault_line fault) notes text → after ≡ append_known before text → PrintsRefusal fault notes before after
+  lacks_text : after ≡ append_known before (codes "fault 8 Memory\n") → PrintsRefusal fault notes before after
+
+-- a stream: what it was given, where that is known, and how many of its calls failed
+pub record Stream : Type 0 where
+  pub held : Option (List ℕ)
+  pub failures : ℕ
+
+abbrev pub stream : Option (List ℕ) → ℕ → Stream
+stream held failures = record { held = held; failures = failures }
+
+-- A stream that held `before` was given one text more: which update the image's maps do not take, and why. Where memory was refused for that text, it is
+-- the line of fault 8.
+pub data PrintsMistake (place : ℕ) (misfit : Misfit) (before after : Option (List ℕ)) : Type 0 where
+  in_words : after ≡ append_known before (mistake_text place misfit) → PrintsMistake place misfit before after
+  lacks_words : after ≡ append_known before (codes "fault 8 Memory\n") → PrintsMistake place misfit before after
+
+-- a mistake of the command line that shows in the image was told on `err`, unless that failed, and `out` was given nothing
+pub record IsMistaken (before : FileBytes) (settings : Settings) (out out' err err' : Stream) : Type 0 where
+  pub place : ℕ
+  pub misfit : Misfit
+  pub is : IsMistake before settings place misfit
+  pub told : err'.failures ≡ err.failures → PrintsMistake place misfit err.held err'.held
+  pub nothing : out' ≡ out
+
+-- the line of the command's fault was given to `err`, unless that failed, and nothing to `out`, unless that failed
+pub record IsTold (before after : FileBytes) (failed : Type 0) (settings : Settings) (out out' err err' : Stream) : Type 0 where
+  pub fault : Fault
+  pub fault_is : IsToldFault before after failed (HasFailed out.failures out'.failures) settings fault
+  pub notes : List ℕ
+  pub told : err'.failures ≡ err.failures → PrintsRefusal fault notes err.held err'.held
+  pub nothing : out'.failures ≡ out.failures → out'.held ≡ out.held

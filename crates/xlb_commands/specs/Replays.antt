@@ -1,0 +1,119 @@
+-- What it means that a replay is done: the files that it read and wrote, and its report.
+use Rattle.std.specs.Prelude.{◌≡◌, ◌≢◌, ◌+◌, ◌++◌, ℕ, List, [], Option, Some, None, codes, decimal}
+use Rattle.std.specs.List.{flat_map}
+use Rattle.ebpf_decode.specs.ImageContents.{Contents}
+use Rattle.semantics.specs.Safety.{IsSafeImage}
+use Rattle.semantics.specs.declared.options.Options.{Options}
+use Rattle.semantics.specs.Program.{Program}
+use Rattle.wire.specs.CaptureFormat.{IsCaptureFile, capture_bytes}
+use Rattle.wire.specs.declared.records.Sent.{Sent}
+use Rattle.steer.specs.ShippedProgram.{shipped_image}
+use Rattle.control.specs.declared.command.Command.{Command}
+use Rattle.control.specs.declared.fault.ControlFault.{ControlFault}
+use Rattle.control.specs.FaultNumber.{control_fault_number}
+use Rattle.control.specs.ScriptText.{IsScriptText}
+use Rattle.journals.specs.JournalsView.{JournalsView}
+use Rattle.journal_files.specs.JournalText.{journals_text}
+use Rattle.workers.specs.declared.counts.Counts.{Counts}
+use Rattle.workers.specs.Accounts.{frames_in}
+use Rattle.actors.specs.declared.applied.Applied.{Applied}
+use Rattle.replay.specs.declared.outcome.Outcome.{Outcome}
+use Rattle.replay.specs.Accounted.{IsAccounted}
+use Rattle.command_line.specs.declared.commands.ReplayFiles.{ReplayFiles}
+use Rattle.command_line.specs.Reading.{text_of}
+use Rattle.xlb_commands.specs.Files.{FileBytes, IsImageFile}
+
+-- ---- what is read
+
+-- the image of the file, or where none is named the shipped one for a lookup table of so many slots
+abbrev pub IsProgramOf : FileBytes → Option (List ℕ) → ℕ → Contents → Type 0
+IsProgramOf files (Some name) ring image = IsImageFile files name image
+IsProgramOf files None ring image = image ≡ shipped_image ring
+
+-- the file's text is that of the script
+pub record IsScriptFile (files : FileBytes) (name : List ℕ) (script : List Command) : Type 0 where
+  pub bytes : List ℕ
+  pub read : files name bytes
+  pub spelled : IsScriptText bytes script
+
+-- the script of the file, or where none is named that of no commands
+abbrev pub IsScriptOf : FileBytes → Option (List ℕ) → List Command → Type 0
+IsScriptOf files (Some name) script = IsScriptFile files name script
+IsScriptOf files None script = IsScriptText [] script
+
+-- the file is a capture of these records
+pub record IsCaptureOf (files : FileBytes) (name : List ℕ) (records : List Sent) : Type 0 where
+  pub bytes : List ℕ
+  pub read : files name bytes
+  pub spelled : IsCaptureFile bytes records
+
+-- ---- what is written
+
+-- the file has the text of the journals, where one is named
+abbrev pub AreWritten : FileBytes → Option (List ℕ) → JournalsView → Type 0
+AreWritten files (Some name) journals = files name (journals_text journals)
+AreWritten files None journals = Unit {0}
+
+-- ---- the report
+
+-- the lines of frames that have no verdict
+abbrev pub frames_lines : ℕ → ℕ → ℕ → List ℕ
+frames_lines frames short stopped =
+    codes "frames " ++ (decimal frames ++ (codes "\nshort " ++ (decimal short ++ (codes "\nstopped " ++ (decimal stopped ++ codes "\n")))))
+
+-- the lines of those that have one
+abbrev pub verdicts_lines : ℕ → ℕ → ℕ → ℕ → List ℕ
+verdicts_lines aborted drop pass tx =
+    codes "aborted " ++
+    (decimal aborted ++ (codes "\ndrop " ++ (decimal drop ++ (codes "\npass " ++ (decimal pass ++ (codes "\ntx " ++ (decimal tx ++ codes "\n")))))))
+
+abbrev pub counts_text : Counts → List ℕ
+counts_text c = frames_lines (frames_in c) c.short c.stopped ++ verdicts_lines c.aborted c.drop c.pass c.tx
+
+-- the line of a command, counted from 1, that was refused for a fault of this number
+abbrev pub refusal_line : ℕ → ℕ → List ℕ
+refusal_line command fault = codes "command " ++ (decimal command ++ (codes " refused " ++ (decimal fault ++ codes "\n")))
+
+-- the line of a command, counted from 0, if it was refused
+abbrev pub refusal_of : ℕ → Option ControlFault → List ℕ
+refusal_of command None = []
+refusal_of command (Some fault) = refusal_line (command + 1) (control_fault_number fault)
+
+-- the lines of those that were refused
+abbrev pub refusals_text : List Applied → List ℕ
+refusals_text refused = flat_map (λ (one : Applied). refusal_of one.command one.fault) refused
+
+-- ---- a replay
+
+-- the image's program over maps of so many shards each
+abbrev pub program_of_replay : Contents → Options → Program
+program_of_replay image options = record { code = image.code; maps = image.maps; shards = options.shards }
+
+-- The program may run; script and capture are read from their files; the replay accounts for every record, every command and every entry of the
+-- journals; the sent frames and the journals are written to their files; and what is printed are the counts, and the commands that were refused.
+pub record IsReplayed (before after : FileBytes) (files : ReplayFiles) (options : Options) (ring : ℕ) (printed : List ℕ) (refused : List Applied) :
+    Type 0 where
+  pub program : Contents
+  pub program_is : IsProgramOf before (text_of files.image) ring program
+  pub safe : IsSafeImage program.maps program.code
+  pub script : List Command
+  pub script_is : IsScriptOf before (text_of files.script) script
+  pub records : List Sent
+  pub capture : IsCaptureOf before files.capture.now records
+  pub outcome : Outcome
+  pub accounted : IsAccounted (program_of_replay program options) script options records outcome
+  pub refused_are : outcome.refused.items ≡ refused
+  -- the journals are written after the sent frames, over them where both have one name
+  pub sent : text_of files.journals ≢ Some files.sent.now → after files.sent.now (capture_bytes outcome.sent.items)
+  pub journals : AreWritten after (text_of files.journals) outcome.journals
+  pub lines : printed ≡ counts_text outcome.counts ++ refusals_text refused
+
+-- and every command of the script was carried out
+abbrev pub IsReplayedWhole : FileBytes → FileBytes → ReplayFiles → Options → ℕ → List ℕ → Type 0
+IsReplayedWhole before after files options ring printed = IsReplayed before after files options ring printed []
+
+-- but some command of the script was refused
+pub record IsReplayedInPart (before after : FileBytes) (files : ReplayFiles) (options : Options) (ring : ℕ) (printed : List ℕ) : Type 0 where
+  pub refused : List Applied
+  pub some : refused ≢ []
+  pub replayed : IsReplayed before after files options ring printed refused

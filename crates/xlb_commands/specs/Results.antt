@@ -1,0 +1,211 @@
+-- What it means that a command is done: the files that it read and wrote, and what it printed.
+use Rattle.std.specs.Prelude.{◌≡◌, ◌<◌, ◌↔◌, ◌++◌, ℕ, List, [], Bool, true, false, Option, IsTrue, codes, decimal, length, string_bytes}
+use Rattle.std.specs.Io.KnownBytes.{append_known}
+use Rattle.abstract_state.specs.declared.state.State.{State}
+use Rattle.ebpf_decode.specs.ImageContents.{Contents}
+use Rattle.ebpf_decode.specs.InstructionEncoding.{total_slots}
+use Rattle.disasm.specs.AssemblyText.{IsAssemblyText}
+use Rattle.source_form.specs.SourceImage.{IsSource}
+use Rattle.semantics.specs.Safety.{IsSafeImage}
+use Rattle.verifier.specs.Dataflow.{Accepts}
+use Rattle.verifier.specs.Readers.{IsReader}
+use Rattle.hex.specs.Hex.{encode_lower}
+use Rattle.wire.specs.FrameView.{FrameView}
+use Rattle.semantics.specs.declared.options.Options.{Options}
+use Rattle.semantics.specs.declared.verdict.Verdict.{Verdict}
+use Rattle.semantics.specs.declared.verdict.Verdict.TheVariants.{Aborted, Drop, Pass, Tx}
+use Rattle.semantics.specs.MachineState.{MachineState, initial_state}
+use Rattle.semantics.specs.Program.{Program}
+use Rattle.semantics.specs.System.{IsInputFrame}
+use Rattle.single_run.specs.SingleRuns.{HasRunAlone}
+use Rattle.journals.specs.JournalsView.{JournalsView}
+use Rattle.journal_files.specs.JournalReading.{IsJournalsFile}
+use Rattle.audit.specs.Audited.{AreLegal}
+use Rattle.explanations.specs.Explanations.{explanation_text}
+use Rattle.reasons.specs.Explanations.{IsExplanation}
+use Rattle.command_line.specs.Reading.{text_of}
+use Rattle.map_updates.specs.Misfits.{IsFirstMisfit}
+use Rattle.map_updates.specs.declared.misfit.Misfit.{Misfit}
+use Rattle.map_updates.specs.declared.update.MapUpdate.{MapUpdate}
+use Rattle.xlb_commands.specs.declared.runs.RunAnswer.{RunAnswer}
+use Rattle.xlb_commands.specs.declared.runs.RunAnswer.TheVariants.{Printed, Mistaken}
+use Rattle.xlb_commands.specs.declared.serving.CommandAnswer.{CommandAnswer}
+use Rattle.xlb_commands.specs.declared.serving.CommandAnswer.TheVariants as answers
+use Rattle.xlb_commands.specs.Files.{FileBytes, AreKept, AreOthersKept, AreAllButKept, AreAllKeptBut, IsImageFile}
+use Rattle.xlb_commands.specs.Replays.{AreWritten, IsReplayedWhole, IsReplayedInPart}
+use Rattle.command_line.specs.declared.commands.RunFiles.{RunFiles}
+use Rattle.command_line.specs.declared.commands.Settings.{Settings}
+use Rattle.command_line.specs.declared.commands.Settings.TheVariants.{Check, Run, Disasm, Audit, Explain, Asm, Replay}
+
+abbrev pub yes_or_no : Bool → List ℕ
+yes_or_no true = codes "yes"
+yes_or_no false = codes "no"
+
+-- the line of an accepted image, from its numbers and a word
+abbrev pub accepted_text : ℕ → ℕ → List ℕ → List ℕ
+accepted_text slots maps reader =
+    codes "accepted slots " ++ (decimal slots ++ (codes " maps " ++ (decimal maps ++ (codes " reader " ++ (reader ++ codes "\n")))))
+
+abbrev pub accepted_line : Contents → Bool → List ℕ
+accepted_line image reader = accepted_text (total_slots image.code) (length image.maps) (yes_or_no reader)
+
+-- the image may run: the verifier accepts it, with these entry states, and it is safe
+pub record IsChecked (files : FileBytes) (name : List ℕ) (printed : List ℕ) : Type 0 where
+  pub image : Contents
+  pub file : IsImageFile files name image
+  pub states : List (Option State)
+  pub accepted : Accepts image.version image.maps image.code states
+  pub safe : IsSafeImage image.maps image.code
+  pub reader : Bool
+  pub reads : IsTrue reader ↔ IsReader image.code states
+  pub line : printed ≡ accepted_line image reader
+
+-- the same, and below it what is told of the program
+pub record IsExplained (files : FileBytes) (name : List ℕ) (printed : List ℕ) : Type 0 where
+  pub first : List ℕ
+  pub checked : IsChecked files name first
+  pub told : List ℕ
+  pub explanation : IsExplanation checked.image.version checked.image.maps checked.image.code told
+  pub both : printed ≡ first ++ told
+
+abbrev pub verdict_name : Verdict → List ℕ
+verdict_name Aborted = codes "aborted"
+verdict_name Drop = codes "drop"
+verdict_name Pass = codes "pass"
+verdict_name Tx = codes "tx"
+
+-- the lines of a run, from its words
+abbrev pub run_lines : List ℕ → ℕ → List ℕ → List ℕ
+run_lines verdict steps frame =
+    codes "verdict " ++ (verdict ++ (codes "\ninstructions " ++ (decimal steps ++ (codes "\nframe " ++ (frame ++ codes "\n")))))
+
+abbrev pub run_text : Verdict → ℕ → List ℕ → List ℕ
+run_text verdict steps frame = run_lines (verdict_name verdict) steps (encode_lower frame)
+
+-- how the maps of a run are opened
+abbrev pub run_options : Options
+run_options = record { workers = 8; shards = 1; journal = 65536 }
+
+-- the image's program over maps of one shard each
+abbrev pub program_of_run : Contents → Program
+program_of_run image = record { code = image.code; maps = image.maps; shards = 1 }
+
+-- where a run on a frame of these bytes begins
+abbrev pub start_of_run : List ℕ → ℕ → ℕ → MachineState
+start_of_run bytes worker now = initial_state (record { bytes = bytes; headroom = 256 }) worker now
+
+-- The image may run, the file of the frame is one, and there is such a worker. What is printed is what the program's run came to on the
+-- frame, at this time and as this worker, over maps in which nothing had happened but these updates: its own trace on replies that stand in
+-- journals, which are legal and have nothing but the updates and this run's calls. Where a file is named for them, it has these journals.
+pub record IsRun (before after : FileBytes) (files : RunFiles) (now worker : ℕ) (updates : List MapUpdate) (printed : List ℕ) : Type 0 where
+  pub program : Contents
+  pub file : IsImageFile before files.image.now program
+  pub safe : IsSafeImage program.maps program.code
+  pub bytes : List ℕ
+  pub read : before files.frame.now bytes
+  pub size : IsInputFrame bytes
+  pub worker_is : worker < 8
+  pub verdict : Verdict
+  pub steps : ℕ
+  pub left : FrameView
+  pub journals : JournalsView
+  pub run : HasRunAlone (program_of_run program) (start_of_run bytes worker now) run_options worker updates verdict steps left journals
+  pub written : AreWritten after (text_of files.journals) journals
+  pub lines : printed ≡ run_text verdict steps left.bytes
+
+-- the image may run, and does not take the update at this place, the first such, for this reason
+pub record IsMisfitRun (before : FileBytes) (files : RunFiles) (updates : List MapUpdate) (place : ℕ) (misfit : Misfit) : Type 0 where
+  pub program : Contents
+  pub file : IsImageFile before files.image.now program
+  pub safe : IsSafeImage program.maps program.code
+  pub first : IsFirstMisfit program.maps updates place misfit
+
+-- what a run comes to that is not refused
+abbrev pub IsRunAnswer : FileBytes → FileBytes → RunFiles → ℕ → ℕ → List MapUpdate → RunAnswer → Type 0
+IsRunAnswer before after files now worker updates (Printed text) = IsRun before after files now worker updates (string_bytes text)
+IsRunAnswer before after files now worker updates (Mistaken place misfit) = IsMisfitRun before files updates place misfit
+
+-- what is printed is the image's text
+pub record IsDisassembled (files : FileBytes) (name : List ℕ) (printed : List ℕ) : Type 0 where
+  pub image : Contents
+  pub file : IsImageFile files name image
+  pub text : IsAssemblyText printed image
+
+-- what is printed means the image in the source form
+pub record IsSourceShown (files : FileBytes) (name : List ℕ) (printed : List ℕ) : Type 0 where
+  pub image : Contents
+  pub file : IsImageFile files name image
+  pub shown : IsSource printed image
+
+-- the second file is one of journals of the image's maps, each journal is legal, and that is printed
+pub record IsAudited (files : FileBytes) (name journals : List ℕ) (printed : List ℕ) : Type 0 where
+  pub image : Contents
+  pub file : IsImageFile files name image
+  pub bytes : List ℕ
+  pub read : files journals bytes
+  pub told : JournalsView
+  pub spelled : IsJournalsFile image.maps bytes told
+  pub legal : AreLegal told
+  pub line : printed ≡ codes "legal\n"
+
+-- the text of the first file spells the image that the second file now has
+pub record IsAssembled (before after : FileBytes) (source target : List ℕ) : Type 0 where
+  pub text : List ℕ
+  pub read : before source text
+  pub image : Contents
+  pub spelled : IsAssemblyText text image
+  pub written : IsImageFile after target image
+
+-- the text of the first file means, in the source form, the image that the second file now has
+pub record IsSourceAssembled (before after : FileBytes) (source target : List ℕ) : Type 0 where
+  pub text : List ℕ
+  pub read : before source text
+  pub image : Contents
+  pub spelled : IsSource text image
+  pub written : IsImageFile after target image
+
+-- the command is done over these files, before and after, with this print
+abbrev pub IsDone : FileBytes → FileBytes → Settings → List ℕ → Type 0
+IsDone before after (Check image false) printed = IsChecked before image.now printed
+IsDone before after (Check image true) printed = IsExplained before image.now printed
+IsDone before after (Run files now worker updates) printed = IsRun before after files now worker updates.items printed
+IsDone before after (Disasm image false) printed = IsDisassembled before image.now printed
+IsDone before after (Disasm image true) printed = IsSourceShown before image.now printed
+IsDone before after (Audit image journals) printed = IsAudited before image.now journals.now printed
+IsDone before after (Explain about) printed = printed ≡ explanation_text about
+IsDone before after (Asm text out false) printed = IsAssembled before after text.now out.now × (printed ≡ [])
+IsDone before after (Asm text out true) printed = IsSourceAssembled before after text.now out.now × (printed ≡ [])
+IsDone before after (Replay files options ring) printed = IsReplayedWhole before after files options ring printed
+
+-- the command is done but for a part that was refused, as the report tells: commands of a replay's script
+abbrev pub IsDoneInPart : FileBytes → FileBytes → Settings → List ℕ → Type 0
+IsDoneInPart before after (Replay files options ring) printed = IsReplayedInPart before after files options ring printed
+IsDoneInPart before after other printed = ⊥
+
+-- no file changes but those that the command is to write, whether it is done or refused
+abbrev pub KeepsFiles : FileBytes → FileBytes → Settings → Type 0
+KeepsFiles before after (Check image explain) = AreKept before after
+KeepsFiles before after (Run files now worker updates) = AreAllKeptBut before after (text_of files.journals)
+KeepsFiles before after (Disasm image source) = AreKept before after
+KeepsFiles before after (Audit image journals) = AreKept before after
+KeepsFiles before after (Explain about) = AreKept before after
+KeepsFiles before after (Asm text out source) = AreOthersKept before after out.now
+KeepsFiles before after (Replay files options ring) = AreAllButKept before after files.sent.now (text_of files.journals)
+
+-- the report was printed, and nothing else
+pub record IsReported (before after : FileBytes) (settings : Settings) (out out' err err' : Option (List ℕ)) : Type 0 where
+  pub text : List ℕ
+  pub done : IsDoneInPart before after settings text
+  pub printed : out' ≡ append_known out text
+  pub quiet : err' ≡ err
+
+-- a mistake of the command line that shows in the image: its maps do not take an update of a run
+abbrev pub IsMistake : FileBytes → Settings → ℕ → Misfit → Type 0
+IsMistake before (Run files now worker updates) place misfit = IsMisfitRun before files updates.items place misfit
+IsMistake before other place misfit = ⊥
+
+-- what a command comes to that is not refused: it was done, whole or in part, or its words are mistaken
+abbrev pub IsAnswer : FileBytes → FileBytes → Settings → CommandAnswer → Type 0
+IsAnswer before after settings (answers.Reported report) = (report.is_refused ≡ false → IsDone before after settings (string_bytes report.text))
+    × (report.is_refused ≡ true → IsDoneInPart before after settings (string_bytes report.text))
+IsAnswer before after settings (answers.Mistaken place misfit) = IsMistake before settings place misfit

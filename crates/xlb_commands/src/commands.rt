@@ -1,0 +1,414 @@
+//! What each command does with its files.
+
+ghost use Rattle.std.specs.Prelude.{◌≡◌, ◌↔◌, ◌+◌, ◌-◌, ◌%◌, ◌<◌, ◌≤◌, ◌^◌, ℕ, [], List, length, string_bytes};
+ghost use Rattle.std.specs.Prelude.{IfErr, IfOk, IsUtf8, OnOk};
+ghost use Rattle.semantics.specs.Safety.{IsSafeImage};
+ghost use Rattle.semantics.specs.System.{IsInputFrame};
+ghost use Rattle.disasm.specs.AssemblyText.{IsAssemblyText};
+ghost use Rattle.text_lines.specs.NoText.{IsNoText};
+ghost use Rattle.folders.specs.Fronts.{HasFront, IsFrontOf};
+ghost use Rattle.xlb_commands.specs.Files.{AreKept, AreOthersKept, IsImageFile};
+ghost use Rattle.xlb_commands.specs.Results.{IsChecked, IsExplained, IsDisassembled, IsSourceShown, IsAudited, IsAssembled, IsSourceAssembled};
+ghost use Rattle.xlb_commands.specs.Refused.{HasFailed, IsUnserved, IsUnwritten, IsDecodeRefusal, IsImageRefusal, IsProgramRefusal, IsFrameRefusal};
+ghost use Rattle.xlb_commands.specs.Refused.{IsCheckRefusal, IsExplainRefusal, IsTextRefusal, IsAuditRefusal};
+ghost use Rattle.xlb_commands.specs.Refused.{IsSpellingRefusal, IsAsmRefusal, IsSourceRefusal};
+ghost use Rattle.disasm.specs.declared.fault.AsmFault.TheVariants.{BadLine};
+
+use crate::fault::{Fault, Refusal};
+use crate::hints;
+use crate::report::accepted;
+use audit::audit;
+use disasm::{AsmFault, assemble, text};
+use ebpf_decode::{DecodeFault, Image, decode, encode};
+use folders::{Folder, FolderFault, Front};
+use journal_files::journals_of;
+use reasons::explain;
+use source_form::{SourceFault, assemble_source, explain as explain_source, source};
+use std::alloc::{AllocError, Global};
+use text_lines::text_or_line;
+use verifier::{Verified, verify};
+use wire::{Frame, FrameFault};
+
+/// What is printed of legal journals.
+const LEGAL: &str = "legal\n";
+
+/// The most bytes that are kept of an image's file: more than the longest image has.
+const MOST_OF_IMAGE: usize = 33_048;
+
+/// The most bytes that are kept of a frame's file.
+const MOST_OF_FRAME: usize = 2049;
+
+/// Why a file was not read or written, with the system's word for it.
+pub(crate) fn unserved<D: Folder>(
+    alloc: Global,
+    folder: &D,
+    name: &str,
+    fault: FolderFault,
+) -> Refusal
+    ensures { result.fault ≡ Fault.Folder fault }
+{
+    match fault {
+        FolderFault::Device => {
+            Refusal::noted(Fault::Folder(fault), folder.complaint(alloc, name))
+        }
+        FolderFault::Memory => Refusal::from(Fault::Folder(fault)),
+    }
+}
+
+/// The bytes of a file.
+pub(crate) fn bytes_of<D: Folder>(
+    alloc: Global,
+    folder: &mut D,
+    name: &str,
+) -> Result<Vec<u8>, Refusal>
+    requires { D.failure_count folder.old < 2 ^ 64 - 1 }
+    ensures bytes { IfOk result (λ bytes. D.holds folder.old name.now bytes.items) }
+    ensures kept { AreKept (D.holds folder.old) (D.holds folder.new) }
+    ensures steady { OnOk result (D.failure_count folder.new ≡ D.failure_count folder.old) }
+    ensures refused { IfErr result (λ refusal. IsUnserved (HasFailed (D.failure_count folder.old) (D.failure_count folder.new)) refusal.fault) }
+{
+    match folder.read(alloc, name) {
+        Ok(bytes) => Ok(bytes),
+        Err(fault) => Err(unserved(alloc, folder, name, fault)),
+    }
+}
+
+/// The first bytes of a file.
+fn front_of<D: Folder>(
+    alloc: Global,
+    folder: &mut D,
+    name: &str,
+    most: usize,
+) -> Result<Front, Refusal>
+    requires { D.failure_count folder.old < 2 ^ 64 - 1 }
+    ensures front { IfOk result (HasFront (D.holds folder.old name.now) most) }
+    ensures kept { AreKept (D.holds folder.old) (D.holds folder.new) }
+    ensures steady { OnOk result (D.failure_count folder.new ≡ D.failure_count folder.old) }
+    ensures refused { IfErr result (λ refusal. IsUnserved (HasFailed (D.failure_count folder.old) (D.failure_count folder.new)) refusal.fault) }
+{
+    match folder.read_front(alloc, name, most) {
+        Ok(front) => Ok(front),
+        Err(fault) => Err(unserved(alloc, folder, name, fault)),
+    }
+}
+
+/// How many of the first bytes of a file that is longer than any image have as many beyond whole slots as all have.
+fn shown_of_long(length: u64) -> usize
+    ensures least { 33040 ≤ result }
+    ensures most { result ≤ 33048 }
+    ensures whole { length % 8 ≡ result % 8 }
+{
+    let odd = (length % 8) as usize;
+    if odd == 0 {
+        MOST_OF_IMAGE
+    } else {
+        MOST_OF_IMAGE - 8 + odd
+    }
+}
+
+/// The first fault of a file that is longer than any image: what counts of it besides its front is whether its slots are whole.
+fn fault_of_long(alloc: Global, front: &Front) -> DecodeFault
+    requires { 33048 ≤ length front.now.bytes.items }
+    ensures { (bytes : List ℕ) → IsFrontOf bytes 33048 front.now → IsDecodeRefusal bytes result }
+{
+    let shown = &front.bytes[..shown_of_long(front.length)];
+    let Err(fault) = decode(alloc, shown) else {
+        return DecodeFault::TooLong;
+    };
+    fault
+}
+
+/// The image of a file.
+pub(crate) fn image_of<D: Folder>(
+    alloc: Global,
+    folder: &mut D,
+    name: &str,
+) -> Result<Image, Refusal>
+    requires { D.failure_count folder.old < 2 ^ 64 - 1 }
+    ensures file { IfOk result (λ image. IsImageFile (D.holds folder.old) name.now image) }
+    ensures kept { AreKept (D.holds folder.old) (D.holds folder.new) }
+    ensures steady { OnOk result (D.failure_count folder.new ≡ D.failure_count folder.old) }
+    ensures refused { IfErr result (λ refusal. IsImageRefusal (D.holds folder.old)
+        (HasFailed (D.failure_count folder.old) (D.failure_count folder.new)) name.now refusal.fault) }
+{
+    let front = front_of(alloc, folder, name, MOST_OF_IMAGE)?;
+    if !front.is_whole() {
+        let fault = fault_of_long(alloc, &front);
+        return Err(refused_image(alloc, &front.bytes, fault));
+    }
+    match decode(alloc, &front.bytes) {
+        Ok(image) => Ok(image),
+        Err(fault) => Err(refused_image(alloc, &front.bytes, fault)),
+    }
+}
+
+/// Bytes that are no image.
+fn refused_image(alloc: Global, bytes: &[u8], fault: DecodeFault) -> Refusal
+    ensures { result.fault ≡ Fault.Decode fault }
+{
+    Refusal::hinted(Fault::Decode(fault), hints::of_image(alloc, bytes))
+}
+
+/// The image of a file, if the verifier accepts it.
+pub(crate) fn judged_of<D: Folder>(
+    alloc: Global,
+    folder: &mut D,
+    name: &str,
+) -> Result<Verified, Refusal>
+    requires { D.failure_count folder.old < 2 ^ 64 - 1 }
+    ensures file { IfOk result (λ verified. IsImageFile (D.holds folder.old) name.now
+        (record { version = verified.version; maps = verified.maps; code = verified.code })) }
+    ensures safe { IfOk result (λ verified. IsSafeImage verified.maps verified.code) }
+    ensures kept { AreKept (D.holds folder.old) (D.holds folder.new) }
+    ensures steady { OnOk result (D.failure_count folder.new ≡ D.failure_count folder.old) }
+    ensures refused { IfErr result (λ refusal. IsProgramRefusal (D.holds folder.old)
+        (HasFailed (D.failure_count folder.old) (D.failure_count folder.new)) name.now refusal.fault) }
+{
+    let image = image_of(alloc, folder, name)?;
+    match verify(alloc, image) {
+        Ok(verified) => Ok(verified),
+        Err(reject) => Err(Refusal::from(Fault::Program(reject))),
+    }
+}
+
+/// The frame of a file.
+pub(crate) fn frame_of<D: Folder>(
+    alloc: Global,
+    folder: &mut D,
+    name: &str,
+) -> Result<Frame, Refusal>
+    requires { D.failure_count folder.old < 2 ^ 64 - 1 }
+    ensures read { IfOk result (λ frame. D.holds folder.old name.now frame.bytes) }
+    ensures size { IfOk result (λ frame. IsInputFrame frame.bytes) }
+    ensures headroom { IfOk result (λ frame. frame.headroom ≡ 256) }
+    ensures kept { AreKept (D.holds folder.old) (D.holds folder.new) }
+    ensures steady { OnOk result (D.failure_count folder.new ≡ D.failure_count folder.old) }
+    ensures refused { IfErr result (λ refusal. IsFrameRefusal (D.holds folder.old)
+        (HasFailed (D.failure_count folder.old) (D.failure_count folder.new)) name.now refusal.fault) }
+{
+    let front = front_of(alloc, folder, name, MOST_OF_FRAME)?;
+    if !front.is_whole() {
+        return Err(refused_frame(alloc, &front.bytes, FrameFault::FrameTooLong));
+    }
+    match Frame::of(alloc, &front.bytes) {
+        Ok(frame) => {
+            known(&frame);
+            Ok(frame)
+        }
+        Err(fault) => Err(refused_frame(alloc, &front.bytes, fault)),
+    }
+}
+
+/// Bytes that are no frame.
+fn refused_frame(alloc: Global, bytes: &[u8], fault: FrameFault) -> Refusal
+    ensures { result.fault ≡ Fault.Frame fault }
+{
+    Refusal::hinted(Fault::Frame(fault), hints::of_frame(alloc, bytes))
+}
+
+/// What every frame's bytes are.
+fn known(frame: &Frame)
+    requires { (14 ≤ length frame.now.bytes) × (length frame.now.bytes ≤ 2048) }
+    ensures { IsInputFrame frame.now.bytes }
+{
+    let _ = frame.bytes();
+}
+
+/// Judges an image.
+pub fn check<D: Folder>(alloc: Global, folder: &mut D, image: &str) -> Result<String, Refusal>
+    requires { D.failure_count folder.old < 2 ^ 64 - 1 }
+    ensures done { IfOk result (λ text. IsChecked (D.holds folder.old) image.now (string_bytes text)) }
+    ensures kept { AreKept (D.holds folder.old) (D.holds folder.new) }
+    ensures refused { IfErr result (λ refusal. IsCheckRefusal (D.holds folder.old)
+        (HasFailed (D.failure_count folder.old) (D.failure_count folder.new)) image.now refusal.fault) }
+{
+    let verified = judged_of(alloc, folder, image)?;
+    Ok(accepted(alloc, &verified)?)
+}
+
+/// Judges an image, and tells why.
+pub fn check_explained<D: Folder>(
+    alloc: Global,
+    folder: &mut D,
+    image: &str,
+) -> Result<String, Refusal>
+    requires { D.failure_count folder.old < 2 ^ 64 - 1 }
+    ensures done { IfOk result (λ text. IsExplained (D.holds folder.old) image.now (string_bytes text)) }
+    ensures kept { AreKept (D.holds folder.old) (D.holds folder.new) }
+    ensures refused { IfErr result (λ refusal. IsExplainRefusal (D.holds folder.old)
+        (HasFailed (D.failure_count folder.old) (D.failure_count folder.new)) image.now refusal.fault) }
+{
+    let image = image_of(alloc, folder, image)?;
+    let reasons = explain(alloc, &image)?;
+    match verify(alloc, image) {
+        Ok(verified) => {
+            let mut text = accepted(alloc, &verified)?;
+            text.push_str(reasons.as_str())?;
+            Ok(text)
+        }
+        Err(reject) => Err(Refusal {
+            fault: Fault::Program(reject),
+            notes: Some(reasons),
+        }),
+    }
+}
+
+/// The source form of an image.
+pub fn disassemble_source<D: Folder>(
+    alloc: Global,
+    folder: &mut D,
+    image: &str,
+) -> Result<String, Refusal>
+    requires { D.failure_count folder.old < 2 ^ 64 - 1 }
+    ensures done { IfOk result (λ text. IsSourceShown (D.holds folder.old) image.now (string_bytes text)) }
+    ensures kept { AreKept (D.holds folder.old) (D.holds folder.new) }
+    ensures refused { IfErr result (λ refusal. IsTextRefusal (D.holds folder.old)
+        (HasFailed (D.failure_count folder.old) (D.failure_count folder.new)) image.now refusal.fault) }
+{
+    let image = image_of(alloc, folder, image)?;
+    Ok(source(alloc, &image)?)
+}
+
+/// The text of an image.
+pub fn disassemble<D: Folder>(alloc: Global, folder: &mut D, image: &str) -> Result<String, Refusal>
+    requires { D.failure_count folder.old < 2 ^ 64 - 1 }
+    ensures done { IfOk result (λ text. IsDisassembled (D.holds folder.old) image.now (string_bytes text)) }
+    ensures kept { AreKept (D.holds folder.old) (D.holds folder.new) }
+    ensures refused { IfErr result (λ refusal. IsTextRefusal (D.holds folder.old)
+        (HasFailed (D.failure_count folder.old) (D.failure_count folder.new)) image.now refusal.fault) }
+{
+    let image = image_of(alloc, folder, image)?;
+    Ok(text(alloc, &image)?)
+}
+
+/// Tells whether the journals of a file are legal for the maps of an image.
+pub fn audit_file<D: Folder>(
+    alloc: Global,
+    folder: &mut D,
+    image: &str,
+    journals: &str,
+) -> Result<String, Refusal>
+    requires { D.failure_count folder.old < 2 ^ 64 - 1 }
+    ensures done { IfOk result (λ text. IsAudited (D.holds folder.old) image.now journals.now (string_bytes text)) }
+    ensures kept { AreKept (D.holds folder.old) (D.holds folder.new) }
+    ensures refused { IfErr result (λ refusal. IsAuditRefusal (D.holds folder.old)
+        (HasFailed (D.failure_count folder.old) (D.failure_count folder.new)) image.now journals.now refusal.fault) }
+{
+    let image = image_of(alloc, folder, image)?;
+    let bytes = bytes_of(alloc, folder, journals)?;
+    let journals = match journals_of(alloc, &image, &bytes) {
+        Ok(journals) => journals,
+        Err(fault) => return Err(Refusal::from(Fault::Journals(fault))),
+    };
+    match audit(alloc, &journals) {
+        Ok(()) => Ok(String::from_str(alloc, LEGAL)?),
+        Err(fault) => Err(Refusal::from(Fault::Audit(fault))),
+    }
+}
+
+/// The text of a file, if all of it is UTF-8; else 21 with the line of the first byte that is not.
+fn utf8(bytes: &[u8]) -> Result<&str, AsmFault>
+    ensures text { IfOk result (λ text. (text.now ≡ bytes.now) × IsUtf8 bytes.now) }
+    ensures no_text { IfErr result (λ fault. (line : ℕ) × IsNoText bytes.now line × (fault ≡ BadLine line)) }
+{
+    match text_or_line(bytes) {
+        Ok(text) => Ok(text),
+        Err(line) => Err(AsmFault::BadLine { line }),
+    }
+}
+
+/// The image of a text.
+fn assembled(alloc: Global, bytes: &[u8]) -> Result<Image, AsmFault>
+    ensures found { IfOk result (λ image. IsAssemblyText bytes.now image) }
+    ensures refused { IfErr result (IsSpellingRefusal bytes.now) }
+{
+    let text = utf8(bytes)?;
+    assemble(alloc, text)
+}
+
+/// Why a text was refused, and where to look.
+fn refused_text(alloc: Global, bytes: &[u8], fault: AsmFault) -> Refusal
+    ensures { result.fault ≡ Fault.Text fault }
+{
+    Refusal::hinted(Fault::Text(fault), noted_text(alloc, bytes, fault))
+}
+
+/// What is told of a text that was refused.
+fn noted_text(alloc: Global, bytes: &[u8], fault: AsmFault) -> Result<Option<String>, AllocError> {
+    match (fault, str::from_utf8(bytes)) {
+        (AsmFault::Image(why), Ok(text)) => {
+            Ok(Some(explain_source(alloc, text, SourceFault::Image(why))?))
+        }
+        (AsmFault::Memory, _) => Ok(None),
+        _ => hints::of_text(alloc, bytes),
+    }
+}
+
+/// Writes an image to a file.
+fn write_image<D: Folder>(
+    alloc: Global,
+    folder: &mut D,
+    image: &Image,
+    out: &str,
+) -> Result<String, Refusal>
+    requires { D.failure_count folder.old < 2 ^ 64 - 1 }
+    ensures written { OnOk result (IsImageFile (D.holds folder.new) out.now image.now) }
+    ensures silent { IfOk result (λ printed. string_bytes printed ≡ []) }
+    ensures others { AreOthersKept (D.holds folder.old) (D.holds folder.new) out.now }
+    ensures refused { IfErr result (λ refusal. IsUnwritten (HasFailed (D.failure_count folder.old) (D.failure_count folder.new)) refusal.fault) }
+{
+    let bytes = encode(alloc, image)?;
+    match folder.write(alloc, out, &bytes) {
+        Ok(()) => Ok(String::new(alloc)),
+        Err(fault) => Err(unserved(alloc, folder, out, fault)),
+    }
+}
+
+/// Writes the image of a text.
+pub fn assemble_file<D: Folder>(
+    alloc: Global,
+    folder: &mut D,
+    text: &str,
+    out: &str,
+) -> Result<String, Refusal>
+    requires { D.failure_count folder.old < 2 ^ 64 - 1 }
+    ensures done { OnOk result (IsAssembled (D.holds folder.old) (D.holds folder.new) text.now out.now) }
+    ensures silent { IfOk result (λ printed. string_bytes printed ≡ []) }
+    ensures others { AreOthersKept (D.holds folder.old) (D.holds folder.new) out.now }
+    ensures refused { IfErr result (λ refusal. IsAsmRefusal (D.holds folder.old) (D.holds folder.new)
+        (HasFailed (D.failure_count folder.old) (D.failure_count folder.new)) text.now refusal.fault) }
+{
+    let bytes = bytes_of(alloc, folder, text)?;
+    match assembled(alloc, &bytes) {
+        Ok(image) => write_image(alloc, folder, &image, out),
+        Err(fault) => Err(refused_text(alloc, &bytes, fault)),
+    }
+}
+
+/// Writes the image of a text in the source form.
+pub fn assemble_source_file<D: Folder>(
+    alloc: Global,
+    folder: &mut D,
+    text: &str,
+    out: &str,
+) -> Result<String, Refusal>
+    requires { D.failure_count folder.old < 2 ^ 64 - 1 }
+    ensures done { OnOk result (IsSourceAssembled (D.holds folder.old) (D.holds folder.new) text.now out.now) }
+    ensures silent { IfOk result (λ printed. string_bytes printed ≡ []) }
+    ensures others { AreOthersKept (D.holds folder.old) (D.holds folder.new) out.now }
+    ensures refused { IfErr result (λ refusal. IsSourceRefusal (D.holds folder.old) (D.holds folder.new)
+        (HasFailed (D.failure_count folder.old) (D.failure_count folder.new)) text.now refusal.fault) }
+{
+    let bytes = bytes_of(alloc, folder, text)?;
+    let source = match utf8(&bytes) {
+        Ok(source) => source,
+        Err(fault) => return Err(refused_text(alloc, &bytes, fault)),
+    };
+    match assemble_source(alloc, source) {
+        Ok(image) => write_image(alloc, folder, &image, out),
+        Err(fault) => Err(Refusal::noted(
+            Fault::Source(fault),
+            explain_source(alloc, source, fault),
+        )),
+    }
+}

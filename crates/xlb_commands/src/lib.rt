@@ -1,0 +1,18 @@
+//! What each command of `xlb` does: images of eBPF programs checked, run on a frame, printed and assembled, captures replayed, journals audited.
+#![tactic(auto)]
+
+mod commands;
+mod fault;
+mod fault_lines;
+mod hints;
+mod progress;
+mod replays;
+mod report;
+mod runs;
+mod serving;
+mod written;
+
+pub use fault::{Fault, Refusal};
+pub use fault_lines::fault_line;
+pub use progress::{NoProgress, Progress, TerminalProgress};
+pub use serving::serve;

@@ -1,0 +1,222 @@
+//! What `xlb replay` does with its files.
+
+ghost use Rattle.std.specs.Prelude.{◌≡◌, ◌==◌, ◌↔◌, ◌+◌, ◌-◌, ◌<◌, ◌≤◌, ◌^◌, ℕ, [], true, false, List, IfErr, IfOk, OnOk, length, string_bytes};
+ghost use Rattle.semantics.specs.Safety.{IsSafeImage};
+ghost use Rattle.wire.specs.CaptureFormat.{IsCaptureFile, capture_bytes};
+ghost use Rattle.steer.specs.ShippedProgram.{shipped_image};
+ghost use Rattle.control.specs.ScriptText.{IsScriptText};
+ghost use Rattle.control.specs.ScriptReading.{Explains};
+ghost use Rattle.control.specs.declared.command.Command.{Command};
+ghost use Rattle.control.specs.declared.fault.ControlFault.{ControlFault};
+ghost use Rattle.control.specs.declared.fault.ControlFault.TheVariants as scripts;
+ghost use Rattle.actors.specs.declared.applied.Applied.{Applied as Noted};
+ghost use Rattle.command_line.specs.Reading.{text_of};
+ghost use Rattle.xlb_commands.specs.Files.{AreKept, AreOthersKept, AreAllButKept};
+ghost use Rattle.xlb_commands.specs.Refused.{HasFailed, IsUnwritten, IsShippedRefusal, IsReplayProgramRefusal, IsScriptFileRefusal, IsScriptRefusal};
+ghost use Rattle.xlb_commands.specs.Refused.{IsNoCapture, IsCaptureRefusal, IsReplayRefusal};
+ghost use Rattle.xlb_commands.specs.Replays.{IsProgramOf, IsScriptOf, IsScriptFile, IsCaptureOf, IsReplayed};
+
+use crate::commands::{bytes_of, judged_of, unserved};
+use crate::fault::{Fault, Refusal};
+use crate::hints;
+use crate::progress::{Progress, Rounds};
+use crate::report::{Report, replayed};
+use crate::written::write_journals_to;
+use command_line::ReplayFiles;
+use control::{Script, parse_script};
+use folders::Folder;
+use replay::replay;
+use semantics::Options;
+use std::alloc::{AllocError, Global};
+use std::sync::Wait;
+use std::thread::Threads;
+use steer::shipped;
+use verifier::{Verified, verify};
+use wire::{Capture, MemorySink, MemorySource, Sent, read_capture, write_capture};
+
+/// The most bytes that a capture is read from.
+const MOST: u64 = 1 << 40;
+
+/// The shipped program, which the verifier has to accept as any other.
+fn shipped_program(alloc: Global, ring: u32) -> Result<Verified, Refusal>
+    ensures image { IfOk result (λ verified. record { version = verified.version; maps = verified.maps; code = verified.code } ≡ shipped_image ring) }
+    ensures safe { IfOk result (λ verified. IsSafeImage verified.maps verified.code) }
+    ensures refused { IfErr result (λ refusal. IsShippedRefusal ring refusal.fault) }
+{
+    let image = match shipped(alloc, ring) {
+        Ok(image) => image,
+        Err(fault) => return Err(Refusal::from(Fault::Steering(fault))),
+    };
+    match verify(alloc, image) {
+        Ok(verified) => Ok(verified),
+        Err(reject) => Err(Refusal::from(Fault::Program(reject))),
+    }
+}
+
+/// The program of a replay: a file's, if the verifier accepts it, or the shipped one.
+fn program_of<D: Folder>(
+    alloc: Global,
+    folder: &mut D,
+    image: Option<&str>,
+    ring: u32,
+) -> Result<Verified, Refusal>
+    requires { D.failure_count folder.old < 2 ^ 64 - 1 }
+    ensures program { IfOk result (λ verified. IsProgramOf (D.holds folder.old) (text_of image.entry) ring
+        (record { version = verified.version; maps = verified.maps; code = verified.code })) }
+    ensures safe { IfOk result (λ verified. IsSafeImage verified.maps verified.code) }
+    ensures kept { AreKept (D.holds folder.old) (D.holds folder.new) }
+    ensures steady { OnOk result (D.failure_count folder.new ≡ D.failure_count folder.old) }
+    ensures refused { IfErr result (λ refusal. IsReplayProgramRefusal (D.holds folder.old)
+        (HasFailed (D.failure_count folder.old) (D.failure_count folder.new)) (text_of image.entry) ring refusal.fault) }
+{
+    match image {
+        Some(name) => judged_of(alloc, folder, name),
+        None => shipped_program(alloc, ring),
+    }
+}
+
+/// The script of a text.
+fn parsed(alloc: Global, bytes: &[u8]) -> Result<Script, Refusal>
+    ensures script { IfOk result (λ script. IsScriptText bytes.now script) }
+    ensures refused { IfErr result (λ refusal. (why : ControlFault) × Explains bytes.now why × (refusal.fault ≡ Fault.Script why)) }
+    ensures accepts { (script : List Command) → IsScriptText bytes.now script → IfErr result (λ refusal. refusal.fault ≡ Fault.Script scripts.Memory) }
+{
+    match parse_script(alloc, bytes) {
+        Ok(script) => Ok(script),
+        Err(fault) => Err(Refusal::from(Fault::Script(fault))),
+    }
+}
+
+/// The script of a file.
+fn script_file<D: Folder>(alloc: Global, folder: &mut D, name: &str) -> Result<Script, Refusal>
+    requires { D.failure_count folder.old < 2 ^ 64 - 1 }
+    ensures script { IfOk result (λ found. IsScriptFile (D.holds folder.old) name.now found) }
+    ensures kept { AreKept (D.holds folder.old) (D.holds folder.new) }
+    ensures steady { OnOk result (D.failure_count folder.new ≡ D.failure_count folder.old) }
+    ensures refused { IfErr result (λ refusal. IsScriptFileRefusal (D.holds folder.old)
+        (HasFailed (D.failure_count folder.old) (D.failure_count folder.new)) name.now refusal.fault) }
+{
+    let bytes = bytes_of(alloc, folder, name)?;
+    parsed(alloc, &bytes)
+}
+
+/// The script of no commands.
+fn no_commands(alloc: Global) -> Result<Script, Refusal>
+    ensures script { IfOk result (IsScriptText []) }
+    ensures refused { IfErr result (λ refusal. refusal.fault ≡ Fault.Script scripts.Memory) }
+{
+    parsed(alloc, b"")
+}
+
+/// The script of a replay: a file's, or that of no commands.
+fn script_of<D: Folder>(
+    alloc: Global,
+    folder: &mut D,
+    script: Option<&str>,
+) -> Result<Script, Refusal>
+    requires { D.failure_count folder.old < 2 ^ 64 - 1 }
+    ensures script { IfOk result (λ found. IsScriptOf (D.holds folder.old) (text_of script.entry) found) }
+    ensures kept { AreKept (D.holds folder.old) (D.holds folder.new) }
+    ensures steady { OnOk result (D.failure_count folder.new ≡ D.failure_count folder.old) }
+    ensures refused { IfErr result (λ refusal. IsScriptRefusal (D.holds folder.old)
+        (HasFailed (D.failure_count folder.old) (D.failure_count folder.new)) (text_of script.entry) refusal.fault) }
+{
+    match script {
+        Some(name) => script_file(alloc, folder, name),
+        None => no_commands(alloc),
+    }
+}
+
+/// The records of a capture's bytes.
+fn records_of(alloc: Global, bytes: &[u8]) -> Result<Capture, Refusal>
+    ensures records { IfOk result (λ capture. IsCaptureFile bytes.now capture.records.items) }
+    ensures refused { IfErr result (λ refusal. IsNoCapture bytes.now refusal.fault) }
+{
+    if bytes.len() as u64 > MOST {
+        return Err(Refusal::from(Fault::Memory));
+    }
+    match read_capture(alloc, &mut MemorySource::new(bytes)) {
+        Ok(capture) => Ok(capture),
+        Err(fault) => Err(Refusal::hinted(
+            Fault::Capture(fault),
+            hints::of_capture(alloc, bytes, fault),
+        )),
+    }
+}
+
+/// The capture of a file.
+fn capture_of<D: Folder>(alloc: Global, folder: &mut D, name: &str) -> Result<Capture, Refusal>
+    requires { D.failure_count folder.old < 2 ^ 64 - 1 }
+    ensures capture { IfOk result (λ capture. IsCaptureOf (D.holds folder.old) name.now capture.records.items) }
+    ensures kept { AreKept (D.holds folder.old) (D.holds folder.new) }
+    ensures steady { OnOk result (D.failure_count folder.new ≡ D.failure_count folder.old) }
+    ensures refused { IfErr result (λ refusal. IsCaptureRefusal (D.holds folder.old)
+        (HasFailed (D.failure_count folder.old) (D.failure_count folder.new)) name.now refusal.fault) }
+{
+    let bytes = bytes_of(alloc, folder, name)?;
+    records_of(alloc, &bytes)
+}
+
+/// The bytes of a capture file of these frames.
+fn bytes_of_frames(alloc: Global, frames: &[Sent]) -> Result<MemorySink, AllocError>
+    ensures { IfOk result (λ sink. sink.bytes ≡ capture_bytes frames.now) }
+{
+    let mut sink = MemorySink::new(alloc);
+    match write_capture(&mut sink, frames) {
+        Ok(()) => Ok(sink),
+        Err(_) => Err(AllocError),
+    }
+}
+
+/// Writes the sent frames to their file.
+fn write_sent<D: Folder>(
+    alloc: Global,
+    folder: &mut D,
+    name: &str,
+    frames: &[Sent],
+) -> Result<(), Refusal>
+    requires { D.failure_count folder.old < 2 ^ 64 - 1 }
+    ensures written { OnOk result (D.holds folder.new name.now (capture_bytes frames.now)) }
+    ensures others { AreOthersKept (D.holds folder.old) (D.holds folder.new) name.now }
+    ensures steady { OnOk result (D.failure_count folder.new ≡ D.failure_count folder.old) }
+    ensures refused { IfErr result (λ refusal. IsUnwritten (HasFailed (D.failure_count folder.old) (D.failure_count folder.new)) refusal.fault) }
+{
+    let file = bytes_of_frames(alloc, frames)?;
+    match folder.write(alloc, name, file.bytes()) {
+        Ok(()) => Ok(()),
+        Err(fault) => Err(unserved(alloc, folder, name, fault)),
+    }
+}
+
+/// Runs the frames of a capture, and writes those that are sent, the journals where a file is named for them, and a report. All input is read and
+/// checked before anything starts: the image, the script, the capture, then the options. No file is made where one is refused.
+pub fn replay_files<R: Threads + Wait + Sync, D: Folder, P: Progress + Sync>(
+    rt: &R,
+    alloc: Global,
+    folder: &mut D,
+    files: &ReplayFiles<'_>,
+    options: Options,
+    ring: u32,
+    progress: &P,
+) -> Result<Report, Refusal>
+    requires { D.failure_count folder.old < 2 ^ 64 - 1 }
+    ensures done { IfOk result (λ report. (refused : List Noted)
+        × IsReplayed (D.holds folder.old) (D.holds folder.new) files.now options ring (string_bytes report.text) refused
+        × ((refused ≡ []) ↔ (report.is_refused ≡ false))) }
+    ensures kept { AreAllButKept (D.holds folder.old) (D.holds folder.new) files.now.sent.now (text_of files.now.journals) }
+    ensures refused { IfErr result (λ refusal. IsReplayRefusal (D.holds folder.old) (D.holds folder.new)
+        (HasFailed (D.failure_count folder.old) (D.failure_count folder.new)) files.now options ring refusal.fault) }
+{
+    let verified = program_of(alloc, folder, files.image, ring)?;
+    let script = script_of(alloc, folder, files.script)?;
+    let capture = capture_of(alloc, folder, files.capture)?;
+    let rounds = Rounds::of(progress, &verified, &options, &capture);
+    let outcome = match replay(rt, alloc, &verified, &capture, &script, options, &rounds) {
+        Ok(outcome) => outcome,
+        Err(fault) => return Err(Refusal::from(Fault::Replay(fault))),
+    };
+    write_sent(alloc, folder, files.sent, &outcome.sent)?;
+    write_journals_to(alloc, folder, files.journals, &outcome.journals)?;
+    let frames = capture.records.len();
+    Ok(replayed(alloc, frames, outcome.counts, &outcome.refused)?)
+}

@@ -1,0 +1,189 @@
+//! What commands print when they are done.
+
+ghost use Rattle.std.specs.Prelude.{◌≡◌, ◌↔◌, ◌≤◌, ◌++◌, [], false, IfOk, OnOk, Bool, IsTrue, string_bytes};
+ghost use Rattle.ebpf_decode.specs.InstructionEncoding.{total_slots};
+ghost use Rattle.verifier.specs.Readers.{IsReader};
+ghost use Rattle.workers.specs.Accounts.{frames_in};
+ghost use Rattle.xlb_commands.specs.Replays.{counts_text, frames_lines, refusal_line, refusal_of, refusals_text, verdicts_lines};
+ghost use Rattle.xlb_commands.specs.Results.{accepted_line, accepted_text, yes_or_no, verdict_name, run_lines, run_text};
+
+use actors::Applied;
+use ebpf_decode::Insn;
+use machine::Exit;
+use replay::Counts;
+use semantics::Verdict;
+use std::alloc::{AllocError, Global};
+use verifier::Verified;
+use wire::Frame;
+
+/// What a command prints when it is done, and whether a part of it was refused.
+#[derive(Drop)]
+pub struct Report {
+    pub text: String,
+    pub is_refused: bool,
+}
+
+impl Report {
+    /// The text of a command that was done whole.
+    pub fn done(text: String) -> Report
+        ensures { (result.text ≡ text) × (result.is_refused ≡ false) }
+    {
+        Report {
+            text,
+            is_refused: false,
+        }
+    }
+}
+
+/// How many slots a program takes.
+fn slots_of(code: &[Insn]) -> u32
+    requires { total_slots code.now ≤ 4096 }
+    ensures { result ≡ total_slots code.now }
+{
+    let mut slots = 0;
+    for insn in code {
+        slots += insn.slot_count();
+    }
+    slots
+}
+
+fn yes_or_no(holds: bool) -> &'static str
+    ensures { result.now ≡ yes_or_no holds }
+{
+    if holds { "yes" } else { "no" }
+}
+
+/// The line of an accepted image.
+fn accepted_line(alloc: Global, slots: u32, maps: usize, reader: &str) -> Result<String, AllocError>
+    ensures { IfOk result (λ line. string_bytes line ≡ accepted_text slots maps reader.now) }
+{
+    format!(in alloc; "accepted slots {slots} maps {maps} reader {reader}\n")
+}
+
+/// An accepted image: its slots and maps, and whether it only reads.
+pub fn accepted(alloc: Global, verified: &Verified) -> Result<String, AllocError>
+    ensures { IfOk result (λ line. (reader : Bool) × (IsTrue reader ↔ IsReader verified.now.code verified.now.states)
+        × (string_bytes line ≡ accepted_line (record { version = verified.now.version; maps = verified.now.maps; code = verified.now.code }) reader)) }
+{
+    let image = verified.image();
+    let slots = slots_of(image.code());
+    let maps = image.maps().len();
+    let reader = yes_or_no(verified.is_reader());
+    accepted_line(alloc, slots, maps, reader)
+}
+
+/// A verdict's name, as it is printed.
+fn verdict_name(verdict: Verdict) -> &'static str
+    ensures { result.now ≡ verdict_name verdict }
+{
+    match verdict {
+        Verdict::Aborted => "aborted",
+        Verdict::Drop => "drop",
+        Verdict::Pass => "pass",
+        Verdict::Tx => "tx",
+    }
+}
+
+/// What a run came to: its verdict, how many instructions it ran, and the frame that it left.
+pub fn outcome(alloc: Global, exit: Exit, frame: &Frame) -> Result<String, AllocError>
+    ensures { IfOk result (λ text. string_bytes text ≡ run_text exit.verdict exit.steps frame.now.bytes) }
+{
+    let bytes = hex::encode(alloc, frame.bytes())?;
+    run_lines(
+        alloc,
+        verdict_name(exit.verdict),
+        exit.steps,
+        bytes.as_str(),
+    )
+}
+
+/// The lines of a run.
+fn run_lines(alloc: Global, verdict: &str, steps: u64, frame: &str) -> Result<String, AllocError>
+    ensures { IfOk result (λ text. string_bytes text ≡ run_lines verdict.now steps frame.now) }
+{
+    format!(in alloc; "verdict {verdict}\ninstructions {steps}\nframe {frame}\n")
+}
+
+/// The lines of frames that have no verdict.
+fn frames_lines(
+    alloc: Global,
+    frames: usize,
+    short: u64,
+    stopped: u64,
+) -> Result<String, AllocError>
+    ensures { IfOk result (λ text. string_bytes text ≡ frames_lines frames short stopped) }
+{
+    format!(in alloc; "frames {frames}\nshort {short}\nstopped {stopped}\n")
+}
+
+/// The lines of those that have one.
+fn verdicts_lines(
+    alloc: Global,
+    aborted: u64,
+    drop: u64,
+    pass: u64,
+    tx: u64,
+) -> Result<String, AllocError>
+    ensures { IfOk result (λ text. string_bytes text ≡ verdicts_lines aborted drop pass tx) }
+{
+    format!(in alloc; "aborted {aborted}\ndrop {drop}\npass {pass}\ntx {tx}\n")
+}
+
+/// The lines of the counts, which are of so many frames in all.
+fn counts_text(alloc: Global, frames: usize, counts: Counts) -> Result<String, AllocError>
+    requires { frames ≡ frames_in counts }
+    ensures { IfOk result (λ text. string_bytes text ≡ counts_text counts) }
+{
+    let mut text = frames_lines(alloc, frames, counts.short, counts.stopped)?;
+    let verdicts = verdicts_lines(alloc, counts.aborted, counts.drop, counts.pass, counts.tx)?;
+    text.push_str(verdicts.as_str())?;
+    Ok(text)
+}
+
+/// The line of a command that was refused, counted from 1.
+fn refusal_line(alloc: Global, command: u128, fault: u8) -> Result<String, AllocError>
+    ensures { IfOk result (λ line. string_bytes line ≡ refusal_line command fault) }
+{
+    format!(in alloc; "command {command} refused {fault}\n")
+}
+
+/// Appends the line of a command, if it was refused.
+fn put_refusal(alloc: Global, text: &mut String, one: &Applied) -> Result<(), AllocError>
+    ensures { OnOk result (string_bytes text.new ≡ string_bytes text.old ++ refusal_of one.now.command one.now.fault) }
+{
+    match one.fault {
+        Some(fault) => {
+            text.push_str(&refusal_line(alloc, one.command as u128 + 1, fault.number())?)
+        }
+        None => Ok(()),
+    }
+}
+
+/// Appends the lines of the commands that were refused.
+fn put_refusals(alloc: Global, text: &mut String, refused: &[Applied]) -> Result<(), AllocError>
+    ensures { OnOk result (string_bytes text.new ≡ string_bytes text.old ++ refusals_text refused.now) }
+{
+    'refused: for one in refused {
+        put_refusal(alloc, text, one)?;
+    }
+    Ok(())
+}
+
+/// What a replay came to: its counts, of so many frames in all, and the commands that were refused.
+pub fn replayed(
+    alloc: Global,
+    frames: usize,
+    counts: Counts,
+    refused: &[Applied],
+) -> Result<Report, AllocError>
+    requires { frames ≡ frames_in counts }
+    ensures text { IfOk result (λ report. string_bytes report.text ≡ counts_text counts ++ refusals_text refused.now) }
+    ensures refused { IfOk result (λ report. (refused.now ≡ []) ↔ (report.is_refused ≡ false)) }
+{
+    let mut text = counts_text(alloc, frames, counts)?;
+    put_refusals(alloc, &mut text, refused)?;
+    Ok(Report {
+        text,
+        is_refused: !refused.is_empty(),
+    })
+}

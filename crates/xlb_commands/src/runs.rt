@@ -1,0 +1,138 @@
+//! The command that runs an image on one frame.
+
+ghost use Rattle.std.specs.Prelude.{◌≡◌, ◌↔◌, ◌+◌, ◌-◌, ◌<◌, ◌≤◌, ◌^◌, IfErr, IfOk, IsErrOf};
+ghost use Rattle.machine.specs.Running.{program_of};
+ghost use Rattle.single_run.specs.SingleRuns.{HasRunAlone, HasStoppedAlone};
+ghost use Rattle.map_updates.specs.Misfits.{AreFitting};
+ghost use Rattle.command_line.specs.Reading.{text_of};
+ghost use Rattle.xlb_commands.specs.Files.{AreAllKeptBut};
+ghost use Rattle.xlb_commands.specs.Results.{IsRunAnswer, run_options, start_of_run};
+ghost use Rattle.xlb_commands.specs.Refused.{HasFailed, IsRunFault, IsRunRefusal};
+
+use crate::commands::{frame_of, judged_of};
+use crate::fault::{Fault, Refusal};
+use crate::report::outcome;
+use crate::written::write_journals_to;
+use command_line::RunFiles;
+use control::ControlFault;
+use ebpf_decode::MapDef;
+use folders::Folder;
+use machine::Moment;
+use map_updates::{MapUpdate, Misfit, first_misfit};
+use semantics::Options;
+use shards::OpenFault;
+use single_run::{RunFault, SingleRun, run_alone};
+use std::alloc::{AllocError, Global};
+use verifier::Verified;
+use wire::Frame;
+
+/// How many workers a run is opened with.
+const WORKERS: u32 = 8;
+
+/// How the maps of a run are opened.
+const OPTIONS: Options = Options {
+    workers: WORKERS,
+    shards: 1,
+    journal: 65_536,
+};
+
+/// When and where a run happens, if there is such a worker.
+fn moment_of(now: u64, worker: u32) -> Result<Moment, Fault>
+    ensures below { IfOk result (λ moment. moment.worker < 8) }
+    ensures given { IfOk result (λ moment. (moment.now_ns ≡ now) × (moment.worker ≡ worker)) }
+    ensures above { IsErrOf result (Fault.Options OpenFault.BadOptions) ↔ (8 ≤ worker) }
+    ensures only { IfErr result (λ fault. (fault ≡ Fault.Options OpenFault.BadOptions) × (8 ≤ worker)) }
+{
+    if worker >= WORKERS {
+        return Err(Fault::Options(OpenFault::BadOptions));
+    }
+    Ok(Moment {
+        now_ns: now,
+        worker: worker as u8,
+    })
+}
+
+/// What a run comes to.
+#[derive(Drop)]
+pub enum RunAnswer {
+    /// What is printed of it.
+    Printed(String),
+    /// The image's maps do not take the update at this place of the command line, from 0, and nothing was run.
+    Mistaken { place: usize, misfit: Misfit },
+}
+
+/// Runs an image on one frame, with maps in which nothing has happened but these updates, and writes the journals where a file is named for
+/// them. Updates that the image's maps do not take are a mistake of the command line: then no frame is read.
+pub fn run_once<D: Folder>(
+    alloc: Global,
+    folder: &mut D,
+    files: &RunFiles<'_>,
+    now: u64,
+    worker: u32,
+    updates: &[MapUpdate],
+) -> Result<RunAnswer, Refusal>
+    requires { D.failure_count folder.old < 2 ^ 64 - 1 }
+    ensures done { IfOk result (IsRunAnswer (D.holds folder.old) (D.holds folder.new) files.now now worker updates.now) }
+    ensures kept { AreAllKeptBut (D.holds folder.old) (D.holds folder.new) (text_of files.now.journals) }
+    ensures refused { IfErr result (λ refusal. IsRunRefusal (D.holds folder.old) (D.holds folder.new)
+        (HasFailed (D.failure_count folder.old) (D.failure_count folder.new)) files.now now worker updates.now refusal.fault) }
+{
+    let verified = judged_of(alloc, folder, files.image)?;
+    if let Some((place, misfit)) = first_misfit(maps_of(&verified), updates) {
+        return Ok(RunAnswer::Mistaken { place, misfit });
+    }
+    let mut frame = frame_of(alloc, folder, files.frame)?;
+    let moment = moment_of(now, worker)?;
+    let SingleRun { ended, journals } = run_over(alloc, &verified, &mut frame, &moment, updates)?;
+    let exit = match ended {
+        Ok(exit) => exit,
+        Err(stop) => return Err(Refusal::from(Fault::Run(stop))),
+    };
+    write_journals_to(alloc, folder, files.journals, &journals)?;
+    Ok(RunAnswer::Printed(outcome(alloc, exit, &frame)?))
+}
+
+/// The maps of an accepted image.
+fn maps_of(verified: &Verified) -> &[MapDef]
+    ensures { result.now ≡ verified.now.maps }
+{
+    verified.image().maps()
+}
+
+/// The run of an image over shards of its own.
+fn run_over(
+    alloc: Global,
+    verified: &Verified,
+    frame: &mut Frame,
+    moment: &Moment,
+    updates: &[MapUpdate],
+) -> Result<SingleRun, Refusal>
+    requires headroom { frame.old.headroom ≡ 256 }
+    requires worker { moment.now.worker < 8 }
+    requires fit { AreFitting verified.now.maps updates.now }
+    ensures exit { IfOk result (λ single. IfOk single.ended (λ exit. HasRunAlone (program_of verified.now 1)
+        (start_of_run frame.old.bytes moment.now.worker moment.now.now_ns) run_options moment.now.worker updates.now exit.verdict exit.steps frame.new
+        single.journals)) }
+    ensures stop { IfOk result (λ single. IfErr single.ended (λ stop. HasStoppedAlone (program_of verified.now 1)
+        (start_of_run frame.old.bytes moment.now.worker moment.now.now_ns) run_options moment.now.worker updates.now frame.new stop single.journals)) }
+    ensures refused { IfErr result (λ refusal. IsRunFault verified.now.maps updates.now refusal.fault) }
+{
+    match run_alone(alloc, verified, frame, moment, OPTIONS, updates) {
+        Ok(single) => Ok(single),
+        Err(RunFault::Open(fault)) => Err(Refusal::from(Fault::Options(fault))),
+        Err(RunFault::Refused { place, answer }) => Err(Refusal::noted(
+            Fault::Script(ControlFault::Refused { answer }),
+            update_note(alloc, place),
+        )),
+        Err(RunFault::Full { place }) => Err(Refusal::noted(
+            Fault::Script(ControlFault::JournalFull),
+            update_note(alloc, place),
+        )),
+    }
+}
+
+/// Which update of the command line it was, counted from 1.
+fn update_note(alloc: Global, place: usize) -> Result<String, AllocError> {
+    let number = place as u128 + 1;
+    format!(in alloc; "update {number} of the command line")
+}

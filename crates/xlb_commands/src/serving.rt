@@ -1,0 +1,216 @@
+//! The program, but for its command line.
+
+ghost use Rattle.std.specs.Prelude.{◌≡◌, ◌+◌, ◌-◌, ◌<◌, ◌^◌, ◌⊎◌, ℕ, List, true, false, IfErr, IfOk, OnOk, string_bytes};
+ghost use Rattle.std.specs.Io.KnownBytes.{append_known};
+ghost use Rattle.explanations.specs.Refusals.{IsRefusalText};
+ghost use Rattle.xlb_commands.specs.FaultLines.{fault_line, mistake_text};
+ghost use Rattle.xlb_commands.specs.Results.{IsAnswer, IsDone, IsReported, KeepsFiles};
+ghost use Rattle.xlb_commands.specs.Refused.{HasFailed, IsMistaken, IsRefusedWith, IsTold, PrintsMistake, PrintsRefusal, notes_told, stream};
+
+use crate::commands::{
+    assemble_file, assemble_source_file, audit_file, check, check_explained, disassemble,
+    disassemble_source,
+};
+use crate::fault::{Fault, Refusal};
+use crate::fault_lines::fault_line;
+use crate::progress::Progress;
+use crate::replays::replay_files;
+use crate::report::Report;
+use crate::runs::{RunAnswer, run_once};
+use command_line::Settings;
+use explanations::refusal_text;
+use folders::Folder;
+use map_updates::Misfit;
+use std::alloc::{AllocError, Global};
+use std::sync::Wait;
+use std::thread::Threads;
+use wire::{Failed, Sink, write_all};
+
+/// The status of a command that was done.
+const DONE: u8 = 0;
+
+/// The status of a command that was refused.
+const REFUSED: u8 = 1;
+
+/// The status of a mistake of the command line.
+const MISTAKEN: u8 = 2;
+
+/// What a command comes to that is not refused.
+#[derive(Drop)]
+enum CommandAnswer {
+    /// It was done, or but for a part of it.
+    Reported(Report),
+    /// A mistake of the command line that shows only in the image: its maps do not take the update at this place, from 0.
+    Mistaken { place: usize, misfit: Misfit },
+}
+
+impl CommandAnswer {
+    /// A command that was done, with what it prints.
+    fn reported(text: String) -> CommandAnswer
+        ensures { (report : _) × (result ≡ CommandAnswer.Reported report) × (report.is_refused ≡ false) × (report.text ≡ text) }
+    {
+        CommandAnswer::Reported(Report::done(text))
+    }
+}
+
+/// Does what the settings say, and gives what is to be printed.
+fn answer<R: Threads + Wait + Sync, D: Folder, P: Progress + Sync>(
+    rt: &R,
+    alloc: Global,
+    settings: &Settings<'_>,
+    folder: &mut D,
+    progress: &P,
+) -> Result<CommandAnswer, Refusal>
+    requires { D.failure_count folder.old < 2 ^ 64 - 1 }
+    ensures answered { IfOk result (IsAnswer (D.holds folder.old) (D.holds folder.new) settings.now) }
+    ensures kept { KeepsFiles (D.holds folder.old) (D.holds folder.new) settings.now }
+    ensures refused { IfErr result (λ refusal. IsRefusedWith (D.holds folder.old) (D.holds folder.new)
+        (HasFailed (D.failure_count folder.old) (D.failure_count folder.new)) settings.now refusal.fault) }
+{
+    match settings {
+        Settings::Check { image, explain } => {
+            if *explain {
+                Ok(CommandAnswer::reported(check_explained(alloc, folder, image)?))
+            } else {
+                Ok(CommandAnswer::reported(check(alloc, folder, image)?))
+            }
+        }
+        Settings::Run {
+            files,
+            now,
+            worker,
+            updates,
+        } => match run_once(alloc, folder, files, *now, *worker, updates)? {
+            RunAnswer::Printed(text) => Ok(CommandAnswer::reported(text)),
+            RunAnswer::Mistaken { place, misfit } => Ok(CommandAnswer::Mistaken { place, misfit }),
+        },
+        Settings::Disasm { image, source } => {
+            if *source {
+                Ok(CommandAnswer::reported(disassemble_source(alloc, folder, image)?))
+            } else {
+                Ok(CommandAnswer::reported(disassemble(alloc, folder, image)?))
+            }
+        }
+        Settings::Audit { image, journals } => {
+            Ok(CommandAnswer::reported(audit_file(alloc, folder, image, journals)?))
+        }
+        Settings::Explain { about } => Ok(CommandAnswer::reported(about.text(alloc)?)),
+        Settings::Asm { text, out, source } => {
+            if *source {
+                Ok(CommandAnswer::reported(assemble_source_file(alloc, folder, text, out)?))
+            } else {
+                Ok(CommandAnswer::reported(assemble_file(alloc, folder, text, out)?))
+            }
+        }
+        Settings::Replay {
+            files,
+            options,
+            ring,
+        } => Ok(CommandAnswer::Reported(replay_files(
+            rt, alloc, folder, files, *options, *ring, progress,
+        )?)),
+    }
+}
+
+/// Which update the image's maps do not take, counted from 1, and why.
+fn mistake_text(alloc: Global, place: usize, misfit: Misfit) -> Result<String, AllocError>
+    ensures { IfOk result (λ text. string_bytes text ≡ mistake_text place misfit) }
+{
+    let number = place as u128 + 1;
+    let why = misfit.text(alloc)?;
+    format!(in alloc; "error: update {number}: {why}\n")
+}
+
+/// Tells of an update that the image's maps do not take. Where memory is refused, 8 is printed in its place.
+fn mistake<E: Sink>(alloc: Global, place: usize, misfit: Misfit, err: &mut E) -> u8
+    requires { E.failure_count err.old < 2 ^ 64 - 1 }
+    ensures status { result ≡ 2 }
+    ensures told { E.failure_count err.new ≡ E.failure_count err.old → PrintsMistake place misfit (E.held err.old) (E.held err.new) }
+{
+    match mistake_text(alloc, place, misfit) {
+        Ok(text) => print(err, text.as_bytes()),
+        Err(_no_memory) => print(err, b"fault 8 Memory\n"),
+    }
+    MISTAKEN
+}
+
+/// What is told of a refusal: the fault's line, and notes below it.
+fn told(alloc: Global, refusal: &Refusal) -> Result<Vec<u8>, AllocError>
+    ensures { IfOk result (λ text. IsRefusalText (fault_line refusal.now.fault) (notes_told refusal.now.notes) text.items) }
+{
+    let line = fault_line(alloc, refusal.fault)?;
+    match &refusal.notes {
+        Some(notes) => refusal_text(alloc, line.as_str(), notes.as_str()),
+        None => refusal_text(alloc, line.as_str(), ""),
+    }
+}
+
+/// Prints a text, as far as the stream takes it.
+fn print<E: Sink>(err: &mut E, text: &[u8])
+    requires { E.failure_count err.old < 2 ^ 64 - 1 }
+    ensures { E.failure_count err.new ≡ E.failure_count err.old → E.held err.new ≡ append_known (E.held err.old) text.now }
+{
+    let _ = write_all(err, text);
+}
+
+/// Prints a refusal. Where memory is refused, 8 is printed in its place.
+fn refuse<E: Sink>(alloc: Global, refusal: &Refusal, err: &mut E) -> u8
+    requires { E.failure_count err.old < 2 ^ 64 - 1 }
+    ensures status { result ≡ 1 }
+    ensures told { E.failure_count err.new ≡ E.failure_count err.old → PrintsRefusal refusal.now.fault (notes_told refusal.now.notes) (E.held err.old) (E.held err.new) }
+{
+    match told(alloc, refusal) {
+        Ok(text) => print(err, &text),
+        Err(_) => print(err, b"fault 8 Memory\n"),
+    }
+    REFUSED
+}
+
+/// The status of a command that was done: 1 where a part of it was refused.
+fn status_of(is_refused: bool) -> u8
+    ensures done { result ≡ 0 → is_refused ≡ false }
+    ensures part { result ≡ 1 → is_refused ≡ true }
+    ensures only { result < 2 }
+{
+    if is_refused { REFUSED } else { DONE }
+}
+
+/// Does what the settings say, over the files of a folder: prints what the command prints and gives 0; or prints the line of the first fault of what
+/// the command reads on `err`, with notes for people below it, and gives 1. The fault is 7 where what the command prints could not be printed; the line is
+/// that of fault 8 where there was no memory for it. Where commands of a replay's script were refused, the report is printed and tells them, and the
+/// status is 1. Where the image's maps do not take an update of a run, that is told on `err`, and the status is 2, as of other mistakes in the command's words.
+pub fn serve<R: Threads + Wait + Sync, D: Folder, P: Progress + Sync, O: Sink, E: Sink>(
+    rt: &R,
+    alloc: Global,
+    settings: &Settings<'_>,
+    folder: &mut D,
+    progress: &P,
+    out: &mut O,
+    err: &mut E,
+) -> u8
+    requires folder { D.failure_count folder.old < 2 ^ 64 - 1 }
+    requires out { O.failure_count out.old < 2 ^ 64 - 1 }
+    requires err { E.failure_count err.old < 2 ^ 64 - 1 }
+    ensures status { result < 3 }
+    ensures done { result ≡ 0 → (text : List ℕ) × IsDone (D.holds folder.old) (D.holds folder.new) settings.now text
+        × (O.held out.new ≡ append_known (O.held out.old) text) }
+    ensures quiet { result ≡ 0 → E.held err.new ≡ E.held err.old }
+    ensures kept { KeepsFiles (D.holds folder.old) (D.holds folder.new) settings.now }
+    ensures refused { result ≡ 1
+        → IsReported (D.holds folder.old) (D.holds folder.new) settings.now (O.held out.old) (O.held out.new) (E.held err.old) (E.held err.new)
+        ⊎ IsTold (D.holds folder.old) (D.holds folder.new) (HasFailed (D.failure_count folder.old) (D.failure_count folder.new)) settings.now
+        (stream (O.held out.old) (O.failure_count out.old)) (stream (O.held out.new) (O.failure_count out.new))
+        (stream (E.held err.old) (E.failure_count err.old)) (stream (E.held err.new) (E.failure_count err.new)) }
+    ensures mistaken { result ≡ 2 → IsMistaken (D.holds folder.old) settings.now
+        (stream (O.held out.old) (O.failure_count out.old)) (stream (O.held out.new) (O.failure_count out.new))
+        (stream (E.held err.old) (E.failure_count err.old)) (stream (E.held err.new) (E.failure_count err.new)) }
+{
+    match answer(rt, alloc, settings, folder, progress) {
+        Ok(CommandAnswer::Mistaken { place, misfit }) => mistake(alloc, place, misfit, err),
+        Ok(CommandAnswer::Reported(report)) => match write_all(out, report.text.as_bytes()) {
+            Ok(()) => status_of(report.is_refused),
+            Err(Failed) => refuse(alloc, &Refusal::from(Fault::Output), err),
+        },
+        Err(refusal) => refuse(alloc, &refusal, err),
+    }
+}

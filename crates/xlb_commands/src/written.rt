@@ -1,0 +1,64 @@
+//! Journals, written to a file.
+
+ghost use Rattle.std.specs.Prelude.{◌≡◌, ◌==◌, ◌-◌, ◌<◌, ◌^◌, IfErr, IfOk, OnOk};
+ghost use Rattle.journal_files.specs.JournalText.{journals_text};
+ghost use Rattle.command_line.specs.Reading.{text_of};
+ghost use Rattle.xlb_commands.specs.Files.{AreAllKeptBut, AreOthersKept};
+ghost use Rattle.xlb_commands.specs.Refused.{HasFailed, IsUnwritten};
+ghost use Rattle.xlb_commands.specs.Replays.{AreWritten};
+
+use crate::commands::unserved;
+use crate::fault::Refusal;
+use folders::Folder;
+use journal_files::write_journals;
+use journals::Journals;
+use std::alloc::{AllocError, Global};
+use wire::MemorySink;
+
+/// The bytes of the file of these journals.
+fn bytes_of_journals(alloc: Global, journals: &Journals) -> Result<MemorySink, AllocError>
+    ensures { IfOk result (λ sink. sink.bytes ≡ journals_text journals.now) }
+{
+    let mut sink = MemorySink::new(alloc);
+    match write_journals(alloc, &mut sink, journals) {
+        Ok(()) => Ok(sink),
+        Err(_) => Err(AllocError),
+    }
+}
+
+/// Writes the journals to their file.
+fn write_to<D: Folder>(
+    alloc: Global,
+    folder: &mut D,
+    name: &str,
+    journals: &Journals,
+) -> Result<(), Refusal>
+    requires { D.failure_count folder.old < 2 ^ 64 - 1 }
+    ensures written { OnOk result (D.holds folder.new name.now (journals_text journals.now)) }
+    ensures others { AreOthersKept (D.holds folder.old) (D.holds folder.new) name.now }
+    ensures refused { IfErr result (λ refusal. IsUnwritten (HasFailed (D.failure_count folder.old) (D.failure_count folder.new)) refusal.fault) }
+{
+    let file = bytes_of_journals(alloc, journals)?;
+    match folder.write(alloc, name, file.bytes()) {
+        Ok(()) => Ok(()),
+        Err(fault) => Err(unserved(alloc, folder, name, fault)),
+    }
+}
+
+/// Writes the journals, where a file is named for them.
+pub(crate) fn write_journals_to<D: Folder>(
+    alloc: Global,
+    folder: &mut D,
+    name: Option<&str>,
+    journals: &Journals,
+) -> Result<(), Refusal>
+    requires { D.failure_count folder.old < 2 ^ 64 - 1 }
+    ensures written { OnOk result (AreWritten (D.holds folder.new) (text_of name.entry) journals.now) }
+    ensures others { AreAllKeptBut (D.holds folder.old) (D.holds folder.new) (text_of name.entry) }
+    ensures refused { IfErr result (λ refusal. IsUnwritten (HasFailed (D.failure_count folder.old) (D.failure_count folder.new)) refusal.fault) }
+{
+    match name {
+        Some(name) => write_to(alloc, folder, name, journals),
+        None => Ok(()),
+    }
+}
