@@ -16,7 +16,6 @@ use Rattle.wire.specs.FrameView.{FrameView}
 use Rattle.semantics.specs.declared.call.Call.TheVariants.{Update, Delete}
 use Rattle.semantics.specs.declared.call.Reply.{Reply}
 use Rattle.semantics.specs.declared.call.Reply.TheVariants.{Entered, Left, Cell, Null, Word, Done, Answer, Freed}
-use Rattle.semantics.specs.declared.linux.Helper.TheVariants as linux
 use Rattle.semantics.specs.RegisterValue.{RegisterValue, Number, ContextPointer}
 use Rattle.semantics.specs.MachineState.{MachineState, StackByte, register_value}
 use Rattle.semantics.specs.Program.{Program, shard_of_key}
@@ -32,14 +31,14 @@ use Rattle.abstract_state.specs.declared.kind.Kind.TheVariants.{Unset, Scalar, C
 use Rattle.abstract_state.specs.declared.kind.StackWord.{StackWord}
 use Rattle.abstract_state.specs.declared.kind.StackWord.TheVariants.{Spilled, Bytes}
 use Rattle.abstract_state.specs.declared.fact.Fact.TheVariants.{HeadMoved}
-use Rattle.abstract_state.specs.declared.helper.Helper.TheVariants.{LookupElem, UpdateElem, DeleteElem, KtimeGetNs, GetSmpProcessorId, AdjustHead}
+use Rattle.semantics.specs.declared.linux.Helper.TheVariants.{MapLookupElem, MapUpdateElem, MapDeleteElem, KtimeGetNs, GetSmpProcessorId, XdpAdjustHead}
 use Rattle.abstract_state.specs.declared.refusal.Refusal.TheVariants.{StackBounds, StackUnset, UnknownHelper}
 use Rattle.abstract_state.specs.declared.flow.Flow.{Flow}
 use Rattle.abstract_state.specs.declared.state.State.{State}
 use Rattle.abstract_state.specs.States.{◌>>=◌, kind_of, word_of, key_size_of, value_size_of}
 use Rattle.abstract_state.specs.Facts.{told_moved, told_kind, told_word, told}
 use Rattle.abstract_state.specs.Words.{are_bytes_set}
-use Rattle.abstract_state.specs.Calls.{map_argument, stack_argument, number_argument, context_argument, is_inside_stack, when_all, key_arguments, update_arguments, head_arguments, returned, any_number, call_of}
+use Rattle.abstract_state.specs.Calls.{known_helper, map_argument, stack_argument, number_argument, context_argument, is_inside_stack, when_all, key_arguments, update_arguments, head_arguments, returned, any_number, call_of}
 use Rattle.abstract_state.specs.Flow.{reads_arguments, falls, flow_of}
 use Rattle.abstract_state.specs.Soundness.{GoesOn, FallsOn, Follows, HoldsAfter}
 use Rattle.abstract_state.specs.Abstraction.{Held, Setting, KindCovers, IsNumberIn, IsKnownMap, IsStackPlace, WordCovers, places_of, setting_of, Abstracts}
@@ -145,11 +144,11 @@ delete_follows program held state machine a map k =
     )
 
 delete_sound : (program : Program) (held : Held) (state : State) (machine : MachineState) (number : ℤ) (flow : Flow) → Abstracts program.maps held state machine →
-    falls (reads_arguments state DeleteElem >>= (λ _. call_of program.maps state machine.slot DeleteElem)) ≡ Ok flow →
+    falls (reads_arguments state MapDeleteElem >>= (λ _. call_of program.maps state machine.slot MapDeleteElem)) ≡ Ok flow →
     Follows program held flow machine (CallHelper number) (delete_step program machine)
 delete_sound program held state machine number flow a e =
-    let made = falls_made (reads_arguments state DeleteElem >>= (λ _. call_of program.maps state machine.slot DeleteElem)) flow e
-    in let first = ok_then (reads_arguments state DeleteElem) (λ _. call_of program.maps state machine.slot DeleteElem) made.0 made.1.0
+    let made = falls_made (reads_arguments state MapDeleteElem >>= (λ _. call_of program.maps state machine.slot MapDeleteElem)) flow e
+    in let first = ok_then (reads_arguments state MapDeleteElem) (λ _. call_of program.maps state machine.slot MapDeleteElem) made.0 made.1.0
     in let second = ok_then (key_arguments program.maps state) (λ map. Ok (returned any_number state)) made.0 first.1.1
     in let same : returned any_number state ≡ made.0 = ok_same (Ok (returned any_number state)) (returned any_number state) made.0 refl second.1.1
     in settled program held machine (CallHelper number) (delete_step program machine) flow made.0 (returned any_number state) made.1.1 same (one_slot number)
@@ -255,11 +254,11 @@ update_follows program held state machine a map k =
     )
 
 update_sound : (program : Program) (held : Held) (state : State) (machine : MachineState) (number : ℤ) (flow : Flow) → Abstracts program.maps held state machine →
-    falls (reads_arguments state UpdateElem >>= (λ _. call_of program.maps state machine.slot UpdateElem)) ≡ Ok flow →
+    falls (reads_arguments state MapUpdateElem >>= (λ _. call_of program.maps state machine.slot MapUpdateElem)) ≡ Ok flow →
     Follows program held flow machine (CallHelper number) (update_step program machine)
 update_sound program held state machine number flow a e =
-    let made = falls_made (reads_arguments state UpdateElem >>= (λ _. call_of program.maps state machine.slot UpdateElem)) flow e
-    in let first = ok_then (reads_arguments state UpdateElem) (λ _. call_of program.maps state machine.slot UpdateElem) made.0 made.1.0
+    let made = falls_made (reads_arguments state MapUpdateElem >>= (λ _. call_of program.maps state machine.slot MapUpdateElem)) flow e
+    in let first = ok_then (reads_arguments state MapUpdateElem) (λ _. call_of program.maps state machine.slot MapUpdateElem) made.0 made.1.0
     in let second = ok_then (update_arguments program.maps state) (λ _. Ok (returned any_number state)) made.0 first.1.1
     in let same : returned any_number state ≡ made.0 = ok_same (Ok (returned any_number state)) (returned any_number state) made.0 refl second.1.1
     in settled program held machine (CallHelper number) (update_step program machine) flow made.0 (returned any_number state) made.1.1 same (one_slot number)
@@ -373,11 +372,11 @@ head_follows program held state machine a done e =
     in rw (e1, e2) (adjusted_sound program held state machine (signed_value 32 (low_half n.number)) a)
 
 head_sound : (program : Program) (held : Held) (state : State) (machine : MachineState) (number : ℤ) (flow : Flow) → Abstracts program.maps held state machine →
-    falls (reads_arguments state AdjustHead >>= (λ _. call_of program.maps state machine.slot AdjustHead)) ≡ Ok flow →
+    falls (reads_arguments state XdpAdjustHead >>= (λ _. call_of program.maps state machine.slot XdpAdjustHead)) ≡ Ok flow →
     Follows program held flow machine (CallHelper number) (adjust_head_step machine)
 head_sound program held state machine number flow a e =
-    let made = falls_made (reads_arguments state AdjustHead >>= (λ _. call_of program.maps state machine.slot AdjustHead)) flow e
-    in let first = ok_then (reads_arguments state AdjustHead) (λ _. call_of program.maps state machine.slot AdjustHead) made.0 made.1.0
+    let made = falls_made (reads_arguments state XdpAdjustHead >>= (λ _. call_of program.maps state machine.slot XdpAdjustHead)) flow e
+    in let first = ok_then (reads_arguments state XdpAdjustHead) (λ _. call_of program.maps state machine.slot XdpAdjustHead) made.0 made.1.0
     in let second = ok_then (head_arguments state) (λ _. Ok (returned any_number (told HeadMoved state))) made.0 first.1.1
     in let same : returned any_number (told HeadMoved state) ≡ made.0 =
     ok_same (Ok (returned any_number (told HeadMoved state))) (returned any_number (told HeadMoved state)) made.0 refl second.1.1
@@ -388,12 +387,12 @@ head_sound program held state machine number flow a e =
 
 helper_sound : (program : Program) (held : Held) (state : State) (machine : MachineState) (n : ℕ) (flow : Flow) (a : Abstracts program.maps held state machine) →
     (t1 t2 t3 t5 t8 t44 : Bool) →
-    falls ((if t1 then Ok LookupElem else (if t2 then Ok UpdateElem else (if t3 then Ok DeleteElem else (if t5 then Ok KtimeGetNs
-    else (if t8 then Ok GetSmpProcessorId else (if t44 then Ok AdjustHead else Err UnknownHelper))))))
+    falls (known_helper (if t1 then Some MapLookupElem else (if t2 then Some MapUpdateElem else (if t3 then Some MapDeleteElem else (if t5 then Some KtimeGetNs
+    else (if t8 then Some GetSmpProcessorId else (if t44 then Some XdpAdjustHead else None))))))
     >>= (λ helper. reads_arguments state helper >>= (λ _. call_of program.maps state machine.slot helper))) ≡ Ok flow →
     Follows program held flow machine (CallHelper (pos n))
-    (found_helper_step program machine (if t1 then Some linux.MapLookupElem else (if t2 then Some linux.MapUpdateElem else (if t3 then Some linux.MapDeleteElem
-    else (if t5 then Some linux.KtimeGetNs else (if t8 then Some linux.GetSmpProcessorId else (if t44 then Some linux.XdpAdjustHead else None)))))))
+    (found_helper_step program machine (if t1 then Some MapLookupElem else (if t2 then Some MapUpdateElem else (if t3 then Some MapDeleteElem
+    else (if t5 then Some KtimeGetNs else (if t8 then Some GetSmpProcessorId else (if t44 then Some XdpAdjustHead else None)))))))
 helper_sound program held state machine n flow a true t2 t3 t5 t8 t44 e = lookup_sound program held state machine (pos n) flow a e
 helper_sound program held state machine n flow a false true t3 t5 t8 t44 e = update_sound program held state machine (pos n) flow a e
 helper_sound program held state machine n flow a false false true t5 t8 t44 e = delete_sound program held state machine (pos n) flow a e

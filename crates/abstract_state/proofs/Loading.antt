@@ -32,7 +32,7 @@ use Rattle.abstract_state.specs.declared.state.State.{State}
 use Rattle.abstract_state.specs.States.{◌>>=◌, kind_of, with_kind, word_of, value_size_of}
 use Rattle.abstract_state.specs.Places.{stack_access, packet_access, value_access}
 use Rattle.abstract_state.specs.Words.{loaded_number, word_loaded}
-use Rattle.abstract_state.specs.Access.{context_kind, context_loaded, loaded_kind, load_of}
+use Rattle.abstract_state.specs.Access.{field_kind, context_kind, context_loaded, loaded_kind, load_of}
 use Rattle.abstract_state.specs.Flow.{writable, reads, load_flow, flow_of}
 use Rattle.abstract_state.specs.Soundness.{GoesOn, FallsOn, Follows, HoldsAfter}
 use Rattle.abstract_state.specs.Abstraction.{Held, Setting, KindCovers, IsNumberIn, setting_of, Abstracts}
@@ -85,7 +85,7 @@ field_loads maps held state machine a count some (pos place) kind e = by_tests (
         in record { number = machine.worker; is = refl; within = record { above = omega arith; below = omega arith }; word = omega arith }
 
     by_tests : (t0 t4 t12 t16 : Bool) →
-        (if t0 then Ok (Packet 0 0 state.start_range) else (if t4 then Ok PacketEnd else (if t12 then Ok (Scalar (interval_of 1 1)) else (if t16 then Ok (Scalar (interval_of 0 7)) else Err ContextAccess)))) ≡ Ok kind →
+        field_kind state (if t0 then Some Data else (if t4 then Some DataEnd else (if t12 then Some IngressIfindex else (if t16 then Some RxQueueIndex else None)))) ≡ Ok kind →
         Loads s kind (field_outcome machine (if t0 then Some Data else (if t4 then Some DataEnd else (if t12 then Some IngressIfindex else (if t16 then Some RxQueueIndex else None)))))
     by_tests true t4 t12 t16 e = let same : Packet 0 0 state.start_range ≡ kind = cc in loads_as s (Packet 0 0 state.start_range) kind (Ok (PacketPointer machine.generation (pos 0))) (PacketPointer machine.generation (pos 0)) same refl packet
     by_tests false true t12 t16 e = let same : PacketEnd ≡ kind = cc in loads_as s (PacketEnd) kind (Ok (meaning.PacketEnd machine.generation)) (meaning.PacketEnd machine.generation) same refl refl

@@ -25,7 +25,7 @@ use Rattle.semantics.specs.Helpers as meaning
 use Rattle.semantics.specs.RunTrace.{IsReplyTo}
 use Rattle.abstract_state.specs.declared.kind.Kind.{Kind}
 use Rattle.abstract_state.specs.declared.kind.Kind.TheVariants.{Unset, Scalar, Ctx, Stack, Packet, PacketEnd, Map, ValueOrNull, Value}
-use Rattle.abstract_state.specs.declared.helper.Helper.TheVariants.{LookupElem}
+use Rattle.semantics.specs.declared.linux.Helper.TheVariants.{MapLookupElem}
 use Rattle.abstract_state.specs.declared.refusal.Refusal.TheVariants.{StackBounds, StackUnset}
 use Rattle.abstract_state.specs.declared.flow.Flow.{Flow}
 use Rattle.abstract_state.specs.declared.flow.Flow.TheVariants.{Falls}
@@ -271,11 +271,11 @@ settled program held machine insn step flow s known is same one f =
     (subst (λ count. FallsOn program held known machine (machine.slot + count) step) (sym one) f))
 
 pub lookup_sound : (program : Program) (held : Held) (state : State) (machine : MachineState) (number : ℤ) (flow : Flow) → Abstracts program.maps held state machine →
-    falls (reads_arguments state LookupElem >>= (λ _. call_of program.maps state machine.slot LookupElem)) ≡ Ok flow →
+    falls (reads_arguments state MapLookupElem >>= (λ _. call_of program.maps state machine.slot MapLookupElem)) ≡ Ok flow →
     Follows program held flow machine (CallHelper number) (lookup_step program machine)
 lookup_sound program held state machine number flow a e =
-    let made = falls_made (reads_arguments state LookupElem >>= (λ _. call_of program.maps state machine.slot LookupElem)) flow e
-    in let first = ok_then (reads_arguments state LookupElem) (λ _. call_of program.maps state machine.slot LookupElem) made.0 made.1.0
+    let made = falls_made (reads_arguments state MapLookupElem >>= (λ _. call_of program.maps state machine.slot MapLookupElem)) flow e
+    in let first = ok_then (reads_arguments state MapLookupElem) (λ _. call_of program.maps state machine.slot MapLookupElem) made.0 made.1.0
     in let second = ok_then (key_arguments program.maps state) (λ map. Ok (returned (ValueOrNull map machine.slot) state)) made.0 first.1.1
     in let same : returned (ValueOrNull second.0 machine.slot) state ≡ made.0 =
     ok_same (Ok (returned (ValueOrNull second.0 machine.slot) state)) (returned (ValueOrNull second.0 machine.slot) state) made.0 refl second.1.1

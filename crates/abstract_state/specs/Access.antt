@@ -11,7 +11,10 @@ use Rattle.isa.specs.declared.operation.Register.{Register}
 use Rattle.isa.specs.declared.operation.Register.TheVariants.{R0}
 use Rattle.isa.specs.InstructionCodes.{extension_size, width_size, size_bytes}
 use Rattle.ebpf_decode.specs.declared.map.MapDef.{MapDef}
+use Rattle.semantics.specs.Linux.{field_at}
 use Rattle.semantics.specs.Semantics.{fetched_register}
+use Rattle.semantics.specs.declared.linux.ContextField.{ContextField}
+use Rattle.semantics.specs.declared.linux.ContextField.TheVariants.{Data, DataEnd, IngressIfindex, RxQueueIndex}
 use Rattle.abstract_scalar.specs.Intervals.{constant_of, interval_of, full_of}
 use Rattle.abstract_state.specs.declared.kind.Kind.{Kind}
 use Rattle.abstract_state.specs.declared.kind.Kind.TheVariants.{Scalar, Ctx, Stack, Packet, PacketEnd, Value}
@@ -23,15 +26,16 @@ use Rattle.abstract_state.specs.Words.{loaded_number, word_loaded, storable, nar
 
 -- ---- loads
 
--- the fields of the context, in words of four bytes: the packet, its end, and two numbers
+-- the fields of the context: the packet, its end, and two numbers
+abbrev pub field_kind : State → Option ContextField → Checked Kind
+field_kind state (Some Data) = Ok (Packet 0 0 state.start_range)
+field_kind state (Some DataEnd) = Ok PacketEnd
+field_kind state (Some IngressIfindex) = Ok (Scalar (constant_of 1))
+field_kind state (Some RxQueueIndex) = Ok (Scalar (interval_of 0 7))
+field_kind state None = Err ContextAccess
+
 abbrev pub context_kind : State → ℤ → Checked Kind
-context_kind state (pos place) =
-    if place == 0 then Ok (Packet 0 0 state.start_range)
-    else (if place == 4 then Ok PacketEnd
-    else (if place == 12 then Ok (Scalar (constant_of 1))
-    else (if place == 16 then Ok (Scalar (interval_of 0 7))
-    else Err ContextAccess)))
-context_kind state (negsuc below) = Err ContextAccess
+context_kind state place = field_kind state (field_at place)
 
 abbrev pub context_loaded : State → Size → ℤ → Checked Kind
 context_loaded state U32 place = context_kind state place

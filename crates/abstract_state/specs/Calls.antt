@@ -1,13 +1,14 @@
 -- Calls of helpers on kinds (RFC 9669, section 4.3.1; numbers as in bpf(2)).
-use Rattle.std.specs.Prelude.{ℕ, ◌+◌, ◌==◌, Bool, ◌&&◌, ℤ, pos, negsuc, nat_le, List, ◌∷◌, Ok, Err, drop, slice_get, if◌then◌else◌}
+use Rattle.std.specs.Prelude.{ℕ, ◌+◌, Bool, ◌&&◌, ℤ, nat_le, List, ◌∷◌, Option, Some, None, Ok, Err, drop, slice_get, if◌then◌else◌}
 use Rattle.isa.specs.declared.operation.Register.{Register}
 use Rattle.isa.specs.declared.operation.Register.TheVariants.{R1, R2, R3, R4}
 use Rattle.ebpf_decode.specs.declared.map.MapDef.{MapDef}
 use Rattle.abstract_scalar.specs.Intervals.{interval_of, full_of}
 use Rattle.abstract_state.specs.declared.kind.Kind.{Kind}
 use Rattle.abstract_state.specs.declared.kind.Kind.TheVariants.{Unset, Scalar, Ctx, Stack, Map, ValueOrNull}
-use Rattle.abstract_state.specs.declared.helper.Helper.{Helper}
-use Rattle.abstract_state.specs.declared.helper.Helper.TheVariants.{LookupElem, UpdateElem, DeleteElem, KtimeGetNs, GetSmpProcessorId, AdjustHead}
+use Rattle.semantics.specs.Linux.{helper_of}
+use Rattle.semantics.specs.declared.linux.Helper.{Helper}
+use Rattle.semantics.specs.declared.linux.Helper.TheVariants.{MapLookupElem, MapUpdateElem, MapDeleteElem, KtimeGetNs, GetSmpProcessorId, XdpAdjustHead}
 use Rattle.abstract_state.specs.declared.fact.Fact.TheVariants.{HeadMoved}
 use Rattle.abstract_state.specs.declared.refusal.Refusal.{Refusal}
 use Rattle.abstract_state.specs.declared.refusal.Refusal.TheVariants.{BadArgument, UnknownHelper, StackBounds, StackUnset}
@@ -18,17 +19,13 @@ use Rattle.abstract_state.specs.Facts.{told}
 
 -- ---- which helpers there are
 
--- Linux's numbers
+abbrev pub known_helper : Option Helper → Checked Helper
+known_helper (Some helper) = Ok helper
+known_helper None = Err UnknownHelper
+
+-- the helper of Linux's number
 abbrev pub helper_at : ℤ → Checked Helper
-helper_at (pos number) =
-    if number == 1 then Ok LookupElem
-    else (if number == 2 then Ok UpdateElem
-    else (if number == 3 then Ok DeleteElem
-    else (if number == 5 then Ok KtimeGetNs
-    else (if number == 8 then Ok GetSmpProcessorId
-    else (if number == 44 then Ok AdjustHead
-    else Err UnknownHelper)))))
-helper_at (negsuc below) = Err UnknownHelper
+helper_at number = known_helper (helper_of number)
 
 -- ---- arguments, of which R1 is the first
 
@@ -90,9 +87,9 @@ abbrev pub any_number : Kind
 any_number = Scalar (full_of 64)
 
 abbrev pub call_of : List MapDef → State → ℕ → Helper → Checked State
-call_of maps state slot LookupElem = key_arguments maps state >>= (λ map. Ok (returned (ValueOrNull map slot) state))
-call_of maps state slot UpdateElem = update_arguments maps state >>= (λ _. Ok (returned any_number state))
-call_of maps state slot DeleteElem = key_arguments maps state >>= (λ _. Ok (returned any_number state))
+call_of maps state slot MapLookupElem = key_arguments maps state >>= (λ map. Ok (returned (ValueOrNull map slot) state))
+call_of maps state slot MapUpdateElem = update_arguments maps state >>= (λ _. Ok (returned any_number state))
+call_of maps state slot MapDeleteElem = key_arguments maps state >>= (λ _. Ok (returned any_number state))
 call_of maps state slot KtimeGetNs = Ok (returned any_number state)
 call_of maps state slot GetSmpProcessorId = Ok (returned (Scalar (interval_of 0 7)) state)
-call_of maps state slot AdjustHead = head_arguments state >>= (λ _. Ok (returned any_number (told HeadMoved state)))
+call_of maps state slot XdpAdjustHead = head_arguments state >>= (λ _. Ok (returned any_number (told HeadMoved state)))

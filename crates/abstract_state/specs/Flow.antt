@@ -23,8 +23,8 @@ use Rattle.abstract_scalar.specs.Intervals.{constant_of}
 use Rattle.abstract_scalar.specs.Transfer.{neg_of, movsx64_of, movsx32_of, swap_of}
 use Rattle.abstract_state.specs.declared.kind.Kind.{Kind}
 use Rattle.abstract_state.specs.declared.kind.Kind.TheVariants.{Unset, Scalar, Map, Value}
-use Rattle.abstract_state.specs.declared.helper.Helper.{Helper}
-use Rattle.abstract_state.specs.declared.helper.Helper.TheVariants.{LookupElem, UpdateElem, DeleteElem, KtimeGetNs, GetSmpProcessorId, AdjustHead}
+use Rattle.semantics.specs.declared.linux.Helper.{Helper}
+use Rattle.semantics.specs.declared.linux.Helper.TheVariants.{MapLookupElem, MapUpdateElem, MapDeleteElem, KtimeGetNs, GetSmpProcessorId, XdpAdjustHead}
 use Rattle.abstract_state.specs.declared.flow.Flow.{Flow}
 use Rattle.abstract_state.specs.declared.flow.Flow.TheVariants.{Ends, Falls, Jumps, Splits}
 use Rattle.abstract_state.specs.declared.refusal.Refusal.TheVariants.{UnsetRegister, WrongKind, ValueBounds, ReadOnlyFp, PointerLeak, UnknownMap, NotArrayMap}
@@ -76,12 +76,12 @@ reads_atomic state op dst src = reads state dst >>= (λ _. reads state src >>= (
 
 -- a helper's arguments, upward
 abbrev pub reads_arguments : State → Helper → Checked (Unit {0})
-reads_arguments state LookupElem = reads_both state R1 (Reg R2)
-reads_arguments state UpdateElem = reads_both state R1 (Reg R2) >>= (λ _. reads_both state R3 (Reg R4))
-reads_arguments state DeleteElem = reads_both state R1 (Reg R2)
+reads_arguments state MapLookupElem = reads_both state R1 (Reg R2)
+reads_arguments state MapUpdateElem = reads_both state R1 (Reg R2) >>= (λ _. reads_both state R3 (Reg R4))
+reads_arguments state MapDeleteElem = reads_both state R1 (Reg R2)
 reads_arguments state KtimeGetNs = Ok tt
 reads_arguments state GetSmpProcessorId = Ok tt
-reads_arguments state AdjustHead = reads_both state R1 (Reg R2)
+reads_arguments state XdpAdjustHead = reads_both state R1 (Reg R2)
 
 -- ---- what an instruction leaves
 

@@ -14,6 +14,7 @@ use crate::site::{Address, Site};
 use crate::state::State;
 use abstract_scalar::Interval;
 use isa::{Extension, Size, Width};
+use semantics::ContextField;
 
 /// Every number that a zero-extending load gives.
 fn loaded_number(size: Size) -> Kind
@@ -90,16 +91,16 @@ impl State {
     fn context_kind(&self, place: i16) -> Result<Kind, Refusal>
         ensures { result ≡ context_kind self.now place }
     {
-        match place {
-            0 => Ok(Kind::Packet {
+        match ContextField::of(place) {
+            Some(ContextField::Data) => Ok(Kind::Packet {
                 id: 0,
                 off: 0,
                 range: self.start_range,
             }),
-            4 => Ok(Kind::PacketEnd),
-            12 => Ok(Kind::Scalar(Interval::constant(1))),
-            16 => Ok(Kind::Scalar(Interval::up_to(7))),
-            _ => Err(Refusal::ContextAccess),
+            Some(ContextField::DataEnd) => Ok(Kind::PacketEnd),
+            Some(ContextField::IngressIfindex) => Ok(Kind::Scalar(Interval::constant(1))),
+            Some(ContextField::RxQueueIndex) => Ok(Kind::Scalar(Interval::up_to(7))),
+            None => Err(Refusal::ContextAccess),
         }
     }
 

@@ -5,7 +5,6 @@ ghost use Rattle.abstract_state.specs.InPlace.{kept};
 ghost use Rattle.abstract_state.specs.Calls.{helper_at, map_argument, stack_argument, number_argument, context_argument, is_inside_stack, key_arguments, update_arguments, head_arguments, returned, any_number, call_of};
 
 use crate::fact::Fact;
-use crate::helper::Helper;
 use crate::kind::Kind;
 use crate::places::{STACK_BYTES, key_size, value_size};
 use crate::refusal::Refusal;
@@ -14,21 +13,15 @@ use crate::state::State;
 use abstract_scalar::Interval;
 use ebpf_decode::MapDef;
 use isa::{Register, Width};
+use semantics::Helper;
 
-impl Helper {
-    /// The helper of a number: 44 where there is none.
-    pub fn at(number: i32) -> Result<Helper, Refusal>
-        ensures { result ≡ helper_at number }
-    {
-        match number {
-            1 => Ok(Helper::LookupElem),
-            2 => Ok(Helper::UpdateElem),
-            3 => Ok(Helper::DeleteElem),
-            5 => Ok(Helper::KtimeGetNs),
-            8 => Ok(Helper::GetSmpProcessorId),
-            44 => Ok(Helper::AdjustHead),
-            _ => Err(Refusal::UnknownHelper),
-        }
+/// The helper of a number: 44 where there is none.
+pub(crate) fn helper_at(number: i32) -> Result<Helper, Refusal>
+    ensures { result ≡ helper_at number }
+{
+    match Helper::of(number) {
+        Some(helper) => Ok(helper),
+        None => Err(Refusal::UnknownHelper),
     }
 }
 
@@ -152,21 +145,21 @@ impl State {
     {
         let any_number = Kind::Scalar(Interval::full(Width::Bits64));
         let answer = match helper {
-            Helper::LookupElem => Kind::ValueOrNull {
+            Helper::MapLookupElem => Kind::ValueOrNull {
                 map: self.key_arguments(site.maps)?,
                 id: site.slot,
             },
-            Helper::UpdateElem => {
+            Helper::MapUpdateElem => {
                 self.update_arguments(site.maps)?;
                 any_number
             }
-            Helper::DeleteElem => {
+            Helper::MapDeleteElem => {
                 self.key_arguments(site.maps)?;
                 any_number
             }
             Helper::KtimeGetNs => any_number,
             Helper::GetSmpProcessorId => Kind::Scalar(Interval::up_to(7)),
-            Helper::AdjustHead => {
+            Helper::XdpAdjustHead => {
                 self.head_arguments()?;
                 self.tell(Fact::HeadMoved);
                 any_number

@@ -7,7 +7,6 @@ mod arithmetic;
 mod calls;
 mod fact;
 mod flow;
-mod helper;
 mod join;
 mod kind;
 pub mod laws;
@@ -23,7 +22,6 @@ mod transfer;
 
 pub use fact::Fact;
 pub use flow::{Flow, Way};
-pub use helper::Helper;
 pub use kind::{Kind, Offsets, StackWord};
 pub use refusal::Refusal;
 pub use site::Site;

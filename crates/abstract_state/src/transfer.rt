@@ -43,8 +43,8 @@ ghost use Rattle.abstract_state.specs.InPlace.{kept, flow_kept, edge_state};
 ghost use Rattle.abstract_state.specs.Flow.{writable, fetch_writable, is_set, reads, reads_source, reads_both, reads_operands, reads_expected, reads_atomic, reads_arguments, alu_flow, number_of, operand_of, unary_flow, load_flow, store_flow, store_register_flow, atomic_flow, known_map, map_flow, array_size, address_in, value_address, address_flow, number_flow, call_flow, verdict_kind, flow_of};
 
 use crate::access::narrow_storable;
+use crate::calls::helper_at;
 use crate::flow::Way;
-use crate::helper::Helper;
 use crate::kind::{Kind, Offsets};
 use crate::places::{atomic_access, place_within};
 use crate::refinement::allowed_test;
@@ -57,6 +57,7 @@ use isa::{
     AluOp, AtomicOp, ByteOrder, Extension, Register, ShortExtension, Size, Source, SwapWidth, Test,
     Width,
 };
+use semantics::Helper;
 
 /// R10 is read-only.
 fn writable(register: Register) -> Result<(), Refusal>
@@ -224,15 +225,15 @@ impl State {
         ensures { result ≡ reads_arguments self.now helper }
     {
         match helper {
-            Helper::LookupElem => self.reads_both(Register::R1, Source::Reg(Register::R2)),
-            Helper::UpdateElem => {
+            Helper::MapLookupElem => self.reads_both(Register::R1, Source::Reg(Register::R2)),
+            Helper::MapUpdateElem => {
                 self.reads_both(Register::R1, Source::Reg(Register::R2))?;
                 self.reads_both(Register::R3, Source::Reg(Register::R4))
             }
-            Helper::DeleteElem => self.reads_both(Register::R1, Source::Reg(Register::R2)),
+            Helper::MapDeleteElem => self.reads_both(Register::R1, Source::Reg(Register::R2)),
             Helper::KtimeGetNs => Ok(()),
             Helper::GetSmpProcessorId => Ok(()),
-            Helper::AdjustHead => self.reads_both(Register::R1, Source::Reg(Register::R2)),
+            Helper::XdpAdjustHead => self.reads_both(Register::R1, Source::Reg(Register::R2)),
         }
     }
 
@@ -449,7 +450,7 @@ impl State {
     fn call(&mut self, site: Site<'_>, number: i32) -> Result<(), Refusal>
         ensures { kept result self.new ≡ call_flow site.entry.maps.now self.old site.entry.slot number }
     {
-        let helper = Helper::at(number)?;
+        let helper = helper_at(number)?;
         self.reads_arguments(helper)?;
         self.call_helper(site, helper)
     }

@@ -34,8 +34,11 @@ use Rattle.abstract_state.specs.declared.kind.Offsets.{Offsets}
 use Rattle.abstract_state.specs.declared.kind.StackWord.{StackWord}
 use Rattle.abstract_state.specs.declared.kind.StackWord.TheVariants.{Spilled, Bytes}
 use Rattle.abstract_state.specs.declared.fact.Fact.{Fact}
-use Rattle.abstract_state.specs.declared.helper.Helper.{Helper}
-use Rattle.abstract_state.specs.declared.helper.Helper.TheVariants.{LookupElem, UpdateElem, DeleteElem, KtimeGetNs, GetSmpProcessorId, AdjustHead}
+use Rattle.semantics.specs.Linux.{field_at, helper_of}
+use Rattle.semantics.specs.declared.linux.ContextField.{ContextField}
+use Rattle.semantics.specs.declared.linux.ContextField.TheVariants.{Data, DataEnd, IngressIfindex, RxQueueIndex}
+use Rattle.semantics.specs.declared.linux.Helper.{Helper}
+use Rattle.semantics.specs.declared.linux.Helper.TheVariants.{MapLookupElem, MapUpdateElem, MapDeleteElem, KtimeGetNs, GetSmpProcessorId, XdpAdjustHead}
 use Rattle.abstract_state.specs.declared.flow.Flow.{Flow}
 use Rattle.abstract_state.specs.declared.flow.Flow.TheVariants.{Ends, Falls, Jumps, Splits}
 use Rattle.abstract_state.specs.declared.refusal.Refusal.{Refusal}
@@ -46,8 +49,8 @@ use Rattle.abstract_state.specs.Places.{place_within, range_within, aligned, sta
 use Rattle.abstract_state.specs.Words.{loaded_number, are_bytes_set, narrow_loaded, spilled_loaded, word_loaded, narrow_storable, storable}
 use Rattle.abstract_state.specs.Arithmetic.{source_kind, blamed, number_kind, moved_kind, distance_of, moves_pointers, moved_pointer, moved_value, moved_far, pointer_sum, is_movable, combined_pointer, combined_kind, alu_kind, after_alu_of}
 use Rattle.abstract_state.specs.Refinement.{is_null_test, is_order, against_scalar, against_end, against_packet, allowed_test, number_cut, fact_of, refined, refine_state}
-use Rattle.abstract_state.specs.Access.{context_kind, context_loaded, loaded_kind, signed_loaded, load_of, signed_load_of, stack_stored, stored, store_of, with_fetched_kind, is_number, expects, atomic_on, atomic_of}
-use Rattle.abstract_state.specs.Calls.{helper_at, map_argument, stack_argument, number_argument, context_argument, is_inside_stack, when_all, key_arguments, update_arguments, head_arguments, call_of}
+use Rattle.abstract_state.specs.Access.{field_kind, context_kind, context_loaded, loaded_kind, signed_loaded, load_of, signed_load_of, stack_stored, stored, store_of, with_fetched_kind, is_number, expects, atomic_on, atomic_of}
+use Rattle.abstract_state.specs.Calls.{known_helper, helper_at, map_argument, stack_argument, number_argument, context_argument, is_inside_stack, when_all, key_arguments, update_arguments, head_arguments, call_of}
 use Rattle.abstract_state.specs.Flow.{writable, fetch_writable, is_set, reads, reads_source, reads_both, reads_operands, reads_expected, reads_atomic, reads_arguments, alu_flow, number_of, operand_of, unary_flow, load_flow, store_flow, store_register_flow, atomic_flow, number_flow, known_map, map_flow, array_size, address_in, value_address, address_flow, call_flow, test_flow, exit_kind, falls, flow_of}
 
 -- ---- what is fair: a register is blamed for being unset only where it is, and what is made holds
@@ -237,13 +240,15 @@ test_fair state width test kind other dst source = tt
 
 -- ---- loads
 
+field_fair : (state : State) (field : Option ContextField) → Asks state (field_kind state field)
+field_fair state (Some Data) = tt
+field_fair state (Some DataEnd) = tt
+field_fair state (Some IngressIfindex) = tt
+field_fair state (Some RxQueueIndex) = tt
+field_fair state None = tt
+
 context_fair : (state : State) (place : ℤ) → Asks state (context_kind state place)
-context_fair state (pos place) =
-    fair_if state (place == 0) (Ok (Packet 0 0 state.start_range)) _ tt
-    (fair_if state (place == 4) (Ok PacketEnd) _ tt
-    (fair_if state (place == 12) _ _ tt
-    (fair_if state (place == 16) _ (Err ContextAccess) tt tt)))
-context_fair state (negsuc below) = tt
+context_fair state place = field_fair state (field_at place)
 
 context_loaded_fair : (state : State) (size : Size) (place : ℤ) → Asks state (context_loaded state size place)
 context_loaded_fair state U8 place = tt
@@ -372,19 +377,19 @@ head_fair state =
     (context_argument_fair state (kind_of state R1) R1) (λ _. number_argument_fair state (kind_of state R2) R2)
 
 call_kept : (maps : List MapDef) (state : State) (slot : ℕ) (helper : Helper) → Keeps state (call_of maps state slot helper)
-call_kept maps state slot LookupElem = fair_then state (λ after. after.version ≡ state.version) (key_arguments maps state) _ (key_fair maps state) (λ map. refl)
-call_kept maps state slot UpdateElem = fair_then state (λ after. after.version ≡ state.version) (update_arguments maps state) _ (update_fair maps state) (λ _. refl)
-call_kept maps state slot DeleteElem = fair_then state (λ after. after.version ≡ state.version) (key_arguments maps state) _ (key_fair maps state) (λ _. refl)
+call_kept maps state slot MapLookupElem = fair_then state (λ after. after.version ≡ state.version) (key_arguments maps state) _ (key_fair maps state) (λ map. refl)
+call_kept maps state slot MapUpdateElem = fair_then state (λ after. after.version ≡ state.version) (update_arguments maps state) _ (update_fair maps state) (λ _. refl)
+call_kept maps state slot MapDeleteElem = fair_then state (λ after. after.version ≡ state.version) (key_arguments maps state) _ (key_fair maps state) (λ _. refl)
 call_kept maps state slot KtimeGetNs = refl
 call_kept maps state slot GetSmpProcessorId = refl
-call_kept maps state slot AdjustHead = fair_then state (λ after. after.version ≡ state.version) (head_arguments state) _ (head_fair state) (λ _. refl)
+call_kept maps state slot XdpAdjustHead = fair_then state (λ after. after.version ≡ state.version) (head_arguments state) _ (head_fair state) (λ _. refl)
+
+known_fair : (state : State) (helper : Option Helper) → Asks state (known_helper helper)
+known_fair state (Some helper) = tt
+known_fair state None = tt
 
 helper_fair : (state : State) (number : ℤ) → Asks state (helper_at number)
-helper_fair state (pos number) =
-    fair_if state (number == 1) (Ok LookupElem) _ tt (fair_if state (number == 2) (Ok UpdateElem) _ tt (fair_if state (number == 3) (Ok DeleteElem) _ tt
-    (fair_if state (number == 5) (Ok KtimeGetNs) _ tt (fair_if state (number == 8) (Ok GetSmpProcessorId) _ tt
-    (fair_if state (number == 44) (Ok AdjustHead) (Err UnknownHelper) tt tt)))))
-helper_fair state (negsuc below) = tt
+helper_fair state number = known_fair state (helper_of number)
 
 -- ---- what comes first
 
@@ -425,14 +430,14 @@ reads_atomic_fair state op dst src =
     (λ _. fair_then state (λ _. Unit {0}) (reads state src) (λ _. reads_expected state op) (reads_fair state src) (λ _. expected_fair state op))
 
 arguments_fair : (state : State) (helper : Helper) → Asks state (reads_arguments state helper)
-arguments_fair state LookupElem = both_fair state R1 (Reg R2)
-arguments_fair state UpdateElem =
+arguments_fair state MapLookupElem = both_fair state R1 (Reg R2)
+arguments_fair state MapUpdateElem =
     fair_then state (λ _. Unit {0}) (reads_both state R1 (Reg R2)) (λ _. reads_both state R3 (Reg R4)) (both_fair state R1 (Reg R2))
     (λ _. both_fair state R3 (Reg R4))
-arguments_fair state DeleteElem = both_fair state R1 (Reg R2)
+arguments_fair state MapDeleteElem = both_fair state R1 (Reg R2)
 arguments_fair state KtimeGetNs = tt
 arguments_fair state GetSmpProcessorId = tt
-arguments_fair state AdjustHead = both_fair state R1 (Reg R2)
+arguments_fair state XdpAdjustHead = both_fair state R1 (Reg R2)
 
 -- ---- what flows out
 

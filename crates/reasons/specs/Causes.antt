@@ -15,13 +15,13 @@ use Rattle.abstract_scalar.specs.declared.interval.Interval.{Interval}
 use Rattle.abstract_scalar.specs.Intervals.{is_single}
 use Rattle.abstract_state.specs.declared.kind.Kind.{Kind}
 use Rattle.abstract_state.specs.declared.kind.Kind.TheVariants.{Unset, Scalar, Stack, Packet, ValueOrNull, Value}
-use Rattle.abstract_state.specs.declared.helper.Helper.{Helper}
-use Rattle.abstract_state.specs.declared.helper.Helper.TheVariants.{AdjustHead}
+use Rattle.semantics.specs.Linux.{helper_of}
+use Rattle.semantics.specs.declared.linux.Helper.{Helper}
+use Rattle.semantics.specs.declared.linux.Helper.TheVariants.{XdpAdjustHead}
 use Rattle.abstract_state.specs.declared.refusal.Refusal.{Refusal}
 use Rattle.abstract_state.specs.declared.refusal.Refusal.TheVariants as rule
 use Rattle.abstract_state.specs.declared.state.State.{State}
 use Rattle.abstract_state.specs.States.{Checked, kind_of}
-use Rattle.abstract_state.specs.Calls.{helper_at}
 use Rattle.reasons.specs.declared.cause.Access.{Access}
 use Rattle.reasons.specs.declared.cause.Need.{Need}
 use Rattle.reasons.specs.declared.cause.Role.{Role}
@@ -178,12 +178,8 @@ context_access role = ContextStore
 
 -- ---- 45: an argument, by what the helper takes in the register
 
-abbrev pub helper_in : Checked Helper → Option Helper
-helper_in (Ok helper) = Some helper
-helper_in (Err why) = None
-
 abbrev pub helper_called : Insn → Option Helper
-helper_called (CallHelper number) = helper_in (helper_at number)
+helper_called (CallHelper number) = helper_of number
 helper_called insn = None
 
 abbrev pub head_argument : Register → Cause
@@ -196,7 +192,7 @@ map_argument R4 = WantsNumber
 map_argument register = WantsStack
 
 abbrev pub bad_argument : Option Helper → Register → Cause
-bad_argument (Some AdjustHead) register = head_argument register
+bad_argument (Some XdpAdjustHead) register = head_argument register
 bad_argument helper register = map_argument register
 
 -- ---- 46: a pointer that could be read as a number

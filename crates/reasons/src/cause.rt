@@ -8,10 +8,11 @@ ghost use Rattle.reasons.specs.Causes.{value_size_at, named_size, value_bounds, 
 ghost use Rattle.reasons.specs.Causes.{helper_called, bad_argument, pointer_stored, pointer_leak, cause_of, cause_of_shape};
 
 use abstract_scalar::Interval;
-use abstract_state::{Helper, Kind, Refusal, State};
+use abstract_state::{Kind, Refusal, State};
 use ebpf_decode::{Insn, MapDef};
 use image_shape::ShapeFault;
 use isa::{Register, Source};
+use semantics::Helper;
 
 /// What an instruction does with its operands, as far as the rules tell instructions apart.
 #[derive(Clone, Copy, Debug, PartialEq, Eq)]
@@ -426,10 +427,7 @@ fn helper_called(insn: Insn) -> Option<Helper>
     ensures { result ≡ helper_called insn }
 {
     match insn {
-        Insn::CallHelper { helper } => match Helper::at(helper) {
-            Ok(helper) => Some(helper),
-            Err(_) => None,
-        },
+        Insn::CallHelper { helper } => Helper::of(helper),
         _ => None,
     }
 }
@@ -439,7 +437,7 @@ fn bad_argument(helper: Option<Helper>, register: Register) -> Cause
     ensures { result ≡ bad_argument helper register }
 {
     match helper {
-        Some(Helper::AdjustHead) => match register {
+        Some(Helper::XdpAdjustHead) => match register {
             Register::R1 => Cause::WantsContext,
             _ => Cause::WantsNumber,
         },

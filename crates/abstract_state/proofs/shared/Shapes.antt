@@ -28,8 +28,8 @@ use Rattle.abstract_state.specs.declared.kind.StackWord.{StackWord}
 use Rattle.abstract_state.specs.declared.kind.StackWord.TheVariants.{Spilled, Bytes}
 use Rattle.abstract_state.specs.declared.fact.Fact.{Fact}
 use Rattle.abstract_state.specs.declared.fact.Fact.TheVariants.{HeadMoved}
-use Rattle.abstract_state.specs.declared.helper.Helper.{Helper}
-use Rattle.abstract_state.specs.declared.helper.Helper.TheVariants.{LookupElem, UpdateElem, DeleteElem, KtimeGetNs, GetSmpProcessorId, AdjustHead}
+use Rattle.semantics.specs.declared.linux.Helper.{Helper}
+use Rattle.semantics.specs.declared.linux.Helper.TheVariants.{MapLookupElem, MapUpdateElem, MapDeleteElem, KtimeGetNs, GetSmpProcessorId, XdpAdjustHead}
 use Rattle.abstract_state.specs.declared.flow.Flow.{Flow}
 use Rattle.abstract_state.specs.declared.flow.Flow.TheVariants.{Ends, Falls, Jumps, Splits}
 use Rattle.abstract_state.specs.declared.refusal.Refusal.{Refusal}
@@ -264,15 +264,15 @@ atomic_kept maps state width op (Value map id off) distance dst src s =
 -- ---- calls
 
 call_kept : (maps : List MapDef) (state : State) (slot : ℕ) (helper : Helper) → IsShaped state → Keeps (call_of maps state slot helper)
-call_kept maps state slot LookupElem s = keeps_then (key_arguments maps state) (λ map. Ok (returned (ValueOrNull map slot) state))
+call_kept maps state slot MapLookupElem s = keeps_then (key_arguments maps state) (λ map. Ok (returned (ValueOrNull map slot) state))
     (λ map e. keeps_ok (returned (ValueOrNull map slot) state) (returned_shaped (ValueOrNull map slot) state s))
-call_kept maps state slot UpdateElem s = keeps_then (update_arguments maps state) (λ _. Ok (returned any_number state))
+call_kept maps state slot MapUpdateElem s = keeps_then (update_arguments maps state) (λ _. Ok (returned any_number state))
     (λ _ e. keeps_ok (returned any_number state) (returned_shaped any_number state s))
-call_kept maps state slot DeleteElem s = keeps_then (key_arguments maps state) (λ _. Ok (returned any_number state))
+call_kept maps state slot MapDeleteElem s = keeps_then (key_arguments maps state) (λ _. Ok (returned any_number state))
     (λ _ e. keeps_ok (returned any_number state) (returned_shaped any_number state s))
 call_kept maps state slot KtimeGetNs s = keeps_ok (returned any_number state) (returned_shaped any_number state s)
 call_kept maps state slot GetSmpProcessorId s = keeps_ok (returned (Scalar (interval_of 0 7)) state) (returned_shaped (Scalar (interval_of 0 7)) state s)
-call_kept maps state slot AdjustHead s = keeps_then (head_arguments state) (λ _. Ok (returned any_number (told HeadMoved state)))
+call_kept maps state slot XdpAdjustHead s = keeps_then (head_arguments state) (λ _. Ok (returned any_number (told HeadMoved state)))
     (λ _ e. keeps_ok (returned any_number (told HeadMoved state)) (returned_shaped any_number (told HeadMoved state) (told_shaped HeadMoved state s)))
 
 -- ---- what flows out
