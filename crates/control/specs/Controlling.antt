@@ -154,7 +154,8 @@ pub record IsAnswered {P : Type 0} (gives : P → MapUpdate → ℤ → P → Ty
   pub state_is : state' ≡ state
 
 -- what a refusal leaves
-abbrev pub IsLeft : {P : Type 0} → (P → MapUpdate → ℤ → P → Type 0) → (P → MapUpdate → P → Type 0) → ControllerState → P → Action → ControllerState → P → ControlFault → Type 0
+abbrev pub IsLeft : {P : Type 0} → (P → MapUpdate → ℤ → P → Type 0) → (P → MapUpdate → P → Type 0) → ControllerState → P → Action →
+    ControllerState → P → ControlFault → Type 0
 IsLeft gives refuses state before action state' after UnknownBackend = IsUnchanged state before state' after × (refusal_of state action ≡ Some UnknownBackend)
 IsLeft gives refuses state before action state' after BackendTwice = IsUnchanged state before state' after × (refusal_of state action ≡ Some BackendTwice)
 IsLeft gives refuses state before action state' after (Refused answer) = IsAnswered gives state before (first_updates state.up action) answer state' after

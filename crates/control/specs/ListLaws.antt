@@ -11,7 +11,8 @@ index_test n a b is lt = grind (arith, nat_tests)
 takes : (state : UpdateListState) (update : MapUpdate) → IsInArray state.maps update → is_taken state update ≡ true
 takes state update stands = rw (stands.known, stands.array) (index_test _ _ _ stands.index stands.inside)
 
-pub array_takes : (state : UpdateListState) (update : MapUpdate) (answer : ℤ) (after : UpdateListState) → IsInArray state.maps update → IsNoted state update answer after → answer ≡ pos 0
+pub array_takes : (state : UpdateListState) (update : MapUpdate) (answer : ℤ) (after : UpdateListState) →
+    IsInArray state.maps update → IsNoted state update answer after → answer ≡ pos 0
 array_takes state update answer after stands noted = noted.answer_is ∙ ap answer_if (takes state update stands)
 
 pub same_maps : (before after : UpdateListState) (update : MapUpdate) (answer : ℤ) → IsNoted before update answer after → after.maps ≡ before.maps

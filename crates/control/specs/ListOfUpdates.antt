@@ -1,10 +1,12 @@
 -- A port to maps in memory: the list of what it was asked, with the answers.
-use Rattle.std.specs.Prelude.{◌≡◌, ℕ, ◌+◌, ◌<◌, ◌≤◌, ◌==◌, ℤ, pos, negsuc, Bool, true, false, ◌&&◌, ◌||◌, not, nat_lt, bytes_eq, List, [], ◌∷◌, ◌++◌, length, count_by, Option, Some, None, slice_get, if◌then◌else◌}
+use Rattle.std.specs.Prelude.{◌≡◌, ℕ, ◌+◌, ◌<◌, ◌≤◌, ◌==◌, ℤ, Bool, true, false, ◌&&◌, ◌||◌, not, nat_lt, bytes_eq, List, [], ◌∷◌, ◌++◌, length, count_by, Option, Some, None, slice_get, if◌then◌else◌}
 use Rattle.std.specs.List.{list_any}
 use Rattle.ebpf_decode.specs.declared.map.MapDef.{MapDef}
 use Rattle.ebpf_decode.specs.declared.map.MapKind.{MapKind}
 use Rattle.ebpf_decode.specs.declared.map.MapKind.TheVariants.{Hash, Array, LruHash}
 use Rattle.semantics.specs.LittleEndian.{number_of_bytes}
+use Rattle.semantics.specs.Linux.{errno_code, success}
+use Rattle.semantics.specs.declared.linux.Errno.TheVariants.{TooBig}
 use Rattle.control.specs.declared.update_list.MadeUpdate.{MadeUpdate}
 use Rattle.control.specs.MapUpdates.{MapUpdate, IsInArray}
 
@@ -40,10 +42,10 @@ is_taken_in made update None = false
 abbrev pub is_taken : UpdateListState → MapUpdate → Bool
 is_taken state update = is_taken_in state.made update (slice_get state.maps update.map)
 
--- 0, or E2BIG negated
+-- 0, or that the map is full or the index out of range
 abbrev pub answer_if : Bool → ℤ
-answer_if true = pos 0
-answer_if false = negsuc 6
+answer_if true = success
+answer_if false = errno_code TooBig
 
 -- the entry of an update
 abbrev pub made_of : UpdateListState → MapUpdate → MadeUpdate

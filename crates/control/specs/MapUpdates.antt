@@ -60,7 +60,8 @@ AreMade gives before [] after = before ≡ after
 AreMade {P} gives before (update ∷ later) after = (middle : P) × gives before (map_update update) (pos 0) middle × AreMade gives middle later after
 
 -- some of the updates are made in their order, then the next one is refused, and no other is made
-pub record AreCutShort {P : Type 0} (gives : P → MapUpdate → ℤ → P → Type 0) (refuses : P → MapUpdate → P → Type 0) (before : P) (updates : List Update) (after : P) : Type 0 where
+pub record AreCutShort {P : Type 0} (gives : P → MapUpdate → ℤ → P → Type 0) (refuses : P → MapUpdate → P → Type 0)
+    (before : P) (updates : List Update) (after : P) : Type 0 where
   pub made : List Update
   pub next : Update
   pub later : List Update

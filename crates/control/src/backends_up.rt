@@ -10,12 +10,14 @@ use maglev::{Backend, Ring, RingFault};
 use std::alloc::{AllocError, Global};
 use wire::Ipv4Address;
 
+/// Whether a backend of this number is up.
 pub(crate) fn is_number_up(up: &[Backend], number: u32) -> bool
     ensures { result ≡ list_any (has_number number) up.now }
 {
     up.iter().any(|backend| backend.number == number)
 }
 
+/// Whether a backend of this address is up.
 pub(crate) fn is_address_up(up: &[Backend], address: Ipv4Address) -> bool
     ensures { result ≡ list_any (has_address address) up.now }
 {
@@ -29,6 +31,7 @@ pub(crate) fn backend_of(up: &[Backend], number: u32) -> Option<Backend>
     up.iter().copied().find(|backend| backend.number == number)
 }
 
+/// The backends of lower numbers that are up.
 fn lower(alloc: Global, up: &[Backend], number: u32) -> Result<Vec<Backend>, AllocError>
     ensures { IfOk result (λ kept. kept.items ≡ filter (λ (other : Server). nat_lt other.number number) up.now) }
 {
@@ -38,6 +41,7 @@ fn lower(alloc: Global, up: &[Backend], number: u32) -> Result<Vec<Backend>, All
         .collect(alloc)
 }
 
+/// The backends of higher numbers that are up.
 fn higher(alloc: Global, up: &[Backend], number: u32) -> Result<Vec<Backend>, AllocError>
     ensures { IfOk result (λ kept. kept.items ≡ filter (λ (other : Server). nat_lt number other.number) up.now) }
 {

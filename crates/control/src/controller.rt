@@ -135,7 +135,8 @@ impl Controller {
         requires not_full { self.old.is_full ≡ false }
         ensures done { OnOk result (IsCarriedOut U.gives self.old port.old
             (first_updates self.old.up (Act.Gateway source source_mac destination_mac)) self.old.up self.new port.new) }
-        ensures left { IfErr result (λ fault. IsLeft U.gives U.refuses self.old port.old (Act.Gateway source source_mac destination_mac) self.new port.new fault) }
+        ensures left { IfErr result (λ fault. IsLeft U.gives U.refuses self.old port.old
+            (Act.Gateway source source_mac destination_mac) self.new port.new fault) }
         ensures stays { (self.new.size ≡ self.old.size) × (U.serves port.new ≡ steering_maps self.old.size) }
     {
         let tunnel = TunnelRecord {

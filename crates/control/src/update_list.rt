@@ -8,7 +8,7 @@ ghost use Rattle.control.specs.ListOfUpdates.{is_new_in, is_known, is_taken_by, 
 
 use crate::update_port::UpdatePort;
 use ebpf_decode::{MapDef, MapKind};
-use semantics::{JournalFull, Key, Value};
+use semantics::{Errno, JournalFull, Key, Value};
 use std::alloc::{AllocError, Global};
 use std::marker::Model;
 
@@ -45,11 +45,11 @@ impl Model for UpdateList {
     ghost invariant = { λ list. (length list.made.items ≤ list.room) × (list.room ≤ list.made.cap) };
 }
 
-/// 0, or Linux's number for too many entries (E2BIG), negated.
+/// 0, or that the map is full or the index out of range.
 fn answer_if(is_present: bool) -> i32
     ensures { result ≡ answer_if is_present }
 {
-    if is_present { 0 } else { -7 }
+    if is_present { 0 } else { Errno::TooBig.code() }
 }
 
 /// Whether the key is an index of four bytes below this number.

@@ -33,7 +33,7 @@ use Rattle.workers.specs.Accounts.{SentFrame, counts_of, sent_by, sent_of, sent_
 use Rattle.workers.specs.Jobs.{records_of}
 use Rattle.workers.specs.Runs.{IsRunAt, IsChainOfRuns}
 use Rattle.workers.specs.Shares.{frames_of, frame_at, is_short, has_flow, worker_of_frame, is_handed, share}
-use Rattle.workers.proofs.AccountLemmas.{handed_own}
+use Rattle.workers.proofs.shared.AccountLemmas.{handed_own}
 use Rattle.replay.specs.declared.outcome.Outcome.{Outcome}
 use Rattle.replay.specs.Accounted.{IsAccounted, IsWorkOf}
 use Rattle.replay.specs.Parts.{IsScriptAccounted, rounds_of}

@@ -16,7 +16,7 @@ use verifier::Verified;
 use wire::Frame;
 
 /// A frame with all its headroom free is one that may come in.
-fn may_come_in(frame: &Frame)
+fn frame_may_come_in(frame: &Frame)
     requires { frame.now.headroom ≡ 256 }
     ensures { IsInputFrame frame.now.bytes }
 {
@@ -25,7 +25,7 @@ fn may_come_in(frame: &Frame)
 }
 
 /// A time in nanoseconds has 64 bits.
-fn is_early(now_ns: u64)
+fn time_has_64_bits(now_ns: u64)
     ensures { now_ns < 2 ^ 64 }
 {
     let _ = now_ns;
@@ -58,7 +58,7 @@ pub fn shared_run<B: Naming, W: Wait, G: Gate>(
 {
     runs_are_of_the_system();
     stopped_runs_are_of_the_system();
-    may_come_in(frame);
-    is_early(moment.now_ns);
+    frame_may_come_in(frame);
+    time_has_64_bits(moment.now_ns);
     run_frame(rt, verified, frame, moment, shards, pass, gate, replies)
 }

@@ -118,11 +118,11 @@ stop_stands plan count program worker journals captured before after frame (Jour
         (IsJournalFull (plan (shard_of_call was.refused)) full_at was.refused
         ⊎ IsKeptOut (plan (shard_of_call was.refused)) full_at worker was.exchanges (shard_of_call was.refused) (own_at before (shard_of_call was.refused))
         (own_at after (shard_of_call was.refused)))
-        → IsFullAtEnd plan journals worker was.exchanges was.refused
+        → IsFullAtEnd plan journals before after was.refused
     by_case full_at begins (inl full) =
         inl (full_later (plan (shard_of_call was.refused)) (reverse (entries_at journals (shard_of_call was.refused))) full_at was.refused begins full)
     by_case full_at begins (inr full) =
-        inr (full.first_call, full_later (plan (shard_of_call was.refused)) (reverse (entries_at journals (shard_of_call was.refused))) full_at (Enter (shard_of_call was.refused)) begins full.full)
+        inr (full.nothing, full_later (plan (shard_of_call was.refused)) (reverse (entries_at journals (shard_of_call was.refused))) full_at (Enter (shard_of_call was.refused)) begins full.full)
 
 run_stands : (plan : ℕ → ShardPlan) (count : ℕ) (program : Program) (worker : ℕ) (journals : JournalsView) (captured : Sent) (before : PassView)
     (end : RunEnd) (after : PassView) → IsSeenOf count journals after → IsRunOf count plan program worker captured before end after →

@@ -13,14 +13,12 @@ use Rattle.semantics.specs.MachineState.{MachineState, initial_state}
 use Rattle.semantics.specs.History.{shard_of_call, IsJournalFull}
 use Rattle.semantics.specs.Program.{Program}
 use Rattle.journals.specs.JournalsView.{JournalsView, entries_at}
-use Rattle.map_port.specs.Exchanges.{Exchange}
 use Rattle.machine.specs.declared.exit.Stop.{Stop}
 use Rattle.machine.specs.declared.exit.Stop.TheVariants.{JournalFull}
 use Rattle.frame_runs.specs.FrameRuns.{HasRun, WasRefused, HasStopped}
 use Rattle.shared_shards.specs.CallerView.{nothing_seen}
-use Rattle.shared_shards.specs.Passes.{PassView, view_at}
+use Rattle.shared_shards.specs.Passes.{PassView, view_at, own_at}
 use Rattle.shard_port.specs.PassSessions.{IsOutsideAt}
-use Rattle.shard_port.specs.Sessions.{entries_at as calls_at}
 use Rattle.workers.specs.declared.run_end.RunEnd.{RunEnd}
 use Rattle.workers.specs.declared.run_end.RunEnd.TheVariants.{Stopped, Aborted, Dropped, Passed, Sent as IsSent}
 use Rattle.replay.specs.declared.shard_runner.Working.{Working}
@@ -94,18 +92,19 @@ IsRunBy count plan program worker captured before end after = IsRunOf count plan
 
 -- ---- held against the journals
 
--- the journal of the shard of a refused call is full for it at its end; or, where the run had made no call there, full for its Enter
-abbrev pub IsFullAtEnd : (ℕ → ShardPlan) → JournalsView → ℕ → List Exchange → Call → Type 0
-IsFullAtEnd plan journals worker exchanges call =
+-- the journal of the shard of a refused call is full for it at its end; or, where the run had not entered the shard, and so wrote nothing there, full
+-- for its Enter
+abbrev pub IsFullAtEnd : (ℕ → ShardPlan) → JournalsView → PassView → PassView → Call → Type 0
+IsFullAtEnd plan journals before after call =
     IsJournalFull (plan (shard_of_call call)) (reverse (entries_at journals (shard_of_call call))) call
-    ⊎ ((calls_at worker (shard_of_call call) exchanges ≡ [])
+    ⊎ ((own_at after (shard_of_call call) ≡ own_at before (shard_of_call call))
     × IsJournalFull (plan (shard_of_call call)) (reverse (entries_at journals (shard_of_call call))) (Enter (shard_of_call call)))
 
 -- the run was stopped, and what stopped it holds at the journals' end
 abbrev pub StopsFor : (ℕ → ShardPlan) → ℕ → Program → ℕ → JournalsView → Sent → PassView → PassView → FrameView → Stop → Type 0
 StopsFor plan count program worker journals captured before after frame (JournalFull shard) =
     (was : WasRefused program (start_of captured worker) plan count worker before after frame shard)
-    × IsFullAtEnd plan journals worker was.exchanges was.refused
+    × IsFullAtEnd plan journals before after was.refused
 
 pub record IsStopIn (plan : ℕ → ShardPlan) (count : ℕ) (program : Program) (worker : ℕ) (journals : JournalsView) (captured : Sent)
     (before after : PassView) : Type 0 where

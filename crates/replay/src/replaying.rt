@@ -33,7 +33,8 @@ use workers::{AllEnded, CrewFault};
 
 /// Why no shards were opened, as a replay has it.
 fn fault_of(fault: OpenFault) -> ReplayFault
-    ensures { (result ≡ BadOptions) ↔ (fault ≡ OpenFault.BadOptions) }
+    ensures options { (result ≡ BadOptions) ↔ (fault ≡ OpenFault.BadOptions) }
+    ensures memory { (result ≡ ReplayFault.Memory) ↔ (fault ≡ OpenFault.Memory) }
 {
     match fault {
         OpenFault::BadOptions => ReplayFault::BadOptions,
@@ -43,7 +44,8 @@ fn fault_of(fault: OpenFault) -> ReplayFault
 
 /// Why the workers gave up, as a replay has it.
 fn crew_fault_of(fault: CrewFault) -> ReplayFault
-    ensures { ¬ (result ≡ BadOptions) }
+    ensures options { ¬ (result ≡ BadOptions) }
+    ensures memory { (result ≡ ReplayFault.Memory) ↔ (fault ≡ CrewFault.Memory) }
 {
     match fault {
         CrewFault::Memory => ReplayFault::Memory,

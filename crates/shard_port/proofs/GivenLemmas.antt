@@ -39,8 +39,8 @@ use Rattle.shard_port.specs.Asking.{entered, IsAnsweredAmong}
 use Rattle.shard_port.specs.PortView.{IsShardOf, IsReady, IsRunCall, SetsBytes, IsGivenBy, cell_of_handle, handle_of, word_in, answer_in, has_small_cell}
 use Rattle.shard_port.specs.PortLaws.{both_true}
 use Rattle.shard_port.proofs.ByteLemmas.{number_in_cell-below}
-use Rattle.shard_port.proofs.ReadyLemmas.{plan_number, bytes_entered}
-use Rattle.shard_port.proofs.MayAskLemmas.{served_by, shard_of_known, some_part, few_parts}
+use Rattle.shard_port.proofs.shared.ReadyLemmas.{plan_number, bytes_entered}
+use Rattle.shard_port.proofs.shared.MayAskLemmas.{served_by, shard_of_known, some_part, few_parts}
 
 -- ---- maps
 

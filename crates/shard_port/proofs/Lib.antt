@@ -1,12 +1,9 @@
 pub mod LeavingLemmas
 pub mod ByteLemmas
-pub mod ReadyLemmas
-pub mod MayAskLemmas
 pub mod GivenLemmas
 pub mod SessionLemmas
 pub mod PlainLaws
 pub mod TestLemmas
-pub mod PassAskLemmas
 pub mod PassMetLemmas
 pub mod PassGivenLemmas
 pub mod PassSessionLemmas

@@ -36,11 +36,11 @@ use Rattle.shard_port.specs.Asking.{asked_entry}
 use Rattle.shard_port.specs.PortView.{AreBytes, SetsBytes, IsRunCall, cell_of_handle, handle_of, has_small_cell, word_in}
 use Rattle.shard_port.specs.PassPorts.{PassPort, worker_of, entering, is_worker_below, IsAskedAt, IsGivenBy, IsRefusedBy, IsTurnedAwayAt}
 use Rattle.shard_port.proofs.ByteLemmas.{cells_after_call, number_in_cell-below}
-use Rattle.shard_port.proofs.ReadyLemmas.{plan_number}
-use Rattle.shard_port.proofs.MayAskLemmas.{served_by}
+use Rattle.shard_port.proofs.shared.ReadyLemmas.{plan_number}
+use Rattle.shard_port.proofs.shared.MayAskLemmas.{served_by}
 use Rattle.shard_port.proofs.GivenLemmas.{sizes_at, small_of_kind, not_over, plan_reserve, found_again, found_formed}
 use Rattle.shard_port.proofs.PlainLaws.{opening_bytes}
-use Rattle.shard_port.proofs.PassAskLemmas.{is_worker}
+use Rattle.shard_port.proofs.shared.PassAskLemmas.{is_worker}
 
 -- ---- legal histories hold bytes
 

@@ -32,9 +32,9 @@ use Rattle.shard_port.specs.PortLaws.{both_true}
 use Rattle.shard_port.specs.PassPorts.{is_worker_below, worker_of, inside_own, has_found}
 use Rattle.shared_shards.specs.HeldCells.{holds_own}
 use Rattle.shard_port.specs.PassPortLaws.{inside_once, stays_inside}
-use Rattle.shard_port.proofs.ReadyLemmas.{plan_number}
-use Rattle.shard_port.proofs.MayAskLemmas.{served_by, same_test, flags_test, fits_test, known_op, in_cell_of}
-use Rattle.shard_port.proofs.PassAskLemmas.{IsPlannedAt, planned_at, below_workers}
+use Rattle.shard_port.proofs.shared.ReadyLemmas.{plan_number}
+use Rattle.shard_port.proofs.shared.MayAskLemmas.{served_by, same_test, flags_test, fits_test, known_op, in_cell_of}
+use Rattle.shard_port.proofs.shared.PassAskLemmas.{IsPlannedAt, planned_at, below_workers}
 
 -- ---- keys
 

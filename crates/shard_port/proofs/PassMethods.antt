@@ -24,7 +24,7 @@ use Rattle.shared_shards.specs.SharedMaps.{SharedMaps, ArePlans}
 use Rattle.shared_shards.proofs.shared.Keys as keys
 use Rattle.shard_port.specs.PortView.{IsRunCall, cell_of_handle, handle_of, has_small_cell}
 use Rattle.shard_port.specs.PassPorts.{is_worker_below, worker_of, inside_own, served_of, port_of, has_found, IsAskedAt, IsTurnedAwayAt, IsGivenBy, IsRefusedBy}
-use Rattle.shard_port.proofs.PassAskLemmas.{is_worker}
+use Rattle.shard_port.proofs.shared.PassAskLemmas.{is_worker}
 use Rattle.shard_port.proofs.PassMetLemmas.{IsAtKey, at_key, lookup_met, update_met, delete_met, IsAtPlace, at_place, load_met, store_met, change_met}
 use Rattle.shard_port.proofs.PassGivenLemmas.{small_lookup, found_told, lookup_formed, word_below, changed_below}
 

@@ -28,7 +28,7 @@ use Rattle.shard_port.specs.PortView.{PortView, AreBytes, SetsBytes, IsShardOf, 
 use Rattle.shard_port.specs.declared.plain.PlainPort.{PlainPort}
 use Rattle.shard_port.specs.PlainPorts.{view_of, IsSamePort, PortGives, PortRefuses}
 use Rattle.shard_port.specs.Sessions.{entry_of, is_at, with_entries, begun, session, entries_at, IsVisited}
-use Rattle.shard_port.proofs.ReadyLemmas.{shards_with, bytes_with_entry}
+use Rattle.shard_port.proofs.shared.ReadyLemmas.{shards_with, bytes_with_entry}
 use Rattle.shard_port.specs.PortLaws.{set_here}
 use Rattle.shard_port.proofs.SessionLemmas.{after_outside, chain_worker, left_at, set_other, IsWritten, IsAdded, added_nothing, added_enter, entered_added}
 

@@ -8,7 +8,7 @@ use Rattle.semantics.specs.ServedCalls.{IsHandedOut}
 use Rattle.semantics.specs.Program.{value_size_of}
 use Rattle.map_port.specs.Served.{Maps, program_over, lookup_call, found_reply, IsKeyOf, IsPairOf, IsReadable}
 use Rattle.shard_port.specs.ExampleMaps.{array_of, hash_of, example_maps}
-use Rattle.shard_port.proofs.MayAskLemmas.{shard_of_known}
+use Rattle.shard_port.proofs.shared.MayAskLemmas.{shard_of_known}
 
 pub record IsExample (served : Maps) (map : ℕ) : Type 0 where
   pub definition : MapDef

@@ -48,6 +48,7 @@ impl<'a, B: Naming, W: Wait, G: Gate> ShardPort<'a, B, W, G> {
         ensures same_pass { result.pass.ghost_name ≡ pass.entry.ghost_name }
         ensures pass { result.pass.now ≡ pass.old }
         ensures shards { result.shards.now ≡ shards.now }
+        ensures actor { result.tally.who ≡ tally.entry.who }
         ensures told { result.tally.count ≡ tally.entry.count }
     {
         ShardPort {

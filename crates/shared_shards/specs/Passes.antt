@@ -7,6 +7,7 @@ use Rattle.semantics.specs.declared.call.Caller.TheVariants.{Worker, Reclaimer}
 use Rattle.semantics.specs.declared.call.SectionChange.{SectionChange}
 use Rattle.semantics.specs.declared.call.SectionChange.TheVariants.{Begins, Ends, Stays}
 use Rattle.semantics.specs.declared.full.JournalFull.{JournalFull}
+use Rattle.semantics.specs.CallerLaws.{own_entries}
 use Rattle.semantics.specs.Reclamation.{is_inside}
 use Rattle.semantics.specs.declared.call.Entry.{Entry}
 use Rattle.semantics.specs.declared.plan.ShardPlan.{ShardPlan}
@@ -33,6 +34,10 @@ own_at pass number = (view_at pass number).own
 
 abbrev pub seen_at : PassView → ℕ → List Entry
 seen_at pass number = (view_at pass number).seen
+
+-- on the shard of this number the caller's own entries are all of its entries in what it has seen there
+abbrev pub KnowsItsOwn : ℕ → PassView → Type 0
+KnowsItsOwn number pass = own_at pass number ≡ own_entries pass.who (seen_at pass number)
 
 -- the pass of nobody, which stands past the end of a list
 abbrev pub no_pass : PassView

@@ -4,7 +4,7 @@ ghost use Rattle.std.specs.Prelude.{◌≡◌, ◌<◌, IfOk, IfErr, OnOk, OnErr
 ghost use Rattle.semantics.specs.declared.call.Call.TheVariants.{Enter, Leave, Lookup, Update, Delete, Reclaim};
 ghost use Rattle.semantics.specs.declared.call.Reply.TheVariants.{Entered, Left, Word, Done, Answer, Freed};
 ghost use Rattle.journal.specs.Entries.{found_reply};
-ghost use Rattle.shared_shards.specs.Passes.{IsElsewhereSame};
+ghost use Rattle.shared_shards.specs.Passes.{KnowsItsOwn, IsElsewhereSame};
 ghost use Rattle.shared_shards.specs.Asked.{load_call, store_call, atomic_call, MayAsk, IsAnswered, IsTurnedAway};
 
 use crate::asks::{Changes, Deletes, Enters, Leaves, Loads, Looks, Reclaims, Stores, Updates};
@@ -22,6 +22,7 @@ impl<B: Naming> Shards<B> {
         requires shard { shard < B.count }
         requires met { MayAsk (B.plan shard) shard pass.old (Enter shard) }
         ensures elsewhere { IsElsewhereSame shard pass.old pass.new }
+        ensures own { KnowsItsOwn shard pass.new }
         ensures served { OnOk result (IsAnswered (B.plan shard) shard pass.old pass.new (Enter shard) Entered) }
         ensures refused { OnErr result (IsTurnedAway (B.plan shard) shard pass.old pass.new (Enter shard)) }
         ensures names_the_shard { IfErr result (λ fault. fault.shard ≡ shard) }
@@ -34,6 +35,7 @@ impl<B: Naming> Shards<B> {
         requires shard { shard < B.count }
         requires met { MayAsk (B.plan shard) shard pass.old (Leave shard) }
         ensures elsewhere { IsElsewhereSame shard pass.old pass.new }
+        ensures own { KnowsItsOwn shard pass.new }
         ensures served { IsAnswered (B.plan shard) shard pass.old pass.new (Leave shard) Left }
     {
         if self.ask(rt, pass, shard, Leaves).is_err() {
@@ -52,6 +54,7 @@ impl<B: Naming> Shards<B> {
         requires shard { shard < B.count }
         requires met { MayAsk (B.plan shard) shard pass.old (Lookup shard key.now) }
         ensures elsewhere { IsElsewhereSame shard pass.old pass.new }
+        ensures own { KnowsItsOwn shard pass.new }
         ensures served { IfOk result (λ found. IsAnswered (B.plan shard) shard pass.old pass.new (Lookup shard key.now) (found_reply shard found)) }
         ensures refused { OnErr result (IsTurnedAway (B.plan shard) shard pass.old pass.new (Lookup shard key.now)) }
         ensures names_the_shard { IfErr result (λ fault. fault.shard ≡ shard) }
@@ -70,6 +73,7 @@ impl<B: Naming> Shards<B> {
         requires shard { shard < B.count }
         requires met { MayAsk (B.plan shard) shard pass.old (load_call shard range.now) }
         ensures elsewhere { IsElsewhereSame shard pass.old pass.new }
+        ensures own { KnowsItsOwn shard pass.new }
         ensures served { IfOk result (λ value. IsAnswered (B.plan shard) shard pass.old pass.new (load_call shard range.now) (Word value)) }
         ensures refused { OnErr result (IsTurnedAway (B.plan shard) shard pass.old pass.new (load_call shard range.now)) }
         ensures names_the_shard { IfErr result (λ fault. fault.shard ≡ shard) }
@@ -89,6 +93,7 @@ impl<B: Naming> Shards<B> {
         requires shard { shard < B.count }
         requires met { MayAsk (B.plan shard) shard pass.old (store_call shard range.now value) }
         ensures elsewhere { IsElsewhereSame shard pass.old pass.new }
+        ensures own { KnowsItsOwn shard pass.new }
         ensures served { OnOk result (IsAnswered (B.plan shard) shard pass.old pass.new (store_call shard range.now value) Done) }
         ensures refused { OnErr result (IsTurnedAway (B.plan shard) shard pass.old pass.new (store_call shard range.now value)) }
         ensures names_the_shard { IfErr result (λ fault. fault.shard ≡ shard) }
@@ -108,6 +113,7 @@ impl<B: Naming> Shards<B> {
         requires shard { shard < B.count }
         requires met { MayAsk (B.plan shard) shard pass.old (atomic_call shard range.now change.now) }
         ensures elsewhere { IsElsewhereSame shard pass.old pass.new }
+        ensures own { KnowsItsOwn shard pass.new }
         ensures served { IfOk result (λ value. IsAnswered (B.plan shard) shard pass.old pass.new (atomic_call shard range.now change.now) (Word value)) }
         ensures refused { OnErr result (IsTurnedAway (B.plan shard) shard pass.old pass.new (atomic_call shard range.now change.now)) }
         ensures names_the_shard { IfErr result (λ fault. fault.shard ≡ shard) }
@@ -128,6 +134,7 @@ impl<B: Naming> Shards<B> {
         requires shard { shard < B.count }
         requires met { MayAsk (B.plan shard) shard pass.old (Update shard key.now value.now flags) }
         ensures elsewhere { IsElsewhereSame shard pass.old pass.new }
+        ensures own { KnowsItsOwn shard pass.new }
         ensures served { IfOk result (λ code. IsAnswered (B.plan shard) shard pass.old pass.new (Update shard key.now value.now flags) (Answer code)) }
         ensures refused { OnErr result (IsTurnedAway (B.plan shard) shard pass.old pass.new (Update shard key.now value.now flags)) }
         ensures names_the_shard { IfErr result (λ fault. fault.shard ≡ shard) }
@@ -146,6 +153,7 @@ impl<B: Naming> Shards<B> {
         requires shard { shard < B.count }
         requires met { MayAsk (B.plan shard) shard pass.old (Delete shard key.now) }
         ensures elsewhere { IsElsewhereSame shard pass.old pass.new }
+        ensures own { KnowsItsOwn shard pass.new }
         ensures served { IfOk result (λ code. IsAnswered (B.plan shard) shard pass.old pass.new (Delete shard key.now) (Answer code)) }
         ensures refused { OnErr result (IsTurnedAway (B.plan shard) shard pass.old pass.new (Delete shard key.now)) }
         ensures names_the_shard { IfErr result (λ fault. fault.shard ≡ shard) }
@@ -163,6 +171,7 @@ impl<B: Naming> Shards<B> {
         requires shard { shard < B.count }
         requires met { MayAsk (B.plan shard) shard pass.old (Reclaim shard) }
         ensures elsewhere { IsElsewhereSame shard pass.old pass.new }
+        ensures own { KnowsItsOwn shard pass.new }
         ensures served { IfOk result (λ count. IsAnswered (B.plan shard) shard pass.old pass.new (Reclaim shard) (Freed count)) }
         ensures refused { OnErr result (IsTurnedAway (B.plan shard) shard pass.old pass.new (Reclaim shard)) }
         ensures names_the_shard { IfErr result (λ fault. fault.shard ≡ shard) }

@@ -3,7 +3,7 @@
 ghost use Rattle.std.specs.Prelude.{◌≡◌, ◌≢◌, ◌<◌, ◌∷◌, ℕ, length, reverse, IfOk, IfErr, OnErr};
 ghost use Rattle.semantics.specs.History.{meets, shard_of_call};
 ghost use Rattle.shared_shards.specs.CallerView.{entry_of, HasLooked, IsSettled};
-ghost use Rattle.shared_shards.specs.Passes.{badge_at, view_at, own_at, seen_at, IsElsewhereSame, is_inside_of, flag_at, flag_after};
+ghost use Rattle.shared_shards.specs.Passes.{KnowsItsOwn, badge_at, view_at, own_at, seen_at, IsElsewhereSame, is_inside_of, flag_at, flag_after};
 ghost use Rattle.shared_shards.specs.HeldCells.{HasRoomFor, held_at, held_change, held_when, holds_own};
 ghost use Rattle.shared_shards.specs.Asked.{MayAsk, MayAskInside, IsAnswered, IsTurnedAway, EnteredAndAnswered, IsStopped};
 ghost use Rattle.semantics.specs.declared.call.Call.TheVariants.{Enter};
@@ -84,6 +84,7 @@ impl<B: Naming> Pass<B> {
         requires met { MayAsk (B.plan number) number self.old (C.asks ask number) }
         ensures number { desk.new.plan.number ≡ number }
         ensures elsewhere { IsElsewhereSame number self.old self.new }
+        ensures own { KnowsItsOwn number self.new }
         ensures served { IfOk result (λ answer. IsAnswered (B.plan number) number self.old self.new (C.asks ask number) (C.replies number answer)) }
         ensures refused { OnErr result (IsTurnedAway (B.plan number) number self.old self.new (C.asks ask number)) }
         ensures names_the_shard { IfErr result (λ fault. fault.shard ≡ number) }
@@ -115,6 +116,7 @@ impl<B: Naming> Pass<B> {
         requires may_enter { MayAsk (B.plan number) number self.old (Enter number) }
         requires met { MayAskInside (B.plan number) number self.old (C.asks ask number) }
         ensures elsewhere { IsElsewhereSame number self.old self.new }
+        ensures own { KnowsItsOwn number self.new }
         ensures served { IfOk result (λ answer. EnteredAndAnswered (B.plan number) number self.old self.new (C.asks ask number) (C.replies number answer)) }
         ensures refused { IfErr result (IsStopped (B.plan number) number self.old self.new (C.asks ask number)) }
     {

@@ -5,7 +5,7 @@ ghost use Rattle.semantics.specs.History.{meets, shard_of_call};
 ghost use Rattle.semantics.specs.ShardPlan.{AreOptions};
 ghost use Rattle.journals.specs.JournalsView.{AreImageMaps};
 ghost use Rattle.shared_shards.specs.CallerView.{HasLooked};
-ghost use Rattle.shared_shards.specs.Passes.{view_at, own_at, IsElsewhereSame};
+ghost use Rattle.shared_shards.specs.Passes.{KnowsItsOwn, view_at, own_at, IsElsewhereSame};
 ghost use Rattle.shared_shards.specs.SharedMaps.{ArePlans};
 ghost use Rattle.shared_shards.specs.Asked.{MayAsk, MayAskInside, IsAnswered, IsTurnedAway, EnteredAndAnswered, IsStopped};
 ghost use Rattle.semantics.specs.declared.call.Call.TheVariants.{Enter};
@@ -94,6 +94,7 @@ impl<B: Naming> Shards<B> {
         requires shard { shard < B.count }
         requires met { MayAsk (B.plan shard) shard pass.old (C.asks ask shard) }
         ensures elsewhere { IsElsewhereSame shard pass.old pass.new }
+        ensures own { KnowsItsOwn shard pass.new }
         ensures served { IfOk result (λ answer. IsAnswered (B.plan shard) shard pass.old pass.new (C.asks ask shard) (C.replies shard answer)) }
         ensures refused { OnErr result (IsTurnedAway (B.plan shard) shard pass.old pass.new (C.asks ask shard)) }
         ensures names_the_shard { IfErr result (λ fault. fault.shard ≡ shard) }
@@ -120,6 +121,7 @@ impl<B: Naming> Shards<B> {
         requires may_enter { MayAsk (B.plan shard) shard pass.old (Enter shard) }
         requires met { MayAskInside (B.plan shard) shard pass.old (C.asks ask shard) }
         ensures elsewhere { IsElsewhereSame shard pass.old pass.new }
+        ensures own { KnowsItsOwn shard pass.new }
         ensures served { IfOk result (λ answer. EnteredAndAnswered (B.plan shard) shard pass.old pass.new (C.asks ask shard) (C.replies shard answer)) }
         ensures refused { IfErr result (IsStopped (B.plan shard) shard pass.old pass.new (C.asks ask shard)) }
     {
@@ -139,6 +141,7 @@ impl<B: Naming> Shards<B> {
         requires shard { shard_of_call call.now < B.count }
         requires met { MayAsk (B.plan (shard_of_call call.now)) (shard_of_call call.now) pass.old call.now }
         ensures elsewhere { IsElsewhereSame (shard_of_call call.now) pass.old pass.new }
+        ensures own { KnowsItsOwn (shard_of_call call.now) pass.new }
         ensures served { IfOk result (λ reply. IsAnswered (B.plan (shard_of_call call.now)) (shard_of_call call.now) pass.old pass.new call.now reply) }
         ensures refused { OnErr result (IsTurnedAway (B.plan (shard_of_call call.now)) (shard_of_call call.now) pass.old pass.new call.now) }
         ensures names_the_shard { IfErr result (λ fault. fault.shard ≡ shard_of_call call.now) }

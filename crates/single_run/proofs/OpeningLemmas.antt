@@ -16,7 +16,7 @@ use Rattle.semantics.specs.ShardPlan.{plan_at}
 use Rattle.shard_core.specs.JournaledShard.{JournaledShard, opened_shard}
 use Rattle.shards.specs.Opening.{AreOpened}
 use Rattle.map_port.specs.Served.{Maps}
-use Rattle.shard_port.proofs.ReadyLemmas.{plan_number}
+use Rattle.shard_port.proofs.shared.ReadyLemmas.{plan_number}
 use Rattle.shared_shards.specs.Seats.{no_plan}
 use Rattle.shared_shards.specs.NewShards.{shard_at}
 use Rattle.single_run.specs.ShardRuns.{IsOutside}
@@ -35,6 +35,7 @@ updated_none maps options shards opened = record {
   count = opened.count;
   planned = λ number within. (at number within).0;
   written = λ number within. (at number within).1;
+  taken = λ number plan planned. tt;
 }
   where
     at : (number : ℕ) → number < length shards → (plan_at maps options number ≡ Some (shard_at shards number).plan) × ((shard_at shards number).journal ≡ [])

@@ -16,6 +16,7 @@ use Rattle.semantics.specs.declared.call.Caller.TheVariants.{Controller}
 use Rattle.semantics.specs.declared.call.Reply.TheVariants.{Answer}
 use Rattle.semantics.specs.declared.options.Options.{Options}
 use Rattle.semantics.specs.declared.plan.ShardPlan.{ShardPlan}
+use Rattle.semantics.specs.History.{IsLegalJournal}
 use Rattle.semantics.specs.PlanLimits.{HasImageSizes}
 use Rattle.semantics.specs.ShardPlan.{plan_at, AreOptions}
 use Rattle.semantics.proofs.ConditionLemmas.{bytes_test}
@@ -23,8 +24,8 @@ use Rattle.shard_core.specs.JournaledShard.{JournaledShard, opened_shard}
 use Rattle.map_port.specs.Served.{Maps, IsKeyOf}
 use Rattle.shard_port.specs.PortView.{AreShardsOf, IsReady, ServesMaps}
 use Rattle.shard_port.specs.Sessions.{CallsKeepServing}
-use Rattle.shard_port.proofs.MayAskLemmas.{at_key, same_test, flags_test}
-use Rattle.shard_port.proofs.ReadyLemmas.{plan_number}
+use Rattle.shard_port.proofs.shared.MayAskLemmas.{at_key, same_test, flags_test}
+use Rattle.shard_port.proofs.shared.ReadyLemmas.{plan_number}
 use Rattle.shard_port.specs.PortLaws.{both_true}
 use Rattle.shared_shards.specs.Seats.{no_plan}
 use Rattle.shared_shards.specs.NewShards.{shard_at}
@@ -178,11 +179,28 @@ module _ (maps : List MapDef) (options : Options) (updates : List MapUpdate) (pl
     each k below =
         ⊎_elim (here k) (elsewhere k (subst (λ (n : ℕ). k < n) same_count below)) (cases_eq k number)
 
+    -- the update's shard took it, by the entry that it wrote; the journals of the others have the entries that they had
+    taken_here : (k : ℕ) (plan : ShardPlan) → plan_at maps options k ≡ Some plan → k ≡ number →
+        IsLegalJournal plan (updates_at served k (take (place + 1) updates))
+    taken_here k plan planned same =
+        let at_number : plan_at maps options number ≡ Some plan = subst (λ (n : ℕ). plan_at maps options n ≡ Some plan) same planned in
+        let same_plan : made.one.plan ≡ plan = cc (planned_here, at_number) in
+        subst (λ (n : ℕ). IsLegalJournal plan (updates_at served n (take (place + 1) updates))) (sym same)
+        (subst (λ (journal : List Entry). IsLegalJournal plan journal) written_new
+        (subst (λ (p : ShardPlan). IsLegalJournal p new.journal) same_plan made.legal))
+
+    taken_elsewhere : (k : ℕ) (plan : ShardPlan) → plan_at maps options k ≡ Some plan → k ≢ number →
+        IsLegalJournal plan (updates_at served k (take (place + 1) updates))
+    taken_elsewhere k plan planned apart =
+        subst (λ (journal : List Entry). IsLegalJournal plan journal)
+        (sym (others served k updates place update within is (λ same. apart (sym same ∙ sym at)))) (were.taken k plan planned)
+
     pub updated_more : AreUpdated maps options (take (place + 1) updates) after
     updated_more = record {
       count = same_count ∙ were.count;
       planned = λ k below. (each k below).0;
       written = λ k below. (each k below).1;
+      taken = λ k plan planned. ⊎_elim (taken_here k plan planned) (taken_elsewhere k plan planned) (cases_eq k number);
     }
 
 -- the shards serve the maps as before
@@ -208,6 +226,7 @@ is_next maps options updates place update before number one were within is at kn
       planned = subst (λ (n : ℕ). plan_at maps options n ≡ Some one.plan) at (were.planned number there ∙ ap (λ (s : JournaledShard). Some s.plan) one_is);
       shard_is = ap (λ (journal : List Entry). record { plan = one.plan; journal = journal })
           (written ∙ ap (λ (n : ℕ). updates_at (served_by maps options) n (take place updates)) at);
+      taken = were.taken;
     }
 
 -- an update at a place of a list that fits

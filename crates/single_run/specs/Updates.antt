@@ -45,15 +45,22 @@ updates_at served number updates = map (entry_of_update served) (filter (is_upda
 abbrev pub updated_shard : Maps → ℕ → List MapUpdate → ShardPlan → JournaledShard
 updated_shard served number updates plan = record { plan = plan; journal = updates_at served number updates }
 
+-- the maps take these updates, one after the other: each is answered 0, and none comes past a full journal
+abbrev pub AreTaken : List MapDef → Options → List MapUpdate → Type 0
+AreTaken maps options updates =
+    (number : ℕ) (plan : ShardPlan) → plan_at maps options number ≡ Some plan →
+    IsLegalJournal plan (updates_at (served_by maps options) number updates)
+
 -- the shards of these maps, in which nothing has happened but these updates
 pub record AreUpdated (maps : List MapDef) (options : Options) (updates : List MapUpdate) (shards : List JournaledShard) : Type 0 where
   pub count : length shards ≡ length maps * options.shards
   pub planned : (number : ℕ) → number < length shards → plan_at maps options number ≡ Some (shard_at shards number).plan
   pub written : (number : ℕ) → number < length shards → (shard_at shards number).journal ≡ updates_at (served_by maps options) number updates
+  pub taken : AreTaken maps options updates
 
 -- ---- updates that are refused: the one at this place, after those before it
 
--- the update at a place, and its shard as those before it have left it
+-- the update at a place, before which all were taken, and its shard as those have left it
 pub record IsNext (maps : List MapDef) (options : Options) (updates : List MapUpdate) (place : ℕ) (update : MapUpdate) (before : JournaledShard) : Type 0
   where
     pub known : slice_get updates place ≡ Some update
@@ -61,6 +68,7 @@ pub record IsNext (maps : List MapDef) (options : Options) (updates : List MapUp
     pub planned : plan_at maps options (shard_of_update (served_by maps options) update) ≡ Some plan
     pub shard_is :
         before ≡ updated_shard (served_by maps options) (shard_of_update (served_by maps options) update) (take place updates) plan
+    pub taken : AreTaken maps options (take place updates)
 
 -- the map's answer to it is no 0
 pub record IsRefusedUpdate (maps : List MapDef) (options : Options) (updates : List MapUpdate) (place : ℕ) (answer : ℤ) : Type 0 where

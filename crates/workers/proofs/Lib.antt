@@ -1,7 +1,7 @@
+pub mod shared
 pub mod ListLemmas
 pub mod PutLemmas
 pub mod ShareLemmas
-pub mod AccountLemmas
 pub mod RunLemmas
 pub mod PartLemmas
 pub mod HandLemmas

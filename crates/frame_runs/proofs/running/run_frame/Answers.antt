@@ -2,7 +2,7 @@ use Rattle.std.proofs.Common.{◌∙◌, ◌<◌, ◌^◌, List, ap, rules}
 use Rattle.ebpf_decode.specs.declared.map.MapDef.{MapDef}
 use Rattle.std.proofs.lemmas.Result.{IfOk-weaker, IfErr-weaker}
 use Rattle.shard_port.specs.PassPorts.{worker_of, port_of}
-use Rattle.shard_port.proofs.PassAskLemmas.{is_worker}
+use Rattle.shard_port.proofs.shared.PassAskLemmas.{is_worker}
 use Rattle.frame_runs.specs.FrameRuns.{told_port}
 use Rattle.frame_runs.proofs.RunLemmas.{maps_over, ran_told, stopped_told, leaves_told}
 use Rattle.frame_runs.proofs.running.run_frame.Goals as goal

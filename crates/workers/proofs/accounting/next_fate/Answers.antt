@@ -1,6 +1,6 @@
 use Rattle.std.proofs.Common.{length, sym, ap, ◌∙◌, arith}
 use Rattle.workers.specs.Shares.{worker_of_frame}
-use Rattle.workers.proofs.AccountLemmas.{next_at, place_within, next_after, fate_there}
+use Rattle.workers.proofs.shared.AccountLemmas.{next_at, place_within, next_after, fate_there}
 use Rattle.workers.proofs.accounting.next_fate.Goals as goal
 
 pub index-ran-requires : goal.index-ran-requires

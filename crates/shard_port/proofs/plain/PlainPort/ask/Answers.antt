@@ -1,6 +1,6 @@
 use Rattle.std.proofs.Math.Logic.{∥∥₁_map}
 use Rattle.shard_port.specs.PortView.{IsReady}
-use Rattle.shard_port.proofs.ReadyLemmas.{shards_asked, ready_with}
+use Rattle.shard_port.proofs.shared.ReadyLemmas.{shards_asked, ready_with}
 use Rattle.shard_port.proofs.plain.PlainPort.ask.Goals as goal
 
 pub invariant_of-self : goal.invariant_of-self

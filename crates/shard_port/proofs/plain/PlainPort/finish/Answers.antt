@@ -3,7 +3,7 @@ use Rattle.std.specs.List.{AllByRecursion-prop}
 use Rattle.std.proofs.Math.Logic.{∥∥₁_map, ∥∥₁_elim}
 use Rattle.shard_port.specs.Asking.{IsWorkerOf}
 use Rattle.shard_port.specs.PortView.{IsReady}
-use Rattle.shard_port.proofs.ReadyLemmas.{shards_left, ready_workers, ready_with}
+use Rattle.shard_port.proofs.shared.ReadyLemmas.{shards_left, ready_workers, ready_with}
 use Rattle.shard_port.proofs.plain.PlainPort.finish.Goals as goal
 
 pub leave_all-requires-clause-worker : goal.leave_all-requires-clause-worker

@@ -4,7 +4,7 @@ use Rattle.std.proofs.lemmas.Option.{slice_get_within}
 use Rattle.std.specs.Coded.{Coded-set, coded_ℕ, le_prop}
 use Rattle.std.proofs.Math.Logic.{∥∥₁_elim}
 use Rattle.shard_port.specs.PortView.{IsReady}
-use Rattle.shard_port.proofs.MayAskLemmas.{some_part, few_parts, shard_of_known}
+use Rattle.shard_port.proofs.shared.MayAskLemmas.{some_part, few_parts, shard_of_known}
 use Rattle.shard_port.proofs.GivenLemmas.{map_within, index_size, index_size_prop}
 use Rattle.shard_port.proofs.plain.PlainPort.shard_of.Goals as goal
 

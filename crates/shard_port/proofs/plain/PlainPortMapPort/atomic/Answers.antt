@@ -6,7 +6,7 @@ use Rattle.semantics.specs.declared.call.Reply.TheVariants.{Word}
 use Rattle.isa.specs.InstructionCodes.{atomic_code}
 use Rattle.shard_port.specs.Asking.{IsAnsweredAmong}
 use Rattle.shard_port.specs.PortView.{IsReady, cell_of_handle, word_in}
-use Rattle.shard_port.proofs.MayAskLemmas.{may_change, some_part}
+use Rattle.shard_port.proofs.shared.MayAskLemmas.{may_change, some_part}
 use Rattle.shard_port.proofs.GivenLemmas.{given_by, change_told, change_below}
 use Rattle.shard_port.proofs.plain.PlainPortMapPort.atomic.Goals as goal
 

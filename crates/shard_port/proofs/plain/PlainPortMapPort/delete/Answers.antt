@@ -8,7 +8,7 @@ use Rattle.map_port.specs.Served.{delete_call, shard_of}
 use Rattle.shard_port.specs.Asking.{IsAnsweredAmong}
 use Rattle.shard_port.specs.PortView.{IsReady}
 use Rattle.shard_port.specs.PlainPorts.{maps_of}
-use Rattle.shard_port.proofs.MayAskLemmas.{may_delete, some_part}
+use Rattle.shard_port.proofs.shared.MayAskLemmas.{may_delete, some_part}
 use Rattle.shard_port.proofs.GivenLemmas.{given_by, delete_told}
 use Rattle.shard_port.proofs.plain.PlainPortMapPort.delete.Goals as goal
 

@@ -5,7 +5,7 @@ use Rattle.semantics.specs.declared.call.Call.TheVariants.{Load}
 use Rattle.semantics.specs.declared.call.Reply.TheVariants.{Word}
 use Rattle.shard_port.specs.Asking.{IsAnsweredAmong}
 use Rattle.shard_port.specs.PortView.{IsReady, cell_of_handle, word_in}
-use Rattle.shard_port.proofs.MayAskLemmas.{may_load, some_part}
+use Rattle.shard_port.proofs.shared.MayAskLemmas.{may_load, some_part}
 use Rattle.shard_port.proofs.GivenLemmas.{given_by, load_told, load_below}
 use Rattle.shard_port.proofs.plain.PlainPortMapPort.load.Goals as goal
 

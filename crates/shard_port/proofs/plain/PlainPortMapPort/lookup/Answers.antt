@@ -7,7 +7,7 @@ use Rattle.semantics.specs.RunTrace.{IsReplyTo}
 use Rattle.shard_port.specs.Asking.{IsAnsweredAmong}
 use Rattle.shard_port.specs.PortView.{IsReady, cell_of_handle, handle_of, has_small_cell}
 use Rattle.shard_port.specs.PlainPorts.{maps_of}
-use Rattle.shard_port.proofs.MayAskLemmas.{may_lookup, some_part}
+use Rattle.shard_port.proofs.shared.MayAskLemmas.{may_lookup, some_part}
 use Rattle.shard_port.proofs.GivenLemmas.{given_by, small_lookup, found_told, lookup_formed}
 use Rattle.shard_port.proofs.plain.PlainPortMapPort.lookup.Goals as goal
 

@@ -5,7 +5,7 @@ use Rattle.semantics.specs.declared.call.Call.TheVariants.{Store}
 use Rattle.semantics.specs.declared.call.Reply.TheVariants.{Done}
 use Rattle.shard_port.specs.Asking.{IsAnsweredAmong}
 use Rattle.shard_port.specs.PortView.{IsReady, cell_of_handle}
-use Rattle.shard_port.proofs.MayAskLemmas.{may_store, some_part}
+use Rattle.shard_port.proofs.shared.MayAskLemmas.{may_store, some_part}
 use Rattle.shard_port.proofs.GivenLemmas.{given_by, store_told}
 use Rattle.shard_port.proofs.plain.PlainPortMapPort.store.Goals as goal
 

@@ -10,7 +10,7 @@ use Rattle.map_port.specs.Served.{update_call, shard_of}
 use Rattle.shard_port.specs.Asking.{IsAnsweredAmong}
 use Rattle.shard_port.specs.PortView.{IsReady}
 use Rattle.shard_port.specs.PlainPorts.{maps_of}
-use Rattle.shard_port.proofs.MayAskLemmas.{may_update, some_part}
+use Rattle.shard_port.proofs.shared.MayAskLemmas.{may_update, some_part}
 use Rattle.shard_port.proofs.GivenLemmas.{given_by, update_told}
 use Rattle.shard_port.proofs.plain.PlainPortMapPort.update.Goals as goal
 

@@ -1,7 +1,7 @@
 use Rattle.std.proofs.Common.{◌≡◌, ◌<◌, length, Some, sym, ap, subst, ◌∙◌}
 use Rattle.std.specs.Prelude.{slice_get}
 use Rattle.std.proofs.lemmas.Option.{slice_get_within}
-use Rattle.shard_port.proofs.MayAskLemmas.{shard_of_known}
+use Rattle.shard_port.proofs.shared.MayAskLemmas.{shard_of_known}
 use Rattle.shared_shards.proofs.shared.Keys.{some_part, few_parts}
 use Rattle.shard_port.proofs.PassMetLemmas.{map_within, index_size}
 use Rattle.shard_port.proofs.port.ShardPort.shard_of.Goals as goal

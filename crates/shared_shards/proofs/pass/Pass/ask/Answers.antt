@@ -5,6 +5,7 @@ use Rattle.semantics.specs.declared.call.Entry.{Entry}
 use Rattle.shard_core.specs.FewHeld.{FewAreHeld}
 use Rattle.semantics.specs.declared.call.SectionChange.{SectionChange}
 use Rattle.semantics.specs.Sections.{section_change}
+use Rattle.semantics.specs.CallerLaws.{own_entries}
 use Rattle.semantics.specs.History.{IsLegalHistory}
 use Rattle.shared_shards.specs.declared.rule.Known.{Known}
 use Rattle.shared_shards.specs.CallerView.{CallerView}
@@ -51,6 +52,9 @@ returns-clause-refused g c =
     turned_away_moves g.B.Naming.plan (g.C.Ask.asks c.args.ask) g.C.Ask.replies c.args.desk.now.plan.number c.args.number _ _ (pass_view c.self.inside.who c.self.inside.seats.items) c.args.self.now
     (pass_view c.self.inside.who (slice_set c.taken-badge.new.seats.items c.args.number c.into_badge.result))
     c.requires.number.0 (before_is g c) (after_is g c) c.self.view_is c.ask-seat.result.1 c.ask-seat.ensures.refused
+
+pub returns-clause-own : goal.returns-clause-own
+returns-clause-own g c = subst (λ (v : CallerView). v.own ≡ own_entries c.self.inside.who v.seen) (after_is g c) c.ask-seat.ensures.own
 
 pub returns-clause-seen : goal.returns-clause-seen
 returns-clause-seen g c = ap (λ (v : CallerView). v.seen) (sym (after_is g c)) ∙ c.ask-seat.ensures.seen

@@ -23,7 +23,7 @@ use Rattle.shared_shards.specs.Asked.{AreServed, IsServedThenRefused}
 use Rattle.shard_port.specs.Asking.{enter_entry, leave_entry, asked_entry}
 use Rattle.shard_port.specs.PortLaws.{both_true}
 use Rattle.shard_port.specs.PassPorts.{is_worker_below, worker_of, entering, inside_own, IsAskedAt, CannotEnterAt, CannotCallAt, IsTurnedAwayAt, IsLeft}
-use Rattle.shard_port.proofs.ReadyLemmas.{plan_number}
+use Rattle.shard_port.proofs.shared.ReadyLemmas.{plan_number}
 
 -- ---- who calls
 

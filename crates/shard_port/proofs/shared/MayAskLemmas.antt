@@ -24,7 +24,7 @@ use Rattle.map_port.specs.Served.{Maps, shard_of, IsKeyOf, IsPairOf, IsReadable,
 use Rattle.shard_port.specs.Asking.{is_in, enter_entry, entered, may_ask_at}
 use Rattle.shard_port.specs.PortView.{holds_at, is_handed_out, IsShardOf, IsReady}
 use Rattle.shard_port.specs.PortLaws.{same_worker, append_none, newest_first, stays_entered, held_is_inside, both_true}
-use Rattle.shard_port.proofs.ReadyLemmas.{plan_number, is_worker_of}
+use Rattle.shard_port.proofs.shared.ReadyLemmas.{plan_number, is_worker_of}
 
 inside_once_entered : (worker : ℕ) (shard : JournaledShard) → is_inside worker (reverse (entered worker shard).journal) ≡ true
 inside_once_entered worker shard = by_test (is_in worker shard) refl
