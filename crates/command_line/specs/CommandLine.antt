@@ -69,6 +69,12 @@ audit_command = with_rule (with_rule (new_app (codes "audit")) (file_rule (codes
 abbrev pub explain_command : App
 explain_command = with_rule (new_app (codes "explain")) (named_number_rule (codes "NUMBER") 4294967295)
 
+abbrev pub shipped_command : App
+shipped_command =
+    with_rule
+    (with_rule (new_app (codes "shipped")) (file_rule (codes "OUT")))
+    (number_rule (codes "ring") 4294967295 (codes "251"))
+
 -- a replay: its capture, and the file of what is sent
 abbrev pub replay_named : App
 replay_named = with_rule (with_rule (new_app (codes "replay")) (file_rule (codes "CAPTURE"))) (file_rule (codes "SENT"))
@@ -98,8 +104,10 @@ program =
     (with_subcommand
     (with_subcommand
     (with_subcommand
+    (with_subcommand
     (with_subcommand (with_subcommand (with_subcommand program_name check_command.top) run_command.top) disasm_command.top)
     asm_command.top)
     audit_command.top)
     explain_command.top)
-    replay_command.top
+    replay_command.top)
+    shipped_command.top

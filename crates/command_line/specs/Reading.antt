@@ -1,5 +1,5 @@
 -- What the settings are of a command and what was found for its arguments.
-use Rattle.std.specs.Prelude.{◌≡◌, ◌<◌, ◌^◌, ◌*◌, ◌+◌, ◌/◌, ℕ, Bool, List, [], length, true, false, ◌&&◌, Option, Some, option_map, IsTrue, IsFalse, codes, is_some, unwrap_or, slice_get, slice_index_or}
+use Rattle.std.specs.Prelude.{◌≡◌, ◌<◌, ◌^◌, ◌*◌, ◌+◌, ◌/◌, ℕ, Bool, List, [], length, true, false, ◌&&◌, Option, Some, option_map, IsTrue, IsFalse, ◌||◌, codes, is_some, unwrap_or, slice_get, slice_index_or}
 use Rattle.std.specs.Borrow.{Bor}
 use Rattle.std.specs.Str.{bytes_eq}
 use Rattle.std.specs.Str.Parse.{IsNumeral, digits_value, without_leading_plus}
@@ -11,7 +11,7 @@ use Rattle.semantics.specs.declared.options.Options.{Options}
 use Rattle.command_line.specs.declared.commands.ReplayFiles.{ReplayFiles}
 use Rattle.command_line.specs.declared.commands.RunFiles.{RunFiles}
 use Rattle.command_line.specs.declared.commands.Settings.{Settings}
-use Rattle.command_line.specs.declared.commands.Settings.TheVariants.{Check, Run, Disasm, Audit, Explain, Asm, Replay}
+use Rattle.command_line.specs.declared.commands.Settings.TheVariants.{Check, Run, Disasm, Audit, Explain, Asm, Shipped, Replay}
 use Rattle.command_line.specs.declared.words.WordsFault.{WordsFault}
 use Rattle.command_line.specs.declared.words.WordsFault.TheVariants.{Parser, UnknownFault, Both, Update}
 use Rattle.command_line.specs.declared.words.Asked.{Asked}
@@ -43,6 +43,18 @@ IsSwitchOf id rows switch = (one_of id rows ≡ Some (codes "true") → switch �
 abbrev pub is_named : Text → Text → Type 0
 is_named name wanted = IsTrue (bytes_eq name wanted)
 
+-- the name is that of one of the commands
+abbrev pub IsCommand : Text → Type 0
+IsCommand name = IsTrue
+    (bytes_eq name (codes "check")
+    || bytes_eq name (codes "run")
+    || bytes_eq name (codes "disasm")
+    || bytes_eq name (codes "audit")
+    || bytes_eq name (codes "explain")
+    || bytes_eq name (codes "replay")
+    || bytes_eq name (codes "shipped")
+    || bytes_eq name (codes "asm"))
+
 -- a replay has both an image and a script
 abbrev pub names_both : ReplayFiles → Bool
 names_both files = is_some files.image && is_some files.script
@@ -60,16 +72,20 @@ words_of id rows = unwrap_or (all_of id rows) []
 abbrev pub word_at : List Text → ℕ → Text
 word_at words place = slice_index_or words place []
 
+-- the three words of a place, from 0, say this update
+abbrev pub IsUpdateAt : List Text → ℕ → MapUpdate → Type 0
+IsUpdateAt words place update =
+    IsWritten (word_at words (3 * place)) (word_at words (3 * place + 1)) (word_at words (3 * place + 2)) update
+
 -- each three of the words say one update, in their order
 pub record AreUpdates (words : List Text) (updates : List MapUpdate) : Type 0 where
   pub count : length updates ≡ length words / 3
-  pub each :
-      (place : ℕ) (update : MapUpdate) → slice_get updates place ≡ Some update →
-      IsWritten (word_at words (3 * place)) (word_at words (3 * place + 1)) (word_at words (3 * place + 2)) update
+  pub each : (place : ℕ) (update : MapUpdate) → slice_get updates place ≡ Some update → IsUpdateAt words place update
 
--- the update at a place, from 0, is none, and has this mistake first
+-- the update at a place, from 0, is the first that is none, and has this mistake first
 pub record IsBadUpdate (words : List Text) (place : ℕ) (mistake : Mistake) : Type 0 where
   pub within : place < length words / 3
+  pub earlier : (before : ℕ) → before < place → (update : MapUpdate) × IsUpdateAt words before update
   pub mistaken :
       IsMistaken (word_at words (3 * place)) (word_at words (3 * place + 1)) (word_at words (3 * place + 2)) mistake
 
@@ -106,15 +122,13 @@ IsReadFrom name rows (Audit image journals) = is_named name (codes "audit")
 IsReadFrom name rows (Explain about) = is_named name (codes "explain")
     × IsNumberOf 32 (codes "NUMBER") rows about.number
     × (is_fault about.number ≡ true)
-IsReadFrom name rows (Asm text out source) = IsFalse (bytes_eq name (codes "check"))
-    × IsFalse (bytes_eq name (codes "run"))
-    × IsFalse (bytes_eq name (codes "disasm"))
-    × IsFalse (bytes_eq name (codes "audit"))
-    × IsFalse (bytes_eq name (codes "explain"))
-    × IsFalse (bytes_eq name (codes "replay"))
+IsReadFrom name rows (Asm text out source) = is_named name (codes "asm")
     × (text.now ≡ word_of (codes "TEXT") rows)
     × (out.now ≡ word_of (codes "OUT") rows)
     × IsSwitchOf (codes "source") rows source
+IsReadFrom name rows (Shipped out ring) = is_named name (codes "shipped")
+    × (out.now ≡ word_of (codes "OUT") rows)
+    × IsNumberOf 32 (codes "ring") rows ring
 IsReadFrom name rows (Replay files options ring) = is_named name (codes "replay")
     × AreReplayFiles rows files
     × AreReplayOptions rows options

@@ -39,6 +39,12 @@ pub enum Settings<'a> {
         out: &'a str,
         source: bool,
     },
+    /// Writes the image of the shipped program.
+    Shipped {
+        out: &'a str,
+        /// How many slots its lookup table has.
+        ring: u32,
+    },
     /// Runs the frames of a capture by some workers over shared maps, and writes those that are sent. It has no image, or no script.
     Replay {
         files: ReplayFiles<'a>,

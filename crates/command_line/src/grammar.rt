@@ -1,6 +1,6 @@
 //! The commands, their words and their help.
 
-ghost use Rattle.std.specs.Prelude.{◌≡◌, IfOk, false};
+ghost use Rattle.std.specs.Prelude.{◌≡◌, IfOk, codes, false};
 ghost use Rattle.clap.specs.Words.{app_of, new_app, rule_of};
 ghost use Rattle.clap.specs.declared.builder.command.Command.TheViews.{out-Command};
 ghost use Rattle.command_line.specs.CommandLine as line;
@@ -125,6 +125,11 @@ there, counted from 0. Only the image's maps count: its program is not judged.";
 const AFTER_EXPLAIN: &str = "\
 Prints what the fault means, what mostly leads to it, and an example. A number
 that no fault has is a mistake of the command line.";
+
+const AFTER_SHIPPED: &str = "\
+Prints nothing. The image is the program that replay runs where it is given
+none, with its maps: audit takes it for that program's journals, where the ring
+is the same.";
 
 const AFTER_REPLAY: &str = "\
 Prints how many frames there were, and of them the ones shorter than an
@@ -329,6 +334,34 @@ fn count<'a>(alloc: Global, id: &'a str, default: &'a str, help: &'a str) -> Arg
     number(alloc, id, u32::MAX as u64, default, help)
 }
 
+/// The size of the shipped program's ring.
+fn ring<'a>(alloc: Global) -> Arg<'a>
+    ensures rule { rule_of result ≡ line.number_rule (codes "ring") 4294967295 (codes "251") }
+    ensures local { result.global ≡ false }
+{
+    count(
+        alloc,
+        RING,
+        "251",
+        "The slots of the shipped program's ring: 7, 251, 4093 or 65537",
+    )
+}
+
+fn shipped<'a>(alloc: Global) -> Result<Command<'a>, AllocError>
+    ensures app { IfOk result (λ command. app_of command ≡ line.shipped_command) }
+    ensures local { IfOk result (λ command. (out-Command command).has_globals ≡ false) }
+{
+    let out = file(alloc, OUT, "The file to write the image to");
+    command(
+        alloc,
+        "shipped",
+        "Writes the image of the shipped program",
+        AFTER_SHIPPED,
+    )
+    .arg(out)?
+    .arg(ring(alloc))
+}
+
 /// The words of a replay that name a capture and the file of what is sent.
 fn replay_named<'a>(alloc: Global) -> Result<Command<'a>, AllocError>
     ensures app { IfOk result (λ command. app_of command ≡ line.replay_named) }
@@ -378,17 +411,11 @@ fn replay<'a>(alloc: Global) -> Result<Command<'a>, AllocError>
         "65536",
         "How many calls each shard may have, 16 to 1048576",
     );
-    let ring = count(
-        alloc,
-        RING,
-        "251",
-        "The slots of the shipped program's ring: 7, 251, 4093 or 65537",
-    );
     replay_files(alloc)?
         .arg(workers)?
         .arg(shards)?
         .arg(journal)?
-        .arg(ring)
+        .arg(ring(alloc))
 }
 
 /// The program's commands.
@@ -408,5 +435,6 @@ pub fn program<'a>(alloc: Global) -> Result<Command<'a>, AllocError>
         .subcommand(asm(alloc)?)?
         .subcommand(audit(alloc)?)?
         .subcommand(explain(alloc)?)?
-        .subcommand(replay(alloc)?)
+        .subcommand(replay(alloc)?)?
+        .subcommand(shipped(alloc)?)
 }

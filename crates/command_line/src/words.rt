@@ -7,7 +7,7 @@ ghost use Rattle.clap.specs.Walk.{first_of, texts};
 ghost use Rattle.map_updates.specs.UpdateWords.{IsWritten, IsMistaken};
 ghost use Rattle.clap.specs.Words.{Row, Text, fault_of, found_of, rows_of, subcommand_of};
 ghost use Rattle.command_line.specs.CommandLine.{program};
-ghost use Rattle.command_line.specs.Reading.{IsReadFrom, IsAsked, IsBadUpdate, IsSwitchOf, AreRunFiles, AreUpdates, AreReplayFiles, AreReplayOptions, AsksInVain, IsNumberOf, kind_in, text_of, word_at, word_of, words_of};
+ghost use Rattle.command_line.specs.Reading.{IsReadFrom, IsAsked, IsBadUpdate, IsCommand, IsSwitchOf, AreRunFiles, AreUpdates, AreReplayFiles, AreReplayOptions, AsksInVain, IsNumberOf, kind_in, text_of, word_at, word_of, words_of};
 ghost use Rattle.clap.specs.declared.error.kind.ErrorKind.TheVariants.{DisplayHelp, DisplayVersion, OutOfMemory};
 
 use crate::commands::{ReplayFiles, RunFiles, Settings};
@@ -132,6 +132,7 @@ fn parsed<'a, S: AsStr>(alloc: Global, words: &'a [S]) -> Result<Asked<'a>, Erro
 
 /// What the command of a name asks for, with its words.
 fn asked_of<'a>(alloc: Global, name: &str, found: &ArgMatches<'a>) -> Asked<'a>
+    requires { IsCommand name.now }
     ensures { IsAsked name.now (rows_of (found_of found.now)) result }
 {
     if name == "run" {
@@ -142,6 +143,9 @@ fn asked_of<'a>(alloc: Global, name: &str, found: &ArgMatches<'a>) -> Asked<'a>
     }
     if name == "replay" {
         return replay_of(found);
+    }
+    if name == "shipped" {
+        return Asked::Command(shipped_of(found));
     }
     Asked::Command(command_of(name, found))
 }
@@ -170,6 +174,16 @@ fn replay_of<'a>(found: &ArgMatches<'a>) -> Asked<'a>
         options: options_of(found),
         ring: number_of(found, RING, 251),
     })
+}
+
+/// The settings of the command that writes the shipped program.
+fn shipped_of<'a>(found: &ArgMatches<'a>) -> Settings<'a>
+    ensures { IsReadFrom (codes "shipped") (rows_of (found_of found.now)) result }
+{
+    Settings::Shipped {
+        out: word(found, OUT),
+        ring: number_of(found, RING, 251),
+    }
 }
 
 /// The files of a replay.
@@ -217,11 +231,13 @@ fn switch(found: &ArgMatches<'_>, id: &str) -> bool
     found.get_flag(id)
 }
 
-/// The command of a name, but for `run`, `explain` and `replay`, with its words.
+/// The command of a name, but for `run`, `explain`, `replay` and `shipped`, with its words.
 fn command_of<'a>(name: &str, found: &ArgMatches<'a>) -> Settings<'a>
+    requires command { IsCommand name.now }
     requires run { IsFalse (bytes_eq name.now (codes "run")) }
     requires explain { IsFalse (bytes_eq name.now (codes "explain")) }
     requires replay { IsFalse (bytes_eq name.now (codes "replay")) }
+    requires shipped { IsFalse (bytes_eq name.now (codes "shipped")) }
     ensures { IsReadFrom name.now (rows_of (found_of found.now)) result }
 {
     if name == "check" {
@@ -304,8 +320,10 @@ fn updates_of(alloc: Global, words: &[&str]) -> Result<Vec<MapUpdate>, (usize, M
 /// The update at a place, that three words say.
 fn update_at(alloc: Global, words: &[&str], place: usize) -> Result<MapUpdate, Mistake>
     requires { place < length words.now / 3 }
-    ensures read { IfOk result (IsWritten (word_at (texts words.now) (3 * place)) (word_at (texts words.now) (3 * place + 1)) (word_at (texts words.now) (3 * place + 2))) }
-    ensures mistaken { IfErr result (IsMistaken (word_at (texts words.now) (3 * place)) (word_at (texts words.now) (3 * place + 1)) (word_at (texts words.now) (3 * place + 2))) }
+    ensures read { IfOk result (IsWritten (word_at (texts words.now) (3 * place))
+        (word_at (texts words.now) (3 * place + 1)) (word_at (texts words.now) (3 * place + 2))) }
+    ensures mistaken { IfErr result (IsMistaken (word_at (texts words.now) (3 * place))
+        (word_at (texts words.now) (3 * place + 1)) (word_at (texts words.now) (3 * place + 2))) }
 {
     let first = 3 * place;
     let map = nth_word(words, first);

@@ -13,6 +13,7 @@ mod programs;
 mod replays;
 mod run_journals;
 mod runs;
+mod shipped;
 mod sources;
 mod updates;
 

@@ -229,7 +229,7 @@ pub(crate) fn structure(number: u8) -> Explanation
             name: "JumpIntoWide",
             meaning: "A jump goes to the second slot of a wide instruction.",
             causes: "The distance was counted in instructions, not in slots.",
-            example: "`ja +1` before `lddw r0, 0x0000000000000002`: write `+2` to pass it.",
+            example: "`jeq r0, 0, +1` before `lddw r0, 0x0000000000000002`: write `+2` to pass it.",
         },
         33 => Explanation {
             number: 33,

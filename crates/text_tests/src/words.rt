@@ -27,6 +27,7 @@ fn shown(alloc: Global, settings: Settings<'_>) -> Result<String, AllocError> {
             format!(in alloc; "explain {number}")
         }
         Settings::Asm { text, out, source } => format!(in alloc; "asm {text} {out} {source}"),
+        Settings::Shipped { out, ring } => format!(in alloc; "shipped {out} {ring}"),
         Settings::Replay {
             files,
             options,
@@ -91,7 +92,7 @@ fn replay_shown(
 }
 
 #[rattlefmt::skip]
-const READ: [(&str, &str); 25] = [
+const READ: [(&str, &str); 28] = [
     ("xlb check a",                             "check a false"),
     ("xlb check --explain a",                   "check a true"),
     ("xlb check a --explain",                   "check a true"),
@@ -114,6 +115,9 @@ const READ: [(&str, &str); 25] = [
     ("xlb run a b --update +1 00 00",           "run a b 0 0 - 1=00:00"),
     ("xlb check -- -a",                         "check -a false"),
     ("another check check",                     "check check false"),
+    ("xlb shipped a",                           "shipped a 251"),
+    ("xlb shipped a --ring 7",                  "shipped a 7"),
+    ("xlb shipped --ring 4294967295 a",         "shipped a 4294967295"),
     ("xlb replay a b",                          "replay a b - - 1 1 65536 251 -"),
     ("xlb replay --script s a b --journals j",  "replay a b - s 1 1 65536 251 j"),
     ("xlb replay a b --image i --workers 4 --shards 8 --journal 16 --ring 7", "replay a b i - 4 8 16 7 -"),
@@ -133,7 +137,7 @@ fn reads_commands(rt: HostRuntime) -> Result<(), Fail> {
 
 /// A command line, the status, and what its text begins with.
 #[rattlefmt::skip]
-const REFUSED: [(&str, u8, &str); 41] = [
+const REFUSED: [(&str, u8, &str); 44] = [
     ("xlb",                                     2, "error: 'xlb' requires a subcommand but one was not provided"),
     ("xlb play a b",                            2, "error: unrecognized subcommand 'play'"),
     ("xlb replay a",                            2, "error: the following required arguments were not provided:\n  <SENT>"),
@@ -171,6 +175,9 @@ const REFUSED: [(&str, u8, &str); 41] = [
     ("xlb explain 4294967296",                  2, "error: invalid value '4294967296' for '<NUMBER>'"),
     ("xlb help nosuch",                         2, "error: unrecognized subcommand 'nosuch'"),
     ("xlb asm a",                               2, "error: the following required arguments were not provided:\n  <OUT>"),
+    ("xlb shipped",                             2, "error: the following required arguments were not provided:\n  <OUT>"),
+    ("xlb shipped a b",                         2, "error: unexpected argument 'b' found"),
+    ("xlb shipped a --ring x",                  2, "error: invalid value 'x' for '--ring <N>'"),
     ("xlb help run",                            0, "Runs an image on one frame"),
     ("xlb --help",                              0, "Checks, runs, prints and assembles images of eBPF programs"),
     ("xlb run --help",                          0, "Runs an image on one frame"),

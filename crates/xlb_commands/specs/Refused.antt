@@ -21,6 +21,7 @@ use Rattle.source_form.specs.declared.fault.SourceFault.{SourceFault}
 use Rattle.source_form.specs.SourceImage.{Explains as ExplainsSource}
 use Rattle.journals.specs.JournalsView.{JournalsView}
 use Rattle.journal_files.specs.declared.fault.FileFault.{FileFault}
+use Rattle.journal_files.specs.declared.fault.FileFault.TheVariants as journal_faults
 use Rattle.journal_files.specs.JournalReading.{IsJournalsFile, Refuses as RefusesJournals}
 use Rattle.audit.specs.declared.fault.AuditFault.{AuditFault}
 use Rattle.audit.specs.Audited.{Explains as ExplainsJournals}
@@ -38,6 +39,7 @@ use Rattle.semantics.specs.declared.verdict.Verdict.{Verdict}
 use Rattle.shards.specs.Opening.{are_served_options}
 use Rattle.shards.specs.declared.fault.OpenFault.TheVariants as opens
 use Rattle.machine.specs.declared.exit.Stop.{Stop}
+use Rattle.map_updates.specs.Misfits.{AreFitting}
 use Rattle.map_updates.specs.declared.misfit.Misfit.{Misfit}
 use Rattle.map_updates.specs.declared.update.MapUpdate.{MapUpdate}
 use Rattle.single_run.specs.SingleRuns.{HasRunAlone, HasStoppedAlone}
@@ -59,7 +61,7 @@ use Rattle.command_line.specs.declared.commands.RunFiles.{RunFiles}
 use Rattle.command_line.specs.declared.commands.ReplayFiles.{ReplayFiles}
 use Rattle.command_line.specs.Reading.{text_of}
 use Rattle.command_line.specs.declared.commands.Settings.{Settings}
-use Rattle.command_line.specs.declared.commands.Settings.TheVariants.{Check, Run, Disasm, Audit, Explain, Asm, Replay}
+use Rattle.command_line.specs.declared.commands.Settings.TheVariants.{Check, Run, Disasm, Audit, Explain, Asm, Shipped, Replay}
 use Rattle.xlb_commands.specs.declared.fault.Fault.{Fault}
 use Rattle.xlb_commands.specs.declared.fault.Fault.TheVariants as faults
 use Rattle.xlb_commands.specs.Files.{FileBytes, AreKept, IsImageFile}
@@ -181,12 +183,26 @@ pub data IsAuditRefusal (files : FileBytes) (failed : Type 0) (name journals : L
   no_verdict : (told : JournalsView) → AreJournalsOf files name journals told → AreLegal told → fault ≡ faults.Memory
       → IsAuditRefusal files failed name journals fault
 
+-- What a run or a replay leaves was not written or not told. Where a file is named for the journals, memory may have been refused for their bytes, which
+-- has the fault of journals.
+pub data IsUnreported (journals : Option (List ℕ)) (failed : Type 0) (fault : Fault) : Type 0 where
+  unwritten : IsUnwritten failed fault → IsUnreported journals failed fault
+  no_journal_room : (name : List ℕ) → journals ≡ Some name → fault ≡ faults.Journals journal_faults.Memory → IsUnreported journals failed fault
+
 -- ---- runs
 
--- the files of a run have this program, which may run, and a frame of these bytes
-pub record AreRunInputs (files : FileBytes) (run : RunFiles) (program : Contents) (bytes : List ℕ) : Type 0 where
+-- the file is an image, which may run and whose maps take the updates
+pub record IsFittingProgram (files : FileBytes) (name : List ℕ) (updates : List MapUpdate) : Type 0 where
+  pub image : Contents
+  pub file : IsImageFile files name image
+  pub safe : IsSafeImage image.maps image.code
+  pub fits : AreFitting image.maps updates
+
+-- the files of a run have this program, which may run and whose maps take the updates, and a frame of these bytes
+pub record AreRunInputs (files : FileBytes) (run : RunFiles) (updates : List MapUpdate) (program : Contents) (bytes : List ℕ) : Type 0 where
   pub file : IsImageFile files run.image.now program
   pub safe : IsSafeImage program.maps program.code
+  pub fits : AreFitting program.maps updates
   pub read : files run.frame.now bytes
   pub size : IsInputFrame bytes
 
@@ -217,25 +233,35 @@ pub record IsEndedRun (program : Contents) (bytes : List ℕ) (now worker : ℕ)
 -- its end, whose journals were not written or for whose lines memory was refused
 pub data IsRunRefusal (files after : FileBytes) (failed : Type 0) (run : RunFiles) (now worker : ℕ) (updates : List MapUpdate) (fault : Fault) : Type 0 where
   no_run_program : AreKept files after → IsProgramRefusal files failed run.image.now fault → IsRunRefusal files after failed run now worker updates fault
-  no_run_frame : AreKept files after → IsProgramFile files run.image.now → IsFrameRefusal files failed run.frame.now fault
+  no_run_frame : AreKept files after → IsFittingProgram files run.image.now updates → IsFrameRefusal files failed run.frame.now fault
       → IsRunRefusal files after failed run now worker updates fault
-  no_worker : (program : Contents) (bytes : List ℕ) → AreKept files after → AreRunInputs files run program bytes → 8 ≤ worker → fault ≡ faults.Options opens.BadOptions
-      → IsRunRefusal files after failed run now worker updates fault
-  not_run : (program : Contents) (bytes : List ℕ) → AreKept files after → AreRunInputs files run program bytes → worker < 8 → IsRunFault program.maps updates fault
-      → IsRunRefusal files after failed run now worker updates fault
-  stopped : (program : Contents) (bytes : List ℕ) (stop : Stop) → AreKept files after → AreRunInputs files run program bytes → worker < 8
+  no_worker : (program : Contents) (bytes : List ℕ) → AreKept files after → AreRunInputs files run updates program bytes → 8 ≤ worker
+      → fault ≡ faults.Options opens.BadOptions → IsRunRefusal files after failed run now worker updates fault
+  not_run : (program : Contents) (bytes : List ℕ) → AreKept files after → AreRunInputs files run updates program bytes → worker < 8
+      → IsRunFault program.maps updates fault → IsRunRefusal files after failed run now worker updates fault
+  stopped : (program : Contents) (bytes : List ℕ) (stop : Stop) → AreKept files after → AreRunInputs files run updates program bytes → worker < 8
       → IsStoppedRun program bytes now worker updates stop → fault ≡ faults.Run stop → IsRunRefusal files after failed run now worker updates fault
-  not_told : (program : Contents) (bytes : List ℕ) → AreRunInputs files run program bytes → worker < 8
-      → IsEndedRun program bytes now worker updates → IsUnwritten failed fault → IsRunRefusal files after failed run now worker updates fault
+  not_told : (program : Contents) (bytes : List ℕ) → AreRunInputs files run updates program bytes → worker < 8
+      → IsEndedRun program bytes now worker updates → IsUnreported (text_of run.journals) failed fault → IsRunRefusal files after failed run now worker updates fault
 
 -- ---- replays
 
--- The shipped program: the fault of a lookup table without a size that is served comes exactly for one; else memory was refused. Or the program breaks a
--- rule: its first reject.
+-- the shipped program was not made: the fault of a lookup table without a size that is served comes exactly for one; else memory was refused
+pub record IsNotMade (ring : ℕ) (fault : Fault) : Type 0 where
+  pub why : SteerFault
+  pub size : (why ≡ steering.BadSize) ↔ (¬ IsRingSize ring)
+  pub told : fault ≡ faults.Steering why
+
+-- the shipped program was not made, or breaks a rule: its first reject
 pub data IsShippedRefusal (ring : ℕ) (fault : Fault) : Type 0 where
-  not_made : (why : SteerFault) → ((why ≡ steering.BadSize) ↔ (¬ IsRingSize ring)) → fault ≡ faults.Steering why → IsShippedRefusal ring fault
+  not_made : IsNotMade ring fault → IsShippedRefusal ring fault
   shipped_rejected : (image : Contents) (why : Reject) → image ≡ shipped_image ring → IsFirstReject image.version image.maps image.code why
       → fault ≡ faults.Program why → IsShippedRefusal ring fault
+
+-- xlb shipped: the program was not made, and no file changed; or it was made, and its file was not written
+pub data IsShippedFileRefusal (files after : FileBytes) (failed : Type 0) (ring : ℕ) (fault : Fault) : Type 0 where
+  none_made : AreKept files after → IsNotMade ring fault → IsShippedFileRefusal files after failed ring fault
+  no_shipped_file : IsRingSize ring → IsUnwritten failed fault → IsShippedFileRefusal files after failed ring fault
 
 -- no program that may run: of the file, or where none is named the shipped one
 abbrev pub IsReplayProgramRefusal : FileBytes → Type 0 → Option (List ℕ) → ℕ → Fault → Type 0
@@ -295,7 +321,7 @@ pub data IsReplayRefusal (files after : FileBytes) (failed : Type 0) (names : Re
       → IsReplayRefusal files after failed names options ring fault
   not_written_down : (program : Contents) (script : List Command) (records : List Sent) (outcome : Outcome)
       → AreReplayInputs files names ring program script records → IsAccounted (program_of_replay program options) script options records outcome
-      → IsUnwritten failed fault → IsReplayRefusal files after failed names options ring fault
+      → IsUnreported (text_of names.journals) failed fault → IsReplayRefusal files after failed names options ring fault
 
 -- ---- commands
 
@@ -309,6 +335,7 @@ IsRefusedWith before after failed (Audit image journals) fault = IsAuditRefusal 
 IsRefusedWith before after failed (Explain about) fault = fault ≡ faults.Memory
 IsRefusedWith before after failed (Asm text out false) fault = IsAsmRefusal before after failed text.now fault
 IsRefusedWith before after failed (Asm text out true) fault = IsSourceRefusal before after failed text.now fault
+IsRefusedWith before after failed (Shipped out ring) fault = IsShippedFileRefusal before after failed ring fault
 IsRefusedWith before after failed (Replay files options ring) fault = IsReplayRefusal before after failed files options ring fault
 
 -- the fault that is told: the command was refused with it; or it was done, and what it prints could not be printed
@@ -345,10 +372,10 @@ pub data PrintsMistake (place : ℕ) (misfit : Misfit) (before after : Option (L
   lacks_words : after ≡ append_known before (codes "fault 8 Memory\n") → PrintsMistake place misfit before after
 
 -- a mistake of the command line that shows in the image was told on `err`, unless that failed, and `out` was given nothing
-pub record IsMistaken (before : FileBytes) (settings : Settings) (out out' err err' : Stream) : Type 0 where
+pub record IsMistaken (before after : FileBytes) (settings : Settings) (out out' err err' : Stream) : Type 0 where
   pub place : ℕ
   pub misfit : Misfit
-  pub is : IsMistake before settings place misfit
+  pub is : IsMistake before after settings place misfit
   pub told : err'.failures ≡ err.failures → PrintsMistake place misfit err.held err'.held
   pub nothing : out' ≡ out
 

@@ -17,6 +17,8 @@ use Rattle.semantics.specs.declared.verdict.Verdict.TheVariants.{Aborted, Drop, 
 use Rattle.semantics.specs.MachineState.{MachineState, initial_state}
 use Rattle.semantics.specs.Program.{Program}
 use Rattle.semantics.specs.System.{IsInputFrame}
+use Rattle.maglev.specs.RingSize.{IsRingSize}
+use Rattle.steer.specs.ShippedProgram.{shipped_image}
 use Rattle.single_run.specs.SingleRuns.{HasRunAlone}
 use Rattle.journals.specs.JournalsView.{JournalsView}
 use Rattle.journal_files.specs.JournalReading.{IsJournalsFile}
@@ -35,7 +37,7 @@ use Rattle.xlb_commands.specs.Files.{FileBytes, AreKept, AreOthersKept, AreAllBu
 use Rattle.xlb_commands.specs.Replays.{AreWritten, IsReplayedWhole, IsReplayedInPart}
 use Rattle.command_line.specs.declared.commands.RunFiles.{RunFiles}
 use Rattle.command_line.specs.declared.commands.Settings.{Settings}
-use Rattle.command_line.specs.declared.commands.Settings.TheVariants.{Check, Run, Disasm, Audit, Explain, Asm, Replay}
+use Rattle.command_line.specs.declared.commands.Settings.TheVariants.{Check, Run, Disasm, Audit, Explain, Asm, Shipped, Replay}
 
 abbrev pub yes_or_no : Bool → List ℕ
 yes_or_no true = codes "yes"
@@ -113,17 +115,18 @@ pub record IsRun (before after : FileBytes) (files : RunFiles) (now worker : ℕ
   pub written : AreWritten after (text_of files.journals) journals
   pub lines : printed ≡ run_text verdict steps left.bytes
 
--- the image may run, and does not take the update at this place, the first such, for this reason
-pub record IsMisfitRun (before : FileBytes) (files : RunFiles) (updates : List MapUpdate) (place : ℕ) (misfit : Misfit) : Type 0 where
+-- the image may run, and does not take the update at this place, the first such, for this reason; and no file changed
+pub record IsMisfitRun (before after : FileBytes) (files : RunFiles) (updates : List MapUpdate) (place : ℕ) (misfit : Misfit) : Type 0 where
   pub program : Contents
   pub file : IsImageFile before files.image.now program
   pub safe : IsSafeImage program.maps program.code
   pub first : IsFirstMisfit program.maps updates place misfit
+  pub kept : AreKept before after
 
 -- what a run comes to that is not refused
 abbrev pub IsRunAnswer : FileBytes → FileBytes → RunFiles → ℕ → ℕ → List MapUpdate → RunAnswer → Type 0
 IsRunAnswer before after files now worker updates (Printed text) = IsRun before after files now worker updates (string_bytes text)
-IsRunAnswer before after files now worker updates (Mistaken place misfit) = IsMisfitRun before files updates place misfit
+IsRunAnswer before after files now worker updates (Mistaken place misfit) = IsMisfitRun before after files updates place misfit
 
 -- what is printed is the image's text
 pub record IsDisassembled (files : FileBytes) (name : List ℕ) (printed : List ℕ) : Type 0 where
@@ -164,6 +167,11 @@ pub record IsSourceAssembled (before after : FileBytes) (source target : List �
   pub spelled : IsSource text image
   pub written : IsImageFile after target image
 
+-- the file has the image of the shipped program for a lookup table of so many slots, a size that is served
+pub record IsShippedFile (files : FileBytes) (target : List ℕ) (ring : ℕ) : Type 0 where
+  pub size : IsRingSize ring
+  pub written : IsImageFile files target (shipped_image ring)
+
 -- the command is done over these files, before and after, with this print
 abbrev pub IsDone : FileBytes → FileBytes → Settings → List ℕ → Type 0
 IsDone before after (Check image false) printed = IsChecked before image.now printed
@@ -175,6 +183,7 @@ IsDone before after (Audit image journals) printed = IsAudited before image.now 
 IsDone before after (Explain about) printed = printed ≡ explanation_text about
 IsDone before after (Asm text out false) printed = IsAssembled before after text.now out.now × (printed ≡ [])
 IsDone before after (Asm text out true) printed = IsSourceAssembled before after text.now out.now × (printed ≡ [])
+IsDone before after (Shipped out ring) printed = IsShippedFile after out.now ring × (printed ≡ [])
 IsDone before after (Replay files options ring) printed = IsReplayedWhole before after files options ring printed
 
 -- the command is done but for a part that was refused, as the report tells: commands of a replay's script
@@ -190,6 +199,7 @@ KeepsFiles before after (Disasm image source) = AreKept before after
 KeepsFiles before after (Audit image journals) = AreKept before after
 KeepsFiles before after (Explain about) = AreKept before after
 KeepsFiles before after (Asm text out source) = AreOthersKept before after out.now
+KeepsFiles before after (Shipped out ring) = AreOthersKept before after out.now
 KeepsFiles before after (Replay files options ring) = AreAllButKept before after files.sent.now (text_of files.journals)
 
 -- the report was printed, and nothing else
@@ -200,12 +210,12 @@ pub record IsReported (before after : FileBytes) (settings : Settings) (out out'
   pub quiet : err' ≡ err
 
 -- a mistake of the command line that shows in the image: its maps do not take an update of a run
-abbrev pub IsMistake : FileBytes → Settings → ℕ → Misfit → Type 0
-IsMistake before (Run files now worker updates) place misfit = IsMisfitRun before files updates.items place misfit
-IsMistake before other place misfit = ⊥
+abbrev pub IsMistake : FileBytes → FileBytes → Settings → ℕ → Misfit → Type 0
+IsMistake before after (Run files now worker updates) place misfit = IsMisfitRun before after files updates.items place misfit
+IsMistake before after other place misfit = ⊥
 
 -- what a command comes to that is not refused: it was done, whole or in part, or its words are mistaken
 abbrev pub IsAnswer : FileBytes → FileBytes → Settings → CommandAnswer → Type 0
 IsAnswer before after settings (answers.Reported report) = (report.is_refused ≡ false → IsDone before after settings (string_bytes report.text))
     × (report.is_refused ≡ true → IsDoneInPart before after settings (string_bytes report.text))
-IsAnswer before after settings (answers.Mistaken place misfit) = IsMistake before settings place misfit
+IsAnswer before after settings (answers.Mistaken place misfit) = IsMistake before after settings place misfit

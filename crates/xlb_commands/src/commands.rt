@@ -192,7 +192,7 @@ pub(crate) fn frame_of<D: Folder>(
     }
     match Frame::of(alloc, &front.bytes) {
         Ok(frame) => {
-            known(&frame);
+            frame_may_come_in(&frame);
             Ok(frame)
         }
         Err(fault) => Err(refused_frame(alloc, &front.bytes, fault)),
@@ -206,8 +206,8 @@ fn refused_frame(alloc: Global, bytes: &[u8], fault: FrameFault) -> Refusal
     Refusal::hinted(Fault::Frame(fault), hints::of_frame(alloc, bytes))
 }
 
-/// What every frame's bytes are.
-fn known(frame: &Frame)
+/// A frame has the bytes that a run may begin with.
+fn frame_may_come_in(frame: &Frame)
     requires { (14 ≤ length frame.now.bytes) × (length frame.now.bytes ≤ 2048) }
     ensures { IsInputFrame frame.now.bytes }
 {
@@ -345,7 +345,7 @@ fn noted_text(alloc: Global, bytes: &[u8], fault: AsmFault) -> Result<Option<Str
 }
 
 /// Writes an image to a file.
-fn write_image<D: Folder>(
+pub(crate) fn write_image<D: Folder>(
     alloc: Global,
     folder: &mut D,
     image: &Image,

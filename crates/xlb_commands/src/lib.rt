@@ -10,6 +10,7 @@ mod replays;
 mod report;
 mod runs;
 mod serving;
+mod shipping;
 mod written;
 
 pub use fault::{Fault, Refusal};

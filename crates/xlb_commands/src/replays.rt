@@ -3,7 +3,6 @@
 ghost use Rattle.std.specs.Prelude.{◌≡◌, ◌==◌, ◌↔◌, ◌+◌, ◌-◌, ◌<◌, ◌≤◌, ◌^◌, ℕ, [], true, false, List, IfErr, IfOk, OnOk, length, string_bytes};
 ghost use Rattle.semantics.specs.Safety.{IsSafeImage};
 ghost use Rattle.wire.specs.CaptureFormat.{IsCaptureFile, capture_bytes};
-ghost use Rattle.steer.specs.ShippedProgram.{shipped_image};
 ghost use Rattle.control.specs.ScriptText.{IsScriptText};
 ghost use Rattle.control.specs.ScriptReading.{Explains};
 ghost use Rattle.control.specs.declared.command.Command.{Command};
@@ -12,7 +11,7 @@ ghost use Rattle.control.specs.declared.fault.ControlFault.TheVariants as script
 ghost use Rattle.actors.specs.declared.applied.Applied.{Applied as Noted};
 ghost use Rattle.command_line.specs.Reading.{text_of};
 ghost use Rattle.xlb_commands.specs.Files.{AreKept, AreOthersKept, AreAllButKept};
-ghost use Rattle.xlb_commands.specs.Refused.{HasFailed, IsUnwritten, IsShippedRefusal, IsReplayProgramRefusal, IsScriptFileRefusal, IsScriptRefusal};
+ghost use Rattle.xlb_commands.specs.Refused.{HasFailed, IsUnwritten, IsReplayProgramRefusal, IsScriptFileRefusal, IsScriptRefusal};
 ghost use Rattle.xlb_commands.specs.Refused.{IsNoCapture, IsCaptureRefusal, IsReplayRefusal};
 ghost use Rattle.xlb_commands.specs.Replays.{IsProgramOf, IsScriptOf, IsScriptFile, IsCaptureOf, IsReplayed};
 
@@ -21,6 +20,7 @@ use crate::fault::{Fault, Refusal};
 use crate::hints;
 use crate::progress::{Progress, Rounds};
 use crate::report::{Report, replayed};
+use crate::shipping::shipped_program;
 use crate::written::write_journals_to;
 use command_line::ReplayFiles;
 use control::{Script, parse_script};
@@ -30,28 +30,11 @@ use semantics::Options;
 use std::alloc::{AllocError, Global};
 use std::sync::Wait;
 use std::thread::Threads;
-use steer::shipped;
-use verifier::{Verified, verify};
+use verifier::Verified;
 use wire::{Capture, MemorySink, MemorySource, Sent, read_capture, write_capture};
 
 /// The most bytes that a capture is read from.
 const MOST: u64 = 1 << 40;
-
-/// The shipped program, which the verifier has to accept as any other.
-fn shipped_program(alloc: Global, ring: u32) -> Result<Verified, Refusal>
-    ensures image { IfOk result (λ verified. record { version = verified.version; maps = verified.maps; code = verified.code } ≡ shipped_image ring) }
-    ensures safe { IfOk result (λ verified. IsSafeImage verified.maps verified.code) }
-    ensures refused { IfErr result (λ refusal. IsShippedRefusal ring refusal.fault) }
-{
-    let image = match shipped(alloc, ring) {
-        Ok(image) => image,
-        Err(fault) => return Err(Refusal::from(Fault::Steering(fault))),
-    };
-    match verify(alloc, image) {
-        Ok(verified) => Ok(verified),
-        Err(reject) => Err(Refusal::from(Fault::Program(reject))),
-    }
-}
 
 /// The program of a replay: a file's, if the verifier accepts it, or the shipped one.
 fn program_of<D: Folder>(

@@ -17,6 +17,7 @@ use crate::progress::Progress;
 use crate::replays::replay_files;
 use crate::report::Report;
 use crate::runs::{RunAnswer, run_once};
+use crate::shipping::write_shipped;
 use command_line::Settings;
 use explanations::refusal_text;
 use folders::Folder;
@@ -102,6 +103,9 @@ fn answer<R: Threads + Wait + Sync, D: Folder, P: Progress + Sync>(
                 Ok(CommandAnswer::reported(assemble_file(alloc, folder, text, out)?))
             }
         }
+        Settings::Shipped { out, ring } => {
+            Ok(CommandAnswer::reported(write_shipped(alloc, folder, *ring, out)?))
+        }
         Settings::Replay {
             files,
             options,
@@ -157,7 +161,8 @@ fn print<E: Sink>(err: &mut E, text: &[u8])
 fn refuse<E: Sink>(alloc: Global, refusal: &Refusal, err: &mut E) -> u8
     requires { E.failure_count err.old < 2 ^ 64 - 1 }
     ensures status { result ≡ 1 }
-    ensures told { E.failure_count err.new ≡ E.failure_count err.old → PrintsRefusal refusal.now.fault (notes_told refusal.now.notes) (E.held err.old) (E.held err.new) }
+    ensures told { E.failure_count err.new ≡ E.failure_count err.old →
+        PrintsRefusal refusal.now.fault (notes_told refusal.now.notes) (E.held err.old) (E.held err.new) }
 {
     match told(alloc, refusal) {
         Ok(text) => print(err, &text),
@@ -201,7 +206,7 @@ pub fn serve<R: Threads + Wait + Sync, D: Folder, P: Progress + Sync, O: Sink, E
         ⊎ IsTold (D.holds folder.old) (D.holds folder.new) (HasFailed (D.failure_count folder.old) (D.failure_count folder.new)) settings.now
         (stream (O.held out.old) (O.failure_count out.old)) (stream (O.held out.new) (O.failure_count out.new))
         (stream (E.held err.old) (E.failure_count err.old)) (stream (E.held err.new) (E.failure_count err.new)) }
-    ensures mistaken { result ≡ 2 → IsMistaken (D.holds folder.old) settings.now
+    ensures mistaken { result ≡ 2 → IsMistaken (D.holds folder.old) (D.holds folder.new) settings.now
         (stream (O.held out.old) (O.failure_count out.old)) (stream (O.held out.new) (O.failure_count out.new))
         (stream (E.held err.old) (E.failure_count err.old)) (stream (E.held err.new) (E.failure_count err.new)) }
 {

@@ -1,28 +1,30 @@
 //! Journals, written to a file.
 
-ghost use Rattle.std.specs.Prelude.{◌≡◌, ◌==◌, ◌-◌, ◌<◌, ◌^◌, IfErr, IfOk, OnOk};
+ghost use Rattle.std.specs.Prelude.{◌≡◌, ◌==◌, ◌-◌, ◌<◌, ◌^◌, Some, IfErr, IfOk, OnOk};
 ghost use Rattle.journal_files.specs.JournalText.{journals_text};
+ghost use Rattle.journal_files.specs.declared.fault.FileFault.TheVariants as no_room;
 ghost use Rattle.command_line.specs.Reading.{text_of};
 ghost use Rattle.xlb_commands.specs.Files.{AreAllKeptBut, AreOthersKept};
-ghost use Rattle.xlb_commands.specs.Refused.{HasFailed, IsUnwritten};
+ghost use Rattle.xlb_commands.specs.Refused.{HasFailed, IsUnreported};
 ghost use Rattle.xlb_commands.specs.Replays.{AreWritten};
 
 use crate::commands::unserved;
-use crate::fault::Refusal;
+use crate::fault::{Fault, Refusal};
 use folders::Folder;
-use journal_files::write_journals;
+use journal_files::{FileFault, write_journals};
 use journals::Journals;
-use std::alloc::{AllocError, Global};
+use std::alloc::Global;
 use wire::MemorySink;
 
-/// The bytes of the file of these journals.
-fn bytes_of_journals(alloc: Global, journals: &Journals) -> Result<MemorySink, AllocError>
-    ensures { IfOk result (λ sink. sink.bytes ≡ journals_text journals.now) }
+/// The bytes of the file of these journals; else 52, since writing to memory fails for lack of memory alone.
+fn bytes_of_journals(alloc: Global, journals: &Journals) -> Result<MemorySink, Refusal>
+    ensures bytes { IfOk result (λ sink. sink.bytes ≡ journals_text journals.now) }
+    ensures refused { IfErr result (λ refusal. refusal.fault ≡ Fault.Journals no_room.Memory) }
 {
     let mut sink = MemorySink::new(alloc);
     match write_journals(alloc, &mut sink, journals) {
         Ok(()) => Ok(sink),
-        Err(_) => Err(AllocError),
+        Err(_) => Err(Refusal::from(Fault::Journals(FileFault::Memory))),
     }
 }
 
@@ -36,7 +38,7 @@ fn write_to<D: Folder>(
     requires { D.failure_count folder.old < 2 ^ 64 - 1 }
     ensures written { OnOk result (D.holds folder.new name.now (journals_text journals.now)) }
     ensures others { AreOthersKept (D.holds folder.old) (D.holds folder.new) name.now }
-    ensures refused { IfErr result (λ refusal. IsUnwritten (HasFailed (D.failure_count folder.old) (D.failure_count folder.new)) refusal.fault) }
+    ensures refused { IfErr result (λ refusal. IsUnreported (Some name.now) (HasFailed (D.failure_count folder.old) (D.failure_count folder.new)) refusal.fault) }
 {
     let file = bytes_of_journals(alloc, journals)?;
     match folder.write(alloc, name, file.bytes()) {
@@ -55,7 +57,8 @@ pub(crate) fn write_journals_to<D: Folder>(
     requires { D.failure_count folder.old < 2 ^ 64 - 1 }
     ensures written { OnOk result (AreWritten (D.holds folder.new) (text_of name.entry) journals.now) }
     ensures others { AreAllKeptBut (D.holds folder.old) (D.holds folder.new) (text_of name.entry) }
-    ensures refused { IfErr result (λ refusal. IsUnwritten (HasFailed (D.failure_count folder.old) (D.failure_count folder.new)) refusal.fault) }
+    ensures refused { IfErr result (λ refusal. IsUnreported (text_of name.entry)
+        (HasFailed (D.failure_count folder.old) (D.failure_count folder.new)) refusal.fault) }
 {
     match name {
         Some(name) => write_to(alloc, folder, name, journals),

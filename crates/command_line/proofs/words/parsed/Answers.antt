@@ -10,6 +10,7 @@ use Rattle.clap.specs.Walk.{Row, Text, rows_of}
 use Rattle.clap.specs.declared.parser.matches.SubCommand.{SubCommand}
 use Rattle.clap.specs.declared.parser.matches.ArgMatches.TheViews.{out-ArgMatches, out-SubCommand}
 use Rattle.command_line.specs.CommandLine.{program}
+use Rattle.command_line.proofs.Named.{names_command}
 use Rattle.command_line.proofs.words.parsed.Goals as goal
 
 abbrev no_text : Option Text → Text
@@ -41,6 +42,16 @@ returns-clause-found g c =
       ap (λ (a : App). subcommand_of a words) (sym c.in_ok-command.ensures.app) ∙ (sym read.1 ∙ found),
       c.asked_of.ensures,
     )
+
+pub asked_of-requires : goal.asked_of-requires
+asked_of-requires g c =
+    let words = map g.S.AsStr.text c.args.words.now in
+    let read = c.in_ok-matches.ensures.matches (ap is_simple c.in_ok-command.ensures.app) in
+    let found = found_rows (out-ArgMatches c.in_ok-matches.matches).subcommand c.in-Some.name.now (rows_of (found_of c.in-Some.found.now))
+    c.in-Some.ensures.name c.in-Some.ensures.rows in
+    names_command words c.in-Some.name.now (rows_of (found_of c.in-Some.found.now))
+    (ap (λ (a : App). fault_of a words) (sym c.in_ok-command.ensures.app) ∙ c.in_ok-matches.ensures.kinds (ap is_simple_and_free c.in_ok-command.ensures.app))
+    (ap (λ (a : App). subcommand_of a words) (sym c.in_ok-command.ensures.app) ∙ (sym read.1 ∙ found))
 
 pub returns-in_err-matches-clause-kinds : goal.returns-in_err-matches-clause-kinds
 returns-in_err-matches-clause-kinds g c =

@@ -8,8 +8,8 @@ use Rattle.replay.specs.declared.fault.ReplayFault.{ReplayFault}
 use Rattle.command_line.specs.declared.commands.ReplayFiles.{ReplayFiles}
 use Rattle.command_line.specs.Reading.{text_of}
 use Rattle.xlb_commands.specs.Replays.{IsScriptOf, IsCaptureOf}
-use Rattle.xlb_commands.specs.Refused.{IsReplayProgram, AreReplayInputs, no_replay_program, no_replay_script, no_replay_capture, given_up, not_written_down, no_room}
-use Rattle.xlb_commands.proofs.Refusals.{kept_twice, failed_since, unwritten_since, script_refusal_before, capture_refusal_before}
+use Rattle.xlb_commands.specs.Refused.{IsReplayProgram, AreReplayInputs, no_replay_program, no_replay_script, no_replay_capture, given_up, not_written_down, unwritten, no_room}
+use Rattle.xlb_commands.proofs.Refusals.{kept_twice, failed_since, unwritten_since, unreported_since, script_refusal_before, capture_refusal_before}
 use Rattle.xlb_commands.specs.Files.{FileBytes, AreKept, AreOthersKept, AreAllButKept}
 use Rattle.xlb_commands.proofs.replays.replay_files.Goals as goal
 
@@ -154,10 +154,11 @@ returns-in_err-write_sent-clause-refused g c =
     (inputs _ _ _ c.args.files.now c.args.ring program _ _ c.program_of.ensures.kept c.script_of.ensures.kept
     (record { is = c.in_ok-verified.ensures.program; safe = c.in_ok-verified.ensures.safe }) c.in_ok-script.ensures.script c.in_ok-capture.ensures.capture)
     c.in-Ok.ensures.accounted
+    (unwritten
     (unwritten_since _ _ _
     (λ failed. failed_since _ _ _ c.in_ok-verified.ensures.steady
     (failed_since _ _ _ c.in_ok-script.ensures.steady (failed_since _ _ _ c.in_ok-capture.ensures.steady failed)))
-    c.in_err-write_sent.ensures.refused))
+    c.in_err-write_sent.ensures.refused)))
 
 pub returns-in_err-write_journals_to-clause-refused : goal.returns-in_err-write_journals_to-clause-refused
 returns-in_err-write_journals_to-clause-refused g c =
@@ -169,7 +170,7 @@ returns-in_err-write_journals_to-clause-refused g c =
     (inputs _ _ _ c.args.files.now c.args.ring program _ _ c.program_of.ensures.kept c.script_of.ensures.kept
     (record { is = c.in_ok-verified.ensures.program; safe = c.in_ok-verified.ensures.safe }) c.in_ok-script.ensures.script c.in_ok-capture.ensures.capture)
     c.in-Ok.ensures.accounted
-    (unwritten_since _ _ _
+    (unreported_since _ _ _ _
     (λ failed. failed_since _ _ _ c.in_ok-verified.ensures.steady
     (failed_since _ _ _ c.in_ok-script.ensures.steady
     (failed_since _ _ _ c.in_ok-capture.ensures.steady (failed_since _ _ _ c.in_ok-write_sent.ensures.steady failed))))
@@ -184,4 +185,4 @@ returns-in_err-replayed-clause-refused g c =
     (not_written_down program c.in_ok-script.script c.in_ok-capture.capture.records.items c.in-Ok.outcome
     (inputs _ _ _ c.args.files.now c.args.ring program _ _ c.program_of.ensures.kept c.script_of.ensures.kept
     (record { is = c.in_ok-verified.ensures.program; safe = c.in_ok-verified.ensures.safe }) c.in_ok-script.ensures.script c.in_ok-capture.ensures.capture)
-    c.in-Ok.ensures.accounted (no_room p.2))
+    c.in-Ok.ensures.accounted (unwritten (no_room p.2)))

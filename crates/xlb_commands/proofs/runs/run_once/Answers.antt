@@ -3,6 +3,7 @@ use Rattle.std.proofs.lemmas.Result.{err_from_is_err_and}
 use Rattle.ebpf_decode.specs.ImageContents.{Contents}
 use Rattle.journals.specs.JournalsView.{JournalsView}
 use Rattle.machine.specs.declared.exit.Stop.{Stop}
+use Rattle.map_updates.specs.Misfits.{AreFitting}
 use Rattle.map_updates.specs.declared.update.MapUpdate.{MapUpdate}
 use Rattle.semantics.specs.Program.{Program}
 use Rattle.semantics.specs.Safety.{IsSafeImage}
@@ -12,9 +13,9 @@ use Rattle.single_run.specs.SingleRuns.{HasRunAlone, HasStoppedAlone}
 use Rattle.wire.specs.FrameView.{FrameView}
 use Rattle.command_line.specs.declared.commands.RunFiles.{RunFiles}
 use Rattle.xlb_commands.specs.Files.{FileBytes, AreKept, AreAllKeptBut, IsImageFile}
-use Rattle.xlb_commands.specs.Refused.{IsProgramFile, AreRunInputs, IsEndedRun, no_room, no_run_program, no_run_frame, no_worker, not_run, stopped, not_told}
+use Rattle.xlb_commands.specs.Refused.{IsFittingProgram, AreRunInputs, IsEndedRun, unwritten, no_room, no_run_program, no_run_frame, no_worker, not_run, stopped, not_told}
 use Rattle.xlb_commands.specs.Results.{run_options, program_of_run, start_of_run}
-use Rattle.xlb_commands.proofs.Refusals.{kept_twice, frame_refusal_before, failed_since, unwritten_since}
+use Rattle.xlb_commands.proofs.Refusals.{kept_twice, frame_refusal_before, failed_since, unreported_since}
 use Rattle.xlb_commands.proofs.runs.run_once.Goals as goal
 
 -- after two readings and a writing
@@ -37,9 +38,11 @@ returns-clause-kept g c =
     kept_but _ _ _ _ _ c.judged_of.ensures.kept c.frame_of.ensures.kept c.write_journals_to.ensures.others
 
 -- what a run reads: the frame after the image
-inputs : (a b : FileBytes) (run : RunFiles) (program : Contents) (bytes : List ℕ) → AreKept a b → IsImageFile a run.image.now program
-    → IsSafeImage program.maps program.code → b run.frame.now bytes → IsInputFrame bytes → AreRunInputs a run program bytes
-inputs a b run program bytes kept file safe read size = record { file = file; safe = safe; read = (kept run.frame.now bytes).1 read; size = size }
+inputs : (a b : FileBytes) (run : RunFiles) (updates : List MapUpdate) (program : Contents) (bytes : List ℕ) → AreKept a b → IsImageFile a run.image.now program
+    → IsSafeImage program.maps program.code → AreFitting program.maps updates → b run.frame.now bytes → IsInputFrame bytes
+    → AreRunInputs a run updates program bytes
+inputs a b run updates program bytes kept file safe fits read size =
+    record { file = file; safe = safe; fits = fits; read = (kept run.frame.now bytes).1 read; size = size }
 
 -- a run at the moment that was made of these numbers is one of these numbers
 stopped_so : (program : Program) (bytes : List ℕ) (updates : List MapUpdate) (frame : FrameView) (stop : Stop) (journals : JournalsView)
@@ -65,10 +68,12 @@ returns-in_err-verified-clause-refused g c =
 
 pub returns-in_err-frame-clause-refused : goal.returns-in_err-frame-clause-refused
 returns-in_err-frame-clause-refused g c =
-    let program : IsProgramFile (g.D.Folder.holds c.args.folder.now) c.args.files.now.image.now = record {
+    let fits : AreFitting c.in_ok-verified.verified.maps c.args.updates.now = search rules in
+    let program : IsFittingProgram (g.D.Folder.holds c.args.folder.now) c.args.files.now.image.now c.args.updates.now = record {
       image = record { version = c.in_ok-verified.verified.version; maps = c.in_ok-verified.verified.maps; code = c.in_ok-verified.verified.code };
       file = c.in_ok-verified.ensures.file;
       safe = c.in_ok-verified.ensures.safe;
+      fits = fits;
     } in
     let p = err_from_is_err_and c.from_residual-in_err-frame.result c.from_residual-in_err-frame.ensures.1 in
     rw (p.1, p.2)
@@ -79,8 +84,9 @@ pub returns-in_err-moment-clause-refused : goal.returns-in_err-moment-clause-ref
 returns-in_err-moment-clause-refused g c =
     let program : Contents =
     record { version = c.in_ok-verified.verified.version; maps = c.in_ok-verified.verified.maps; code = c.in_ok-verified.verified.code } in
-    let read = inputs _ _ c.args.files.now program c.in_ok-frame.frame.bytes c.in_ok-verified.ensures.kept c.in_ok-verified.ensures.file
-    c.in_ok-verified.ensures.safe c.in_ok-frame.ensures.read c.in_ok-frame.ensures.size in
+    let fits : AreFitting c.in_ok-verified.verified.maps c.args.updates.now = search rules in
+    let read = inputs _ _ c.args.files.now _ program c.in_ok-frame.frame.bytes c.in_ok-verified.ensures.kept c.in_ok-verified.ensures.file
+    c.in_ok-verified.ensures.safe fits c.in_ok-frame.ensures.read c.in_ok-frame.ensures.size in
     let p = err_from_is_err_and c.from_residual-in_err-moment.result c.from_residual-in_err-moment.ensures.1 in
     rw p.1 (no_worker program c.in_ok-frame.frame.bytes (kept_twice _ _ _ c.judged_of.ensures.kept c.frame_of.ensures.kept)
     read c.in_err-moment.ensures.only.1 (p.2 ∙ c.in_err-moment.ensures.only.0))
@@ -89,8 +95,9 @@ pub returns-in_err-ended-clause-refused : goal.returns-in_err-ended-clause-refus
 returns-in_err-ended-clause-refused g c =
     let program : Contents =
     record { version = c.in_ok-verified.verified.version; maps = c.in_ok-verified.verified.maps; code = c.in_ok-verified.verified.code } in
-    let read = inputs _ _ c.args.files.now program c.in_ok-frame.frame.bytes c.in_ok-verified.ensures.kept c.in_ok-verified.ensures.file
-    c.in_ok-verified.ensures.safe c.in_ok-frame.ensures.read c.in_ok-frame.ensures.size in
+    let fits : AreFitting c.in_ok-verified.verified.maps c.args.updates.now = search rules in
+    let read = inputs _ _ c.args.files.now _ program c.in_ok-frame.frame.bytes c.in_ok-verified.ensures.kept c.in_ok-verified.ensures.file
+    c.in_ok-verified.ensures.safe fits c.in_ok-frame.ensures.read c.in_ok-frame.ensures.size in
     let below : c.args.worker < 8 = omega (arith, c.in_ok-moment.ensures.given.1, c.in_ok-moment.ensures.below) in
     let p = err_from_is_err_and c.from_residual-in_err-ended.result c.from_residual-in_err-ended.ensures.1 in
     rw (p.1, p.2) (not_run program c.in_ok-frame.frame.bytes (kept_twice _ _ _ c.judged_of.ensures.kept c.frame_of.ensures.kept)
@@ -100,8 +107,9 @@ pub returns-in-Err-clause-refused : goal.returns-in-Err-clause-refused
 returns-in-Err-clause-refused g c =
     let program : Contents =
     record { version = c.in_ok-verified.verified.version; maps = c.in_ok-verified.verified.maps; code = c.in_ok-verified.verified.code } in
-    let read = inputs _ _ c.args.files.now program c.in_ok-frame.frame.bytes c.in_ok-verified.ensures.kept c.in_ok-verified.ensures.file
-    c.in_ok-verified.ensures.safe c.in_ok-frame.ensures.read c.in_ok-frame.ensures.size in
+    let fits : AreFitting c.in_ok-verified.verified.maps c.args.updates.now = search rules in
+    let read = inputs _ _ c.args.files.now _ program c.in_ok-frame.frame.bytes c.in_ok-verified.ensures.kept c.in_ok-verified.ensures.file
+    c.in_ok-verified.ensures.safe fits c.in_ok-frame.ensures.read c.in_ok-frame.ensures.size in
     let below : c.args.worker < 8 = omega (arith, c.in_ok-moment.ensures.given.1, c.in_ok-moment.ensures.below) in
     let at : HasStoppedAlone (program_of_run program) (start_of_run c.in_ok-frame.frame.bytes c.in_ok-moment.moment.worker c.in_ok-moment.moment.now_ns) run_options
     c.in_ok-moment.moment.worker c.args.updates.now c.run_over.new.frame c.in-Err.stop c.in_ok-ended.journals = search rules in
@@ -117,8 +125,9 @@ pub returns-in_err-write_journals_to-clause-refused : goal.returns-in_err-write_
 returns-in_err-write_journals_to-clause-refused g c =
     let program : Contents =
     record { version = c.in_ok-verified.verified.version; maps = c.in_ok-verified.verified.maps; code = c.in_ok-verified.verified.code } in
-    let read = inputs _ _ c.args.files.now program c.in_ok-frame.frame.bytes c.in_ok-verified.ensures.kept c.in_ok-verified.ensures.file
-    c.in_ok-verified.ensures.safe c.in_ok-frame.ensures.read c.in_ok-frame.ensures.size in
+    let fits : AreFitting c.in_ok-verified.verified.maps c.args.updates.now = search rules in
+    let read = inputs _ _ c.args.files.now _ program c.in_ok-frame.frame.bytes c.in_ok-verified.ensures.kept c.in_ok-verified.ensures.file
+    c.in_ok-verified.ensures.safe fits c.in_ok-frame.ensures.read c.in_ok-frame.ensures.size in
     let below : c.args.worker < 8 = omega (arith, c.in_ok-moment.ensures.given.1, c.in_ok-moment.ensures.below) in
     let at : HasRunAlone (program_of_run program) (start_of_run c.in_ok-frame.frame.bytes c.in_ok-moment.moment.worker c.in_ok-moment.moment.now_ns) run_options
     c.in_ok-moment.moment.worker c.args.updates.now c.in-Ok.exit.verdict c.in-Ok.exit.steps c.run_over.new.frame c.in_ok-ended.journals = search rules in
@@ -132,7 +141,7 @@ returns-in_err-write_journals_to-clause-refused g c =
     let p = err_from_is_err_and c.from_residual-in_err-write_journals_to.result c.from_residual-in_err-write_journals_to.ensures.1 in
     rw (p.1, p.2)
     (not_told program c.in_ok-frame.frame.bytes read below ended
-    (unwritten_since _ _ _
+    (unreported_since _ _ _ _
     (λ failed. failed_since _ _ _ c.in_ok-verified.ensures.steady (failed_since _ _ _ c.in_ok-frame.ensures.steady failed))
     c.in_err-write_journals_to.ensures.refused))
 
@@ -140,8 +149,9 @@ pub returns-in_err-outcome-clause-refused : goal.returns-in_err-outcome-clause-r
 returns-in_err-outcome-clause-refused g c =
     let program : Contents =
     record { version = c.in_ok-verified.verified.version; maps = c.in_ok-verified.verified.maps; code = c.in_ok-verified.verified.code } in
-    let read = inputs _ _ c.args.files.now program c.in_ok-frame.frame.bytes c.in_ok-verified.ensures.kept c.in_ok-verified.ensures.file
-    c.in_ok-verified.ensures.safe c.in_ok-frame.ensures.read c.in_ok-frame.ensures.size in
+    let fits : AreFitting c.in_ok-verified.verified.maps c.args.updates.now = search rules in
+    let read = inputs _ _ c.args.files.now _ program c.in_ok-frame.frame.bytes c.in_ok-verified.ensures.kept c.in_ok-verified.ensures.file
+    c.in_ok-verified.ensures.safe fits c.in_ok-frame.ensures.read c.in_ok-frame.ensures.size in
     let below : c.args.worker < 8 = omega (arith, c.in_ok-moment.ensures.given.1, c.in_ok-moment.ensures.below) in
     let at : HasRunAlone (program_of_run program) (start_of_run c.in_ok-frame.frame.bytes c.in_ok-moment.moment.worker c.in_ok-moment.moment.now_ns) run_options
     c.in_ok-moment.moment.worker c.args.updates.now c.in-Ok.exit.verdict c.in-Ok.exit.steps c.run_over.new.frame c.in_ok-ended.journals = search rules in
@@ -153,4 +163,4 @@ returns-in_err-outcome-clause-refused g c =
       ended = ended_so _ _ _ _ _ _ _ _ _ _ _ c.in_ok-moment.ensures.given.1 c.in_ok-moment.ensures.given.0 at;
     } in
     let p = err_from_is_err_and c.from_residual-in_err-outcome.result c.from_residual-in_err-outcome.ensures.1 in
-    rw p.1 (not_told program c.in_ok-frame.frame.bytes read below ended (no_room p.2))
+    rw p.1 (not_told program c.in_ok-frame.frame.bytes read below ended (unwritten (no_room p.2)))

@@ -1,0 +1,24 @@
+use Rattle.std.proofs.Common.{◌≡◌, ◌∙◌, ℕ, List, [], true, false, rules, sym, ap, string_bytes, true≢false}
+use Rattle.std.specs.Borrow.{Bor}
+use Rattle.command_line.specs.declared.commands.Settings.{Settings}
+use Rattle.command_line.specs.declared.commands.Settings.TheVariants.{Shipped}
+use Rattle.xlb_commands.specs.Files.{FileBytes}
+use Rattle.xlb_commands.specs.Results.{IsAnswer, IsShippedFile}
+use Rattle.xlb_commands.specs.declared.report.Report.{Report}
+use Rattle.xlb_commands.specs.declared.serving.CommandAnswer.{CommandAnswer}
+use Rattle.xlb_commands.specs.declared.serving.CommandAnswer.TheVariants as answers
+use Rattle.xlb_commands.proofs.serving.answer.Goals as goal
+
+-- the shipped program is written whole, and nothing is printed
+shipped_whole : (before after : FileBytes) (settings : Settings) (out : Bor (List ℕ)) (ring : ℕ) (answer : CommandAnswer) (report : Report)
+    → settings ≡ Shipped out ring → answer ≡ answers.Reported report → report.is_refused ≡ false → string_bytes report.text ≡ []
+    → IsShippedFile after out.now ring → IsAnswer before after settings answer
+shipped_whole before after settings out ring answer report same is whole silent done =
+    rw (same, is) ((λ _. (done, silent)), (λ refused. true≢false (sym refused ∙ whole)))
+
+pub returns-in_ok-write_shipped-in-Shipped-clause-answered : goal.returns-in_ok-write_shipped-in-Shipped-clause-answered
+returns-in_ok-write_shipped-in-Shipped-clause-answered g c =
+    let told = c.reported-in-Shipped.ensures in
+    let same : c.args.settings.now ≡ Shipped c.in-Shipped.out c.in-Shipped.ring = search rules in
+    shipped_whole _ _ c.args.settings.now c.in-Shipped.out c.in-Shipped.ring c.reported-in-Shipped.result told.0 same told.1 told.2
+    (ap string_bytes told.3 ∙ c.in_ok-write_shipped-in-Shipped.ensures.silent) c.in_ok-write_shipped-in-Shipped.ensures.done

@@ -1,0 +1,36 @@
+use Rattle.std.proofs.Common.{◌≡◌, ℕ, Bool, true, false, Result, Ok, Err, ap, refl, sym, true≢false}
+use Rattle.std.specs.Prelude.{◌==◌, Decides}
+use Rattle.std.proofs.lemmas.Bool.Decides.{Decides-eqb}
+use Rattle.std.proofs.lemmas.Map.Made.{is_member-Decides}
+use Rattle.maglev.specs.RingSize.{IsRingSize, ring_sizes}
+use Rattle.conntrack.specs.declared.fault.SteerFault.{SteerFault}
+use Rattle.xlb_commands.proofs.shipping.made.Goals as goal
+
+abbrev result_of : (A : Type 0) → SteerFault → Result A SteerFault
+result_of A why = Err why
+
+same_fault : {A : Type 0} (why other : SteerFault) → result_of A why ≡ result_of A other → why ≡ other
+same_fault why other e = cc
+
+pub returns-in-Err-clause-refused : goal.returns-in-Err-clause-refused
+returns-in-Err-clause-refused c =
+    let why = c.in-Err.ensures.bad_size in
+    record {
+      why = c.in-Err.fault;
+      size = ((λ e. why.0 (ap (λ (fault : SteerFault). Err fault) e)), (λ broken. same_fault _ _ (why.1 broken)));
+      told = c.from.ensures;
+    }
+
+-- whether a table may have a size is decided, so a size of which the contrary is wrong is one
+ring_size : (size : ℕ) → ((IsRingSize size → ⊥) → ⊥) → IsRingSize size
+ring_size size known = by_answer _ (is_member-Decides {eq = λ (a : ℕ) (b : ℕ). a == b} Decides-eqb ring_sizes size)
+  where
+    by_answer : (answer : Bool) → Decides answer (IsRingSize size) → IsRingSize size
+    by_answer true decides = decides.0 refl
+    by_answer false decides = absurd (known (λ one. true≢false (sym (decides.1 one))))
+
+made_no_error : {A : Type 0} (image : A) (why : SteerFault) → ◌≡◌ {A = Result A SteerFault} (Ok image) (Err why) → ⊥
+made_no_error image why same = cc
+
+pub returns-in-Ok-clause-size : goal.returns-in-Ok-clause-size
+returns-in-Ok-clause-size c = ring_size c.args.ring (λ broken. made_no_error _ _ (c.in-Ok.ensures.bad_size.1 broken))

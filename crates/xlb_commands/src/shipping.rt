@@ -1,0 +1,60 @@
+//! The shipped program: made for a replay, or written to a file.
+
+ghost use Rattle.std.specs.Prelude.{◌≡◌, ◌-◌, ◌<◌, ◌^◌, [], IfErr, IfOk, OnOk, string_bytes};
+ghost use Rattle.maglev.specs.RingSize.{IsRingSize};
+ghost use Rattle.semantics.specs.Safety.{IsSafeImage};
+ghost use Rattle.steer.specs.ShippedProgram.{shipped_image};
+ghost use Rattle.xlb_commands.specs.Files.{AreOthersKept};
+ghost use Rattle.xlb_commands.specs.Refused.{HasFailed, IsNotMade, IsShippedRefusal, IsShippedFileRefusal};
+ghost use Rattle.xlb_commands.specs.Results.{IsShippedFile};
+
+use crate::commands::write_image;
+use crate::fault::{Fault, Refusal};
+use ebpf_decode::Image;
+use folders::Folder;
+use std::alloc::Global;
+use steer::shipped;
+use verifier::{Verified, verify};
+
+/// The image of the shipped program.
+fn made(alloc: Global, ring: u32) -> Result<Image, Refusal>
+    ensures image { IfOk result (λ image. image ≡ shipped_image ring) }
+    ensures size { OnOk result (IsRingSize ring) }
+    ensures refused { IfErr result (λ refusal. IsNotMade ring refusal.fault) }
+{
+    match shipped(alloc, ring) {
+        Ok(image) => Ok(image),
+        Err(fault) => Err(Refusal::from(Fault::Steering(fault))),
+    }
+}
+
+/// The shipped program, which the verifier has to accept as any other.
+pub(crate) fn shipped_program(alloc: Global, ring: u32) -> Result<Verified, Refusal>
+    ensures image { IfOk result (λ verified. record { version = verified.version; maps = verified.maps; code = verified.code } ≡ shipped_image ring) }
+    ensures safe { IfOk result (λ verified. IsSafeImage verified.maps verified.code) }
+    ensures refused { IfErr result (λ refusal. IsShippedRefusal ring refusal.fault) }
+{
+    let image = made(alloc, ring)?;
+    match verify(alloc, image) {
+        Ok(verified) => Ok(verified),
+        Err(reject) => Err(Refusal::from(Fault::Program(reject))),
+    }
+}
+
+/// Writes the image of the shipped program to a file.
+pub fn write_shipped<D: Folder>(
+    alloc: Global,
+    folder: &mut D,
+    ring: u32,
+    out: &str,
+) -> Result<String, Refusal>
+    requires { D.failure_count folder.old < 2 ^ 64 - 1 }
+    ensures done { OnOk result (IsShippedFile (D.holds folder.new) out.now ring) }
+    ensures silent { IfOk result (λ printed. string_bytes printed ≡ []) }
+    ensures others { AreOthersKept (D.holds folder.old) (D.holds folder.new) out.now }
+    ensures refused { IfErr result (λ refusal. IsShippedFileRefusal (D.holds folder.old) (D.holds folder.new)
+        (HasFailed (D.failure_count folder.old) (D.failure_count folder.new)) ring refusal.fault) }
+{
+    let image = made(alloc, ring)?;
+    write_image(alloc, folder, &image, out)
+}
