@@ -15,7 +15,7 @@ use Rattle.semantics.specs.declared.call.Reply.TheVariants.{Entered, Left, Cell,
 use Rattle.semantics.specs.RegisterValue.{Uninitialized, CellPointer}
 use Rattle.semantics.specs.MachineState.{MachineState, with_register}
 use Rattle.semantics.specs.PlanLimits.{HasImageSizes, IsIndexSize}
-use Rattle.semantics.proofs.PlanLemmas.{each_at}
+use Rattle.semantics.proofs.shared.PlanLemmas.{each_at}
 use Rattle.semantics.specs.Program.{Program, part_of_key, shard_of_key}
 use Rattle.semantics.specs.RunTrace.{IsReplyTo}
 use Rattle.semantics.specs.Semantics.{first_key, at_next_slot, value_address_step, instruction_step}

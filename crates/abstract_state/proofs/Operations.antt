@@ -1,7 +1,7 @@
 -- What an arithmetic operation makes of kinds stands for what it makes of the values.
 use Rattle.std.proofs.Common.{◌≡◌, ℕ, ◌+◌, ◌*◌, ◌<◌, ◌≤◌, ◌^◌, inl, inr, pos, Ok, Err, refl, sym, ◌∙◌, ap, subst, arith}
 use Rattle.isa.specs.Alu.{alu_value}
-use Rattle.isa.proofs.Bounds.{alu_value-fits}
+use Rattle.isa.proofs.shared.Bounds.{alu_value-fits}
 use Rattle.isa.specs.declared.operation.Width.{Width}
 use Rattle.isa.specs.declared.operation.Width.TheVariants.{Bits32, Bits64}
 use Rattle.isa.specs.declared.operation.AluOp.{AluOp}

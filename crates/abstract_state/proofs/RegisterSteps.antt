@@ -4,7 +4,7 @@ use Rattle.std.specs.Prelude.{slice_get}
 use Rattle.std.specs.List.{AllByRecursion}
 use Rattle.isa.specs.Alu.{neg_value, sign_extended, short_extension_bits}
 use Rattle.isa.specs.Swap.{swap_result, swap_bits}
-use Rattle.isa.proofs.Bounds.{width_fits, neg_value-lt, movsx64-lt, movsx32-lt, swap_result-lt}
+use Rattle.isa.proofs.shared.Bounds.{width_fits, neg_value-lt, movsx64-lt, movsx32-lt, swap_result-lt}
 use Rattle.isa.specs.declared.operation.Width.{Width}
 use Rattle.isa.specs.declared.operation.Extension.{Extension}
 use Rattle.isa.specs.declared.operation.ShortExtension.{ShortExtension}
@@ -25,7 +25,7 @@ use Rattle.semantics.specs.RegisterValue.{RegisterValue, Number, MapPointer}
 use Rattle.semantics.specs.MachineState.{MachineState, register_value}
 use Rattle.semantics.specs.Program.{Program}
 use Rattle.semantics.specs.PlanLimits.{HasImageSizes}
-use Rattle.semantics.proofs.PlanLemmas.{each_at}
+use Rattle.semantics.proofs.shared.PlanLemmas.{each_at}
 use Rattle.semantics.specs.Arithmetic.{changed_number, source_value, alu_outcome}
 use Rattle.semantics.specs.Semantics.{write_step, extended, map_pointer, exit_step, jump_step, instruction_step}
 use Rattle.abstract_scalar.specs.declared.interval.Interval.{Interval}

@@ -5,7 +5,7 @@ use Rattle.isa.specs.declared.operation.Size.TheVariants.{U64}
 use Rattle.isa.specs.declared.operation.Extension.{Extension}
 use Rattle.isa.specs.declared.operation.Extension.TheVariants.{I8, I16, I32}
 use Rattle.isa.specs.declared.operation.Register.{Register}
-use Rattle.isa.proofs.Bounds.{movsx64-lt}
+use Rattle.isa.proofs.shared.Bounds.{movsx64-lt}
 use Rattle.ebpf_decode.specs.declared.insn.Insn.{Insn}
 use Rattle.ebpf_decode.specs.declared.insn.Insn.TheVariants.{Ldxs}
 use Rattle.ebpf_decode.specs.declared.map.MapDef.{MapDef}

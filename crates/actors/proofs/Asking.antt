@@ -20,7 +20,7 @@ use Rattle.semantics.specs.declared.plan.ShardPlan.{ShardPlan}
 use Rattle.semantics.specs.PlanLimits.{IsIndexSize}
 use Rattle.semantics.specs.Program.{shard_of_key}
 use Rattle.semantics.specs.History.{Meets, is_own_key, is_value}
-use Rattle.semantics.proofs.ConditionLemmas.{first_true, bytes_test}
+use Rattle.semantics.proofs.shared.ConditionLemmas.{first_true, bytes_test}
 use Rattle.journals.specs.JournalsView.{AreImageMaps}
 use Rattle.shared_shards.specs.Passes.{PassView, own_at, IsElsewhereSame}
 use Rattle.shared_shards.specs.Asked.{MayAsk, IsAnswered, IsTurnedAway as IsAskTurnedAway}

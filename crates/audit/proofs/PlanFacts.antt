@@ -14,8 +14,8 @@ use Rattle.semantics.specs.declared.options.Options.{Options}
 use Rattle.semantics.specs.declared.plan.ShardPlan.{ShardPlan}
 use Rattle.semantics.specs.ShardPlan.{plan_at, AreOptions}
 use Rattle.semantics.specs.PlanLimits.{IsIndexSize, HasImageSizes, IsPlan}
-use Rattle.semantics.proofs.ConditionLemmas.{first_true, second_true}
-use Rattle.semantics.proofs.PlanLemmas.{shards_have_plans}
+use Rattle.semantics.proofs.shared.ConditionLemmas.{first_true, second_true}
+use Rattle.semantics.proofs.shared.PlanLemmas.{shards_have_plans}
 use Rattle.journals.specs.JournalsView.{AreImageMaps}
 
 keyed_part : (size : ℕ) → (nat_le 1 size && nat_le size 32) ≡ true → size ≤ 32

@@ -38,7 +38,7 @@ use Rattle.ebpf_decode.specs.SlotForm.{same_slot}
 use Rattle.isa.specs.InstructionCodes.{register_number}
 use Rattle.ebpf_decode.specs.InstructionEncoding.{slot_of, more_slots_of}
 use Rattle.ebpf_decode.specs.InstructionReading.{◌>>=◌, register_at, alu_op_at, extension_at, short_extension_at, order_at, swap_width_at, test_at, size_at, extension_size_at, width_at, atomic_op_at, source_at, exactly, binary_at, neg_at, movsx_at, end_at, arithmetic_at, conditional_at, call_at, jump_at, ldx_at, ldxs_at, st_at, stx_at, atomic_at, load_at, store_immediate_at, store_at, head_at, mode_of, whole, begun, reading_in, step_at}
-use Rattle.ebpf_decode.proofs.SlotLaws.{equal_from_same, same_itself}
+use Rattle.ebpf_decode.proofs.shared.SlotLaws.{equal_from_same, same_itself}
 
 -- ---- what is read is encoded so
 

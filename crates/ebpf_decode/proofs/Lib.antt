@@ -1,10 +1,9 @@
+pub mod shared
 pub mod SlotFacts
 pub mod FieldFacts
 pub mod Loops
-pub mod SlotLaws
 pub mod InstructionLaws
 pub mod WideLaws
 pub mod CodeLaws
 pub mod MapLaws
-pub mod ImageLaws
 pub mod PartLaws

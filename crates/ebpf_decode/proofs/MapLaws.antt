@@ -18,7 +18,7 @@ use Rattle.ebpf_decode.specs.InstructionReading.{◌>>=◌}
 use Rattle.ebpf_decode.specs.MapForm.{map_type, is_key_size, is_value_size, is_entry_count, is_allowed_map, map_bytes, map_kind_at, map_of_kind, map_at}
 use Rattle.ebpf_decode.specs.ImageContents.{IsAllowedMap}
 use Rattle.ebpf_decode.specs.ImageFormat.{maps_at}
-use Rattle.ebpf_decode.proofs.SlotLaws.{IsBytes, IsBytes-drop, four_bytes, both}
+use Rattle.ebpf_decode.proofs.shared.SlotLaws.{IsBytes, IsBytes-drop, four_bytes, both}
 use Rattle.ebpf_decode.proofs.CodeLaws.{bind_ok}
 
 -- ---- what is read is encoded so

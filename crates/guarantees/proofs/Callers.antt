@@ -11,7 +11,7 @@ use Rattle.semantics.specs.declared.call.Entry.{Entry}
 use Rattle.semantics.specs.declared.plan.ShardPlan.{ShardPlan}
 use Rattle.semantics.specs.CallerLaws.{is_caller, own_entries}
 use Rattle.semantics.specs.History.{IsLegalHistory, meets, meets_part, shard_of_call}
-use Rattle.semantics.proofs.ConditionLemmas.{first_true, second_true}
+use Rattle.semantics.proofs.shared.ConditionLemmas.{first_true, second_true}
 
 -- ---- a worker that may call is one of the plan's
 

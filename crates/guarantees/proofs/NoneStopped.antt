@@ -11,7 +11,7 @@ use Rattle.workers.specs.declared.run_end.RunEnd.TheVariants.{Stopped, Aborted, 
 use Rattle.workers.specs.Accounts.{counted, counts_of, fate_of, runs_at, end_at}
 use Rattle.workers.specs.Jobs.{records_of}
 use Rattle.workers.specs.Shares.{frame_at, is_short, is_handed, worker_of_frame, share}
-use Rattle.semantics.proofs.ConditionLemmas.{second_true}
+use Rattle.semantics.proofs.shared.ConditionLemmas.{second_true}
 use Rattle.guarantees.proofs.ShareOrder.{IsHandedAt, handed_at, each_run}
 
 abbrev pub IsNotStopped : RunEnd → Type 0

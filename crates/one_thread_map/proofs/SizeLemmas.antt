@@ -8,7 +8,7 @@ use Rattle.semantics.specs.declared.call.Call.TheVariants.{Enter, Leave, Lookup,
 use Rattle.semantics.specs.declared.plan.ShardPlan.{ShardPlan}
 use Rattle.semantics.specs.PlanLimits.{IsWithinLimits}
 use Rattle.semantics.specs.History.{is_load_width, is_in_cell, is_aligned, fits_width, meets_part, meets}
-use Rattle.semantics.proofs.ConditionLemmas.{first_true, second_true}
+use Rattle.semantics.proofs.shared.ConditionLemmas.{first_true, second_true}
 use Rattle.one_thread_map.specs.OneThread.{IsSized}
 
 key_size_met : (a b : ℕ) (c : Bool) → IsTrue (a == b && c) → a ≡ b

@@ -24,7 +24,7 @@ use Rattle.abstract_state.specs.Flow.{flow_of}
 use Rattle.image_shape.proofs.shared.SlotLemmas.{none_inside, past_end}
 use Rattle.verifier.specs.Surveys.{slot_of}
 use Rattle.verifier.specs.Dataflow.{known_at, joined_where, is_target, is_next, arriving, arriving_if, arriving_from, arrived, states_of}
-use Rattle.verifier.proofs.EntryStates.{are_entry_states}
+use Rattle.verifier.proofs.shared.EntryStates.{are_entry_states}
 use Rattle.reasons.specs.Origins.{is_unset, disagree, is_sought, brought_from, Brings, NoneBrings, IsUnsetAt}
 use Rattle.reasons.specs.declared.origin.Arrival.{Arrival}
 use Rattle.reasons.proofs.FairLemmas.{HasVersion, flows_version}

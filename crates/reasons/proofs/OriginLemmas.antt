@@ -19,7 +19,7 @@ use Rattle.verifier.specs.declared.survey.Broken.{Broken}
 use Rattle.verifier.specs.declared.survey.Survey.{Survey}
 use Rattle.verifier.specs.Dataflow.{known_at, states_of, arriving_from, AreEntryStates}
 use Rattle.verifier.specs.Surveys.{slot_of, IsSurvey, IsBroken, IsLast, EndsSo}
-use Rattle.verifier.proofs.EntryStates.{agree, are_entry_states}
+use Rattle.verifier.proofs.shared.EntryStates.{agree, are_entry_states}
 use Rattle.reasons.specs.declared.cause.Cause.{Cause}
 use Rattle.reasons.specs.declared.cause.Cause.TheVariants.{PathsDisagree}
 use Rattle.reasons.specs.declared.origin.Arrival.{Arrival}

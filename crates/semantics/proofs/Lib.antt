@@ -1,16 +1,6 @@
-pub mod LittleEndianLemmas
+pub mod shared
 pub mod BytesLemmas
-pub mod ConditionLemmas
-pub mod LawLemmas
-pub mod HoldingLemmas
-pub mod CallerLemmas
-pub mod IdLemmas
-pub mod KeptLemmas
-pub mod UseLemmas
 pub mod QuietLemmas
 pub mod SystemLemmas
 pub mod RowLemmas
 pub mod TraceRowLemmas
-pub mod PlanLemmas
-pub mod FirstElement
-pub mod ImageSizes

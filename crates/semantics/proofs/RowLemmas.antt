@@ -9,7 +9,7 @@ use Rattle.ebpf_decode.specs.InstructionEncoding.{slot_count}
 use Rattle.semantics.specs.ShardPlan.{AreOptions}
 use Rattle.semantics.specs.System.{IsInputFrame, BeginsRun, CallsShard}
 use Rattle.semantics.specs.SystemRows.{one_worker, one_map, frame_of, instructions, RunOverAnArray, RunOverAHashMap, HeldCellOutlivesItsKey, FullJournalHasRoomForLeave, UnsafeProgramIsRefused}
-use Rattle.semantics.proofs.ConditionLemmas.{tested_bytes}
+use Rattle.semantics.proofs.shared.ConditionLemmas.{tested_bytes}
 
 row_options : (kind : MapKind) → AreOptions (one_map kind) one_worker
 row_options kind = record {

@@ -13,8 +13,8 @@ use Rattle.semantics.specs.Reclamation.{holds}
 use Rattle.semantics.specs.SequentialShard.{is_kept, shard_after}
 use Rattle.isa.specs.InstructionCodes.{atomic_op_of}
 use Rattle.semantics.specs.History.{shard_of_call, is_holder, is_own_key, is_value, are_bytes, are_flags, is_load_width, is_atomic_width, is_in_cell, is_aligned, fits_width, is_expected, may_change_keys, is_inside_worker, meets_part, meets, IsLegalHistory}
-use Rattle.semantics.proofs.ConditionLemmas.{first_true, second_true}
-use Rattle.semantics.proofs.KeptLemmas.{held_is_kept_of_plan}
+use Rattle.semantics.proofs.shared.ConditionLemmas.{first_true, second_true}
+use Rattle.semantics.proofs.shared.KeptLemmas.{held_is_kept_of_plan}
 
 -- a caller that holds the cell asks for these bytes of it
 pub record IsRangeOf (plan : ShardPlan) (history : List Entry) (cell offset width : ℕ) : Type 0 where

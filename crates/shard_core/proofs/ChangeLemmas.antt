@@ -24,10 +24,10 @@ use Rattle.semantics.specs.LeastRecentlyUsed.{is_done, least_recently_used}
 use Rattle.semantics.specs.SequentialShard as S
 use Rattle.semantics.specs.SequentialShard.{SequentialShard, opening_cells, cell_of_present, cell_of_key, with_new_key, with_value, without_found, after_eviction, updated_where, is_hash, is_full_of_keys, has_free_cell, update_answer_by, update_answer, delete_answer_of_kind, delete_answer, present_key, reclaimable_cells, shard_after_call, shard_after, is_kept}
 use Rattle.semantics.specs.History.{IsLegalHistory}
-use Rattle.semantics.proofs.HoldingLemmas.{each_weaker, each_find, IsSound, sound_after, array_after}
-use Rattle.semantics.proofs.KeptLemmas.{found_kept}
-use Rattle.semantics.proofs.IdLemmas.{ids_are_few}
-use Rattle.semantics.proofs.UseLemmas.{keys_differ}
+use Rattle.semantics.proofs.shared.HoldingLemmas.{each_weaker, each_find, IsSound, sound_after, array_after}
+use Rattle.semantics.proofs.shared.KeptLemmas.{found_kept}
+use Rattle.semantics.proofs.shared.IdLemmas.{ids_are_few}
+use Rattle.semantics.proofs.shared.UseLemmas.{keys_differ}
 use Rattle.map_cells.specs.CellTable.{CellTable, with_retired, is_below, freed_below}
 use Rattle.map_cells.specs.CellTable as T
 use Rattle.lru_maps.specs.LruTable.{LruTable, last_of, without_victim}

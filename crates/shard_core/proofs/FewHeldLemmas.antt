@@ -21,8 +21,8 @@ use Rattle.semantics.specs.PlanLimits.{IsPlan}
 use Rattle.semantics.specs.IdLaws.{creates, creations}
 use Rattle.semantics.specs.SequentialShard.{SequentialShard, shard_after, is_kept_of_kind, opening_cells, update_answer_by, cell_of_key}
 use Rattle.semantics.specs.History.{IsLegalHistory}
-use Rattle.semantics.proofs.IdLemmas.{ids_count}
-use Rattle.semantics.proofs.KeptLemmas.{held_is_kept_of_plan}
+use Rattle.semantics.proofs.shared.IdLemmas.{ids_count}
+use Rattle.semantics.proofs.shared.KeptLemmas.{held_is_kept_of_plan}
 use Rattle.map_cells.specs.CellTable.{CellTable}
 use Rattle.shard_core.specs.ShardFields.{IsBalanced}
 use Rattle.shard_core.specs.FewHeld.{is_among, AreOnce, FewAreHeld}

@@ -16,7 +16,7 @@ use Rattle.semantics.specs.ShardPlan.{capacity}
 use Rattle.semantics.specs.Reclamation.{is_reclaimable}
 use Rattle.semantics.specs.SequentialShard.{SequentialShard, cell_of_present, without_key, is_kept, is_kept_of_kind}
 use Rattle.semantics.specs.UseLaws.{ArePairwise}
-use Rattle.semantics.proofs.HoldingLemmas.{each_weaker, IsSound}
+use Rattle.semantics.proofs.shared.HoldingLemmas.{each_weaker, IsSound}
 use Rattle.map_cells.specs.declared.retired.Retired.{Retired}
 use Rattle.map_cells.specs.CellTable.{CellTable, retired_at, unused_retired, with_retired, is_below, freed_below, without_cells, IsNotRetired, IsLatestStamp}
 use Rattle.shard_core.specs.declared.keys.KeyTable.{KeyTable}

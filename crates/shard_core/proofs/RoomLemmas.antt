@@ -13,7 +13,7 @@ use Rattle.semantics.specs.declared.call.Entry.{Entry}
 use Rattle.semantics.specs.declared.plan.ShardPlan.{ShardPlan}
 use Rattle.semantics.specs.Reclamation.{is_inside, inside_count}
 use Rattle.semantics.specs.History.{shard_of_call, is_inside_worker, meets_part, meets, journal_is_full, IsLegalHistory}
-use Rattle.semantics.proofs.ConditionLemmas.{first_true, second_true}
+use Rattle.semantics.proofs.shared.ConditionLemmas.{first_true, second_true}
 use Rattle.shard_core.proofs.FlagLemmas.{inside_flags, with_flag, KeepsSections, inside_flags_kept, inside_flags_entered, inside_flags_left, inside_flags-at}
 
 -- one flag set is one more at most

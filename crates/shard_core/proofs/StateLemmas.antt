@@ -14,8 +14,8 @@ use Rattle.semantics.specs.Reclamation.{is_reclaimable}
 use Rattle.semantics.specs.LeastRecentlyUsed.{is_least_recently_used}
 use Rattle.semantics.specs.SequentialShard.{SequentialShard, cell_of_present, cell_of_key, without_key, without_found, after_eviction, with_new_key, with_value, updated_where, update_answer, delete_answer, present_key, shard_after_call, shard_after}
 use Rattle.semantics.specs.UseLaws.{ArePairwise}
-use Rattle.semantics.proofs.LawLemmas.{updated_where-keeps, after_eviction-keeps}
-use Rattle.semantics.proofs.HoldingLemmas.{each_weaker, each_filter, each_find, IsSound, sound_after}
+use Rattle.semantics.proofs.shared.LawLemmas.{updated_where-keeps, after_eviction-keeps}
+use Rattle.semantics.proofs.shared.HoldingLemmas.{each_weaker, each_filter, each_find, IsSound, sound_after}
 
 -- ---- lists
 

@@ -11,8 +11,8 @@ use Rattle.semantics.specs.declared.plan.ShardPlan.{ShardPlan}
 use Rattle.semantics.specs.declared.plan.PresentKey.{PresentKey}
 use Rattle.semantics.specs.LittleEndian.{number_of_bytes, bytes_of_number}
 use Rattle.semantics.specs.SequentialShard.{SequentialShard, cell_bytes, cell_of_key, number_in_cell, with_number_in_cell, with_value, after_eviction, without_found, update_answer, delete_answer, present_key, shard_after_call}
-use Rattle.semantics.proofs.LittleEndianLemmas.{below-more, number_of_bytes-cons}
-use Rattle.semantics.proofs.LawLemmas.{updated_where-keeps, after_eviction-keeps}
+use Rattle.semantics.proofs.shared.LittleEndianLemmas.{below-more, number_of_bytes-cons}
+use Rattle.semantics.proofs.shared.LawLemmas.{updated_where-keeps, after_eviction-keeps}
 use Rattle.shard_port.specs.PortView.{AreBytes, SetsBytes}
 
 -- ---- lists

@@ -29,10 +29,10 @@ use Rattle.semantics.specs.Reclamation.{inside_count}
 use Rattle.semantics.specs.SequentialShard.{SequentialShard, shard_after, opening_cells, cell_of_kind, cell_of_index, cell_of_present, cell_of_key, lookup_reply}
 use Rattle.semantics.specs.History.{meets_part}
 use Rattle.semantics.specs.RunTrace.{IsReplyTo, MayBeAbsent}
-use Rattle.semantics.proofs.FirstElement.{nothing_found}
-use Rattle.semantics.proofs.IdLemmas.{ids_are_few}
-use Rattle.semantics.proofs.HoldingLemmas.{each_find, each_weaker, sound_after}
-use Rattle.semantics.proofs.ConditionLemmas.{first_true, second_true}
+use Rattle.semantics.proofs.shared.FirstElement.{nothing_found}
+use Rattle.semantics.proofs.shared.IdLemmas.{ids_are_few}
+use Rattle.semantics.proofs.shared.HoldingLemmas.{each_find, each_weaker, sound_after}
+use Rattle.semantics.proofs.shared.ConditionLemmas.{first_true, second_true}
 use Rattle.shard_core.specs.JournaledShard.{JournaledShard}
 use Rattle.map_port.specs.Served.{Maps, program_over, shard_of, IsKeyOf, found_reply}
 use Rattle.shard_port.specs.Asking.{entered, IsAnsweredAmong}

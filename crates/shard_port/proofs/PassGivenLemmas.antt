@@ -23,9 +23,9 @@ use Rattle.semantics.specs.Reclamation.{inside_count}
 use Rattle.semantics.specs.SequentialShard.{shard_after, cell_of_key, lookup_reply, reply_of}
 use Rattle.semantics.specs.History.{shard_of_call, meets, meets_part, may_change_keys, is_own_key, is_value, are_flags, are_bytes, IsLegalStep, IsLegalHistory}
 use Rattle.semantics.specs.RunTrace.{IsReplyTo, MayBeAbsent}
-use Rattle.semantics.proofs.ConditionLemmas.{first_true, second_true, tested_bytes}
-use Rattle.semantics.proofs.FirstElement.{nothing_found}
-use Rattle.semantics.proofs.ImageSizes.{image_sizes}
+use Rattle.semantics.proofs.shared.ConditionLemmas.{first_true, second_true, tested_bytes}
+use Rattle.semantics.proofs.shared.FirstElement.{nothing_found}
+use Rattle.semantics.proofs.shared.ImageSizes.{image_sizes}
 use Rattle.journals.specs.JournalsView.{AreImageMaps}
 use Rattle.map_port.specs.Served.{Maps, program_over, found_reply}
 use Rattle.shared_shards.specs.CallerView.{CallerView}

@@ -17,13 +17,13 @@ use Rattle.semantics.specs.declared.call.Call.TheVariants.{Load, Store}
 use Rattle.semantics.specs.Program.{shard_of_key, value_size_of}
 use Rattle.semantics.specs.ShardPlan.{AreOptions}
 use Rattle.semantics.specs.PlanLimits.{IsIndexSize}
-use Rattle.semantics.proofs.ImageSizes.{image_sizes}
+use Rattle.semantics.proofs.shared.ImageSizes.{image_sizes}
 use Rattle.ebpf_decode.specs.declared.version.Version.TheVariants.{V2}
 use Rattle.journals.specs.JournalsView.{AreImageMaps}
 use Rattle.shard_port.proofs.GivenLemmas.{sizes_at, some_same}
 use Rattle.semantics.specs.Reclamation.{is_inside, holds}
 use Rattle.semantics.specs.History.{is_inside_worker, is_holder, is_own_key, is_load_width, is_in_cell, Meets}
-use Rattle.semantics.proofs.ConditionLemmas.{first_true, second_true, bytes_test}
+use Rattle.semantics.proofs.shared.ConditionLemmas.{first_true, second_true, bytes_test}
 use Rattle.map_port.specs.Served.{Maps, shard_of, IsKeyOf, IsPairOf, IsReadable, IsStorable, IsAtomic, lookup_call, update_call, delete_call, atomic_call}
 use Rattle.shared_shards.specs.SharedMaps.{ArePlans}
 use Rattle.shared_shards.specs.Passes.{PassView, own_at}

@@ -17,7 +17,7 @@ use Rattle.semantics.specs.declared.plan.ShardPlan.{ShardPlan}
 use Rattle.semantics.specs.Program.{shard_number_of_key, part_of_key, shard_of_key}
 use Rattle.semantics.specs.Reclamation.{is_inside, holds}
 use Rattle.semantics.specs.History.{shard_of_call}
-use Rattle.semantics.proofs.ConditionLemmas.{first_true, second_true}
+use Rattle.semantics.proofs.shared.ConditionLemmas.{first_true, second_true}
 use Rattle.semantics.specs.ServedCalls.{IsHandedOut}
 use Rattle.map_port.specs.Served.{Keeps, program_over}
 use Rattle.shared_shards.specs.CallerView.{CallerView}

@@ -15,8 +15,8 @@ use Rattle.semantics.specs.declared.call.Entry.{Entry}
 use Rattle.semantics.specs.Reclamation.{found_cell, is_inside, holds}
 use Rattle.semantics.specs.declared.plan.ShardPlan.{ShardPlan}
 use Rattle.semantics.specs.History.{IsLegalHistory}
-use Rattle.semantics.proofs.ConditionLemmas.{first_true, second_true}
-use Rattle.semantics.proofs.HoldingLemmas.{guarded}
+use Rattle.semantics.proofs.shared.ConditionLemmas.{first_true, second_true}
+use Rattle.semantics.proofs.shared.HoldingLemmas.{guarded}
 use Rattle.semantics.specs.ServedCalls.{IsHandedOut}
 use Rattle.shard_core.specs.JournaledShard.{JournaledShard, with_entry}
 use Rattle.map_port.specs.Served.{Keeps, program_over}

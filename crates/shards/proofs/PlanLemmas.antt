@@ -16,8 +16,8 @@ use Rattle.semantics.specs.declared.options.Options.{Options}
 use Rattle.semantics.specs.declared.plan.ShardPlan.{ShardPlan}
 use Rattle.semantics.specs.ShardPlan.{plan_at, AreOptions}
 use Rattle.semantics.specs.PlanLimits.{IsIndexSize, HasImageSizes, IsPlan}
-use Rattle.semantics.proofs.ConditionLemmas.{first_true, second_true}
-use Rattle.semantics.proofs.PlanLemmas.{shards_have_plans}
+use Rattle.semantics.proofs.shared.ConditionLemmas.{first_true, second_true}
+use Rattle.semantics.proofs.shared.PlanLemmas.{shards_have_plans}
 use Rattle.shards.specs.Opening.{is_shard_count, are_equal_parts, are_served_options}
 
 key_part : (kind : MapKind) (size : ℕ) → is_key_size kind size ≡ true → (size ≤ 32) × IsIndexSize kind size

@@ -11,7 +11,7 @@ use Rattle.semantics.specs.declared.call.Entry.{Entry}
 use Rattle.semantics.specs.declared.plan.ShardPlan.{ShardPlan}
 use Rattle.semantics.specs.CallerLaws.{own_entries}
 use Rattle.semantics.specs.History.{IsLegalHistory, meets_part, shard_of_call}
-use Rattle.semantics.proofs.ConditionLemmas.{second_true}
+use Rattle.semantics.proofs.shared.ConditionLemmas.{second_true}
 use Rattle.shared_shards.specs.LengthRule.{caller_at, place_of}
 use Rattle.shared_shards.specs.EntryCounts.{own_total, AllEntriesAreSomebodys}
 use Rattle.shared_shards.proofs.Callers.{place_at, own_of_maker, own_of_other}

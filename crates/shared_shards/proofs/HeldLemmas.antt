@@ -14,8 +14,8 @@ use Rattle.semantics.specs.declared.plan.ShardPlan.{ShardPlan}
 use Rattle.semantics.specs.Reclamation.{held_by, holds}
 use Rattle.semantics.specs.CallerLaws.{own_entries}
 use Rattle.semantics.specs.History.{IsLegalHistory, is_own_key, meets_part, shard_of_call}
-use Rattle.semantics.proofs.ConditionLemmas.{first_true, second_true}
-use Rattle.semantics.proofs.CallerLemmas.{own_holds}
+use Rattle.semantics.proofs.shared.ConditionLemmas.{first_true, second_true}
+use Rattle.semantics.proofs.shared.CallerLemmas.{own_holds}
 use Rattle.shard_core.specs.FewHeld.{is_among, AreOnce, FewAreHeld}
 use Rattle.shared_shards.proofs.EntryLemmas.{worker_within}
 use Rattle.shared_shards.specs.CallerView.{CallerView, IsServed, IsRefused}

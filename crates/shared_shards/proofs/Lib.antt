@@ -4,12 +4,10 @@ pub mod Callers
 pub mod Settling
 pub mod Conditions
 pub mod Dealing
-pub mod Each
 pub mod EntryLemmas
 pub mod FiveEntries
 pub mod Flags
 pub mod HeldLemmas
-pub mod ImageMaps
 pub mod Moves
 pub mod Openings
 pub mod Names

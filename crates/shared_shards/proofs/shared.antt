@@ -1,3 +1,5 @@
 -- Lemmas that other crates cite.
 pub mod Keys
 pub mod Names
+pub mod Each
+pub mod ImageMaps

@@ -32,8 +32,8 @@ use Rattle.disasm.specs.declared.operand.Operands.TheVariants.{Zero, One, Two, T
 use Rattle.disasm.specs.Names.{head_stem, head_suffix, head_name}
 use Rattle.disasm.specs.AssemblyText.{register_text, with_sign, hex_digit, hex_digits, operand_text, list_text, head_of, operands_of}
 use Rattle.disasm.specs.LineReading.{OperandFits}
-use Rattle.disasm.proofs.Bytes.{all_bytes, word_byte, all_append, weaken, signed_word, sign_word, widest_fits, far_fits, wider_fits, register_word, register_tail}
-use Rattle.disasm.proofs.Numbers.{whole, hex_value, hex_all}
+use Rattle.disasm.proofs.shared.Bytes.{all_bytes, word_byte, all_append, weaken, signed_word, sign_word, widest_fits, far_fits, wider_fits, register_word, register_tail}
+use Rattle.disasm.proofs.shared.Numbers.{whole, hex_value, hex_all}
 use Rattle.source_form.specs.declared.words.Form.{Form}
 use Rattle.source_form.specs.declared.words.Form.TheVariants.{Plain, Jump, Call, Wide}
 use Rattle.source_form.specs.SourceText.{parts_at, is_heading, form_of, is_number_byte, begins_number, number_in, number_meaning, last_meaning, operands_meaning}

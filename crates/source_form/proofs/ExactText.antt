@@ -21,9 +21,9 @@ use Rattle.disasm.specs.declared.operand.Operands.TheVariants.{Zero, One, Two, T
 use Rattle.disasm.specs.Names.{head_name}
 use Rattle.disasm.specs.AssemblyText.{list_text, operands_text, head_of, operands_of, line_of, kind_name, after_space, map_line_of, MapFits, ended, version_text, maps_text, code_text, parts_text, IsAssemblyText}
 use Rattle.disasm.specs.LineReading.{OperandsFit}
-use Rattle.disasm.proofs.Bytes.{all_bytes, all_append, weaken, decimal_word}
-use Rattle.disasm.proofs.Lines.{fits_again}
-use Rattle.disasm.proofs.Texts.{all_fit}
+use Rattle.disasm.proofs.shared.Bytes.{all_bytes, all_append, weaken, decimal_word}
+use Rattle.disasm.proofs.shared.Lines.{fits_again}
+use Rattle.disasm.proofs.shared.Texts.{all_fit}
 use Rattle.source_form.specs.SourceText.{statement, parts_at, before_mark, first_word, after_first_word, is_heading, instruction_meaning, words_meaning, line_meaning, meaning_from, source_meaning}
 use Rattle.source_form.specs.SourceImage.{IsSource}
 use Rattle.source_form.proofs.Trimming.{other, before_none, before_first_one, first_part, EndsWell, ends_before, some_bytes, no_mark, begin_kept, IsTrimmed, trim_same, trim_space}

@@ -21,7 +21,7 @@ use Rattle.abstract_state.specs.Flow.{reads, verdict_kind, falls, flow_of}
 use Rattle.verifier.specs.Dataflow.{known_at, jumps, AreEntryStates, Accepts, MayAskMemory, passed_jump, passed_all, IsFirstBroken, has_no_shape, breaks_rule, wants_memory}
 use Rattle.verifier.specs.Rejects.{reject_of_shape, reject_of_refusal}
 use Rattle.verifier.specs.Answers.{HasOneAnswer, FirstRejectIsOne, RuleBeforeJumpsIsTold}
-use Rattle.verifier.proofs.EntryStates.{agree}
+use Rattle.verifier.proofs.shared.EntryStates.{agree}
 
 -- at the slots where both are entry states, they are the same
 same_below : (version : Version) (maps : List MapDef) (code : List Insn) (one other : List (Option State)) (end bound : ℕ) → AreEntryStates version maps code one end → AreEntryStates version maps code other end → bound ≤ end →

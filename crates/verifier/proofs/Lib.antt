@@ -1,6 +1,5 @@
 pub mod shared
 pub mod Distances
-pub mod EntryStates
 pub mod PassLemmas
 pub mod ReaderLemmas
 pub mod MemoryLemmas

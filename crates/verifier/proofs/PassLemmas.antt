@@ -29,7 +29,7 @@ use Rattle.verifier.specs.declared.pending.Pending.{Pending}
 use Rattle.verifier.specs.Dataflow.{known_at, arriving_from, arrived, states_of, PassesChecks, Accepts, IsFirstReject, breaks_rule, wants_memory, passed_jump}
 use Rattle.verifier.specs.Pending.{entry_of, pending_at}
 use Rattle.verifier.specs.Stops.{BreaksRule, WantsRoom}
-use Rattle.verifier.proofs.EntryStates.{quiet, are_entry_states}
+use Rattle.verifier.proofs.shared.EntryStates.{quiet, are_entry_states}
 
 -- ---- edges go up
 

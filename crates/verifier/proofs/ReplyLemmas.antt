@@ -18,10 +18,10 @@ use Rattle.semantics.specs.Linux.{errno_code, success, update_flags_of}
 use Rattle.semantics.specs.LittleEndian.{number_of_bytes}
 use Rattle.semantics.specs.Program.{Program}
 use Rattle.semantics.specs.RunTrace.{IsReplyTo, MayBeAbsent}
-use Rattle.semantics.proofs.FirstElement.{nothing_found}
+use Rattle.semantics.proofs.shared.FirstElement.{nothing_found}
 use Rattle.semantics.specs.declared.plan.ShardPlan.{ShardPlan}
 use Rattle.semantics.specs.SequentialShard.{SequentialShard, cell_of_key, number_in_cell, has_free_cell, is_full_of_keys, is_hash, present_key_answer, array_update_answer, new_key_answer, absent_key_answer, keyed_update_answer, update_answer_of_kind, update_answer_by, update_answer, delete_answer_of_kind, delete_answer, lookup_reply, shard_after, reply_of}
-use Rattle.semantics.proofs.LittleEndianLemmas.{below-more, number_of_bytes-cons}
+use Rattle.semantics.proofs.shared.LittleEndianLemmas.{below-more, number_of_bytes-cons}
 use Rattle.verifier.proofs.SystemInvariant.{IsSoundShard}
 
 reply_to_lookup : (program : Program) (plan : ShardPlan) (shard : ℕ) (key : List ℕ) (found : Option ℕ) → plan.number ≡ shard →

@@ -16,9 +16,9 @@ use Rattle.semantics.specs.ShardPlan.{capacity}
 use Rattle.semantics.specs.Reclamation.{holds}
 use Rattle.semantics.specs.History.{shard_of_call, may_change_keys, is_own_key, is_value, are_flags, are_bytes, Meets, journal_is_full, meets_part}
 use Rattle.semantics.specs.SequentialShard.{SequentialShard, opening_cells, cell_bytes, cell_of_key, number_in_cell, with_number_in_cell, changed_by, after_eviction, with_value, update_answer, delete_answer, without_found, present_key, shard_after_call, shard_after, reply_of, is_kept}
-use Rattle.semantics.proofs.ConditionLemmas.{tested_bytes}
-use Rattle.semantics.proofs.KeptLemmas.{held_is_kept}
-use Rattle.semantics.proofs.LawLemmas.{updated_where-keeps, same_cells_without, same_cells_evicted}
+use Rattle.semantics.proofs.shared.ConditionLemmas.{tested_bytes}
+use Rattle.semantics.proofs.shared.KeptLemmas.{held_is_kept}
+use Rattle.semantics.proofs.shared.LawLemmas.{updated_where-keeps, same_cells_without, same_cells_evicted}
 use Rattle.abstract_state.proofs.shared.ByteNumbers.{bytes_small}
 use Rattle.verifier.proofs.SystemInvariant.{IsSoundShard}
 use Rattle.verifier.proofs.ReplyLemmas.{AreAllBytes, cell_all}

@@ -15,7 +15,7 @@ use Rattle.verifier.specs.Dataflow.{known_at, states_of}
 use Rattle.verifier.specs.Pending.{known_if, entry_of}
 use Rattle.verifier.specs.Stops.{BreaksRule}
 use Rattle.verifier.specs.Surveys.{IsBroken}
-use Rattle.verifier.proofs.EntryStates.{are_entry_states}
+use Rattle.verifier.proofs.shared.EntryStates.{are_entry_states}
 use Rattle.verifier.proofs.PassLemmas.{IsHeld, held_here}
 
 -- one more at the end of a list whose places are known

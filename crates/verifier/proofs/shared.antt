@@ -3,3 +3,4 @@ pub mod LocalLemmas
 pub mod PlaceLemmas
 pub mod RunLemmas
 pub mod SafetyLemmas
+pub mod EntryStates

@@ -16,8 +16,8 @@ use Rattle.ebpf_decode.specs.InstructionReading.{◌>>=◌}
 use Rattle.ebpf_decode.specs.MapForm.{map_at}
 use Rattle.ebpf_decode.specs.ImageContents.{Contents}
 use Rattle.ebpf_decode.specs.ImageFormat.{has_head, map_count, version_at, maps_at, code_at, image_at, has_code_size, may_ask_memory, fault_of, first_decode_fault, IsImageEncoding}
-use Rattle.ebpf_decode.proofs.SlotLaws.{both}
-use Rattle.ebpf_decode.proofs.ImageLaws.{read_again}
+use Rattle.ebpf_decode.proofs.shared.SlotLaws.{both}
+use Rattle.ebpf_decode.proofs.shared.ImageLaws.{read_again}
 use Rattle.xlb_commands.specs.Refused.{IsDecodeRefusal}
 
 false_is_not_true : false ≡ true → ⊥

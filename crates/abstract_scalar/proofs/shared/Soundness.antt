@@ -11,7 +11,7 @@ use Rattle.isa.specs.Words.{width_bits, operand_at, low_half}
 use Rattle.isa.specs.Alu.{alu_result, alu_value, neg_value, sign_extended, extension_bits, short_extension_bits}
 use Rattle.isa.specs.Swap.{swap_bits, swap_result}
 use Rattle.isa.specs.Test.{test_holds, test_taken}
-use Rattle.isa.proofs.Bounds.{alu_result-lt, neg_value-lt, operand_at-lt, width_fits, movsx64-lt, movsx32-lt, swap_result-lt}
+use Rattle.isa.proofs.shared.Bounds.{alu_result-lt, neg_value-lt, operand_at-lt, width_fits, movsx64-lt, movsx32-lt, swap_result-lt}
 use Rattle.isa.specs.declared.operation.Extension.{Extension}
 use Rattle.isa.specs.declared.operation.ShortExtension.{ShortExtension}
 use Rattle.isa.specs.declared.operation.ByteOrder.{ByteOrder}

@@ -9,7 +9,7 @@ use Rattle.semantics.specs.MachineState.{StackByte, Unwritten, Written, SpilledP
 use Rattle.semantics.specs.RegisterValue.{Number}
 use Rattle.semantics.specs.Step.{then_outcome}
 use Rattle.semantics.specs.Memory.{written_bytes, spilled_or_number, as_written}
-use Rattle.semantics.proofs.LittleEndianLemmas.{below-more, number_of_bytes-cons}
+use Rattle.semantics.proofs.shared.LittleEndianLemmas.{below-more, number_of_bytes-cons}
 use Rattle.abstract_state.specs.Abstraction.{IsByte}
 
 pub reaches_within : {A : Type 0} → (count : ℕ) (items : List A) → count ≤ length items → reaches count items ≡ true

@@ -17,7 +17,7 @@ use Rattle.semantics.specs.Program.{part_of_key, shard_number_of_key}
 use Rattle.semantics.specs.ShardPlan.{AreOptions}
 use Rattle.semantics.specs.Reclamation.{is_inside, holds}
 use Rattle.semantics.specs.History.{are_flags, is_own_key, is_load_width, is_in_cell, fits_width}
-use Rattle.semantics.proofs.ConditionLemmas.{first_true, second_true, bytes_test}
+use Rattle.semantics.proofs.shared.ConditionLemmas.{first_true, second_true, bytes_test}
 use Rattle.semantics.specs.Program.{value_size_of}
 use Rattle.shard_core.specs.JournaledShard.{JournaledShard}
 use Rattle.map_port.specs.Served.{Maps, shard_of, IsKeyOf, IsPairOf, IsReadable, IsStorable, IsAtomic, lookup_call, update_call, delete_call, atomic_call}

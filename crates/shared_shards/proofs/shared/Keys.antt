@@ -12,7 +12,7 @@ use Rattle.semantics.specs.declared.plan.ShardPlan.{ShardPlan}
 use Rattle.semantics.specs.Program.{part_of_key, shard_number_of_key, shard_of_key}
 use Rattle.semantics.specs.ShardPlan.{AreOptions, plan_at, plan_for_map}
 use Rattle.semantics.specs.History.{is_own_key}
-use Rattle.semantics.proofs.ConditionLemmas.{bytes_test}
+use Rattle.semantics.proofs.shared.ConditionLemmas.{bytes_test}
 use Rattle.shared_shards.specs.SharedMaps.{ArePlans}
 
 pub some_part : (maps : List MapDef) (options : Options) → AreOptions maps options → 0 < options.shards

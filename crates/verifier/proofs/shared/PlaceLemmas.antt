@@ -14,7 +14,7 @@ use Rattle.semantics.specs.declared.call.Call.{Call}
 use Rattle.semantics.specs.declared.call.Reply.{Reply}
 use Rattle.semantics.specs.MachineState.{MachineState}
 use Rattle.semantics.specs.PlanLimits.{HasImageSizes}
-use Rattle.semantics.proofs.ImageSizes.{image_sizes}
+use Rattle.semantics.proofs.shared.ImageSizes.{image_sizes}
 use Rattle.semantics.specs.Program.{Program, instruction_at}
 use Rattle.semantics.specs.Step.{Continues, CallsMap}
 use Rattle.semantics.specs.Semantics.{next_step}

@@ -19,7 +19,7 @@ use Rattle.semantics.specs.Step.{Step, Continues, CallsMap, Exits, Traps}
 use Rattle.semantics.specs.Semantics.{next_step}
 use Rattle.semantics.specs.declared.options.Options.{Options}
 use Rattle.semantics.specs.PlanLimits.{HasImageSizes}
-use Rattle.semantics.proofs.PlanLemmas.{each_at}
+use Rattle.semantics.proofs.shared.PlanLemmas.{each_at}
 use Rattle.semantics.specs.ShardPlan.{plan_at, AreOptions}
 use Rattle.semantics.specs.RunTrace.{IsReplyTo}
 use Rattle.semantics.specs.SequentialShard.{shard_after}

@@ -2,7 +2,7 @@ use Rattle.std.proofs.Common.{◌≡◌, ◌∙◌, ap}
 use Rattle.disasm.specs.declared.head.Head.{Head}
 use Rattle.disasm.specs.AssemblyText.{line_of, head_of, operands_of}
 use Rattle.disasm.specs.LineReading.{insn_made}
-use Rattle.disasm.proofs.Lines.{fits_again, insn_again, parts_of_line}
+use Rattle.disasm.proofs.shared.Lines.{fits_again, insn_again, parts_of_line}
 use Rattle.disasm.proofs.instruction_reading.instruction_read.Goals as goal
 
 pub returns : goal.returns

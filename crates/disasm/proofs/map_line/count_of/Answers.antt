@@ -1,6 +1,6 @@
 use Rattle.std.proofs.Common.{arith}
 use Rattle.std.proofs.lemmas.Fmt.{parse-decimal}
-use Rattle.disasm.proofs.Numbers.{ok_same, ok_not_err}
+use Rattle.disasm.proofs.shared.Numbers.{ok_same, ok_not_err}
 use Rattle.disasm.proofs.map_line.count_of.Goals as goal
 
 pub returns-in-Ok : goal.returns-in-Ok

@@ -1,7 +1,7 @@
 use Rattle.std.proofs.Common.{◌++◌, refl}
 use Rattle.std.specs.Fmt.{decimal}
 use Rattle.disasm.specs.AssemblyText.{map_line_of, kind_name, after_space}
-use Rattle.disasm.proofs.Texts.{kind_lacks, decimal_lacks}
+use Rattle.disasm.proofs.shared.Texts.{kind_lacks, decimal_lacks}
 use Rattle.disasm.proofs.map_line.map_read.Goals as goal
 
 pub returns : goal.returns

@@ -1,4 +1,4 @@
-use Rattle.disasm.proofs.Numbers.{hex_read, ok_same, ok_not_err}
+use Rattle.disasm.proofs.shared.Numbers.{hex_read, ok_same, ok_not_err}
 use Rattle.disasm.proofs.reading.hex_of.Goals as goal
 
 pub returns-in-Ok : goal.returns-in-Ok

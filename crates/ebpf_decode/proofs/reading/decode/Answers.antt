@@ -1,7 +1,7 @@
 use Rattle.std.proofs.Common.{sym, ◌∙◌, arith}
 use Rattle.std.proofs.lemmas.Result.{err_from_is_err_and}
 use Rattle.ebpf_decode.specs.ImageContents.{Contents}
-use Rattle.ebpf_decode.proofs.ImageLaws.{image_takes, read_again, only_memory}
+use Rattle.ebpf_decode.proofs.shared.ImageLaws.{image_takes, read_again, only_memory}
 use Rattle.ebpf_decode.proofs.reading.decode.Goals as goal
 
 pub returns-in_err-version-clause-only : goal.returns-in_err-version-clause-only

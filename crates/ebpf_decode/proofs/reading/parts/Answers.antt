@@ -1,7 +1,7 @@
 use Rattle.std.proofs.Common.{◌≤◌, ◌-◌, sym, ◌∙◌, length, drop, arith}
 use Rattle.std.proofs.lemmas.List.{length-drop, take_all}
 use Rattle.std.proofs.lemmas.Result.{err_from_is_err_and}
-use Rattle.ebpf_decode.proofs.ImageLaws.{asks_for_code}
+use Rattle.ebpf_decode.proofs.shared.ImageLaws.{asks_for_code}
 use Rattle.ebpf_decode.proofs.reading.parts.Goals as goal
 
 pub returns-in_err-code-clause-asked : goal.returns-in_err-code-clause-asked

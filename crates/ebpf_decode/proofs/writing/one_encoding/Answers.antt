@@ -1,6 +1,6 @@
 use Rattle.std.proofs.Common.{ap}
 use Rattle.ebpf_decode.specs.ImageFormat.{fault_of}
-use Rattle.ebpf_decode.proofs.ImageLaws as laws
+use Rattle.ebpf_decode.proofs.shared.ImageLaws as laws
 use Rattle.ebpf_decode.proofs.writing.one_encoding.Goals as goal
 
 pub returns-clause-one_encoding : goal.returns-clause-one_encoding

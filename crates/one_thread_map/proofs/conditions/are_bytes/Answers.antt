@@ -1,6 +1,6 @@
 use Rattle.std.proofs.Common.{◌<◌, arith, sym}
 use Rattle.std.proofs.lemmas.List.Elements.{All-from_get_or}
-use Rattle.semantics.proofs.ConditionLemmas.{bytes_test}
+use Rattle.semantics.proofs.shared.ConditionLemmas.{bytes_test}
 use Rattle.one_thread_map.proofs.conditions.are_bytes.Goals as goal
 
 pub returns : goal.returns

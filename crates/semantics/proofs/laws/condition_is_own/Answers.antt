@@ -1,4 +1,4 @@
-use Rattle.semantics.proofs.CallerLemmas as callers
+use Rattle.semantics.proofs.shared.CallerLemmas as callers
 use Rattle.semantics.proofs.laws.condition_is_own.Goals as goal
 
 pub returns : goal.returns

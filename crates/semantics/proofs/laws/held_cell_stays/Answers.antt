@@ -1,5 +1,5 @@
-use Rattle.semantics.proofs.HoldingLemmas.{held_stays}
-use Rattle.semantics.proofs.KeptLemmas.{held_is_kept_of_plan}
+use Rattle.semantics.proofs.shared.HoldingLemmas.{held_stays}
+use Rattle.semantics.proofs.shared.KeptLemmas.{held_is_kept_of_plan}
 use Rattle.semantics.proofs.laws.held_cell_stays.Goals as goal
 
 pub returns-clause-stays : goal.returns-clause-stays

@@ -1,4 +1,4 @@
-use Rattle.semantics.proofs.LawLemmas.{history_grows, next_cell}
+use Rattle.semantics.proofs.shared.LawLemmas.{history_grows, next_cell}
 use Rattle.semantics.proofs.laws.ids_are_new.Goals as goal
 
 pub returns-clause-stay : goal.returns-clause-stay

@@ -1,4 +1,4 @@
-use Rattle.semantics.proofs.IdLemmas.{ids_count, ids_are_few}
+use Rattle.semantics.proofs.shared.IdLemmas.{ids_count, ids_are_few}
 use Rattle.semantics.proofs.laws.ids_count_creations.Goals as goal
 
 pub returns-clause-count : goal.returns-clause-count

@@ -1,4 +1,4 @@
-use Rattle.semantics.proofs.UseLemmas.{were_used, keys_differ, uses_differ}
+use Rattle.semantics.proofs.shared.UseLemmas.{were_used, keys_differ, uses_differ}
 use Rattle.semantics.proofs.laws.last_uses_differ.Goals as goal
 
 pub returns-clause-used : goal.returns-clause-used

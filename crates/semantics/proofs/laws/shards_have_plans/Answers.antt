@@ -1,4 +1,4 @@
-use Rattle.semantics.proofs.PlanLemmas as plans
+use Rattle.semantics.proofs.shared.PlanLemmas as plans
 use Rattle.semantics.proofs.laws.shards_have_plans.Goals as goal
 
 pub returns : goal.returns

@@ -1,6 +1,6 @@
 use Rattle.std.proofs.Common.{◌≡◌, suc, ◌+◌, ◌*◌, ◌^◌, ◌<◌, length, ◌-◌, arith}
 use Rattle.std.proofs.Math.Facts.{Fits-of_lt, Fits-lt-pow}
-use Rattle.semantics.proofs.LittleEndianLemmas.{below-more, fits-more, number_of_bytes-step}
+use Rattle.semantics.proofs.shared.LittleEndianLemmas.{below-more, fits-more, number_of_bytes-step}
 use Rattle.semantics.proofs.little_endian.number_by_byte.Goals as goal
 
 pub overflow_mul-number : goal.overflow_mul-number

@@ -5,7 +5,7 @@ use Rattle.semantics.specs.ShardPlan.{AreOptions}
 use Rattle.semantics.specs.MachineState.{initial_state}
 use Rattle.journals.specs.JournalsView.{AreImageMaps}
 use Rattle.machine.specs.Running.{program_of}
-use Rattle.shared_shards.proofs.ImageMaps.{image_maps}
+use Rattle.shared_shards.proofs.shared.ImageMaps.{image_maps}
 use Rattle.single_run.specs.Updates.{AreUpdated}
 use Rattle.single_run.proofs.OpeningLemmas.{outside_updated}
 use Rattle.single_run.proofs.AloneLemmas.{run_alone_by, stop_alone_by, count_kept}

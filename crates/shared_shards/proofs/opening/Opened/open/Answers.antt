@@ -1,7 +1,7 @@
 use Rattle.std.proofs.Common.{List, refl, sym, ◌∙◌, subst}
 use Rattle.shard_core.specs.JournaledShard.{JournaledShard}
 use Rattle.shards.specs.Opening.{AreOpened}
-use Rattle.shared_shards.proofs.ImageMaps.{image_maps}
+use Rattle.shared_shards.proofs.shared.ImageMaps.{image_maps}
 use Rattle.shared_shards.proofs.Openings.{unused_when_opened, is_opening}
 use Rattle.shared_shards.proofs.opening.Opened.open.Goals as goal
 

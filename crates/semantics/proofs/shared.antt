@@ -1,0 +1,12 @@
+-- Lemmas that other crates cite.
+pub mod ConditionLemmas
+pub mod PlanLemmas
+pub mod KeptLemmas
+pub mod HoldingLemmas
+pub mod LittleEndianLemmas
+pub mod LawLemmas
+pub mod ImageSizes
+pub mod IdLemmas
+pub mod FirstElement
+pub mod UseLemmas
+pub mod CallerLemmas
