@@ -4,8 +4,6 @@
 mod cuts;
 mod interval;
 mod rows;
-#[cfg(test)]
-mod table_tests;
 mod transfers;
 
 pub use cuts::refine;

@@ -1,5 +1,7 @@
-//! Tests of the commands of `xlb`, over files in memory.
+//! Tests of the commands of `xlb` over files in memory, and of such files.
 #![tactic(auto)]
 
 #[cfg(test)]
 mod commands;
+#[cfg(test)]
+mod files_in_memory;

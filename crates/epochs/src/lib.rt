@@ -5,6 +5,3 @@ pub mod book;
 pub mod counts;
 
 pub use book::EpochBook;
-
-#[cfg(test)]
-mod tests;

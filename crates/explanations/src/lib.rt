@@ -4,8 +4,6 @@
 mod explanation;
 mod refusal;
 mod table;
-#[cfg(test)]
-mod tests;
 
 pub use explanation::Explanation;
 pub use refusal::refusal_text;

@@ -1,4 +1,4 @@
-//! Tests of the public calls of `wire`, `journal_files`, `conntrack`, `control` and `workers`.
+//! Tests of the public calls of `wire`, `journal_files`, `maglev`, `ipip`, `conntrack`, `control`, `rx_queues` and `workers`.
 #![tactic(auto)]
 
 #[cfg(test)]
@@ -12,4 +12,10 @@ mod frame_rows;
 #[cfg(test)]
 mod journals_in_files;
 #[cfg(test)]
+mod lookup_tables;
+#[cfg(test)]
+mod receive_queues;
+#[cfg(test)]
 mod steered_frames;
+#[cfg(test)]
+mod tunnels;

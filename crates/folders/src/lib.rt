@@ -4,8 +4,6 @@
 mod files;
 mod folder;
 mod memory_folder;
-#[cfg(test)]
-mod tests;
 
 pub use files::FileFolder;
 pub use folder::{Folder, FolderFault, Front};

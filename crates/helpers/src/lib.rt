@@ -3,7 +3,5 @@
 
 pub mod arguments;
 mod head;
-#[cfg(test)]
-mod table_tests;
 
 pub use head::adjust_head;

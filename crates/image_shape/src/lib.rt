@@ -12,6 +12,3 @@ pub use edges::falls_through;
 pub use fault::ShapeFault;
 pub use laws::{edges_go_up, one_answer, runs_follow_edges};
 pub use shape::check_shape;
-
-#[cfg(test)]
-mod tests;

@@ -6,8 +6,6 @@ mod ends;
 mod fault;
 mod header;
 mod packet;
-#[cfg(test)]
-mod table_tests;
 
 pub use encapsulation::encapsulate;
 pub use ends::Tunnel;

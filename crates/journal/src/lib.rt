@@ -9,8 +9,6 @@ mod append;
 mod journal_of_shard;
 mod kept_bytes;
 mod row;
-#[cfg(test)]
-mod tests;
 
 pub use append::{AtomicChange, CellRange};
 pub use journal_of_shard::Journal;

@@ -6,8 +6,6 @@ mod call_row;
 mod entry_list;
 mod options;
 mod shard_journal;
-#[cfg(test)]
-mod tests;
 
 pub use all::Journals;
 pub use entry_list::EntryList;

@@ -7,6 +7,3 @@ pub mod shard;
 
 pub use recency::Recency;
 pub use shard::LruShard;
-
-#[cfg(test)]
-mod tests;

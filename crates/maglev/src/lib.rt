@@ -7,8 +7,6 @@ mod population;
 mod preference;
 mod repeats;
 mod ring;
-#[cfg(test)]
-mod tests;
 
 pub use backend::Backend;
 pub use fault::RingFault;

@@ -7,6 +7,3 @@ pub mod table;
 
 pub use retired::Retired;
 pub use table::Cells;
-
-#[cfg(test)]
-mod tests;

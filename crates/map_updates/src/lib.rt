@@ -3,8 +3,6 @@
 
 mod misfit;
 mod reading;
-#[cfg(test)]
-mod tests;
 mod update;
 
 pub use misfit::{Misfit, first_misfit, misfit_of};

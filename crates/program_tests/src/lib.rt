@@ -1,8 +1,10 @@
-//! Tests of the public calls of `isa`, `ebpf_decode`, `abstract_state` and `verifier`.
+//! Tests of the public calls of `isa`, `ebpf_decode`, `abstract_scalar`, `abstract_state`, `image_shape` and `verifier`.
 #![tactic(auto)]
 
 #[cfg(test)]
 mod images;
+#[cfg(test)]
+mod interval_rows;
 #[cfg(test)]
 mod judged_in_version_two;
 #[cfg(test)]
@@ -11,5 +13,7 @@ mod judged_programs;
 mod map_values;
 #[cfg(test)]
 mod operation_rows;
+#[cfg(test)]
+mod program_structure;
 #[cfg(test)]
 mod straight_code;

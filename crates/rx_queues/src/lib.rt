@@ -10,8 +10,6 @@ mod passes;
 mod patience;
 mod queues;
 mod rule;
-#[cfg(test)]
-mod tests;
 
 pub use flow_spread::spread;
 pub use job::Job;

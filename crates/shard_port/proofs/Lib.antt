@@ -3,7 +3,6 @@ pub mod ByteLemmas
 pub mod GivenLemmas
 pub mod SessionLemmas
 pub mod PlainLaws
-pub mod TestLemmas
 pub mod PassMetLemmas
 pub mod PassGivenLemmas
 pub mod PassSessionLemmas

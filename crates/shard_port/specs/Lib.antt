@@ -3,7 +3,6 @@ pub mod PortView
 pub mod PortLaws
 pub mod PlainPorts
 pub mod Sessions
-pub mod ExampleMaps
 pub mod PassPorts
 pub mod PassPortLaws
 pub mod PassSessions

@@ -4,8 +4,6 @@
 pub mod laws;
 pub mod plain;
 pub mod port;
-#[cfg(test)]
-mod tests;
 
 pub use map_port::MapPort;
 pub use plain::PlainPort;

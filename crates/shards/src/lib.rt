@@ -4,8 +4,6 @@
 mod fault;
 mod opening;
 pub mod shards;
-#[cfg(test)]
-mod tests;
 
 pub use fault::OpenFault;
 pub use shard_core::{

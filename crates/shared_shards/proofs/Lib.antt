@@ -5,7 +5,6 @@ pub mod Settling
 pub mod Conditions
 pub mod Dealing
 pub mod EntryLemmas
-pub mod FiveEntries
 pub mod Flags
 pub mod HeldLemmas
 pub mod Moves

@@ -9,5 +9,4 @@ pub mod Passes
 pub mod Asked
 pub mod SharedMaps
 pub mod NewShards
-pub mod TwoWorkers
 pub mod FaultNumber

@@ -17,8 +17,6 @@ mod rule;
 mod seats;
 mod sharing;
 mod stopped;
-#[cfg(test)]
-mod tests;
 mod waiting;
 
 pub use asks::{

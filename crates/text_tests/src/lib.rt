@@ -1,11 +1,15 @@
-//! Tests of the public calls of `disasm`, `source_form`, `reasons` and `command_line`.
+//! Tests of the public calls of `disasm`, `source_form`, `reasons`, `map_updates`, `explanations` and `command_line`.
 #![tactic(auto)]
 
 #[cfg(test)]
 mod exact_texts;
 #[cfg(test)]
+mod explained_faults;
+#[cfg(test)]
 mod sources;
 #[cfg(test)]
 mod told_reasons;
+#[cfg(test)]
+mod updates_in_words;
 #[cfg(test)]
 mod words;

@@ -1,0 +1,221 @@
+//! What no clause says: rows worked out elsewhere, and that jobs come through.
+
+ghost use Rattle.std.specs.Prelude.{◌≡◌, ◌<◌, ◌+◌, length, IfSome};
+ghost use Rattle.rx_queues.specs.Passes.{HasQueue, workers_of, queue_of, IsPutPassOf, IsTakePassOf, TakeAtTheirPlaces};
+
+use rx_queues::{Caller, Job, OpenFault, PutPass, Queues, TakePass, spread};
+use std::alloc::Global;
+use std::sync::Wait;
+use std::thread;
+use std::thread::Threads;
+use wire::{FlowKey, Ipv4Address, Transport};
+
+fn flow(source_port: u16, destination_port: u16, transport: Transport) -> FlowKey {
+    FlowKey {
+        source: Ipv4Address([198, 51, 100, 7]),
+        destination: Ipv4Address([203, 0, 113, 1]),
+        source_port,
+        destination_port,
+        transport,
+    }
+}
+
+// The workers stand as a separate program computed them from the hash of the sixteen bytes.
+#[rattlefmt::skip]
+const SPREADS: [(&str, u16, u16, Transport, usize, usize); 14] = [
+    ("first of two flows over two workers",  40000, 80,  Transport::Tcp, 2, 0),
+    ("second of two flows over two workers", 40001, 80,  Transport::Tcp, 2, 1),
+    ("another destination port",             40000, 443, Transport::Tcp, 3, 1),
+    ("another protocol",                     40000, 80,  Transport::Udp, 2, 1),
+    ("one worker takes all",                 40001, 80,  Transport::Tcp, 1, 0),
+    ("seven workers",                        40000, 80,  Transport::Tcp, 7, 5),
+    ("eight flows, each another worker: 1",  40192, 80,  Transport::Tcp, 8, 5),
+    ("eight flows, each another worker: 2",  40193, 80,  Transport::Tcp, 8, 6),
+    ("eight flows, each another worker: 3",  40194, 80,  Transport::Tcp, 8, 7),
+    ("eight flows, each another worker: 4",  40195, 80,  Transport::Tcp, 8, 0),
+    ("eight flows, each another worker: 5",  40196, 80,  Transport::Tcp, 8, 1),
+    ("eight flows, each another worker: 6",  40197, 80,  Transport::Tcp, 8, 2),
+    ("eight flows, each another worker: 7",  40198, 80,  Transport::Tcp, 8, 3),
+    ("eight flows, each another worker: 8",  40199, 80,  Transport::Tcp, 8, 4),
+];
+
+#[test]
+fn flows_spread_over_workers(rt: HostRuntime) {
+    for (name, source_port, destination_port, transport, workers, want) in SPREADS {
+        let key = flow(source_port, destination_port, transport);
+        prove!(workers > 0);
+        assert_eq!(rt; spread(Some(&key), workers), want, "{name}");
+    }
+    assert_eq!(rt; spread(None, 8), 0, "no flow");
+}
+
+#[test]
+fn one_to_eight_workers_have_queues(rt: HostRuntime) {
+    for (workers, want) in [(0, 51), (1, 0), (8, 0), (9, 51)] {
+        let fault = match Queues::open(rt.alloc(), workers) {
+            Ok(_) => 0,
+            Err(fault) => fault.number(),
+        };
+        assert_eq!(rt; fault, want, "{workers} workers");
+    }
+}
+
+// The last of the rights to take.
+fn last_of(queues: &Queues, takes: &mut Vec<TakePass>) -> Option<TakePass>
+    requires { TakeAtTheirPlaces queues.now takes.old.items }
+    ensures others { TakeAtTheirPlaces queues.now takes.new.items }
+    ensures last { IfSome result (λ take. IsTakePassOf queues.now take × (length takes.old.items ≡ length takes.new.items + 1)) }
+{
+    takes.pop()
+}
+
+// The caller whose queue stands at a place.
+fn caller_at(workers: usize, place: usize) -> Caller
+    requires few { workers < 9 }
+    requires there { place < workers + 2 }
+    ensures queue { HasQueue workers result }
+    ensures place { queue_of workers result ≡ place }
+{
+    if place < workers {
+        Caller::Worker {
+            number: place as u8,
+        }
+    } else if place == workers {
+        Caller::Controller
+    } else {
+        Caller::Reclaimer
+    }
+}
+
+// Puts frames from 0 on, and the end.
+fn put_frames<R: Wait>(
+    rt: &R,
+    queues: &Queues,
+    who: Caller,
+    mut pass: PutPass,
+    count: usize,
+) -> PutPass
+    requires queue { HasQueue (workers_of queues.now) who }
+    requires pass { IsPutPassOf queues.now pass }
+    ensures { IsPutPassOf queues.now result }
+{
+    'puts: for number in 0..count {
+        queues.put_waiting(rt, who, Job::Frame(number), &mut pass);
+    }
+    queues.put_waiting(rt, who, Job::End, &mut pass);
+    pass
+}
+
+// Takes jobs up to the end, and gives how many frames came in order from 0 on.
+fn take_frames<R: Wait>(rt: &R, queues: &Queues, mut pass: TakePass) -> (TakePass, usize)
+    requires { IsTakePassOf queues.now pass }
+    ensures { IsTakePassOf queues.now result.0 }
+{
+    let mut next = 0;
+    'takes: for _ in rt.forever() {
+        match queues.take_waiting(rt, &mut pass) {
+            Job::Frame(number) if number == next && number < 1_000_000 => next += 1,
+            _ => return (pass, next),
+        }
+    }
+    unreachable!()
+}
+
+// Sends frames through one queue from one thread to another.
+fn pass_through<R: Threads + Wait + Sync>(
+    rt: &R,
+    queues: &Queues,
+    who: Caller,
+    put: PutPass,
+    take: TakePass,
+    count: usize,
+) -> (PutPass, usize)
+    requires queue { HasQueue (workers_of queues.now) who }
+    requires put { IsPutPassOf queues.now put }
+    requires take { IsTakePassOf queues.now take }
+    ensures { IsPutPassOf queues.now result.0 }
+{
+    let (mut put, (take, came)) = thread::join(
+        rt,
+        move ||
+            requires queue { HasQueue (workers_of queues.now) who }
+            requires put { IsPutPassOf queues.now put }
+            ensures { IsPutPassOf queues.entry.now result }
+        { put_frames(rt, queues, who, put, count) },
+        move ||
+            requires { IsTakePassOf queues.now take }
+            ensures { IsTakePassOf queues.entry.now result.0 }
+        { take_frames(rt, queues, take) },
+    );
+    queues.settle(&mut put, take);
+    (put, came)
+}
+
+#[test]
+fn a_thousand_frames_go_through_each_queue(rt: HostRuntime) -> Result<(), OpenFault> {
+    let (queues, mut put, mut takes) = Queues::open(rt.alloc(), 8)?;
+    'queues: while let Some(take) = last_of(&queues, &mut takes) {
+        let place = takes.len();
+        let (back, came) = pass_through(&rt, &queues, caller_at(8, place), put, take, 1000);
+        put = back;
+        assert_eq!(&rt; came, 1000, "queue {place}");
+    }
+    Ok(())
+}
+
+// How many of the commands, numbered from 0 on, are put before one comes back.
+fn put_commands<R: Wait>(
+    rt: &R,
+    queues: &Queues,
+    who: Caller,
+    pass: &mut PutPass,
+    count: usize,
+) -> usize
+    requires queue { HasQueue (workers_of queues.now) who }
+    requires pass { IsPutPassOf queues.now pass.old }
+    ensures { IsPutPassOf queues.now pass.new }
+{
+    'puts: for number in 0..count {
+        if queues.put(rt, who, Job::Command(number), pass).is_err() {
+            return number;
+        }
+    }
+    count
+}
+
+// How many commands, numbered from this one on, are taken before another job or none.
+fn take_commands<R: Wait>(
+    rt: &R,
+    queues: &Queues,
+    pass: &mut TakePass,
+    first: usize,
+    count: usize,
+) -> usize
+    requires { IsTakePassOf queues.now pass.old }
+    ensures { IsTakePassOf queues.now pass.new }
+{
+    'takes: for number in 0..count {
+        match queues.take(rt, pass) {
+            Some(Job::Command(taken)) if taken >= first && taken - first == number => {}
+            _ => return number,
+        }
+    }
+    count
+}
+
+#[test]
+fn a_full_queue_gives_the_job_back(rt: HostRuntime) -> Result<(), OpenFault> {
+    let (queues, mut put, mut takes) = Queues::open(rt.alloc(), 2)?;
+    'queues: while let Some(mut take) = last_of(&queues, &mut takes) {
+        let who = caller_at(2, takes.len());
+        assert_eq!(&rt; put_commands(&rt, &queues, who, &mut put, 100), 64);
+        assert_eq!(&rt; take_commands(&rt, &queues, &mut take, 0, 1), 1);
+        assert_eq!(&rt; queues.put(&rt, who, Job::Note, &mut put), Ok(()));
+        assert_eq!(&rt; queues.put(&rt, who, Job::End, &mut put), Err(Job::End));
+        assert_eq!(&rt; take_commands(&rt, &queues, &mut take, 1, 100), 63);
+        assert_eq!(&rt; queues.take(&rt, &mut take), None);
+        assert_eq!(&rt; put_commands(&rt, &queues, who, &mut put, 1), 1);
+        assert_eq!(&rt; queues.take(&rt, &mut take), Some(Job::Command(0)));
+    }
+    Ok(())
+}

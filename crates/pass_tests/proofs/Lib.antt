@@ -1,0 +1,2 @@
+pub mod FiveEntries
+pub mod TestLemmas

@@ -1,0 +1,7 @@
+//! Tests of the public calls of `shared_shards` and `shard_port`.
+#![tactic(auto)]
+
+#[cfg(test)]
+mod port_rows;
+#[cfg(test)]
+mod shared_passes;

@@ -1,0 +1,296 @@
+//! What no clause says: that shards are opened and passes dealt with memory, and that calls by threads return.
+
+mod holding;
+mod rows;
+mod two_workers;
+
+ghost use Rattle.std.specs.Prelude.{IfOk};
+ghost use Rattle.shared_shards.specs.NewShards.{IsNamed};
+
+use ebpf_decode::{Image, Insn, MapDef, MapKind, Version};
+use journals::Journals;
+use semantics::{Call, Caller, CellRef, Key, Options, Reply};
+use shared_shards::{Naming, Opened, Pass, PassFault, Shards};
+use std::alloc::Global;
+use std::marker::Brand;
+use std::process::Abort;
+use std::sync::Wait;
+use std::test::Fail;
+use std::thread::{Threads, join};
+
+/// An image of two arrays.
+fn two_maps(alloc: Global) -> Result<Image, Fail> {
+    let mut maps = Vec::new(alloc);
+    for max_entries in [4, 4096] {
+        maps.push(MapDef {
+            kind: MapKind::Array,
+            key_size: 4,
+            value_size: 8,
+            max_entries,
+        })?;
+    }
+    let mut code = Vec::new(alloc);
+    code.push(Insn::Exit)?;
+    Ok(Image::of(Version::V1, maps, code)?)
+}
+
+fn opened(alloc: Global, journal: u32) -> Result<Opened, Fail> {
+    let options = Options {
+        workers: 2,
+        shards: 1,
+        journal,
+    };
+    Ok(Opened::open(alloc, &two_maps(alloc)?, options)?)
+}
+
+/// A call of the second shard.
+#[derive(Clone, Copy)]
+enum Step {
+    Enter,
+    Leave,
+    Look { index: u32 },
+    Load { id: u64 },
+}
+
+impl Step {
+    fn call(self) -> Call {
+        match self {
+            Step::Enter => Call::Enter { shard: 1 },
+            Step::Leave => Call::Leave { shard: 1 },
+            Step::Look { index } => Call::Lookup {
+                shard: 1,
+                key: Key::of(&index.to_le_bytes()).unwrap_or(Key::empty()),
+            },
+            Step::Load { id } => Call::Load {
+                cell: CellRef { shard: 1, id },
+                offset: 0,
+                width: 8,
+            },
+        }
+    }
+}
+
+/// What the call replies; None where the caller may not make it, or the journal is full.
+fn attempt<B: Naming, R: Abort + Wait>(
+    rt: &R,
+    shards: &Shards<B>,
+    pass: &mut Pass<B>,
+    step: Step,
+) -> Option<Reply> {
+    let call = step.call();
+    assert!(rt; (call.shard() as usize) < shards.count());
+    if shards.may_call(rt, pass, &call) {
+        shards.call(rt, pass, &call).ok()
+    } else {
+        None
+    }
+}
+
+/// What each call replies, and whether its caller is inside afterwards.
+#[rattlefmt::skip]
+const IN_TURN: [(&str, bool, Step, Option<Reply>, bool); 13] = [
+    ("nobody leaves who is outside",       true,  Step::Leave,                None, false),
+    ("a worker enters",                    true,  Step::Enter,                Some(Reply::Entered), true),
+    ("it enters once",                     true,  Step::Enter,                None, true),
+    ("it loads nothing that it has not",   true,  Step::Load { id: 4095 },    None, true),
+    ("it finds the last index",            true,  Step::Look { index: 4095 }, Some(Reply::Cell { cell: CellRef { shard: 1, id: 4095 } }), true),
+    ("it loads what it found",             true,  Step::Load { id: 4095 },    Some(Reply::Word { value: 0 }), true),
+    ("no index past the end",              true,  Step::Look { index: 4096 }, Some(Reply::Null), true),
+    ("another enters",                     false, Step::Enter,                Some(Reply::Entered), true),
+    ("the other has not found it",         false, Step::Load { id: 4095 },    None, true),
+    ("the first still has it",             true,  Step::Load { id: 4095 },    Some(Reply::Word { value: 0 }), true),
+    ("the first leaves",                   true,  Step::Leave,                Some(Reply::Left), false),
+    ("and lets its cell go",               true,  Step::Load { id: 4095 },    None, false),
+    ("the other leaves",                   false, Step::Leave,                Some(Reply::Left), false),
+];
+
+/// How many entries the shard's journal has.
+fn length_of(journals: &Journals, number: usize) -> usize {
+    if number < journals.count() {
+        journals.journal(number).len()
+    } else {
+        0
+    }
+}
+
+fn in_turn<B: Naming, R: Abort + Wait>(rt: &R, alloc: Global, opened: Opened) -> Result<(), Fail>
+    requires { IsNamed B.count B.table B.plan opened }
+{
+    let (shards, mut dealer) = opened.share::<B>(alloc)?;
+    let mut first = dealer.pass(alloc, Caller::Worker { number: 0 })?;
+    let mut second = dealer.pass(alloc, Caller::Worker { number: 1 })?;
+    assert!(rt; 1 < shards.count());
+    for (name, is_first, step, want, inside) in IN_TURN {
+        let (got, is_inside) = if is_first {
+            let got = attempt(rt, &shards, &mut first, step);
+            (got, first.is_inside(1))
+        } else {
+            let got = attempt(rt, &shards, &mut second, step);
+            (got, second.is_inside(1))
+        };
+        assert_eq!(rt; got, want, "{name}");
+        assert_eq!(rt; is_inside, inside, "{name}");
+    }
+    let mut passes = Vec::with_capacity(alloc, 2)?;
+    passes.push(first)?;
+    passes.push(second)?;
+    let journals = shards.close(rt, passes);
+    assert_eq!(rt;
+        (0..journals.count())
+            .map(|number| length_of(&journals, number))
+            .eq([0, 8]),
+        true
+    );
+    Ok(())
+}
+
+#[test]
+fn two_passes_of_one_shard(rt: HostRuntime) -> Result<(), Fail> {
+    let opened = opened(rt.alloc(), 16)?;
+    in_turn::<Brand, HostRuntime>(&rt, rt.alloc(), opened)
+}
+
+#[rattlefmt::skip]
+const DEALT: [(&str, Caller, Option<PassFault>); 7] = [
+    ("the controller",        Caller::Controller,           None),
+    ("the last worker",       Caller::Worker { number: 1 }, None),
+    ("the controller again",  Caller::Controller,           Some(PassFault::PassTaken)),
+    ("one worker too many",   Caller::Worker { number: 2 }, Some(PassFault::BadOptions)),
+    ("the reclaimer",         Caller::Reclaimer,            None),
+    ("the first worker",      Caller::Worker { number: 0 }, None),
+    ("the last worker again", Caller::Worker { number: 1 }, Some(PassFault::PassTaken)),
+];
+
+fn dealt<B: Naming, R: Abort + Wait>(rt: &R, alloc: Global, opened: Opened) -> Result<(), Fail>
+    requires { IsNamed B.count B.table B.plan opened }
+{
+    let (_shards, mut dealer) = opened.share::<B>(alloc)?;
+    for (name, who, want) in DEALT {
+        assert_eq!(rt; dealer.pass(alloc, who).err(), want, "{name}");
+    }
+    Ok(())
+}
+
+#[test]
+fn passes_that_are_dealt(rt: HostRuntime) -> Result<(), Fail> {
+    let opened = opened(rt.alloc(), 65536)?;
+    dealt::<Brand, HostRuntime>(&rt, rt.alloc(), opened)
+}
+
+const RUNS: u32 = 100;
+
+/// Makes so many runs of three calls, and says how many calls were served.
+fn runs<B: Naming, R: Abort + Wait>(rt: &R, shards: &Shards<B>, mut pass: Pass<B>) -> u32 {
+    let mut served: u32 = 0;
+    for _ in 0..RUNS {
+        for step in [Step::Enter, Step::Look { index: 7 }, Step::Leave] {
+            if attempt(rt, shards, &mut pass, step).is_some() {
+                served = served.wrapping_add(1);
+            }
+        }
+    }
+    served
+}
+
+fn by_two_threads<B: Naming + Send + Sync, R: Threads + Abort + Wait + Sync>(
+    rt: &R,
+    alloc: Global,
+    opened: Opened,
+) -> Result<(), Fail>
+    requires { IsNamed B.count B.table B.plan opened }
+{
+    let (shards, mut dealer) = opened.share::<B>(alloc)?;
+    let first = dealer.pass(alloc, Caller::Worker { number: 0 })?;
+    let second = dealer.pass(alloc, Caller::Worker { number: 1 })?;
+    let (one, two) = join(
+        rt,
+        || runs(rt, &shards, first),
+        || runs(rt, &shards, second),
+    );
+    assert_eq!(rt; one, 300);
+    assert_eq!(rt; two, 300);
+    Ok(())
+}
+
+/// The journal has room for the calls of both, and for no entry that is made twice.
+#[test]
+fn two_threads_on_one_shard(rt: HostRuntime) -> Result<(), Fail> {
+    let opened = opened(rt.alloc(), 602)?;
+    by_two_threads::<Brand, HostRuntime>(&rt, rt.alloc(), opened)
+}
+
+fn held<B: Naming, R: Abort + Wait>(rt: &R, alloc: Global, opened: Opened) -> Result<(), Fail>
+    requires { IsNamed B.count B.table B.plan opened }
+{
+    let (shards, mut dealer) = opened.share::<B>(alloc)?;
+    let mut pass = dealer.pass(alloc, Caller::Worker { number: 0 })?;
+    assert!(rt; 1 < shards.count());
+    let got = shards.hold(rt, 0, || attempt(rt, &shards, &mut pass, Step::Enter));
+    assert_eq!(rt; got, Some(Reply::Entered));
+    Ok(())
+}
+
+/// While one shard's lock is held, a call on the other is answered: each has a lock of its own, and what is to run under it runs.
+#[test]
+fn a_call_while_another_shard_is_held(rt: HostRuntime) -> Result<(), Fail> {
+    let opened = opened(rt.alloc(), 16)?;
+    held::<Brand, HostRuntime>(&rt, rt.alloc(), opened)
+}
+
+/// One run: Enter, so many Lookups, Leave. Says how many of the calls were served.
+fn run_of<B: Naming, R: Abort + Wait>(
+    rt: &R,
+    shards: &Shards<B>,
+    pass: &mut Pass<B>,
+    lookups: u32,
+) -> u32 {
+    let mut served: u32 = 0;
+    if attempt(rt, shards, pass, Step::Enter).is_some() {
+        served = served.wrapping_add(1);
+    }
+    for _ in 0..lookups {
+        if attempt(rt, shards, pass, Step::Look { index: 7 }).is_some() {
+            served = served.wrapping_add(1);
+        }
+    }
+    if attempt(rt, shards, pass, Step::Leave).is_some() {
+        served = served.wrapping_add(1);
+    }
+    served
+}
+
+/// Makes runs with so many Lookups, one after another in a journal of 16, and compares how many of their calls are served.
+fn filled<B: Naming, R: Abort + Wait>(
+    rt: &R,
+    alloc: Global,
+    opened: Opened,
+    runs: &[(u32, u32)],
+) -> Result<(), Fail>
+    requires { IsNamed B.count B.table B.plan opened }
+{
+    let (shards, mut dealer) = opened.share::<B>(alloc)?;
+    let mut pass = dealer.pass(alloc, Caller::Worker { number: 0 })?;
+    for (lookups, want) in runs {
+        assert_eq!(rt; run_of(rt, &shards, &mut pass, *lookups), *want);
+    }
+    Ok(())
+}
+
+/// Of 15 Lookups after an Enter 14 are served, and then the Leave.
+#[test]
+fn a_run_keeps_room_for_its_leave(rt: HostRuntime) -> Result<(), Fail> {
+    let opened = opened(rt.alloc(), 16)?;
+    filled::<Brand, HostRuntime>(&rt, rt.alloc(), opened, &[(15, 16)])
+}
+
+#[test]
+fn an_enter_after_14_entries_is_served(rt: HostRuntime) -> Result<(), Fail> {
+    let opened = opened(rt.alloc(), 16)?;
+    filled::<Brand, HostRuntime>(&rt, rt.alloc(), opened, &[(12, 14), (0, 2)])
+}
+
+#[test]
+fn an_enter_after_15_entries_is_refused(rt: HostRuntime) -> Result<(), Fail> {
+    let opened = opened(rt.alloc(), 16)?;
+    filled::<Brand, HostRuntime>(&rt, rt.alloc(), opened, &[(13, 15), (0, 0)])
+}

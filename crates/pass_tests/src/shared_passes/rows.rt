@@ -1,0 +1,211 @@
+//! Calls of several callers on one shard, one after the other: what each replies, and what its pass says then.
+
+ghost use Rattle.shared_shards.specs.NewShards.{IsNamed};
+
+use super::length_of;
+use ebpf_decode::{Image, Insn, MapDef, MapKind, Version};
+use semantics::{Call, Caller, CellRef, Key, Options, Reply, Value};
+use shared_shards::{Naming, Opened, Pass, Shards};
+use std::alloc::Global;
+use std::marker::Brand;
+use std::process::Abort;
+use std::sync::Wait;
+use std::test::Fail;
+
+/// The shards of one map with keys of 4 bytes and values of 8.
+fn opened(alloc: Global, kind: MapKind, max_entries: u32) -> Result<Opened, Fail> {
+    let mut maps = Vec::new(alloc);
+    maps.push(MapDef {
+        kind,
+        key_size: 4,
+        value_size: 8,
+        max_entries,
+    })?;
+    let mut code = Vec::new(alloc);
+    code.push(Insn::Exit)?;
+    let image = Image::of(Version::V1, maps, code)?;
+    let options = Options {
+        workers: 2,
+        shards: 1,
+        journal: 1_048_576,
+    };
+    Ok(Opened::open(alloc, &image, options)?)
+}
+
+/// A call of the shard.
+#[derive(Clone, Copy)]
+enum Asked {
+    Nothing,
+    Enter,
+    Leave,
+    Look { key: u32 },
+    Load { id: u64 },
+    Update { key: u32, value: u64, flags: u64 },
+    Delete { key: u32 },
+    Reclaim,
+}
+
+fn key_of(key: u32) -> Key {
+    Key::of(&key.to_le_bytes()).unwrap_or(Key::empty())
+}
+
+fn value_of(value: u64) -> Value {
+    Value::of(&value.to_le_bytes()).unwrap_or(Value::empty())
+}
+
+impl Asked {
+    fn call(self) -> Option<Call> {
+        match self {
+            Asked::Nothing => None,
+            Asked::Enter => Some(Call::Enter { shard: 0 }),
+            Asked::Leave => Some(Call::Leave { shard: 0 }),
+            Asked::Look { key } => Some(Call::Lookup {
+                shard: 0,
+                key: key_of(key),
+            }),
+            Asked::Load { id } => Some(Call::Load {
+                cell: CellRef { shard: 0, id },
+                offset: 0,
+                width: 8,
+            }),
+            Asked::Update { key, value, flags } => Some(Call::Update {
+                shard: 0,
+                key: key_of(key),
+                value: value_of(value),
+                flags,
+            }),
+            Asked::Delete { key } => Some(Call::Delete {
+                shard: 0,
+                key: key_of(key),
+            }),
+            Asked::Reclaim => Some(Call::Reclaim { shard: 0 }),
+        }
+    }
+}
+
+/// What the call replies; None where there is none, its caller may not make it, or the journal is full.
+fn attempt<B: Naming, R: Abort + Wait>(
+    rt: &R,
+    shards: &Shards<B>,
+    pass: &mut Pass<B>,
+    asked: Asked,
+) -> Option<Reply> {
+    let call = asked.call()?;
+    assert!(rt; (call.shard() as usize) < shards.count());
+    if shards.may_call(rt, pass, &call) {
+        shards.call(rt, pass, &call).ok()
+    } else {
+        None
+    }
+}
+
+/// Who calls, by its place among the passes.
+const W0: usize = 0;
+
+const W1: usize = 1;
+
+const CONTROLLER: usize = 2;
+
+const RECLAIMER: usize = 3;
+
+const CALLERS: [Caller; 4] = [
+    Caller::Worker { number: 0 },
+    Caller::Worker { number: 1 },
+    Caller::Controller,
+    Caller::Reclaimer,
+];
+
+/// A call, what it replies, whether its caller is inside then, and whether it holds the first cell.
+type Row = (&'static str, usize, Asked, Option<Reply>, bool, bool);
+
+const FIRST: CellRef = CellRef { shard: 0, id: 0 };
+
+/// Makes the calls of all rows in turn, and says how many entries the journal then has.
+fn made<B: Naming, R: Abort + Wait>(
+    rt: &R,
+    alloc: Global,
+    opened: Opened,
+    rows: &[Row],
+) -> Result<usize, Fail>
+    requires { IsNamed B.count B.table B.plan opened }
+{
+    let (shards, mut dealer) = opened.share::<B>(alloc)?;
+    let mut passes = Vec::with_capacity(alloc, 4)?;
+    for who in CALLERS {
+        passes.push(dealer.pass(alloc, who)?)?;
+    }
+    assert!(rt; 0 < shards.count());
+    for (name, place, asked, want, inside, holds) in rows {
+        assert!(rt; *place < passes.len());
+        let got = attempt(rt, &shards, &mut passes[*place], *asked);
+        assert_eq!(rt; got, *want, "{name}");
+        assert_eq!(rt; passes[*place].is_inside(0), *inside, "{name}");
+        assert_eq!(rt; passes[*place].holds(&FIRST), *holds, "{name}");
+    }
+    let journals = shards.close(rt, passes);
+    Ok(length_of(&journals, 0))
+}
+
+#[rattlefmt::skip]
+const TWO_WORKERS: [Row; 13] = [
+    ("nobody holds anything at first",         W0,         Asked::Nothing,        None,                                false, false),
+    ("a worker enters",                        W0,         Asked::Enter,          Some(Reply::Entered),                true,  false),
+    ("it finds the first index",               W0,         Asked::Look { key: 0 }, Some(Reply::Cell { cell: FIRST }),  true,  true),
+    ("it loads what it found",                 W0,         Asked::Load { id: 0 }, Some(Reply::Word { value: 0 }),      true,  true),
+    ("the other enters, and holds nothing",    W1,         Asked::Enter,          Some(Reply::Entered),                true,  false),
+    ("the first still holds its cell",         W0,         Asked::Nothing,        None,                                true,  true),
+    ("it leaves, and holds nothing",           W0,         Asked::Leave,          Some(Reply::Left),                   false, false),
+    ("the other stays inside",                 W1,         Asked::Nothing,        None,                                true,  false),
+    ("the first enters again with no cell",    W0,         Asked::Enter,          Some(Reply::Entered),                true,  false),
+    ("it finds another index",                 W0,         Asked::Look { key: 1 }, Some(Reply::Cell { cell: CellRef { shard: 0, id: 1 } }), true, false),
+    ("and the first one after it",             W0,         Asked::Look { key: 0 }, Some(Reply::Cell { cell: FIRST }),  true,  true),
+    ("the controller holds nothing",           CONTROLLER, Asked::Nothing,        None,                                false, false),
+    ("nor does the reclaimer",                 RECLAIMER,  Asked::Nothing,        None,                                false, false),
+];
+
+/// The calls of the first seven rows make five entries, those after them three.
+#[test]
+fn a_worker_holds_what_it_found_until_it_leaves(rt: HostRuntime) -> Result<(), Fail> {
+    let opened = opened(rt.alloc(), MapKind::Array, 2)?;
+    let entries = made::<Brand, HostRuntime>(&rt, rt.alloc(), opened, &TWO_WORKERS)?;
+    assert_eq!(&rt; entries, 8);
+    Ok(())
+}
+
+#[rattlefmt::skip]
+const HELD_AND_DELETED: [Row; 9] = [
+    ("a key is set",                              CONTROLLER, Asked::Update { key: 10, value: 7, flags: 0 }, Some(Reply::Answer { code: 0 }),   false, false),
+    ("a worker enters",                           W0,         Asked::Enter,                                  Some(Reply::Entered),              true,  false),
+    ("and finds it",                              W0,         Asked::Look { key: 10 },                       Some(Reply::Cell { cell: FIRST }), true,  true),
+    ("it is deleted",                             CONTROLLER, Asked::Delete { key: 10 },                     Some(Reply::Answer { code: 0 }),   false, false),
+    ("its cell is not freed while it is held",    RECLAIMER,  Asked::Reclaim,                                Some(Reply::Freed { count: 0 }),   false, false),
+    ("another key gets another cell",             CONTROLLER, Asked::Update { key: 11, value: 9, flags: 0 }, Some(Reply::Answer { code: 0 }),   false, false),
+    ("the held one is as it was",                 W0,         Asked::Load { id: 0 },                         Some(Reply::Word { value: 7 }),    true,  true),
+    ("the worker leaves",                         W0,         Asked::Leave,                                  Some(Reply::Left),                 false, false),
+    ("now the cell is freed",                     RECLAIMER,  Asked::Reclaim,                                Some(Reply::Freed { count: 1 }),   false, false),
+];
+
+#[test]
+fn a_held_cell_outlives_its_key(rt: HostRuntime) -> Result<(), Fail> {
+    let opened = opened(rt.alloc(), MapKind::Hash, 1)?;
+    let entries = made::<Brand, HostRuntime>(&rt, rt.alloc(), opened, &HELD_AND_DELETED)?;
+    assert_eq!(&rt; entries, 9);
+    Ok(())
+}
+
+#[rattlefmt::skip]
+const OF_AN_ARRAY: [Row; 5] = [
+    ("an index past the end is too big",          CONTROLLER, Asked::Update { key: 2, value: 1, flags: 1 }, Some(Reply::Answer { code: -7 }),  false, false),
+    ("an index below it exists",                  CONTROLLER, Asked::Update { key: 0, value: 1, flags: 1 }, Some(Reply::Answer { code: -17 }), false, false),
+    ("flags that there are not",                  CONTROLLER, Asked::Update { key: 0, value: 1, flags: 3 }, Some(Reply::Answer { code: -22 }), false, false),
+    ("an index that exists is set",               CONTROLLER, Asked::Update { key: 0, value: 1, flags: 2 }, Some(Reply::Answer { code: 0 }),   false, false),
+    ("no index is deleted",                       CONTROLLER, Asked::Delete { key: 0 },                     Some(Reply::Answer { code: -22 }), false, false),
+];
+
+#[test]
+fn updates_and_deletes_of_an_array(rt: HostRuntime) -> Result<(), Fail> {
+    let opened = opened(rt.alloc(), MapKind::Array, 2)?;
+    let entries = made::<Brand, HostRuntime>(&rt, rt.alloc(), opened, &OF_AN_ARRAY)?;
+    assert_eq!(&rt; entries, 5);
+    Ok(())
+}

@@ -1,0 +1,258 @@
+//! Programs and their first faults, worked out by hand.
+
+use ebpf_decode::{Image, Insn, Version, decode};
+use image_shape::{
+    ShapeFault, check_shape, edges_go_up, falls_through, one_answer, runs_follow_edges,
+};
+use isa::{AluOp, Register, Source, Test, Width};
+use std::alloc::{AllocError, Global};
+use std::test::Fail;
+
+const MOV: Insn = Insn::Alu {
+    width: Width::Bits64,
+    op: AluOp::Mov,
+    dst: Register::R0,
+    source: Source::Imm(2),
+};
+
+const LDDW: Insn = Insn::Lddw {
+    dst: Register::R0,
+    value: 2,
+};
+
+const LDMAP: Insn = Insn::Ldmap {
+    dst: Register::R1,
+    map: 0,
+};
+
+const CALL: Insn = Insn::CallHelper { helper: 5 };
+
+const EXIT: Insn = Insn::Exit;
+
+const JA_BACK: Insn = Insn::Ja { distance: -1 };
+
+const JA: Insn = Insn::Ja { distance: 0 };
+
+const JA_1: Insn = Insn::Ja { distance: 1 };
+
+const JA_2: Insn = Insn::Ja { distance: 2 };
+
+const JA32_BACK: Insn = Insn::Ja32 {
+    distance: -2147483648,
+};
+
+const JA32_1: Insn = Insn::Ja32 { distance: 1 };
+
+const JA32_FAR: Insn = Insn::Ja32 {
+    distance: 2147483647,
+};
+
+const JEQ_BACK: Insn = Insn::JumpIf {
+    width: Width::Bits64,
+    test: Test::Eq,
+    dst: Register::R0,
+    source: Source::Imm(0),
+    distance: -1,
+};
+
+const JEQ: Insn = Insn::JumpIf {
+    width: Width::Bits64,
+    test: Test::Eq,
+    dst: Register::R0,
+    source: Source::Imm(0),
+    distance: 0,
+};
+
+const JEQ_1: Insn = Insn::JumpIf {
+    width: Width::Bits32,
+    test: Test::Eq,
+    dst: Register::R0,
+    source: Source::Imm(0),
+    distance: 1,
+};
+
+const JEQ_2: Insn = Insn::JumpIf {
+    width: Width::Bits64,
+    test: Test::Eq,
+    dst: Register::R0,
+    source: Source::Reg(Register::R1),
+    distance: 2,
+};
+
+#[rattlefmt::skip]
+const ACCEPTED: [(&str, &[Insn]); 10] = [
+    ("exit alone",                                    &[EXIT]),
+    ("moves and exit",                                &[MOV, MOV, EXIT]),
+    ("a jump to the next slot",                       &[JA, EXIT]),
+    ("a jump over a wide instruction",                &[JEQ_2, LDDW, EXIT]),
+    ("a conditional jump over an exit",               &[JEQ_1, EXIT, EXIT]),
+    ("both edges to one slot",                        &[JEQ, EXIT]),
+    ("a far jump over an exit that another reaches",  &[JEQ_1, JA32_1, EXIT, EXIT]),
+    ("reached by two jumps",                          &[JEQ_1, JA, EXIT]),
+    ("an unconditional jump may stand before the end", &[JEQ_1, JA, MOV, EXIT]),
+    ("wide instructions",                             &[LDDW, LDMAP, LDDW, EXIT]),
+];
+
+#[rattlefmt::skip]
+const REFUSED: [(&str, &[Insn], ShapeFault); 22] = [
+    ("a jump to itself",                              &[MOV, JA_BACK, EXIT],          ShapeFault::JumpBackward { slot: 1 }),
+    ("slots of wide instructions count",              &[LDDW, JA_BACK, EXIT],         ShapeFault::JumpBackward { slot: 2 }),
+    ("the lowest distance",                           &[JA32_BACK, EXIT],             ShapeFault::JumpBackward { slot: 0 }),
+    ("a conditional jump last, backward",             &[MOV, JEQ_BACK],               ShapeFault::JumpBackward { slot: 1 }),
+    ("a jump to the slot after the last",             &[MOV, JA],                     ShapeFault::JumpOutside { slot: 1 }),
+    ("a jump past the last slot",                     &[JA_2, MOV, EXIT],             ShapeFault::JumpOutside { slot: 0 }),
+    ("the largest distance",                          &[MOV, JA32_FAR, EXIT],         ShapeFault::JumpOutside { slot: 1 }),
+    ("a conditional jump past the last slot",         &[JEQ_1, EXIT],                 ShapeFault::JumpOutside { slot: 0 }),
+    ("a conditional jump last",                       &[MOV, JEQ],                    ShapeFault::JumpOutside { slot: 1 }),
+    ("into a number of 64 bits",                      &[JA_1, LDDW, EXIT],            ShapeFault::JumpIntoWide { slot: 0 }),
+    ("into a map's reference",                        &[JEQ_1, LDMAP, EXIT],          ShapeFault::JumpIntoWide { slot: 0 }),
+    ("a move last",                                   &[MOV],                         ShapeFault::FallsOff { slot: 0 }),
+    ("a call last",                                   &[MOV, CALL],                   ShapeFault::FallsOff { slot: 1 }),
+    ("a wide instruction last",                       &[EXIT, LDDW],                  ShapeFault::FallsOff { slot: 1 }),
+    ("the lowest slot goes before the lowest number", &[JA_2, JA_BACK, EXIT],         ShapeFault::JumpOutside { slot: 0 }),
+    ("edges go before paths",                         &[JA_1, MOV, MOV],              ShapeFault::FallsOff { slot: 2 }),
+    ("no path to what an unreachable one does",       &[JA_1, JA_BACK, EXIT],         ShapeFault::JumpBackward { slot: 1 }),
+    ("jumped over",                                   &[MOV, JA_1, MOV, EXIT],        ShapeFault::Unreachable { slot: 2 }),
+    ("after an exit",                                 &[EXIT, MOV, EXIT],             ShapeFault::Unreachable { slot: 1 }),
+    ("jumped over by the larger distance",            &[JA32_1, EXIT, EXIT],          ShapeFault::Unreachable { slot: 1 }),
+    ("behind an unreachable jump",                    &[EXIT, JA, EXIT],              ShapeFault::Unreachable { slot: 1 }),
+    ("a wide one that is jumped over",                &[JA_2, LDDW, EXIT],            ShapeFault::Unreachable { slot: 1 }),
+];
+
+/// An image of this program without maps.
+fn image_of(alloc: Global, code: &[Insn]) -> Result<Image, Fail> {
+    let mut all = Vec::new(alloc);
+    all.extend_from_slice(code)?;
+    Ok(Image::of(Version::V1, Vec::new(alloc), all)?)
+}
+
+#[test]
+fn accepted(rt: HostRuntime) -> Result<(), Fail> {
+    for (name, code) in ACCEPTED {
+        let image = image_of(rt.alloc(), code)?;
+        assert_eq!(rt; check_shape(&image), Ok(()), "{name}");
+    }
+    Ok(())
+}
+
+#[test]
+fn refused(rt: HostRuntime) -> Result<(), Fail> {
+    for (name, code, want) in REFUSED {
+        let image = image_of(rt.alloc(), code)?;
+        assert_eq!(rt; check_shape(&image), Err(want), "{name}");
+    }
+    Ok(())
+}
+
+// Reads the packet's fourteenth byte and adds it to an array's first value.
+#[rattlefmt::skip]
+const FIRST_RUN: [u8; 168] = [
+    0x58, 0x4c, 0x42, 0x50, 0x01, 0x01, 0x00, 0x00,
+    0x02, 0x00, 0x00, 0x00, 0x04, 0x00, 0x00, 0x00,
+    0x08, 0x00, 0x00, 0x00, 0x01, 0x00, 0x00, 0x00,
+    0x61, 0x12, 0x00, 0x00, 0x00, 0x00, 0x00, 0x00,
+    0x61, 0x13, 0x04, 0x00, 0x00, 0x00, 0x00, 0x00,
+    0xbf, 0x24, 0x00, 0x00, 0x00, 0x00, 0x00, 0x00,
+    0x07, 0x04, 0x00, 0x00, 0x0e, 0x00, 0x00, 0x00,
+    0xb7, 0x00, 0x00, 0x00, 0x02, 0x00, 0x00, 0x00,
+    0x2d, 0x34, 0x0b, 0x00, 0x00, 0x00, 0x00, 0x00,
+    0x71, 0x26, 0x0d, 0x00, 0x00, 0x00, 0x00, 0x00,
+    0x62, 0x0a, 0xfc, 0xff, 0x00, 0x00, 0x00, 0x00,
+    0xbf, 0xa2, 0x00, 0x00, 0x00, 0x00, 0x00, 0x00,
+    0x07, 0x02, 0x00, 0x00, 0xfc, 0xff, 0xff, 0xff,
+    0x18, 0x11, 0x00, 0x00, 0x00, 0x00, 0x00, 0x00,
+    0x00, 0x00, 0x00, 0x00, 0x00, 0x00, 0x00, 0x00,
+    0x85, 0x00, 0x00, 0x00, 0x01, 0x00, 0x00, 0x00,
+    0x15, 0x00, 0x03, 0x00, 0x00, 0x00, 0x00, 0x00,
+    0x79, 0x07, 0x00, 0x00, 0x00, 0x00, 0x00, 0x00,
+    0x0f, 0x76, 0x00, 0x00, 0x00, 0x00, 0x00, 0x00,
+    0xbf, 0x60, 0x00, 0x00, 0x00, 0x00, 0x00, 0x00,
+    0x95, 0x00, 0x00, 0x00, 0x00, 0x00, 0x00, 0x00,
+];
+
+/// What the first so many slots of FIRST_RUN are refused with: its jump at slot 5 goes to slot 17.
+fn want_at(slots: u32) -> Result<(), ShapeFault> {
+    if slots < 6 {
+        Err(ShapeFault::FallsOff {
+            slot: slots.saturating_sub(1),
+        })
+    } else if slots < 18 {
+        Err(ShapeFault::JumpOutside { slot: 5 })
+    } else {
+        Ok(())
+    }
+}
+
+// Eleven slots end within a wide instruction, and are no image.
+#[test]
+fn beginnings(rt: HostRuntime) -> Result<(), Fail> {
+    for slots in 1u32..19 {
+        if slots != 11 {
+            let bytes = &FIRST_RUN[..24 + 8 * slots as usize];
+            let image = decode(rt.alloc(), bytes)?;
+            assert_eq!(rt; check_shape(&image), want_at(slots), "{slots} slots");
+        }
+    }
+    Ok(())
+}
+
+/// A program of so many moves and an exit.
+fn moves(alloc: Global, count: u32) -> Result<Image, Fail> {
+    let mut code = Vec::new(alloc);
+    for _ in 0..count {
+        code.push(MOV)?;
+    }
+    code.push(EXIT)?;
+    Ok(Image::of(Version::V1, Vec::new(alloc), code)?)
+}
+
+#[test]
+fn longest_program(rt: HostRuntime) -> Result<(), Fail> {
+    let image = moves(rt.alloc(), 4095)?;
+    assert_eq!(rt; check_shape(&image), Ok(()));
+    Ok(())
+}
+
+#[rattlefmt::skip]
+const TEXTS: [(ShapeFault, u8, &str); 5] = [
+    (ShapeFault::JumpBackward { slot: 1 },   30, "fault 30 JumpBackward slot 1"),
+    (ShapeFault::JumpOutside { slot: 5 },    31, "fault 31 JumpOutside slot 5"),
+    (ShapeFault::JumpIntoWide { slot: 0 },   32, "fault 32 JumpIntoWide slot 0"),
+    (ShapeFault::FallsOff { slot: 4095 },    33, "fault 33 FallsOff slot 4095"),
+    (ShapeFault::Unreachable { slot: 2 },    34, "fault 34 Unreachable slot 2"),
+];
+
+#[test]
+fn texts(rt: HostRuntime) -> Result<(), Fail> {
+    for (fault, number, want) in TEXTS {
+        assert_eq!(rt; fault.number(), number);
+        let text = format!(in rt.alloc(); "{fault}")?;
+        assert_eq!(rt; text.as_str(), want);
+    }
+    Ok(())
+}
+
+#[rattlefmt::skip]
+const EDGES: [(&str, Insn, Option<i32>, bool); 6] = [
+    ("a move goes on",                    MOV,       None,              true),
+    ("a wide instruction goes on",        LDDW,      None,              true),
+    ("exit ends",                         EXIT,      None,              false),
+    ("a jump goes away",                  JA_1,      Some(1),           false),
+    ("a far jump goes away",              JA32_BACK, Some(-2147483648), false),
+    ("a conditional jump may go on",      JEQ_BACK,  Some(-1),          true),
+];
+
+#[test]
+fn edges_of_an_instruction(rt: HostRuntime) {
+    for (name, insn, distance, falls) in EDGES {
+        assert_eq!(rt; insn.jump_distance(), distance, "{name}");
+        assert_eq!(rt; falls_through(insn), falls, "{name}");
+    }
+}
+
+#[test]
+fn laws() {
+    edges_go_up();
+    one_answer();
+    runs_follow_edges();
+}

@@ -1,6 +1,0 @@
-use Rattle.std.proofs.Common.{length}
-use Rattle.shared_shards.proofs.shared.Names.{table_names, plan_names}
-use Rattle.shared_shards.proofs.tests.holding.a_call_of_a_held_shard_waits.Given as goal
-
-abbrev pub ghosts-held : goal.ghosts-held
-ghosts-held g a = record { count = length a.opened.shards; table = table_names a.opened; plan = plan_names a.opened }

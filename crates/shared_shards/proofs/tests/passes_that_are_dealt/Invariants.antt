@@ -1,6 +1,0 @@
-use Rattle.std.proofs.Common.{length}
-use Rattle.shared_shards.proofs.shared.Names.{table_names, plan_names}
-use Rattle.shared_shards.proofs.tests.passes_that_are_dealt.Given as goal
-
-abbrev pub ghosts-dealt : goal.ghosts-dealt
-ghosts-dealt g a = record { count = length a.opened.shards; table = table_names a.opened; plan = plan_names a.opened }

@@ -1,6 +1,0 @@
-use Rattle.std.proofs.Common.{length}
-use Rattle.shared_shards.proofs.shared.Names.{table_names, plan_names}
-use Rattle.shared_shards.proofs.tests.two_threads_on_one_shard.Given as goal
-
-abbrev pub ghosts-by_two_threads : goal.ghosts-by_two_threads
-ghosts-by_two_threads g a = record { count = length a.opened.shards; table = table_names a.opened; plan = plan_names a.opened }

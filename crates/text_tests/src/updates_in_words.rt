@@ -1,0 +1,151 @@
+//! Words that say updates, and maps that take them.
+
+use ebpf_decode::{MapDef, MapKind};
+use map_updates::{MapUpdate, Misfit, Mistake, first_misfit, misfit_of, update_of};
+use semantics::{Key, Value};
+use std::alloc::Global;
+use std::test::Fail;
+
+/// What a row shows, the words, and the update's map, key and value.
+type Row = (
+    &'static str,
+    [&'static str; 3],
+    u32,
+    &'static [u8],
+    &'static [u8],
+);
+
+#[rattlefmt::skip]
+const ROWS: [Row; 5] = [
+    ("small",                ["0", "07", "00ff"],           0,          &[7],          &[0, 255]),
+    ("digits of both cases", ["3", "aBcD", "Ef"],           3,          &[0xab, 0xcd], &[0xef]),
+    ("the greatest map",     ["4294967295", "00", "00"],    4294967295, &[0],          &[0]),
+    ("a plus and zeros",     ["+007", "00", "00"],          7,          &[0],          &[0]),
+    ("no bytes",             ["1", "", ""],                 1,          &[],           &[]),
+];
+
+#[test]
+fn words_say_updates(rt: HostRuntime) -> Result<(), Fail> {
+    let alloc = rt.alloc();
+    for (name, [map, key, value], place, key_bytes, value_bytes) in ROWS {
+        let found = update_of(alloc, map, key, value)?;
+        assert_eq!(rt; found.map, place, "map of {name}");
+        assert!(rt; found.key.as_slice() == key_bytes, "key of {name}");
+        assert!(rt; found.value.as_slice() == value_bytes, "value of {name}");
+    }
+    Ok(())
+}
+
+#[rattlefmt::skip]
+const MISTAKEN: [(&str, [&str; 3], Mistake); 9] = [
+    ("no number",                  ["x", "00", "00"],          Mistake::Map),
+    ("a number of 33 bits",        ["4294967296", "00", "00"], Mistake::Map),
+    ("a negative number",          ["-1", "00", "00"],         Mistake::Map),
+    ("the map's mistake is first", ["", "0", "0"],             Mistake::Map),
+    ("an odd digit of a key",      ["0", "000", "00"],         Mistake::Key),
+    ("no digit of a key",          ["0", "0g", "00"],          Mistake::Key),
+    ("a prefix",                   ["0", "0x00", "00"],        Mistake::Key),
+    ("an odd digit of a value",    ["0", "00", "0"],           Mistake::Value),
+    ("a space in a value",         ["0", "00", "0 00"],        Mistake::Value),
+];
+
+#[test]
+fn words_are_mistaken(rt: HostRuntime) -> Result<(), Fail> {
+    let alloc = rt.alloc();
+    for (name, [map, key, value], want) in MISTAKEN {
+        let found = update_of(alloc, map, key, value);
+        assert!(rt; found == Err(want), "{name}");
+    }
+    Ok(())
+}
+
+/// So many times two zeros.
+fn zeros(alloc: Global, bytes: usize) -> Result<String, Fail> {
+    let mut text = String::new(alloc);
+    for _ in 0..bytes {
+        text.push_str("00")?;
+    }
+    Ok(text)
+}
+
+/// Bytes of a key and of a value, and what is said of them.
+const LENGTHS: [(usize, usize, Option<Mistake>); 3] = [
+    (32, 256, None),
+    (33, 0, Some(Mistake::Key)),
+    (0, 257, Some(Mistake::Value)),
+];
+
+#[test]
+fn keys_and_values_are_short(rt: HostRuntime) -> Result<(), Fail> {
+    let alloc = rt.alloc();
+    for (key, value, want) in LENGTHS {
+        let key = zeros(alloc, key)?;
+        let value = zeros(alloc, value)?;
+        let found = update_of(alloc, "0", key.as_str(), value.as_str());
+        assert!(rt; found.err() == want, "{want:?}");
+    }
+    Ok(())
+}
+
+const fn map(kind: MapKind, key_size: u32, value_size: u32) -> MapDef {
+    MapDef {
+        kind,
+        key_size,
+        value_size,
+        max_entries: 1,
+    }
+}
+
+/// So many zeros.
+fn update(map: u32, key: usize, value: usize) -> MapUpdate {
+    let zeros = [0; 300];
+    MapUpdate {
+        map,
+        key: Key::of(&zeros[..key.min(300)]).unwrap_or(Key::empty()),
+        value: Value::of(&zeros[..value.min(300)]).unwrap_or(Value::empty()),
+    }
+}
+
+#[rattlefmt::skip]
+const FITS: [(u32, usize, usize, &str); 7] = [
+    (0, 4, 8,   ""),
+    (1, 16, 64, ""),
+    (2, 4, 8,   "the image has no map 2"),
+    (0, 3, 8,   "a key of map 0 has 4 bytes, not 3"),
+    (0, 5, 9,   "a key of map 0 has 4 bytes, not 5"),
+    (0, 4, 7,   "a value of map 0 has 8 bytes, not 7"),
+    (1, 16, 65, "a value of map 1 has 64 bytes, not 65"),
+];
+
+/// The text of a misfit.
+fn told(alloc: Global, misfit: Option<Misfit>) -> Result<String, Fail> {
+    match misfit {
+        Some(misfit) => Ok(misfit.text(alloc)?),
+        None => Ok(String::new(alloc)),
+    }
+}
+
+#[test]
+fn maps_take_updates(rt: HostRuntime) -> Result<(), Fail> {
+    let alloc = rt.alloc();
+    let maps = [map(MapKind::Array, 4, 8), map(MapKind::LruHash, 16, 64)];
+    for (place, key, value, want) in FITS {
+        let found = told(alloc, misfit_of(&maps, &update(place, key, value)))?;
+        assert!(rt; found.as_str() == want, "{want}");
+    }
+    Ok(())
+}
+
+#[test]
+fn the_first_misfit_is_told(rt: HostRuntime) -> Result<(), Fail> {
+    let maps = [map(MapKind::Array, 4, 8)];
+    let mut updates = Vec::new(rt.alloc());
+    for _ in 0..100 {
+        updates.push(update(0, 4, 8))?;
+    }
+    assert!(rt; first_misfit(&maps, &updates) == None);
+    updates.push(update(1, 4, 8))?;
+    updates.push(update(0, 0, 8))?;
+    assert!(rt; first_misfit(&maps, &updates) == Some((100, Misfit::NoMap { map: 1 })));
+    Ok(())
+}
