@@ -10,7 +10,8 @@ use Rattle.conntrack.specs.declared.keys.Service.{Service}
 use Rattle.control.specs.declared.command.Action.{Action}
 use Rattle.control.specs.declared.command.Action.TheVariants.{Vip, Up, Down, Gateway}
 use Rattle.control.specs.declared.command.Command.{Command}
-use Rattle.control.specs.ScriptText.{AreBytes, ActionFits, CommandFits, address_text, hex_digit, hex_pair, colon_pair, mac_text, transport_text, notrack_text, vip_text, gateway_text, action_text, line_of}
+use Rattle.text_lines.specs.Digits.{hex_digit}
+use Rattle.control.specs.ScriptText.{AreBytes, ActionFits, CommandFits, address_text, hex_pair, colon_pair, mac_text, transport_text, notrack_text, vip_text, gateway_text, action_text, line_of}
 
 abbrev pub all_bytes : (ℕ → Bool) → List ℕ → Bool
 all_bytes p [] = true

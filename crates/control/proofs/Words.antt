@@ -9,8 +9,9 @@ use Rattle.wire.specs.declared.flow.Transport.TheVariants.{Tcp, Udp}
 use Rattle.conntrack.specs.declared.keys.Service.{Service}
 use Rattle.control.specs.declared.command.Action.{Action}
 use Rattle.control.specs.declared.command.Action.TheVariants.{Vip, Up, Down, Gateway}
-use Rattle.control.specs.ScriptText.{AreBytes, ActionFits, address_text, hex_digit, mac_text, transport_text, notrack_text, vip_text, gateway_text, action_text}
-use Rattle.control.specs.ScriptReading.{Lacks}
+use Rattle.text_lines.specs.Lines.{Lacks}
+use Rattle.text_lines.specs.Digits.{hex_digit}
+use Rattle.control.specs.ScriptText.{AreBytes, ActionFits, address_text, mac_text, transport_text, notrack_text, vip_text, gateway_text, action_text}
 use Rattle.control.proofs.Bytes.{all_bytes, within, lacks_from, decimal_within, address_within, mac_within, transport_within}
 
 pub ok_same : {A E : Type 0} (r : Result A E) (v w : A) → r ≡ Ok v → r ≡ Ok w → v ≡ w

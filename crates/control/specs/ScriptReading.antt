@@ -1,16 +1,13 @@
 -- What is read of a script: its commands, or the first line that is none.
-use Rattle.std.specs.Prelude.{◌≡◌, ◌≢◌, ℕ, ◌+◌, ◌<◌, ◌≤◌, ◌⊎◌, List, [], ◌∷◌, ◌++◌, length, slice_index, Option, Some, None}
+use Rattle.std.specs.Prelude.{◌≡◌, ◌≢◌, ℕ, ◌+◌, ◌<◌, ◌≤◌, ◌⊎◌, List, [], ◌∷◌, ◌++◌, length, Option, Some, None}
 use Rattle.std.specs.List.{AllByRecursion}
 use Rattle.std.specs.Str.{IsUtf8}
 use Rattle.text_lines.specs.NoText.{IsNoText}
 use Rattle.control.specs.declared.command.Command.{Command}
 use Rattle.control.specs.declared.fault.ControlFault.{ControlFault}
 use Rattle.control.specs.declared.fault.ControlFault.TheVariants.{BadLine, Memory}
-use Rattle.control.specs.ScriptText.{CommandFits, IsCommandLine, NeverFalls, line_of, ended, script_text}
-
--- no byte is the mark
-abbrev pub Lacks : ℕ → List ℕ → Type 0
-Lacks mark xs = (i : ℕ) → i < length xs → slice_index xs i ≢ mark
+use Rattle.text_lines.specs.Lines.{ended}
+use Rattle.control.specs.ScriptText.{CommandFits, IsCommandLine, NeverFalls, line_of, script_text}
 
 -- the one command whose line this is, if it is one's
 abbrev pub TellsCommand : List ℕ → Option Command → Type 0

@@ -1,10 +1,12 @@
 -- The text of a script: a line for each command, each ended by a line feed, with single spaces between words. It is the one spelling of the commands.
-use Rattle.std.specs.Prelude.{◌≡◌, ℕ, ◌<◌, ◌≤◌, ◌^◌, ◌/◌, ◌%◌, ◌+◌, Bool, true, false, List, [], ◌∷◌, ◌++◌, All, codes, length, nat_lt, slice_index, if◌then◌else◌}
+use Rattle.std.specs.Prelude.{◌≡◌, ℕ, ◌<◌, ◌≤◌, ◌^◌, ◌/◌, ◌%◌, ◌+◌, Bool, true, false, List, [], ◌∷◌, ◌++◌, All, codes, length, slice_index}
 use Rattle.std.specs.Fmt.{decimal}
 use Rattle.std.specs.List.{flat_map, AllByRecursion}
 use Rattle.wire.specs.declared.flow.Transport.{Transport}
 use Rattle.wire.specs.declared.flow.Transport.TheVariants.{Tcp, Udp}
 use Rattle.conntrack.specs.declared.keys.Service.{Service}
+use Rattle.text_lines.specs.Lines.{ended}
+use Rattle.text_lines.specs.Digits.{hex_digit}
 use Rattle.control.specs.declared.command.Action.{Action}
 use Rattle.control.specs.declared.command.Action.TheVariants.{Vip, Up, Down, Gateway}
 use Rattle.control.specs.declared.command.Command.{Command}
@@ -15,10 +17,6 @@ use Rattle.control.specs.declared.command.Command.{Command}
 unfoldable pub address_text : List ℕ → List ℕ
 address_text bytes =
     decimal (slice_index bytes 0) ++ 46 ∷ (decimal (slice_index bytes 1) ++ 46 ∷ (decimal (slice_index bytes 2) ++ 46 ∷ decimal (slice_index bytes 3)))
-
--- a digit up to 15, in lower case
-abbrev pub hex_digit : ℕ → ℕ
-hex_digit digit = if nat_lt digit 10 then 48 + digit else 87 + digit
 
 -- a byte as two hexadecimal digits
 unfoldable pub hex_pair : ℕ → List ℕ
@@ -61,10 +59,6 @@ action_text (Gateway source source_mac destination_mac) = codes "gateway " ++ ga
 -- the line without its line feed
 unfoldable pub line_of : Command → List ℕ
 line_of command = decimal command.frame ++ 32 ∷ action_text command.action
-
--- a line and its line feed
-abbrev pub ended : List ℕ → List ℕ
-ended line = line ++ 10 ∷ []
 
 abbrev pub script_text : List Command → List ℕ
 script_text commands = flat_map (λ command. ended (line_of command)) commands

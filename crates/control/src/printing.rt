@@ -2,12 +2,13 @@
 
 ghost use Rattle.std.specs.Prelude.{◌≡◌, ◌++◌, ◌∷◌, ◌<◌, [], string_bytes, OnOk, IfOk};
 ghost use Rattle.std.specs.Fmt.{decimal};
-ghost use Rattle.control.specs.ScriptText.{address_text, hex_digit, hex_pair, colon_pair, mac_text, transport_text, notrack_text, vip_text, gateway_text, action_text, line_of, script_text, IsCommandLine};
+ghost use Rattle.control.specs.ScriptText.{address_text, hex_pair, colon_pair, mac_text, transport_text, notrack_text, vip_text, gateway_text, action_text, line_of, script_text, IsCommandLine};
 
 use crate::command::{Action, Command, Script};
 use crate::facts::command_fits;
 use conntrack::Service;
 use std::alloc::{AllocError, Global};
+use text_lines::hex_digit;
 use wire::{Ipv4Address, MacAddress, Transport};
 
 /// Writes a number in decimal.
@@ -35,15 +36,6 @@ fn put_address(alloc: Global, out: &mut String, address: Ipv4Address) -> Result<
     put_part(alloc, out, b)?;
     put_part(alloc, out, c)?;
     put_part(alloc, out, d)
-}
-
-/// The letter of a digit up to 15.
-fn hex_digit(value: u8) -> u8
-    requires { value < 16 }
-    ensures digit { result ≡ hex_digit value }
-    ensures ascii { result < 128 }
-{
-    if value < 10 { 48 + value } else { 87 + value }
 }
 
 /// Writes a byte as two hexadecimal digits.

@@ -1,40 +1,19 @@
 //! Lines read leniently: what is no right spelling is read as anything. Who reads prints the result again and compares.
 
-ghost use Rattle.std.specs.Prelude.{◌≡◌, ◌++◌, ◌∷◌, [], ◌+◌, ◌/◌, ◌%◌, ◌<◌, ◌^◌, ℕ, Bool, List, slice_index, slice_index_or, drop};
+ghost use Rattle.std.specs.Prelude.{◌≡◌, ◌++◌, ◌∷◌, ◌+◌, ◌/◌, ◌%◌, ◌<◌, ◌^◌, ℕ, Bool, List, slice_index, slice_index_or, drop};
 ghost use Rattle.std.specs.Fmt.{decimal};
 ghost use Rattle.wire.specs.declared.flow.Transport.{Transport as Protocol};
 ghost use Rattle.conntrack.specs.declared.keys.Service.{Service as Vip};
 ghost use Rattle.control.specs.declared.command.Action.{Action as Act};
 ghost use Rattle.control.specs.declared.command.Action.TheVariants as acts;
 ghost use Rattle.control.specs.declared.command.Command.{Command as Line};
-ghost use Rattle.control.specs.ScriptText.{AreBytes, ActionFits, IsCommandLine, address_text, hex_digit, mac_text, transport_text, notrack_text, vip_text, gateway_text, action_text};
-ghost use Rattle.control.specs.ScriptReading.{Lacks};
+ghost use Rattle.text_lines.specs.Digits.{hex_digit};
+ghost use Rattle.control.specs.ScriptText.{AreBytes, ActionFits, IsCommandLine, address_text, mac_text, transport_text, notrack_text, vip_text, gateway_text, action_text};
 
 use crate::command::{Action, Command};
 use conntrack::Service;
+use text_lines::{after, cut};
 use wire::{Ipv4Address, MacAddress, Transport};
-
-/// What comes before the first mark and what comes after it, or the text and nothing.
-fn cut(text: &str, mark: char) -> (&str, &str)
-    requires { mark < 128 }
-    ensures both { (xs ys : List ℕ) → text.now ≡ xs ++ mark ∷ ys → Lacks mark xs → (result.0.now ≡ xs) × (result.1.now ≡ ys) }
-    ensures whole { Lacks mark text.now → (result.0.now ≡ text.now) × (result.1.now ≡ []) }
-{
-    match text.split_once(mark) {
-        Some((front, back)) => (front, back),
-        None => (text, ""),
-    }
-}
-
-/// What comes after this beginning.
-fn after<'a>(text: &'a str, front: &str) -> &'a str
-    ensures { (rest : List ℕ) → text.now ≡ front.now ++ rest → result.now ≡ rest }
-{
-    match text.strip_prefix(front) {
-        Some(rest) => rest,
-        None => "",
-    }
-}
 
 /// The byte at an index, or 0.
 fn byte_at(bytes: &[u8], place: usize) -> u8

@@ -1,5 +1,5 @@
 -- The text of instructions, maps and images: the one spelling of each.
-use Rattle.std.specs.Prelude.{◌≡◌, ℕ, ◌<◌, ◌^◌, ◌/◌, ◌%◌, ◌+◌, zero, suc, List, [], ◌∷◌, ◌++◌, ℤ, pos, negsuc, codes, nat_lt, if◌then◌else◌}
+use Rattle.std.specs.Prelude.{◌≡◌, ℕ, ◌<◌, ◌^◌, ◌/◌, ◌%◌, ◌+◌, zero, suc, List, [], ◌∷◌, ◌++◌, ℤ, pos, negsuc, codes}
 use Rattle.std.specs.Fmt.{decimal, signed_decimal}
 use Rattle.std.specs.List.{flat_map}
 use Rattle.isa.specs.declared.operation.Register.{Register}
@@ -15,6 +15,8 @@ use Rattle.ebpf_decode.specs.declared.version.Version.{Version}
 use Rattle.ebpf_decode.specs.declared.version.Version.TheVariants.{V1, V2}
 use Rattle.ebpf_decode.specs.InstructionEncoding.{FieldsFit}
 use Rattle.ebpf_decode.specs.ImageContents.{Contents, IsEncodable}
+use Rattle.text_lines.specs.Lines.{ended}
+use Rattle.text_lines.specs.Digits.{hex_digit}
 use Rattle.disasm.specs.declared.head.Head.{Head}
 use Rattle.disasm.specs.declared.head.Head.TheVariants.{Alu, Neg, Movsx, Movsx32, End, Ja, Ja32, JumpIf, Ldx, Ldxs, St, Stx, Atomic, Lddw, Ldmap, Ldval, Call, Exit}
 use Rattle.disasm.specs.declared.operand.Operand.{Operand}
@@ -43,10 +45,6 @@ register_text R10 = codes "r10"
 abbrev pub with_sign : ℤ → List ℕ
 with_sign (pos n) = codes "+" ++ decimal n
 with_sign (negsuc n) = codes "-" ++ decimal (suc n)
-
--- a digit up to 15, in lower case
-abbrev pub hex_digit : ℕ → ℕ
-hex_digit n = if nat_lt n 10 then 48 + n else 87 + n
 
 -- the last so many hexadecimal digits
 unfoldable pub hex_digits : ℕ → ℕ → List ℕ
@@ -155,10 +153,6 @@ pub record IsMapLine (m : MapDef) (line : List ℕ) : Type 0 where
   pub spelled : line ≡ map_line_of m
 
 -- ---- images
-
--- a line and its line feed
-abbrev pub ended : List ℕ → List ℕ
-ended line = line ++ 10 ∷ []
 
 abbrev pub version_text : Version → List ℕ
 version_text V1 = ended (codes "version 1")

@@ -1,5 +1,5 @@
 -- What is read of a line that is a right spelling.
-use Rattle.std.specs.Prelude.{◌≡◌, ◌≢◌, ℕ, ◌<◌, ◌^◌, Bool, List, length, slice_index, ◌==◌, ℤ, pos, negsuc, FitsSigned, nat_lt, if◌then◌else◌}
+use Rattle.std.specs.Prelude.{◌≡◌, ℕ, ◌<◌, ◌^◌, Bool, List, ◌==◌, ℤ, pos, negsuc, FitsSigned, nat_lt, if◌then◌else◌}
 use Rattle.std.specs.Int.{w16, w32, w64}
 use Rattle.std.specs.List.{starts_with}
 use Rattle.isa.specs.declared.operation.Register.{Register}
@@ -15,10 +15,6 @@ use Rattle.disasm.specs.declared.operand.Operand.TheVariants as operands
 use Rattle.disasm.specs.declared.operand.Operands.{Operands}
 use Rattle.disasm.specs.declared.operand.Operands.TheVariants.{Zero, One, Two, Three}
 use Rattle.disasm.specs.AssemblyText.{register_text}
-
--- no byte is the mark
-abbrev pub Lacks : ℕ → List ℕ → Type 0
-Lacks mark xs = (i : ℕ) → i < length xs → slice_index xs i ≢ mark
 
 abbrev pub begins_with_register : List ℕ → Register → Bool
 begins_with_register text r = starts_with (λ a b. a == b) text (register_text r)

@@ -9,10 +9,11 @@ ghost use Rattle.disasm.specs.TextReading.{TellsInstruction, BeginsWithNoInstruc
 
 use crate::head::Head;
 use crate::operand::Operand;
-use crate::reading::{count, cut, operands_of, short, word};
+use crate::reading::{count, operands_of, short, word};
 use crate::spelling::line;
 use ebpf_decode::Insn;
 use std::alloc::{AllocError, Global};
+use text_lines::cut;
 
 /// The instruction of this first word and these operands.
 #[rattlefmt::skip]

@@ -10,9 +10,9 @@ ghost use Rattle.ebpf_decode.specs.declared.map.MapDef.{MapDef as Definition};
 ghost use Rattle.disasm.specs.AssemblyText.{kind_name, after_space, map_line_of, IsMapLine};
 ghost use Rattle.disasm.specs.TextReading.{TellsMap, BeginsWithNoMap, IsFirstMap};
 
-use crate::reading::{after, cut};
 use ebpf_decode::{MapDef, MapKind};
 use std::alloc::{AllocError, Global};
+use text_lines::{after, cut};
 
 fn kind_name(of: MapKind) -> &'static str
     ensures { result.now ≡ kind_name of }

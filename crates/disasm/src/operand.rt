@@ -1,10 +1,11 @@
 //! What comes after the first word of an instruction's line.
 
 ghost use Rattle.std.specs.Prelude.{◌≡◌, ◌++◌, ◌<◌, ◌^◌, ℕ, string_bytes, IfOk, OnOk};
-ghost use Rattle.disasm.specs.AssemblyText.{register_text, with_sign, hex_digit, hex_digits, operand_text, operands_text};
+ghost use Rattle.disasm.specs.AssemblyText.{register_text, with_sign, hex_digits, operand_text, operands_text};
 
 use isa::Register;
 use std::alloc::{AllocError, Global};
+use text_lines::hex_digit;
 
 /// An operand as it is written.
 #[derive(Clone, Copy, Debug, PartialEq, Eq)]
@@ -57,15 +58,6 @@ fn put_signed(alloc: Global, out: &mut String, value: i32) -> Result<(), AllocEr
     }
     out.push_str(&format!(in alloc; "{value}")?)?;
     Ok(())
-}
-
-/// The letter of a digit up to 15.
-fn hex_digit(value: u8) -> u8
-    requires { value < 16 }
-    ensures digit { result ≡ hex_digit value }
-    ensures ascii { result < 128 }
-{
-    if value < 10 { 48 + value } else { 87 + value }
 }
 
 /// Writes the last so many hexadecimal digits.

@@ -1,6 +1,6 @@
 //! Lines read leniently: what is no right spelling is read as anything. Who reads prints the result again and compares.
 
-ghost use Rattle.std.specs.Prelude.{◌≡◌, ◌≢◌, ◌++◌, ◌∷◌, [], ◌<◌, ◌^◌, ℕ, ℤ, List, length, slice_index, FitsSigned, codes};
+ghost use Rattle.std.specs.Prelude.{◌≡◌, ◌≢◌, ◌++◌, ◌<◌, ◌^◌, ℕ, ℤ, List, length, slice_index, FitsSigned, codes};
 ghost use Rattle.std.specs.Int.{w16, w32, w64};
 ghost use Rattle.std.specs.Fmt.{decimal, signed_decimal};
 ghost use Rattle.std.specs.List.{find, starts_with};
@@ -8,10 +8,11 @@ ghost use Rattle.std.specs.Str.{bytes_eq};
 ghost use Rattle.isa.specs.declared.operation.Register.{Register as RegisterName};
 ghost use Rattle.disasm.specs.declared.operand.Operands.{Operands as OperandList};
 ghost use Rattle.disasm.specs.AssemblyText.{register_text, with_sign, hex_digits, operand_text, list_text};
-ghost use Rattle.disasm.specs.LineReading.{Lacks, OperandFits, OperandsFit, as_read, AreRead, begins_with_register, register_in, number_in, short_in, word_in, count_in, offset_in, wide_in, source_in, insn_made};
+ghost use Rattle.disasm.specs.LineReading.{OperandFits, OperandsFit, as_read, AreRead, begins_with_register, register_in, number_in, short_in, word_in, count_in, offset_in, wide_in, source_in, insn_made};
 
 use crate::operand::{Operand, register_text};
 use isa::{Register, Source};
+use text_lines::{after, cut};
 
 /// The registers, such that none is a beginning of a later one.
 const REGISTERS: [Register; 11] = [
@@ -27,28 +28,6 @@ const REGISTERS: [Register; 11] = [
     Register::R8,
     Register::R9,
 ];
-
-/// What comes before the first mark and what comes after it, or the text and nothing.
-pub(crate) fn cut(text: &str, mark: char) -> (&str, &str)
-    requires { mark < 128 }
-    ensures both { (xs ys : List ℕ) → text.now ≡ xs ++ mark ∷ ys → Lacks mark xs → (result.0.now ≡ xs) × (result.1.now ≡ ys) }
-    ensures whole { Lacks mark text.now → (result.0.now ≡ text.now) × (result.1.now ≡ []) }
-{
-    match text.split_once(mark) {
-        Some((front, back)) => (front, back),
-        None => (text, ""),
-    }
-}
-
-/// What comes after this beginning.
-pub(crate) fn after<'a>(text: &'a str, front: &str) -> &'a str
-    ensures { (rest : List ℕ) → text.now ≡ front.now ++ rest → result.now ≡ rest }
-{
-    match text.strip_prefix(front) {
-        Some(rest) => rest,
-        None => "",
-    }
-}
 
 fn register_of(text: &str) -> Register
     ensures { (r : RegisterName) → text.now ≡ register_text r → result ≡ r }

@@ -10,10 +10,11 @@ use Rattle.ebpf_decode.specs.declared.map.MapDef.{MapDef}
 use Rattle.semantics.specs.declared.call.Entry.{Entry}
 use Rattle.semantics.specs.declared.options.Options.{Options}
 use Rattle.semantics.specs.ShardPlan.{AreOptions}
-use Rattle.journal_files.specs.JournalText.{line_of, header_text, ended, entries_text, all_entries}
-use Rattle.journal_files.specs.JournalReading.{Lacks, IsHeaderLine, BeginsWithNoHeader, IsHeadedBy}
+use Rattle.text_lines.specs.Lines.{Lacks, ended}
+use Rattle.text_lines.proofs.shared.LineLemmas.{lacks_mid, one_line, same_front}
+use Rattle.journal_files.specs.JournalText.{line_of, header_text, entries_text, all_entries}
+use Rattle.journal_files.specs.JournalReading.{IsHeaderLine, BeginsWithNoHeader, IsHeadedBy}
 use Rattle.journal_files.proofs.Bytes.{all_bytes, all_append, word, printed, lacks_from, decimal_within, spaced, print_word}
-use Rattle.journal_files.proofs.Lines.{lacks_mid, same_front, one_line}
 
 -- ---- the header
 

@@ -14,11 +14,13 @@ use Rattle.semantics.specs.declared.options.Options.{Options}
 use Rattle.semantics.specs.ShardPlan.{AreOptions}
 use Rattle.semantics.specs.History.{shard_of_call}
 use Rattle.journals.specs.JournalsView.{JournalsView, AreJournals}
-use Rattle.journal_files.specs.JournalText.{line_of, header_text, ended, entries_text, all_entries, journals_text}
+use Rattle.text_lines.specs.Lines.{ended}
+use Rattle.text_lines.proofs.shared.LineLemmas.{one_line, same_front}
+use Rattle.journal_files.specs.JournalText.{line_of, header_text, entries_text, all_entries, journals_text}
 use Rattle.journal_files.specs.EntryForm.{EntryFits, IsFileEntry}
 use Rattle.journal_files.specs.JournalReading.{IsOfShard, AreListedFrom, IsJournalsFile, IsHeaderLine, BeginsWithNoHeader, IsHeadedBy, AreDivided, AreRead, NeverFalls, last_shard, IsBadAfter, IsNoFile}
 use Rattle.journal_files.proofs.Bytes.{all_bytes, within, printed, each_passes, line_printed}
-use Rattle.journal_files.proofs.Lines.{one_reading, known_fit, same_front, one_line, entries_long}
+use Rattle.journal_files.proofs.Lines.{one_reading, known_fit, entries_long}
 use Rattle.journal_files.proofs.Headers.{header_lacks_feed, header_printed_of, shards_small}
 
 -- ---- lists of shards

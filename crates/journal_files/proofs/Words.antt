@@ -23,7 +23,7 @@ use Rattle.journal_files.specs.declared.verb.Verb.{Verb}
 use Rattle.journal_files.specs.JournalText.{who_text, verb_text, verb_of_call, reply_text, told_text, line_of}
 use Rattle.journal_files.specs.EntryForm.{CallerFits, CallFits, RepliesTo, EntryFits, IsEntered, IsLeft, IsDone}
 use Rattle.journal_files.specs.ToldReading.{Reads, entry_with}
-use Rattle.journal_files.specs.JournalReading.{Lacks}
+use Rattle.text_lines.specs.Lines.{Lacks}
 use Rattle.journal_files.proofs.Bytes.{word, printed, lacks_from, decimal_within, hex_within, who_within, verb_within}
 
 pub ok_same : {A E : Type 0} (r : Result A E) (v w : A) → r ≡ Ok v → r ≡ Ok w → v ≡ w

@@ -1,5 +1,5 @@
 -- What is read of a file of journals: the journals, or the first line that is none.
-use Rattle.std.specs.Prelude.{◌≡◌, ◌≢◌, ℕ, ◌+◌, ◌<◌, ◌≤◌, ◌⊎◌, List, [], ◌∷◌, ◌++◌, length, slice_index, Option, Some, None, get_or, ⊤}
+use Rattle.std.specs.Prelude.{◌≡◌, ◌≢◌, ℕ, ◌+◌, ◌<◌, ◌≤◌, ◌⊎◌, List, [], ◌∷◌, ◌++◌, length, Option, Some, None, get_or, ⊤}
 use Rattle.std.specs.List.{AllByRecursion}
 use Rattle.std.specs.Str.{IsUtf8}
 use Rattle.text_lines.specs.NoText.{IsNoText}
@@ -11,12 +11,9 @@ use Rattle.semantics.specs.History.{shard_of_call}
 use Rattle.journals.specs.JournalsView.{JournalsView, AreJournals}
 use Rattle.journal_files.specs.declared.fault.FileFault.{FileFault}
 use Rattle.journal_files.specs.declared.fault.FileFault.TheVariants.{Device, Memory, BadJournalFile}
-use Rattle.journal_files.specs.JournalText.{line_of, header_text, ended, entries_text, all_entries, journals_text}
+use Rattle.text_lines.specs.Lines.{ended}
+use Rattle.journal_files.specs.JournalText.{line_of, header_text, entries_text, all_entries, journals_text}
 use Rattle.journal_files.specs.EntryForm.{EntryFits, IsFileEntry}
-
--- no byte is the mark
-abbrev pub Lacks : ℕ → List ℕ → Type 0
-Lacks mark xs = (i : ℕ) → i < length xs → slice_index xs i ≢ mark
 
 -- ---- whole files
 

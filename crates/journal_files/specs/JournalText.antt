@@ -1,5 +1,5 @@
 -- The text of journals: a header, then a line for each entry, shard by shard, each ended by a line feed, with single spaces between words.
-use Rattle.std.specs.Prelude.{ℕ, ℤ, List, [], ◌∷◌, ◌++◌, codes}
+use Rattle.std.specs.Prelude.{ℕ, ℤ, List, ◌∷◌, ◌++◌, codes}
 use Rattle.std.specs.Fmt.{decimal, signed_decimal}
 use Rattle.std.specs.List.{flat_map}
 use Rattle.hex.specs.Hex.{encode_lower}
@@ -13,6 +13,7 @@ use Rattle.semantics.specs.declared.call.Entry.{Entry}
 use Rattle.semantics.specs.declared.options.Options.{Options}
 use Rattle.semantics.specs.History.{shard_of_call}
 use Rattle.journals.specs.JournalsView.{JournalsView}
+use Rattle.text_lines.specs.Lines.{ended}
 use Rattle.journal_files.specs.declared.verb.Verb.{Verb}
 use Rattle.journal_files.specs.declared.verb.Verb.TheVariants.{Enter, Leave, Lookup, Load, Store, Atomic, Update, Delete, Reclaim}
 
@@ -81,10 +82,6 @@ line_of entry =
 -- the first line, without its line feed: the format's name and version, then the options
 unfoldable pub header_text : Options → List ℕ
 header_text options = codes "XLBJ 1 " ++ (decimal options.workers ++ 32 ∷ (decimal options.shards ++ 32 ∷ decimal options.journal))
-
--- a line and its line feed
-abbrev pub ended : List ℕ → List ℕ
-ended line = line ++ 10 ∷ []
 
 abbrev pub entries_text : List Entry → List ℕ
 entries_text entries = flat_map (λ entry. ended (line_of entry)) entries

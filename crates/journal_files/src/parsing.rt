@@ -7,7 +7,8 @@ ghost use Rattle.semantics.specs.ShardPlan.{AreOptions};
 ghost use Rattle.journals.specs.JournalsView.{JournalsView as Lists, AreImageMaps, AreJournals};
 ghost use Rattle.journal_files.specs.declared.fault.FileFault.TheVariants.{BadJournalFile, Memory};
 ghost use Rattle.journal_files.specs.EntryForm.{HasSizesOf, IsCallOn};
-ghost use Rattle.journal_files.specs.JournalText.{ended, header_text};
+ghost use Rattle.text_lines.specs.Lines.{ended};
+ghost use Rattle.journal_files.specs.JournalText.{header_text};
 ghost use Rattle.semantics.specs.declared.call.Entry.{Entry as Told};
 ghost use Rattle.journal_files.specs.JournalReading.{TellsEntry, BeginsWithNoHeader, IsHeadedBy, AreDivided, AreRead, IsJournalsFile, Refuses};
 

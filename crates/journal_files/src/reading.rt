@@ -10,33 +10,13 @@ ghost use Rattle.semantics.specs.declared.call.Entry.{Entry as Told};
 ghost use Rattle.semantics.specs.declared.options.Options.{Options as Opened};
 ghost use Rattle.journal_files.specs.JournalText.{who_text, reply_text, line_of, header_text};
 ghost use Rattle.journal_files.specs.EntryForm.{IsKey, IsValue, CallerFits, IsFinding, IsWord, IsAnswer, IsFreed, EntryFits};
-ghost use Rattle.journal_files.specs.JournalReading.{Lacks};
 ghost use Rattle.journal_files.specs.ToldReading.{Reads};
 ghost use Rattle.journal_files.specs.declared.verb.Verb.TheVariants as verbs;
 
 use crate::facts::are_bytes;
 use crate::verb::Verb;
 use semantics::{Call, Caller, CellRef, Entry, Key, Options, Reply, Value};
-
-/// What comes before the first space and what comes after it, or the text and nothing.
-fn cut(text: &str) -> (&str, &str)
-    ensures { (xs ys : List ℕ) → text.now ≡ xs ++ 32 ∷ ys → Lacks 32 xs → (result.0.now ≡ xs) × (result.1.now ≡ ys) }
-{
-    match text.split_once(' ') {
-        Some((front, back)) => (front, back),
-        None => (text, ""),
-    }
-}
-
-/// What comes after this beginning.
-fn after<'a>(text: &'a str, front: &str) -> &'a str
-    ensures { (rest : List ℕ) → text.now ≡ front.now ++ rest → result.now ≡ rest }
-{
-    match text.strip_prefix(front) {
-        Some(rest) => rest,
-        None => "",
-    }
-}
+use text_lines::{after, cut};
 
 fn number_of(text: &str) -> u64
     ensures { (number : ℕ) → number < 2 ^ 64 → text.now ≡ decimal number → result ≡ number }
@@ -69,7 +49,7 @@ fn signed_of(text: &str) -> i32
 fn field(text: &str) -> (u64, &str)
     ensures { (number : ℕ) (rest : List ℕ) → number < 2 ^ 64 → text.now ≡ decimal number ++ 32 ∷ rest → (result.0 ≡ number) × (result.1.now ≡ rest) }
 {
-    let (number, rest) = cut(text);
+    let (number, rest) = cut(text, ' ');
     (number_of(number), rest)
 }
 
@@ -205,7 +185,7 @@ fn lookup_of(who: Caller, shard: u32, text: &str) -> Entry
     ensures fits { EntryFits result }
     ensures found { Reads verbs.Lookup who shard text.now result }
 {
-    let (key, reply) = cut(text);
+    let (key, reply) = cut(text, ' ');
     Entry {
         who,
         call: Call::Lookup {
@@ -290,8 +270,8 @@ fn update_of(who: Caller, shard: u32, text: &str) -> Entry
     ensures fits { EntryFits result }
     ensures found { Reads verbs.Update who shard text.now result }
 {
-    let (key, text) = cut(text);
-    let (value, text) = cut(text);
+    let (key, text) = cut(text, ' ');
+    let (value, text) = cut(text, ' ');
     let (flags, text) = field(text);
     Entry {
         who,
@@ -311,7 +291,7 @@ fn delete_of(who: Caller, shard: u32, text: &str) -> Entry
     ensures fits { EntryFits result }
     ensures found { Reads verbs.Delete who shard text.now result }
 {
-    let (key, reply) = cut(text);
+    let (key, reply) = cut(text, ' ');
     Entry {
         who,
         call: Call::Delete {
@@ -354,9 +334,9 @@ pub(crate) fn entry_read(line: &str) -> Entry
     ensures fits { EntryFits result }
     ensures found { (entry : Told) → EntryFits entry → line.now ≡ line_of entry → result ≡ entry }
 {
-    let (shard, rest) = cut(line);
-    let (who, rest) = cut(rest);
-    let (verb, rest) = cut(rest);
+    let (shard, rest) = cut(line, ' ');
+    let (who, rest) = cut(rest, ' ');
+    let (verb, rest) = cut(rest, ' ');
     told_of(Verb::read(verb), who_of(who), count_of(shard), rest)
 }
 
@@ -365,8 +345,8 @@ pub(crate) fn header_read(line: &str) -> Options
     ensures { (options : Opened) → options.workers < 2 ^ 32 → options.shards < 2 ^ 32 → options.journal < 2 ^ 32
         → line.now ≡ header_text options → result ≡ options }
 {
-    let (workers, rest) = cut(after(line, "XLBJ 1 "));
-    let (shards, journal) = cut(rest);
+    let (workers, rest) = cut(after(line, "XLBJ 1 "), ' ');
+    let (shards, journal) = cut(rest, ' ');
     Options {
         workers: count_of(workers),
         shards: count_of(shards),

@@ -19,7 +19,8 @@ use Rattle.disasm.specs.declared.head.Head.{Head}
 use Rattle.disasm.specs.declared.operand.Operands.{Operands}
 use Rattle.disasm.specs.declared.operand.Operands.TheVariants.{Zero, One, Two, Three}
 use Rattle.disasm.specs.Names.{head_name}
-use Rattle.disasm.specs.AssemblyText.{list_text, operands_text, head_of, operands_of, line_of, kind_name, after_space, map_line_of, MapFits, ended, version_text, maps_text, code_text, parts_text, IsAssemblyText}
+use Rattle.text_lines.specs.Lines.{ended}
+use Rattle.disasm.specs.AssemblyText.{list_text, operands_text, head_of, operands_of, line_of, kind_name, after_space, map_line_of, MapFits, version_text, maps_text, code_text, parts_text, IsAssemblyText}
 use Rattle.disasm.specs.LineReading.{OperandsFit}
 use Rattle.disasm.proofs.shared.Bytes.{all_bytes, all_append, weaken, decimal_word}
 use Rattle.disasm.proofs.shared.Lines.{fits_again}

@@ -7,7 +7,8 @@ use Rattle.std.proofs.lemmas.Fmt.{decimal_by_steps}
 use Rattle.std.proofs.lemmas.Bool.Decides.{nat_tests}
 use Rattle.isa.specs.declared.operation.Register.{Register}
 use Rattle.isa.specs.declared.operation.Register.TheVariants.{R0, R1, R2, R3, R4, R5, R6, R7, R8, R9, R10}
-use Rattle.disasm.specs.AssemblyText.{register_text, with_sign, hex_digit, hex_digits}
+use Rattle.text_lines.specs.Digits.{hex_digit}
+use Rattle.disasm.specs.AssemblyText.{register_text, with_sign, hex_digits}
 
 abbrev pub all_bytes : (ℕ → Bool) → List ℕ → Bool
 all_bytes p [] = true

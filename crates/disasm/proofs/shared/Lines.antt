@@ -13,7 +13,8 @@ use Rattle.disasm.specs.declared.operand.Operands.{Operands}
 use Rattle.disasm.specs.declared.operand.Operands.TheVariants.{Zero, One, Two, Three}
 use Rattle.disasm.specs.Names.{head_name}
 use Rattle.disasm.specs.AssemblyText.{operand_text, list_text, operands_text, head_of, operands_of, line_of}
-use Rattle.disasm.specs.LineReading.{Lacks, OperandFits, OperandsFit, AreRead, short_in, count_in, insn_made}
+use Rattle.text_lines.specs.Lines.{Lacks}
+use Rattle.disasm.specs.LineReading.{OperandFits, OperandsFit, AreRead, short_in, count_in, insn_made}
 use Rattle.disasm.proofs.Heads.{head_word}
 use Rattle.disasm.proofs.shared.Bytes.{all_bytes, word_byte, all_append, lacks_from, weaken, wider_fits, widest_fits}
 use Rattle.disasm.proofs.shared.Numbers.{short_again, word_again, count_again, count_fits}

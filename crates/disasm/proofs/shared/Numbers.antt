@@ -15,7 +15,8 @@ use Rattle.std.proofs.lemmas.Bool.{lt-ltb}
 use Rattle.std.proofs.lemmas.Int.{to_z-of_z}
 use mir.Val.{to_z, of_z}
 use Rattle.disasm.specs.LineReading.{short_in, word_in, count_in}
-use Rattle.disasm.specs.AssemblyText.{with_sign, hex_digit, hex_digits}
+use Rattle.text_lines.specs.Digits.{hex_digit}
+use Rattle.disasm.specs.AssemblyText.{with_sign, hex_digits}
 
 own : IsNumeralModel (AllDigits 10) (digits_value 10)
 own = numerals_by_value (AllDigits 10) tells_digits

@@ -1,10 +1,9 @@
 -- A text is read in one way.
-use Rattle.std.proofs.Common.{◌≡◌, ℕ, suc, ◌+◌, ◌<◌, ◌^◌, Bool, true, false, ◌&&◌, leb, ltb, eqb, List, [], ◌∷◌, ◌++◌, length, drop, get_or, Some, None, refl, sym, ap, ◌∙◌, arith, append_assoc, length-append}
+use Rattle.std.proofs.Common.{◌≡◌, ℕ, ◌+◌, ◌<◌, ◌^◌, Bool, true, false, ◌&&◌, leb, ltb, eqb, List, [], ◌∷◌, ◌++◌, length, get_or, Some, None, refl, sym, ap, ◌∙◌, arith, append_assoc}
 use Rattle.std.specs.Prelude.{codes}
 use Rattle.std.proofs.Common.{inr}
 use Rattle.std.specs.Fmt.{decimal}
 use Rattle.std.specs.List.{AllByRecursion}
-use Rattle.std.proofs.Math.Seq.{get_or-append_seam}
 use Rattle.std.proofs.lemmas.List.{append-nil, append_cancel_left}
 use Rattle.std.proofs.lemmas.Grind.{flat_map-append}
 use Rattle.std.proofs.lemmas.Bool.Decides.{nat_tests, Decides-eqb}
@@ -24,46 +23,13 @@ use Rattle.disasm.specs.declared.head.Head.{Head}
 use Rattle.disasm.specs.declared.operand.Operands.{Operands}
 use Rattle.disasm.specs.declared.operand.Operands.TheVariants.{Zero, One, Two, Three}
 use Rattle.disasm.specs.Names.{head_name}
-use Rattle.disasm.specs.AssemblyText.{kind_name, after_space, list_text, operands_text, head_of, operands_of, line_of, map_line_of, MapFits, ended, version_text, maps_text, code_text, parts_text, IsAssemblyText}
-use Rattle.disasm.specs.LineReading.{Lacks}
+use Rattle.text_lines.specs.Lines.{Lacks, ended}
+use Rattle.text_lines.proofs.shared.LineLemmas.{lacks_mid, more_lines, no_empty_line, one_line, same_front}
+use Rattle.disasm.specs.AssemblyText.{kind_name, after_space, list_text, operands_text, head_of, operands_of, line_of, map_line_of, MapFits, version_text, maps_text, code_text, parts_text, IsAssemblyText}
 use Rattle.disasm.specs.TextReading.{BeginsWithNoInstruction, BeginsWithNoMap, IsKnownInstruction, IsKnownMap, IsFirstInstruction, IsFirstMap, IsCodeRead, AreMapsRead, IsFirstBadLine, IsFaultyText}
 use Rattle.disasm.proofs.Heads.{by_name, named_again}
 use Rattle.disasm.proofs.shared.Bytes.{all_bytes, word_byte, all_append, lacks_from, weaken, widen, decimal_word}
 use Rattle.disasm.proofs.shared.Lines.{lacks_space, line_lacks_feed}
-
--- ---- marks
-
-pub lacks_mid : (c : ℕ) (text xs ys : List ℕ) → Lacks c text → text ≡ xs ++ c ∷ ys → ⊥
-lacks_mid c text xs ys lacks is =
-    let long : length text ≡ length xs + length (c ∷ ys) = ap length is ∙ length-append xs (c ∷ ys) in
-    lacks (length xs) (omega arith) (ap (λ (zs : List ℕ). get_or zs (length xs) 0) is ∙ get_or-append_seam xs c ys 0)
-
-lacks_tail : (c x : ℕ) (xs : List ℕ) → Lacks c (x ∷ xs) → Lacks c xs
-lacks_tail c x xs lacks i lt = lacks (suc i) (omega arith)
-
-lacks_head : (c x : ℕ) (xs : List ℕ) → Lacks c (x ∷ xs) → x ≡ c → ⊥
-lacks_head c x xs lacks is = lacks 0 (omega arith) is
-
-pub same_front : (c : ℕ) (xs ys us vs : List ℕ) → Lacks c xs → Lacks c us → xs ++ c ∷ ys ≡ us ++ c ∷ vs → (xs ≡ us) × (ys ≡ vs)
-same_front c [] ys [] vs a b e = (refl, ap (drop 1) e)
-same_front c [] ys (u ∷ us) vs a b e = absurd (lacks_head c u us b (sym (ap (λ (zs : List ℕ). get_or zs 0 0) e)))
-same_front c (x ∷ xs) ys [] vs a b e = absurd (lacks_head c x xs a (ap (λ (zs : List ℕ). get_or zs 0 0) e))
-same_front c (x ∷ xs) ys (u ∷ us) vs a b e =
-    let first : x ≡ u = ap (λ (zs : List ℕ). get_or zs 0 0) e in
-    let others = same_front c xs ys us vs (lacks_tail c x xs a) (lacks_tail c u us b) (ap (drop 1) e) in
-    (rw (first, others.0) refl, others.1)
-
--- a line feed after a line
-pub one_line : (line rest : List ℕ) → ended line ++ rest ≡ line ++ 10 ∷ rest
-one_line line rest = simp append_assoc refl
-
-more_lines : (line others rest : List ℕ) → (ended line ++ others) ++ rest ≡ line ++ 10 ∷ (others ++ rest)
-more_lines line others rest = simp append_assoc refl
-
-no_empty_line : (line rest : List ℕ) → line ++ 10 ∷ rest ≡ [] → ⊥
-no_empty_line line rest e =
-    let long : length (line ++ 10 ∷ rest) ≡ 0 = ap length e in
-    absurd (omega (arith, length-append line (10 ∷ rest)))
 
 -- ---- lines of maps
 

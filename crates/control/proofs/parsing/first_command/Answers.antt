@@ -1,7 +1,8 @@
 use Rattle.std.proofs.Common.{◌∙◌, sym, arith}
 use Rattle.std.proofs.lemmas.Str.Pattern.{split_parts}
-use Rattle.control.specs.ScriptReading.{Lacks}
-use Rattle.control.proofs.Scripts.{lacks_mid, same_front, line_lacks_feed}
+use Rattle.text_lines.specs.Lines.{Lacks}
+use Rattle.text_lines.proofs.shared.LineLemmas.{lacks_mid, same_front}
+use Rattle.control.proofs.Scripts.{line_lacks_feed}
 use Rattle.control.proofs.parsing.first_command.Goals as goal
 
 pub returns-in-None : goal.returns-in-None

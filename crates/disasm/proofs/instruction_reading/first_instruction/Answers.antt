@@ -1,8 +1,8 @@
 use Rattle.std.proofs.Common.{◌∙◌, sym, arith}
 use Rattle.std.proofs.lemmas.Str.Pattern.{split_parts}
-use Rattle.disasm.specs.LineReading.{Lacks}
+use Rattle.text_lines.specs.Lines.{Lacks}
+use Rattle.text_lines.proofs.shared.LineLemmas.{lacks_mid, same_front}
 use Rattle.disasm.proofs.shared.Lines.{line_lacks_feed}
-use Rattle.disasm.proofs.shared.Texts.{lacks_mid, same_front}
 use Rattle.disasm.proofs.instruction_reading.first_instruction.Goals as goal
 
 pub returns-in-None : goal.returns-in-None

@@ -3,7 +3,7 @@ use Rattle.std.proofs.lemmas.Str.Pattern.{split_after, split_parts, strip_prefix
 use Rattle.std.specs.Int.{w64}
 use Rattle.std.proofs.lemmas.Int.{to_z-of_z}
 use Rattle.std.proofs.lemmas.Bool.Decides.{not_from_Decides}
-use Rattle.disasm.specs.LineReading.{Lacks}
+use Rattle.text_lines.specs.Lines.{Lacks}
 use Rattle.disasm.proofs.Operands.{wide_case, bracket_case, register_case, number_case}
 use Rattle.disasm.proofs.reading.operand_of.Goals as goal
 

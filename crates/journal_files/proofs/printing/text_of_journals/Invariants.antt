@@ -1,5 +1,6 @@
 use Rattle.std.proofs.Common.{◌≡◌, ◌++◌, take}
-use Rattle.journal_files.specs.JournalText.{entries_text, all_entries, ended, header_text}
+use Rattle.text_lines.specs.Lines.{ended}
+use Rattle.journal_files.specs.JournalText.{entries_text, all_entries, header_text}
 use Rattle.journal_files.proofs.printing.text_of_journals.Given as goal
 
 abbrev pub invariant-shards : goal.invariant-shards

@@ -10,5 +10,5 @@ use Rattle.journal_files.proofs.reading.delete_of.Goals as goal
 pub returns-clause-found : goal.returns-clause-found
 unfolding Reads told_text
 returns-clause-found c = λ key reply fits replies is.
-    let parts = c.cut.ensures (encode_lower key) (reply_text reply) is (hex_lacks key fits.1) in
+    let parts = c.cut.ensures.both (encode_lower key) (reply_text reply) is (hex_lacks key fits.1) in
     rw (c.key_of.ensures.found key fits parts.0, c.answer_of.ensures.found reply replies parts.1) refl

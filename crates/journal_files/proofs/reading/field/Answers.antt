@@ -5,5 +5,5 @@ use Rattle.journal_files.proofs.reading.field.Goals as goal
 
 pub returns : goal.returns
 returns c = λ number rest lt is.
-    let parts = c.cut.ensures (decimal number) rest is (number_lacks number lt) in
+    let parts = c.cut.ensures.both (decimal number) rest is (number_lacks number lt) in
     (c.number_of.ensures number lt parts.0, parts.1)

@@ -1,5 +1,5 @@
 use Rattle.std.proofs.lemmas.Str.Pattern.{split_after}
-use Rattle.control.proofs.reading.cut.Goals as goal
+use Rattle.text_lines.proofs.cutting.cut.Goals as goal
 
 pub returns-in-Some-clause-both : goal.returns-in-Some-clause-both
 returns-in-Some-clause-both c = λ xs ys is lacks.
