@@ -39,16 +39,6 @@ pub fn row(width: Width, operation: AluOp, i: Interval, j: Interval) -> Interval
     }
 }
 
-/// How many bits the width has.
-fn bits_of(width: Width) -> u64
-    ensures { result ≡ width_bits width }
-{
-    match width {
-        Width::Bits32 => 32,
-        Width::Bits64 => 64,
-    }
-}
-
 /// Ends that fit the width, and else every number of it.
 fn fitting(width: Width, low: u64, high: u64) -> Interval
     ensures { result ≡ within (width_bits width) low high }
@@ -149,7 +139,7 @@ fn left_shift(width: Width, i: Interval, j: Interval) -> Interval
     if !j.is_constant() {
         return Interval::full(width);
     }
-    let power = Interval::constant(1u64 << (j.low % bits_of(width)));
+    let power = Interval::constant(1u64 << (j.low % u64::from(width.bits())));
     product(width, i, power)
 }
 
@@ -160,7 +150,7 @@ fn right_shift(width: Width, i: Interval, j: Interval) -> Interval
     if !j.is_constant() {
         return Interval::up_to(i.high);
     }
-    let count = j.low % bits_of(width);
+    let count = j.low % u64::from(width.bits());
     Interval {
         low: i.low >> count,
         high: i.high >> count,
