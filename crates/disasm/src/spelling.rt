@@ -1,7 +1,6 @@
 //! The spelling of an instruction: its first word and its operands.
 
 ghost use Rattle.std.specs.Prelude.{◌≡◌, ◌++◌, string_bytes, OnOk, IfOk};
-ghost use Rattle.ebpf_decode.specs.InstructionEncoding.{FieldsFit};
 ghost use Rattle.disasm.specs.AssemblyText.{source_operand, head_of, operands_of, line_of, IsAssemblyLine};
 
 use crate::head::Head;
@@ -82,12 +81,6 @@ fn operands_of(insn: Insn) -> Operands
     }
 }
 
-/// The numbers of an instruction are in their types' ranges.
-#[tactic(auto, unfolding(ebpf_decode::specs::InstructionEncoding::FieldsFit))]
-fn known(insn: Insn)
-    ensures { FieldsFit insn }
-{}
-
 /// Writes the instruction's line, without a line feed.
 #[tactic(auto, unfolding(crate::specs::AssemblyText::line_of))]
 pub(crate) fn put_line(alloc: Global, out: &mut String, insn: Insn) -> Result<(), AllocError>
@@ -101,7 +94,7 @@ pub(crate) fn put_line(alloc: Global, out: &mut String, insn: Insn) -> Result<()
 pub fn line(alloc: Global, insn: Insn) -> Result<String, AllocError>
     ensures { IfOk result (λ line. IsAssemblyLine insn (string_bytes line)) }
 {
-    known(insn);
+    insn.fields_fit();
     let mut out = String::new(alloc);
     put_line(alloc, &mut out, insn)?;
     Ok(out)
