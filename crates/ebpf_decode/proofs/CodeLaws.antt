@@ -17,9 +17,10 @@ use Rattle.ebpf_decode.specs.declared.insn.Insn.{Insn}
 use Rattle.ebpf_decode.specs.declared.insn.Insn.TheVariants.{Alu, Neg, Movsx, Movsx32, End, Ja, Ja32, JumpIf, Ldx, Ldxs, St, Stx, AtomicUpdate, Lddw, Ldmap, Ldval, CallHelper, Exit}
 use Rattle.ebpf_decode.specs.declared.version.Version.{Version}
 use Rattle.ebpf_decode.specs.Versions.{is_in_version, IsInVersion}
-use Rattle.ebpf_decode.specs.SlotForm.{slot_bytes, SlotFits}
-use Rattle.ebpf_decode.specs.InstructionEncoding.{slot, slot_of, more_slots_of, slot_count, slots_of_instruction, slots_of, total_slots, instruction_bytes, FieldsFit}
+use Rattle.ebpf_decode.specs.SlotForm.{slot_bytes}
+use Rattle.ebpf_decode.specs.InstructionEncoding.{slot, slot_of, more_slots_of, slot_count, slots_of_instruction, total_slots, instruction_bytes, FieldsFit}
 use Rattle.ebpf_decode.specs.InstructionReading.{◌>>=◌, class_of, reading_in, head_slot, head_at, wide_insn, second_at, at_slot, whole, step_at, pending_of, finished_by, code_from}
+use Rattle.ebpf_decode.proofs.Slots.{SlotFits, slots_of}
 use Rattle.ebpf_decode.proofs.InstructionLaws.{instruction_reads, head_is_read, whole_is, whole_is_no_head, whole_again, IsReadWhole}
 use Rattle.ebpf_decode.proofs.WideLaws.{head_reads, IsHeadOf, HeadFits, head_fits, second_found, wide_slots, wide_fits, wide_in_version, number_head_again, map_head_again, value_head_again, number_again, map_again, value_again}
 

@@ -32,11 +32,11 @@ use Rattle.isa.specs.declared.operation.Source.TheVariants.{Imm, Reg}
 use Rattle.ebpf_decode.specs.declared.slot.Slot.{Slot}
 use Rattle.ebpf_decode.specs.declared.insn.Insn.{Insn}
 use Rattle.ebpf_decode.specs.declared.insn.Insn.TheVariants.{Alu, Neg, Movsx, Movsx32, End, Ja, Ja32, JumpIf, Ldx, Ldxs, St, Stx, AtomicUpdate, Lddw, Ldmap, Ldval, CallHelper, Exit}
-use Rattle.ebpf_decode.specs.SlotForm.{SlotFits}
 use Rattle.isa.specs.InstructionCodes.{class_number, alu_class, jump_class, alu_code, alu_offset, mode_number, test_code, size_code, extension_size, width_size, atomic_code}
 use Rattle.isa.specs.Alu.{extension_bits, short_extension_bits}
 use Rattle.isa.specs.Swap.{swap_bits}
-use Rattle.ebpf_decode.specs.InstructionEncoding.{operation_opcode, memory_opcode, neg_opcode, order_opcode, source_bit, slot_of, more_slots_of, slots_of_instruction, slots_of, FieldsFit}
+use Rattle.ebpf_decode.specs.InstructionEncoding.{operation_opcode, memory_opcode, neg_opcode, order_opcode, source_bit, slot_of, more_slots_of, slots_of_instruction, FieldsFit}
+use Rattle.ebpf_decode.proofs.Slots.{SlotFits, slots_of}
 use Rattle.ebpf_decode.proofs.SlotFacts.{slot_small}
 
 -- ---- opcodes

@@ -1,4 +1,5 @@
 pub mod shared
+pub mod Slots
 pub mod SlotFacts
 pub mod FieldFacts
 pub mod Loops

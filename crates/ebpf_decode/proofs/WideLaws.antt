@@ -17,10 +17,11 @@ use Rattle.ebpf_decode.specs.declared.insn.Insn.TheVariants.{Lddw, Ldmap, Ldval}
 use Rattle.ebpf_decode.specs.declared.version.Version.{Version}
 use Rattle.ebpf_decode.specs.declared.version.Version.TheVariants.{V1, V2}
 use Rattle.ebpf_decode.specs.Versions.{has_value_addresses, is_in_version}
-use Rattle.ebpf_decode.specs.SlotForm.{same_slot, SlotFits}
+use Rattle.ebpf_decode.specs.SlotForm.{same_slot}
 use Rattle.isa.specs.InstructionCodes.{register_number}
 use Rattle.ebpf_decode.specs.InstructionEncoding.{slot, wide_opcode, slot_of, more_slots_of, slots_of_instruction, FieldsFit}
 use Rattle.ebpf_decode.specs.InstructionReading.{◌>>=◌, register_at, head_slot, exact_head, number_head_at, map_head_at, value_head_at, head_at, wide_insn, second_slot, second_at, reading_in, step_at}
+use Rattle.ebpf_decode.proofs.Slots.{SlotFits}
 use Rattle.ebpf_decode.proofs.shared.SlotLaws.{equal_from_same, same_itself}
 use Rattle.ebpf_decode.proofs.InstructionLaws.{register_again}
 

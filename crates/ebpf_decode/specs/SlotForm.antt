@@ -1,6 +1,6 @@
 -- A slot's eight bytes as fields (RFC 9669, section 3): opcode, destination in the low four bits of the second byte and source
 -- in the high four, a signed 16-bit offset, a signed 32-bit immediate, all little-endian.
-use Rattle.std.specs.Prelude.{ℕ, zero, suc, ◌+◌, ◌*◌, ◌/◌, ◌%◌, ◌<◌, Bool, ◌&&◌, ◌==◌, List, [], ◌∷◌, ◌++◌, drop, slice_index, FitsSigned}
+use Rattle.std.specs.Prelude.{ℕ, zero, suc, ◌+◌, ◌*◌, ◌/◌, ◌%◌, Bool, ◌&&◌, ◌==◌, List, [], ◌∷◌, ◌++◌, drop, slice_index}
 use Rattle.std.specs.Int.{w16, w32, to_le_bytes, from_le_bytes, cast_signed, cast_unsigned}
 use Rattle.std.specs.Ordering.{int_eq}
 use Rattle.ebpf_decode.specs.declared.slot.Slot.{Slot}
@@ -25,11 +25,3 @@ slots_at (suc n) bytes = slot_at bytes ∷ slots_at n (drop 8 bytes)
 
 abbrev pub same_slot : Slot → Slot → Bool
 same_slot a b = a.opcode == b.opcode && a.dst == b.dst && a.src == b.src && int_eq a.offset b.offset && int_eq a.immediate b.immediate
-
--- a slot that has bytes
-pub record SlotFits (s : Slot) : Type 0 where
-  pub opcode : s.opcode < 256
-  pub dst : s.dst < 16
-  pub src : s.src < 16
-  pub offset : FitsSigned w16 s.offset
-  pub immediate : FitsSigned w32 s.immediate

@@ -14,11 +14,12 @@ use Rattle.ebpf_decode.specs.declared.version.Version.{Version}
 use Rattle.ebpf_decode.specs.declared.version.Version.TheVariants.{V1, V2}
 use Rattle.ebpf_decode.specs.Versions.{version_number, version_of, is_in_version, IsInVersion}
 use Rattle.ebpf_decode.specs.SlotForm.{slot_bytes, slots_at}
-use Rattle.ebpf_decode.specs.InstructionEncoding.{slots_of, total_slots, slot_count, instruction_bytes, FieldsFit, IsInstructionEncoding}
+use Rattle.ebpf_decode.specs.InstructionEncoding.{total_slots, slot_count, instruction_bytes, FieldsFit, IsInstructionEncoding}
 use Rattle.ebpf_decode.specs.InstructionReading.{◌>>=◌, code_from}
 use Rattle.ebpf_decode.specs.MapForm.{map_bytes}
 use Rattle.ebpf_decode.specs.ImageContents.{Contents, IsEncodable}
 use Rattle.ebpf_decode.specs.ImageFormat.{head_bytes, image_bytes, IsImageEncoding, map_count, version_at, has_head, maps_at, code_at, image_at, has_code_size, may_ask_memory}
+use Rattle.ebpf_decode.proofs.Slots.{slots_of}
 use Rattle.ebpf_decode.proofs.shared.SlotLaws.{IsBytes, IsBytes-drop, both, slots_take, slots_fit, slots_again}
 use Rattle.ebpf_decode.proofs.CodeLaws.{bind_ok, IsAllowed, each_allowed, allowed_fit, allowed_in_version, code_found, code_again, length_slots, bytes_of_slots}
 use Rattle.ebpf_decode.proofs.MapLaws.{maps_take, maps_again}

@@ -11,8 +11,9 @@ use Rattle.std.proofs.lemmas.Bool.Decides.{Decides-int_eq}
 use Rattle.std.proofs.lemmas.Nat.{le_bytes_2, le_bytes_4, from_le_bytes-to_le_bytes_2, from_le_bytes-to_le_bytes_4}
 use Rattle.std.proofs.lemmas.List.{get_or-drop, length-drop}
 use Rattle.ebpf_decode.specs.declared.slot.Slot.{Slot}
-use Rattle.ebpf_decode.specs.SlotForm.{slot_bytes, slot_at, slots_at, same_slot, SlotFits}
+use Rattle.ebpf_decode.specs.SlotForm.{slot_bytes, slot_at, slots_at, same_slot}
 use Rattle.ebpf_decode.specs.InstructionEncoding.{slot}
+use Rattle.ebpf_decode.proofs.Slots.{SlotFits}
 
 -- ---- equality of slots
 
