@@ -2,7 +2,6 @@
 
 ghost use Rattle.std.specs.Prelude.{◌≡◌, ◌<◌, IfSome, IsTrue, None, length};
 ghost use Rattle.ebpf_decode.specs.InstructionEncoding.{total_slots};
-ghost use Rattle.abstract_state.specs.Soundness.{distance_of_jump};
 ghost use Rattle.abstract_state.specs.InPlace.{flow_by};
 ghost use Rattle.verifier.specs.Dataflow.{is_at, is_target, is_next, joined_where, arriving, arriving_from};
 ghost use Rattle.verifier.specs.Surveys.{slot_of, IsSurvey};
@@ -13,7 +12,7 @@ use crate::cause::Cause;
 use abstract_state::{Kind, Site, State, Way};
 use ebpf_decode::{Image, Insn, MapDef, Version};
 use isa::Register;
-use verifier::Survey;
+use verifier::{Survey, distance_of_jump};
 
 /// What the edges of an instruction bring of a register to a slot.
 #[derive(Clone, Copy)]
@@ -36,18 +35,6 @@ pub enum Back {
     Further(u32),
 }
 
-/// How far an instruction jumps; 0 where it doesn't.
-fn distance_of(insn: Insn) -> i32
-    ensures { result ≡ distance_of_jump insn }
-{
-    match insn {
-        Insn::Ja { distance } => i32::from(distance),
-        Insn::Ja32 { distance } => distance,
-        Insn::JumpIf { distance, .. } => i32::from(distance),
-        _ => 0,
-    }
-}
-
 /// Whether a place is a slot.
 fn is_at(place: i64, target: u32) -> bool
     ensures { result ≡ is_at place target }
@@ -63,7 +50,8 @@ fn is_at(place: i64, target: u32) -> bool
 fn is_target(slot: u32, insn: Insn, target: u32) -> bool
     ensures { result ≡ is_target slot insn target }
 {
-    is_at(i64::from(slot) + 1 + i64::from(distance_of(insn)), target)
+    let distance = i64::from(distance_of_jump(insn));
+    is_at(i64::from(slot) + 1 + distance, target)
 }
 
 /// Whether the next instruction begins there.

@@ -28,7 +28,7 @@ pub(crate) enum Stop {
 
 /// How far the instruction jumps; 0 where it doesn't.
 #[tactic(auto, using(crate::proofs::Distances::no_distance))]
-fn distance_of(insn: Insn) -> i32
+pub fn distance_of_jump(insn: Insn) -> i32
     ensures { result ≡ distance_of_jump insn }
 {
     match insn.jump_distance() {
@@ -43,7 +43,7 @@ fn target_of(slot: usize, insn: Insn) -> usize
     requires forward { pos 0 ≤ℤ distance_of_jump insn }
     ensures { pos result ≡ pos (slot + 1) +ℤ distance_of_jump insn }
 {
-    slot + 1 + distance_of(insn) as usize
+    slot + 1 + distance_of_jump(insn) as usize
 }
 
 /// The two edges of a conditional jump: what is known where it is taken is brought there, what is known where it isn't falls on.

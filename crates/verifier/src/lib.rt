@@ -12,6 +12,7 @@ pub mod resolved;
 pub mod survey;
 mod verified;
 
+pub use advance::distance_of_jump;
 pub use op::Op;
 pub use reject::Reject;
 pub use resolved::{Memory, Resolved};

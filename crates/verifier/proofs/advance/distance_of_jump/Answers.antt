@@ -1,6 +1,6 @@
 use Rattle.std.proofs.Common.{rules, ◌≡◌, to_z, of_z, w32, sym, ◌∙◌}
 use Rattle.verifier.proofs.Distances.{some_distance}
-use Rattle.verifier.proofs.advance.distance_of.Goals as goal
+use Rattle.verifier.proofs.advance.distance_of_jump.Goals as goal
 
 pub returns-in-Some : goal.returns-in-Some
 returns-in-Some c =
