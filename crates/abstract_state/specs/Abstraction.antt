@@ -1,6 +1,7 @@
 -- What a state says of a run: what the kinds of its registers and the words of its stack stand for (abstract interpretation:
 -- the run's state lies in the concretization).
-use Rattle.std.specs.Prelude.{◌≡◌, ◌⊎◌, ℕ, ◌+◌, ◌*◌, ◌<◌, ◌≤◌, ◌^◌, Bool, true, false, ℤ, pos, List, length, take, drop, All, IsTrue, Option, Some, None, Ok, slice_get, slice_index_or}
+use Rattle.std.specs.Prelude.{◌≡◌, ◌⊎◌, ℕ, ◌+◌, ◌*◌, ◌<◌, ◌≤◌, ◌^◌, Bool, true, false, ℤ, pos, List, length, take, drop, All, IsTrue}
+use Rattle.std.specs.Prelude.{Option, Some, None, Ok, slice_get, slice_index_or}
 use Rattle.isa.specs.declared.operation.Register.{Register}
 use Rattle.isa.specs.declared.operation.Size.TheVariants.{U64}
 use Rattle.ebpf_decode.specs.declared.map.MapDef.{MapDef}

@@ -13,7 +13,8 @@ use Rattle.isa.specs.declared.operation.Source.TheVariants.{Imm, Reg}
 use Rattle.isa.specs.declared.operation.Register.{Register}
 use Rattle.isa.specs.declared.operation.Register.TheVariants.{R0, R1, R2, R3, R4, R10}
 use Rattle.ebpf_decode.specs.declared.insn.Insn.{Insn}
-use Rattle.ebpf_decode.specs.declared.insn.Insn.TheVariants.{Alu, Neg, Movsx, Movsx32, End, Ja, Ja32, JumpIf, Ldx, Ldxs, St, Stx, AtomicUpdate, Lddw, Ldmap, Ldval, CallHelper, Exit}
+use Rattle.ebpf_decode.specs.declared.insn.Insn.TheVariants.{Alu, Neg, Movsx, Movsx32, End, Ja, Ja32, JumpIf, Ldx, Ldxs, St, Stx}
+use Rattle.ebpf_decode.specs.declared.insn.Insn.TheVariants.{AtomicUpdate, Lddw, Ldmap, Ldval, CallHelper, Exit}
 use Rattle.ebpf_decode.specs.declared.map.MapDef.{MapDef}
 use Rattle.ebpf_decode.specs.declared.map.MapKind.{MapKind}
 use Rattle.ebpf_decode.specs.declared.map.MapKind.TheVariants.{Array}

@@ -3,7 +3,8 @@
 ghost use Rattle.std.specs.Prelude.{◌≡◌, ◌<◌, ◌≤◌, ◌+◌, ◌%◌};
 ghost use Rattle.isa.specs.InstructionCodes.{size_bytes};
 ghost use Rattle.abstract_scalar.specs.Intervals.{full_of};
-ghost use Rattle.abstract_state.specs.Words.{loaded_number, is_byte_set, are_bytes_set, bytes_loaded, narrow_loaded, spilled_loaded, word_loaded, narrow_storable, storable};
+ghost use Rattle.abstract_state.specs.Words.{loaded_number, is_byte_set, are_bytes_set, bytes_loaded, narrow_loaded, spilled_loaded};
+ghost use Rattle.abstract_state.specs.Words.{word_loaded, narrow_storable, storable};
 ghost use Rattle.abstract_state.specs.InPlace.{kept};
 ghost use Rattle.abstract_state.specs.Access.{context_kind, context_loaded, loaded_kind, signed_loaded, stack_stored, stored};
 

@@ -5,7 +5,9 @@ ghost use Rattle.std.specs.Int.RustNames.{int_le};
 ghost use Rattle.isa.specs.Words.{signed_value};
 ghost use Rattle.abstract_scalar.specs.Transfer.{transfer_of};
 ghost use Rattle.abstract_state.specs.InPlace.{kept};
-ghost use Rattle.abstract_state.specs.Arithmetic.{source_kind, blamed, number_kind, moved_kind, distance_of, moves_pointers, moved_pointer, moved_value, moved_far, pointer_sum, is_movable, combined_pointer, combined_kind, alu_kind, after_alu_of};
+ghost use Rattle.abstract_state.specs.Arithmetic.{source_kind, blamed, number_kind, moved_kind, distance_of, moves_pointers, moved_pointer};
+ghost use Rattle.abstract_state.specs.Arithmetic.{moved_value, moved_far, pointer_sum, is_movable, combined_pointer, combined_kind};
+ghost use Rattle.abstract_state.specs.Arithmetic.{alu_kind, after_alu_of};
 
 use crate::kind::{Kind, Offsets};
 use crate::places::{STACK_BYTES, offsets_within, place_within};

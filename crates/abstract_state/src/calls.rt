@@ -2,7 +2,8 @@
 
 ghost use Rattle.std.specs.Prelude.{◌≡◌};
 ghost use Rattle.abstract_state.specs.InPlace.{kept};
-ghost use Rattle.abstract_state.specs.Calls.{helper_at, map_argument, stack_argument, number_argument, context_argument, is_inside_stack, key_arguments, update_arguments, head_arguments, returned, any_number, call_of};
+ghost use Rattle.abstract_state.specs.Calls.{helper_at, map_argument, stack_argument, number_argument, context_argument, is_inside_stack};
+ghost use Rattle.abstract_state.specs.Calls.{key_arguments, update_arguments, head_arguments, returned, any_number, call_of};
 
 use crate::fact::Fact;
 use crate::kind::Kind;

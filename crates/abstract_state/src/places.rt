@@ -2,7 +2,8 @@
 
 ghost use Rattle.std.specs.Prelude.{◌≡◌, ◌≤◌, slice_get};
 ghost use Rattle.abstract_state.specs.States.{value_size_of, key_size_of};
-ghost use Rattle.abstract_state.specs.Places.{place_within, range_within, aligned, stack_access, packet_access, offsets_within, value_range, value_access, atomic_access};
+ghost use Rattle.abstract_state.specs.Places.{place_within, range_within, aligned, stack_access, packet_access, offsets_within};
+ghost use Rattle.abstract_state.specs.Places.{value_range, value_access, atomic_access};
 
 use crate::kind::Offsets;
 use crate::refusal::Refusal;

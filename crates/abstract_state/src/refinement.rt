@@ -1,7 +1,9 @@
 //! Conditional jumps: which tests are allowed, and what is known on their two edges.
 
 ghost use Rattle.std.specs.Prelude.{◌≡◌};
-ghost use Rattle.abstract_state.specs.Refinement.{is_null_test, is_order, against_scalar, against_end, against_packet, allowed_test, is_equal_edge, range_before_end, range_after_end, fact_of_end, fact_of, cut_kind, number_cut, refined, refine_state};
+ghost use Rattle.abstract_state.specs.Refinement.{is_null_test, is_order, against_scalar, against_end, against_packet, allowed_test};
+ghost use Rattle.abstract_state.specs.Refinement.{is_equal_edge, range_before_end, range_after_end, fact_of_end, fact_of, cut_kind};
+ghost use Rattle.abstract_state.specs.Refinement.{number_cut, refined, refine_state};
 
 use crate::arithmetic::blamed;
 use crate::fact::Fact;

@@ -40,7 +40,10 @@ ghost use Rattle.abstract_state.specs.Access.{load_of, signed_load_of, with_fetc
 ghost use Rattle.abstract_state.specs.States.{kind_of};
 ghost use Rattle.abstract_state.specs.Unary.{unary_change};
 ghost use Rattle.abstract_state.specs.InPlace.{kept, flow_kept, edge_state};
-ghost use Rattle.abstract_state.specs.Flow.{writable, fetch_writable, is_set, reads, reads_source, reads_both, reads_operands, reads_expected, reads_atomic, reads_arguments, alu_flow, number_of, operand_of, unary_flow, load_flow, store_flow, store_register_flow, atomic_flow, known_map, map_flow, array_size, address_in, value_address, address_flow, number_flow, call_flow, verdict_kind, flow_of};
+ghost use Rattle.abstract_state.specs.Flow.{writable, fetch_writable, is_set, reads, reads_source, reads_both, reads_operands};
+ghost use Rattle.abstract_state.specs.Flow.{reads_expected, reads_atomic, reads_arguments, alu_flow, number_of, operand_of, unary_flow};
+ghost use Rattle.abstract_state.specs.Flow.{load_flow, store_flow, store_register_flow, atomic_flow, known_map, map_flow, array_size};
+ghost use Rattle.abstract_state.specs.Flow.{address_in, value_address, address_flow, number_flow, call_flow, verdict_kind, flow_of};
 
 use crate::access::narrow_storable;
 use crate::calls::helper_at;

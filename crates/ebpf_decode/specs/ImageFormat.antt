@@ -1,13 +1,15 @@
 -- The image format: the bytes 58 4c 42 50, the version (1 or 2), the number of maps, two zero bytes; sixteen bytes for each
 -- map; then the slots to the end. Reading gives the image or the first fault: in the order of the
 -- numbers, but of 15 to 19 the first slot's.
-use Rattle.std.specs.Prelude.{◌≡◌, ◌≢◌, ℕ, zero, suc, ◌+◌, ◌*◌, ◌/◌, ◌%◌, Bool, nat_le, nat_lt, ◌==◌, ◌&&◌, ◌||◌, not, List, [], ◌∷◌, ◌++◌, length, drop, slice_index, Option, Some, None, is_some, unwrap_or, Result, Ok, Err, if◌then◌else◌}
+use Rattle.std.specs.Prelude.{◌≡◌, ◌≢◌, ℕ, zero, suc, ◌+◌, ◌*◌, ◌/◌, ◌%◌, Bool, nat_le, nat_lt, ◌==◌, ◌&&◌, ◌||◌, not, List, [], ◌∷◌, ◌++◌}
+use Rattle.std.specs.Prelude.{length, drop, slice_index, Option, Some, None, is_some, unwrap_or, Result, Ok, Err, if◌then◌else◌}
 use Rattle.std.specs.List.{flat_map}
 use Rattle.std.specs.Option.{ok_or}
 use Rattle.ebpf_decode.specs.declared.insn.Insn.{Insn}
 use Rattle.ebpf_decode.specs.declared.map.MapDef.{MapDef}
 use Rattle.ebpf_decode.specs.declared.fault.DecodeFault.{DecodeFault}
-use Rattle.ebpf_decode.specs.declared.fault.DecodeFault.TheVariants.{BadHead, BadMap, Empty, NotWhole, TooLong, UnknownOpcode, NotInProfile, BadRegister, FieldNotZero, WideCut, Memory}
+use Rattle.ebpf_decode.specs.declared.fault.DecodeFault.TheVariants.{BadHead, BadMap, Empty, NotWhole, TooLong, UnknownOpcode, NotInProfile}
+use Rattle.ebpf_decode.specs.declared.fault.DecodeFault.TheVariants.{BadRegister, FieldNotZero, WideCut, Memory}
 use Rattle.ebpf_decode.specs.declared.version.Version.{Version}
 use Rattle.ebpf_decode.specs.declared.version.Version.TheVariants.{V1}
 use Rattle.ebpf_decode.specs.Versions.{version_number, version_of, is_in_version}
@@ -40,7 +42,10 @@ version_at bytes = unwrap_or (version_of (slice_index bytes 4)) V1
 
 -- a whole head and list of maps: magic, version, at most 16 maps, two zeros, and sixteen bytes for each map
 abbrev pub has_head : List ℕ → Bool
-has_head bytes = nat_le 8 (length bytes) && (slice_index bytes 0 == 0x58) && (slice_index bytes 1 == 0x4c) && (slice_index bytes 2 == 0x42) && (slice_index bytes 3 == 0x50) && is_some (version_of (slice_index bytes 4)) && nat_le (map_count bytes) 16 && (slice_index bytes 6 == 0) && (slice_index bytes 7 == 0) && nat_le (8 + 16 * map_count bytes) (length bytes)
+has_head bytes =
+    nat_le 8 (length bytes) && (slice_index bytes 0 == 0x58) && (slice_index bytes 1 == 0x4c) && (slice_index bytes 2 == 0x42) &&
+    (slice_index bytes 3 == 0x50) && is_some (version_of (slice_index bytes 4)) && nat_le (map_count bytes) 16 &&
+    (slice_index bytes 6 == 0) && (slice_index bytes 7 == 0) && nat_le (8 + 16 * map_count bytes) (length bytes)
 
 -- so many maps, the first of this number, and the bytes after them
 unfoldable pub maps_at : Version → ℕ → ℕ → List ℕ → Result (List MapDef × List ℕ) DecodeFault
@@ -105,7 +110,8 @@ or_else (Some fault) second = Some fault
 
 -- the fault that the encoding of these maps and instructions has
 unfoldable pub first_part_fault : Version → List MapDef → List Insn → Option DecodeFault
-first_part_fault version maps code = if nat_lt 16 (length maps) then Some BadHead else or_else (first_bad_map version 0 maps) (or_else (code_fault code) (version_fault version 0 code))
+first_part_fault version maps code =
+    if nat_lt 16 (length maps) then Some BadHead else or_else (first_bad_map version 0 maps) (or_else (code_fault code) (version_fault version 0 code))
 
 -- the number that a fault is printed with
 abbrev pub fault_number : DecodeFault → ℕ

@@ -1,6 +1,7 @@
 -- What one slot is read as, or its first fault. Within a slot the lower fault comes first: the opcode and the fields that select
 -- are tested before the registers, and these before the unused fields.
-use Rattle.std.specs.Prelude.{ℕ, ◌+◌, ◌-◌, ◌*◌, ◌^◌, ◌/◌, ◌%◌, Option, Some, None, Result, Ok, Err, Bool, true, false, ℤ, pos, List, [], ◌∷◌, ◌++◌, ◌==◌, nat_le, ◌&&◌, ◌||◌, not, if◌then◌else◌}
+use Rattle.std.specs.Prelude.{ℕ, ◌+◌, ◌-◌, ◌*◌, ◌^◌, ◌/◌, ◌%◌, Option, Some, None, Result, Ok, Err, Bool, true, false, ℤ, pos, List, []}
+use Rattle.std.specs.Prelude.{◌∷◌, ◌++◌, ◌==◌, nat_le, ◌&&◌, ◌||◌, not, if◌then◌else◌}
 use Rattle.std.specs.List.{find}
 use Rattle.std.specs.Int.{w32, cast_unsigned}
 use Rattle.std.specs.Option.{ok_or}
@@ -29,7 +30,8 @@ use Rattle.ebpf_decode.specs.declared.wide.WideHead.TheVariants.{Number, Map, Va
 use Rattle.ebpf_decode.specs.declared.wide.SlotReading.{SlotReading}
 use Rattle.ebpf_decode.specs.declared.wide.SlotReading.TheVariants.{Whole, Head}
 use Rattle.ebpf_decode.specs.declared.insn.Insn.{Insn}
-use Rattle.ebpf_decode.specs.declared.insn.Insn.TheVariants.{Alu, Neg, Movsx, Movsx32, End, Ja, Ja32, JumpIf, Ldx, Ldxs, St, Stx, AtomicUpdate, Lddw, Ldmap, Ldval, CallHelper, Exit}
+use Rattle.ebpf_decode.specs.declared.insn.Insn.TheVariants.{Alu, Neg, Movsx, Movsx32, End, Ja, Ja32, JumpIf, Ldx, Ldxs, St, Stx}
+use Rattle.ebpf_decode.specs.declared.insn.Insn.TheVariants.{AtomicUpdate, Lddw, Ldmap, Ldval, CallHelper, Exit}
 use Rattle.ebpf_decode.specs.declared.version.Version.{Version}
 use Rattle.ebpf_decode.specs.declared.version.Version.TheVariants.{V1, V2}
 use Rattle.ebpf_decode.specs.SlotForm.{same_slot}
@@ -39,8 +41,11 @@ use Rattle.isa.specs.declared.operation.Mode.{Mode}
 use Rattle.isa.specs.declared.operation.Mode.TheVariants as modes
 use Rattle.isa.specs.Alu.{extension_bits, short_extension_bits}
 use Rattle.isa.specs.Swap.{swap_bits}
-use Rattle.isa.specs.InstructionCodes.{register_number, register_of, class_of_opcode, alu_code, alu_offset, alu_ops, end_code, extensions, short_extensions, orders, swap_widths, test_code, tests, mode_of_opcode, size_code, sizes, extension_size, width_size, widths, atomic_code, atomic_ops}
-use Rattle.ebpf_decode.specs.InstructionEncoding.{slot, slot_of, wide_opcode, neg_opcode, movsx_opcode, order_opcode, ja_opcode, ja32_opcode, call_opcode, exit_opcode}
+use Rattle.isa.specs.InstructionCodes.{register_number, register_of, class_of_opcode, alu_code, alu_offset, alu_ops, end_code, extensions}
+use Rattle.isa.specs.InstructionCodes.{short_extensions, orders, swap_widths, test_code, tests, mode_of_opcode, size_code, sizes}
+use Rattle.isa.specs.InstructionCodes.{extension_size, width_size, widths, atomic_code, atomic_ops}
+use Rattle.ebpf_decode.specs.InstructionEncoding.{slot, slot_of, wide_opcode, neg_opcode, movsx_opcode, order_opcode, ja_opcode}
+use Rattle.ebpf_decode.specs.InstructionEncoding.{ja32_opcode, call_opcode, exit_opcode}
 
 infixl 10 ◌>>=◌
 abbrev pub ◌>>=◌ : {A B E : Type 0} → Result A E → (A → Result B E) → Result B E

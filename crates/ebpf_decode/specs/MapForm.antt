@@ -47,7 +47,8 @@ allowed version m = if is_allowed_map version m then Some m else None
 
 abbrev pub map_of_kind : Version → Option MapKind → ℕ → ℕ → ℕ → Option MapDef
 map_of_kind version None key_size value_size max_entries = None
-map_of_kind version (Some kind) key_size value_size max_entries = allowed version (record { kind = kind; key_size = key_size; value_size = value_size; max_entries = max_entries })
+map_of_kind version (Some kind) key_size value_size max_entries =
+    allowed version (record { kind = kind; key_size = key_size; value_size = value_size; max_entries = max_entries })
 
 -- the map at the front of the bytes, if it is one that images of this version may have
 unfoldable pub map_at : Version → List ℕ → Option MapDef

@@ -17,13 +17,15 @@ use Rattle.verifier.specs.Rejects.{reject_of_refusal}
 -- of a program that some entry states let through, only a want of memory can be answered
 abbrev pub HasOneAnswer : Type 0
 HasOneAnswer =
-    (version : Version) (maps : List MapDef) (code : List Insn) (states : List (Option State)) (reject : Reject) → Accepts version maps code states → IsFirstReject version maps code reject →
+    (version : Version) (maps : List MapDef) (code : List Insn) (states : List (Option State)) (reject : Reject) →
+    Accepts version maps code states → IsFirstReject version maps code reject →
     reject ≡ Memory
 
 -- a refused program has one first reject, but for a want of memory
 abbrev pub FirstRejectIsOne : Type 0
 FirstRejectIsOne =
-    (version : Version) (maps : List MapDef) (code : List Insn) (one other : Reject) → IsFirstReject version maps code one → IsFirstReject version maps code other →
+    (version : Version) (maps : List MapDef) (code : List Insn) (one other : Reject) →
+    IsFirstReject version maps code one → IsFirstReject version maps code other →
     one ≢ Memory → other ≢ Memory → one ≡ other
 
 -- a rule that is broken before the first jump is told, whatever memory there is
@@ -42,5 +44,6 @@ EachInstructionHasState =
 -- a program of an image, of any version and over maps of any kind, that some entry states let through is safe
 abbrev pub AcceptedIsSafe : Type 0
 AcceptedIsSafe =
-    (version : Version) (maps : List MapDef) (code : List Insn) (states : List (Option State)) → IsEncodable version maps code → Accepts version maps code states →
+    (version : Version) (maps : List MapDef) (code : List Insn) (states : List (Option State)) →
+    IsEncodable version maps code → Accepts version maps code states →
     IsSafeImage maps code

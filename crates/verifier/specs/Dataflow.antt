@@ -1,5 +1,6 @@
 -- Entry states: what is known before an instruction is what flows along the edges that lead to it, joined.
-use Rattle.std.specs.Prelude.{◌≡◌, ℕ, zero, suc, ◌+◌, ◌<◌, ◌==◌, Bool, true, false, ℤ, pos, negsuc, ◌+ℤ◌, List, [], ◌∷◌, ◌++◌, Option, Some, None, Ok, Err, IsOk, IsTrue, slice_index_or, if◌then◌else◌}
+use Rattle.std.specs.Prelude.{◌≡◌, ℕ, zero, suc, ◌+◌, ◌<◌, ◌==◌, Bool, true, false, ℤ, pos, negsuc, ◌+ℤ◌, List, [], ◌∷◌, ◌++◌, Option, Some}
+use Rattle.std.specs.Prelude.{None, Ok, Err, IsOk, IsTrue, slice_index_or, if◌then◌else◌}
 use Rattle.ebpf_decode.specs.declared.insn.Insn.{Insn}
 use Rattle.ebpf_decode.specs.declared.map.MapDef.{MapDef}
 use Rattle.ebpf_decode.specs.declared.version.Version.{Version}
@@ -136,5 +137,6 @@ pub record IsFirstBroken (version : Version) (maps : List MapDef) (code : List I
 -- answered in place of a rule of kinds, where memory may have been asked for before the rule was looked at.
 pub data IsFirstReject (version : Version) (maps : List MapDef) (code : List Insn) (reject : Reject) : Type 0 where
   has_no_shape : (fault : ShapeFault) → IsFirstFault code fault → reject ≡ reject_of_shape fault → IsFirstReject version maps code reject
-  breaks_rule : (slot : ℕ) (why : Refusal) → IsFirstBroken version maps code slot why → reject ≡ reject_of_refusal slot why → IsFirstReject version maps code reject
+  breaks_rule : (slot : ℕ) (why : Refusal) → IsFirstBroken version maps code slot why →
+      reject ≡ reject_of_refusal slot why → IsFirstReject version maps code reject
   wants_memory : HasShape code → MayAskMemory version maps code → reject ≡ Memory → IsFirstReject version maps code reject

@@ -6,7 +6,10 @@ use Rattle.image_shape.specs.declared.fault.ShapeFault.TheVariants as shape
 use Rattle.abstract_state.specs.declared.refusal.Refusal.{Refusal}
 use Rattle.abstract_state.specs.declared.refusal.Refusal.TheVariants as rule
 use Rattle.verifier.specs.declared.reject.Reject.{Reject}
-use Rattle.verifier.specs.declared.reject.Reject.TheVariants.{JumpBackward, JumpOutside, JumpIntoWide, FallsOff, Unreachable, UnsetRegister, WrongKind, PacketBounds, StackBounds, StackUnset, ValueBounds, Misaligned, ContextAccess, ReadOnlyFp, UnknownHelper, BadArgument, PointerLeak, UnknownMap, NotArrayMap, Memory}
+use Rattle.verifier.specs.declared.reject.Reject.TheVariants.{JumpBackward, JumpOutside, JumpIntoWide, FallsOff, Unreachable, UnsetRegister}
+use Rattle.verifier.specs.declared.reject.Reject.TheVariants.{WrongKind, PacketBounds, StackBounds, StackUnset, ValueBounds, Misaligned}
+use Rattle.verifier.specs.declared.reject.Reject.TheVariants.{ContextAccess, ReadOnlyFp, UnknownHelper, BadArgument, PointerLeak}
+use Rattle.verifier.specs.declared.reject.Reject.TheVariants.{UnknownMap, NotArrayMap, Memory}
 
 abbrev pub reject_of_shape : ShapeFault → Reject
 reject_of_shape (shape.JumpBackward slot) = JumpBackward slot
