@@ -35,7 +35,6 @@
 //! unknown helper or map; then an unset register, the destination before the source; then the rule of the instruction's class.
 
 ghost use Rattle.std.specs.Prelude.{◌≡◌, Some};
-ghost use Rattle.semantics.specs.Semantics.{fetched_register};
 ghost use Rattle.abstract_state.specs.Access.{load_of, signed_load_of, with_fetched_kind, expects, atomic_on};
 ghost use Rattle.abstract_state.specs.States.{kind_of};
 ghost use Rattle.abstract_state.specs.Unary.{unary_change};
@@ -60,7 +59,7 @@ use isa::{
     AluOp, AtomicOp, ByteOrder, Extension, Register, ShortExtension, Size, Source, SwapWidth, Test,
     Width,
 };
-use semantics::Helper;
+use semantics::{Helper, fetched_register};
 
 /// R10 is read-only.
 fn writable(register: Register) -> Result<(), Refusal>
@@ -69,20 +68,6 @@ fn writable(register: Register) -> Result<(), Refusal>
     match register {
         Register::R10 => Err(Refusal::ReadOnlyFp),
         _ => Ok(()),
-    }
-}
-
-/// The register that gets the old value.
-fn fetched_register(op: AtomicOp, src: Register) -> Option<Register>
-    ensures { result ≡ fetched_register op src }
-{
-    match op {
-        AtomicOp::AtomicAdd => None,
-        AtomicOp::AtomicOr => None,
-        AtomicOp::AtomicAnd => None,
-        AtomicOp::AtomicXor => None,
-        AtomicOp::CompareExchange => Some(Register::R0),
-        _ => Some(src),
     }
 }
 

@@ -1,6 +1,7 @@
 //! The written meaning of a run and of a map: what the verifier, the maps and the machine are held to.
 #![tactic(auto)]
 
+pub mod atomic;
 pub mod bytes;
 pub mod call;
 mod full;
@@ -11,6 +12,7 @@ pub mod options;
 pub mod plan;
 pub mod verdict;
 
+pub use atomic::fetched_register;
 pub use bytes::{Key, Value};
 pub use call::{Call, Caller, CellRef, Entry, Reply, SectionChange};
 pub use full::JournalFull;
