@@ -175,7 +175,8 @@ fn found_answer(cell: Option<u64>) -> i32
     }
 }
 
-fn delete_answer_of_kind(kind: MapKind, cell: Option<u64>) -> i32
+/// What a Delete answers of a key that has this cell or none: -22 for an array, -2 for an absent key.
+pub fn delete_answer_of_kind(kind: MapKind, cell: Option<u64>) -> i32
     ensures { result ≡ delete_answer_of_kind kind cell }
 {
     match kind {

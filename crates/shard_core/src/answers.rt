@@ -1,11 +1,11 @@
-//! What an Update and a Delete answer.
+//! What an Update answers.
 
 ghost use Rattle.std.specs.Prelude.{◌≡◌, Option, None};
 ghost use Rattle.shard_core.specs.Contents.{AsCounted};
 ghost use Rattle.ebpf_decode.specs.declared.map.MapKind.TheVariants.{Hash};
 ghost use Rattle.semantics.specs.PlanLimits.{IsPlan};
 ghost use Rattle.semantics.specs.Linux.{errno_code, success};
-ghost use Rattle.semantics.specs.SequentialShard.{new_key_answer, absent_key_answer, update_answer_of_kind, delete_answer_of_kind};
+ghost use Rattle.semantics.specs.SequentialShard.{new_key_answer, absent_key_answer, update_answer_of_kind};
 
 use ebpf_decode::MapKind;
 use one_thread_map::answers::present_key_answer;
@@ -62,26 +62,5 @@ pub(crate) fn update_answer(
         MapKind::Array => Errno::TooBig.code(),
         MapKind::Hash => absent_key_answer(plan, counts, flags),
         MapKind::LruHash => absent_key_answer(plan, counts, flags),
-    }
-}
-
-/// What a Delete answers of a key that has this cell or none: -22 for an array, -2 for an absent key.
-pub(crate) fn delete_answer(kind: MapKind, cell: Option<u64>) -> i32
-    ensures { result ≡ delete_answer_of_kind kind cell }
-{
-    match kind {
-        MapKind::Array => Errno::Invalid.code(),
-        MapKind::Hash => found_answer(cell),
-        MapKind::LruHash => found_answer(cell),
-    }
-}
-
-/// What a Delete of a map with keys answers.
-fn found_answer(cell: Option<u64>) -> i32
-    ensures { result ≡ delete_answer_of_kind Hash cell }
-{
-    match cell {
-        Some(_) => 0,
-        None => Errno::NoEntry.code(),
     }
 }

@@ -10,7 +10,7 @@ ghost use Rattle.shard_core.specs.FewHeld.{FewAreHeld};
 ghost use Rattle.shard_core.specs.JournaledShard.{opened_shard, state_of, sequential_reply};
 ghost use Rattle.shard_core.specs.Calls.{MayCall, IsFullFor, after_call, enter_call, leave_call, lookup_call, load_call, store_call, atomic_call, update_call, delete_call, reclaim_call};
 
-use crate::answers::{Counts, delete_answer, update_answer};
+use crate::answers::{Counts, update_answer};
 use crate::contents::{open_cells, put_value, retire_key};
 use crate::keys::KeyTable;
 use crate::places::{Places, count, floor, set};
@@ -18,6 +18,7 @@ use crate::ranges::{change_number, number_in, put_number};
 use isa::AtomicOp;
 use journal::{AtomicChange, CellRange, Journal};
 use map_cells::Cells;
+use one_thread_map::answers::delete_answer_of_kind;
 use semantics::{Call, Caller, Errno, JournalFull, SectionChange, ShardPlan, UpdateFlags};
 use std::alloc::{AllocError, Global};
 use std::marker::Model;
@@ -266,7 +267,7 @@ impl Shard {
         requires { length key.now ≡ self.now.plan.definition.key_size }
         ensures { result ≡ delete_answer self.now.plan (state_of self.now) key.now }
     {
-        delete_answer(self.plan.definition.kind, self.keys.find(key))
+        delete_answer_of_kind(self.plan.definition.kind, self.keys.find(key))
     }
 
     /// Sets the value of a key as bpf(2) has it, and gives its answer: 0, or Linux's error number, negated; then the value is not set.
