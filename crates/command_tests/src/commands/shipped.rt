@@ -21,7 +21,12 @@ const SIZES: [(&str, &str); 5] = [
 /// Sizes that no lookup table has.
 const NO_SIZES: [&str; 4] = ["0", "8", "65536", "4294967295"];
 
-/// A command over one file, or over none where its name is empty.
+/// A command over an empty folder.
+fn alone<R: Threads + Wait + Sync>(rt: &R, alloc: Global, line: &str) -> Result<Given, Fail> {
+    serve_line(rt, alloc, MemoryFolder::new(alloc), line)
+}
+
+/// A command over one file.
 fn over<R: Threads + Wait + Sync>(
     rt: &R,
     alloc: Global,
@@ -30,9 +35,7 @@ fn over<R: Threads + Wait + Sync>(
     line: &str,
 ) -> Result<Given, Fail> {
     let mut folder = MemoryFolder::new(alloc);
-    if !name.is_empty() {
-        folder.write(alloc, name, bytes)?;
-    }
+    folder.write(alloc, name, bytes)?;
     serve_line(rt, alloc, folder, line)
 }
 
@@ -43,7 +46,7 @@ fn shipped<R: Abort + Threads + Wait + Sync>(
     words: &str,
 ) -> Result<Vec<u8>, Fail> {
     let line = format!(in alloc; "xlb shipped made{words}")?;
-    let mut found = over(rt, alloc, "", b"", line.as_str())?;
+    let mut found = alone(rt, alloc, line.as_str())?;
     assert_eq!(rt; found.status, 0, "status of {line}");
     assert!(rt; found.out.bytes().is_empty(), "output of {line}");
     assert!(rt; found.err.bytes().is_empty(), "error of {line}");
@@ -101,7 +104,7 @@ fn has_no_image_of_another_size(rt: HostRuntime) -> Result<(), Fail> {
     let alloc = rt.alloc();
     for size in NO_SIZES {
         let line = format!(in alloc; "xlb shipped made --ring {size}")?;
-        let mut found = over(&rt, alloc, "", b"", line.as_str())?;
+        let mut found = alone(&rt, alloc, line.as_str())?;
         assert_eq!(rt; found.status, 1, "status of {size}");
         assert!(rt;
             found.err.bytes() == b"fault 73 BadSize\n".as_slice(),
