@@ -7,6 +7,7 @@ ghost use Rattle.verifier.specs.Dataflow.{Accepts};
 ghost use Rattle.machine.specs.Meaning.{IsWhole};
 ghost use Rattle.machine.specs.Acting.{machine_at};
 
+use semantics::facts::bytes_have_8_bits;
 use verifier::Verified;
 use wire::Frame;
 
@@ -40,13 +41,6 @@ fn words_have_64_bits(words: &[u64])
     ensures { All (λ word. word < 2 ^ 64) words.now }
 {
     let _ = words;
-}
-
-/// Bytes have 8 bits.
-fn bytes_have_8_bits(bytes: &[u8])
-    ensures { All (λ byte. byte < 256) bytes.now }
-{
-    let _ = bytes;
 }
 
 /// Registers and stack have their lengths, and their parts their widths.

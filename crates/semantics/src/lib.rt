@@ -4,6 +4,7 @@
 pub mod atomic;
 pub mod bytes;
 pub mod call;
+pub mod facts;
 mod full;
 pub mod laws;
 pub mod linux;
