@@ -1,60 +1,17 @@
 -- Which bytes stand in the words of a line.
-use Rattle.std.proofs.Common.{◌≡◌, ℕ, zero, suc, ◌+◌, ◌≤◌, ◌<◌, ◌^◌, ◌/◌, ◌%◌, Bool, true, false, ◌&&◌, leb, ltb, List, [], ◌∷◌, ◌++◌, length, get_or, refl, ap, arith}
-use Rattle.std.specs.Prelude.{◌≢◌}
+use Rattle.std.proofs.Common.{◌≡◌, ℕ, ◌+◌, ◌≤◌, ◌<◌, ◌^◌, ◌/◌, ◌%◌, Bool, true, false, List, [], ◌∷◌, ◌++◌, get_or, refl, arith}
 use Rattle.std.specs.Fmt.{decimal}
 use Rattle.std.proofs.lemmas.Fmt.{decimal_by_steps}
 use Rattle.std.proofs.lemmas.Bool.Decides.{nat_tests}
 use Rattle.wire.specs.declared.flow.Transport.{Transport}
 use Rattle.wire.specs.declared.flow.Transport.TheVariants.{Tcp, Udp}
 use Rattle.conntrack.specs.declared.keys.Service.{Service}
+use Rattle.text_lines.proofs.shared.ByteLemmas.{all_bytes, within, all_append, all_more, weaken}
 use Rattle.control.specs.declared.command.Action.{Action}
 use Rattle.control.specs.declared.command.Action.TheVariants.{Vip, Up, Down, Gateway}
 use Rattle.control.specs.declared.command.Command.{Command}
 use Rattle.text_lines.specs.Digits.{hex_digit}
 use Rattle.control.specs.ScriptText.{AreBytes, ActionFits, CommandFits, address_text, hex_pair, colon_pair, mac_text, transport_text, notrack_text, vip_text, gateway_text, action_text, line_of}
-
-abbrev pub all_bytes : (ℕ → Bool) → List ℕ → Bool
-all_bytes p [] = true
-all_bytes p (b ∷ bs) = p b && all_bytes p bs
-
--- from the first number to below the second
-abbrev pub within : ℕ → ℕ → ℕ → Bool
-within low high b = leb low b && ltb b high
-
-both : (a b : Bool) → (a && b) ≡ true → (a ≡ true) × (b ≡ true)
-both true b e = (refl, e)
-both false b e = absurd cc
-
-joined : (a b : Bool) → a ≡ true → b ≡ true → (a && b) ≡ true
-joined a b e f = rw (e, f) refl
-
-pub all_append : (p : ℕ → Bool) (xs ys : List ℕ) → all_bytes p xs ≡ true → all_bytes p ys ≡ true → all_bytes p (xs ++ ys) ≡ true
-all_append p [] ys a b = b
-all_append p (x ∷ xs) ys a b =
-    let s = both (p x) (all_bytes p xs) a in
-    joined (p x) (all_bytes p (xs ++ ys)) s.0 (all_append p xs ys s.1 b)
-
-pub all_more : (p : ℕ → Bool) (x : ℕ) (xs : List ℕ) → p x ≡ true → all_bytes p xs ≡ true → all_bytes p (x ∷ xs) ≡ true
-all_more p x xs a b = joined (p x) (all_bytes p xs) a b
-
-pub each_passes : (p : ℕ → Bool) (xs : List ℕ) → all_bytes p xs ≡ true → (i : ℕ) → i < length xs → p (get_or xs i 0) ≡ true
-each_passes p [] a i lt = absurd (omega arith)
-each_passes p (x ∷ xs) a zero lt = (both (p x) (all_bytes p xs) a).0
-each_passes p (x ∷ xs) a (suc i) lt = each_passes p xs (both (p x) (all_bytes p xs) a).1 i (omega arith)
-
-pub lacks_from : (p : ℕ → Bool) (c : ℕ) (xs : List ℕ) → all_bytes p xs ≡ true → p c ≡ false → (i : ℕ) → i < length xs → get_or xs i 0 ≢ c
-lacks_from p c [] a f i lt = absurd (omega arith)
-lacks_from p c (x ∷ xs) a f zero lt = λ is.
-    let s = both (p x) (all_bytes p xs) a in
-    let same : p x ≡ p c = ap p is in
-    absurd cc
-lacks_from p c (x ∷ xs) a f (suc i) lt = lacks_from p c xs (both (p x) (all_bytes p xs) a).1 f i (omega arith)
-
-weaken : (p q : ℕ → Bool) → ((b : ℕ) → p b ≡ true → q b ≡ true) → (xs : List ℕ) → all_bytes p xs ≡ true → all_bytes q xs ≡ true
-weaken p q h [] a = refl
-weaken p q h (x ∷ xs) a =
-    let s = both (p x) (all_bytes p xs) a in
-    joined (q x) (all_bytes q xs) (h x s.0) (weaken p q h xs s.1)
 
 wider : (low high low' high' b : ℕ) → low' ≤ low → high ≤ high' → within low high b ≡ true → within low' high' b ≡ true
 wider low high low' high' b before after a = grind (arith, nat_tests)

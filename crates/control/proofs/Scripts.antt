@@ -13,7 +13,8 @@ use Rattle.text_lines.specs.Lines.{Lacks, ended}
 use Rattle.text_lines.proofs.shared.LineLemmas.{more_lines, no_empty_line, one_line, same_front}
 use Rattle.control.specs.ScriptText.{CommandFits, IsCommandLine, NeverFalls, IsScriptText, line_of, script_text}
 use Rattle.control.specs.ScriptReading.{IsKnownCommand, BeginsWithNoCommand, BeginsWithNoneFrom, IsFirstCommand, AreRead, IsBadAfter, last_frame}
-use Rattle.control.proofs.Bytes.{all_bytes, within, lacks_from, each_passes, line_printed, all_append}
+use Rattle.text_lines.proofs.shared.ByteLemmas.{all_bytes, within, all_append, each_passes, lacks_from}
+use Rattle.control.proofs.Bytes.{line_printed}
 
 pub line_lacks_feed : (command : Command) → CommandFits command → Lacks 10 (line_of command)
 line_lacks_feed command fits = lacks_from (within 32 128) 10 (line_of command) (line_printed command fits) refl

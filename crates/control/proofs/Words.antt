@@ -1,5 +1,5 @@
 -- Words and their parts are read back.
-use Rattle.std.proofs.Common.{◌≡◌, ℕ, zero, suc, ◌+◌, ◌*◌, ◌≤◌, ◌<◌, ◌^◌, ◌/◌, ◌%◌, Bool, true, false, ltb, leb, List, [], ◌∷◌, ◌++◌, length, drop, get_or, Result, Ok, Err, refl, sym, ap, ◌∙◌, arith, append_assoc, length-append}
+use Rattle.std.proofs.Common.{◌≡◌, ℕ, zero, suc, ◌+◌, ◌*◌, ◌≤◌, ◌<◌, ◌^◌, ◌/◌, ◌%◌, Bool, true, false, ltb, leb, List, [], ◌∷◌, ◌++◌, length, drop, get_or, refl, sym, ap, ◌∙◌, arith, append_assoc, length-append}
 use Rattle.std.specs.Prelude.{◌≢◌, codes}
 use Rattle.std.specs.Fmt.{decimal}
 use Rattle.std.proofs.lemmas.List.{append-nil}
@@ -12,13 +12,8 @@ use Rattle.control.specs.declared.command.Action.TheVariants.{Vip, Up, Down, Gat
 use Rattle.text_lines.specs.Lines.{Lacks}
 use Rattle.text_lines.specs.Digits.{hex_digit}
 use Rattle.control.specs.ScriptText.{AreBytes, ActionFits, address_text, mac_text, transport_text, notrack_text, vip_text, gateway_text, action_text}
-use Rattle.control.proofs.Bytes.{all_bytes, within, lacks_from, decimal_within, address_within, mac_within, transport_within}
-
-pub ok_same : {A E : Type 0} (r : Result A E) (v w : A) → r ≡ Ok v → r ≡ Ok w → v ≡ w
-ok_same r v w a b = let e : Ok v ≡ Ok w = sym a ∙ b in cc
-
-pub ok_not_err : {A E : Type 0} (r : Result A E) (e : E) (w : A) → r ≡ Err e → r ≡ Ok w → ⊥
-ok_not_err r e w a b = let f : Err e ≡ Ok w = sym a ∙ b in cc
+use Rattle.text_lines.proofs.shared.ByteLemmas.{all_bytes, within, lacks_from}
+use Rattle.control.proofs.Bytes.{decimal_within, address_within, mac_within, transport_within}
 
 -- ---- marks
 

@@ -12,7 +12,7 @@ ghost use Rattle.control.specs.ScriptText.{AreBytes, ActionFits, IsCommandLine, 
 
 use crate::command::{Action, Command};
 use conntrack::Service;
-use text_lines::{after, cut};
+use text_lines::{after, count_of, cut};
 use wire::{Ipv4Address, MacAddress, Transport};
 
 /// The byte at an index, or 0.
@@ -22,15 +22,6 @@ fn byte_at(bytes: &[u8], place: usize) -> u8
     match bytes.get(place) {
         Some(byte) => *byte,
         None => 0,
-    }
-}
-
-fn number_of(text: &str) -> u32
-    ensures { (number : ℕ) → number < 2 ^ 32 → text.now ≡ decimal number → result ≡ number }
-{
-    match text.parse::<u32>() {
-        Ok(value) => value,
-        Err(_) => 0,
     }
 }
 
@@ -140,7 +131,7 @@ fn up_of(text: &str) -> Action
 {
     let (backend, address) = cut(text, ' ');
     Action::Up {
-        backend: number_of(backend),
+        backend: count_of(backend),
         address: address_of(address),
     }
 }
@@ -172,7 +163,7 @@ fn action_of(text: &str) -> Action
     }
     if letter == b'd' {
         return Action::Down {
-            backend: number_of(after(text, "down ")),
+            backend: count_of(after(text, "down ")),
         };
     }
     gateway_of(after(text, "gateway "))
@@ -184,7 +175,7 @@ pub(crate) fn command_read(line: &str) -> Command
 {
     let (frame, action) = cut(line, ' ');
     Command {
-        frame: number_of(frame),
+        frame: count_of(frame),
         action: action_of(action),
     }
 }

@@ -14,7 +14,8 @@ use Rattle.disasm.specs.declared.head.Head.{Head}
 use Rattle.disasm.specs.declared.head.Head.TheVariants.{Alu, Neg, Movsx, Movsx32, End, Ja, Ja32, JumpIf, Ldx, Ldxs, St, Stx, Atomic, Lddw, Ldmap, Ldval, Call, Exit}
 use Rattle.disasm.specs.declared.head.TheConstants.{HEADS}
 use Rattle.disasm.specs.Names.{head_name}
-use Rattle.disasm.proofs.shared.Bytes.{all_bytes, word_byte}
+use Rattle.text_lines.proofs.shared.ByteLemmas.{all_bytes}
+use Rattle.disasm.proofs.shared.Bytes.{word_byte}
 
 abbrev pub by_name : List ℕ → Option Head
 by_name name = find (λ head. bytes_eq (head_name head) name) HEADS

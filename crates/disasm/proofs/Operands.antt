@@ -11,7 +11,8 @@ use Rattle.disasm.specs.declared.operand.Operands.TheVariants.{Zero, One, Two, T
 use Rattle.disasm.specs.AssemblyText.{register_text, with_sign, hex_digits, operand_text, list_text}
 use Rattle.text_lines.specs.Lines.{Lacks}
 use Rattle.disasm.specs.LineReading.{OperandFits, OperandsFit, as_read, AreRead}
-use Rattle.disasm.proofs.shared.Bytes.{all_bytes, word_byte, all_append, lacks_from, mid_passes, widen, signed_word, sign_word, widest_fits, far_fits, hex_word, register_word, register_tail}
+use Rattle.text_lines.proofs.shared.ByteLemmas.{all_bytes, all_append, lacks_from, mid_passes}
+use Rattle.disasm.proofs.shared.Bytes.{word_byte, widen, signed_word, sign_word, widest_fits, far_fits, hex_word, register_word, register_tail}
 
 place_word : (r : RegisterName) (z : ℤ) → FitsSigned w16 z → all_bytes (word_byte 120) (codes "[" ++ (register_text r ++ (with_sign z ++ codes "]"))) ≡ true
 place_word r z fits =

@@ -1,7 +1,6 @@
 //! The line of a map.
 
-ghost use Rattle.std.specs.Prelude.{◌≡◌, ◌++◌, ◌<◌, ◌^◌, ℕ, string_bytes, OnOk, IfOk};
-ghost use Rattle.std.specs.Fmt.{decimal};
+ghost use Rattle.std.specs.Prelude.{◌≡◌, ◌++◌, ◌<◌, string_bytes, OnOk, IfOk};
 ghost use Rattle.std.specs.List.{find};
 ghost use Rattle.std.specs.Option.{MatchOption};
 ghost use Rattle.std.specs.Str.{bytes_eq};
@@ -12,7 +11,7 @@ ghost use Rattle.disasm.specs.TextReading.{TellsMap, BeginsWithNoMap, IsFirstMap
 
 use ebpf_decode::{MapDef, MapKind};
 use std::alloc::{AllocError, Global};
-use text_lines::{after, cut};
+use text_lines::{after, count_of, cut};
 
 fn kind_name(of: MapKind) -> &'static str
     ensures { result.now ≡ kind_name of }
@@ -66,15 +65,6 @@ fn first_kind(all: &[MapKind], name: &str) -> Option<MapKind>
     ensures { result ≡ find (λ kind. bytes_eq (kind_name kind) name.now) all.now }
 {
     all.iter().copied().find(|kind| kind_name(*kind) == name)
-}
-
-fn count_of(text: &str) -> u32
-    ensures { (n : ℕ) → n < 2 ^ 32 → text.now ≡ decimal n → result ≡ n }
-{
-    match text.parse::<u32>() {
-        Ok(value) => value,
-        Err(_) => 0,
-    }
 }
 
 /// The map of the line, if it is one's right spelling.

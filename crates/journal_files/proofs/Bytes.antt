@@ -1,6 +1,6 @@
 -- Which bytes stand in the words of a line.
-use Rattle.std.proofs.Common.{◌≡◌, ℕ, zero, suc, ◌+◌, ◌≤◌, ◌<◌, ◌^◌, ◌/◌, ◌%◌, Bool, true, false, ◌&&◌, leb, ltb, List, [], ◌∷◌, ◌++◌, length, get_or, refl, ap, arith}
-use Rattle.std.specs.Prelude.{◌≢◌, ℤ, pos, negsuc, FitsSigned, codes}
+use Rattle.std.proofs.Common.{◌≡◌, ℕ, zero, suc, ◌+◌, ◌≤◌, ◌<◌, ◌^◌, ◌/◌, ◌%◌, Bool, true, List, [], ◌∷◌, ◌++◌, get_or, refl, arith}
+use Rattle.std.specs.Prelude.{ℤ, pos, negsuc, FitsSigned, codes}
 use Rattle.std.specs.Int.{w32}
 use Rattle.std.specs.Fmt.{decimal, signed_decimal}
 use Rattle.std.proofs.lemmas.Fmt.{decimal_by_steps}
@@ -14,47 +14,11 @@ use Rattle.semantics.specs.declared.call.Reply.{Reply}
 use Rattle.semantics.specs.declared.call.Reply.TheVariants.{Entered, Left, Cell, Null, Word, Done, Answer, Freed}
 use Rattle.semantics.specs.declared.call.Entry.{Entry}
 use Rattle.semantics.specs.History.{shard_of_call}
+use Rattle.text_lines.proofs.shared.ByteLemmas.{all_bytes, within, both, joined, all_append, all_more}
 use Rattle.journal_files.specs.declared.verb.Verb.{Verb}
 use Rattle.journal_files.specs.declared.verb.Verb.TheVariants.{Enter, Leave, Lookup, Load, Store, Atomic, Update, Delete, Reclaim}
 use Rattle.journal_files.specs.JournalText.{who_text, verb_text, verb_of_call, reply_text, told_text, line_of}
 use Rattle.journal_files.specs.EntryForm.{IsNumber, IsKey, CallerFits, CallFits, RepliesTo, EntryFits, IsFinding, IsWord, IsAnswer, IsFreed, IsEntered, IsLeft, IsDone}
-
-abbrev pub all_bytes : (ℕ → Bool) → List ℕ → Bool
-all_bytes p [] = true
-all_bytes p (b ∷ bs) = p b && all_bytes p bs
-
--- from the first number to below the second
-abbrev pub within : ℕ → ℕ → ℕ → Bool
-within low high b = leb low b && ltb b high
-
-both : (a b : Bool) → (a && b) ≡ true → (a ≡ true) × (b ≡ true)
-both true b e = (refl, e)
-both false b e = absurd cc
-
-joined : (a b : Bool) → a ≡ true → b ≡ true → (a && b) ≡ true
-joined a b e f = rw (e, f) refl
-
-pub all_append : (p : ℕ → Bool) (xs ys : List ℕ) → all_bytes p xs ≡ true → all_bytes p ys ≡ true → all_bytes p (xs ++ ys) ≡ true
-all_append p [] ys a b = b
-all_append p (x ∷ xs) ys a b =
-    let s = both (p x) (all_bytes p xs) a in
-    joined (p x) (all_bytes p (xs ++ ys)) s.0 (all_append p xs ys s.1 b)
-
-pub all_more : (p : ℕ → Bool) (x : ℕ) (xs : List ℕ) → p x ≡ true → all_bytes p xs ≡ true → all_bytes p (x ∷ xs) ≡ true
-all_more p x xs a b = joined (p x) (all_bytes p xs) a b
-
-pub each_passes : (p : ℕ → Bool) (xs : List ℕ) → all_bytes p xs ≡ true → (i : ℕ) → i < length xs → p (get_or xs i 0) ≡ true
-each_passes p [] a i lt = absurd (omega arith)
-each_passes p (x ∷ xs) a zero lt = (both (p x) (all_bytes p xs) a).0
-each_passes p (x ∷ xs) a (suc i) lt = each_passes p xs (both (p x) (all_bytes p xs) a).1 i (omega arith)
-
-pub lacks_from : (p : ℕ → Bool) (c : ℕ) (xs : List ℕ) → all_bytes p xs ≡ true → p c ≡ false → (i : ℕ) → i < length xs → get_or xs i 0 ≢ c
-lacks_from p c [] a f i lt = absurd (omega arith)
-lacks_from p c (x ∷ xs) a f zero lt = λ is.
-    let s = both (p x) (all_bytes p xs) a in
-    let same : p x ≡ p c = ap p is in
-    absurd cc
-lacks_from p c (x ∷ xs) a f (suc i) lt = lacks_from p c xs (both (p x) (all_bytes p xs) a).1 f i (omega arith)
 
 -- ---- words: bytes above the space
 

@@ -14,7 +14,8 @@ use Rattle.text_lines.specs.Lines.{Lacks, ended}
 use Rattle.text_lines.proofs.shared.LineLemmas.{lacks_mid, one_line, same_front}
 use Rattle.journal_files.specs.JournalText.{line_of, header_text, entries_text, all_entries}
 use Rattle.journal_files.specs.JournalReading.{IsHeaderLine, BeginsWithNoHeader, IsHeadedBy}
-use Rattle.journal_files.proofs.Bytes.{all_bytes, all_append, word, printed, lacks_from, decimal_within, spaced, print_word}
+use Rattle.text_lines.proofs.shared.ByteLemmas.{all_bytes, all_append, lacks_from}
+use Rattle.journal_files.proofs.Bytes.{word, printed, decimal_within, spaced, print_word}
 
 -- ---- the header
 

@@ -19,7 +19,8 @@ use Rattle.text_lines.proofs.shared.LineLemmas.{lacks_mid, more_lines, no_empty_
 use Rattle.journal_files.specs.JournalText.{line_of, header_text, entries_text, all_entries}
 use Rattle.journal_files.specs.EntryForm.{EntryFits, IsFileEntry}
 use Rattle.journal_files.specs.JournalReading.{IsOfShard, AreListedFrom, IsEntryLine, TellsEntry, IsKnownEntry, BeginsWithNoneFrom, NeverFalls, last_shard, AreDivided, AreRead}
-use Rattle.journal_files.proofs.Bytes.{all_bytes, within, printed, lacks_from, each_passes, line_printed}
+use Rattle.text_lines.proofs.shared.ByteLemmas.{all_bytes, within, each_passes, lacks_from}
+use Rattle.journal_files.proofs.Bytes.{printed, line_printed}
 
 -- the first line is no entry's, or there is no whole line
 abbrev pub BeginsWithNoEntry : List MapDef → Options → List ℕ → Type 0

@@ -19,7 +19,8 @@ use Rattle.text_lines.proofs.shared.LineLemmas.{one_line, same_front}
 use Rattle.journal_files.specs.JournalText.{line_of, header_text, entries_text, all_entries, journals_text}
 use Rattle.journal_files.specs.EntryForm.{EntryFits, IsFileEntry}
 use Rattle.journal_files.specs.JournalReading.{IsOfShard, AreListedFrom, IsJournalsFile, IsHeaderLine, BeginsWithNoHeader, IsHeadedBy, AreDivided, AreRead, NeverFalls, last_shard, IsBadAfter, IsNoFile}
-use Rattle.journal_files.proofs.Bytes.{all_bytes, within, printed, each_passes, line_printed}
+use Rattle.text_lines.proofs.shared.ByteLemmas.{all_bytes, within, each_passes}
+use Rattle.journal_files.proofs.Bytes.{printed, line_printed}
 use Rattle.journal_files.proofs.Lines.{one_reading, known_fit, entries_long}
 use Rattle.journal_files.proofs.Headers.{header_lacks_feed, header_printed_of, shards_small}
 

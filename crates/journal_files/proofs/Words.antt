@@ -24,13 +24,8 @@ use Rattle.journal_files.specs.JournalText.{who_text, verb_text, verb_of_call, r
 use Rattle.journal_files.specs.EntryForm.{CallerFits, CallFits, RepliesTo, EntryFits, IsEntered, IsLeft, IsDone}
 use Rattle.journal_files.specs.ToldReading.{Reads, entry_with}
 use Rattle.text_lines.specs.Lines.{Lacks}
-use Rattle.journal_files.proofs.Bytes.{word, printed, lacks_from, decimal_within, hex_within, who_within, verb_within}
-
-pub ok_same : {A E : Type 0} (r : Result A E) (v w : A) → r ≡ Ok v → r ≡ Ok w → v ≡ w
-ok_same r v w a b = let e : Ok v ≡ Ok w = sym a ∙ b in cc
-
-pub ok_not_err : {A E : Type 0} (r : Result A E) (e : E) (w : A) → r ≡ Err e → r ≡ Ok w → ⊥
-ok_not_err r e w a b = let f : Err e ≡ Ok w = sym a ∙ b in cc
+use Rattle.text_lines.proofs.shared.ByteLemmas.{lacks_from}
+use Rattle.journal_files.proofs.Bytes.{word, printed, decimal_within, hex_within, who_within, verb_within}
 
 pub signed_read : {E : Type 0} (z : ℤ) (bs : List ℕ) (r : Result ℤ E) → FitsSigned w32 z → bs ≡ signed_decimal z → ParsesSigned w32 10 bs r → r ≡ Ok z
 signed_read (pos n) bs r fits is h = parse-signed_decimal w32 (pos n) bs r fits (omega arith) is h

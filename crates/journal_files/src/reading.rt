@@ -16,21 +16,12 @@ ghost use Rattle.journal_files.specs.declared.verb.Verb.TheVariants as verbs;
 use crate::facts::are_bytes;
 use crate::verb::Verb;
 use semantics::{Call, Caller, CellRef, Entry, Key, Options, Reply, Value};
-use text_lines::{after, cut};
+use text_lines::{after, count_of, cut};
 
 fn number_of(text: &str) -> u64
     ensures { (number : ℕ) → number < 2 ^ 64 → text.now ≡ decimal number → result ≡ number }
 {
     match text.parse::<u64>() {
-        Ok(value) => value,
-        Err(_) => 0,
-    }
-}
-
-fn count_of(text: &str) -> u32
-    ensures { (number : ℕ) → number < 2 ^ 32 → text.now ≡ decimal number → result ≡ number }
-{
-    match text.parse::<u32>() {
         Ok(value) => value,
         Err(_) => 0,
     }

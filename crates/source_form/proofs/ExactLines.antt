@@ -33,7 +33,8 @@ use Rattle.disasm.specs.Names.{head_stem, head_suffix, head_name}
 use Rattle.text_lines.specs.Digits.{hex_digit}
 use Rattle.disasm.specs.AssemblyText.{register_text, with_sign, hex_digits, operand_text, list_text, head_of, operands_of}
 use Rattle.disasm.specs.LineReading.{OperandFits}
-use Rattle.disasm.proofs.shared.Bytes.{all_bytes, word_byte, all_append, weaken, signed_word, sign_word, widest_fits, far_fits, wider_fits, register_word, register_tail}
+use Rattle.text_lines.proofs.shared.ByteLemmas.{all_bytes, all_append, weaken}
+use Rattle.disasm.proofs.shared.Bytes.{word_byte, signed_word, sign_word, widest_fits, far_fits, wider_fits, register_word, register_tail}
 use Rattle.disasm.proofs.shared.Numbers.{whole, hex_value, hex_all}
 use Rattle.source_form.specs.declared.words.Form.{Form}
 use Rattle.source_form.specs.declared.words.Form.TheVariants.{Plain, Jump, Call, Wide}

@@ -22,7 +22,8 @@ use Rattle.disasm.specs.Names.{head_name}
 use Rattle.text_lines.specs.Lines.{ended}
 use Rattle.disasm.specs.AssemblyText.{list_text, operands_text, head_of, operands_of, line_of, kind_name, after_space, map_line_of, MapFits, version_text, maps_text, code_text, parts_text, IsAssemblyText}
 use Rattle.disasm.specs.LineReading.{OperandsFit}
-use Rattle.disasm.proofs.shared.Bytes.{all_bytes, all_append, weaken, decimal_word}
+use Rattle.text_lines.proofs.shared.ByteLemmas.{all_bytes, all_append, weaken}
+use Rattle.disasm.proofs.shared.Bytes.{decimal_word}
 use Rattle.disasm.proofs.shared.Lines.{fits_again}
 use Rattle.disasm.proofs.shared.Texts.{all_fit}
 use Rattle.source_form.specs.SourceText.{statement, parts_at, before_mark, first_word, after_first_word, is_heading, instruction_meaning, words_meaning, line_meaning, meaning_from, source_meaning}

@@ -1,2 +1,4 @@
 -- Lemmas that other crates cite.
 pub mod LineLemmas
+pub mod ByteLemmas
+pub mod ResultLemmas

@@ -1,12 +1,14 @@
-//! Bytes read as text, and the line of the first byte that is none; texts cut at a mark; hexadecimal digits.
+//! Bytes read as text, and the line of the first byte that is none; texts cut at a mark; decimal numbers and hexadecimal digits.
 #![tactic(auto)]
 
 mod cutting;
 mod digits;
+mod numbers;
 mod reading;
 #[cfg(test)]
 mod tests;
 
 pub use cutting::{after, cut};
 pub use digits::hex_digit;
+pub use numbers::count_of;
 pub use reading::text_or_line;

@@ -1,6 +1,6 @@
 -- Which bytes stand in the words of a line.
-use Rattle.std.proofs.Common.{◌≡◌, ℕ, zero, suc, ◌+◌, ◌≤◌, ◌<◌, ◌^◌, ◌/◌, ◌%◌, Bool, true, false, ◌&&◌, not, leb, ltb, eqb, List, [], ◌∷◌, ◌++◌, length, get_or, refl, ap, arith}
-use Rattle.std.specs.Prelude.{◌≢◌, ℤ, pos, negsuc, FitsSigned}
+use Rattle.std.proofs.Common.{◌≡◌, ℕ, zero, suc, ◌+◌, ◌≤◌, ◌<◌, ◌^◌, ◌/◌, ◌%◌, Bool, true, ◌&&◌, not, leb, ltb, eqb, List, [], ◌∷◌, refl, arith}
+use Rattle.std.specs.Prelude.{ℤ, pos, negsuc, FitsSigned}
 use Rattle.std.specs.Int.{w16, w32, w64}
 use Rattle.std.specs.Fmt.{decimal, signed_decimal}
 use Rattle.std.proofs.lemmas.Fmt.{decimal_by_steps}
@@ -8,46 +8,12 @@ use Rattle.std.proofs.lemmas.Bool.Decides.{nat_tests}
 use Rattle.isa.specs.declared.operation.Register.{Register}
 use Rattle.isa.specs.declared.operation.Register.TheVariants.{R0, R1, R2, R3, R4, R5, R6, R7, R8, R9, R10}
 use Rattle.text_lines.specs.Digits.{hex_digit}
+use Rattle.text_lines.proofs.shared.ByteLemmas.{all_bytes, all_append, weaken}
 use Rattle.disasm.specs.AssemblyText.{register_text, with_sign, hex_digits}
-
-abbrev pub all_bytes : (ℕ → Bool) → List ℕ → Bool
-all_bytes p [] = true
-all_bytes p (b ∷ bs) = p b && all_bytes p bs
 
 -- no space, comma or line feed, and below a limit
 abbrev pub word_byte : ℕ → ℕ → Bool
 word_byte top b = leb 43 b && (not (eqb b 44) && ltb b top)
-
-both : (a b : Bool) → (a && b) ≡ true → (a ≡ true) × (b ≡ true)
-both true b e = (refl, e)
-both false b e = absurd cc
-
-joined : (a b : Bool) → a ≡ true → b ≡ true → (a && b) ≡ true
-joined a b e f = rw (e, f) refl
-
-pub all_append : (p : ℕ → Bool) (xs ys : List ℕ) → all_bytes p xs ≡ true → all_bytes p ys ≡ true → all_bytes p (xs ++ ys) ≡ true
-all_append p [] ys a b = b
-all_append p (x ∷ xs) ys a b =
-    let s = both (p x) (all_bytes p xs) a in
-    joined (p x) (all_bytes p (xs ++ ys)) s.0 (all_append p xs ys s.1 b)
-
-pub lacks_from : (p : ℕ → Bool) (c : ℕ) (xs : List ℕ) → all_bytes p xs ≡ true → p c ≡ false → (i : ℕ) → i < length xs → get_or xs i 0 ≢ c
-lacks_from p c [] a f i lt = absurd (omega arith)
-lacks_from p c (x ∷ xs) a f zero lt = λ is.
-    let s = both (p x) (all_bytes p xs) a in
-    let same : p x ≡ p c = ap p is in
-    absurd cc
-lacks_from p c (x ∷ xs) a f (suc i) lt = lacks_from p c xs (both (p x) (all_bytes p xs) a).1 f i (omega arith)
-
-pub mid_passes : (p : ℕ → Bool) (xs : List ℕ) (c : ℕ) (ys : List ℕ) → all_bytes p (xs ++ c ∷ ys) ≡ true → p c ≡ true
-mid_passes p [] c ys a = (both (p c) (all_bytes p ys) a).0
-mid_passes p (x ∷ xs) c ys a = mid_passes p xs c ys (both (p x) (all_bytes p (xs ++ c ∷ ys)) a).1
-
-pub weaken : (p q : ℕ → Bool) → ((b : ℕ) → p b ≡ true → q b ≡ true) → (xs : List ℕ) → all_bytes p xs ≡ true → all_bytes q xs ≡ true
-weaken p q h [] a = refl
-weaken p q h (x ∷ xs) a =
-    let s = both (p x) (all_bytes p xs) a in
-    joined (q x) (all_bytes q xs) (h x s.0) (weaken p q h xs s.1)
 
 wider : (s t b : ℕ) → s ≤ t → word_byte s b ≡ true → word_byte t b ≡ true
 wider s t b le a = grind (arith, nat_tests)

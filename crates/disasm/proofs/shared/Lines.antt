@@ -16,7 +16,8 @@ use Rattle.disasm.specs.AssemblyText.{operand_text, list_text, operands_text, he
 use Rattle.text_lines.specs.Lines.{Lacks}
 use Rattle.disasm.specs.LineReading.{OperandFits, OperandsFit, AreRead, short_in, count_in, insn_made}
 use Rattle.disasm.proofs.Heads.{head_word}
-use Rattle.disasm.proofs.shared.Bytes.{all_bytes, word_byte, all_append, lacks_from, weaken, wider_fits, widest_fits}
+use Rattle.text_lines.proofs.shared.ByteLemmas.{all_bytes, all_append, lacks_from, weaken}
+use Rattle.disasm.proofs.shared.Bytes.{word_byte, wider_fits, widest_fits}
 use Rattle.disasm.proofs.shared.Numbers.{short_again, word_again, count_again, count_fits}
 use Rattle.disasm.proofs.Operands.{operand_word}
 

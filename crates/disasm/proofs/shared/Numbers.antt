@@ -1,5 +1,5 @@
 -- Numbers are read back from their texts.
-use Rattle.std.proofs.Common.{◌≡◌, ℕ, zero, suc, ◌+◌, ◌*◌, ◌<◌, ◌^◌, ◌/◌, ◌%◌, List, [], ◌∷◌, ◌++◌, length, drop, get_or, Result, Ok, Err, refl, sym, ap, ◌∙◌, arith, leb, true, length-append}
+use Rattle.std.proofs.Common.{◌≡◌, ℕ, zero, suc, ◌+◌, ◌*◌, ◌<◌, ◌^◌, ◌/◌, ◌%◌, List, [], ◌∷◌, ◌++◌, length, drop, get_or, Result, Ok, Err, refl, ap, ◌∙◌, arith, leb, true, length-append}
 use Rattle.std.specs.Prelude.{◌≢◌, ℤ, pos, negsuc, FitsSigned}
 use Rattle.std.specs.Int.{w16, w32, w64}
 use Rattle.std.specs.Fmt.{decimal, signed_decimal}
@@ -9,7 +9,8 @@ use Rattle.std.specs.Str.Parse.{AllDigits, digits_value, digits_value_after, Par
 use Rattle.std.proofs.lemmas.Fmt.{decimal_is_IsNumeral, parse-signed_decimal}
 use Rattle.std.proofs.lemmas.Str.{digit_value-digit_char}
 use Rattle.std.proofs.lemmas.Bool.Decides.{nat_tests}
-use Rattle.disasm.proofs.shared.Bytes.{all_bytes, all_append, lacks_from}
+use Rattle.text_lines.proofs.shared.ByteLemmas.{all_bytes, all_append, lacks_from}
+use Rattle.text_lines.proofs.shared.ResultLemmas.{ok_same}
 use Rattle.std.proofs.lemmas.Str.Parse.{without_leading_plus_none, IsNumeralModel, numerals_by_value, tells_digits, parse_signed_plus}
 use Rattle.std.proofs.lemmas.Bool.{lt-ltb}
 use Rattle.std.proofs.lemmas.Int.{to_z-of_z}
@@ -90,12 +91,6 @@ hex_read n bs r lt is h =
     let plain : without_leading_plus bs ≡ hex_digits 16 n = without_leading_plus_none bs (rw is (first_digit n)) ∙ is in
     let value : digits_value 16 (without_leading_plus bs) ≡ n = rw plain (hex_value 16 n (rw whole lt)) in
     ok_from r _ h ((rw plain (hex_some 15 n), rw plain (hex_all 16 n)), rw value lt) ∙ ap (λ (m : ℕ). Ok m) value
-
-pub ok_same : {A E : Type 0} (r : Result A E) (v w : A) → r ≡ Ok v → r ≡ Ok w → v ≡ w
-ok_same r v w a b = let e : Ok v ≡ Ok w = sym a ∙ b in cc
-
-pub ok_not_err : {A E : Type 0} (r : Result A E) (e : E) (w : A) → r ≡ Err e → r ≡ Ok w → ⊥
-ok_not_err r e w a b = let f : Err e ≡ Ok w = sym a ∙ b in cc
 
 pub ok_value : {E : Type 0} (r : Result ℤ E) (v z : ℤ) → FitsSigned w64 z → r ≡ Ok v → r ≡ Ok z → to_z w64 (of_z w64 v) ≡ z
 ok_value r v z fits a b = rw (ok_same r v z a b) (to_z-of_z w64 z fits)

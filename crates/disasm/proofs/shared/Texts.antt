@@ -28,7 +28,8 @@ use Rattle.text_lines.proofs.shared.LineLemmas.{lacks_mid, more_lines, no_empty_
 use Rattle.disasm.specs.AssemblyText.{kind_name, after_space, list_text, operands_text, head_of, operands_of, line_of, map_line_of, MapFits, version_text, maps_text, code_text, parts_text, IsAssemblyText}
 use Rattle.disasm.specs.TextReading.{BeginsWithNoInstruction, BeginsWithNoMap, IsKnownInstruction, IsKnownMap, IsFirstInstruction, IsFirstMap, IsCodeRead, AreMapsRead, IsFirstBadLine, IsFaultyText}
 use Rattle.disasm.proofs.Heads.{by_name, named_again}
-use Rattle.disasm.proofs.shared.Bytes.{all_bytes, word_byte, all_append, lacks_from, weaken, widen, decimal_word}
+use Rattle.text_lines.proofs.shared.ByteLemmas.{all_bytes, all_append, lacks_from, weaken}
+use Rattle.disasm.proofs.shared.Bytes.{word_byte, widen, decimal_word}
 use Rattle.disasm.proofs.shared.Lines.{lacks_space, line_lacks_feed}
 
 -- ---- lines of maps

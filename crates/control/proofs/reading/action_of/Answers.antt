@@ -14,7 +14,7 @@ returns-then-letter-eq117 c = λ action fits is.
 
 pub returns-then-letter-eq100 : goal.returns-then-letter-eq100
 returns-then-letter-eq100 c = λ action fits is.
-    down_case c.args.text.now c.after-then-letter-eq100.result.now c.number_of.result c.after-then-letter-eq100.ensures c.number_of.ensures action fits is
+    down_case c.args.text.now c.after-then-letter-eq100.result.now c.count_of.result c.after-then-letter-eq100.ensures c.count_of.ensures action fits is
     (sym c.if-letter-eq100.true ∙ letter_read c.args.text.now c.as_bytes.result.now c.byte_at-letter.result action c.as_bytes.ensures.value c.byte_at-letter.ensures is)
 
 pub returns : goal.returns

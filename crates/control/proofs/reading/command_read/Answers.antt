@@ -8,4 +8,4 @@ pub returns : goal.returns
 unfolding line_of
 returns c = λ command is.
     let parts = c.cut.ensures.both (decimal command.frame) (action_text command.action) is.spelled (decimal_lacks 32 command.frame (omega arith) (omega (arith, is.fits.frame))) in
-    rw (c.number_of.ensures command.frame is.fits.frame parts.0, c.action_of.ensures command.action is.fits.action parts.1) refl
+    rw (c.count_of.ensures command.frame is.fits.frame parts.0, c.action_of.ensures command.action is.fits.action parts.1) refl

@@ -1,4 +1,5 @@
-use Rattle.disasm.proofs.shared.Numbers.{hex_read, ok_same, ok_not_err}
+use Rattle.text_lines.proofs.shared.ResultLemmas.{ok_same, ok_not_err}
+use Rattle.disasm.proofs.shared.Numbers.{hex_read}
 use Rattle.disasm.proofs.reading.hex_of.Goals as goal
 
 pub returns-in-Ok : goal.returns-in-Ok

@@ -1,4 +1,5 @@
-use Rattle.disasm.proofs.shared.Numbers.{plain_read, signed_read, ok_value, ok_not_err}
+use Rattle.text_lines.proofs.shared.ResultLemmas.{ok_not_err}
+use Rattle.disasm.proofs.shared.Numbers.{plain_read, signed_read, ok_value}
 use Rattle.disasm.proofs.reading.number_of.Goals as goal
 
 pub returns-in-Ok-clause-plain : goal.returns-in-Ok-clause-plain

@@ -4,7 +4,8 @@ use Rattle.std.proofs.lemmas.Int.{to_z-of_z}
 use Rattle.isa.specs.declared.operation.Register.{Register}
 use Rattle.disasm.specs.AssemblyText.{register_text, with_sign}
 use Rattle.disasm.proofs.shared.Numbers.{short_again}
-use Rattle.disasm.proofs.shared.Bytes.{word_byte, lacks_from, sign_word, far_fits}
+use Rattle.text_lines.proofs.shared.ByteLemmas.{lacks_from}
+use Rattle.disasm.proofs.shared.Bytes.{word_byte, sign_word, far_fits}
 use Rattle.disasm.proofs.reading.place_of.Goals as goal
 
 pub returns : goal.returns

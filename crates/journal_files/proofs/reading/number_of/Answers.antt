@@ -1,6 +1,6 @@
 use Rattle.std.proofs.Common.{arith}
 use Rattle.std.proofs.lemmas.Fmt.{parse-decimal}
-use Rattle.journal_files.proofs.Words.{ok_same, ok_not_err}
+use Rattle.text_lines.proofs.shared.ResultLemmas.{ok_same, ok_not_err}
 use Rattle.journal_files.proofs.reading.number_of.Goals as goal
 
 pub returns-in-Ok : goal.returns-in-Ok

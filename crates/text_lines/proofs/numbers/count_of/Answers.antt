@@ -1,7 +1,7 @@
 use Rattle.std.proofs.Common.{arith}
 use Rattle.std.proofs.lemmas.Fmt.{parse-decimal}
-use Rattle.disasm.proofs.shared.Numbers.{ok_same, ok_not_err}
-use Rattle.disasm.proofs.map_line.count_of.Goals as goal
+use Rattle.text_lines.proofs.shared.ResultLemmas.{ok_same, ok_not_err}
+use Rattle.text_lines.proofs.numbers.count_of.Goals as goal
 
 pub returns-in-Ok : goal.returns-in-Ok
 returns-in-Ok c = λ n lt is. ok_same c.parse.result _ n c.in-Ok.is (parse-decimal 32 n c.args.text.now c.parse.result lt (omega arith) is c.parse.ensures.value.0)
