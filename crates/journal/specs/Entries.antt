@@ -1,22 +1,32 @@
 -- The entry of each kind of call on a shard: who called, what was asked, what was replied.
 use Rattle.std.specs.Prelude.{ℕ, ℤ, List, Option, Some, None}
 use Rattle.semantics.specs.declared.call.Caller.{Caller}
-use Rattle.semantics.specs.declared.call.CellRef.{CellRef}
+use Rattle.semantics.specs.declared.call.Call.{Call}
 use Rattle.semantics.specs.declared.call.Call.TheVariants.{Enter, Leave, Lookup, Load, Store, Atomic, Update, Delete, Reclaim}
 use Rattle.semantics.specs.declared.call.Reply.{Reply}
 use Rattle.semantics.specs.declared.call.Reply.TheVariants.{Entered, Left, Cell, Null, Word, Done, Answer, Freed}
 use Rattle.semantics.specs.declared.call.Entry.{Entry}
+use Rattle.semantics.specs.Memory.{cell_ref}
 use Rattle.journal.specs.declared.append.CellRange.{CellRange}
 use Rattle.journal.specs.declared.append.AtomicChange.{AtomicChange}
 
--- a cell of the shard
-abbrev pub cell_of : ℕ → ℕ → CellRef
-cell_of shard cell = record { shard = shard; id = cell }
-
 -- the reply to a Lookup that found this cell, or nothing
 abbrev pub found_reply : ℕ → Option ℕ → Reply
-found_reply shard (Some cell) = Cell (cell_of shard cell)
+found_reply shard (Some cell) = Cell (cell_ref shard cell)
 found_reply shard None = Null
+
+-- the calls on some bytes of a cell of the shard
+
+abbrev pub load_on : ℕ → CellRange → Call
+load_on shard range = Load (cell_ref shard range.cell) range.offset range.width
+
+abbrev pub store_on : ℕ → CellRange → ℕ → Call
+store_on shard range value = Store (cell_ref shard range.cell) range.offset range.width value
+
+abbrev pub atomic_on : ℕ → CellRange → AtomicChange → Call
+atomic_on shard range change = Atomic (cell_ref shard range.cell) range.offset range.width change.op change.value change.expected
+
+-- the entries
 
 abbrev pub enter_entry : ℕ → Caller → Entry
 enter_entry shard who = record { who = who; call = Enter shard; reply = Entered }
@@ -28,19 +38,13 @@ abbrev pub lookup_entry : ℕ → Caller → List ℕ → Option ℕ → Entry
 lookup_entry shard who key found = record { who = who; call = Lookup shard key; reply = found_reply shard found }
 
 abbrev pub load_entry : ℕ → Caller → CellRange → ℕ → Entry
-load_entry shard who range value =
-    record { who = who; call = Load (cell_of shard range.cell) range.offset range.width; reply = Word value }
+load_entry shard who range value = record { who = who; call = load_on shard range; reply = Word value }
 
 abbrev pub store_entry : ℕ → Caller → CellRange → ℕ → Entry
-store_entry shard who range value =
-    record { who = who; call = Store (cell_of shard range.cell) range.offset range.width value; reply = Done }
+store_entry shard who range value = record { who = who; call = store_on shard range value; reply = Done }
 
 abbrev pub atomic_entry : ℕ → Caller → CellRange → AtomicChange → ℕ → Entry
-atomic_entry shard who range change old = record {
-  who = who;
-  call = Atomic (cell_of shard range.cell) range.offset range.width change.op change.value change.expected;
-  reply = Word old;
-}
+atomic_entry shard who range change old = record { who = who; call = atomic_on shard range change; reply = Word old }
 
 abbrev pub update_entry : ℕ → Caller → List ℕ → List ℕ → ℕ → ℤ → Entry
 update_entry shard who key value flags code = record { who = who; call = Update shard key value flags; reply = Answer code }

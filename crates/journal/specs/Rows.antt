@@ -10,7 +10,7 @@ use Rattle.semantics.specs.declared.call.Entry.{Entry}
 use Rattle.journal.specs.declared.row.Row.{Row}
 use Rattle.journal.specs.declared.row.Row.TheVariants.{Entered, Left, Found, Missed, Loaded, Stored, Changed, Updated, Deleted, Reclaimed}
 use Rattle.journal.specs.Journaled.{Journaled}
-use Rattle.journal.specs.Entries.{cell_of}
+use Rattle.semantics.specs.Memory.{cell_ref}
 
 -- so many bytes from a place on
 abbrev pub part : ℕ → ℕ → List ℕ → List ℕ
@@ -34,10 +34,10 @@ call_of shard key_size value_size bytes (Entered who) = Enter shard
 call_of shard key_size value_size bytes (Left who) = Leave shard
 call_of shard key_size value_size bytes (Found who at cell) = Lookup shard (part at key_size bytes)
 call_of shard key_size value_size bytes (Missed who at) = Lookup shard (part at key_size bytes)
-call_of shard key_size value_size bytes (Loaded who width offset cell value) = Load (cell_of shard cell) offset width
-call_of shard key_size value_size bytes (Stored who width offset cell value) = Store (cell_of shard cell) offset width value
+call_of shard key_size value_size bytes (Loaded who width offset cell value) = Load (cell_ref shard cell) offset width
+call_of shard key_size value_size bytes (Stored who width offset cell value) = Store (cell_ref shard cell) offset width value
 call_of shard key_size value_size bytes (Changed who width op offset cell value expected old) =
-    Atomic (cell_of shard cell) offset width op value expected
+    Atomic (cell_ref shard cell) offset width op value expected
 call_of shard key_size value_size bytes (Updated who code at flags) =
     Update shard (part at key_size bytes) (part (at + key_size) value_size bytes) flags
 call_of shard key_size value_size bytes (Deleted who code at) = Delete shard (part at key_size bytes)
@@ -46,7 +46,7 @@ call_of shard key_size value_size bytes (Reclaimed who count) = Reclaim shard
 abbrev pub reply_of : ℕ → Row → Reply
 reply_of shard (Entered who) = R.Entered
 reply_of shard (Left who) = R.Left
-reply_of shard (Found who at cell) = R.Cell (cell_of shard cell)
+reply_of shard (Found who at cell) = R.Cell (cell_ref shard cell)
 reply_of shard (Missed who at) = R.Null
 reply_of shard (Loaded who width offset cell value) = R.Word value
 reply_of shard (Stored who width offset cell value) = R.Done

@@ -1,19 +1,16 @@
 -- A call on a shard, and what a call leaves that is served.
 use Rattle.std.specs.Prelude.{ℕ, List, reverse}
 use Rattle.semantics.specs.declared.call.Caller.{Caller}
-use Rattle.semantics.specs.declared.call.CellRef.{CellRef}
 use Rattle.semantics.specs.declared.call.Call.{Call}
-use Rattle.semantics.specs.declared.call.Call.TheVariants.{Enter, Leave, Lookup, Load, Store, Atomic, Update, Delete, Reclaim}
+use Rattle.semantics.specs.declared.call.Call.TheVariants.{Enter, Leave, Lookup, Update, Delete, Reclaim}
 use Rattle.semantics.specs.declared.call.Reply.{Reply}
 use Rattle.semantics.specs.History.{Meets, IsJournalFull}
 use Rattle.journal.specs.declared.append.CellRange.{CellRange}
 use Rattle.journal.specs.declared.append.AtomicChange.{AtomicChange}
+use Rattle.journal.specs.Entries.{load_on, store_on, atomic_on}
 use Rattle.shard_core.specs.JournaledShard.{JournaledShard, with_entry}
 
 -- the call of each kind on this shard
-
-abbrev pub cell_of_shard : JournaledShard → ℕ → CellRef
-cell_of_shard shard cell = record { shard = shard.plan.number; id = cell }
 
 abbrev pub enter_call : JournaledShard → Call
 enter_call shard = Enter shard.plan.number
@@ -25,13 +22,13 @@ abbrev pub lookup_call : JournaledShard → List ℕ → Call
 lookup_call shard key = Lookup shard.plan.number key
 
 abbrev pub load_call : JournaledShard → CellRange → Call
-load_call shard range = Load (cell_of_shard shard range.cell) range.offset range.width
+load_call shard range = load_on shard.plan.number range
 
 abbrev pub store_call : JournaledShard → CellRange → ℕ → Call
-store_call shard range value = Store (cell_of_shard shard range.cell) range.offset range.width value
+store_call shard range value = store_on shard.plan.number range value
 
 abbrev pub atomic_call : JournaledShard → CellRange → AtomicChange → Call
-atomic_call shard range change = Atomic (cell_of_shard shard range.cell) range.offset range.width change.op change.value change.expected
+atomic_call shard range change = atomic_on shard.plan.number range change
 
 abbrev pub update_call : JournaledShard → List ℕ → List ℕ → ℕ → Call
 update_call shard key value flags = Update shard.plan.number key value flags

@@ -1,28 +1,16 @@
 -- What a call of a pass makes of its view of the shard.
 use Rattle.std.specs.Prelude.{◌≡◌, ℕ, List, ◌∷◌}
 use Rattle.semantics.specs.declared.call.Call.{Call}
-use Rattle.semantics.specs.declared.call.Call.TheVariants.{Enter, Load, Store, Atomic}
+use Rattle.semantics.specs.declared.call.Call.TheVariants.{Enter}
 use Rattle.semantics.specs.declared.call.Reply.{Reply}
 use Rattle.semantics.specs.declared.call.Entry.{Entry}
 use Rattle.semantics.specs.declared.plan.ShardPlan.{ShardPlan}
 use Rattle.semantics.specs.History.{IsLegalHistory, IsJournalFull, Meets}
-use Rattle.journal.specs.declared.append.CellRange.{CellRange}
-use Rattle.journal.specs.declared.append.AtomicChange.{AtomicChange}
-use Rattle.journal.specs.Entries.{cell_of, enter_entry}
+use Rattle.journal.specs.Entries.{enter_entry}
 use Rattle.shared_shards.specs.CallerView.{CallerView, BeginsWith, entry_of, IsServed, IsRefused}
 use Rattle.shared_shards.specs.declared.stopped.Stopped.{Stopped}
 use Rattle.shared_shards.specs.declared.stopped.Stopped.TheVariants.{AtEnter, AtCall}
 use Rattle.shared_shards.specs.Passes.{PassView, view_at, own_at}
-
--- the calls on some bytes of a held cell
-abbrev pub load_call : ℕ → CellRange → Call
-load_call number range = Load (cell_of number range.cell) range.offset range.width
-
-abbrev pub store_call : ℕ → CellRange → ℕ → Call
-store_call number range value = Store (cell_of number range.cell) range.offset range.width value
-
-abbrev pub atomic_call : ℕ → CellRange → AtomicChange → Call
-atomic_call number range change = Atomic (cell_of number range.cell) range.offset range.width change.op change.value change.expected
 
 -- the pass's caller may make the call on the shard of this number: by its own entries alone
 abbrev pub MayAsk : ShardPlan → ℕ → PassView → Call → Type 0

@@ -138,11 +138,11 @@ pub struct Loads<'a> {
 
 impl<'a> Ask for Loads<'a> {
     ghost use Rattle.semantics.specs.declared.call.Reply.TheVariants.{Word};
-    ghost use Rattle.shared_shards.specs.Asked.{load_call};
+    ghost use Rattle.journal.specs.Entries.{load_on};
 
     type Answer = u64;
 
-    ghost asks = { λ ask number. load_call number ask.range.now };
+    ghost asks = { λ ask number. load_on number ask.range.now };
 
     ghost replies = { λ number value. Word value };
 
@@ -168,11 +168,11 @@ pub struct Stores<'a> {
 
 impl<'a> Ask for Stores<'a> {
     ghost use Rattle.semantics.specs.declared.call.Reply.TheVariants.{Done};
-    ghost use Rattle.shared_shards.specs.Asked.{store_call};
+    ghost use Rattle.journal.specs.Entries.{store_on};
 
     type Answer = ();
 
-    ghost asks = { λ ask number. store_call number ask.range.now ask.value };
+    ghost asks = { λ ask number. store_on number ask.range.now ask.value };
 
     ghost replies = { λ number answer. Done };
 
@@ -198,11 +198,11 @@ pub struct Changes<'a> {
 
 impl<'a> Ask for Changes<'a> {
     ghost use Rattle.semantics.specs.declared.call.Reply.TheVariants.{Word};
-    ghost use Rattle.shared_shards.specs.Asked.{atomic_call};
+    ghost use Rattle.journal.specs.Entries.{atomic_on};
 
     type Answer = u64;
 
-    ghost asks = { λ ask number. atomic_call number ask.range.now ask.change.now };
+    ghost asks = { λ ask number. atomic_on number ask.range.now ask.change.now };
 
     ghost replies = { λ number old. Word old };
 

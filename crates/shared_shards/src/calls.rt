@@ -5,7 +5,8 @@ ghost use Rattle.semantics.specs.declared.call.Call.TheVariants.{Enter, Leave, L
 ghost use Rattle.semantics.specs.declared.call.Reply.TheVariants.{Entered, Left, Word, Done, Answer, Freed};
 ghost use Rattle.journal.specs.Entries.{found_reply};
 ghost use Rattle.shared_shards.specs.Passes.{KnowsItsOwn, IsElsewhereSame};
-ghost use Rattle.shared_shards.specs.Asked.{load_call, store_call, atomic_call, MayAsk, IsAnswered, IsTurnedAway};
+ghost use Rattle.journal.specs.Entries.{load_on, store_on, atomic_on};
+ghost use Rattle.shared_shards.specs.Asked.{MayAsk, IsAnswered, IsTurnedAway};
 
 use crate::asks::{Changes, Deletes, Enters, Leaves, Loads, Looks, Reclaims, Stores, Updates};
 use crate::naming::Naming;
@@ -71,11 +72,11 @@ impl<B: Naming> Shards<B> {
         range: &CellRange,
     ) -> Result<u64, JournalFull>
         requires shard { shard < B.count }
-        requires met { MayAsk (B.plan shard) shard pass.old (load_call shard range.now) }
+        requires met { MayAsk (B.plan shard) shard pass.old (load_on shard range.now) }
         ensures elsewhere { IsElsewhereSame shard pass.old pass.new }
         ensures own { KnowsItsOwn shard pass.new }
-        ensures served { IfOk result (λ value. IsAnswered (B.plan shard) shard pass.old pass.new (load_call shard range.now) (Word value)) }
-        ensures refused { OnErr result (IsTurnedAway (B.plan shard) shard pass.old pass.new (load_call shard range.now)) }
+        ensures served { IfOk result (λ value. IsAnswered (B.plan shard) shard pass.old pass.new (load_on shard range.now) (Word value)) }
+        ensures refused { OnErr result (IsTurnedAway (B.plan shard) shard pass.old pass.new (load_on shard range.now)) }
         ensures names_the_shard { IfErr result (λ fault. fault.shard ≡ shard) }
     {
         self.ask(rt, pass, shard, Loads { range })
@@ -91,11 +92,11 @@ impl<B: Naming> Shards<B> {
         value: u64,
     ) -> Result<(), JournalFull>
         requires shard { shard < B.count }
-        requires met { MayAsk (B.plan shard) shard pass.old (store_call shard range.now value) }
+        requires met { MayAsk (B.plan shard) shard pass.old (store_on shard range.now value) }
         ensures elsewhere { IsElsewhereSame shard pass.old pass.new }
         ensures own { KnowsItsOwn shard pass.new }
-        ensures served { OnOk result (IsAnswered (B.plan shard) shard pass.old pass.new (store_call shard range.now value) Done) }
-        ensures refused { OnErr result (IsTurnedAway (B.plan shard) shard pass.old pass.new (store_call shard range.now value)) }
+        ensures served { OnOk result (IsAnswered (B.plan shard) shard pass.old pass.new (store_on shard range.now value) Done) }
+        ensures refused { OnErr result (IsTurnedAway (B.plan shard) shard pass.old pass.new (store_on shard range.now value)) }
         ensures names_the_shard { IfErr result (λ fault. fault.shard ≡ shard) }
     {
         self.ask(rt, pass, shard, Stores { range, value })
@@ -111,11 +112,11 @@ impl<B: Naming> Shards<B> {
         change: &AtomicChange,
     ) -> Result<u64, JournalFull>
         requires shard { shard < B.count }
-        requires met { MayAsk (B.plan shard) shard pass.old (atomic_call shard range.now change.now) }
+        requires met { MayAsk (B.plan shard) shard pass.old (atomic_on shard range.now change.now) }
         ensures elsewhere { IsElsewhereSame shard pass.old pass.new }
         ensures own { KnowsItsOwn shard pass.new }
-        ensures served { IfOk result (λ value. IsAnswered (B.plan shard) shard pass.old pass.new (atomic_call shard range.now change.now) (Word value)) }
-        ensures refused { OnErr result (IsTurnedAway (B.plan shard) shard pass.old pass.new (atomic_call shard range.now change.now)) }
+        ensures served { IfOk result (λ value. IsAnswered (B.plan shard) shard pass.old pass.new (atomic_on shard range.now change.now) (Word value)) }
+        ensures refused { OnErr result (IsTurnedAway (B.plan shard) shard pass.old pass.new (atomic_on shard range.now change.now)) }
         ensures names_the_shard { IfErr result (λ fault. fault.shard ≡ shard) }
     {
         self.ask(rt, pass, shard, Changes { range, change })
