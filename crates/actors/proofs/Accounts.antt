@@ -9,7 +9,7 @@ use Rattle.semantics.specs.History.{IsJournalFull}
 use Rattle.shared_shards.specs.CallerView.{CallerView, nothing_seen}
 use Rattle.shared_shards.specs.Passes.{PassView, view_at, own_at, seen_at}
 use Rattle.control.specs.declared.command.Command.{Command}
-use Rattle.control.specs.MapUpdates.{MapUpdate}
+use Rattle.control.specs.MapUpdates.{UpdateBytes}
 use Rattle.control.specs.Controlling.{ControllerState}
 use Rattle.actors.specs.declared.applied.Applied.{Applied}
 use Rattle.actors.specs.SharedUpdates.{UpdatesView, shard_of, update_call}
@@ -37,7 +37,7 @@ made_more : (done : List CommandDone) (one : CommandDone) → made_in (done ++ o
 made_more [] one = nothing_more one.made
 made_more (first ∷ done) one = ap (λ rest. first.made ++ rest) (made_more done one) ∙ sym (append_assoc first.made (made_in done) one.made)
 
-full_later : (plan : ℕ → ShardPlan) (before after : UpdatesView) (one : CommandDone) → IsMoved before after one.made → (stopped : Option MapUpdate) →
+full_later : (plan : ℕ → ShardPlan) (before after : UpdatesView) (one : CommandDone) → IsMoved before after one.made → (stopped : Option UpdateBytes) →
     IfSome stopped (IsFullFor plan before.maps before.options before.pass) → IfSome stopped (IsFullFor plan after.maps after.options after.pass)
 full_later plan before after one moved None full = tt
 full_later plan before after one moved (Some update) full =
@@ -60,7 +60,7 @@ all_full_later plan before after one (other ∷ done) moved (here, full) last =
     (full_later plan before after one moved other.stopped here, all_full_later plan before after one done moved full last)
 
 -- the fullness of the last command, in the port's own words
-last_full : (plan : ℕ → ShardPlan) (before after : UpdatesView) (one : CommandDone) → IsMoved before after one.made → (stopped : Option MapUpdate) →
+last_full : (plan : ℕ → ShardPlan) (before after : UpdatesView) (one : CommandDone) → IsMoved before after one.made → (stopped : Option UpdateBytes) →
     IfSome stopped (IsFullFor plan before.maps before.options after.pass) → IfSome stopped (IsFullFor plan after.maps after.options after.pass)
 last_full plan before after one moved None full = tt
 last_full plan before after one moved (Some update) full =

@@ -8,7 +8,7 @@ use Rattle.control.specs.declared.command.Action.{Action}
 use Rattle.control.specs.declared.fault.ControlFault.{ControlFault}
 use Rattle.control.specs.declared.fault.ControlFault.TheVariants.{BadSize, BadLine, UnknownBackend, BackendTwice, Refused, JournalFull, Memory}
 use Rattle.control.specs.declared.update.Update.{Update as Change}
-use Rattle.control.specs.MapUpdates.{MapUpdate, map_update}
+use Rattle.control.specs.MapUpdates.{UpdateBytes, map_update}
 use Rattle.control.specs.Controlling.{ControllerState, IsCarriedOut as IsWhole, IsStopped, IsUnchanged, IsAnswered, IsLeft, refusal_of, first_updates, up_after, updates_of}
 use Rattle.gates.specs.Gates.{IsCounted, IsUncounted}
 use Rattle.actors.specs.SharedUpdates.{UpdatesView, IsUpdated, IsTurnedAway}
@@ -23,8 +23,8 @@ NoneFirst state action = (fault : ControlFault) → refusal_of state action ≡ 
 abbrev pub ComesFirst : ControllerState → Action → ControlFault → Type 0
 ComesFirst state action fault = (other : ControlFault) → refusal_of state action ≡ Some other → Some fault ≡ Some other
 
-pub carried_out : {P : Type 0} (plan : ℕ → ShardPlan) (within : P → UpdatesView) (gives : P → MapUpdate → ℤ → P → Type 0)
-    (refuses : P → MapUpdate → P → Type 0) → HasWithin plan within gives refuses → (state : ControllerState) (action : Action)
+pub carried_out : {P : Type 0} (plan : ℕ → ShardPlan) (within : P → UpdatesView) (gives : P → UpdateBytes → ℤ → P → Type 0)
+    (refuses : P → UpdateBytes → P → Type 0) → HasWithin plan within gives refuses → (state : ControllerState) (action : Action)
     (state' : ControllerState) (before after : P) → (within before).pass.who ≡ Controller → NoneFirst state action →
     IsWhole gives state before (first_updates state.up action) (up_after state.up action) state' after →
     HasEffect plan state action None state' (within before) (within after)
@@ -61,8 +61,8 @@ nothing_done plan state action fault state' before after who first state_is port
       full = tt;
     }
 
-answered : {P : Type 0} (plan : ℕ → ShardPlan) (within : P → UpdatesView) (gives : P → MapUpdate → ℤ → P → Type 0)
-    (refuses : P → MapUpdate → P → Type 0) → HasWithin plan within gives refuses → (state : ControllerState) (action : Action) (answer : ℤ)
+answered : {P : Type 0} (plan : ℕ → ShardPlan) (within : P → UpdatesView) (gives : P → UpdateBytes → ℤ → P → Type 0)
+    (refuses : P → UpdateBytes → P → Type 0) → HasWithin plan within gives refuses → (state : ControllerState) (action : Action) (answer : ℤ)
     (state' : ControllerState) (before after : P) → (within before).pass.who ≡ Controller → ComesFirst state action (Refused answer) →
     IsAnswered gives state before (first_updates state.up action) answer state' after →
     HasEffect plan state action (Some (Refused answer)) state' (within before) (within after)
@@ -81,8 +81,8 @@ answered plan within gives refuses has state action answer state' before after w
       full = tt;
     }
 
-stopped : {P : Type 0} (plan : ℕ → ShardPlan) (within : P → UpdatesView) (gives : P → MapUpdate → ℤ → P → Type 0)
-    (refuses : P → MapUpdate → P → Type 0) → HasWithin plan within gives refuses → (state : ControllerState) (action : Action)
+stopped : {P : Type 0} (plan : ℕ → ShardPlan) (within : P → UpdatesView) (gives : P → UpdateBytes → ℤ → P → Type 0)
+    (refuses : P → UpdateBytes → P → Type 0) → HasWithin plan within gives refuses → (state : ControllerState) (action : Action)
     (state' : ControllerState) (before after : P) → (within before).pass.who ≡ Controller → ComesFirst state action JournalFull →
     IsStopped gives refuses state before (first_updates state.up action) (up_after state.up action) state' after →
     HasEffect plan state action (Some JournalFull) state' (within before) (within after)
@@ -111,8 +111,8 @@ stopped plan within gives refuses has state action state' before after who first
       full = moved.full;
     }
 
-pub refused : {P : Type 0} (plan : ℕ → ShardPlan) (within : P → UpdatesView) (gives : P → MapUpdate → ℤ → P → Type 0)
-    (refuses : P → MapUpdate → P → Type 0) → HasWithin plan within gives refuses → (state : ControllerState) (action : Action) (fault : ControlFault)
+pub refused : {P : Type 0} (plan : ℕ → ShardPlan) (within : P → UpdatesView) (gives : P → UpdateBytes → ℤ → P → Type 0)
+    (refuses : P → UpdateBytes → P → Type 0) → HasWithin plan within gives refuses → (state : ControllerState) (action : Action) (fault : ControlFault)
     (state' : ControllerState) (before after : P) → (within before).pass.who ≡ Controller → ComesFirst state action fault →
     IsLeft gives refuses state before action state' after fault → HasEffect plan state action (Some fault) state' (within before) (within after)
 refused plan within gives refuses has state action UnknownBackend state' before after who first (unchanged, is) =
@@ -136,11 +136,11 @@ refused plan within gives refuses has state action (BadLine line) state' before 
 
 -- ---- through a port that counts its replies
 
-abbrev pub GivesCounted : {P : Type 0} → (ℕ → ShardPlan) → (P → UpdatesView) → (P → Caller) → (P → ℕ) → P → MapUpdate → ℤ → P → Type 0
+abbrev pub GivesCounted : {P : Type 0} → (ℕ → ShardPlan) → (P → UpdatesView) → (P → Caller) → (P → ℕ) → P → UpdateBytes → ℤ → P → Type 0
 GivesCounted plan within who count before update answer after =
     IsCounted (IsUpdated plan (within before) update answer (within after)) (who before) (who after) (count before) (count after)
 
-abbrev pub RefusesUncounted : {P : Type 0} → (ℕ → ShardPlan) → (P → UpdatesView) → (P → Caller) → (P → ℕ) → P → MapUpdate → P → Type 0
+abbrev pub RefusesUncounted : {P : Type 0} → (ℕ → ShardPlan) → (P → UpdatesView) → (P → Caller) → (P → ℕ) → P → UpdateBytes → P → Type 0
 RefusesUncounted plan within who count before update after =
     IsUncounted (IsTurnedAway plan (within before) update (within after)) (who before) (who after) (count before) (count after)
 

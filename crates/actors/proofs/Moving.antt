@@ -12,7 +12,7 @@ use Rattle.semantics.specs.declared.plan.ShardPlan.{ShardPlan}
 use Rattle.shared_shards.specs.CallerView.{CallerView, BeginsWith}
 use Rattle.shared_shards.specs.Passes.{PassView, view_at, own_at, seen_at}
 use Rattle.control.specs.declared.update.Update.{Update as Change}
-use Rattle.control.specs.MapUpdates.{MapUpdate, map_update, AreMade, AreCutShort}
+use Rattle.control.specs.MapUpdates.{UpdateBytes, map_update, AreMade, AreCutShort}
 use Rattle.actors.specs.SharedUpdates.{UpdatesView, shard_for, update_call, IsUpdated, IsTurnedAway}
 use Rattle.actors.specs.Commands.{AnsweredUpdate, done_update, all_done, update_entry, with_update, with_updates, IsMoved, IsFullFor}
 
@@ -65,7 +65,7 @@ moved_on before middle after made later first second = record {
 }
 
 -- one update
-own_after : (plan : ℕ → ShardPlan) (before after : UpdatesView) (update : MapUpdate) (answer : ℤ) → before.pass.who ≡ Controller →
+own_after : (plan : ℕ → ShardPlan) (before after : UpdatesView) (update : UpdateBytes) (answer : ℤ) → before.pass.who ≡ Controller →
     IsUpdated plan before update answer after → (number : ℕ) →
     own_at after.pass number ≡ with_update before.maps before.options number (record { update = update; answer = answer }) (own_at before.pass number)
 own_after plan before after update answer who updated number = by_test (shard_for before update == number) refl
@@ -98,7 +98,7 @@ grown before after shard here others number = by_test (shard == number) refl
 grown_by_one : (after earlier before : List Entry) (entry : Entry) → after ≡ entry ∷ earlier → BeginsWith earlier before → BeginsWith after before
 grown_by_one after earlier before entry is (later, was) = (entry ∷ later, is ∙ ap (λ rest. entry ∷ rest) was)
 
-pub moved_by_one : (plan : ℕ → ShardPlan) (before after : UpdatesView) (update : MapUpdate) (answer : ℤ) → before.pass.who ≡ Controller →
+pub moved_by_one : (plan : ℕ → ShardPlan) (before after : UpdatesView) (update : UpdateBytes) (answer : ℤ) → before.pass.who ≡ Controller →
     IsUpdated plan before update answer after → IsMoved before after (record { update = update; answer = answer } ∷ [])
 moved_by_one plan before after update answer who updated = record {
   maps = updated.maps;
@@ -110,7 +110,7 @@ moved_by_one plan before after update answer who updated = record {
 }
 
 -- a refused update
-refused_own : (plan : ℕ → ShardPlan) (before after : UpdatesView) (update : MapUpdate) → IsTurnedAway plan before update after → (number : ℕ) →
+refused_own : (plan : ℕ → ShardPlan) (before after : UpdatesView) (update : UpdateBytes) → IsTurnedAway plan before update after → (number : ℕ) →
     own_at after.pass number ≡ own_at before.pass number
 refused_own plan before after update refused number = by_test (shard_for before update == number) refl
   where
@@ -119,7 +119,7 @@ refused_own plan before after update refused number = by_test (shard_for before 
     by_test false is =
         ap (λ (view : CallerView). view.own) (refused.elsewhere.others number (other_number (shard_for before update) number is))
 
-pub moved_by_none : (plan : ℕ → ShardPlan) (before after : UpdatesView) (update : MapUpdate) → before.pass.who ≡ Controller →
+pub moved_by_none : (plan : ℕ → ShardPlan) (before after : UpdatesView) (update : UpdateBytes) → before.pass.who ≡ Controller →
     IsTurnedAway plan before update after → IsMoved before after []
 moved_by_none plan before after update who refused = record {
   maps = refused.maps;
@@ -131,14 +131,14 @@ moved_by_none plan before after update who refused = record {
 
 -- ---- the updates of a command, through any port that has this one within
 
-pub record HasWithin {P : Type 0} (plan : ℕ → ShardPlan) (within : P → UpdatesView) (gives : P → MapUpdate → ℤ → P → Type 0)
-    (refuses : P → MapUpdate → P → Type 0) : Type 0 where
-  pub given : (before after : P) (update : MapUpdate) (answer : ℤ) → gives before update answer after →
+pub record HasWithin {P : Type 0} (plan : ℕ → ShardPlan) (within : P → UpdatesView) (gives : P → UpdateBytes → ℤ → P → Type 0)
+    (refuses : P → UpdateBytes → P → Type 0) : Type 0 where
+  pub given : (before after : P) (update : UpdateBytes) (answer : ℤ) → gives before update answer after →
       IsUpdated plan (within before) update answer (within after)
-  pub refused : (before after : P) (update : MapUpdate) → refuses before update after → IsTurnedAway plan (within before) update (within after)
+  pub refused : (before after : P) (update : UpdateBytes) → refuses before update after → IsTurnedAway plan (within before) update (within after)
 
-pub moved_by_all : {P : Type 0} (plan : ℕ → ShardPlan) (within : P → UpdatesView) (gives : P → MapUpdate → ℤ → P → Type 0)
-    (refuses : P → MapUpdate → P → Type 0) → HasWithin plan within gives refuses → (changes : List Change) (before after : P) →
+pub moved_by_all : {P : Type 0} (plan : ℕ → ShardPlan) (within : P → UpdatesView) (gives : P → UpdateBytes → ℤ → P → Type 0)
+    (refuses : P → UpdateBytes → P → Type 0) → HasWithin plan within gives refuses → (changes : List Change) (before after : P) →
     (within before).pass.who ≡ Controller → AreMade gives before changes after → IsMoved (within before) (within after) (all_done changes)
 moved_by_all plan within gives refuses has [] before after who made =
     subst (λ port. IsMoved (within before) (within port) []) made (moved_nowhere (within before) who)
@@ -156,15 +156,15 @@ pub record IsMovedAndFull (plan : ℕ → ShardPlan) (before after : UpdatesView
   pub moved : IsMoved before after (all_done begun)
   pub full : IsFullFor plan before.maps before.options after.pass (map_update next)
 
-full_for : (plan : ℕ → ShardPlan) (before after : UpdatesView) (update : MapUpdate) → IsTurnedAway plan before update after →
+full_for : (plan : ℕ → ShardPlan) (before after : UpdatesView) (update : UpdateBytes) → IsTurnedAway plan before update after →
     IsFullFor plan before.maps before.options after.pass update
 full_for plan before after update refused = record {
   of_map = ap (λ (found : Option MapDef). is_some found) refused.of_map;
   full = refused.refused.full;
 }
 
-pub moved_until_full : {P : Type 0} (plan : ℕ → ShardPlan) (within : P → UpdatesView) (gives : P → MapUpdate → ℤ → P → Type 0)
-    (refuses : P → MapUpdate → P → Type 0) → HasWithin plan within gives refuses → (changes : List Change) (before after : P) →
+pub moved_until_full : {P : Type 0} (plan : ℕ → ShardPlan) (within : P → UpdatesView) (gives : P → UpdateBytes → ℤ → P → Type 0)
+    (refuses : P → UpdateBytes → P → Type 0) → HasWithin plan within gives refuses → (changes : List Change) (before after : P) →
     (within before).pass.who ≡ Controller → (cut : AreCutShort gives refuses before changes after) →
     IsMovedAndFull plan (within before) (within after) cut.made cut.next
 moved_until_full plan within gives refuses has changes before after who cut =

@@ -16,7 +16,7 @@ use Rattle.control.specs.declared.command.Command.{Command}
 use Rattle.control.specs.declared.fault.ControlFault.{ControlFault}
 use Rattle.control.specs.declared.fault.ControlFault.TheVariants.{BadSize, BadLine, UnknownBackend, BackendTwice, Refused, JournalFull, Memory}
 use Rattle.control.specs.declared.update.Update.{Update as Change}
-use Rattle.control.specs.MapUpdates.{MapUpdate, map_update}
+use Rattle.control.specs.MapUpdates.{UpdateBytes, map_update}
 use Rattle.control.specs.Controlling.{ControllerState, IsTable, refusal_of, first_updates, up_after, updates_of}
 use Rattle.actors.specs.declared.applied.Applied.{Applied}
 use Rattle.actors.specs.SharedUpdates.{UpdatesView, shard_of, update_call}
@@ -24,7 +24,7 @@ use Rattle.actors.specs.SharedUpdates.{UpdatesView, shard_of, update_call}
 -- ---- updates with their answers
 
 pub record AnsweredUpdate : Type 0 where
-  pub update : MapUpdate
+  pub update : UpdateBytes
   pub answer : ℤ
 
 -- each answered 0
@@ -57,7 +57,7 @@ pub record CommandDone : Type 0 where
   -- the updates that were made
   pub made : List AnsweredUpdate
   -- the update that met a full journal, if one did
-  pub stopped : Option MapUpdate
+  pub stopped : Option UpdateBytes
 
 -- all its updates were made, and the backends are up as it says
 pub record IsCarriedOut (state : ControllerState) (one : CommandDone) (state' : ControllerState) : Type 0 where
@@ -139,7 +139,7 @@ abbrev pub made_in : List CommandDone → List AnsweredUpdate
 made_in done = flat_map (λ (one : CommandDone). one.made) done
 
 -- the update is one of a map that there is, and the journal of its shard is full for it at the end of what the pass has seen
-pub record IsFullFor (plan : ℕ → ShardPlan) (maps : List MapDef) (options : Options) (pass : PassView) (update : MapUpdate) : Type 0 where
+pub record IsFullFor (plan : ℕ → ShardPlan) (maps : List MapDef) (options : Options) (pass : PassView) (update : UpdateBytes) : Type 0 where
   pub of_map : IsTrue (is_some (slice_get maps update.map))
   pub full :
       IsJournalFull (plan (shard_of maps options update)) (seen_at pass (shard_of maps options update))

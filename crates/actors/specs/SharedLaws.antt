@@ -16,7 +16,7 @@ use Rattle.semantics.specs.ShardPlan.{plan_at, plan_for_map}
 use Rattle.semantics.specs.History.{IsLegalHistory}
 use Rattle.semantics.specs.SequentialShard.{SequentialShard, shard_after, update_answer}
 use Rattle.shared_shards.specs.Passes.{view_at}
-use Rattle.control.specs.MapUpdates.{MapUpdate, IsInArray}
+use Rattle.control.specs.MapUpdates.{UpdateBytes, IsInArray}
 use Rattle.actors.specs.SharedUpdates.{UpdatesView, IsUpdated, shard_for, update_call}
 
 -- the number in an answer
@@ -30,7 +30,7 @@ array_answer plan shard key array inside =
     let test : nat_lt (number_of_bytes key) plan.definition.max_entries ≡ true = grind (arith, nat_tests, inside) in
     rw (array, test) refl
 
-pub array_takes : (plan : ℕ → ShardPlan) (before : UpdatesView) (update : MapUpdate) (answer : ℤ) (after : UpdatesView) →
+pub array_takes : (plan : ℕ → ShardPlan) (before : UpdatesView) (update : UpdateBytes) (answer : ℤ) (after : UpdatesView) →
     IsInArray before.maps update → IsUpdated plan before update answer after → answer ≡ pos 0
 array_takes plan before update answer after stands updated =
     let here : ShardPlan = plan (shard_for before update) in

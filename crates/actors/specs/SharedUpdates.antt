@@ -13,7 +13,7 @@ use Rattle.journals.specs.JournalsView.{AreImageMaps}
 use Rattle.shared_shards.specs.SharedMaps.{ArePlans}
 use Rattle.shared_shards.specs.Passes.{PassView, IsElsewhereSame}
 use Rattle.shared_shards.specs.Asked.{IsAnswered, IsTurnedAway as IsAskTurnedAway}
-use Rattle.control.specs.MapUpdates.{MapUpdate}
+use Rattle.control.specs.MapUpdates.{UpdateBytes}
 
 pub record UpdatesView : Type 0 where
   pub maps : List MapDef
@@ -42,19 +42,19 @@ shard_in None shards map key = 0
 abbrev pub shard_of_update : List MapDef → Options → ℕ → List ℕ → ℕ
 shard_of_update maps options map key = shard_in (slice_get maps map) options.shards map key
 
-abbrev pub shard_of : List MapDef → Options → MapUpdate → ℕ
+abbrev pub shard_of : List MapDef → Options → UpdateBytes → ℕ
 shard_of maps options update = shard_of_update maps options update.map update.key
 
 -- in the shards of a port
-abbrev pub shard_for : UpdatesView → MapUpdate → ℕ
+abbrev pub shard_for : UpdatesView → UpdateBytes → ℕ
 shard_for port update = shard_of port.maps port.options update
 
 -- an update is made whether or not its key is present: with the flags ANY
-abbrev pub update_call : ℕ → MapUpdate → Call
+abbrev pub update_call : ℕ → UpdateBytes → Call
 update_call number update = Update number update.key update.value 0
 
 -- the update is one Update of the shard that its key has, with this answer, and nothing else
-pub record IsUpdated (plan : ℕ → ShardPlan) (before : UpdatesView) (update : MapUpdate) (answer : ℤ) (after : UpdatesView) : Type 0 where
+pub record IsUpdated (plan : ℕ → ShardPlan) (before : UpdatesView) (update : UpdateBytes) (answer : ℤ) (after : UpdatesView) : Type 0 where
   pub maps : after.maps ≡ before.maps
   pub options : after.options ≡ before.options
   pub of_map : slice_get before.maps update.map ≡ Some (plan (shard_for before update)).definition
@@ -63,7 +63,7 @@ pub record IsUpdated (plan : ℕ → ShardPlan) (before : UpdatesView) (update :
       (update_call (shard_for before update) update) (Answer answer)
 
 -- the journal of the shard that its key has is full for it at the end of what the controller has then seen; and nothing was changed
-pub record IsTurnedAway (plan : ℕ → ShardPlan) (before : UpdatesView) (update : MapUpdate) (after : UpdatesView) : Type 0 where
+pub record IsTurnedAway (plan : ℕ → ShardPlan) (before : UpdatesView) (update : UpdateBytes) (after : UpdatesView) : Type 0 where
   pub maps : after.maps ≡ before.maps
   pub options : after.options ≡ before.options
   pub of_map : slice_get before.maps update.map ≡ Some (plan (shard_for before update)).definition

@@ -1,6 +1,6 @@
 //! The maps that a controller updates, as shards that other callers share.
 
-ghost use Rattle.std.specs.Prelude.{◌≡◌, ◌<◌, ◌≤◌, All, length, slice_get, Some};
+ghost use Rattle.std.specs.Prelude.{◌≡◌, ◌<◌, ◌≤◌, length, slice_get, Some};
 ghost use Rattle.semantics.specs.declared.call.Caller.TheVariants.{Controller};
 ghost use Rattle.shared_shards.specs.Passes.{PassView};
 ghost use Rattle.actors.specs.SharedUpdates.{HasUpdateOf, shard_of_update};
@@ -8,6 +8,7 @@ ghost use Rattle.actors.specs.SharedUpdates.{HasUpdateOf, shard_of_update};
 use control::UpdatePort;
 use ebpf_decode::MapDef;
 use one_thread_map::conditions::shard_of_kind;
+use semantics::facts::bytes_have_8_bits;
 use semantics::{JournalFull, Key, Value};
 use shared_shards::{Naming, Pass, Shards};
 use std::marker::Model;
@@ -89,13 +90,6 @@ impl<'a, B: Naming, W: Wait> UpdatePort for SharedUpdates<'a, B, W> {
             0,
         )
     }
-}
-
-/// Bytes have 8 bits. The function does nothing: it brings this fact into a proof.
-fn bytes_have_8_bits(bytes: &[u8])
-    ensures { All (λ byte. byte < 256) bytes.now }
-{
-    let _ = bytes;
 }
 
 /// The map at a place.

@@ -9,7 +9,7 @@ use Rattle.conntrack.specs.SteeringMaps.{steering_maps}
 use Rattle.control.specs.declared.update.Update.{Update}
 use Rattle.control.specs.declared.update.Update.TheVariants.{Vip, Ring, Backend, Tunnel}
 use Rattle.control.specs.declared.ring_changes.Slot.{Slot}
-use Rattle.control.specs.MapUpdates.{MapUpdate, map_update, StandsInArray, IsInArray, AreMade, AreCutShort}
+use Rattle.control.specs.MapUpdates.{UpdateBytes, map_update, StandsInArray, IsInArray, AreMade, AreCutShort}
 use Rattle.control.specs.RingChanges.{is_same_owner, change_at, changes_below, slot_update, slot_updates, IsServedSlot}
 use Rattle.control.specs.Controlling.{ControllerState, IsTable, IsCarriedOut, IsStopped}
 
@@ -42,18 +42,18 @@ in_array served size (Tunnel tunnel) is stands = record {
 }
 
 -- one more update is made
-pub made_more : {P : Type 0} (gives : P → MapUpdate → ℤ → P → Type 0) (before middle after : P) (updates : List Update) (update : Update) → AreMade gives before updates middle → gives middle (map_update update) (pos 0) after
+pub made_more : {P : Type 0} (gives : P → UpdateBytes → ℤ → P → Type 0) (before middle after : P) (updates : List Update) (update : Update) → AreMade gives before updates middle → gives middle (map_update update) (pos 0) after
     → AreMade gives before (updates ++ update ∷ []) after
 made_more gives before middle after [] update made one = (after, rw made one, refl)
 made_more gives before middle after (first ∷ updates) update made one = (made.0, made.1, made_more gives made.0 middle after updates update made.2 one)
 
-pub made_next : {P : Type 0} (gives : P → MapUpdate → ℤ → P → Type 0) (before middle after : P) (slots : List Slot) (i : ℕ) (d : Slot) → i < length slots
+pub made_next : {P : Type 0} (gives : P → UpdateBytes → ℤ → P → Type 0) (before middle after : P) (slots : List Slot) (i : ℕ) (d : Slot) → i < length slots
     → AreMade gives before (slot_updates (take i slots)) middle → gives middle (map_update (slot_update (get_or slots i d))) (pos 0) after → AreMade gives before (slot_updates (take (suc i) slots)) after
 made_next gives before middle after [] i d lt made one = absurd (omega arith)
 made_next gives before middle after (s ∷ slots) zero d lt made one = (after, rw made one, refl)
 made_next gives before middle after (s ∷ slots) (suc i) d lt made one = (made.0, made.1, made_next gives made.0 middle after slots i d (omega arith) made.2 one)
 
-pub made_step : {P : Type 0} (gives : P → MapUpdate → ℤ → P → Type 0) (before middle after : P) (slots : List Slot) (i : ℕ) (d : Slot) → i < length slots
+pub made_step : {P : Type 0} (gives : P → UpdateBytes → ℤ → P → Type 0) (before middle after : P) (slots : List Slot) (i : ℕ) (d : Slot) → i < length slots
     → AreMade gives before (slot_updates (take i slots)) middle → gives middle (map_update (slot_update (get_or slots i d))) (pos 0) after → AreMade gives before (slot_updates (take (i + 1) slots)) after
 made_step gives before middle after slots i d lt made one = rw (add-one i) (made_next gives before middle after slots i d lt made one)
 
@@ -62,7 +62,7 @@ split_at [] i d lt = absurd (omega arith)
 split_at (s ∷ slots) zero d lt = refl
 split_at (s ∷ slots) (suc i) d lt = ap (λ (us : List Update). slot_update s ∷ us) (split_at slots i d (omega arith))
 
-pub cut_in_slots : {P : Type 0} (gives : P → MapUpdate → ℤ → P → Type 0) (refuses : P → MapUpdate → P → Type 0) (before middle after : P) (slots : List Slot) (i : ℕ) (d : Slot) → i < length slots
+pub cut_in_slots : {P : Type 0} (gives : P → UpdateBytes → ℤ → P → Type 0) (refuses : P → UpdateBytes → P → Type 0) (before middle after : P) (slots : List Slot) (i : ℕ) (d : Slot) → i < length slots
     → AreMade gives before (slot_updates (take i slots)) middle → refuses middle (map_update (slot_update (get_or slots i d))) after → AreCutShort gives refuses before (slot_updates slots) after
 cut_in_slots gives refuses before middle after slots i d lt made one = record {
   made = slot_updates (take i slots);
@@ -74,11 +74,11 @@ cut_in_slots gives refuses before middle after slots i d lt made one = record {
   is_refused = one;
 }
 
-pub cut_at_once : {P : Type 0} (gives : P → MapUpdate → ℤ → P → Type 0) (refuses : P → MapUpdate → P → Type 0) (before after : P) (first : Update) (updates : List Update) → refuses before (map_update first) after
+pub cut_at_once : {P : Type 0} (gives : P → UpdateBytes → ℤ → P → Type 0) (refuses : P → UpdateBytes → P → Type 0) (before after : P) (first : Update) (updates : List Update) → refuses before (map_update first) after
     → AreCutShort gives refuses before (first ∷ updates) after
 cut_at_once gives refuses before after first updates one = record { made = []; next = first; later = updates; middle = before; in_order = refl; are_made = refl; is_refused = one }
 
-pub cut_later : {P : Type 0} (gives : P → MapUpdate → ℤ → P → Type 0) (refuses : P → MapUpdate → P → Type 0) (before middle after : P) (first : Update) (updates : List Update) → gives before (map_update first) (pos 0) middle
+pub cut_later : {P : Type 0} (gives : P → UpdateBytes → ℤ → P → Type 0) (refuses : P → UpdateBytes → P → Type 0) (before middle after : P) (first : Update) (updates : List Update) → gives before (map_update first) (pos 0) middle
     → AreCutShort gives refuses middle updates after → AreCutShort gives refuses before (first ∷ updates) after
 cut_later gives refuses before middle after first updates one cut = record {
   made = first ∷ cut.made;
@@ -115,7 +115,7 @@ served_slots size old new few numbers (suc place) le =
 
 -- ---- one update alone
 
-pub done_alone : {P : Type 0} (gives : P → MapUpdate → ℤ → P → Type 0) (state : ControllerState) (before after : P) (update : Update) → state.is_full ≡ false → IsTable state.size state.up state.owners
+pub done_alone : {P : Type 0} (gives : P → UpdateBytes → ℤ → P → Type 0) (state : ControllerState) (before after : P) (update : Update) → state.is_full ≡ false → IsTable state.size state.up state.owners
     → gives before (map_update update) (pos 0) after → IsCarriedOut gives state before (update ∷ []) state.up state after
 done_alone gives state before after update room table one = record {
   owners = state.owners;
@@ -124,7 +124,7 @@ done_alone gives state before after update room table one = record {
   are_made = rw (no_change state.owners state.size) (after, one, refl);
 }
 
-pub stopped_alone : {P : Type 0} (gives : P → MapUpdate → ℤ → P → Type 0) (refuses : P → MapUpdate → P → Type 0) (state : ControllerState) (before after : P) (update : Update) (state' : ControllerState)
+pub stopped_alone : {P : Type 0} (gives : P → UpdateBytes → ℤ → P → Type 0) (refuses : P → UpdateBytes → P → Type 0) (state : ControllerState) (before after : P) (update : Update) (state' : ControllerState)
     → IsTable state.size state.up state.owners → state' ≡ record { size = state.size; up = state.up; owners = state.owners; is_full = true } → refuses before (map_update update) after
     → IsStopped gives refuses state before (update ∷ []) state.up state' after
 stopped_alone gives refuses state before after update state' table full one = record {

@@ -12,7 +12,7 @@ use Rattle.control.specs.declared.fault.ControlFault.{ControlFault}
 use Rattle.control.specs.declared.fault.ControlFault.TheVariants.{BadSize, BadLine, UnknownBackend, BackendTwice, Refused, JournalFull, Memory}
 use Rattle.control.specs.declared.update.Update.{Update}
 use Rattle.control.specs.declared.update.Update.TheVariants.{Vip, Ring, Backend, Tunnel}
-use Rattle.control.specs.MapUpdates.{MapUpdate, map_update, AreMade, AreCutShort}
+use Rattle.control.specs.MapUpdates.{UpdateBytes, map_update, AreMade, AreCutShort}
 use Rattle.control.specs.RingChanges.{changes_below, slot_updates}
 
 -- ---- who is up
@@ -124,7 +124,7 @@ abbrev pub updates_of : ControllerState → List Update → List ℕ → List Up
 updates_of state firsts owners = firsts ++ slot_updates (changes_below state.owners owners state.size)
 
 -- all updates are made, and these backends are up
-pub record IsCarriedOut {P : Type 0} (gives : P → MapUpdate → ℤ → P → Type 0) (state : ControllerState) (before : P) (firsts : List Update) (up : List Server)
+pub record IsCarriedOut {P : Type 0} (gives : P → UpdateBytes → ℤ → P → Type 0) (state : ControllerState) (before : P) (firsts : List Update) (up : List Server)
     (state' : ControllerState) (after : P) : Type 0 where
   pub owners : List ℕ
   pub table : IsTable state.size up owners
@@ -132,7 +132,7 @@ pub record IsCarriedOut {P : Type 0} (gives : P → MapUpdate → ℤ → P → 
   pub are_made : AreMade gives before (updates_of state firsts owners) after
 
 -- an update met a full journal: those before it stand, and the controller is full
-pub record IsStopped {P : Type 0} (gives : P → MapUpdate → ℤ → P → Type 0) (refuses : P → MapUpdate → P → Type 0) (state : ControllerState) (before : P)
+pub record IsStopped {P : Type 0} (gives : P → UpdateBytes → ℤ → P → Type 0) (refuses : P → UpdateBytes → P → Type 0) (state : ControllerState) (before : P)
     (firsts : List Update) (up : List Server) (state' : ControllerState) (after : P) : Type 0 where
   pub owners : List ℕ
   pub table : IsTable state.size up owners
@@ -145,7 +145,7 @@ pub record IsUnchanged {P : Type 0} (state : ControllerState) (before : P) (stat
   pub port_is : after ≡ before
 
 -- the map of services gave this answer to the one update, and the controller is as it was
-pub record IsAnswered {P : Type 0} (gives : P → MapUpdate → ℤ → P → Type 0) (state : ControllerState) (before : P) (firsts : List Update) (answer : ℤ)
+pub record IsAnswered {P : Type 0} (gives : P → UpdateBytes → ℤ → P → Type 0) (state : ControllerState) (before : P) (firsts : List Update) (answer : ℤ)
     (state' : ControllerState) (after : P) : Type 0 where
   pub update : Update
   pub only : firsts ≡ update ∷ []
@@ -154,7 +154,7 @@ pub record IsAnswered {P : Type 0} (gives : P → MapUpdate → ℤ → P → Ty
   pub state_is : state' ≡ state
 
 -- what a refusal leaves
-abbrev pub IsLeft : {P : Type 0} → (P → MapUpdate → ℤ → P → Type 0) → (P → MapUpdate → P → Type 0) → ControllerState → P → Action →
+abbrev pub IsLeft : {P : Type 0} → (P → UpdateBytes → ℤ → P → Type 0) → (P → UpdateBytes → P → Type 0) → ControllerState → P → Action →
     ControllerState → P → ControlFault → Type 0
 IsLeft gives refuses state before action state' after UnknownBackend = IsUnchanged state before state' after × (refusal_of state action ≡ Some UnknownBackend)
 IsLeft gives refuses state before action state' after BackendTwice = IsUnchanged state before state' after × (refusal_of state action ≡ Some BackendTwice)

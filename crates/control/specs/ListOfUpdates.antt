@@ -8,7 +8,7 @@ use Rattle.semantics.specs.LittleEndian.{number_of_bytes}
 use Rattle.semantics.specs.Linux.{errno_code, success}
 use Rattle.semantics.specs.declared.linux.Errno.TheVariants.{TooBig}
 use Rattle.control.specs.declared.update_list.MadeUpdate.{MadeUpdate}
-use Rattle.control.specs.MapUpdates.{MapUpdate, IsInArray}
+use Rattle.control.specs.MapUpdates.{UpdateBytes, IsInArray}
 
 pub record UpdateListState : Type 0 where
   -- the maps that there are
@@ -35,11 +35,11 @@ is_taken_by Array made map key most = length key == 4 && nat_lt (number_of_bytes
 is_taken_by Hash made map key most = is_known made map key || nat_lt (count_by (is_new_in map) made) most
 is_taken_by LruHash made map key most = true
 
-abbrev pub is_taken_in : List MadeUpdate → MapUpdate → Option MapDef → Bool
+abbrev pub is_taken_in : List MadeUpdate → UpdateBytes → Option MapDef → Bool
 is_taken_in made update (Some definition) = is_taken_by definition.kind made update.map update.key definition.max_entries
 is_taken_in made update None = false
 
-abbrev pub is_taken : UpdateListState → MapUpdate → Bool
+abbrev pub is_taken : UpdateListState → UpdateBytes → Bool
 is_taken state update = is_taken_in state.made update (slice_get state.maps update.map)
 
 -- 0, or that the map is full or the index out of range
@@ -48,7 +48,7 @@ answer_if true = success
 answer_if false = errno_code TooBig
 
 -- the entry of an update
-abbrev pub made_of : UpdateListState → MapUpdate → MadeUpdate
+abbrev pub made_of : UpdateListState → UpdateBytes → MadeUpdate
 made_of state update = record {
   map = update.map;
   key = update.key;
@@ -58,7 +58,7 @@ made_of state update = record {
 }
 
 -- the update is answered and noted
-pub record IsNoted (before : UpdateListState) (update : MapUpdate) (answer : ℤ) (after : UpdateListState) : Type 0 where
+pub record IsNoted (before : UpdateListState) (update : UpdateBytes) (answer : ℤ) (after : UpdateListState) : Type 0 where
   pub answer_is : answer ≡ answer_if (is_taken before update)
   pub state_is : after ≡ record { maps = before.maps; room = before.room; made = before.made ++ made_of before update ∷ [] }
 

@@ -11,13 +11,13 @@ use Rattle.control.specs.declared.update.Update.{Update}
 use Rattle.control.specs.declared.update.Update.TheVariants.{Vip, Ring, Backend, Tunnel}
 
 -- a key of a map, and what is put there whether or not the key is present (the flags ANY of bpf(2))
-pub record MapUpdate : Type 0 where
+pub record UpdateBytes : Type 0 where
   pub map : ℕ
   pub key : List ℕ
   pub value : List ℕ
 
 -- the bytes of an update
-abbrev pub map_update : Update → MapUpdate
+abbrev pub map_update : Update → UpdateBytes
 map_update (Vip service vip) = record { map = map_place maps.Vips; key = service_key service; value = vip_bytes vip }
 map_update (Ring slot ring) = record { map = map_place maps.Ring; key = bytes_of_number 4 slot; value = ring_bytes ring }
 map_update (Backend number backend) = record { map = map_place maps.Backends; key = bytes_of_number 4 number; value = backend_bytes backend }
@@ -40,14 +40,14 @@ StandsInArray size (Tunnel tunnel) = Unit {0}
 -- ---- what a port owes
 
 -- the update is one of a map that there is, and its key and value have this map's sizes
-pub record IsUpdateOf (served : List MapDef) (update : MapUpdate) : Type 0 where
+pub record IsUpdateOf (served : List MapDef) (update : UpdateBytes) : Type 0 where
   pub definition : MapDef
   pub known : slice_get served update.map ≡ Some definition
   pub key_size : length update.key ≡ definition.key_size
   pub value_size : length update.value ≡ definition.value_size
 
 -- the update is one of an array, at an index that this has
-pub record IsInArray (served : List MapDef) (update : MapUpdate) : Type 0 where
+pub record IsInArray (served : List MapDef) (update : UpdateBytes) : Type 0 where
   pub definition : MapDef
   pub known : slice_get served update.map ≡ Some definition
   pub array : definition.kind ≡ Array
@@ -55,12 +55,12 @@ pub record IsInArray (served : List MapDef) (update : MapUpdate) : Type 0 where
   pub inside : number_of_bytes update.key < definition.max_entries
 
 -- each update is made of the port that the one before it left, and is answered 0
-abbrev pub AreMade : {P : Type 0} → (P → MapUpdate → ℤ → P → Type 0) → P → List Update → P → Type 0
+abbrev pub AreMade : {P : Type 0} → (P → UpdateBytes → ℤ → P → Type 0) → P → List Update → P → Type 0
 AreMade gives before [] after = before ≡ after
 AreMade {P} gives before (update ∷ later) after = (middle : P) × gives before (map_update update) (pos 0) middle × AreMade gives middle later after
 
 -- some of the updates are made in their order, then the next one is refused, and no other is made
-pub record AreCutShort {P : Type 0} (gives : P → MapUpdate → ℤ → P → Type 0) (refuses : P → MapUpdate → P → Type 0)
+pub record AreCutShort {P : Type 0} (gives : P → UpdateBytes → ℤ → P → Type 0) (refuses : P → UpdateBytes → P → Type 0)
     (before : P) (updates : List Update) (after : P) : Type 0 where
   pub made : List Update
   pub next : Update

@@ -5,7 +5,7 @@ ghost use Rattle.ebpf_decode.specs.declared.map.MapDef.{MapDef};
 ghost use Rattle.semantics.specs.LittleEndian.{bytes_of_number};
 ghost use Rattle.conntrack.specs.SteeringMaps.{map_place, steering_maps};
 ghost use Rattle.control.specs.declared.update.Update.{Update as Change};
-ghost use Rattle.control.specs.MapUpdates.{MapUpdate, map_update, IsUpdateOf, IsInArray, HasOwner};
+ghost use Rattle.control.specs.MapUpdates.{UpdateBytes, map_update, IsUpdateOf, IsInArray, HasOwner};
 
 use crate::update::Update;
 use conntrack::{RingRecord, SteeringMap, index_key};
@@ -18,10 +18,10 @@ pub trait UpdatePort {
     ghost serves: { Self → List MapDef };
 
     /// What an update gives: the port before, the update, its answer, and the port after.
-    ghost gives: { Self → MapUpdate → ℤ → Self → Type 0 };
+    ghost gives: { Self → UpdateBytes → ℤ → Self → Type 0 };
 
     /// What a refusal leaves: the port before, the update, and the port after.
-    ghost refuses: { Self → MapUpdate → Self → Type 0 };
+    ghost refuses: { Self → UpdateBytes → Self → Type 0 };
 
     /// Puts a value under a key of a map, and gives the answer: 0, or Linux's error number, negated. Refused where a journal has no room.
     fn update(&mut self, map: u32, key: &Key, value: &Value) -> Result<i32, JournalFull>
@@ -30,13 +30,13 @@ pub trait UpdatePort {
         ensures refuses { OnErr result (refuses self.old (record { map = map; key = key.now; value = value.now }) self.new) };
 
     /// An update leaves the maps as they are.
-    ghost keeps: { (before after : Self) (update : MapUpdate) (answer : ℤ) → gives before update answer after → serves after ≡ serves before };
+    ghost keeps: { (before after : Self) (update : UpdateBytes) (answer : ℤ) → gives before update answer after → serves after ≡ serves before };
 
     /// So does a refusal.
-    ghost stays: { (before after : Self) (update : MapUpdate) → refuses before update after → serves after ≡ serves before };
+    ghost stays: { (before after : Self) (update : UpdateBytes) → refuses before update after → serves after ≡ serves before };
 
     /// An update of an array at an index that it has is answered 0.
-    ghost arrays_answer: { (before after : Self) (update : MapUpdate) (answer : ℤ) → IsInArray (serves before) update
+    ghost arrays_answer: { (before after : Self) (update : UpdateBytes) (answer : ℤ) → IsInArray (serves before) update
         → gives before update answer after → answer ≡ pos 0 };
 }
 

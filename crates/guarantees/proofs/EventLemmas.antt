@@ -25,7 +25,7 @@ use Rattle.machine.specs.declared.moment.Moment.{Moment}
 use Rattle.machine.specs.Running.{program_of, whole_trace}
 use Rattle.map_port.specs.Exchanges.{Exchange, calls_in, replies_in}
 use Rattle.shared_shards.specs.Passes.{PassView, own_at}
-use Rattle.shard_port.specs.Asking.{enter_entry, leave_entry}
+use Rattle.shard_port.specs.Asking.{enter_by, leave_by}
 use Rattle.shard_port.specs.Sessions.{entry_of, is_at, entries_at, begun, session}
 use Rattle.shard_port.specs.PassPorts.{is_worker_below, worker_of}
 use Rattle.frame_runs.specs.FrameRuns.{HasRun}
@@ -81,21 +81,21 @@ all_leave setting worker (shard ∷ entered) distinct =
     )
 
 pub leaves_on : (worker number : ℕ) (entered : List ℕ) → IsDistinct entered →
-    entries_on number (leaving_of worker entered) ≡ (if is_entered number entered then leave_entry worker number ∷ [] else [])
+    entries_on number (leaving_of worker entered) ≡ (if is_entered number entered then leave_by worker number ∷ [] else [])
 leaves_on worker number [] distinct = refl
 leaves_on worker number (shard ∷ entered) distinct = by_test (leaves_on worker number entered distinct.1) (shard == number) refl
   where
-    by_test : entries_on number (leaving_of worker entered) ≡ (if is_entered number entered then leave_entry worker number ∷ [] else []) →
+    by_test : entries_on number (leaving_of worker entered) ≡ (if is_entered number entered then leave_by worker number ∷ [] else []) →
         (test : Bool) → (shard == number) ≡ test →
-        cond test (leave_entry worker shard ∷ entries_on number (leaving_of worker entered)) (entries_on number (leaving_of worker entered))
-        ≡ (if (test || is_entered number entered) then leave_entry worker number ∷ [] else [])
+        cond test (leave_by worker shard ∷ entries_on number (leaving_of worker entered)) (entries_on number (leaving_of worker entered))
+        ≡ (if (test || is_entered number entered) then leave_by worker number ∷ [] else [])
     by_test rest false is = rest
     by_test rest true is =
         let same : shard ≡ number = eqb-true shard number is in
         let out : is_entered number entered ≡ false = subst (λ (n : ℕ). is_entered n entered ≡ false) same distinct.0 in
-        ap (λ (n : ℕ). leave_entry worker n ∷ entries_on number (leaving_of worker entered)) same
-        ∙ ap (λ (list : List Entry). leave_entry worker number ∷ list)
-        (rest ∙ ap (λ (test : Bool). if test then leave_entry worker number ∷ [] else []) out)
+        ap (λ (n : ℕ). leave_by worker n ∷ entries_on number (leaving_of worker entered)) same
+        ∙ ap (λ (list : List Entry). leave_by worker number ∷ list)
+        (rest ∙ ap (λ (test : Bool). if test then leave_by worker number ∷ [] else []) out)
 
 -- ---- what the events of a run write
 
@@ -130,20 +130,20 @@ enter_on : (worker number : ℕ) (exchange : Exchange) (later : List Exchange) (
     is_entered (shard_of_call exchange.call) entered ≡ false →
     entries_on number moves
     ≡ since (is_entered number (shard_of_call exchange.call ∷ entered)) worker number (entries_at worker number (exchange ∷ later)) →
-    entries_on number (asks worker (Writes (enter_entry worker (shard_of_call exchange.call))) ∷ moves)
+    entries_on number (asks worker (Writes (enter_by worker (shard_of_call exchange.call))) ∷ moves)
     ≡ since (is_entered number entered) worker number (entries_at worker number (exchange ∷ later))
 enter_on worker number exchange later entered moves outside rest = by_test (shard_of_call exchange.call == number) refl rest
   where
     by_test : (test : Bool) → (shard_of_call exchange.call == number) ≡ test →
         entries_on number moves ≡ since (test || is_entered number entered) worker number (joined worker number exchange later test) →
-        cond test (enter_entry worker (shard_of_call exchange.call) ∷ entries_on number moves) (entries_on number moves)
+        cond test (enter_by worker (shard_of_call exchange.call) ∷ entries_on number moves) (entries_on number moves)
         ≡ since (is_entered number entered) worker number (joined worker number exchange later test)
     by_test false is now = now
     by_test true is now =
         let same : shard_of_call exchange.call ≡ number = eqb-true (shard_of_call exchange.call) number is in
         let out : is_entered number entered ≡ false = subst (λ (n : ℕ). is_entered n entered ≡ false) same outside in
-        ap (λ (n : ℕ). enter_entry worker n ∷ entries_on number moves) same
-        ∙ ap (λ (list : List Entry). enter_entry worker number ∷ list) now
+        ap (λ (n : ℕ). enter_by worker n ∷ entries_on number moves) same
+        ∙ ap (λ (list : List Entry). enter_by worker number ∷ list) now
         ∙ ap (λ (test : Bool). since test worker number (entry_of worker exchange ∷ entries_at worker number later)) (sym out)
 
 -- ---- which shards a run is in at its end
@@ -231,7 +231,7 @@ reach_enter : (said : MachineState → Type 0) (setting : Setting) (worker : ℕ
     Reaches said setting worker state (shard_of_call exchange.call ∷ entered) (exchange ∷ later) →
     Reaches said setting worker state entered (exchange ∷ later)
 reach_enter said setting worker state next entered exchange later is outside rest = record {
-  run = asks worker (Writes (enter_entry worker (shard_of_call exchange.call))) ∷ rest.run;
+  run = asks worker (Writes (enter_by worker (shard_of_call exchange.call))) ∷ rest.run;
   ending = rest.ending;
   after = rest.after;
   runs = (
@@ -348,7 +348,7 @@ append_on number first second =
     ap (filter (is_of_shard number)) (append_in first second) ∙ filter-append (is_of_shard number) (entries_in first) (entries_in second)
 
 closed : (worker number : ℕ) (entries : List Entry) →
-    since false worker number entries ++ (if (false || is_some_entry entries) then leave_entry worker number ∷ [] else [])
+    since false worker number entries ++ (if (false || is_some_entry entries) then leave_by worker number ∷ [] else [])
     ≡ session worker number entries
 closed worker number [] = refl
 closed worker number (first ∷ later) = refl
@@ -361,7 +361,7 @@ whole_session said setting worker state exchanges reaches number =
     ∙ ap (λ (list : List Entry). list ++ entries_on number (leaving_of worker reaches.after)) (reaches.writes number)
     ∙ ap (λ (list : List Entry). since false worker number (entries_at worker number exchanges) ++ list)
     (leaves_on worker number reaches.after reaches.distinct
-    ∙ ap (λ (test : Bool). if test then leave_entry worker number ∷ [] else []) (reaches.stays number))
+    ∙ ap (λ (test : Bool). if test then leave_by worker number ∷ [] else []) (reaches.stays number))
     ∙ closed worker number (entries_at worker number exchanges)
 
 pub run_is_of_system : RunsAreOfTheSystem

@@ -7,7 +7,7 @@ use Rattle.std.proofs.lemmas.Bool.Decides.{nat_tests}
 use Rattle.semantics.specs.declared.call.Entry.{Entry}
 use Rattle.semantics.specs.History.{shard_of_call}
 use Rattle.map_port.specs.Exchanges.{Exchange}
-use Rattle.shard_port.specs.Asking.{enter_entry, leave_entry}
+use Rattle.shard_port.specs.Asking.{enter_by, leave_by}
 use Rattle.shard_port.specs.PassSessions.{session_at, AreWithin}
 use Rattle.shard_port.specs.Sessions.{entry_of, is_at, entries_at, session}
 
@@ -33,16 +33,16 @@ module _ {A : Type 0} where
 
 -- ---- a session
 
-pub all_session : (P : Entry → Type 0) (worker number : ℕ) (entries : List Entry) → P (enter_entry worker number) → P (leave_entry worker number) →
+pub all_session : (P : Entry → Type 0) (worker number : ℕ) (entries : List Entry) → P (enter_by worker number) → P (leave_by worker number) →
     AllByRecursion P entries → AllByRecursion P (session worker number entries)
 all_session P worker number [] enters leaves all = tt
 all_session P worker number (first ∷ later) enters leaves all =
-    (enters, (all.0, all_both P later (leave_entry worker number ∷ []) all.1 (leaves, tt)))
+    (enters, (all.0, all_both P later (leave_by worker number ∷ []) all.1 (leaves, tt)))
 
 pub in_session : (P : Entry → Type 0) (worker number : ℕ) (entries : List Entry) → AllByRecursion P (session worker number entries) →
     AllByRecursion P entries
 in_session P worker number [] all = tt
-in_session P worker number (first ∷ later) all = (all.1.0, (all_parts P later (leave_entry worker number ∷ []) all.1.1).0)
+in_session P worker number (first ∷ later) all = (all.1.0, (all_parts P later (leave_by worker number ∷ []) all.1.1).0)
 
 -- ---- the entries of exchanges
 

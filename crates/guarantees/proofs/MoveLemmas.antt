@@ -17,7 +17,7 @@ use Rattle.semantics.specs.declared.plan.ShardPlan.{ShardPlan}
 use Rattle.semantics.specs.ShardPlan.{plan_for_map, plan_at}
 use Rattle.semantics.specs.History.{shard_of_call}
 use Rattle.semantics.specs.System.{Setting, program_of, SystemState, CallsShard, LeavesShard, WorkerState, Idle, Runs, Leaves, worker_state, with_worker, with_entry, is_entered, IsInputFrame, input_frame, is_local, calls_map, DoesNext, MayLeave, run_over, without_shard, after_local, after_instruction, entry_for, after_run_call, after_asking, after_shard_call, after_leaving}
-use Rattle.shard_port.specs.Asking.{enter_entry, leave_entry, asked_entry}
+use Rattle.shard_port.specs.Asking.{enter_by, leave_by, asked_entry}
 use Rattle.guarantees.specs.SystemRuns.{Asked, Writes, Refused, Answers, TurnsAway, Move, IsMove, does, begins}
 
 -- ---- by a plan of the setting
@@ -65,7 +65,7 @@ abbrev pub asks : ℕ → Asked → Move
 asks worker asked = record { event = CallsShard worker; asked = asked }
 
 abbrev pub leave : ℕ → ℕ → Move
-leave worker shard = record { event = LeavesShard worker shard; asked = Writes (leave_entry worker shard) }
+leave worker shard = record { event = LeavesShard worker shard; asked = Writes (leave_by worker shard) }
 
 pub begins_so : (setting : Setting) (worker now told : ℕ) (frame : List ℕ) → worker < setting.options.workers → IsInputFrame frame →
     now < 2 ^ 64 → told < 8 →
@@ -131,7 +131,7 @@ calls setting worker state entered call next reply is inside = record {
 
 pub enters : (setting : Setting) (worker : ℕ) (state : MachineState) (entered : List ℕ) (call : Call) (next : Reply → MachineState) →
     next_step (program_of setting) state ≡ CallsMap call next → is_entered (shard_of_call call) entered ≡ false →
-    IsMove setting worker (Runs state entered) (asks worker (Writes (enter_entry worker (shard_of_call call))))
+    IsMove setting worker (Runs state entered) (asks worker (Writes (enter_by worker (shard_of_call call))))
     (Runs state (shard_of_call call ∷ entered))
 enters setting worker state entered call next is outside = record {
   own = own_event worker;

@@ -12,7 +12,7 @@ use Rattle.semantics.specs.declared.verdict.Verdict.{Verdict}
 use Rattle.verifier.specs.Verified.{Verified}
 use Rattle.shard_core.specs.JournaledShard.{JournaledShard}
 use Rattle.map_port.specs.Exchanges.{Exchange, IsChain}
-use Rattle.shard_port.specs.Asking.{is_in, can_enter, entered, all_left, enter_entry, leave_entry, CannotEnter, CannotCall}
+use Rattle.shard_port.specs.Asking.{is_in, can_enter, entered, all_left, enter_by, leave_by, CannotEnter, CannotCall}
 use Rattle.shard_port.specs.declared.plain.PlainPort.{PlainPort}
 use Rattle.shard_port.specs.PlainPorts.{PortGives, PortRefuses}
 use Rattle.shard_port.specs.Sessions.{WritesSessions, WritesRefusedSessions, StaysOnePort, IsOutsideAll, LeavesOthersAlone, IsVisited, with_entries, begun, session, entries_at}
@@ -85,7 +85,7 @@ written_but writes worker options before after port middle later exchanges call 
       visited.own,
       ap (λ one. entries_at one number exchanges) (sym over.same_worker) ∙ visited.first_call,
       here ∙ visited.finished ∙ ap (λ one. Some
-          (with_entries shard (enter_entry one shard.plan.number ∷ leave_entry one shard.plan.number ∷ []))) over.same_worker,
+          (with_entries shard (enter_by one shard.plan.number ∷ leave_by one shard.plan.number ∷ []))) over.same_worker,
     ))
     of_port
 

@@ -29,7 +29,7 @@ use Rattle.machine.specs.declared.moment.Moment.{Moment}
 use Rattle.machine.specs.Running.{program_of, whole_trace}
 use Rattle.map_port.specs.Exchanges.{Exchange, calls_in, replies_in}
 use Rattle.shared_shards.specs.Passes.{PassView, own_at}
-use Rattle.shard_port.specs.Asking.{enter_entry, leave_entry}
+use Rattle.shard_port.specs.Asking.{enter_by, leave_by}
 use Rattle.shard_port.specs.Sessions.{entries_at}
 use Rattle.shard_port.specs.PassSessions.{session_at, IsKeptOut, IsVisitedAt, HasRefusedSessions}
 use Rattle.frame_runs.specs.FrameRuns.{HasStopped}
@@ -252,21 +252,21 @@ moves_end setting worker before between after (move ∷ moves) last are ends =
 -- what the moves write where the run entered a shard at its end
 visit_writes : (said : MachineState → Type 0) (setting : Setting) (worker shard number : ℕ) (state : MachineState) (exchanges : List Exchange)
     (reaches : Reaches said setting worker state [] exchanges) (here : Bool) → (shard == number) ≡ here →
-    entries_on number ((reaches.run ++ asks worker (Writes (enter_entry worker shard)) ∷ []) ++ leaving_of worker (shard ∷ reaches.after))
-    ≡ (entries_on number reaches.run ++ (if here then enter_entry worker shard ∷ [] else []))
-    ++ (if here then leave_entry worker shard ∷ entries_on number (leaving_of worker reaches.after)
+    entries_on number ((reaches.run ++ asks worker (Writes (enter_by worker shard)) ∷ []) ++ leaving_of worker (shard ∷ reaches.after))
+    ≡ (entries_on number reaches.run ++ (if here then enter_by worker shard ∷ [] else []))
+    ++ (if here then leave_by worker shard ∷ entries_on number (leaving_of worker reaches.after)
     else entries_on number (leaving_of worker reaches.after))
 visit_writes said setting worker shard number state exchanges reaches here is =
-    append_on number (reaches.run ++ asks worker (Writes (enter_entry worker shard)) ∷ []) (leaving_of worker (shard ∷ reaches.after))
+    append_on number (reaches.run ++ asks worker (Writes (enter_by worker shard)) ∷ []) (leaving_of worker (shard ∷ reaches.after))
     ∙ ap (λ (list : List Entry). list ++ entries_on number (leaving_of worker (shard ∷ reaches.after)))
-    (append_on number reaches.run (asks worker (Writes (enter_entry worker shard)) ∷ []))
-    ∙ ap (λ (test : Bool). (entries_on number reaches.run ++ (if test then enter_entry worker shard ∷ [] else []))
-    ++ (if test then leave_entry worker shard ∷ entries_on number (leaving_of worker reaches.after)
+    (append_on number reaches.run (asks worker (Writes (enter_by worker shard)) ∷ []))
+    ∙ ap (λ (test : Bool). (entries_on number reaches.run ++ (if test then enter_by worker shard ∷ [] else []))
+    ++ (if test then leave_by worker shard ∷ entries_on number (leaving_of worker reaches.after)
     else entries_on number (leaving_of worker reaches.after))) is
 
 visit_elsewhere : (said : MachineState → Type 0) (setting : Setting) (worker shard number : ℕ) (state : MachineState) (exchanges : List Exchange)
     (reaches : Reaches said setting worker state [] exchanges) → (shard == number) ≡ false →
-    entries_on number ((reaches.run ++ asks worker (Writes (enter_entry worker shard)) ∷ []) ++ leaving_of worker (shard ∷ reaches.after))
+    entries_on number ((reaches.run ++ asks worker (Writes (enter_by worker shard)) ∷ []) ++ leaving_of worker (shard ∷ reaches.after))
     ≡ session_at worker number exchanges
 visit_elsewhere said setting worker shard number state exchanges reaches is =
     visit_writes said setting worker shard number state exchanges reaches false is
@@ -277,17 +277,17 @@ visit_elsewhere said setting worker shard number state exchanges reaches is =
 visit_there : (said : MachineState → Type 0) (setting : Setting) (worker shard number : ℕ) (state : MachineState) (exchanges : List Exchange)
     (reaches : Reaches said setting worker state [] exchanges) → (shard == number) ≡ true → is_entered number reaches.after ≡ false →
     entries_at worker number exchanges ≡ [] →
-    entries_on number ((reaches.run ++ asks worker (Writes (enter_entry worker shard)) ∷ []) ++ leaving_of worker (shard ∷ reaches.after))
-    ≡ enter_entry worker shard ∷ leave_entry worker shard ∷ []
+    entries_on number ((reaches.run ++ asks worker (Writes (enter_by worker shard)) ∷ []) ++ leaving_of worker (shard ∷ reaches.after))
+    ≡ enter_by worker shard ∷ leave_by worker shard ∷ []
 visit_there said setting worker shard number state exchanges reaches is outside none =
     let before : entries_on number reaches.run ≡ [] =
     reaches.writes number ∙ ap (λ (list : List Entry). since false worker number list) none in
     let after : entries_on number (leaving_of worker reaches.after) ≡ [] =
     leaves_on worker number reaches.after reaches.distinct
-    ∙ ap (λ (test : Bool). if test then leave_entry worker number ∷ [] else []) outside in
+    ∙ ap (λ (test : Bool). if test then leave_by worker number ∷ [] else []) outside in
     visit_writes said setting worker shard number state exchanges reaches true is
-    ∙ ap (λ (list : List Entry). (list ++ enter_entry worker shard ∷ []) ++ leave_entry worker shard ∷ entries_on number (leaving_of worker reaches.after)) before
-    ∙ ap (λ (list : List Entry). enter_entry worker shard ∷ leave_entry worker shard ∷ list) after
+    ∙ ap (λ (list : List Entry). (list ++ enter_by worker shard ∷ []) ++ leave_by worker shard ∷ entries_on number (leaving_of worker reaches.after)) before
+    ∙ ap (λ (list : List Entry). enter_by worker shard ∷ leave_by worker shard ∷ list) after
 
 apart_from : (shard number : ℕ) → number ≢ shard → (shard == number) ≡ false
 apart_from shard number apart = ne_eqb shard number (λ same. apart (sym same))
@@ -307,7 +307,7 @@ visit_stop setting worker told now frame plan count before after exchanges call 
     let led_to : AreMoves setting worker (Runs start []) reaches.run (Runs waiting reaches.after) =
     subst (λ (one : MachineState). AreMoves setting worker (Runs start []) reaches.run (Runs one reaches.after)) reaches.ended.is reaches.runs in
     record {
-      run = reaches.run ++ asks worker (Writes (enter_entry worker shard)) ∷ [];
+      run = reaches.run ++ asks worker (Writes (enter_by worker shard)) ∷ [];
       entered = shard ∷ reaches.after;
       leaving = leaving_of worker (shard ∷ reaches.after);
       refused = call;
@@ -317,7 +317,7 @@ visit_stop setting worker told now frame plan count before after exchanges call 
         Runs start [],
         begins_so setting worker now told frame few input early low,
         moves_end setting worker (Runs start []) (Runs waiting reaches.after) (Runs waiting (shard ∷ reaches.after)) reaches.run
-            (asks worker (Writes (enter_entry worker shard))) led_to
+            (asks worker (Writes (enter_by worker shard))) led_to
             (enters setting worker waiting reaches.after call reaches.ended.next reaches.ended.asks_it outside),
       );
       waits = reaches.ended.asks_it;
@@ -330,7 +330,7 @@ visit_stop setting worker told now frame plan count before after exchanges call 
       full_seen = sessions.full_seen;
       full = call_is_full (plan shard) sessions.full_at worker exchanges call shard (own_at before shard) (own_at after shard)
           (λ (kept : IsKeptOut (plan shard) sessions.full_at worker exchanges shard (own_at before shard) (own_at after shard)).
-          two_more (own_at before shard) (leave_entry worker shard) (enter_entry worker shard) (sym kept.nothing ∙ visited.written)) sessions.full;
+          two_more (own_at before shard) (leave_by worker shard) (enter_by worker shard) (sym kept.nothing ∙ visited.written)) sessions.full;
       written = λ number within. ⊎_elim
           (λ (here : number ≡ shard). visited_own number here)
           (λ (apart : number ≢ shard).
@@ -341,15 +341,15 @@ visit_stop setting worker told now frame plan count before after exchanges call 
     }
   where
     visited_own : (number : ℕ) → number ≡ shard_of_call call →
-        own_at after number ≡ reverse (entries_on number ((reaches.run ++ asks worker (Writes (enter_entry worker (shard_of_call call))) ∷ [])
+        own_at after number ≡ reverse (entries_on number ((reaches.run ++ asks worker (Writes (enter_by worker (shard_of_call call))) ∷ [])
         ++ leaving_of worker (shard_of_call call ∷ reaches.after))) ++ own_at before number
     visited_own number here =
         let there : (shard_of_call call == number) ≡ true = grind (arith, nat_tests) in
         let out : is_entered number reaches.after ≡ false = subst (λ (one : ℕ). is_entered one reaches.after ≡ false) (sym here) outside in
         let none : entries_at worker number exchanges ≡ [] =
         subst (λ (one : ℕ). entries_at worker one exchanges ≡ []) (sym here) visited.first_call in
-        let own : own_at after number ≡ leave_entry worker (shard_of_call call) ∷ enter_entry worker (shard_of_call call) ∷ own_at before number =
-        subst (λ (one : ℕ). own_at after one ≡ leave_entry worker (shard_of_call call) ∷ enter_entry worker (shard_of_call call) ∷ own_at before one)
+        let own : own_at after number ≡ leave_by worker (shard_of_call call) ∷ enter_by worker (shard_of_call call) ∷ own_at before number =
+        subst (λ (one : ℕ). own_at after one ≡ leave_by worker (shard_of_call call) ∷ enter_by worker (shard_of_call call) ∷ own_at before one)
         (sym here) visited.written in
         own ∙ ap (λ (list : List Entry). reverse list ++ own_at before number)
         (sym (visit_there (WaitsFor setting call waiting) setting worker (shard_of_call call) number (initial_state (input_frame frame) told now)

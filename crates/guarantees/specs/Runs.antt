@@ -12,7 +12,7 @@ use Rattle.semantics.specs.RunTrace.{HasExited, Waits}
 use Rattle.verifier.specs.Verified.{Verified}
 use Rattle.shard_core.specs.JournaledShard.{JournaledShard}
 use Rattle.map_port.specs.Exchanges.{Exchange, calls_in, replies_in}
-use Rattle.shard_port.specs.Asking.{is_in, can_enter, entered, enter_entry, leave_entry, all_left}
+use Rattle.shard_port.specs.Asking.{is_in, can_enter, entered, enter_by, leave_by, all_left}
 use Rattle.shard_port.specs.PortView.{ServesMaps}
 use Rattle.shard_port.specs.declared.plain.PlainPort.{PlainPort}
 use Rattle.shard_port.specs.PlainPorts.{PortGives, PortRefuses}
@@ -87,7 +87,7 @@ AreWrittenBut call worker exchanges before after =
     (number : ℕ) (shard : JournaledShard) → slice_get before number ≡ Some shard →
     (slice_get after number ≡ Some (with_entries shard (session worker shard.plan.number (entries_at worker number exchanges))))
     ⊎ ((shard_of_call call ≡ number) × (entries_at worker number exchanges ≡ []) × (slice_get after number ≡ Some
-    (with_entries shard (enter_entry worker shard.plan.number ∷ leave_entry worker shard.plan.number ∷ []))))
+    (with_entries shard (enter_by worker shard.plan.number ∷ leave_by worker shard.plan.number ∷ []))))
 
 -- after what the run had asked of the call's shard, which stood so before it, the journal had no room for the worker's Enter, or for the call
 abbrev pub WasFull : Call → ℕ → List Exchange → JournaledShard → Type 0

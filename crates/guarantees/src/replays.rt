@@ -1,6 +1,6 @@
 //! The replay of which the law on programs that only read speaks, made.
 
-ghost use Rattle.std.specs.Prelude.{◌≡◌, ◌<◌, ◌≤◌, ◌↔◌, [], ℕ, length, All, IfOk, IsErrOf, IsFalse};
+ghost use Rattle.std.specs.Prelude.{◌≡◌, ◌<◌, ◌≤◌, ◌↔◌, [], ℕ, length, IfOk, IsErrOf, IsFalse};
 ghost use Rattle.std.specs.List.{AllByRecursion};
 ghost use Rattle.verifier.specs.Readers.{IsReader};
 ghost use Rattle.machine.specs.Running.{program_of};
@@ -14,18 +14,12 @@ use control::Script;
 use gates::Gate;
 use replay::{Outcome, ReplayFault, replay};
 use semantics::Options;
+use semantics::facts::bytes_have_8_bits;
 use std::alloc::Global;
 use std::sync::Wait;
 use std::thread::Threads;
 use verifier::Verified;
 use wire::{Capture, Sent};
-
-/// Bytes have 8 bits.
-fn bytes_have_8_bits(bytes: &[u8])
-    ensures { All (λ byte. byte < 256) bytes.now }
-{
-    let _ = bytes;
-}
 
 /// A record with no more bytes than a captured frame may have is one that a capture has.
 fn is_captured(sent: &Sent)

@@ -31,7 +31,8 @@ use Rattle.workers.specs.declared.run_end.Ran.{Ran}
 use Rattle.workers.specs.declared.run_end.RunEnd.{RunEnd}
 use Rattle.workers.specs.declared.run_end.RunEnd.TheVariants.{Stopped, Aborted, Dropped, Passed, Sent as IsSent}
 use Rattle.workers.specs.Accounts.{lists_of, runs_at, AreRunsOfShares}
-use Rattle.workers.specs.Crews.{Each, IsHandled, IsPart}
+use Rattle.semantics.specs.Each.{Each}
+use Rattle.workers.specs.Crews.{IsHandled, IsPart}
 use Rattle.workers.specs.Runs.{IsRunAt, IsChainOfRuns, HasHandled}
 use Rattle.workers.specs.Shares.{frames_of, share}
 use Rattle.workers.specs.Jobs.{records_of}

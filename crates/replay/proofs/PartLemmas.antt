@@ -24,7 +24,7 @@ use Rattle.shared_shards.specs.Passes.{PassView, own_at, seen_at, pass_at, AreSe
 use Rattle.rx_queues.specs.declared.job.Job.{Job}
 use Rattle.rx_queues.specs.declared.job.Job.TheVariants.{Frame, Command as CommandJob, Note, End}
 use Rattle.control.specs.declared.command.Command.{Command}
-use Rattle.control.specs.MapUpdates.{MapUpdate}
+use Rattle.control.specs.MapUpdates.{UpdateBytes}
 use Rattle.actors.specs.declared.applied.Applied.{Applied}
 use Rattle.actors.specs.SharedUpdates.{shard_in, shard_of, update_call}
 use Rattle.actors.specs.Commands.{CommanderView, CommandDone, IsAccount, IsFullFor, ServesScript}
@@ -162,7 +162,7 @@ within_of maps map parts key (Some definition) some is there =
     (mod-lt (shard_number_of_key definition.kind key) some)
 
 full_stands : (plan : ℕ → ShardPlan) (maps : List MapDef) (options : Options) (count : ℕ) (journals : JournalsView) (pass : PassView) →
-    ArePlans maps options count plan → AreOptions maps options → AreSettled count journals pass → (stopped : Option MapUpdate) →
+    ArePlans maps options count plan → AreOptions maps options → AreSettled count journals pass → (stopped : Option UpdateBytes) →
     IfSome stopped (IsFullFor plan maps options pass) → IfSome stopped (IsFullInJournal plan maps options count journals)
 full_stands plan maps options count journals pass plans are settled None full = tt
 full_stands plan maps options count journals pass plans are settled (Some update) full =

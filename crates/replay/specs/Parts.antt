@@ -14,7 +14,7 @@ use Rattle.maglev.specs.RingSize.{IsRingSize}
 use Rattle.conntrack.specs.SteeringMaps.{steering_maps}
 use Rattle.control.specs.declared.command.Command.{Command}
 use Rattle.control.specs.Controlling.{ControllerState}
-use Rattle.control.specs.MapUpdates.{MapUpdate}
+use Rattle.control.specs.MapUpdates.{UpdateBytes}
 use Rattle.actors.specs.declared.applied.Applied.{Applied}
 use Rattle.actors.specs.SharedUpdates.{shard_of, update_call}
 use Rattle.actors.specs.Commands.{CommanderView, CommandDone, AreNotedOf, AreDone, IsAccount, ServesScript, opened_controller, made_in, with_updates}
@@ -70,7 +70,7 @@ abbrev pub refused_of : List Applied → List Applied
 refused_of noted = filter (λ (one : Applied). is_some one.fault) noted
 
 -- the update's shard is one of so many, and its journal is full for the update at its end
-pub record IsFullInJournal (plan : ℕ → ShardPlan) (maps : List MapDef) (options : Options) (count : ℕ) (journals : JournalsView) (update : MapUpdate) :
+pub record IsFullInJournal (plan : ℕ → ShardPlan) (maps : List MapDef) (options : Options) (count : ℕ) (journals : JournalsView) (update : UpdateBytes) :
     Type 0 where
   pub within : shard_of maps options update < count
   pub full :

@@ -3,7 +3,7 @@
 ghost use Rattle.std.specs.Prelude.{◌≡◌, ◌≤◌, ◌∷◌, ◌++◌, [], ℕ, length, map, IfOk};
 ghost use Rattle.shared_shards.specs.CallerView.{nothing_seen};
 ghost use Rattle.shared_shards.specs.Passes.{view_at};
-ghost use Rattle.workers.specs.Crews.{Each};
+ghost use Rattle.semantics.specs.Each.{Each};
 ghost use Rattle.replay.specs.Runs.{IsNewAt, pass_in};
 
 use crate::shard_runner::Working;

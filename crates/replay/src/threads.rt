@@ -9,7 +9,8 @@ ghost use Rattle.shared_shards.specs.CallerView.{nothing_seen};
 ghost use Rattle.shared_shards.specs.Passes.{view_at};
 ghost use Rattle.actors.specs.Commands.{ServesScript};
 ghost use Rattle.actors.specs.Rounds.{AreReclaimed};
-ghost use Rattle.workers.specs.Crews.{Each, AreHandled};
+ghost use Rattle.semantics.specs.Each.{Each};
+ghost use Rattle.workers.specs.Crews.{AreHandled};
 ghost use Rattle.replay.specs.Parts.{IsStarted, IsScriptRun, rounds_of};
 ghost use Rattle.replay.specs.Runs.{IsNewAt, IsRunBy};
 

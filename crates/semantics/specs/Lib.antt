@@ -1,5 +1,6 @@
 pub mod FaultText
 pub mod Padding
+pub mod Each
 pub mod LittleEndian
 pub mod RegisterValue
 pub mod MachineState

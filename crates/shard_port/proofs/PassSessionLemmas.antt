@@ -16,7 +16,7 @@ use Rattle.semantics.specs.History.{shard_of_call, IsJournalFull}
 use Rattle.map_port.specs.Exchanges.{Exchange, IsChain}
 use Rattle.shared_shards.specs.CallerView.{CallerView, BeginsWith, IsServed}
 use Rattle.shared_shards.specs.Passes.{PassView, view_at, own_at, seen_at}
-use Rattle.shard_port.specs.Asking.{enter_entry, leave_entry, asked_entry}
+use Rattle.shard_port.specs.Asking.{enter_by, leave_by, asked_entry}
 use Rattle.shard_port.specs.PortView.{IsRunCall}
 use Rattle.shard_port.specs.PortLaws.{same_worker, inside_after_call}
 use Rattle.shard_port.specs.Sessions.{entry_of, is_at, entries_at, begun, session}
@@ -79,9 +79,9 @@ step_inside plan number worker before after call reply asked inside = record {
 -- a call of a worker that is outside
 step_outside : (plan : ShardPlan) (number worker : ℕ) (before after : CallerView) (call : Call) (reply : Reply) →
     IsAskedAt plan number worker before after call reply → is_inside worker before.own ≡ false →
-    IsGrown (enter_entry worker number ∷ asked_entry worker call reply ∷ []) before after
+    IsGrown (enter_by worker number ∷ asked_entry worker call reply ∷ []) before after
 step_outside plan number worker before after call reply asked outside = record {
-  own = asked.own ∙ ap (λ (test : Bool). asked_entry worker call reply ∷ (if test then [] else enter_entry worker number ∷ []) ++ before.own) outside;
+  own = asked.own ∙ ap (λ (test : Bool). asked_entry worker call reply ∷ (if test then [] else enter_by worker number ∷ []) ++ before.own) outside;
   begins = asked_begins plan number worker before after call reply asked;
 }
 
@@ -183,7 +183,7 @@ chain_outside plan count worker number before after (exchange ∷ later) who cha
         (asked_is_inside (plan number) number worker _ _ exchange.call exchange.reply chain.1.run_call asked) in
         record {
           grown =
-              grown_join (enter_entry worker number ∷ entry_of worker exchange ∷ []) (entries_at worker number later) _ _ _
+              grown_join (enter_by worker number ∷ entry_of worker exchange ∷ []) (entries_at worker number later) _ _ _
               (step_outside (plan number) number worker _ _ exchange.call exchange.reply asked outside) rest.grown;
           inside = rest.inside;
         }
@@ -217,7 +217,7 @@ pub record IsWholeAt (worker number : ℕ) (entries : List Entry) (before after 
   pub outside : is_inside worker after.own ≡ false
 
 left_is_outside : (plan : ShardPlan) (worker number : ℕ) (before after : CallerView) →
-    IsServed plan before after (leave_entry worker number) → is_inside worker after.own ≡ false
+    IsServed plan before after (leave_by worker number) → is_inside worker after.own ≡ false
 left_is_outside plan worker number before after served =
     subst (λ (own : List Entry). is_inside worker own ≡ false) (sym served.own) (rw (same_worker worker) refl)
 
@@ -233,12 +233,12 @@ left_at plan worker number [] before middle after written left =
       outside = subst (λ (view : CallerView). is_inside worker view.own ≡ false) (sym same) written.inside;
     }
 left_at plan worker number (first ∷ later) before middle after written left =
-    let served : IsServed plan middle after (leave_entry worker number) =
+    let served : IsServed plan middle after (leave_by worker number) =
     subst (λ (test : Bool). IsLeft test plan number worker middle after) written.inside left in
     record {
       grown =
-          grown_join (enter_entry worker number ∷ first ∷ later) (leave_entry worker number ∷ []) before middle after written.grown
-          (served_grown plan middle after (leave_entry worker number) served);
+          grown_join (enter_by worker number ∷ first ∷ later) (leave_by worker number ∷ []) before middle after written.grown
+          (served_grown plan middle after (leave_by worker number) served);
       outside = left_is_outside plan worker number middle after served;
     }
 
@@ -279,7 +279,7 @@ pub record IsRefusedHere (plan : ShardPlan) (worker number : ℕ) (entries : Lis
   where
     pub written :
         IsGrown (session worker number entries) before after
-        ⊎ ((entries ≡ []) × IsGrown (enter_entry worker number ∷ leave_entry worker number ∷ []) before after)
+        ⊎ ((entries ≡ []) × IsGrown (enter_by worker number ∷ leave_by worker number ∷ []) before after)
     pub begins : BeginsWith after.seen before.seen
     pub outside : is_inside worker after.own ≡ false
     pub full_at : List Entry
@@ -288,7 +288,7 @@ pub record IsRefusedHere (plan : ShardPlan) (worker number : ℕ) (entries : Lis
 
 left_begins : (plan : ShardPlan) (worker number : ℕ) (inside : Bool) (before after : CallerView) →
     IsLeft inside plan number worker before after → BeginsWith after.seen before.seen
-left_begins plan worker number true before after served = (served_grown plan before after (leave_entry worker number) served).begins
+left_begins plan worker number true before after served = (served_grown plan before after (leave_by worker number) served).begins
 left_begins plan worker number false before after same = ([], ap (λ (view : CallerView). view.seen) same)
 
 refused_enter : (plan : ShardPlan) (worker number : ℕ) (entries : List Entry) (call : Call) (before middle after finished : CallerView) →
@@ -331,24 +331,24 @@ refused_call : (plan : ShardPlan) (worker number : ℕ) (entries : List Entry) (
     IsRefusedHere plan worker number entries call before finished
 refused_call plan worker number [] call before middle after finished written cannot left =
     let outside : is_inside worker middle.own ≡ false = written.inside in
-    let entered : after.own ≡ enter_entry worker number ∷ middle.own =
-    cannot.own ∙ ap (λ (test : Bool). (if test then [] else enter_entry worker number ∷ []) ++ middle.own) outside in
+    let entered : after.own ≡ enter_by worker number ∷ middle.own =
+    cannot.own ∙ ap (λ (test : Bool). (if test then [] else enter_by worker number ∷ []) ++ middle.own) outside in
     let inside : is_inside worker after.own ≡ true = ap (is_inside worker) entered ∙ rw (same_worker worker) refl in
-    let served : IsServed plan after finished (leave_entry worker number) =
+    let served : IsServed plan after finished (leave_by worker number) =
     subst (λ (test : Bool). IsLeft test plan number worker after finished) inside left in
-    let visited : IsGrown (enter_entry worker number ∷ []) middle after =
+    let visited : IsGrown (enter_by worker number ∷ []) middle after =
     record { own = entered; begins = call_begins plan worker number call middle after cannot } in
-    let grown : IsGrown (enter_entry worker number ∷ leave_entry worker number ∷ []) middle finished =
-    grown_join (enter_entry worker number ∷ []) (leave_entry worker number ∷ []) middle after finished visited
-    (served_grown plan after finished (leave_entry worker number) served) in
-    let all : IsGrown (enter_entry worker number ∷ leave_entry worker number ∷ []) before finished =
-    grown_join [] (enter_entry worker number ∷ leave_entry worker number ∷ []) before middle finished written.grown grown in
+    let grown : IsGrown (enter_by worker number ∷ leave_by worker number ∷ []) middle finished =
+    grown_join (enter_by worker number ∷ []) (leave_by worker number ∷ []) middle after finished visited
+    (served_grown plan after finished (leave_by worker number) served) in
+    let all : IsGrown (enter_by worker number ∷ leave_by worker number ∷ []) before finished =
+    grown_join [] (enter_by worker number ∷ leave_by worker number ∷ []) before middle finished written.grown grown in
     record {
       written = inr (refl, all);
       begins = all.begins;
       outside = left_is_outside plan worker number after finished served;
       full_at = after.seen;
-      full_seen = (served_grown plan after finished (leave_entry worker number) served).begins;
+      full_seen = (served_grown plan after finished (leave_by worker number) served).begins;
       full = inl cannot.full;
     }
 refused_call plan worker number (first ∷ later) call before middle after finished written cannot left =
@@ -402,7 +402,7 @@ ended_here : (plan : ShardPlan) (worker number : ℕ) (exchanges : List Exchange
 ended_here plan worker number exchanges call before after same here = record {
   written =
       ⊎_elim (λ (grown : IsGrown (session worker number (entries_at worker number exchanges)) before after). inl grown.own)
-      (λ (visited : (entries_at worker number exchanges ≡ []) × IsGrown (enter_entry worker number ∷ leave_entry worker number ∷ []) before after).
+      (λ (visited : (entries_at worker number exchanges ≡ []) × IsGrown (enter_by worker number ∷ leave_by worker number ∷ []) before after).
       inr (record { own_shard = same; first_call = visited.0; written = visited.1.own })) here.written;
   begins = here.begins;
   outside = here.outside;

@@ -23,7 +23,7 @@ use Rattle.semantics.specs.History.{shard_of_call, IsLegalJournal}
 use Rattle.shard_core.specs.JournaledShard.{JournaledShard, with_entry, opened_shard}
 use Rattle.shards.specs.Opening.{AreOpened}
 use Rattle.map_port.specs.Exchanges.{Exchange, IsChain}
-use Rattle.shard_port.specs.Asking.{is_in, left, entered, all_left, leave_entry, CannotEnter, CannotCall, IsTurnedAwayAmong}
+use Rattle.shard_port.specs.Asking.{is_in, left, entered, all_left, leave_by, CannotEnter, CannotCall, IsTurnedAwayAmong}
 use Rattle.shard_port.specs.PortView.{PortView, AreBytes, SetsBytes, IsShardOf, AreShardsOf, ServesMaps, IsGivenBy}
 use Rattle.shard_port.specs.declared.plain.PlainPort.{PlainPort}
 use Rattle.shard_port.specs.PlainPorts.{view_of, IsSamePort, PortGives, PortRefuses}
@@ -201,7 +201,7 @@ own_and_last worker (entry ∷ later) last own is = (own.0, own_and_last worker 
 own_session : (worker number : ℕ) (entries : List Entry) → AllByRecursion (IsOwn worker) entries →
     AllByRecursion (IsOwn worker) (session worker number entries)
 own_session worker number [] own = tt
-own_session worker number (first ∷ later) own = (refl, (own.0, own_and_last worker later (leave_entry worker number) own.1 refl))
+own_session worker number (first ∷ later) own = (refl, (own.0, own_and_last worker later (leave_by worker number) own.1 refl))
 
 passed_over : (worker other : ℕ) (entry : Entry) (older : List Entry) → IsFalse (worker == other) → entry.who ≡ Worker worker →
     entered_at other (entry ∷ older) ≡ entered_at other older

@@ -11,7 +11,7 @@ use Rattle.semantics.specs.Reclamation.{is_inside}
 use Rattle.semantics.specs.History.{shard_of_call}
 use Rattle.shard_core.specs.JournaledShard.{JournaledShard, with_entry}
 use Rattle.map_port.specs.Exchanges.{Exchange, IsChain}
-use Rattle.shard_port.specs.Asking.{is_in, enter_entry, leave_entry, entered, left, asked_entry, all_left}
+use Rattle.shard_port.specs.Asking.{is_in, enter_by, leave_by, entered, left, asked_entry, all_left}
 use Rattle.shard_port.specs.PortView.{PortView, IsRunCall, IsGivenBy}
 use Rattle.shard_port.specs.PortLaws.{same_worker, inside_after_call, append_none, newest_first, stays_entered, set_here}
 use Rattle.shard_port.specs.Sessions.{entry_of, is_at, entries_at, begun, session, with_entries}
@@ -24,12 +24,12 @@ inside_with worker shard call reply run inside =
     rw (newest_first shard (asked_entry worker call reply)) (inside_after_call worker call reply (reverse shard.journal) run inside)
 
 enters_with : (worker : ℕ) (shard : JournaledShard) → is_in worker shard ≡ false →
-    entered worker shard ≡ with_entry shard (enter_entry worker shard.plan.number)
+    entered worker shard ≡ with_entry shard (enter_by worker shard.plan.number)
 enters_with worker shard outside = ap (λ (inside : Bool).
-    record { plan = shard.plan; journal = shard.journal ++ (if inside then [] else enter_entry worker shard.plan.number ∷ []) }) outside
+    record { plan = shard.plan; journal = shard.journal ++ (if inside then [] else enter_by worker shard.plan.number ∷ []) }) outside
 
-inside_entered : (worker : ℕ) (shard : JournaledShard) → is_in worker (with_entry shard (enter_entry worker shard.plan.number)) ≡ true
-inside_entered worker shard = rw (newest_first shard (enter_entry worker shard.plan.number), same_worker worker) refl
+inside_entered : (worker : ℕ) (shard : JournaledShard) → is_in worker (with_entry shard (enter_by worker shard.plan.number)) ≡ true
+inside_entered worker shard = rw (newest_first shard (enter_by worker shard.plan.number), same_worker worker) refl
 
 outside_left : (worker : ℕ) (shard : JournaledShard) → is_in worker (left worker shard) ≡ false
 outside_left worker shard = by_test (is_in worker shard) refl
@@ -38,9 +38,9 @@ outside_left worker shard = by_test (is_in worker shard) refl
         is_in worker (record {
           plan = shard.plan;
           journal =
-              shard.journal ++ (if inside then leave_entry worker shard.plan.number ∷ [] else []);
+              shard.journal ++ (if inside then leave_by worker shard.plan.number ∷ [] else []);
         }) ≡ false
-    by_test true is = rw (newest_first shard (leave_entry worker shard.plan.number), same_worker worker) refl
+    by_test true is = rw (newest_first shard (leave_by worker shard.plan.number), same_worker worker) refl
     by_test false is = rw (append_none shard.journal) is
 
 pub outside_all : (worker : ℕ) (shards : List JournaledShard) (number : ℕ) (shard : JournaledShard) →
@@ -141,16 +141,16 @@ pub record IsWritten (worker : ℕ) (after : PortView) (number : ℕ) (shard : J
       (session worker shard.plan.number entries)
 
 left_inside : (worker : ℕ) (shard : JournaledShard) → is_in worker shard ≡ true →
-    left worker shard ≡ with_entry shard (leave_entry worker shard.plan.number)
+    left worker shard ≡ with_entry shard (leave_by worker shard.plan.number)
 left_inside worker shard inside = ap (λ (test : Bool).
-    record { plan = shard.plan; journal = shard.journal ++ (if test then leave_entry worker shard.plan.number ∷ [] else []) }) inside
+    record { plan = shard.plan; journal = shard.journal ++ (if test then leave_by worker shard.plan.number ∷ [] else []) }) inside
 
 left_outside : (worker : ℕ) (shard : JournaledShard) → is_in worker shard ≡ false → left worker shard ≡ shard
 left_outside worker shard outside =
     ap (λ (test : Bool). record {
       plan = shard.plan;
       journal =
-          shard.journal ++ (if test then leave_entry worker shard.plan.number ∷ [] else []);
+          shard.journal ++ (if test then leave_by worker shard.plan.number ∷ [] else []);
     }) outside
     ∙ ap (λ journal. record { plan = shard.plan; journal = journal }) (append_none shard.journal)
 
@@ -175,8 +175,8 @@ after_outside before after (exchange ∷ later) chain number shard known outside
         let worker : ℕ = before.worker in
         let first : Entry = entry_of worker exchange in
         let others : List Entry = entries_at worker number later in
-        let enter : Entry = enter_entry worker shard.plan.number in
-        let leave : Entry = leave_entry worker shard.plan.number in
+        let enter : Entry = enter_by worker shard.plan.number in
+        let leave : Entry = leave_by worker shard.plan.number in
         let new : JournaledShard = with_entry (with_entry shard enter) first in
         let there : slice_get chain.0.shards number ≡ Some new =
         step_here before chain.0 exchange.call exchange.reply number shard chain.1 known is ∙
@@ -220,10 +220,10 @@ left_at worker (first ∷ rest) (suc number) shard is = left_at worker rest numb
 
 left_twice : (worker : ℕ) (shard : JournaledShard) → is_in worker (with_entries shard []) ≡ false →
     left worker (entered worker (with_entries shard [])) ≡ with_entries shard
-    (enter_entry worker shard.plan.number ∷ leave_entry worker shard.plan.number ∷ [])
+    (enter_by worker shard.plan.number ∷ leave_by worker shard.plan.number ∷ [])
 left_twice worker shard outside =
-    let enter : Entry = enter_entry worker shard.plan.number in
-    let leave : Entry = leave_entry worker shard.plan.number in
+    let enter : Entry = enter_by worker shard.plan.number in
+    let leave : Entry = leave_by worker shard.plan.number in
     let plain : with_entries shard [] ≡ shard = ap (λ journal. record { plan = shard.plan; journal = journal })
     (append_none shard.journal) in
     let outside_plain : is_in worker shard ≡ false = subst (λ (one : JournaledShard). is_in worker one ≡ false) plain outside in
@@ -237,7 +237,7 @@ pub data IsAdded (worker : ℕ) (number : ℕ) (shard : JournaledShard) (call : 
   added_nothing : {entries : List Entry} {new : JournaledShard} →
       left worker new ≡ with_entries shard (session worker shard.plan.number entries) → IsAdded worker number shard call entries new
   added_enter : {new : JournaledShard} → shard_of_call call ≡ number →
-      left worker new ≡ with_entries shard (enter_entry worker shard.plan.number ∷ leave_entry worker shard.plan.number ∷ []) →
+      left worker new ≡ with_entries shard (enter_by worker shard.plan.number ∷ leave_by worker shard.plan.number ∷ []) →
       IsAdded worker number shard call [] new
 
 pub entered_added : (worker number : ℕ) (shard : JournaledShard) (call : Call) (entries : List Entry) → shard_of_call call ≡ number →

@@ -2,12 +2,12 @@
 use Rattle.std.specs.Prelude.{◌≡◌, ◌⊎◌, ℕ, Bool, false, not, ◌&&◌, ◌||◌, nat_lt, List, [], ◌∷◌, ◌++◌, reverse, map, Option, Some, None, slice_get, slice_set, if◌then◌else◌, IsTrue, IsFalse}
 use Rattle.semantics.specs.declared.call.Caller.TheVariants.{Worker}
 use Rattle.semantics.specs.declared.call.Call.{Call}
-use Rattle.semantics.specs.declared.call.Call.TheVariants.{Enter, Leave}
+use Rattle.semantics.specs.declared.call.Call.TheVariants.{Enter}
 use Rattle.semantics.specs.declared.call.Reply.{Reply}
-use Rattle.semantics.specs.declared.call.Reply.TheVariants.{Entered, Left}
 use Rattle.semantics.specs.declared.call.Entry.{Entry}
 use Rattle.semantics.specs.Reclamation.{is_inside}
 use Rattle.semantics.specs.History.{shard_of_call, meets, Meets, journal_is_full, IsJournalFull, IsLegalJournal}
+use Rattle.journal.specs.Entries.{enter_entry, leave_entry}
 use Rattle.shard_core.specs.JournaledShard.{JournaledShard, sequential_reply, with_entry}
 
 -- ---- entering and leaving
@@ -15,19 +15,20 @@ use Rattle.shard_core.specs.JournaledShard.{JournaledShard, sequential_reply, wi
 abbrev pub is_in : ℕ → JournaledShard → Bool
 is_in worker shard = is_inside worker (reverse shard.journal)
 
-abbrev pub enter_entry : ℕ → ℕ → Entry
-enter_entry worker number = record { who = Worker worker; call = Enter number; reply = Entered }
+-- the worker's Enter and Leave
+abbrev pub enter_by : ℕ → ℕ → Entry
+enter_by worker number = enter_entry number (Worker worker)
 
-abbrev pub leave_entry : ℕ → ℕ → Entry
-leave_entry worker number = record { who = Worker worker; call = Leave number; reply = Left }
+abbrev pub leave_by : ℕ → ℕ → Entry
+leave_by worker number = leave_entry number (Worker worker)
 
 -- the entry by which the worker enters, if it is not inside
 abbrev pub entering : ℕ → JournaledShard → List Entry
-entering worker shard = if is_in worker shard then [] else enter_entry worker shard.plan.number ∷ []
+entering worker shard = if is_in worker shard then [] else enter_by worker shard.plan.number ∷ []
 
 -- the entry by which the worker leaves, if it is inside
 abbrev pub leaving : ℕ → JournaledShard → List Entry
-leaving worker shard = if is_in worker shard then leave_entry worker shard.plan.number ∷ [] else []
+leaving worker shard = if is_in worker shard then leave_by worker shard.plan.number ∷ [] else []
 
 -- the shard with the worker inside
 abbrev pub entered : ℕ → JournaledShard → JournaledShard

@@ -22,7 +22,7 @@ use Rattle.semantics.specs.ServedCalls.{IsHandedOut}
 use Rattle.map_port.specs.Served.{Keeps, program_over}
 use Rattle.shared_shards.specs.CallerView.{CallerView}
 use Rattle.shared_shards.specs.Passes.{own_at}
-use Rattle.shard_port.specs.Asking.{enter_entry, asked_entry}
+use Rattle.shard_port.specs.Asking.{enter_by, asked_entry}
 use Rattle.shard_port.specs.PortView.{IsRunCall, cell_of_handle}
 use Rattle.shard_port.specs.PortLaws.{same_worker, both_true, held_after_call, inside_after_call}
 use Rattle.shard_port.specs.PassPorts.{PassPort, worker_of, inside_own, has_found, IsGivenBy}
@@ -35,13 +35,13 @@ pub inside_once : (worker number : ℕ) (own : List Entry) → is_inside worker 
 inside_once worker number own = by_test (is_inside worker own) refl
   where
     by_test : (inside : Bool) → is_inside worker own ≡ inside →
-        is_inside worker ((if inside then [] else enter_entry worker number ∷ []) ++ own) ≡ true
+        is_inside worker ((if inside then [] else enter_by worker number ∷ []) ++ own) ≡ true
     by_test true is = is
     by_test false is = rw (same_worker worker) refl
 
 -- a worker that is inside does not enter
 pub stays_inside : (worker number : ℕ) (own : List Entry) → is_inside worker own ≡ true → inside_own worker number own ≡ own
-stays_inside worker number own inside = ap (λ (test : Bool). (if test then [] else enter_entry worker number ∷ []) ++ own) inside
+stays_inside worker number own inside = ap (λ (test : Bool). (if test then [] else enter_by worker number ∷ []) ++ own) inside
 
 -- what it held stays held
 kept_at : (worker number cell : ℕ) (call : Call) (reply : Reply) (own : List Entry) → IsRunCall call →

@@ -16,7 +16,7 @@ use Rattle.shared_shards.specs.CallerView.{CallerView, BeginsWith, IsServed, IsR
 use Rattle.shared_shards.specs.Passes.{PassView, view_at, own_at, IsElsewhereSame}
 use Rattle.shared_shards.specs.SharedMaps.{SharedMaps}
 use Rattle.shared_shards.specs.HeldCells.{holds_own}
-use Rattle.shard_port.specs.Asking.{enter_entry, leave_entry, asked_entry}
+use Rattle.shard_port.specs.Asking.{enter_by, leave_by, asked_entry}
 use Rattle.shard_port.specs.PortView.{IsRunCall}
 
 -- the caller is a worker of a number below this
@@ -33,7 +33,7 @@ worker_of who = 0
 
 -- the entry by which the worker enters, if it is not inside
 abbrev pub entering : ℕ → ℕ → List Entry → List Entry
-entering worker number own = if is_inside worker own then [] else enter_entry worker number ∷ []
+entering worker number own = if is_inside worker own then [] else enter_by worker number ∷ []
 
 -- its own entries, once it is inside
 abbrev pub inside_own : ℕ → ℕ → List Entry → List Entry
@@ -70,7 +70,7 @@ IsTurnedAwayAt plan number worker before after call =
 
 -- the worker left the shard, if it was inside; a Leave is never refused
 abbrev pub IsLeft : Bool → ShardPlan → ℕ → ℕ → CallerView → CallerView → Type 0
-IsLeft true plan number worker before after = IsServed plan before after (leave_entry worker number)
+IsLeft true plan number worker before after = IsServed plan before after (leave_by worker number)
 IsLeft false plan number worker before after = after ≡ before
 
 -- ---- one shard, by the worker's pass

@@ -12,7 +12,7 @@ use Rattle.semantics.specs.History.{shard_of_call, IsJournalFull}
 use Rattle.map_port.specs.Exchanges.{Exchange, IsChain}
 use Rattle.shared_shards.specs.CallerView.{BeginsWith}
 use Rattle.shared_shards.specs.Passes.{PassView, own_at, seen_at}
-use Rattle.shard_port.specs.Asking.{enter_entry, leave_entry}
+use Rattle.shard_port.specs.Asking.{enter_by, leave_by}
 use Rattle.shard_port.specs.Sessions.{entries_at, begun, session}
 use Rattle.shard_port.specs.PassPorts.{PassPort, IsGivenBy, IsRefusedBy, IsFinishedBy}
 
@@ -40,7 +40,7 @@ pub record HasSessions (count worker : ℕ) (exchanges : List Exchange) (before 
 pub record IsVisitedAt (worker : ℕ) (exchanges : List Exchange) (call : Call) (number : ℕ) (before after : List Entry) : Type 0 where
   pub own_shard : shard_of_call call ≡ number
   pub first_call : entries_at worker number exchanges ≡ []
-  pub written : after ≡ leave_entry worker number ∷ enter_entry worker number ∷ before
+  pub written : after ≡ leave_by worker number ∷ enter_by worker number ∷ before
 
 -- the worker had not called the shard, its Enter met a full journal, and it wrote nothing there
 pub record IsKeptOut (plan : ShardPlan) (full_at : List Entry) (worker : ℕ) (exchanges : List Exchange) (number : ℕ) (before after : List Entry) :

@@ -20,7 +20,7 @@ use Rattle.semantics.proofs.shared.HoldingLemmas.{guarded}
 use Rattle.semantics.specs.ServedCalls.{IsHandedOut}
 use Rattle.shard_core.specs.JournaledShard.{JournaledShard, with_entry}
 use Rattle.map_port.specs.Served.{Keeps, program_over}
-use Rattle.shard_port.specs.Asking.{is_in, entered, asked_entry, enter_entry, IsAnswered}
+use Rattle.shard_port.specs.Asking.{is_in, entered, asked_entry, enter_by, IsAnswered}
 use Rattle.shard_port.specs.PortView.{PortView, IsGivenBy, IsRunCall, cell_of_handle, holds_at, is_handed_out}
 
 -- ---- one shard
@@ -42,7 +42,7 @@ stays_entered worker shard inside =
     let at : Bool → Type 0 = λ test. record {
       plan = shard.plan;
       journal =
-          shard.journal ++ (if test then [] else enter_entry worker shard.plan.number ∷ []);
+          shard.journal ++ (if test then [] else enter_by worker shard.plan.number ∷ []);
     } ≡ shard in
     subst at (sym inside) (ap (λ journal. record { plan = shard.plan; journal = journal }) (append_none shard.journal))
 

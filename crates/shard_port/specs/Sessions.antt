@@ -9,7 +9,7 @@ use Rattle.semantics.specs.History.{shard_of_call, IsLegalJournal}
 use Rattle.shard_core.specs.JournaledShard.{JournaledShard, with_entry}
 use Rattle.shards.specs.Opening.{AreOpened}
 use Rattle.map_port.specs.Exchanges.{Exchange, IsChain}
-use Rattle.shard_port.specs.Asking.{is_in, enter_entry, leave_entry, asked_entry, all_left}
+use Rattle.shard_port.specs.Asking.{is_in, enter_by, leave_by, asked_entry, all_left}
 use Rattle.shard_port.specs.PortView.{ServesMaps, SetsBytes}
 use Rattle.shard_port.specs.declared.plain.PlainPort.{PlainPort}
 use Rattle.shard_port.specs.PlainPorts.{IsSamePort, PortGives, PortRefuses}
@@ -27,12 +27,12 @@ entries_at worker number exchanges = map (entry_of worker) (filter (is_at number
 -- entries behind the Enter that the first of them asks for
 abbrev pub begun : ℕ → ℕ → List Entry → List Entry
 begun worker number [] = []
-begun worker number (first ∷ later) = enter_entry worker number ∷ first ∷ later
+begun worker number (first ∷ later) = enter_by worker number ∷ first ∷ later
 
 -- and before the Leave
 abbrev pub session : ℕ → ℕ → List Entry → List Entry
 session worker number [] = []
-session worker number (first ∷ later) = enter_entry worker number ∷ first ∷ later ++ leave_entry worker number ∷ []
+session worker number (first ∷ later) = enter_by worker number ∷ first ∷ later ++ leave_by worker number ∷ []
 
 abbrev pub with_entries : JournaledShard → List Entry → JournaledShard
 with_entries shard entries = record { plan = shard.plan; journal = shard.journal ++ entries }
@@ -43,7 +43,7 @@ pub record IsVisited (worker : ℕ) (after : PlainPort) (number : ℕ) (shard : 
     pub own : shard_of_call call ≡ number
     pub first_call : entries ≡ []
     pub finished : slice_get (all_left after.worker after.shards.now) number ≡ Some
-        (with_entries shard (enter_entry worker shard.plan.number ∷ leave_entry worker shard.plan.number ∷ []))
+        (with_entries shard (enter_by worker shard.plan.number ∷ leave_by worker shard.plan.number ∷ []))
 
 -- ---- the laws
 

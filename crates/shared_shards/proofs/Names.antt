@@ -8,7 +8,7 @@ use Rattle.semantics.specs.declared.options.Options.{Options}
 use Rattle.semantics.specs.declared.plan.ShardPlan.{ShardPlan}
 use Rattle.semantics.specs.ShardPlan.{plan_for_map}
 use Rattle.shared_shards.specs.declared.rule.Known.{Known}
-use Rattle.shared_shards.specs.Each.{Each}
+use Rattle.semantics.specs.Each.{Each}
 use Rattle.shared_shards.specs.NewShards.{NewShardView, no_shard, new_at, IsOpening, IsNamed, IsNamedAt, row_at, is_dealt_at, IsRowOf, IsDealer}
 use Rattle.shared_shards.specs.HeldCells.{room_at, IsRoomOf}
 use Rattle.shared_shards.proofs.shared.Each.{within, at_or, each_at, each_start, or_within}

@@ -8,7 +8,7 @@ use Rattle.semantics.specs.ShardPlan.{plan_at, AreOptions}
 use Rattle.shard_core.specs.JournaledShard.{JournaledShard, opened_shard}
 use Rattle.shards.specs.Opening.{AreOpened}
 use Rattle.journals.specs.JournalsView.{AreImageMaps}
-use Rattle.shared_shards.specs.Each.{Each}
+use Rattle.semantics.specs.Each.{Each}
 use Rattle.shared_shards.specs.Seats.{no_plan}
 use Rattle.shared_shards.specs.NewShards.{NewShardView, no_shard, new_at, shard_at, IsUnused, AreUnused, IsMadeOf, IsOpening}
 use Rattle.shared_shards.proofs.shared.Each.{within, at_or, each_at}

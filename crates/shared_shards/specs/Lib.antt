@@ -1,5 +1,4 @@
 -- The definitions that the contracts of this crate cite, in reading order.
-pub mod Each
 pub mod CallerView
 pub mod LengthRule
 pub mod EntryCounts

@@ -14,7 +14,7 @@ use Rattle.shared_shards.specs.declared.rule.Known.{Known}
 use Rattle.shared_shards.specs.LengthRule.{caller_at, pass_of, no_table}
 use Rattle.shared_shards.specs.Seats.{IsKeeper, no_plan}
 use Rattle.shared_shards.specs.Passes.{badge_at}
-use Rattle.shared_shards.specs.Each.{Each}
+use Rattle.semantics.specs.Each.{Each}
 use Rattle.shared_shards.specs.HeldCells.{room_at, IsRoomOf}
 
 -- ---- one shard

@@ -8,7 +8,7 @@ use Rattle.semantics.specs.declared.options.Options.{Options}
 use Rattle.semantics.specs.declared.plan.ShardPlan.{ShardPlan}
 use Rattle.semantics.specs.ShardPlan.{plan_at, AreOptions}
 use Rattle.journals.specs.JournalsView.{AreImageMaps}
-use Rattle.shared_shards.specs.Each.{Each}
+use Rattle.semantics.specs.Each.{Each}
 
 -- what they were opened for
 pub record SharedMaps : Type 0 where

@@ -5,7 +5,7 @@ ghost use Rattle.semantics.specs.declared.options.Options.{Options};
 ghost use Rattle.semantics.specs.ShardPlan.{AreOptions};
 ghost use Rattle.shards.specs.Opening.{are_served_options, AreOpened};
 ghost use Rattle.shards.specs.declared.fault.OpenFault.TheVariants.{BadOptions};
-ghost use Rattle.shared_shards.specs.Each.{Each};
+ghost use Rattle.semantics.specs.Each.{Each};
 ghost use Rattle.shared_shards.specs.NewShards.{AreUnused, IsMadeOf, IsNamed, IsNamedAt, IsRowOf};
 ghost use Rattle.shared_shards.specs.HeldCells.{IsRoomOf};
 ghost use Rattle.shared_shards.specs.SharedMaps.{AreWords};
@@ -36,7 +36,7 @@ pub struct Opened {
 }
 
 impl Model for Opened {
-    ghost use Rattle.shared_shards.specs.Each.{Each};
+    ghost use Rattle.semantics.specs.Each.{Each};
     ghost use Rattle.shared_shards.specs.NewShards.{OpenedShards, IsOpening};
 
     ghost Value = { OpenedShards };

@@ -20,7 +20,7 @@ use Rattle.map_port.specs.Served.{Maps, program_over}
 use Rattle.machine.specs.declared.exit.Stop.{Stop}
 use Rattle.machine.specs.declared.exit.Stop.TheVariants.{JournalFull}
 use Rattle.machine.specs.Running.{Ends, Stops, StopsSo}
-use Rattle.shard_port.specs.Asking.{is_in, enter_entry, leave_entry, all_left, left, can_enter, entered, CannotEnter, CannotCall}
+use Rattle.shard_port.specs.Asking.{is_in, enter_by, leave_by, all_left, left, can_enter, entered, CannotEnter, CannotCall}
 use Rattle.shard_port.specs.declared.plain.PlainPort.{PlainPort}
 use Rattle.shard_port.specs.PlainPorts.{PortGives, PortRefuses, maps_of}
 use Rattle.shard_port.specs.PortView.{IsGivenBy}
@@ -96,11 +96,11 @@ outside_full worker one full = neither (is_in worker one) _ full
 
 stays_left : (worker : ℕ) (one : JournaledShard) → is_in worker one ≡ false → (left worker one).journal ≡ one.journal
 stays_left worker one outside =
-    ap (λ (inside : Bool). one.journal ++ (if inside then leave_entry worker one.plan.number ∷ [] else [])) outside ∙ append_none one.journal
+    ap (λ (inside : Bool). one.journal ++ (if inside then leave_by worker one.plan.number ∷ [] else [])) outside ∙ append_none one.journal
 
 -- the entries of a visit
 abbrev visit_by : ℕ → ℕ → List Entry
-visit_by worker number = enter_entry worker number ∷ leave_entry worker number ∷ []
+visit_by worker number = enter_by worker number ∷ leave_by worker number ∷ []
 
 -- ---- from the port's making to its finish
 

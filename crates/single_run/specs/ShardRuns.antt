@@ -14,7 +14,7 @@ use Rattle.map_port.specs.Exchanges.{Exchange, calls_in, replies_in}
 use Rattle.machine.specs.declared.exit.Stop.{Stop}
 use Rattle.machine.specs.declared.exit.Stop.TheVariants.{JournalFull}
 use Rattle.machine.specs.Running.{whole_trace}
-use Rattle.shard_port.specs.Asking.{is_in, can_enter, entered, enter_entry, leave_entry}
+use Rattle.shard_port.specs.Asking.{is_in, can_enter, entered, enter_by, leave_by}
 use Rattle.shard_port.specs.Sessions.{entries_at, begun, with_entries}
 use Rattle.shard_port.specs.PassSessions.{session_at, AreWithin}
 use Rattle.frame_runs.specs.FrameRuns.{AreFormed}
@@ -44,7 +44,7 @@ pub record HasWaited (program : Program) (start : MachineState) (exchanges : Lis
 pub record IsVisit (worker number : ℕ) (exchanges : List Exchange) (refused : Call) (written : List Entry) : Type 0 where
   pub own_shard : shard_of_call refused ≡ number
   pub first_call : entries_at worker number exchanges ≡ []
-  pub visit : written ≡ enter_entry worker number ∷ leave_entry worker number ∷ []
+  pub visit : written ≡ enter_by worker number ∷ leave_by worker number ∷ []
 
 -- what the run's worker wrote on the shard of a number: its session, or that visit
 abbrev pub IsCutSession : ℕ → ℕ → List Exchange → Call → List Entry → Type 0

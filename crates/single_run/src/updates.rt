@@ -1,6 +1,6 @@
 //! What the controller sets before a run.
 
-ghost use Rattle.std.specs.Prelude.{◌≡◌, ◌<◌, ◌≤◌, All, IsTrue, IfOk, IfErr, IsErrOf, OnOk, OnErr, None, Some, length, slice_get};
+ghost use Rattle.std.specs.Prelude.{◌≡◌, ◌<◌, ◌≤◌, IsTrue, IfOk, IfErr, IsErrOf, OnOk, OnErr, None, Some, length, slice_get};
 ghost use Rattle.std.specs.List.{AllByRecursion};
 ghost use Rattle.semantics.specs.PlanLimits.{HasImageSizes};
 ghost use Rattle.semantics.specs.ShardPlan.{AreOptions};
@@ -16,6 +16,7 @@ use crate::fault::RunFault;
 use ebpf_decode::{Image, MapDef};
 use map_updates::MapUpdate;
 use one_thread_map::conditions::shard_of_kind;
+use semantics::facts::bytes_have_8_bits;
 use semantics::{Caller, JournalFull, Options};
 use shard_port::laws::{calls_keep_serving, opened_serve};
 use shards::{Shards, maps_of};
@@ -90,11 +91,4 @@ fn make(shards: &mut Shards, number: u32, update: &MapUpdate) -> Result<i32, Jou
         update.value.as_slice(),
         0,
     )
-}
-
-/// Bytes have 8 bits. The function does nothing: it brings this fact into a proof.
-fn bytes_have_8_bits(bytes: &[u8])
-    ensures { All (λ byte. byte < 256) bytes.now }
-{
-    let _ = bytes;
 }

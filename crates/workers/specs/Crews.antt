@@ -1,7 +1,8 @@
 -- What is known of the worker at each place of a list.
-use Rattle.std.specs.Prelude.{◌≡◌, ℕ, ◌+◌, List, length}
+use Rattle.std.specs.Prelude.{◌≡◌, ℕ, List, length}
 use mathlib.Core.Option.{some}
 use lib.ListN.{get_elem?}
+use Rattle.semantics.specs.Each.{Each}
 use Rattle.wire.specs.declared.records.Sent.{Sent}
 use Rattle.wire.specs.declared.records.Capture.{Capture}
 use Rattle.rx_queues.specs.declared.passes.Queues.{Queues}
@@ -12,10 +13,6 @@ use Rattle.workers.specs.declared.run_end.Ran.{Ran}
 use Rattle.workers.specs.Accounts.{runs_at}
 use Rattle.workers.specs.Runs.{IsRunAt, HasHandled}
 use Rattle.workers.specs.Shares.{frames_of, share}
-
--- a fact of each member of a list and its place, the places counted from some number on
-abbrev pub Each : {A : Type 0} → (ℕ → A → Type 0) → ℕ → List A → Type 0
-Each {A} P from xs = (place : ℕ) (x : A) → get_elem? xs place ≡ some x → P (from + place) x
 
 -- a worker's state that may go to its thread
 pub record IsReadyAt {S : Type 0} (IsNew IsIdle : ℕ → S → Type 0) (worker : ℕ) (state : S) : Type 0 where

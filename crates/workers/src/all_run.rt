@@ -4,7 +4,8 @@ ghost use Rattle.std.specs.Prelude.{◌≡◌, ◌<◌, ◌≤◌, ◌+◌, ◌/
 ghost use Rattle.rx_queues.specs.declared.job.Job.TheVariants.{Note, End};
 ghost use Rattle.rx_queues.specs.Passes.{IsPutPassOf, IsTakePassOf, TakeAtTheirPlaces, AreTakePasses, place_taken_from, jobs_taken, workers_of, jobs_put};
 ghost use Rattle.workers.specs.Actors.{HasNoEnd, OfCommandsFrom, round_jobs};
-ghost use Rattle.workers.specs.Crews.{Each, IsReadyAt, AreHandled};
+ghost use Rattle.semantics.specs.Each.{Each};
+ghost use Rattle.workers.specs.Crews.{IsReadyAt, AreHandled};
 ghost use Rattle.workers.specs.Puts.{put_at};
 
 use crate::actor::Actor;

@@ -4,7 +4,8 @@ ghost use Rattle.std.specs.Prelude.{◌≡◌, ◌<◌, ◌≤◌, ◌++◌, ◌
 ghost use Rattle.rx_queues.specs.declared.job.Job.TheVariants.{End};
 ghost use Rattle.rx_queues.specs.Passes.{IsPutPassOf, TakeAtTheirPlaces, workers_of, jobs_put};
 ghost use Rattle.workers.specs.Accounts.{lists_of};
-ghost use Rattle.workers.specs.Crews.{Each, IsReadyAt, IsLane, AreHandled, IsPart};
+ghost use Rattle.semantics.specs.Each.{Each};
+ghost use Rattle.workers.specs.Crews.{IsReadyAt, IsLane, AreHandled, IsPart};
 ghost use Rattle.workers.specs.Puts.{AreAllPut, put_at, frame_jobs};
 ghost use Rattle.workers.specs.Runs.{IsRunAt, HasHandled};
 ghost use Rattle.workers.specs.Shares.{frames_of, share};

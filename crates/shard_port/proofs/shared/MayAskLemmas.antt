@@ -21,7 +21,7 @@ use Rattle.semantics.proofs.shared.ConditionLemmas.{first_true, second_true, byt
 use Rattle.semantics.specs.Program.{value_size_of}
 use Rattle.shard_core.specs.JournaledShard.{JournaledShard}
 use Rattle.map_port.specs.Served.{Maps, shard_of, IsKeyOf, IsPairOf, IsReadable, IsStorable, IsAtomic, lookup_call, update_call, delete_call, atomic_call}
-use Rattle.shard_port.specs.Asking.{is_in, enter_entry, entered, may_ask_at}
+use Rattle.shard_port.specs.Asking.{is_in, enter_by, entered, may_ask_at}
 use Rattle.shard_port.specs.PortView.{holds_at, is_handed_out, IsShardOf, IsReady}
 use Rattle.shard_port.specs.PortLaws.{same_worker, append_none, newest_first, stays_entered, held_is_inside, both_true}
 use Rattle.shard_port.proofs.shared.ReadyLemmas.{plan_number, is_worker_of}
@@ -30,9 +30,9 @@ inside_once_entered : (worker : ℕ) (shard : JournaledShard) → is_inside work
 inside_once_entered worker shard = by_test (is_in worker shard) refl
   where
     by_test : (inside : Bool) → is_in worker shard ≡ inside →
-        is_inside worker (reverse (shard.journal ++ (if inside then [] else enter_entry worker shard.plan.number ∷ []))) ≡ true
+        is_inside worker (reverse (shard.journal ++ (if inside then [] else enter_by worker shard.plan.number ∷ []))) ≡ true
     by_test true is = rw (append_none shard.journal) is
-    by_test false is = rw (newest_first shard (enter_entry worker shard.plan.number), same_worker worker) refl
+    by_test false is = rw (newest_first shard (enter_by worker shard.plan.number), same_worker worker) refl
 
 pub some_part : (maps : List MapDef) (options : Options) → AreOptions maps options → 0 < options.shards
 some_part maps options are = grind (arith, are.power_of_two)

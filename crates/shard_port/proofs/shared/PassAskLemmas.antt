@@ -20,7 +20,7 @@ use Rattle.shared_shards.specs.CallerView.{CallerView, BeginsWith, IsServed, IsR
 use Rattle.shared_shards.specs.Passes.{is_inside_of}
 use Rattle.shared_shards.specs.SharedMaps.{ArePlans}
 use Rattle.shared_shards.specs.Asked.{AreServed, IsServedThenRefused}
-use Rattle.shard_port.specs.Asking.{enter_entry, leave_entry, asked_entry}
+use Rattle.shard_port.specs.Asking.{enter_by, leave_by, asked_entry}
 use Rattle.shard_port.specs.PortLaws.{both_true}
 use Rattle.shard_port.specs.PassPorts.{is_worker_below, worker_of, entering, inside_own, IsAskedAt, CannotEnterAt, CannotCallAt, IsTurnedAwayAt, IsLeft}
 use Rattle.shard_port.proofs.shared.ReadyLemmas.{plan_number}
@@ -41,11 +41,11 @@ inside_same most Reclaimer own below = cc
 -- ---- entering
 
 none_entering : (worker number : ℕ) (own : List Entry) → is_inside worker own ≡ true → entering worker number own ≡ []
-none_entering worker number own inside = ap (λ (test : Bool). if test then [] else enter_entry worker number ∷ []) inside
+none_entering worker number own inside = ap (λ (test : Bool). if test then [] else enter_by worker number ∷ []) inside
 
 one_entering : (worker number : ℕ) (own : List Entry) → is_inside worker own ≡ false →
-    entering worker number own ≡ enter_entry worker number ∷ []
-one_entering worker number own outside = ap (λ (test : Bool). if test then [] else enter_entry worker number ∷ []) outside
+    entering worker number own ≡ enter_by worker number ∷ []
+one_entering worker number own outside = ap (λ (test : Bool). if test then [] else enter_by worker number ∷ []) outside
 
 -- ---- served
 
@@ -70,7 +70,7 @@ pub asked_outside : (most : ℕ) (plan : ShardPlan) (number : ℕ) (who : Caller
     AreServed plan before after (entries.enter_entry number who) (record { who = who; call = call; reply = reply }) →
     IsAskedAt plan number (worker_of who) before after call reply
 asked_outside most plan number (Worker worker) before after call reply below outside served =
-    let one : entering worker number before.own ≡ enter_entry worker number ∷ [] = one_entering worker number before.own outside in
+    let one : entering worker number before.own ≡ enter_by worker number ∷ [] = one_entering worker number before.own outside in
     record {
       earlier = served.earlier;
       begins = served.begins;
@@ -110,7 +110,7 @@ pub refused_at_call : (most : ℕ) (plan : ShardPlan) (number : ℕ) (who : Call
     IsServedThenRefused plan before after (entries.enter_entry number who) call →
     IsTurnedAwayAt plan number (worker_of who) before after call
 refused_at_call most plan number (Worker worker) before after call below outside stopped =
-    let one : entering worker number before.own ≡ enter_entry worker number ∷ [] = one_entering worker number before.own outside in
+    let one : entering worker number before.own ≡ enter_by worker number ∷ [] = one_entering worker number before.own outside in
     inr (record {
       earlier = stopped.earlier;
       begins = stopped.begins;

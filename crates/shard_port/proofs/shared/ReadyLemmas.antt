@@ -16,7 +16,7 @@ use Rattle.semantics.specs.SequentialShard.{shard_after}
 use Rattle.semantics.specs.History.{shard_of_call, IsLegalJournal}
 use Rattle.shard_core.specs.JournaledShard.{JournaledShard, with_entry}
 use Rattle.semantics.specs.declared.full.JournalFull.{JournalFull}
-use Rattle.shard_port.specs.Asking.{is_in, enter_entry, leave_entry, entered, left, asked_entry, all_left, IsWorkerOf, IsAnswered, CannotEnter, CannotCall, IsTurnedAway, IsAnsweredAmong, IsTurnedAwayAmong}
+use Rattle.shard_port.specs.Asking.{is_in, enter_by, leave_by, entered, left, asked_entry, all_left, IsWorkerOf, IsAnswered, CannotEnter, CannotCall, IsTurnedAway, IsAnsweredAmong, IsTurnedAwayAmong}
 use Rattle.shard_port.specs.PortView.{HasByteCells, SetsBytes, IsShardOf, AreShardsOf, IsReady}
 use Rattle.shard_port.specs.PortLaws.{newest_first, append_none}
 use Rattle.shard_port.proofs.ByteLemmas.{cells_after_call}
@@ -58,10 +58,10 @@ bytes_entered worker shard held = by_test (is_in worker shard)
     by_test : (inside : Bool) → HasByteCells (record {
       plan = shard.plan;
       journal =
-          shard.journal ++ (if inside then [] else enter_entry worker shard.plan.number ∷ []);
+          shard.journal ++ (if inside then [] else enter_by worker shard.plan.number ∷ []);
     })
     by_test true = rw (append_none shard.journal) held
-    by_test false = bytes_with_entry shard (enter_entry worker shard.plan.number) tt held
+    by_test false = bytes_with_entry shard (enter_by worker shard.plan.number) tt held
 
 bytes_answered : (worker : ℕ) (before : JournaledShard) (call : Call) (reply : Reply) (after : JournaledShard) → SetsBytes call →
     IsAnswered worker before call reply after → HasByteCells before → HasByteCells after
@@ -153,10 +153,10 @@ legal_left : (worker : ℕ) (shard : JournaledShard) → IsWorkerOf worker shard
 legal_left worker shard known legal = by_test (is_in worker shard) refl
   where
     by_test : (inside : Bool) → is_in worker shard ≡ inside →
-        IsLegalJournal shard.plan (shard.journal ++ (if inside then leave_entry worker shard.plan.number ∷ [] else []))
+        IsLegalJournal shard.plan (shard.journal ++ (if inside then leave_by worker shard.plan.number ∷ [] else []))
     by_test true is =
         let own : (shard.plan.number == shard.plan.number) ≡ true = grind (arith, nat_tests) in
-        rw (newest_first shard (leave_entry worker shard.plan.number)) (
+        rw (newest_first shard (leave_by worker shard.plan.number)) (
           record {
             step =
                 record { met = rw (own, known, is) refl; replied = refl };
@@ -172,9 +172,9 @@ bytes_left worker shard held = by_test (is_in worker shard)
     by_test : (inside : Bool) → HasByteCells (record {
       plan = shard.plan;
       journal =
-          shard.journal ++ (if inside then leave_entry worker shard.plan.number ∷ [] else []);
+          shard.journal ++ (if inside then leave_by worker shard.plan.number ∷ [] else []);
     })
-    by_test true = bytes_with_entry shard (leave_entry worker shard.plan.number) tt held
+    by_test true = bytes_with_entry shard (leave_by worker shard.plan.number) tt held
     by_test false = rw (append_none shard.journal) held
 
 at_left : (worker : ℕ) (shards : List JournaledShard) (number : ℕ) (shard : JournaledShard) →

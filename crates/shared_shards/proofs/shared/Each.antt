@@ -4,7 +4,7 @@ use Rattle.std.specs.Prelude.{remove}
 use mathlib.Core.Option.{some, some-injective, some-ne-none}
 use lib.ListN.{get_elem?}
 use Rattle.atomic_table.proofs.Lists.{at_set, at_index}
-use Rattle.shared_shards.specs.Each.{Each}
+use Rattle.semantics.specs.Each.{Each}
 
 module _ {A : Type 0} where
   pub at_snoc' : (l : List A) (a b : A) (j : ℕ) → get_elem? (l ++ a ∷ []) j ≡ some b → (get_elem? l j ≡ some b) ⊎ ((j ≡ length l) × (a ≡ b))

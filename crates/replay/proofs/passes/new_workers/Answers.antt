@@ -1,5 +1,5 @@
 use Rattle.std.proofs.Common.{◌≡◌, ◌+◌, ◌++◌, ◌∷◌, [], length, length-append, ap, sym, ◌∙◌, subst, arith}
-use Rattle.workers.specs.Crews.{Each}
+use Rattle.semantics.specs.Each.{Each}
 use Rattle.replay.specs.declared.shard_runner.Working.{Working}
 use Rattle.replay.specs.Runs.{IsNewAt}
 use Rattle.replay.proofs.Lists.{each_push}

@@ -1,6 +1,6 @@
 use Rattle.std.proofs.Common.{◌≡◌, ◌≤◌, length}
 use Rattle.std.specs.Prelude.{vec_capacity}
-use Rattle.workers.specs.Crews.{Each}
+use Rattle.semantics.specs.Each.{Each}
 use Rattle.replay.specs.Runs.{IsNewAt}
 use Rattle.replay.proofs.passes.new_workers.Given as goal
 

@@ -1,7 +1,8 @@
 use Rattle.std.proofs.Common.{◌≡◌, ℕ, ◌+◌, ◌-◌, ◌<◌, ◌≤◌, ◌∷◌, ◌++◌, [], length, ap, sym, ◌∙◌, subst, arith}
 use Rattle.std.proofs.lemmas.Result.{IfOk-weaker}
 use Rattle.machine.specs.Running.{program_of}
-use Rattle.workers.specs.Crews.{Each, IsHandled}
+use Rattle.semantics.specs.Each.{Each}
+use Rattle.workers.specs.Crews.{IsHandled}
 use Rattle.replay.specs.Parts.{rounds_of}
 use Rattle.replay.specs.Runs.{IsNewAt, IsRunBy, pass_in}
 use Rattle.replay.proofs.Accounts.{new_is_idle}

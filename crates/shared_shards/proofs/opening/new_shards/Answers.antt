@@ -1,6 +1,6 @@
 use Rattle.std.proofs.Common.{◌≡◌, ◌<◌, ◌+◌, ℕ, length, sym, ap, ◌∙◌, subst, arith, length-append, [], ◌∷◌, List}
 use Rattle.shard_core.specs.JournaledShard.{JournaledShard, opened_shard}
-use Rattle.shared_shards.specs.Each.{Each}
+use Rattle.semantics.specs.Each.{Each}
 use Rattle.shared_shards.specs.Seats.{no_plan}
 use Rattle.shared_shards.specs.NewShards.{shard_at, IsUnused, IsMadeOf}
 use Rattle.shared_shards.proofs.shared.Each.{each_push, each_first, each_rest, each_none, each_start, at_or}

@@ -1,7 +1,7 @@
 use Rattle.std.proofs.Common.{◌≡◌, ◌+◌, ◌≤◌, ℕ, length}
 use Rattle.std.specs.Prelude.{vec_capacity}
 use Rattle.shard_core.specs.JournaledShard.{JournaledShard}
-use Rattle.shared_shards.specs.Each.{Each}
+use Rattle.semantics.specs.Each.{Each}
 use Rattle.shared_shards.specs.NewShards.{shard_at, IsUnused, IsMadeOf}
 use Rattle.shared_shards.proofs.opening.new_shards.Given as goal
 

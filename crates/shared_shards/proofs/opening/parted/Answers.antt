@@ -5,7 +5,7 @@ use Rattle.atomic_table.specs.declared.badge.Badge.{Badge}
 use Rattle.semantics.specs.declared.call.Entry.{Entry}
 use Rattle.semantics.specs.declared.plan.ShardPlan.{ShardPlan}
 use Rattle.shared_shards.specs.declared.rule.Known.{Known}
-use Rattle.shared_shards.specs.Each.{Each}
+use Rattle.semantics.specs.Each.{Each}
 use Rattle.shared_shards.specs.Seats.{IsKeeper}
 use Rattle.shared_shards.specs.HeldCells.{most_held, IsRoomOf}
 use Rattle.shared_shards.specs.SharedMaps.{IsWordOf, AreWords}

@@ -2,7 +2,7 @@ use Rattle.std.proofs.Common.{◌≡◌, ◌+◌, ◌≤◌, ℕ, List, length}
 use Rattle.std.specs.Prelude.{vec_capacity}
 use Rattle.atomic_table.specs.declared.badge.Badge.{Badge}
 use Rattle.shared_shards.specs.declared.rule.Known.{Known}
-use Rattle.shared_shards.specs.Each.{Each}
+use Rattle.semantics.specs.Each.{Each}
 use Rattle.shared_shards.specs.SharedMaps.{AreWords}
 use Rattle.shared_shards.specs.HeldCells.{IsRoomOf}
 use Rattle.shared_shards.specs.NewShards.{NewShardView, new_at, IsNamedAt, IsRowOf}

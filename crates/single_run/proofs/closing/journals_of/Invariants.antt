@@ -2,7 +2,7 @@ use Rattle.std.proofs.Common.{◌≡◌, ◌+◌, ◌≤◌, ◌<◌, ℕ, lengt
 use Rattle.std.specs.Prelude.{vec_capacity, slice_index_or, []}
 use Rattle.semantics.specs.History.{IsLegalJournal}
 use Rattle.shard_core.specs.JournaledShard.{JournaledShard}
-use Rattle.shared_shards.specs.Each.{Each}
+use Rattle.semantics.specs.Each.{Each}
 use Rattle.shared_shards.specs.NewShards.{shard_at}
 use Rattle.single_run.proofs.closing.journals_of.Given as goal
 

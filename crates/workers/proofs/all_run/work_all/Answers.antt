@@ -1,6 +1,7 @@
 use Rattle.std.proofs.Common.{◌≡◌, ◌+◌, [], length, replicate, ap, ◌∙◌, subst, arith}
 use Rattle.rx_queues.specs.Passes.{jobs_put, workers_of}
-use Rattle.workers.specs.Crews.{Each, IsHandled}
+use Rattle.semantics.specs.Each.{Each}
+use Rattle.workers.specs.Crews.{IsHandled}
 use Rattle.workers.specs.Shares.{frames_of}
 use Rattle.workers.specs.Puts.{put_at, AreAllPut}
 use Rattle.workers.proofs.DispatchLemmas.{none_dispatched, all_commands}

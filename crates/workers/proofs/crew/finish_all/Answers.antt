@@ -1,6 +1,7 @@
 use Rattle.std.proofs.Common.{◌<◌, ◌+◌, length, sym, ◌∙◌, subst, arith}
 use Rattle.std.specs.Prelude.{IfSome}
-use Rattle.workers.specs.Crews.{Each, IsLane, IsHandled}
+use Rattle.semantics.specs.Each.{Each}
+use Rattle.workers.specs.Crews.{IsLane, IsHandled}
 use Rattle.workers.proofs.ListLemmas.{each_first, each_rest, each_more, if_some}
 use Rattle.workers.proofs.crew.finish_all.Goals as goal
 

@@ -1,7 +1,8 @@
 use Rattle.std.proofs.Common.{◌≡◌, ◌+◌, length}
 use Rattle.std.specs.Prelude.{IfSome}
 use Rattle.rx_queues.specs.Passes.{IsPutPassOf, jobs_put}
-use Rattle.workers.specs.Crews.{Each, IsLane, IsHandled}
+use Rattle.semantics.specs.Each.{Each}
+use Rattle.workers.specs.Crews.{IsLane, IsHandled}
 use Rattle.workers.proofs.crew.finish_all.Given as goal
 
 pub record Finished (g : goal.Over) (l : goal.Live-workers g) : Type 0 where

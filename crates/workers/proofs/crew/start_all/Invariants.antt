@@ -2,7 +2,8 @@ use Rattle.std.proofs.Common.{◌≡◌, ◌+◌, ◌≤◌, [], ℕ, length}
 use Rattle.rx_queues.specs.declared.passes.TakePass.{TakePass}
 use Rattle.rx_queues.specs.declared.passes.Queues.{Queues}
 use Rattle.rx_queues.specs.Passes.{IsTakePassOf, place_taken_from, jobs_taken}
-use Rattle.workers.specs.Crews.{Each, IsReadyAt, IsLane}
+use Rattle.semantics.specs.Each.{Each}
+use Rattle.workers.specs.Crews.{IsReadyAt, IsLane}
 use Rattle.workers.proofs.crew.start_all.Given as goal
 
 abbrev pub IsTakeAt : Queues → ℕ → TakePass → Type 0
