@@ -1,7 +1,7 @@
 //! What C calls. A result is 0, or the number of the fault that stopped the call.
 
 use crate::accept::{accept, decoded};
-use crate::running::{number, prepare_once, run_once};
+use crate::running::{prepare_once, run_once};
 use std::alloc::Global;
 
 /// What the runs of a call came to.
@@ -58,7 +58,7 @@ pub extern "C" fn bench_ffi_run(
     for _ in 0..runs {
         match run_once(alloc, &verified, frame, journal) {
             Ok(ran) => {
-                outcome.verdict = number(ran.exit.verdict);
+                outcome.verdict = ran.exit.verdict.number();
                 outcome.steps = ran.exit.steps;
                 outcome.hash = ran.hash;
             }

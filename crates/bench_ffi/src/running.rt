@@ -4,7 +4,7 @@ ghost use Rattle.std.specs.Prelude.{◌≡◌, ◌≤◌, IfOk, length};
 ghost use Rattle.shard_port.specs.Sessions.{OpenedServe};
 
 use machine::{Exit, Moment, run};
-use semantics::{Options, Verdict};
+use semantics::Options;
 use shard_port::PlainPort;
 use shard_port::laws::opened_serve;
 use shards::Shards;
@@ -24,16 +24,6 @@ pub struct Ran {
     pub exit: Exit,
     /// The hash of the frame that it left.
     pub hash: u64,
-}
-
-/// Linux's number of a verdict.
-pub fn number(verdict: Verdict) -> u64 {
-    match verdict {
-        Verdict::Aborted => 0,
-        Verdict::Drop => 1,
-        Verdict::Pass => 2,
-        Verdict::Tx => 3,
-    }
 }
 
 /// One worker, and a journal with room for so many entries.
