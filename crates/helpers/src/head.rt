@@ -3,19 +3,17 @@
 ghost use Rattle.std.specs.Prelude.{◌≡◌};
 ghost use Rattle.semantics.specs.HeadAdjustment.{adjusted_head, adjust_answer};
 
+use semantics::Errno;
 use wire::Frame;
 
 /// The fewest bytes of a frame: an Ethernet header.
 const MIN_FRAME: usize = 14;
 
-/// Linux's EINVAL, negated: the frame's start cannot move so.
-const INVALID: i32 = -22;
-
 /// Moves a frame's start by a signed number of bytes: forward where it is positive, so that its first
 /// bytes become headroom, and back where it is negative, into the headroom (Linux's
 /// `bpf_xdp_adjust_head`).
 ///
-/// Answers 0. Answers -22, and changes nothing, where the headroom would fall below 0 or the frame
+/// Answers 0. Answers -22 (`Errno::Invalid`), and changes nothing, where the headroom would fall below 0 or the frame
 /// below 14 bytes. Newly opened bytes are zero. Takes no memory.
 #[tactic(auto, using(crate::proofs::shared::ReachLemmas::reaches_within, crate::proofs::shared::ReachLemmas::reaches_past))]
 pub fn adjust_head(frame: &mut Frame, distance: i32) -> i32
@@ -25,13 +23,13 @@ pub fn adjust_head(frame: &mut Frame, distance: i32) -> i32
     if distance < 0 {
         let back = distance.unsigned_abs() as usize;
         if back > frame.room() || frame.len() < MIN_FRAME.saturating_sub(back) {
-            return INVALID;
+            return Errno::Invalid.code();
         }
         frame.grow_front(back);
     } else {
         let forward = distance as usize;
         if frame.len() < forward + MIN_FRAME {
-            return INVALID;
+            return Errno::Invalid.code();
         }
         frame.shrink_front(forward);
     }
