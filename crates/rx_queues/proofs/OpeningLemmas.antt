@@ -1,6 +1,5 @@
 -- Queues that are opened one after another.
-use Rattle.std.proofs.Common.{◌≡◌, ◌⊎◌, ℕ, zero, suc, ◌+◌, ◌<◌, List, [], ◌∷◌, ◌++◌, map, replicate, length, refl, sym, ap, ◌∙◌, subst, inl, inr, ⊎_elim, arith, length-append, option_to_list}
-use Rattle.std.specs.Prelude.{Option, Some, None, IfSome}
+use Rattle.std.proofs.Common.{◌≡◌, ◌⊎◌, ℕ, zero, suc, ◌+◌, ◌<◌, List, [], ◌∷◌, ◌++◌, map, replicate, length, refl, sym, ap, ◌∙◌, subst, inl, inr, ⊎_elim, arith}
 use mathlib.Core.Option.{some, some-injective, some-ne-none}
 use lib.ListN.{get_elem?}
 use Rattle.crossbeam_queue.specs.Passes.{Pass, view}
@@ -8,8 +7,7 @@ use Rattle.rx_queues.specs.declared.job.Job.{Job}
 use Rattle.rx_queues.specs.declared.rule.Known.{Known}
 use Rattle.rx_queues.specs.declared.passes.TakePass.{TakePass}
 use Rattle.rx_queues.specs.declared.passes.Queues.{Queues}
-use Rattle.atomic_table.proofs.Lists.{at_last, at_longer}
-use Rattle.rx_queues.specs.Passes.{IsTakePassFor, IsPutPassFor, IsTakePassAt, IsTakePassOf, ArePutPasses, TakeAtTheirPlaces}
+use Rattle.rx_queues.specs.Passes.{IsTakePassFor, IsPutPassFor, IsTakePassAt, ArePutPasses, TakeAtTheirPlaces}
 use Rattle.rx_queues.proofs.PassLemmas.{Line, put_of}
 
 -- each pass takes from the queue at its own place, and has taken nothing
@@ -87,21 +85,6 @@ nothing_put_push (first ∷ others) pass before nothing = (before.0, nothing_put
 pub empty_lists : (passes : List (Pass Job Known)) → HavePutNothing passes → map put_of passes ≡ replicate (length passes) []
 empty_lists [] nothing = refl
 empty_lists (pass ∷ others) nothing = (λ i. nothing.0 i ∷ empty_lists others nothing.1 i)
-
--- the rights to take that stand before some others
-pub others_take_at_their_places : (queues : Queues) (all first others : List TakePass) → all ≡ first ++ others → TakeAtTheirPlaces queues all
-    → TakeAtTheirPlaces queues first
-others_take_at_their_places queues all first others parts takes at pass found =
-    takes at pass (subst (λ (list : List TakePass). get_elem? list at ≡ some pass) (sym parts) (at_longer first others at pass found))
-
--- the last of them, where there is one
-pub last_takes_at_its_place : (queues : Queues) (all first : List TakePass) (last : Option TakePass) → all ≡ first ++ option_to_list last
-    → TakeAtTheirPlaces queues all → IfSome last (λ take. IsTakePassOf queues take × (length all ≡ length first + 1))
-last_takes_at_its_place queues all first None parts takes = tt
-last_takes_at_its_place queues all first (Some last) parts takes = (
-  (takes (length first) last (subst (λ (list : List TakePass). get_elem? list (length first) ≡ some last) (sym parts) (at_last first last (length first) refl))).0,
-  ap length parts ∙ length-append first (last ∷ []),
-)
 
 -- the rights to take, where each is of the queue at its place
 pub all_take_at_their_places : (queues : Queues) (passes : List TakePass) → length passes ≡ length queues.queues.items

@@ -1,4 +1,4 @@
-use Rattle.rx_queues.proofs.OpeningLemmas.{others_take_at_their_places, last_takes_at_its_place}
+use Rattle.file_tests.proofs.QueuePasses.{others_take_at_their_places, last_takes_at_its_place}
 use Rattle.file_tests.proofs.receive_queues.last_of.Goals as goal
 
 pub returns-clause-others : goal.returns-clause-others
