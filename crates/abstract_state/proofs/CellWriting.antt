@@ -21,7 +21,7 @@ use Rattle.semantics.specs.declared.call.Reply.TheVariants.{Entered, Left, Cell,
 use Rattle.semantics.specs.RegisterValue.{RegisterValue, Uninitialized, Number, CellPointer}
 use Rattle.semantics.specs.MachineState.{MachineState, register_value}
 use Rattle.semantics.specs.Program.{Program}
-use Rattle.semantics.specs.History.{is_atomic_width, is_expected}
+use Rattle.semantics.specs.History.{is_atomic_size, is_expected}
 use Rattle.semantics.specs.Arithmetic.{number_of_value}
 use Rattle.semantics.specs.Memory.{cell_ref}
 use Rattle.semantics.specs.RunTrace.{IsReplyTo}
@@ -43,7 +43,7 @@ use Rattle.abstract_state.proofs.shared.Following.{moved_on}
 use Rattle.abstract_state.proofs.shared.Checking.{ok_same, ok_then, falls_made, written_ok, put}
 use Rattle.abstract_state.proofs.shared.Accesses.{IsAligned, IsWithin, atomic_found, cell_reached, aligned_cell_reached}
 use Rattle.abstract_state.proofs.shared.LoadedNumbers.{in_full}
-use Rattle.abstract_state.proofs.Loading.{load_width}
+use Rattle.abstract_state.proofs.Loading.{load_size}
 use Rattle.abstract_state.proofs.Storing.{narrow_is_number}
 
 -- ---- numbers of a width
@@ -77,7 +77,7 @@ pub cell_stored : (program : Program) (held : Held) (state : State) (machine : M
 cell_stored program held state machine a insn size map shard cell at offset from n found holds =
     rw (cell_reached program map (at +ℤ offset) from (size_bytes size) found) (
       record {
-        at = record { map = map; holds = holds; is_width = load_width size; inside = found.inside };
+        at = record { map = map; holds = holds; is_size = load_size size; inside = found.inside };
         fits = cut n size;
       },
       λ reply is held' after. goes_on_as program held held' state machine a insn after.kept,
@@ -85,9 +85,9 @@ cell_stored program held state machine a insn size map shard cell at offset from
 
 -- ---- atomic operations
 
-atomic_width : (width : Width) → IsTrue (is_atomic_width (size_bytes (width_size width)))
-atomic_width Bits32 = refl
-atomic_width Bits64 = refl
+atomic_size : (width : Width) → IsTrue (is_atomic_size (size_bytes (width_size width)))
+atomic_size Bits32 = refl
+atomic_size Bits64 = refl
 
 known_op : (op : AtomicOp) → IsTrue (is_some (atomic_op_of (atomic_code op)))
 known_op AtomicAdd = refl
@@ -201,7 +201,7 @@ cell_changed program held state machine a insn width op src map shard cell at of
       record {
         map = map;
         holds = holds;
-        is_width = atomic_width width;
+        is_size = atomic_size width;
         inside = found.inside;
         aligned = found.multiple;
         known = known_op op;

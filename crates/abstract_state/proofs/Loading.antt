@@ -16,7 +16,7 @@ use Rattle.semantics.specs.RegisterValue as meaning
 use Rattle.semantics.specs.MachineState.{MachineState, register_value, with_register}
 use Rattle.semantics.specs.Program.{Program}
 use Rattle.semantics.specs.Step.{Outcome}
-use Rattle.semantics.specs.History.{is_load_width}
+use Rattle.semantics.specs.History.{is_load_size}
 use Rattle.isa.specs.InstructionCodes.{size_bytes}
 use Rattle.semantics.specs.declared.linux.ContextField.TheVariants.{Data, DataEnd, IngressIfindex, RxQueueIndex}
 use Rattle.semantics.specs.Memory.{field_outcome, context_word, context_field, spilled_or_number, stack_value, packet_value, cell_ref}
@@ -102,11 +102,11 @@ context_loads maps held state machine a count some U64 place kind e = cc
 
 -- ---- values of maps
 
-pub load_width : (size : Size) → IsTrue (is_load_width (size_bytes size))
-load_width U8 = refl
-load_width U16 = refl
-load_width U32 = refl
-load_width U64 = refl
+pub load_size : (size : Size) → IsTrue (is_load_size (size_bytes size))
+load_size U8 = refl
+load_size U16 = refl
+load_size U32 = refl
+load_size U64 = refl
 
 -- a load from a cell is served, and every word that comes is covered
 pub cell_follows : (program : Program) (held : Held) (state : State) (machine : MachineState) (a : Abstracts program.maps held state machine)
@@ -117,7 +117,7 @@ pub cell_follows : (program : Program) (held : Held) (state : State) (machine : 
     (load_cell_step program insn machine dst map shard cell place (size_bytes size) convert)
 cell_follows program held state machine a insn dst done w map shard cell place from size convert i found holds covers =
     rw (cell_reached program map place from (size_bytes size) found, written_ok dst done w machine Uninitialized)
-    (record { map = map; holds = holds; is_width = load_width size; inside = found.inside }, given)
+    (record { map = map; holds = holds; is_size = load_size size; inside = found.inside }, given)
   where
     given : (reply : Reply) → IsReplyTo program (Load (cell_ref shard cell) from (size_bytes size)) reply → (held' : Held) →
         HoldsAfter program held held' (Load (cell_ref shard cell) from (size_bytes size)) reply →

@@ -43,28 +43,28 @@ context_loaded state size place = Err ContextAccess
 
 -- what a load of so many bytes gives
 abbrev pub loaded_kind : List MapDef → State → Size → Kind → ℤ → Register → Checked Kind
-loaded_kind maps state size Ctx distance source = context_loaded state size distance
-loaded_kind maps state size (Stack place) distance source =
-    stack_access place distance (size_bytes size) >>= (λ from. word_loaded state size from (word_of state (from / 8)))
-loaded_kind maps state size (Packet id off range) distance source =
-    packet_access off range distance (size_bytes size) >>= (λ from. Ok (loaded_number size))
-loaded_kind maps state size (Value map id off) distance source =
-    value_access maps map off distance (size_bytes size) >>= (λ from. Ok (loaded_number size))
-loaded_kind maps state size other distance source = Err (WrongKind source)
+loaded_kind maps state size Ctx offset source = context_loaded state size offset
+loaded_kind maps state size (Stack place) offset source =
+    stack_access place offset (size_bytes size) >>= (λ from. word_loaded state size from (word_of state (from / 8)))
+loaded_kind maps state size (Packet id off range) offset source =
+    packet_access off range offset (size_bytes size) >>= (λ from. Ok (loaded_number size))
+loaded_kind maps state size (Value map id off) offset source =
+    value_access maps map off offset (size_bytes size) >>= (λ from. Ok (loaded_number size))
+loaded_kind maps state size other offset source = Err (WrongKind source)
 
 -- a sign-extending load reads no field of the context, and gives any number
 abbrev pub signed_loaded : List MapDef → State → Extension → Kind → ℤ → Register → Checked Kind
-signed_loaded maps state extension Ctx distance source = Err ContextAccess
-signed_loaded maps state extension kind distance source =
-    loaded_kind maps state (extension_size extension) kind distance source >>= (λ loaded. Ok (Scalar (full_of 64)))
+signed_loaded maps state extension Ctx offset source = Err ContextAccess
+signed_loaded maps state extension kind offset source =
+    loaded_kind maps state (extension_size extension) kind offset source >>= (λ loaded. Ok (Scalar (full_of 64)))
 
 abbrev pub load_of : List MapDef → State → Size → Register → Register → ℤ → Checked State
-load_of maps state size dst source distance =
-    loaded_kind maps state size (kind_of state source) distance source >>= (λ kind. Ok (with_kind state dst kind))
+load_of maps state size dst source offset =
+    loaded_kind maps state size (kind_of state source) offset source >>= (λ kind. Ok (with_kind state dst kind))
 
 abbrev pub signed_load_of : List MapDef → State → Extension → Register → Register → ℤ → Checked State
-signed_load_of maps state extension dst source distance =
-    signed_loaded maps state extension (kind_of state source) distance source >>= (λ kind. Ok (with_kind state dst kind))
+signed_load_of maps state extension dst source offset =
+    signed_loaded maps state extension (kind_of state source) offset source >>= (λ kind. Ok (with_kind state dst kind))
 
 -- ---- stores
 
@@ -73,17 +73,17 @@ stack_stored state size from kind = with_word state (from / 8) (word_stored size
 
 -- the place is tested first, and then what is stored
 abbrev pub stored : List MapDef → State → Size → Kind → ℤ → Register → Kind → Checked State
-stored maps state size Ctx distance dst kind = Err ContextAccess
-stored maps state size (Stack place) distance dst kind =
-    stack_access place distance (size_bytes size) >>= (λ from. storable size kind >>= (λ _. Ok (stack_stored state size from kind)))
-stored maps state size (Packet id off range) distance dst kind =
-    packet_access off range distance (size_bytes size) >>= (λ from. narrow_storable kind >>= (λ _. Ok state))
-stored maps state size (Value map id off) distance dst kind =
-    value_access maps map off distance (size_bytes size) >>= (λ from. narrow_storable kind >>= (λ _. Ok state))
-stored maps state size other distance dst kind = Err (WrongKind dst)
+stored maps state size Ctx offset dst kind = Err ContextAccess
+stored maps state size (Stack place) offset dst kind =
+    stack_access place offset (size_bytes size) >>= (λ from. storable size kind >>= (λ _. Ok (stack_stored state size from kind)))
+stored maps state size (Packet id off range) offset dst kind =
+    packet_access off range offset (size_bytes size) >>= (λ from. narrow_storable kind >>= (λ _. Ok state))
+stored maps state size (Value map id off) offset dst kind =
+    value_access maps map off offset (size_bytes size) >>= (λ from. narrow_storable kind >>= (λ _. Ok state))
+stored maps state size other offset dst kind = Err (WrongKind dst)
 
 abbrev pub store_of : List MapDef → State → Size → Register → ℤ → Kind → Checked State
-store_of maps state size dst distance kind = stored maps state size (kind_of state dst) distance dst kind
+store_of maps state size dst offset kind = stored maps state size (kind_of state dst) offset dst kind
 
 -- ---- atomic operations, on values of maps alone
 
@@ -101,12 +101,12 @@ expects CompareExchange kind = if is_number kind then Ok tt else Err (WrongKind 
 expects op kind = Ok tt
 
 abbrev pub atomic_on : List MapDef → State → Width → AtomicOp → Kind → ℤ → Register → Register → Checked State
-atomic_on maps state width op (Value map id off) distance dst src =
-    atomic_access maps map off distance (size_bytes (width_size width)) >>= (λ from.
+atomic_on maps state width op (Value map id off) offset dst src =
+    atomic_access maps map off offset (size_bytes (width_size width)) >>= (λ from.
     narrow_storable (kind_of state src) >>= (λ _.
     expects op (kind_of state R0) >>= (λ _.
     Ok (with_fetched_kind state (fetched_register op src) width))))
-atomic_on maps state width op other distance dst src = Err (WrongKind dst)
+atomic_on maps state width op other offset dst src = Err (WrongKind dst)
 
 abbrev pub atomic_of : List MapDef → State → Width → AtomicOp → Register → Register → ℤ → Checked State
-atomic_of maps state width op dst src distance = atomic_on maps state width op (kind_of state dst) distance dst src
+atomic_of maps state width op dst src offset = atomic_on maps state width op (kind_of state dst) offset dst src

@@ -113,8 +113,8 @@ store_register_flow maps state size dst src offset =
     reads_both state dst (Reg src) >>= (λ _. store_of maps state size dst offset (kind_of state src))
 
 abbrev pub atomic_flow : List MapDef → State → Width → AtomicOp → Register → Register → ℤ → Checked State
-atomic_flow maps state width op dst src distance =
-    fetch_writable (fetched_register op src) >>= (λ _. reads_atomic state op dst src >>= (λ _. atomic_of maps state width op dst src distance))
+atomic_flow maps state width op dst src offset =
+    fetch_writable (fetched_register op src) >>= (λ _. reads_atomic state op dst src >>= (λ _. atomic_of maps state width op dst src offset))
 
 -- the number of a wide instruction
 abbrev pub number_flow : State → Register → ℕ → Checked State

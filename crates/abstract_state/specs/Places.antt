@@ -1,4 +1,4 @@
--- Where an access may go: inside what is known to be there, and, on the stack and in values, at a multiple of its width. (A load or a store of a
+-- Where an access may go: inside what is known to be there, and, on the stack and in values, at a multiple of its size. (A load or a store of a
 -- value at an offset that is not one known number needs no alignment.)
 use Rattle.std.specs.Prelude.{ℕ, ◌+◌, ◌%◌, ◌==◌, nat_le, ℤ, pos, negsuc, ◌+ℤ◌, List, Ok, Err, slice_get, if◌then◌else◌}
 use Rattle.ebpf_decode.specs.declared.map.MapDef.{MapDef}
@@ -21,11 +21,11 @@ abbrev pub aligned : ℕ → ℕ → Checked ℕ
 aligned place count = if place % count == 0 then Ok place else Err Misaligned
 
 abbrev pub stack_access : ℕ → ℤ → ℕ → Checked ℕ
-stack_access place distance count =
-    range_within (pos place +ℤ distance) count stack_bytes StackBounds >>= (λ from. aligned from count)
+stack_access place offset count =
+    range_within (pos place +ℤ offset) count stack_bytes StackBounds >>= (λ from. aligned from count)
 
 abbrev pub packet_access : ℕ → ℕ → ℤ → ℕ → Checked ℕ
-packet_access off range distance count = range_within (pos off +ℤ distance) count range PacketBounds
+packet_access off range offset count = range_within (pos off +ℤ offset) count range PacketBounds
 
 -- ---- values of maps: an address may lie at any offset of an interval
 
@@ -41,17 +41,17 @@ offsets_within maps map low high =
 
 -- from the lowest offset and from the highest so many bytes lie in the value: where the first begin
 abbrev pub value_range : List MapDef → ℕ → Offsets → ℤ → ℕ → Checked ℕ
-value_range maps map off distance count =
-    range_within (pos off.low +ℤ distance) count (value_size_of (slice_get maps map)) ValueBounds >>= (λ from.
-    range_within (pos off.high +ℤ distance) count (value_size_of (slice_get maps map)) ValueBounds >>= (λ last.
+value_range maps map off offset count =
+    range_within (pos off.low +ℤ offset) count (value_size_of (slice_get maps map)) ValueBounds >>= (λ from.
+    range_within (pos off.high +ℤ offset) count (value_size_of (slice_get maps map)) ValueBounds >>= (λ last.
     Ok from))
 
--- a load or a store at a single offset is at a multiple of its width
+-- a load or a store at a single offset is at a multiple of its size
 abbrev pub value_access : List MapDef → ℕ → Offsets → ℤ → ℕ → Checked ℕ
-value_access maps map off distance count =
-    value_range maps map off distance count >>= (λ from. if off.low == off.high then aligned from count else Ok from)
+value_access maps map off offset count =
+    value_range maps map off offset count >>= (λ from. if off.low == off.high then aligned from count else Ok from)
 
 -- and an atomic operation always, so that its offset is a single one
 abbrev pub atomic_access : List MapDef → ℕ → Offsets → ℤ → ℕ → Checked ℕ
-atomic_access maps map off distance count =
-    value_range maps map off distance count >>= (λ from. if off.low == off.high then aligned from count else Err Misaligned)
+atomic_access maps map off offset count =
+    value_range maps map off offset count >>= (λ from. if off.low == off.high then aligned from count else Err Misaligned)

@@ -34,7 +34,7 @@ pub(crate) fn range_within(place: i64, count: u32, limit: u32, why: Refusal) -> 
     }
 }
 
-/// A place at a multiple of the width.
+/// A place at a multiple of the size.
 fn aligned(place: u32, count: u32) -> Result<u32, Refusal>
     requires { 1 ≤ count }
     ensures { result ≡ aligned place count }
@@ -47,12 +47,12 @@ fn aligned(place: u32, count: u32) -> Result<u32, Refusal>
 }
 
 /// Where an access of the stack begins.
-pub(crate) fn stack_access(place: u16, distance: i16, count: u32) -> Result<u32, Refusal>
+pub(crate) fn stack_access(place: u16, offset: i16, count: u32) -> Result<u32, Refusal>
     requires { 1 ≤ count }
-    ensures { result ≡ stack_access place distance count }
+    ensures { result ≡ stack_access place offset count }
 {
     let from = range_within(
-        i64::from(place) + i64::from(distance),
+        i64::from(place) + i64::from(offset),
         count,
         STACK_BYTES,
         Refusal::StackBounds,
@@ -61,11 +61,11 @@ pub(crate) fn stack_access(place: u16, distance: i16, count: u32) -> Result<u32,
 }
 
 /// Where an access of the packet begins, counted from its id's base.
-pub(crate) fn packet_access(off: u16, range: u32, distance: i16, count: u32) -> Result<u32, Refusal>
-    ensures { result ≡ packet_access off range distance count }
+pub(crate) fn packet_access(off: u16, range: u32, offset: i16, count: u32) -> Result<u32, Refusal>
+    ensures { result ≡ packet_access off range offset count }
 {
     range_within(
-        i64::from(off) + i64::from(distance),
+        i64::from(off) + i64::from(offset),
         count,
         range,
         Refusal::PacketBounds,
@@ -92,20 +92,20 @@ fn value_range(
     maps: &[MapDef],
     map: u32,
     off: Offsets,
-    distance: i16,
+    offset: i16,
     count: u32,
 ) -> Result<u32, Refusal>
-    ensures { result ≡ value_range maps.now map off distance count }
+    ensures { result ≡ value_range maps.now map off offset count }
 {
     let size = value_size(maps, map);
     let from = range_within(
-        i64::from(off.low) + i64::from(distance),
+        i64::from(off.low) + i64::from(offset),
         count,
         size,
         Refusal::ValueBounds,
     )?;
     range_within(
-        i64::from(off.high) + i64::from(distance),
+        i64::from(off.high) + i64::from(offset),
         count,
         size,
         Refusal::ValueBounds,
@@ -113,18 +113,18 @@ fn value_range(
     Ok(from)
 }
 
-/// Where a load from a map's value or a store to it begins: at a single offset, at a multiple of its width.
+/// Where a load from a map's value or a store to it begins: at a single offset, at a multiple of its size.
 pub(crate) fn value_access(
     maps: &[MapDef],
     map: u32,
     off: Offsets,
-    distance: i16,
+    offset: i16,
     count: u32,
 ) -> Result<u32, Refusal>
     requires { 1 ≤ count }
-    ensures { result ≡ value_access maps.now map off distance count }
+    ensures { result ≡ value_access maps.now map off offset count }
 {
-    let from = value_range(maps, map, off, distance, count)?;
+    let from = value_range(maps, map, off, offset, count)?;
     if off.low == off.high {
         aligned(from, count)
     } else {
@@ -132,18 +132,18 @@ pub(crate) fn value_access(
     }
 }
 
-/// Where an atomic operation on a map's value begins: at a single offset, and a multiple of its width.
+/// Where an atomic operation on a map's value begins: at a single offset, and a multiple of its size.
 pub(crate) fn atomic_access(
     maps: &[MapDef],
     map: u32,
     off: Offsets,
-    distance: i16,
+    offset: i16,
     count: u32,
 ) -> Result<u32, Refusal>
     requires { 1 ≤ count }
-    ensures { result ≡ atomic_access maps.now map off distance count }
+    ensures { result ≡ atomic_access maps.now map off offset count }
 {
-    let from = value_range(maps, map, off, distance, count)?;
+    let from = value_range(maps, map, off, offset, count)?;
     if off.low == off.high {
         aligned(from, count)
     } else {

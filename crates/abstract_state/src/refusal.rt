@@ -17,7 +17,7 @@ pub enum Refusal {
     StackUnset,
     /// 40: outside a map's value.
     ValueBounds,
-    /// 41: no multiple of the access's width.
+    /// 41: no multiple of the access's size.
     Misaligned,
     /// 42: no field of the context.
     ContextAccess,

@@ -15,7 +15,7 @@
 //! - compute with a pointer, or take a number for one (36), but for moving a pointer within what it points to; make a pointer
 //!   readable as a number, in the packet, in a part of a stack word or as the verdict (46);
 //! - touch memory past what a test showed to be in the packet (37), outside the stack (38) or outside a map's value (40), on the stack
-//!   and in values at no multiple of the width (41), or a part of the context that is no field (42);
+//!   and in values at no multiple of the size (41), or a part of the context that is no field (42);
 //! - call what is no helper (44) or with arguments that it does not take (45), name a map that the image does not have (47), or load
 //!   an address in a value of a map that is no array (49).
 //!

@@ -11,7 +11,8 @@ use Rattle.journals.specs.JournalsView.{JournalsView, entries_at}
 use Rattle.shard_core.specs.JournaledShard.{JournaledShard, with_entry}
 use Rattle.audit.specs.declared.held_cells.HeldCells.{HeldCells}
 use Rattle.audit.specs.HeldCells.{AreHeld}
-use Rattle.audit.specs.Audited.{IsLegalShard, AreLegal, IsFirstIllegal, IsFirstFault}
+use Rattle.journals.specs.LegalJournals.{IsLegalShard, AreLegal}
+use Rattle.audit.specs.Audited.{IsFirstIllegal, IsFirstFault}
 
 take_step : (xs : List Entry) (i : ℕ) (entry : Entry) → slice_get xs i ≡ Some entry → take (suc i) xs ≡ take i xs ++ entry ∷ []
 take_step [] i entry is = absurd cc

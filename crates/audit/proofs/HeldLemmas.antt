@@ -86,10 +86,10 @@ own_noted : (worker : ℕ) (who : Caller) (call : Call) (reply : Reply) (history
 own_noted worker who (Enter shard) reply history old new place own at told since is = begins_anew worker (record { who = who; call = Enter shard; reply = reply }) history old new own (λ cell before. refl) told (since ∙ at) is
 own_noted worker who (Leave shard) reply history old new place own at told since is = begins_anew worker (record { who = who; call = Leave shard; reply = reply }) history old new own (λ cell before. refl) told (since ∙ at) is
 own_noted worker who (Lookup shard key) reply history old new place own at told since is = looked_up worker who shard key reply history old new place own at told since is
-own_noted worker who (Load cell offset width) reply history old new place own at told since is = own_stays worker (record { who = who; call = Load cell offset width; reply = reply }) history old new own (λ id before. refl) told since is
-own_noted worker who (Store cell offset width value) reply history old new place own at told since is = own_stays worker (record { who = who; call = Store cell offset width value; reply = reply }) history old new own (λ id before. refl) told since is
-own_noted worker who (Atomic cell offset width op value expected) reply history old new place own at told since is =
-    own_stays worker (record { who = who; call = Atomic cell offset width op value expected; reply = reply }) history old new own (λ id before. refl) told since is
+own_noted worker who (Load cell offset size) reply history old new place own at told since is = own_stays worker (record { who = who; call = Load cell offset size; reply = reply }) history old new own (λ id before. refl) told since is
+own_noted worker who (Store cell offset size value) reply history old new place own at told since is = own_stays worker (record { who = who; call = Store cell offset size value; reply = reply }) history old new own (λ id before. refl) told since is
+own_noted worker who (Atomic cell offset size op value expected) reply history old new place own at told since is =
+    own_stays worker (record { who = who; call = Atomic cell offset size op value expected; reply = reply }) history old new own (λ id before. refl) told since is
 own_noted worker who (Update shard key value flags) reply history old new place own at told since is = own_stays worker (record { who = who; call = Update shard key value flags; reply = reply }) history old new own (λ cell before. refl) told since is
 own_noted worker who (Delete shard key) reply history old new place own at told since is = own_stays worker (record { who = who; call = Delete shard key; reply = reply }) history old new own (λ cell before. refl) told since is
 own_noted worker who (Reclaim shard) reply history old new place own at told since is = own_stays worker (record { who = who; call = Reclaim shard; reply = reply }) history old new own (λ cell before. refl) told since is

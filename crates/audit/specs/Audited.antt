@@ -1,21 +1,13 @@
--- When all journals are legal, and which entry is the first that is not.
+-- Which entry of journals is the first that is not legal.
 use Rattle.std.specs.Prelude.{◌≡◌, ℕ, ◌+◌, ◌<◌, List, length, take, Some, ⊤}
 use Rattle.semantics.specs.declared.call.Entry.{Entry}
 use Rattle.semantics.specs.declared.plan.ShardPlan.{ShardPlan}
 use Rattle.semantics.specs.ShardPlan.{plan_at}
 use Rattle.semantics.specs.History.{IsLegalJournal}
 use Rattle.journals.specs.JournalsView.{JournalsView, entries_at}
+use Rattle.journals.specs.LegalJournals.{IsLegalShard, AreLegal}
 use Rattle.audit.specs.declared.fault.AuditFault.{AuditFault}
 use Rattle.audit.specs.declared.fault.AuditFault.TheVariants.{Illegal, Memory}
-
--- the journal of the shard of this number is legal, for the plan that the maps and options give that shard
-abbrev pub IsLegalShard : JournalsView → ℕ → Type 0
-IsLegalShard journals number =
-    (plan : ShardPlan) → plan_at journals.maps journals.options number ≡ Some plan → IsLegalJournal plan (entries_at journals number)
-
--- every shard's journal is
-abbrev pub AreLegal : JournalsView → Type 0
-AreLegal journals = (number : ℕ) → number < length journals.shards → IsLegalShard journals number
 
 -- the journal is legal up to the entry at this place, and not with it
 pub record IsFirstIllegal (plan : ShardPlan) (entries : List Entry) (place : ℕ) : Type 0 where

@@ -6,7 +6,8 @@ ghost use Rattle.semantics.specs.PlanLimits.{IsPlan};
 ghost use Rattle.semantics.specs.History.{IsLegalStep, IsLegalJournal};
 ghost use Rattle.shard_core.specs.JournaledShard.{with_entry};
 ghost use Rattle.audit.specs.declared.fault.AuditFault.TheVariants.{Memory};
-ghost use Rattle.audit.specs.Audited.{AreLegal, IsFirstIllegal, Explains};
+ghost use Rattle.journals.specs.LegalJournals.{AreLegal};
+ghost use Rattle.audit.specs.Audited.{IsFirstIllegal, Explains};
 ghost use Rattle.audit.specs.HeldCells.{AreHeld};
 
 use crate::fault::AuditFault;

@@ -83,7 +83,7 @@ fn load(shard: &mut Shard, cell: u64) -> Result<u64, JournalFull>
     let range = CellRange {
         cell,
         offset: 0,
-        width: 8,
+        size: 8,
     };
     shard.load(WORKER, &range)
 }
@@ -98,7 +98,7 @@ fn add(shard: &mut Shard, cell: u64) -> Result<u64, JournalFull>
     let range = CellRange {
         cell,
         offset: 0,
-        width: 8,
+        size: 8,
     };
     let change = AtomicChange {
         op: u64::from(AtomicOp::FetchAdd.code()),

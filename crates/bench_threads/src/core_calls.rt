@@ -57,7 +57,7 @@ fn load(shard: &mut Shard, cell: u64) -> Result<u64, JournalFull>
     let range = CellRange {
         cell,
         offset: 0,
-        width: 8,
+        size: 8,
     };
     shard.load(WORKER, &range)
 }

@@ -115,7 +115,7 @@ fn load<B: Naming>(
     let range = CellRange {
         cell,
         offset: 0,
-        width: 8,
+        size: 8,
     };
     shards.load(rt, pass, shard, &range)
 }

@@ -1,5 +1,6 @@
 -- What the settings are of a command and what was found for its arguments.
-use Rattle.std.specs.Prelude.{◌≡◌, ◌<◌, ◌^◌, ◌*◌, ◌+◌, ◌/◌, ℕ, Bool, List, [], length, true, false, ◌&&◌, Option, Some, option_map, IsTrue, IsFalse, ◌||◌, codes, is_some, unwrap_or, slice_get, slice_index_or}
+use Rattle.std.specs.Prelude.{◌≡◌, ◌<◌, ◌^◌, ◌*◌, ◌+◌, ◌/◌, ℕ, Bool, List, [], length, true, false, ◌&&◌, Option, Some, option_map}
+use Rattle.std.specs.Prelude.{IsTrue, IsFalse, ◌||◌, codes, is_some, unwrap_or, slice_get, slice_index_or}
 use Rattle.std.specs.Borrow.{Bor}
 use Rattle.std.specs.Str.{bytes_eq}
 use Rattle.std.specs.Str.Parse.{IsNumeral, digits_value, without_leading_plus}
@@ -82,7 +83,7 @@ pub record AreUpdates (words : List Text) (updates : List MapUpdate) : Type 0 wh
   pub count : length updates ≡ length words / 3
   pub each : (place : ℕ) (update : MapUpdate) → slice_get updates place ≡ Some update → IsUpdateAt words place update
 
--- the update at a place, from 0, is the first that is none, and has this mistake first
+-- the update at a place, from 0, is the first malformed one, and has this mistake first
 pub record IsBadUpdate (words : List Text) (place : ℕ) (mistake : Mistake) : Type 0 where
   pub within : place < length words / 3
   pub earlier : (before : ℕ) → before < place → (update : MapUpdate) × IsUpdateAt words before update
@@ -135,7 +136,7 @@ IsReadFrom name rows (Replay files options ring) = is_named name (codes "replay"
     × IsNumberOf 32 (codes "ring") rows ring
     × IsFalse (names_both files)
 
--- what was asked for: a command, what a number means that no fault has, a replay of both an image and a script, or an update that is none
+-- what was asked for: a command, what a number means that no fault has, a replay of both an image and a script, or a malformed update
 abbrev pub IsAsked : Text → List Row → Asked → Type 0
 IsAsked name rows (Command settings) = IsReadFrom name rows settings
 IsAsked name rows (NoSuchFault number) = is_named name (codes "explain")
@@ -146,7 +147,7 @@ IsAsked name rows ImageAndScript = is_named name (codes "replay")
 IsAsked name rows (NoUpdate place mistake) = is_named name (codes "run")
     × IsBadUpdate (words_of (codes "update") rows) place mistake
 
--- the words ask for what there is not: what a number means that no fault has, a replay of both an image and a script, or an update that is none
+-- the words ask for what there is not: what a number means that no fault has, a replay of both an image and a script, or a malformed update
 abbrev pub AsksInVain : Text → List Row → WordsFault → Type 0
 AsksInVain name rows (UnknownFault number) = IsAsked name rows (NoSuchFault number)
 AsksInVain name rows Both = IsAsked name rows ImageAndScript

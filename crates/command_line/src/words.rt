@@ -7,7 +7,9 @@ ghost use Rattle.clap.specs.Walk.{first_of, texts};
 ghost use Rattle.map_updates.specs.UpdateWords.{IsWritten, IsMistaken};
 ghost use Rattle.clap.specs.Words.{Row, Text, fault_of, found_of, rows_of, subcommand_of};
 ghost use Rattle.command_line.specs.CommandLine.{program};
-ghost use Rattle.command_line.specs.Reading.{IsReadFrom, IsAsked, IsBadUpdate, IsCommand, IsSwitchOf, AreRunFiles, AreUpdates, AreReplayFiles, AreReplayOptions, AsksInVain, IsNumberOf, kind_in, text_of, word_at, word_of, words_of};
+ghost use Rattle.command_line.specs.Reading.{IsReadFrom, IsAsked, IsBadUpdate, IsCommand, IsSwitchOf, AreRunFiles, AreUpdates};
+ghost use Rattle.command_line.specs.Reading.{AreReplayFiles, AreReplayOptions, AsksInVain, IsNumberOf, kind_in, text_of, word_at};
+ghost use Rattle.command_line.specs.Reading.{word_of, words_of};
 ghost use Rattle.clap.specs.declared.error.kind.ErrorKind.TheVariants.{DisplayHelp, DisplayVersion, OutOfMemory};
 
 use crate::commands::{ReplayFiles, RunFiles, Settings};
@@ -35,7 +37,7 @@ pub enum WordsFault {
     UnknownFault(u32),
     /// A replay has both an image and a script.
     Both,
-    /// An update of a run, at this place among its updates, from 0, is none; or memory was refused for it.
+    /// An update of a run, at this place among its updates, from 0, is malformed; or memory was refused for it.
     Update { place: usize, mistake: Mistake },
 }
 
@@ -48,7 +50,7 @@ enum Asked<'a> {
     NoSuchFault(u32),
     /// A replay of both an image and a script.
     ImageAndScript,
-    /// A run with an update that is none.
+    /// A run with a malformed update.
     NoUpdate { place: usize, mistake: Mistake },
 }
 
@@ -97,7 +99,7 @@ impl fmt::Display for WordsFault {
 /// The command that the words say; the first word is the program's name.
 ///
 /// There is one exactly where the parser finds no fault in the words, and they don't ask what a number means that no fault has, for a
-/// replay of both an image and a script, or for a run with an update that is none. A fault is of the first kind that the parser finds, or one
+/// replay of both an image and a script, or for a run with a malformed update. A fault is of the first kind that the parser finds, or one
 /// of these three, or memory was refused.
 pub fn settings<'a, S: AsStr>(alloc: Global, words: &'a [S]) -> Result<Settings<'a>, WordsFault>
     ensures found { IfOk result (λ settings. (name : Text) × (rows : List Row)
@@ -288,7 +290,7 @@ fn run_with<'a>(found: &ArgMatches<'a>, updates: Vec<MapUpdate>) -> Settings<'a>
     }
 }
 
-/// The updates of a run; or the place of the first that is none, with its first mistake.
+/// The updates of a run; or the place of the first malformed one, with its first mistake.
 fn updates_found(alloc: Global, found: &ArgMatches<'_>) -> Result<Vec<MapUpdate>, (usize, Mistake)>
     ensures read { IfOk result (λ updates. AreUpdates (words_of (codes "update") (rows_of (found_of found.now))) updates.items) }
     ensures mistaken { IfErr result (λ bad. IsBadUpdate (words_of (codes "update") (rows_of (found_of found.now))) bad.0 bad.1) }
@@ -299,7 +301,7 @@ fn updates_found(alloc: Global, found: &ArgMatches<'_>) -> Result<Vec<MapUpdate>
     }
 }
 
-/// The updates that words say, three words each; or the place of the first that is none, with its first mistake.
+/// The updates that words say, three words each; or the place of the first malformed one, with its first mistake.
 fn updates_of(alloc: Global, words: &[&str]) -> Result<Vec<MapUpdate>, (usize, Mistake)>
     ensures read { IfOk result (λ updates. AreUpdates (texts words.now) updates.items) }
     ensures mistaken { IfErr result (λ bad. IsBadUpdate (texts words.now) bad.0 bad.1) }

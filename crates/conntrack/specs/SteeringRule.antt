@@ -3,6 +3,7 @@
 -- gets it if that backend is up, and otherwise the owner of the flow's slot in the lookup table, which is then noted; where that is not up either,
 -- the frame is dropped. The flows of a service without tracking are neither looked up nor noted.
 use Rattle.std.specs.Prelude.{◌≡◌, ℕ, Bool, true, false, not, ◌&&◌, nat_lt, nat_le, List, Option, Some, None, if◌then◌else◌}
+use Rattle.std.specs.Option.{unwrap_or}
 use Rattle.wire.specs.FrameView.{FrameView}
 use Rattle.wire.specs.FlowForm.{HasFlow, flow_bytes_of}
 use Rattle.semantics.specs.declared.verdict.Verdict.{Verdict}
@@ -47,10 +48,6 @@ tracked_choice vip records = if vip.is_notrack then None else choice_of false re
 abbrev pub ring_choice : VipRecord → Records → Option Choice
 ring_choice vip records = choice_of (not vip.is_notrack) records.slot
 
-abbrev pub or_else : Option Choice → Choice → Choice
-or_else (Some choice) other = choice
-or_else None other = other
-
 -- ---- the rule
 
 abbrev pub choice_for_service : Bool → Records → Option VipRecord → Choice
@@ -58,7 +55,7 @@ choice_for_service fits records None = Pass
 choice_for_service fits records (Some vip) =
     if not fits then Drop
     else (if not (is_set_up records.tunnel) then Drop
-    else or_else (tracked_choice vip records) (or_else (ring_choice vip records) Drop))
+    else unwrap_or (tracked_choice vip records) (unwrap_or (ring_choice vip records) Drop))
 
 pub record IsSteered (frame : List ℕ) (records : Records) (choice : Choice) : Type 0 where
   pub without_flow : ¬ HasFlow frame → choice ≡ Pass

@@ -3,7 +3,8 @@
 ghost use Rattle.std.specs.Prelude.{◌≡◌, ℕ, ◌≤◌, Bool, List, length};
 ghost use Rattle.wire.specs.FlowForm.{flow_bytes_of};
 ghost use Rattle.wire.specs.FlowBytes.{flow_key_bytes};
-ghost use Rattle.conntrack.specs.SteeringRule.{IsSteered, fits_tunnel, choice_if_up, choice_of, tracked_choice, ring_choice, verdict_of_choice, tunnel_to, counted_verdict, is_set_up, flow_update};
+ghost use Rattle.conntrack.specs.SteeringRule.{IsSteered, fits_tunnel, choice_if_up, choice_of, tracked_choice, ring_choice};
+ghost use Rattle.conntrack.specs.SteeringRule.{verdict_of_choice, tunnel_to, counted_verdict, is_set_up, flow_update};
 
 use crate::records::{BackendRecord, FlowRecord, TunnelRecord, VipRecord};
 use ipip::Tunnel;

@@ -1,7 +1,8 @@
 //! The records of the maps. Each is made of its bytes by `of`, whatever they are, and gives them by `bytes`; `of` gives back what `bytes` made.
 
 ghost use Rattle.std.specs.Prelude.{◌≡◌, ◌<◌, ◌^◌, ◌+◌, IfSome};
-ghost use Rattle.conntrack.specs.Layouts.{padded_word, flag_number, owner_word, vip_bytes, flow_bytes, ring_bytes, backend_bytes, tunnel_bytes, vip_of, flow_of, ring_of, backend_of, tunnel_of, word_at, owner_of};
+ghost use Rattle.conntrack.specs.Layouts.{padded_word, flag_number, owner_word, vip_bytes, flow_bytes, ring_bytes, backend_bytes};
+ghost use Rattle.conntrack.specs.Layouts.{tunnel_bytes, vip_of, flow_of, ring_of, backend_of, tunnel_of, word_at, owner_of};
 ghost use Rattle.semantics.specs.LittleEndian.{bytes_of_number};
 
 use wire::{Ipv4Address, MacAddress};

@@ -1,5 +1,6 @@
 -- What a command does: which updates it asks, in which order, and who is up after it.
-use Rattle.std.specs.Prelude.{◌≡◌, ◌≢◌, ℕ, ◌+◌, ◌<◌, ◌≤◌, ◌==◌, ℤ, pos, ◌⊎◌, Bool, true, false, not, ◌&&◌, ◌||◌, nat_lt, bytes_eq, List, [], ◌∷◌, ◌++◌, Option, Some, None, Result, Ok, Err, if◌then◌else◌}
+use Rattle.std.specs.Prelude.{◌≡◌, ◌≢◌, ℕ, ◌+◌, ◌<◌, ◌≤◌, ◌==◌, ℤ, pos, ◌⊎◌, Bool, true, false, not, ◌&&◌, ◌||◌, nat_lt, bytes_eq, List}
+use Rattle.std.specs.Prelude.{[], ◌∷◌, ◌++◌, Option, Some, None, Result, Ok, Err, if◌then◌else◌}
 use Rattle.std.specs.List.{filter, find, list_any, AllByRecursion}
 use Rattle.wire.specs.declared.ethernet.Ipv4Address.{Ipv4Address}
 use Rattle.maglev.specs.declared.backend.Backend.{Backend as Server}

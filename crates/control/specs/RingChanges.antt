@@ -1,5 +1,6 @@
 -- Which slots of the lookup table change hands.
-use Rattle.std.specs.Prelude.{ℕ, zero, suc, ◌==◌, Bool, true, false, List, [], ◌∷◌, ◌++◌, Option, Some, None, IfSome, ◌<◌, ◌+◌, ◌^◌, map, slice_get, if◌then◌else◌}
+use Rattle.std.specs.Prelude.{ℕ, zero, suc, ◌==◌, Bool, true, false, List, [], ◌∷◌, ◌++◌, Option, Some, None, IfSome, ◌<◌, ◌+◌, ◌^◌, map}
+use Rattle.std.specs.Prelude.{slice_get, if◌then◌else◌}
 use Rattle.conntrack.specs.declared.records.RingRecord.{RingRecord}
 use Rattle.control.specs.declared.update.Update.{Update}
 use Rattle.control.specs.declared.update.Update.TheVariants.{Ring}

@@ -1,4 +1,4 @@
--- What is read of a script: its commands, or the first line that is none.
+-- What is read of a script: its commands, or the first line that is not a command.
 use Rattle.std.specs.Prelude.{◌≡◌, ◌≢◌, ℕ, ◌+◌, ◌<◌, ◌≤◌, ◌⊎◌, List, [], ◌∷◌, ◌++◌, length, Option, Some, None}
 use Rattle.std.specs.List.{AllByRecursion}
 use Rattle.std.specs.Str.{IsUtf8}
@@ -46,7 +46,7 @@ pub record AreRead (text : List ℕ) (commands : List Command) (rest : List ℕ)
 
 -- ---- which line is bad
 
--- after these commands comes a line that is none, or one of an earlier frame
+-- after these commands comes a line that is not a command, or one of an earlier frame
 pub record IsBadAfter (text : List ℕ) (line : ℕ) : Type 0 where
   pub commands : List Command
   pub rest : List ℕ

@@ -2,7 +2,8 @@
 
 ghost use Rattle.std.specs.Prelude.{◌≡◌, ◌++◌, ◌∷◌, ◌<◌, [], string_bytes, OnOk, IfOk};
 ghost use Rattle.std.specs.Fmt.{decimal};
-ghost use Rattle.control.specs.ScriptText.{address_text, hex_pair, colon_pair, mac_text, transport_text, notrack_text, vip_text, gateway_text, action_text, line_of, script_text, IsCommandLine};
+ghost use Rattle.control.specs.ScriptText.{address_text, hex_pair, colon_pair, mac_text, transport_text, notrack_text, vip_text};
+ghost use Rattle.control.specs.ScriptText.{gateway_text, action_text, line_of, script_text, IsCommandLine};
 
 use crate::command::{Action, Command, Script};
 use crate::facts::command_fits;

@@ -1,4 +1,4 @@
-//! Lines read leniently: what is no right spelling is read as anything. Who reads prints the result again and compares.
+//! Lines read leniently: what is misspelled is read as anything. The caller prints the result again and compares.
 
 ghost use Rattle.std.specs.Prelude.{◌≡◌, ◌++◌, ◌∷◌, ◌+◌, ◌/◌, ◌%◌, ◌<◌, ◌^◌, ℕ, Bool, List, slice_index, slice_index_or, drop};
 ghost use Rattle.std.specs.Fmt.{decimal};
@@ -8,7 +8,8 @@ ghost use Rattle.control.specs.declared.command.Action.{Action as Act};
 ghost use Rattle.control.specs.declared.command.Action.TheVariants as acts;
 ghost use Rattle.control.specs.declared.command.Command.{Command as Line};
 ghost use Rattle.text_lines.specs.Digits.{hex_digit};
-ghost use Rattle.control.specs.ScriptText.{AreBytes, ActionFits, IsCommandLine, address_text, mac_text, transport_text, notrack_text, vip_text, gateway_text, action_text};
+ghost use Rattle.control.specs.ScriptText.{AreBytes, ActionFits, IsCommandLine, address_text, mac_text, transport_text, notrack_text};
+ghost use Rattle.control.specs.ScriptText.{vip_text, gateway_text, action_text};
 
 use crate::command::{Action, Command};
 use conntrack::Service;
@@ -169,7 +170,7 @@ fn action_of(text: &str) -> Action
     gateway_of(after(text, "gateway "))
 }
 
-/// The command of the line, if it is one's right spelling.
+/// The command of the line, if it is spelled exactly so.
 pub(crate) fn command_read(line: &str) -> Command
     ensures { (command : Line) → IsCommandLine command line.now → result ≡ command }
 {

@@ -18,7 +18,8 @@ use Rattle.ebpf_decode.specs.ImageContents.{Contents, IsEncodable}
 use Rattle.text_lines.specs.Lines.{ended}
 use Rattle.text_lines.specs.Digits.{hex_digit}
 use Rattle.disasm.specs.declared.head.Head.{Head}
-use Rattle.disasm.specs.declared.head.Head.TheVariants.{Alu, Neg, Movsx, Movsx32, End, Ja, Ja32, JumpIf, Ldx, Ldxs, St, Stx, Atomic, Lddw, Ldmap, Ldval, Call, Exit}
+use Rattle.disasm.specs.declared.head.Head.TheVariants.{Alu, Neg, Movsx, Movsx32, End, Ja, Ja32, JumpIf, Ldx, Ldxs, St, Stx, Atomic}
+use Rattle.disasm.specs.declared.head.Head.TheVariants.{Lddw, Ldmap, Ldval, Call, Exit}
 use Rattle.disasm.specs.declared.operand.Operand.{Operand}
 use Rattle.disasm.specs.declared.operand.Operand.TheVariants as operands
 use Rattle.disasm.specs.declared.operand.Operands.{Operands}

@@ -1,4 +1,4 @@
--- What is read of a line that is a right spelling.
+-- What is read of a line that is spelled right.
 use Rattle.std.specs.Prelude.{◌≡◌, ℕ, ◌<◌, ◌^◌, Bool, List, ◌==◌, ℤ, pos, negsuc, FitsSigned, nat_lt, if◌then◌else◌}
 use Rattle.std.specs.Int.{w16, w32, w64}
 use Rattle.std.specs.List.{starts_with}
@@ -9,7 +9,8 @@ use Rattle.isa.specs.declared.operation.Source.TheVariants.{Imm, Reg}
 use Rattle.ebpf_decode.specs.declared.insn.Insn.{Insn}
 use Rattle.ebpf_decode.specs.declared.insn.Insn.TheVariants as insns
 use Rattle.disasm.specs.declared.head.Head.{Head}
-use Rattle.disasm.specs.declared.head.Head.TheVariants.{Alu, Neg, Movsx, Movsx32, End, Ja, Ja32, JumpIf, Ldx, Ldxs, St, Stx, Atomic, Lddw, Ldmap, Ldval, Call, Exit}
+use Rattle.disasm.specs.declared.head.Head.TheVariants.{Alu, Neg, Movsx, Movsx32, End, Ja, Ja32, JumpIf, Ldx, Ldxs, St, Stx, Atomic}
+use Rattle.disasm.specs.declared.head.Head.TheVariants.{Lddw, Ldmap, Ldval, Call, Exit}
 use Rattle.disasm.specs.declared.operand.Operand.{Operand}
 use Rattle.disasm.specs.declared.operand.Operand.TheVariants as operands
 use Rattle.disasm.specs.declared.operand.Operands.{Operands}

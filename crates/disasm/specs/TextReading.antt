@@ -1,4 +1,4 @@
--- What is read of a whole text: its maps, its instructions, or the first line that is no right spelling.
+-- What is read of a whole text: its maps, its instructions, or the first line that is misspelled.
 use Rattle.std.specs.Prelude.{◌≡◌, ◌≢◌, ℕ, ◌+◌, ◌<◌, ◌⊎◌, List, [], ◌∷◌, ◌++◌, length, Option, Some, None}
 use Rattle.std.specs.List.{AllByRecursion}
 use Rattle.ebpf_decode.specs.declared.insn.Insn.{Insn}
@@ -61,7 +61,7 @@ pub record AreMapsRead (text : List ℕ) (maps : List MapDef) (rest : List ℕ) 
 
 -- ---- a whole text
 
--- after these lines of maps and these of instructions comes a line that is no right spelling there
+-- after these lines of maps and these of instructions comes a line that is misspelled there
 pub record IsBadAfter (text : List ℕ) (line : ℕ) : Type 0 where
   pub version : Version
   pub maps : List MapDef
@@ -75,11 +75,11 @@ pub record IsBadAfter (text : List ℕ) (line : ℕ) : Type 0 where
   pub no_instruction : BeginsWithNoInstruction rest
   pub no_map : code ≡ [] → BeginsWithNoMap rest
 
--- the line, counted from 1, is the first that is no right spelling
+-- the line, counted from 1, is the first that is misspelled
 abbrev pub IsFirstBadLine : List ℕ → ℕ → Type 0
 IsFirstBadLine text line = ((line ≡ 1) × ((version : Version) (rest : List ℕ) → text ≢ version_text version ++ rest)) ⊎ IsBadAfter text line
 
--- all lines are right spellings, of parts that no image of the version has
+-- all lines are spelled right, and tell parts that no image of the version has
 pub record IsFaultyText (text : List ℕ) (fault : DecodeFault) : Type 0 where
   pub version : Version
   pub maps : List MapDef

@@ -3,7 +3,8 @@
 ghost use Rattle.std.specs.Prelude.{◌≡◌, ◌++◌, string_bytes, OnOk, true};
 ghost use Rattle.std.specs.List.{find};
 ghost use Rattle.std.specs.Str.{bytes_eq};
-ghost use Rattle.disasm.specs.Names.{alu_name, width_suffix, extension_bits, short_bits, order_name, swap_bits, test_name, size_letters, extension_letter, width_letters, atomic_name, head_stem, head_suffix, head_name, Spells};
+ghost use Rattle.disasm.specs.Names.{alu_name, width_suffix, extension_bits, short_bits, order_name, swap_bits, test_name, size_letters};
+ghost use Rattle.disasm.specs.Names.{extension_letter, width_letters, atomic_name, head_stem, head_suffix, head_name, Spells};
 
 use isa::{AluOp, AtomicOp, ByteOrder, Extension, ShortExtension, Size, SwapWidth, Test, Width};
 use std::alloc::AllocError;

@@ -45,7 +45,7 @@ fn insn_of(head: Head, x: Operand, y: Operand, z: Operand) -> Insn
     }
 }
 
-/// The instruction of the line, if it is one's right spelling.
+/// The instruction of the line, if it is spelled exactly so.
 fn instruction_read(line: &str) -> Insn
     ensures { (insn : Instruction) → IsAssemblyLine insn line.now → result ≡ insn }
 {

@@ -67,7 +67,7 @@ fn first_kind(all: &[MapKind], name: &str) -> Option<MapKind>
     all.iter().copied().find(|kind| kind_name(*kind) == name)
 }
 
-/// The map of the line, if it is one's right spelling.
+/// The map of the line, if it is spelled exactly so.
 fn map_read(line: &str) -> MapDef
     ensures { (map : Definition) → IsMapLine map line.now → result ≡ map }
 {

@@ -1,4 +1,4 @@
-//! Lines read leniently: what is no right spelling is read as anything. Who reads prints the result again and compares.
+//! Lines read leniently: what is misspelled is read as anything. The caller prints the result again and compares.
 
 ghost use Rattle.std.specs.Prelude.{◌≡◌, ◌≢◌, ◌++◌, ◌<◌, ◌^◌, ℕ, ℤ, List, length, slice_index, FitsSigned, codes};
 ghost use Rattle.std.specs.Int.{w16, w32, w64};
@@ -8,7 +8,8 @@ ghost use Rattle.std.specs.Str.{bytes_eq};
 ghost use Rattle.isa.specs.declared.operation.Register.{Register as RegisterName};
 ghost use Rattle.disasm.specs.declared.operand.Operands.{Operands as OperandList};
 ghost use Rattle.disasm.specs.AssemblyText.{register_text, with_sign, hex_digits, operand_text, list_text};
-ghost use Rattle.disasm.specs.LineReading.{OperandFits, OperandsFit, as_read, AreRead, begins_with_register, register_in, number_in, short_in, word_in, count_in, offset_in, wide_in, source_in, insn_made};
+ghost use Rattle.disasm.specs.LineReading.{OperandFits, OperandsFit, as_read, AreRead, begins_with_register, register_in, number_in};
+ghost use Rattle.disasm.specs.LineReading.{short_in, word_in, count_in, offset_in, wide_in, source_in, insn_made};
 
 use crate::operand::{Operand, register_text};
 use isa::{Register, Source};

@@ -1,5 +1,6 @@
 -- What has no fault of its parts is encodable.
 use Rattle.std.proofs.Common.{◌≡◌, ℕ, ◌+◌, ◌≤◌, ◌<◌, Bool, true, false, cond, ltb, eqb, List, [], ◌∷◌, length, Option, Some, None, refl, arith}
+use Rattle.std.specs.Option.{option_or}
 use Rattle.std.specs.List.{AllByRecursion}
 use Rattle.std.proofs.lemmas.Bool.{ltb-false, lt-ltb, eqb-false, ne_eqb}
 use Rattle.std.proofs.lemmas.List.Sums.{sum_by-cons}
@@ -13,14 +14,14 @@ use Rattle.ebpf_decode.specs.Versions.{is_in_version, IsInVersion}
 use Rattle.ebpf_decode.specs.InstructionEncoding.{FieldsFit, slot_count, total_slots}
 use Rattle.ebpf_decode.specs.MapForm.{is_allowed_map}
 use Rattle.ebpf_decode.specs.ImageContents.{IsEncodable, IsAllowedMap}
-use Rattle.ebpf_decode.specs.ImageFormat.{first_bad_map, code_fault, version_fault, or_else, first_part_fault}
+use Rattle.ebpf_decode.specs.ImageFormat.{first_bad_map, code_fault, version_fault, first_part_fault}
 
 -- a test that showed no fault
 no_fault : (b : Bool) (fault : DecodeFault) (x : Option DecodeFault) → cond b (Some fault) x ≡ None → (b ≡ false) × (x ≡ None)
 no_fault true fault x e = absurd cc
 no_fault false fault x e = (refl, e)
 
-neither : (a b : Option DecodeFault) → or_else a b ≡ None → (a ≡ None) × (b ≡ None)
+neither : (a b : Option DecodeFault) → option_or a b ≡ None → (a ≡ None) × (b ≡ None)
 neither None b e = (refl, e)
 neither (Some fault) b e = absurd cc
 
@@ -47,8 +48,8 @@ known_code version slot (insn ∷ code) e =
 pub encodable_parts : (version : Version) (maps : List MapDef) (code : List Insn) → first_part_fault version maps code ≡ None → AllByRecursion FieldsFit code → IsEncodable version maps code
 unfolding first_part_fault
 encodable_parts version maps code e fits =
-    let few = no_fault (ltb 16 (length maps)) BadHead (or_else (first_bad_map version 0 maps) (or_else (code_fault code) (version_fault version 0 code))) e in
-    let parts = neither (first_bad_map version 0 maps) (or_else (code_fault code) (version_fault version 0 code)) few.1 in
+    let few = no_fault (ltb 16 (length maps)) BadHead (option_or (first_bad_map version 0 maps) (option_or (code_fault code) (version_fault version 0 code))) e in
+    let parts = neither (first_bad_map version 0 maps) (option_or (code_fault code) (version_fault version 0 code)) few.1 in
     let program = neither (code_fault code) (version_fault version 0 code) parts.1 in
     let some = no_fault (eqb (length code) 0) Empty (cond (ltb 4096 (total_slots code)) (Some TooLong) None) program.0 in
     let short = no_fault (ltb 4096 (total_slots code)) TooLong None some.1 in

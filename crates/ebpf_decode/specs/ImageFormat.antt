@@ -4,7 +4,7 @@
 use Rattle.std.specs.Prelude.{◌≡◌, ◌≢◌, ℕ, zero, suc, ◌+◌, ◌*◌, ◌/◌, ◌%◌, Bool, nat_le, nat_lt, ◌==◌, ◌&&◌, ◌||◌, not, List, [], ◌∷◌, ◌++◌}
 use Rattle.std.specs.Prelude.{length, drop, slice_index, Option, Some, None, is_some, unwrap_or, Result, Ok, Err, if◌then◌else◌}
 use Rattle.std.specs.List.{flat_map}
-use Rattle.std.specs.Option.{ok_or}
+use Rattle.std.specs.Option.{ok_or, option_or}
 use Rattle.ebpf_decode.specs.declared.insn.Insn.{Insn}
 use Rattle.ebpf_decode.specs.declared.map.MapDef.{MapDef}
 use Rattle.ebpf_decode.specs.declared.fault.DecodeFault.{DecodeFault}
@@ -104,14 +104,10 @@ abbrev pub version_fault : Version → ℕ → List Insn → Option DecodeFault
 version_fault version slot [] = None
 version_fault version slot (insn ∷ code) = if is_in_version version insn then version_fault version (slot + slot_count insn) code else Some (NotInProfile slot)
 
-abbrev pub or_else : Option DecodeFault → Option DecodeFault → Option DecodeFault
-or_else None second = second
-or_else (Some fault) second = Some fault
-
 -- the fault that the encoding of these maps and instructions has
 unfoldable pub first_part_fault : Version → List MapDef → List Insn → Option DecodeFault
 first_part_fault version maps code =
-    if nat_lt 16 (length maps) then Some BadHead else or_else (first_bad_map version 0 maps) (or_else (code_fault code) (version_fault version 0 code))
+    if nat_lt 16 (length maps) then Some BadHead else option_or (first_bad_map version 0 maps) (option_or (code_fault code) (version_fault version 0 code))
 
 -- the number that a fault is printed with
 abbrev pub fault_number : DecodeFault → ℕ

@@ -3,7 +3,9 @@
 ghost use Rattle.std.specs.Prelude.{◌≡◌, ◌==◌, ◌<◌};
 ghost use Rattle.std.specs.List.{find};
 ghost use Rattle.ebpf_decode.specs.InstructionEncoding.{operation_opcode, memory_opcode, order_opcode};
-ghost use Rattle.ebpf_decode.specs.InstructionReading.{register_at, is_division, is_alu_op, alu_op_at, extension_at, short_extension_at, order_at, swap_width_at, test_at, size_at, extension_size_at, width_at, is_atomic_op, atomic_op_at};
+ghost use Rattle.ebpf_decode.specs.InstructionReading.{register_at, is_division, is_alu_op, alu_op_at, extension_at, short_extension_at};
+ghost use Rattle.ebpf_decode.specs.InstructionReading.{order_at, swap_width_at, test_at, size_at, extension_size_at, width_at};
+ghost use Rattle.ebpf_decode.specs.InstructionReading.{is_atomic_op, atomic_op_at};
 ghost use Rattle.isa.specs.InstructionCodes.{test_code};
 
 use crate::fault::SlotFault;

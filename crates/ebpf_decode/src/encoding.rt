@@ -4,7 +4,9 @@ ghost use Rattle.std.specs.Prelude.{◌≡◌, ◌<◌, ◌^◌, ◌/◌, ◌%�
 ghost use Rattle.std.specs.Int.{w32, cast_signed};
 ghost use Rattle.isa.specs.InstructionCodes.{register_number};
 ghost use Rattle.ebpf_decode.specs.InstructionReading.{head_slot};
-ghost use Rattle.ebpf_decode.specs.InstructionEncoding.{slot, slot_of, more_slots_of, option_list, neg_opcode, movsx_opcode, wide_opcode, ja_opcode, ja32_opcode, call_opcode, exit_opcode, source_bit, source_register, source_immediate};
+ghost use Rattle.ebpf_decode.specs.InstructionEncoding.{slot, slot_of, more_slots_of, option_list, neg_opcode, movsx_opcode, wide_opcode};
+ghost use Rattle.ebpf_decode.specs.InstructionEncoding.{ja_opcode, ja32_opcode, call_opcode, exit_opcode, source_bit, source_register};
+ghost use Rattle.ebpf_decode.specs.InstructionEncoding.{source_immediate};
 
 use crate::codes;
 use crate::insn::Insn;

@@ -1,10 +1,11 @@
 //! Images: maps and instructions that the image format encodes.
 
 ghost use Rattle.std.specs.Prelude.{◌≡◌, ◌≤◌, ◌↔◌, length, IfOk, IfNone, IsNone};
+ghost use Rattle.std.specs.Option.{option_or};
 ghost use Rattle.std.specs.List.{AllByRecursion};
 ghost use Rattle.ebpf_decode.specs.InstructionEncoding.{FieldsFit, slot_count, total_slots};
 ghost use Rattle.ebpf_decode.specs.ImageContents.{IsEncodable};
-ghost use Rattle.ebpf_decode.specs.ImageFormat.{fault_of, first_part_fault, or_else, first_bad_map, version_fault, code_fault};
+ghost use Rattle.ebpf_decode.specs.ImageFormat.{fault_of, first_part_fault, first_bad_map, version_fault, code_fault};
 
 use crate::fault::DecodeFault;
 use crate::insn::Insn;
@@ -136,7 +137,7 @@ fn first_bad_map(version: Version, maps: &[MapDef]) -> Option<DecodeFault>
 
 /// The first fault of a program.
 fn program_fault(version: Version, code: &[Insn]) -> Option<DecodeFault>
-    ensures { result ≡ or_else (code_fault code.now) (version_fault version 0 code.now) }
+    ensures { result ≡ option_or (code_fault code.now) (version_fault version 0 code.now) }
 {
     match code_fault(code) {
         Some(fault) => Some(fault),

@@ -4,7 +4,8 @@ ghost use Rattle.std.specs.Prelude.{◌≡◌, ◌≢◌, ◌++◌, ◌*◌, ◌
 ghost use Rattle.ebpf_decode.specs.SlotForm.{slots_at};
 ghost use Rattle.ebpf_decode.specs.InstructionReading.{at_slot, step_at, pending_of, finished_by, code_from};
 ghost use Rattle.ebpf_decode.specs.ImageContents.{Contents};
-ghost use Rattle.ebpf_decode.specs.ImageFormat.{Gives, map_count, version_at, has_head, maps_at, code_at, image_at, has_code_size, may_ask_memory, first_decode_fault, IsImageEncoding};
+ghost use Rattle.ebpf_decode.specs.ImageFormat.{Gives, map_count, version_at, has_head, maps_at, code_at, image_at, has_code_size};
+ghost use Rattle.ebpf_decode.specs.ImageFormat.{may_ask_memory, first_decode_fault, IsImageEncoding};
 
 use crate::fault::{DecodeFault, SlotFault};
 use crate::image::{Image, MAX_SLOTS};

@@ -2,7 +2,8 @@
 
 ghost use Rattle.std.specs.Prelude.{◌≡◌, ◌+◌, ◌*◌, ◌^◌, IsTrue};
 ghost use Rattle.std.specs.Int.{w32, cast_unsigned};
-ghost use Rattle.ebpf_decode.specs.InstructionReading.{is_legacy_mode, is_legacy, exact_head, number_head_at, map_head_at, value_head_at, head_at, wide_insn, second_slot, second_at};
+ghost use Rattle.ebpf_decode.specs.InstructionReading.{is_legacy_mode, is_legacy, exact_head, number_head_at, map_head_at, value_head_at};
+ghost use Rattle.ebpf_decode.specs.InstructionReading.{head_at, wide_insn, second_slot, second_at};
 
 use crate::fault::SlotFault;
 use crate::insn::Insn;

@@ -207,7 +207,12 @@ fn failing_sink(rt: HostRuntime) -> Result<(), Fail> {
         } else {
             82
         };
-        assert_eq!(rt; got.is_err(), fails_at <= 82, "call {fails_at}");
+        let want = if fails_at <= 82 {
+            Err(CaptureFault::Device)
+        } else {
+            Ok(())
+        };
+        assert_eq!(rt; got, want, "call {fails_at}");
         assert!(rt; taken <= 82);
         assert_eq!(rt;
             sink.bytes.as_slice(),

@@ -99,11 +99,11 @@ fn lookup() -> Line {
     (WORKER, call, Reply::Cell { cell: CELL })
 }
 
-fn load(offset: u64, width: u64, value: u64) -> Line {
+fn load(offset: u64, size: u64, value: u64) -> Line {
     let call = Call::Load {
         cell: CELL,
         offset,
-        width,
+        size,
     };
     (WORKER, call, Reply::Word { value })
 }
@@ -113,7 +113,7 @@ fn added() -> [Line; 7] {
     let addition = Call::Atomic {
         cell: CELL,
         offset: 0,
-        width: 8,
+        size: 8,
         op: 1,
         value: 1,
         expected: 0,
@@ -138,7 +138,7 @@ fn deleted() -> [Line; 8] {
     let store = Call::Store {
         cell: CELL,
         offset: 4,
-        width: 4,
+        size: 4,
         value: 9,
     };
     let delete = Call::Delete {
@@ -244,7 +244,7 @@ const FILES: [(&str, &[u32], &str, Option<usize>); 72] = [
     ("the greatest word",          &[1], "XLBJ 1 1 1 16\n0 w0 load 0 0 8 word 18446744073709551615\n", None),
     ("one above it",               &[1], "XLBJ 1 1 1 16\n0 w0 load 0 0 8 word 18446744073709551616\n", Some(2)),
     ("a word with a zero",         &[1], "XLBJ 1 1 1 16\n0 w0 load 0 0 8 word 05\n",       Some(2)),
-    ("a load without a width",     &[1], "XLBJ 1 1 1 16\n0 w0 load 0 0 word 5\n",          Some(2)),
+    ("a load without a size",      &[1], "XLBJ 1 1 1 16\n0 w0 load 0 0 word 5\n",          Some(2)),
     ("a store",                    &[1], "XLBJ 1 1 1 16\n0 w0 store 0 0 8 1 ok\n",         None),
     ("a store with a word",        &[1], "XLBJ 1 1 1 16\n0 w0 store 0 0 8 1 word 1\n",     Some(2)),
     ("an unknown operation",       &[1], "XLBJ 1 1 1 16\n0 w0 atomic 0 0 8 99 1 0 word 2\n", None),

@@ -151,6 +151,8 @@ fn sizes_and_order(rt: HostRuntime) -> Result<(), Fail> {
         assert_eq!(rt; outcome(&mut frame), want, "{name}");
         if want == 0 {
             assert_eq!(rt; frame.len(), size + 20, "{name}");
+            let outer = total.wrapping_add(20).to_be_bytes();
+            assert_eq!(rt; part(&frame, 16, 18), outer.as_slice(), "{name}");
             assert!(rt; frame.bytes().ends_with(&bytes[14..]), "{name}");
         } else {
             assert_eq!(rt; frame.bytes(), bytes.as_slice(), "{name}");

@@ -20,7 +20,7 @@ use Rattle.shard_port.specs.PassPorts.{PassPort, IsGivenBy, IsRefusedBy}
 use Rattle.shard_port.specs.PassSessions.{HasSessions, HasRefusedSessions}
 use Rattle.gates.specs.Gates.{next_count, count_after}
 
--- each reply has its call's form and width
+-- each reply has its call's form and size
 abbrev pub AreFormed : Program → List Exchange → Type 0
 AreFormed program exchanges = AllByRecursion (λ (exchange : Exchange). IsReplyTo program exchange.call exchange.reply) exchanges
 

@@ -23,10 +23,10 @@ part_below : (plan : ShardPlan) (history : List Entry) (worker : ℕ) (call : Ca
 part_below plan history worker (Enter shard) met = below_of worker plan.workers (first_true _ _ met)
 part_below plan history worker (Leave shard) met = below_of worker plan.workers (first_true _ _ met)
 part_below plan history worker (Lookup shard key) met = below_of worker plan.workers (first_true _ _ (first_true _ _ met))
-part_below plan history worker (Load cell offset width) met = below_of worker plan.workers (first_true _ _ (first_true _ _ (first_true _ _ met)))
-part_below plan history worker (Store cell offset width value) met =
+part_below plan history worker (Load cell offset size) met = below_of worker plan.workers (first_true _ _ (first_true _ _ (first_true _ _ met)))
+part_below plan history worker (Store cell offset size value) met =
     below_of worker plan.workers (first_true _ _ (first_true _ _ (first_true _ _ (first_true _ _ met))))
-part_below plan history worker (Atomic cell offset width op value expected) met =
+part_below plan history worker (Atomic cell offset size op value expected) met =
     below_of worker plan.workers
     (first_true _ _ (first_true _ _ (first_true _ _ (first_true _ _ (first_true _ _ (first_true _ _ (first_true _ _ met)))))))
 part_below plan history worker (Update shard key value flags) met = below_of worker plan.workers (first_true _ _ (first_true _ _ (first_true _ _ met)))

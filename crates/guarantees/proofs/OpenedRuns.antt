@@ -48,9 +48,9 @@ same_opening : (number part parts workers other journal room : ℕ) (definition 
 same_opening number part parts workers other journal room definition Array is (Lookup shard key) read = rw is refl
 same_opening number part parts workers other journal room definition Hash is (Lookup shard key) read = rw is refl
 same_opening number part parts workers other journal room definition LruHash is (Lookup shard key) read = rw is refl
-same_opening number part parts workers other journal room definition Array is (Load cell offset width) read = rw is refl
-same_opening number part parts workers other journal room definition Hash is (Load cell offset width) read = rw is refl
-same_opening number part parts workers other journal room definition LruHash is (Load cell offset width) read = rw is refl
+same_opening number part parts workers other journal room definition Array is (Load cell offset size) read = rw is refl
+same_opening number part parts workers other journal room definition Hash is (Load cell offset size) read = rw is refl
+same_opening number part parts workers other journal room definition LruHash is (Load cell offset size) read = rw is refl
 same_opening number part parts workers other journal room definition kind is call read = absurd cc
 
 answer_of : (options : Options) (number : ℕ) (plan : ShardPlan) (call : Call) → IsTrue (is_read call) → (found : Option MapDef) →
@@ -83,9 +83,9 @@ quiet_of (Enter shard) read = refl
 quiet_of (Leave shard) read = refl
 quiet_of (Reclaim shard) read = refl
 quiet_of (Lookup shard key) read = refl
-quiet_of (Load cell offset width) read = refl
-quiet_of (Store cell offset width value) read = read
-quiet_of (Atomic cell offset width op value expected) read = read
+quiet_of (Load cell offset size) read = refl
+quiet_of (Store cell offset size value) read = read
+quiet_of (Atomic cell offset size op value expected) read = read
 quiet_of (Update shard key value flags) read = read
 quiet_of (Delete shard key) read = read
 

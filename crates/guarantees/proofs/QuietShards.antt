@@ -15,9 +15,9 @@ quiet_call : (plan : ShardPlan) (history : List Entry) (call : Call) → IsTrue 
 quiet_call plan history (Enter shard) quiet = refl
 quiet_call plan history (Leave shard) quiet = refl
 quiet_call plan history (Lookup shard key) quiet = refl
-quiet_call plan history (Load cell offset width) quiet = refl
-quiet_call plan history (Store cell offset width value) quiet = absurd cc
-quiet_call plan history (Atomic cell offset width op value expected) quiet = absurd cc
+quiet_call plan history (Load cell offset size) quiet = refl
+quiet_call plan history (Store cell offset size value) quiet = absurd cc
+quiet_call plan history (Atomic cell offset size op value expected) quiet = absurd cc
 quiet_call plan history (Update shard key value flags) quiet = absurd cc
 quiet_call plan history (Delete shard key) quiet = absurd cc
 quiet_call plan history (Reclaim shard) quiet = refl
@@ -32,11 +32,11 @@ as_opened plan (entry ∷ older) quiet =
 same_reply : (plan : ShardPlan) (history : List Entry) (shard : SequentialShard) (call : Call) → IsTrue (is_read call) →
     reply_of plan history shard call ≡ reply_of plan [] shard call
 same_reply plan history shard (Lookup number key) read = refl
-same_reply plan history shard (Load cell offset width) read = refl
+same_reply plan history shard (Load cell offset size) read = refl
 same_reply plan history shard (Enter number) read = absurd cc
 same_reply plan history shard (Leave number) read = absurd cc
-same_reply plan history shard (Store cell offset width value) read = absurd cc
-same_reply plan history shard (Atomic cell offset width op value expected) read = absurd cc
+same_reply plan history shard (Store cell offset size value) read = absurd cc
+same_reply plan history shard (Atomic cell offset size op value expected) read = absurd cc
 same_reply plan history shard (Update number key value flags) read = absurd cc
 same_reply plan history shard (Delete number key) read = absurd cc
 same_reply plan history shard (Reclaim number) read = absurd cc

@@ -23,7 +23,7 @@ use Rattle.guarantees.specs.SameRuns.{AreReplies}
 -- a lookup or a load
 abbrev pub is_read : Call → Bool
 is_read (Lookup shard key) = true
-is_read (Load cell offset width) = true
+is_read (Load cell offset size) = true
 is_read call = false
 
 abbrev pub AreReads : List Call → Type 0

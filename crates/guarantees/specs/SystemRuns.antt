@@ -14,7 +14,8 @@ use Rattle.semantics.specs.SequentialShard.{reply_of, shard_after}
 use Rattle.semantics.specs.History.{shard_of_call, journal_is_full, IsJournalFull}
 use Rattle.semantics.specs.Step.{CallsMap, Exits}
 use Rattle.semantics.specs.Semantics.{next_step}
-use Rattle.semantics.specs.System.{Setting, program_of, SystemState, SystemEvent, BeginsRun, DoesInstruction, CallsShard, LeavesShard, WorkerState, Idle, Runs, worker_state, history_of, with_worker, with_entry, CanHappen, after_event}
+use Rattle.semantics.specs.System.{Setting, program_of, SystemState, SystemEvent, BeginsRun, DoesInstruction, CallsShard, LeavesShard}
+use Rattle.semantics.specs.System.{WorkerState, Idle, Runs, worker_state, history_of, with_worker, with_entry, CanHappen, after_event}
 use Rattle.verifier.specs.Verified.{Verified}
 use Rattle.machine.specs.declared.exit.Stop.{Stop}
 use Rattle.machine.specs.declared.exit.Stop.TheVariants.{JournalFull}

@@ -20,7 +20,8 @@ ghost use Rattle.verifier.specs.Readers.{IsReader};
 ghost use Rattle.guarantees.specs.SameRuns.{RunsTheSame};
 ghost use Rattle.guarantees.specs.ReaderRuns.{OnlyReads, QuietShardsAreAsOpened};
 ghost use Rattle.guarantees.specs.ReaderReplays.{SendsAsAtOpening};
-ghost use Rattle.guarantees.specs.Guarantees.{RunsAreTheirMeaning, StoppedRunsAreBeginnings, EntriesAreSteps, OpenedShardsAreReady, RunsLeaveOthersAlone, RunsAreOfTheSystem, StoppedRunsAreOfTheSystem, EntriesAreAnswered};
+ghost use Rattle.guarantees.specs.Guarantees.{RunsAreTheirMeaning, StoppedRunsAreBeginnings, EntriesAreSteps, OpenedShardsAreReady};
+ghost use Rattle.guarantees.specs.Guarantees.{RunsLeaveOthersAlone, RunsAreOfTheSystem, StoppedRunsAreOfTheSystem, EntriesAreAnswered};
 
 use shard_port::laws::{
     finish_leaves, journals_after_a_refusal, journals_have_the_calls, leaves_others_alone,

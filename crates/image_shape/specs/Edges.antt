@@ -32,4 +32,5 @@ is_begin code slot = is_some (instruction_at code slot)
 -- a path of edges leads from slot 0 to the slot
 pub data IsReachableSlot (code : List Insn) : ℕ → Type 0 where
   reached_start : IsReachableSlot code 0
-  reached_along : (from : ℕ) (insn : Insn) (target : ℕ) → IsReachableSlot code from → instruction_at code from ≡ Some insn → IsEdge from insn target → IsReachableSlot code target
+  reached_along : (from : ℕ) (insn : Insn) (target : ℕ) → IsReachableSlot code from → instruction_at code from ≡ Some insn →
+      IsEdge from insn target → IsReachableSlot code target

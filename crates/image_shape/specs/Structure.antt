@@ -1,6 +1,6 @@
 -- The structure of a program, and its first fault: all edges go up to an instruction, and every instruction is reachable.
 use Rattle.std.specs.Prelude.{◌≡◌, ℕ, ◌+◌, ◌<◌, Bool, ℤ, pos, negsuc, nat_le, ◌&&◌, List, Option, Some, None, IsTrue, if◌then◌else◌}
-use Rattle.std.specs.Option.{option_and_then}
+use Rattle.std.specs.Option.{option_and_then, option_or}
 use Rattle.ebpf_decode.specs.declared.insn.Insn.{Insn}
 use Rattle.ebpf_decode.specs.InstructionEncoding.{slot_count, total_slots}
 use Rattle.semantics.specs.Program.{instruction_at}
@@ -23,13 +23,9 @@ jump_fault begins total slot (Some (pos distance)) =
 abbrev pub fall_fault : ℕ → ℕ → Insn → Option ShapeFault
 fall_fault total slot insn = if falls_through insn && nat_le total (slot + slot_count insn) then Some (FallsOff slot) else None
 
-abbrev pub or_else : Option ShapeFault → Option ShapeFault → Option ShapeFault
-or_else None second = second
-or_else (Some fault) second = Some fault
-
 -- the lowest fault of the instruction at this slot
 abbrev pub instruction_fault : (ℕ → Bool) → ℕ → ℕ → Insn → Option ShapeFault
-instruction_fault begins total slot insn = or_else (jump_fault begins total slot (jump_distance insn)) (fall_fault total slot insn)
+instruction_fault begins total slot insn = option_or (jump_fault begins total slot (jump_distance insn)) (fall_fault total slot insn)
 
 -- ---- programs
 

@@ -5,7 +5,9 @@ ghost use Rattle.std.specs.Prelude.{◌≡◌, ◌<◌, ◌≤◌, ◌%◌};
 ghost use Rattle.isa.specs.Words.{width_bits};
 ghost use Rattle.isa.specs.Alu.{extension_bits, short_extension_bits};
 ghost use Rattle.isa.specs.Swap.{swap_bits};
-ghost use Rattle.isa.specs.InstructionCodes.{class_number, class_of_opcode, alu_class, jump_class, mode_number, mode_of_opcode, register_number, register_of, alu_code, alu_offset, order_width, order_bit, test_code, size_code, size_bytes, extension_size, width_size, atomic_code, atomic_op_of};
+ghost use Rattle.isa.specs.InstructionCodes.{class_number, class_of_opcode, alu_class, jump_class, mode_number, mode_of_opcode};
+ghost use Rattle.isa.specs.InstructionCodes.{register_number, register_of, alu_code, alu_offset, order_width, order_bit, test_code};
+ghost use Rattle.isa.specs.InstructionCodes.{size_code, size_bytes, extension_size, width_size, atomic_code, atomic_op_of};
 
 /// The class of an instruction: the low three bits of its opcode (RFC 9669, section 3.3).
 #[derive(Clone, Copy, Debug, PartialEq, Eq)]

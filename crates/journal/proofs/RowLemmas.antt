@@ -27,9 +27,9 @@ call_kept shard key value bytes more (Updated who code at flags) within =
 call_kept shard key value bytes more (Deleted who code at) within = ap (Delete shard) (part_kept at key bytes more within)
 call_kept shard key value bytes more (Entered who) within = refl
 call_kept shard key value bytes more (Left who) within = refl
-call_kept shard key value bytes more (Loaded who width offset cell number) within = refl
-call_kept shard key value bytes more (Stored who width offset cell number) within = refl
-call_kept shard key value bytes more (Changed who width op offset cell number expected old) within = refl
+call_kept shard key value bytes more (Loaded who size offset cell number) within = refl
+call_kept shard key value bytes more (Stored who size offset cell number) within = refl
+call_kept shard key value bytes more (Changed who size op offset cell number expected old) within = refl
 call_kept shard key value bytes more (Reclaimed who count) within = refl
 
 entries_kept : (shard key value : ℕ) (bytes more : List ℕ) (rows : List Row) → AllByRecursion (IsWithin key value (length bytes)) rows

@@ -18,13 +18,13 @@ found_reply shard None = Null
 -- the calls on some bytes of a cell of the shard
 
 abbrev pub load_on : ℕ → CellRange → Call
-load_on shard range = Load (cell_ref shard range.cell) range.offset range.width
+load_on shard range = Load (cell_ref shard range.cell) range.offset range.size
 
 abbrev pub store_on : ℕ → CellRange → ℕ → Call
-store_on shard range value = Store (cell_ref shard range.cell) range.offset range.width value
+store_on shard range value = Store (cell_ref shard range.cell) range.offset range.size value
 
 abbrev pub atomic_on : ℕ → CellRange → AtomicChange → Call
-atomic_on shard range change = Atomic (cell_ref shard range.cell) range.offset range.width change.op change.value change.expected
+atomic_on shard range change = Atomic (cell_ref shard range.cell) range.offset range.size change.op change.value change.expected
 
 -- the entries
 

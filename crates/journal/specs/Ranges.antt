@@ -4,4 +4,4 @@ use Rattle.journal.specs.declared.append.CellRange.{CellRange}
 
 -- every range within a value is one, since a value has at most 256 bytes
 abbrev pub IsShortRange : CellRange → Type 0
-IsShortRange range = (range.offset < 65536) × (range.width < 256)
+IsShortRange range = (range.offset < 65536) × (range.size < 256)

@@ -21,9 +21,9 @@ who_of (Entered who) = who
 who_of (Left who) = who
 who_of (Found who at cell) = who
 who_of (Missed who at) = who
-who_of (Loaded who width offset cell value) = who
-who_of (Stored who width offset cell value) = who
-who_of (Changed who width op offset cell value expected old) = who
+who_of (Loaded who size offset cell value) = who
+who_of (Stored who size offset cell value) = who
+who_of (Changed who size op offset cell value expected old) = who
 who_of (Updated who code at flags) = who
 who_of (Deleted who code at) = who
 who_of (Reclaimed who count) = who
@@ -34,10 +34,10 @@ call_of shard key_size value_size bytes (Entered who) = Enter shard
 call_of shard key_size value_size bytes (Left who) = Leave shard
 call_of shard key_size value_size bytes (Found who at cell) = Lookup shard (part at key_size bytes)
 call_of shard key_size value_size bytes (Missed who at) = Lookup shard (part at key_size bytes)
-call_of shard key_size value_size bytes (Loaded who width offset cell value) = Load (cell_ref shard cell) offset width
-call_of shard key_size value_size bytes (Stored who width offset cell value) = Store (cell_ref shard cell) offset width value
-call_of shard key_size value_size bytes (Changed who width op offset cell value expected old) =
-    Atomic (cell_ref shard cell) offset width op value expected
+call_of shard key_size value_size bytes (Loaded who size offset cell value) = Load (cell_ref shard cell) offset size
+call_of shard key_size value_size bytes (Stored who size offset cell value) = Store (cell_ref shard cell) offset size value
+call_of shard key_size value_size bytes (Changed who size op offset cell value expected old) =
+    Atomic (cell_ref shard cell) offset size op value expected
 call_of shard key_size value_size bytes (Updated who code at flags) =
     Update shard (part at key_size bytes) (part (at + key_size) value_size bytes) flags
 call_of shard key_size value_size bytes (Deleted who code at) = Delete shard (part at key_size bytes)
@@ -48,9 +48,9 @@ reply_of shard (Entered who) = R.Entered
 reply_of shard (Left who) = R.Left
 reply_of shard (Found who at cell) = R.Cell (cell_ref shard cell)
 reply_of shard (Missed who at) = R.Null
-reply_of shard (Loaded who width offset cell value) = R.Word value
-reply_of shard (Stored who width offset cell value) = R.Done
-reply_of shard (Changed who width op offset cell value expected old) = R.Word old
+reply_of shard (Loaded who size offset cell value) = R.Word value
+reply_of shard (Stored who size offset cell value) = R.Done
+reply_of shard (Changed who size op offset cell value expected old) = R.Word old
 reply_of shard (Updated who code at flags) = R.Answer code
 reply_of shard (Deleted who code at) = R.Answer code
 reply_of shard (Reclaimed who count) = R.Freed count
@@ -68,9 +68,9 @@ IsWithin key_size value_size count (Updated who code at flags) = at + key_size +
 IsWithin key_size value_size count (Deleted who code at) = at + key_size ≤ count
 IsWithin key_size value_size count (Entered who) = Unit {0}
 IsWithin key_size value_size count (Left who) = Unit {0}
-IsWithin key_size value_size count (Loaded who width offset cell value) = Unit {0}
-IsWithin key_size value_size count (Stored who width offset cell value) = Unit {0}
-IsWithin key_size value_size count (Changed who width op offset cell value expected old) = Unit {0}
+IsWithin key_size value_size count (Loaded who size offset cell value) = Unit {0}
+IsWithin key_size value_size count (Stored who size offset cell value) = Unit {0}
+IsWithin key_size value_size count (Changed who size op offset cell value expected old) = Unit {0}
 IsWithin key_size value_size count (Reclaimed who freed) = Unit {0}
 
 -- the row has neither key nor value
@@ -81,9 +81,9 @@ HasNoBytes (Updated who code at flags) = ⊥
 HasNoBytes (Deleted who code at) = ⊥
 HasNoBytes (Entered who) = Unit {0}
 HasNoBytes (Left who) = Unit {0}
-HasNoBytes (Loaded who width offset cell value) = Unit {0}
-HasNoBytes (Stored who width offset cell value) = Unit {0}
-HasNoBytes (Changed who width op offset cell value expected old) = Unit {0}
+HasNoBytes (Loaded who size offset cell value) = Unit {0}
+HasNoBytes (Stored who size offset cell value) = Unit {0}
+HasNoBytes (Changed who size op offset cell value expected old) = Unit {0}
 HasNoBytes (Reclaimed who count) = Unit {0}
 
 -- what the fields of a journal stand for

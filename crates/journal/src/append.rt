@@ -8,7 +8,7 @@ pub struct CellRange {
     /// Where the bytes begin in the cell's value.
     pub offset: u64,
     /// How many they are.
-    pub width: u64,
+    pub size: u64,
 }
 
 /// What an atomic operation does: its immediate (RFC 9669, section 5.3), its operand, and, for compare-and-exchange alone, the number that

@@ -2,7 +2,8 @@
 
 ghost use Rattle.std.specs.Prelude.{◌≡◌, ◌+◌, ◌*◌, ◌<◌, ◌≤◌, ◌∷◌, ◌++◌, [], IfOk, length, vec_len, vec_capacity, slice_get, Some};
 ghost use Rattle.journal.specs.Journaled.{opened_journal, with_entry};
-ghost use Rattle.journal.specs.Entries.{enter_entry, leave_entry, lookup_entry, load_entry, store_entry, atomic_entry, update_entry, delete_entry, reclaim_entry};
+ghost use Rattle.journal.specs.Entries.{enter_entry, leave_entry, lookup_entry, load_entry, store_entry, atomic_entry, update_entry};
+ghost use Rattle.journal.specs.Entries.{delete_entry, reclaim_entry};
 ghost use Rattle.journal.specs.Rows.{HasNoBytes, entry_of};
 ghost use Rattle.journal.specs.Ranges.{IsShortRange};
 
@@ -127,7 +128,7 @@ impl Journal {
     {
         self.put(Row::Loaded {
             who,
-            width: range.width as u8,
+            size: range.size as u8,
             offset: range.offset as u16,
             cell: range.cell,
             value,
@@ -142,7 +143,7 @@ impl Journal {
     {
         self.put(Row::Stored {
             who,
-            width: range.width as u8,
+            size: range.size as u8,
             offset: range.offset as u16,
             cell: range.cell,
             value,
@@ -158,7 +159,7 @@ impl Journal {
     {
         self.put(Row::Changed {
             who,
-            width: range.width as u8,
+            size: range.size as u8,
             op: change.op as u8,
             offset: range.offset as u16,
             cell: range.cell,

@@ -29,14 +29,14 @@ pub(crate) enum Row {
     },
     Loaded {
         who: Caller,
-        width: u8,
+        size: u8,
         offset: u16,
         cell: u64,
         value: u64,
     },
     Stored {
         who: Caller,
-        width: u8,
+        size: u8,
         offset: u16,
         cell: u64,
         value: u64,
@@ -44,7 +44,7 @@ pub(crate) enum Row {
     /// An Atomic, with what was there before.
     Changed {
         who: Caller,
-        width: u8,
+        size: u8,
         op: u8,
         offset: u16,
         cell: u64,
@@ -141,14 +141,14 @@ impl Row {
             Row::Left { .. } => Call::Leave { shard },
             Row::Found { at, .. } => Call::Lookup { shard, key: key_at(bytes, *at, key_size) },
             Row::Missed { at, .. } => Call::Lookup { shard, key: key_at(bytes, *at, key_size) },
-            Row::Loaded { width, offset, cell, .. } => Call::Load {
-                cell: CellRef { shard, id: *cell }, offset: u64::from(*offset), width: u64::from(*width),
+            Row::Loaded { size, offset, cell, .. } => Call::Load {
+                cell: CellRef { shard, id: *cell }, offset: u64::from(*offset), size: u64::from(*size),
             },
-            Row::Stored { width, offset, cell, value, .. } => Call::Store {
-                cell: CellRef { shard, id: *cell }, offset: u64::from(*offset), width: u64::from(*width), value: *value,
+            Row::Stored { size, offset, cell, value, .. } => Call::Store {
+                cell: CellRef { shard, id: *cell }, offset: u64::from(*offset), size: u64::from(*size), value: *value,
             },
-            Row::Changed { width, op, offset, cell, value, expected, .. } => Call::Atomic {
-                cell: CellRef { shard, id: *cell }, offset: u64::from(*offset), width: u64::from(*width), op: u64::from(*op),
+            Row::Changed { size, op, offset, cell, value, expected, .. } => Call::Atomic {
+                cell: CellRef { shard, id: *cell }, offset: u64::from(*offset), size: u64::from(*size), op: u64::from(*op),
                 value: *value, expected: *expected,
             },
             Row::Updated { at, flags, .. } => Call::Update {

@@ -182,17 +182,17 @@ unfolding told_text CallFits RepliesTo
 told_printed (calls.Enter shard) reply fits replies = entered_printed reply replies
 told_printed (calls.Leave shard) reply fits replies = left_printed reply replies
 told_printed (calls.Lookup shard key) reply fits replies = hex_before key (reply_text reply) fits.1.1 (finding_printed shard reply replies)
-told_printed (calls.Load cell offset width) reply fits replies =
-    number_before cell.id (decimal offset ++ 32 ∷ (decimal width ++ 32 ∷ reply_text reply)) fits.0.1
-    (number_before offset (decimal width ++ 32 ∷ reply_text reply) fits.1 (number_before width (reply_text reply) fits.2 (word_printed reply replies)))
-told_printed (calls.Store cell offset width value) reply fits replies =
-    number_before cell.id (decimal offset ++ 32 ∷ (decimal width ++ 32 ∷ (decimal value ++ 32 ∷ reply_text reply))) fits.0.1
-    (number_before offset (decimal width ++ 32 ∷ (decimal value ++ 32 ∷ reply_text reply)) fits.1
-    (number_before width (decimal value ++ 32 ∷ reply_text reply) fits.2 (number_before value (reply_text reply) fits.3 (done_printed reply replies))))
-told_printed (calls.Atomic cell offset width op value expected) reply fits replies =
-    number_before cell.id (decimal offset ++ 32 ∷ (decimal width ++ 32 ∷ (decimal op ++ 32 ∷ (decimal value ++ 32 ∷ (decimal expected ++ 32 ∷ reply_text reply))))) fits.0.1
-    (number_before offset (decimal width ++ 32 ∷ (decimal op ++ 32 ∷ (decimal value ++ 32 ∷ (decimal expected ++ 32 ∷ reply_text reply)))) fits.1
-    (number_before width (decimal op ++ 32 ∷ (decimal value ++ 32 ∷ (decimal expected ++ 32 ∷ reply_text reply))) fits.2
+told_printed (calls.Load cell offset size) reply fits replies =
+    number_before cell.id (decimal offset ++ 32 ∷ (decimal size ++ 32 ∷ reply_text reply)) fits.0.1
+    (number_before offset (decimal size ++ 32 ∷ reply_text reply) fits.1 (number_before size (reply_text reply) fits.2 (word_printed reply replies)))
+told_printed (calls.Store cell offset size value) reply fits replies =
+    number_before cell.id (decimal offset ++ 32 ∷ (decimal size ++ 32 ∷ (decimal value ++ 32 ∷ reply_text reply))) fits.0.1
+    (number_before offset (decimal size ++ 32 ∷ (decimal value ++ 32 ∷ reply_text reply)) fits.1
+    (number_before size (decimal value ++ 32 ∷ reply_text reply) fits.2 (number_before value (reply_text reply) fits.3 (done_printed reply replies))))
+told_printed (calls.Atomic cell offset size op value expected) reply fits replies =
+    number_before cell.id (decimal offset ++ 32 ∷ (decimal size ++ 32 ∷ (decimal op ++ 32 ∷ (decimal value ++ 32 ∷ (decimal expected ++ 32 ∷ reply_text reply))))) fits.0.1
+    (number_before offset (decimal size ++ 32 ∷ (decimal op ++ 32 ∷ (decimal value ++ 32 ∷ (decimal expected ++ 32 ∷ reply_text reply)))) fits.1
+    (number_before size (decimal op ++ 32 ∷ (decimal value ++ 32 ∷ (decimal expected ++ 32 ∷ reply_text reply))) fits.2
     (number_before op (decimal value ++ 32 ∷ (decimal expected ++ 32 ∷ reply_text reply)) fits.3
     (number_before value (decimal expected ++ 32 ∷ reply_text reply) fits.4 (number_before expected (reply_text reply) fits.5 (word_printed reply replies))))))
 told_printed (calls.Update shard key value flags) reply fits replies =
@@ -206,9 +206,9 @@ unfolding CallFits
 shard_small (calls.Enter shard) fits = fits
 shard_small (calls.Leave shard) fits = fits
 shard_small (calls.Lookup shard key) fits = fits.0
-shard_small (calls.Load cell offset width) fits = fits.0.0
-shard_small (calls.Store cell offset width value) fits = fits.0.0
-shard_small (calls.Atomic cell offset width op value expected) fits = fits.0.0
+shard_small (calls.Load cell offset size) fits = fits.0.0
+shard_small (calls.Store cell offset size value) fits = fits.0.0
+shard_small (calls.Atomic cell offset size op value expected) fits = fits.0.0
 shard_small (calls.Update shard key value flags) fits = fits.0
 shard_small (calls.Delete shard key) fits = fits.0
 shard_small (calls.Reclaim shard) fits = fits

@@ -115,13 +115,13 @@ unfolding Reads CallFits RepliesTo
 reads_call who (calls.Enter shard) reply text result fits replies reads is = reads ∙ entered_is who (calls.Enter shard) reply replies
 reads_call who (calls.Leave shard) reply text result fits replies reads is = reads ∙ left_is who (calls.Leave shard) reply replies
 reads_call who (calls.Lookup shard key) reply text result fits replies reads is = reads key reply fits.1 replies is
-reads_call who (calls.Load cell offset width) reply text result fits replies reads is = reads cell.id offset width reply fits.0.1 fits.1 fits.2 replies is
-reads_call who (calls.Store cell offset width value) reply text result fits replies reads is =
+reads_call who (calls.Load cell offset size) reply text result fits replies reads is = reads cell.id offset size reply fits.0.1 fits.1 fits.2 replies is
+reads_call who (calls.Store cell offset size value) reply text result fits replies reads is =
     let done = done_is reply replies in
-    let told : text ≡ told_text (calls.Store cell offset width value) (reply_text Done) = is ∙ ap (λ (r : Reply). told_text (calls.Store cell offset width value) (reply_text r)) done in
-    reads cell.id offset width value fits.0.1 fits.1 fits.2 fits.3 told ∙ ap (λ (r : Reply). entry_with who (calls.Store cell offset width value) r) (sym done)
-reads_call who (calls.Atomic cell offset width op value expected) reply text result fits replies reads is =
-    reads cell.id offset width op value expected reply fits.0.1 fits.1 fits.2 fits.3 fits.4 fits.5 replies is
+    let told : text ≡ told_text (calls.Store cell offset size value) (reply_text Done) = is ∙ ap (λ (r : Reply). told_text (calls.Store cell offset size value) (reply_text r)) done in
+    reads cell.id offset size value fits.0.1 fits.1 fits.2 fits.3 told ∙ ap (λ (r : Reply). entry_with who (calls.Store cell offset size value) r) (sym done)
+reads_call who (calls.Atomic cell offset size op value expected) reply text result fits replies reads is =
+    reads cell.id offset size op value expected reply fits.0.1 fits.1 fits.2 fits.3 fits.4 fits.5 replies is
 reads_call who (calls.Update shard key value flags) reply text result fits replies reads is = reads key value flags reply fits.1 fits.2 fits.3 replies is
 reads_call who (calls.Delete shard key) reply text result fits replies reads is = reads key reply fits.1 replies is
 reads_call who (calls.Reclaim shard) reply text result fits replies reads is = reads reply replies is

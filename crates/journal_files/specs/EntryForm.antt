@@ -39,10 +39,10 @@ unfoldable pub CallFits : Call → Type 0
 CallFits (Enter shard) = IsShard shard
 CallFits (Leave shard) = IsShard shard
 CallFits (Lookup shard key) = IsShard shard × IsKey key
-CallFits (Load cell offset width) = IsCell cell × IsNumber offset × IsNumber width
-CallFits (Store cell offset width value) = IsCell cell × IsNumber offset × IsNumber width × IsNumber value
-CallFits (Atomic cell offset width op value expected) =
-    IsCell cell × IsNumber offset × IsNumber width × IsNumber op × IsNumber value × IsNumber expected
+CallFits (Load cell offset size) = IsCell cell × IsNumber offset × IsNumber size
+CallFits (Store cell offset size value) = IsCell cell × IsNumber offset × IsNumber size × IsNumber value
+CallFits (Atomic cell offset size op value expected) =
+    IsCell cell × IsNumber offset × IsNumber size × IsNumber op × IsNumber value × IsNumber expected
 CallFits (Update shard key value flags) = IsShard shard × IsKey key × IsValue value × IsNumber flags
 CallFits (Delete shard key) = IsShard shard × IsKey key
 CallFits (Reclaim shard) = IsShard shard
@@ -83,9 +83,9 @@ unfoldable pub RepliesTo : Call → Reply → Type 0
 RepliesTo (Enter shard) reply = IsEntered reply
 RepliesTo (Leave shard) reply = IsLeft reply
 RepliesTo (Lookup shard key) reply = IsFinding shard reply
-RepliesTo (Load cell offset width) reply = IsWord reply
-RepliesTo (Store cell offset width value) reply = IsDone reply
-RepliesTo (Atomic cell offset width op value expected) reply = IsWord reply
+RepliesTo (Load cell offset size) reply = IsWord reply
+RepliesTo (Store cell offset size value) reply = IsDone reply
+RepliesTo (Atomic cell offset size op value expected) reply = IsWord reply
 RepliesTo (Update shard key value flags) reply = IsAnswer reply
 RepliesTo (Delete shard key) reply = IsAnswer reply
 RepliesTo (Reclaim shard) reply = IsFreed reply
@@ -103,9 +103,9 @@ unfoldable pub HasSizesOf : MapDef → Call → Type 0
 HasSizesOf definition (Enter shard) = Unit {0}
 HasSizesOf definition (Leave shard) = Unit {0}
 HasSizesOf definition (Lookup shard key) = length key ≡ definition.key_size
-HasSizesOf definition (Load cell offset width) = Unit {0}
-HasSizesOf definition (Store cell offset width value) = Unit {0}
-HasSizesOf definition (Atomic cell offset width op value expected) = Unit {0}
+HasSizesOf definition (Load cell offset size) = Unit {0}
+HasSizesOf definition (Store cell offset size value) = Unit {0}
+HasSizesOf definition (Atomic cell offset size op value expected) = Unit {0}
 HasSizesOf definition (Update shard key value flags) = (length key ≡ definition.key_size) × (length value ≡ definition.value_size)
 HasSizesOf definition (Delete shard key) = length key ≡ definition.key_size
 HasSizesOf definition (Reclaim shard) = Unit {0}

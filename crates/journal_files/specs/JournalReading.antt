@@ -1,4 +1,4 @@
--- What is read of a file of journals: the journals, or the first line that is none.
+-- What is read of a file of journals: the journals, or the first line that cannot stand there.
 use Rattle.std.specs.Prelude.{◌≡◌, ◌≢◌, ℕ, ◌+◌, ◌<◌, ◌≤◌, ◌⊎◌, List, [], ◌∷◌, ◌++◌, length, Option, Some, None, get_or, ⊤}
 use Rattle.std.specs.List.{AllByRecursion}
 use Rattle.std.specs.Str.{IsUtf8}
@@ -84,7 +84,8 @@ pub record AreDivided (entries : List Entry) (done : List (List Entry)) (present
   pub next : AllByRecursion (IsOfShard (length done)) present
 
 -- so many entries' lines, and the rest, which begins with no entry's of their last shard or of a later one
-pub record AreRead (maps : List MapDef) (options : Options) (text : List ℕ) (done : List (List Entry)) (present : List Entry) (lines : ℕ) (rest : List ℕ) : Type 0 where
+pub record AreRead (maps : List MapDef) (options : Options) (text : List ℕ) (done : List (List Entry)) (present : List Entry) (lines : ℕ)
+    (rest : List ℕ) : Type 0 where
   pub entries : List Entry
   pub known : AllByRecursion (IsKnownEntry maps options) entries
   pub never_falls : NeverFalls 0 entries
@@ -106,7 +107,7 @@ pub record IsHeadedBy (maps : List MapDef) (text : List ℕ) (options : Options)
 abbrev pub BeginsWithNoHeader : List MapDef → List ℕ → Type 0
 BeginsWithNoHeader maps text = (options : Options) (line more : List ℕ) → IsHeaderLine maps options line → text ≢ line ++ 10 ∷ more
 
--- after a header and these entries comes a line that is none, or one of an earlier shard
+-- after a header and these entries comes a line that is not an entry, or one of an earlier shard
 pub record IsBadAfter (maps : List MapDef) (text : List ℕ) (line : ℕ) : Type 0 where
   pub options : Options
   pub entries : List Entry

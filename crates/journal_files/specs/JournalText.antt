@@ -40,9 +40,9 @@ abbrev pub verb_of_call : Call → Verb
 verb_of_call (calls.Enter shard) = Enter
 verb_of_call (calls.Leave shard) = Leave
 verb_of_call (calls.Lookup shard key) = Lookup
-verb_of_call (calls.Load cell offset width) = Load
-verb_of_call (calls.Store cell offset width value) = Store
-verb_of_call (calls.Atomic cell offset width op value expected) = Atomic
+verb_of_call (calls.Load cell offset size) = Load
+verb_of_call (calls.Store cell offset size value) = Store
+verb_of_call (calls.Atomic cell offset size op value expected) = Atomic
 verb_of_call (calls.Update shard key value flags) = Update
 verb_of_call (calls.Delete shard key) = Delete
 verb_of_call (calls.Reclaim shard) = Reclaim
@@ -63,11 +63,11 @@ unfoldable pub told_text : Call → List ℕ → List ℕ
 told_text (calls.Enter shard) reply = reply
 told_text (calls.Leave shard) reply = reply
 told_text (calls.Lookup shard key) reply = encode_lower key ++ 32 ∷ reply
-told_text (calls.Load cell offset width) reply = decimal cell.id ++ 32 ∷ (decimal offset ++ 32 ∷ (decimal width ++ 32 ∷ reply))
-told_text (calls.Store cell offset width value) reply =
-    decimal cell.id ++ 32 ∷ (decimal offset ++ 32 ∷ (decimal width ++ 32 ∷ (decimal value ++ 32 ∷ reply)))
-told_text (calls.Atomic cell offset width op value expected) reply =
-    decimal cell.id ++ 32 ∷ (decimal offset ++ 32 ∷ (decimal width ++ 32 ∷ (decimal op ++ 32 ∷ (decimal value ++ 32 ∷ (decimal expected ++ 32 ∷ reply)))))
+told_text (calls.Load cell offset size) reply = decimal cell.id ++ 32 ∷ (decimal offset ++ 32 ∷ (decimal size ++ 32 ∷ reply))
+told_text (calls.Store cell offset size value) reply =
+    decimal cell.id ++ 32 ∷ (decimal offset ++ 32 ∷ (decimal size ++ 32 ∷ (decimal value ++ 32 ∷ reply)))
+told_text (calls.Atomic cell offset size op value expected) reply =
+    decimal cell.id ++ 32 ∷ (decimal offset ++ 32 ∷ (decimal size ++ 32 ∷ (decimal op ++ 32 ∷ (decimal value ++ 32 ∷ (decimal expected ++ 32 ∷ reply)))))
 told_text (calls.Update shard key value flags) reply = encode_lower key ++ 32 ∷ (encode_lower value ++ 32 ∷ (decimal flags ++ 32 ∷ reply))
 told_text (calls.Delete shard key) reply = encode_lower key ++ 32 ∷ reply
 told_text (calls.Reclaim shard) reply = reply
@@ -77,7 +77,8 @@ told_text (calls.Reclaim shard) reply = reply
 -- the line of an entry, without its line feed
 unfoldable pub line_of : Entry → List ℕ
 line_of entry =
-    decimal (shard_of_call entry.call) ++ 32 ∷ (who_text entry.who ++ 32 ∷ (verb_text (verb_of_call entry.call) ++ 32 ∷ told_text entry.call (reply_text entry.reply)))
+    decimal (shard_of_call entry.call) ++ 32 ∷ (who_text entry.who ++ 32 ∷ (verb_text (verb_of_call entry.call) ++ 32 ∷
+    told_text entry.call (reply_text entry.reply)))
 
 -- the first line, without its line feed: the format's name and version, then the options
 unfoldable pub header_text : Options → List ℕ

@@ -3,4 +3,5 @@ pub mod JournalText
 pub mod EntryForm
 pub mod ToldReading
 pub mod JournalReading
+pub mod LegalJournals
 pub mod FaultNumber

@@ -24,14 +24,14 @@ Reads Leave who shard text result = result ≡ entry_with who (calls.Leave shard
 Reads Lookup who shard text result =
     (key : List ℕ) (reply : Reply) → IsKey key → IsFinding shard reply → IsReadAs text result who (calls.Lookup shard key) reply
 Reads Load who shard text result =
-    (id offset width : ℕ) (reply : Reply) → IsNumber id → IsNumber offset → IsNumber width → IsWord reply →
-    IsReadAs text result who (calls.Load (record { shard = shard; id = id }) offset width) reply
+    (id offset size : ℕ) (reply : Reply) → IsNumber id → IsNumber offset → IsNumber size → IsWord reply →
+    IsReadAs text result who (calls.Load (record { shard = shard; id = id }) offset size) reply
 Reads Store who shard text result =
-    (id offset width value : ℕ) → IsNumber id → IsNumber offset → IsNumber width → IsNumber value →
-    IsReadAs text result who (calls.Store (record { shard = shard; id = id }) offset width value) replies.Done
+    (id offset size value : ℕ) → IsNumber id → IsNumber offset → IsNumber size → IsNumber value →
+    IsReadAs text result who (calls.Store (record { shard = shard; id = id }) offset size value) replies.Done
 Reads Atomic who shard text result =
-    (id offset width op value expected : ℕ) (reply : Reply) → IsNumber id → IsNumber offset → IsNumber width → IsNumber op → IsNumber value →
-    IsNumber expected → IsWord reply → IsReadAs text result who (calls.Atomic (record { shard = shard; id = id }) offset width op value expected) reply
+    (id offset size op value expected : ℕ) (reply : Reply) → IsNumber id → IsNumber offset → IsNumber size → IsNumber op → IsNumber value →
+    IsNumber expected → IsWord reply → IsReadAs text result who (calls.Atomic (record { shard = shard; id = id }) offset size op value expected) reply
 Reads Update who shard text result =
     (key value : List ℕ) (flags : ℕ) (reply : Reply) → IsKey key → IsValue value → IsNumber flags → IsAnswer reply →
     IsReadAs text result who (calls.Update shard key value flags) reply

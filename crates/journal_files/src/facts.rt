@@ -2,6 +2,7 @@
 
 ghost use Rattle.std.specs.Prelude.{length};
 ghost use Rattle.journals.specs.JournalsView.{AreImageMaps, AreJournals};
+ghost use Rattle.journal_files.specs.LegalJournals.{ReadBackWhereLegal};
 ghost use Rattle.hex.specs.Hex.{IsBytes};
 
 use ebpf_decode::Image;
@@ -21,6 +22,13 @@ pub(crate) fn journals_are(journals: &Journals)
     let _ = journals.maps();
     let _ = journals.options();
     let _ = journals.count();
+}
+
+/// Where every journal is legal, the text of the journals is their file.
+pub(crate) fn legal_journals_read_back(journals: &Journals)
+    ensures { ReadBackWhereLegal journals.now }
+{
+    journals_are(journals);
 }
 
 /// Bytes are numbers below 256.

@@ -7,8 +7,9 @@ ghost use Rattle.journals.specs.JournalsView.{JournalsView as Lists};
 ghost use Rattle.journal_files.specs.declared.fault.FileFault.TheVariants.{Device, Memory};
 ghost use Rattle.journal_files.specs.JournalText.{journals_text};
 ghost use Rattle.journal_files.specs.JournalReading.{IsJournalsFile, ReadsBack, Refuses};
+ghost use Rattle.journal_files.specs.LegalJournals.{ReadBackWhereLegal};
 
-use crate::facts::{journals_are, maps_are_of_an_image};
+use crate::facts::{journals_are, legal_journals_read_back, maps_are_of_an_image};
 use crate::fault::FileFault;
 use crate::parsing::journals_of as parsed;
 use crate::printing::text_of_journals;
@@ -18,6 +19,8 @@ use std::alloc::Global;
 use wire::{ReadFault, Sink, Source, read_all, write_all};
 
 /// Writes the file of these journals: a header, and a line for each entry.
+///
+/// Where every journal is legal, as those of shards that ran are, what was written is a file that reads back as these journals.
 ///
 /// Refused with 52 where memory is; then nothing was written. Refused with 7 where the device failed, once: the call stops there, and a
 /// front of the file was taken.
@@ -34,8 +37,10 @@ pub fn write_journals<K: Sink>(
     ensures device { IsErrOf result Device ↔ (K.failure_count sink.new ≡ K.failure_count sink.old + 1) }
     ensures steady { IsErrOf result Device ⊎ (K.failure_count sink.new ≡ K.failure_count sink.old) }
     ensures reads_back { ReadsBack journals.now }
+    ensures legal { ReadBackWhereLegal journals.now }
 {
     journals_are(journals);
+    legal_journals_read_back(journals);
     let text = text_of_journals(alloc, journals)?;
     match write_all(sink, &text) {
         Ok(()) => Ok(()),

@@ -121,37 +121,33 @@ fn put_told(out: &mut Vec<u8>, call: &Call, reply: &Reply) -> Result<(), AllocEr
         Call::Enter { .. } => {}
         Call::Leave { .. } => {}
         Call::Lookup { key, .. } => put_key(out, key.as_slice())?,
-        Call::Load {
-            cell,
-            offset,
-            width,
-        } => {
+        Call::Load { cell, offset, size } => {
             put_field(out, cell.id)?;
             put_field(out, *offset)?;
-            put_field(out, *width)?;
+            put_field(out, *size)?;
         }
         Call::Store {
             cell,
             offset,
-            width,
+            size,
             value,
         } => {
             put_field(out, cell.id)?;
             put_field(out, *offset)?;
-            put_field(out, *width)?;
+            put_field(out, *size)?;
             put_field(out, *value)?;
         }
         Call::Atomic {
             cell,
             offset,
-            width,
+            size,
             op,
             value,
             expected,
         } => {
             put_field(out, cell.id)?;
             put_field(out, *offset)?;
-            put_field(out, *width)?;
+            put_field(out, *size)?;
             put_field(out, *op)?;
             put_field(out, *value)?;
             put_field(out, *expected)?;

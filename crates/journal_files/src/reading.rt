@@ -1,4 +1,4 @@
-//! Lines read leniently: what is no right spelling is read as anything. Who reads prints the result again and compares.
+//! Lines read leniently: what is misspelled is read as anything. The caller prints the result again and compares.
 
 ghost use Rattle.std.specs.Prelude.{◌≡◌, ◌++◌, ◌∷◌, [], ◌+◌, ◌<◌, ◌≤◌, ◌^◌, ℕ, ℤ, List, length, FitsSigned};
 ghost use Rattle.std.specs.Int.{w32};
@@ -195,13 +195,13 @@ fn load_of(who: Caller, shard: u32, text: &str) -> Entry
 {
     let (id, text) = field(text);
     let (offset, text) = field(text);
-    let (width, text) = field(text);
+    let (size, text) = field(text);
     Entry {
         who,
         call: Call::Load {
             cell: CellRef { shard, id },
             offset,
-            width,
+            size,
         },
         reply: word_of(text),
     }
@@ -215,14 +215,14 @@ fn store_of(who: Caller, shard: u32, text: &str) -> Entry
 {
     let (id, text) = field(text);
     let (offset, text) = field(text);
-    let (width, text) = field(text);
+    let (size, text) = field(text);
     let (value, _) = field(text);
     Entry {
         who,
         call: Call::Store {
             cell: CellRef { shard, id },
             offset,
-            width,
+            size,
             value,
         },
         reply: Reply::Done,
@@ -237,7 +237,7 @@ fn atomic_of(who: Caller, shard: u32, text: &str) -> Entry
 {
     let (id, text) = field(text);
     let (offset, text) = field(text);
-    let (width, text) = field(text);
+    let (size, text) = field(text);
     let (op, text) = field(text);
     let (value, text) = field(text);
     let (expected, text) = field(text);
@@ -246,7 +246,7 @@ fn atomic_of(who: Caller, shard: u32, text: &str) -> Entry
         call: Call::Atomic {
             cell: CellRef { shard, id },
             offset,
-            width,
+            size,
             op,
             value,
             expected,
@@ -320,7 +320,7 @@ fn told_of(verb: Verb, who: Caller, shard: u32, text: &str) -> Entry
     }
 }
 
-/// The entry of the line, if it is one's right spelling. It is one that fits in any case.
+/// The entry of the line, if it is spelled exactly so. It fits in any case.
 pub(crate) fn entry_read(line: &str) -> Entry
     ensures fits { EntryFits result }
     ensures found { (entry : Told) → EntryFits entry → line.now ≡ line_of entry → result ≡ entry }
@@ -331,7 +331,7 @@ pub(crate) fn entry_read(line: &str) -> Entry
     told_of(Verb::read(verb), who_of(who), count_of(shard), rest)
 }
 
-/// The options of the first line, if it is the right spelling of some.
+/// The options of the first line, if it is spelled exactly so.
 pub(crate) fn header_read(line: &str) -> Options
     ensures { (options : Opened) → options.workers < 2 ^ 32 → options.shards < 2 ^ 32 → options.journal < 2 ^ 32
         → line.now ≡ header_text options → result ≡ options }

@@ -19,9 +19,9 @@ call_kept : (bytes more : List ℕ) (row : CallRow) → IsWithin (length bytes) 
 call_kept bytes more (Enter shard) within = refl
 call_kept bytes more (Leave shard) within = refl
 call_kept bytes more (Lookup shard key_size at) within = ap (calls.Lookup shard) (part_kept at key_size bytes more within.1)
-call_kept bytes more (Load cell offset width) within = refl
-call_kept bytes more (Store cell offset width value) within = refl
-call_kept bytes more (Atomic cell offset width op value expected) within = refl
+call_kept bytes more (Load cell offset size) within = refl
+call_kept bytes more (Store cell offset size value) within = refl
+call_kept bytes more (Atomic cell offset size op value expected) within = refl
 call_kept bytes more (Update shard key_size value_size at flags) within =
     ap (λ k. calls.Update shard k (part (at + key_size) value_size (bytes ++ more)) flags) (part_kept at key_size bytes more (omega (arith, within.2)))
     ∙ ap (λ v. calls.Update shard (part at key_size bytes) v flags) (part_kept (at + key_size) value_size bytes more within.2)
@@ -50,9 +50,9 @@ call_last : (bytes : List ℕ) (call : Call) → call_of (bytes ++ bytes_of call
 call_last bytes (calls.Enter shard) = refl
 call_last bytes (calls.Leave shard) = refl
 call_last bytes (calls.Lookup shard key) = ap (calls.Lookup shard) (part_last bytes key)
-call_last bytes (calls.Load cell offset width) = refl
-call_last bytes (calls.Store cell offset width value) = refl
-call_last bytes (calls.Atomic cell offset width op value expected) = refl
+call_last bytes (calls.Load cell offset size) = refl
+call_last bytes (calls.Store cell offset size value) = refl
+call_last bytes (calls.Atomic cell offset size op value expected) = refl
 call_last bytes (calls.Update shard key value flags) =
     ap (λ k. calls.Update shard k (part (length bytes + length key) (length value) (bytes ++ (key ++ value))) flags) (key_last bytes key value)
     ∙ ap (λ v. calls.Update shard key v flags) (value_last bytes key value)

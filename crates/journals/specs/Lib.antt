@@ -2,3 +2,4 @@
 pub mod EntryRows
 pub mod KeptEntries
 pub mod JournalsView
+pub mod LegalJournals

@@ -23,18 +23,18 @@ pub enum CallRow {
     Load {
         cell: CellRef,
         offset: u64,
-        width: u64,
+        size: u64,
     },
     Store {
         cell: CellRef,
         offset: u64,
-        width: u64,
+        size: u64,
         value: u64,
     },
     Atomic {
         cell: CellRef,
         offset: u64,
-        width: u64,
+        size: u64,
         op: u64,
         value: u64,
         expected: u64,
@@ -67,12 +67,12 @@ impl CallRow {
             Call::Enter { shard } => CallRow::Enter { shard: *shard },
             Call::Leave { shard } => CallRow::Leave { shard: *shard },
             Call::Lookup { shard, key } => CallRow::Lookup { shard: *shard, key_size: key_size(key), at },
-            Call::Load { cell, offset, width } => CallRow::Load { cell: *cell, offset: *offset, width: *width },
-            Call::Store { cell, offset, width, value } => CallRow::Store {
-                cell: *cell, offset: *offset, width: *width, value: *value,
+            Call::Load { cell, offset, size } => CallRow::Load { cell: *cell, offset: *offset, size: *size },
+            Call::Store { cell, offset, size, value } => CallRow::Store {
+                cell: *cell, offset: *offset, size: *size, value: *value,
             },
-            Call::Atomic { cell, offset, width, op, value, expected } => CallRow::Atomic {
-                cell: *cell, offset: *offset, width: *width, op: *op, value: *value, expected: *expected,
+            Call::Atomic { cell, offset, size, op, value, expected } => CallRow::Atomic {
+                cell: *cell, offset: *offset, size: *size, op: *op, value: *value, expected: *expected,
             },
             Call::Update { shard, key, value, flags } => CallRow::Update {
                 shard: *shard, key_size: key_size(key), value_size: value_size(value), at, flags: *flags,
@@ -92,12 +92,12 @@ impl CallRow {
             CallRow::Enter { shard } => Call::Enter { shard: *shard },
             CallRow::Leave { shard } => Call::Leave { shard: *shard },
             CallRow::Lookup { shard, key_size, at } => Call::Lookup { shard: *shard, key: key_at(bytes, *at, *key_size) },
-            CallRow::Load { cell, offset, width } => Call::Load { cell: *cell, offset: *offset, width: *width },
-            CallRow::Store { cell, offset, width, value } => Call::Store {
-                cell: *cell, offset: *offset, width: *width, value: *value,
+            CallRow::Load { cell, offset, size } => Call::Load { cell: *cell, offset: *offset, size: *size },
+            CallRow::Store { cell, offset, size, value } => Call::Store {
+                cell: *cell, offset: *offset, size: *size, value: *value,
             },
-            CallRow::Atomic { cell, offset, width, op, value, expected } => Call::Atomic {
-                cell: *cell, offset: *offset, width: *width, op: *op, value: *value, expected: *expected,
+            CallRow::Atomic { cell, offset, size, op, value, expected } => Call::Atomic {
+                cell: *cell, offset: *offset, size: *size, op: *op, value: *value, expected: *expected,
             },
             CallRow::Update { shard, key_size, value_size, at, flags } => Call::Update {
                 shard: *shard, key: key_at(bytes, *at, *key_size), value: value_at(bytes, *at + u64::from(*key_size), *value_size), flags: *flags,

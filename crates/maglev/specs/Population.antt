@@ -1,6 +1,7 @@
 -- Maglev's population of a lookup table (Maglev, NSDI 2016, section 3.4): backends take turns, and each turn takes
 -- the first slot of its backend's preferences that no earlier turn took.
-use Rattle.std.specs.Prelude.{◌≡◌, ℕ, ◌+◌, ◌-◌, ◌*◌, ◌/◌, ◌%◌, ◌<◌, ◌⊎◌, ◌==◌, List, Some, length, take, slice_get, slice_index, slice_index_or, map, Contains, All, count_by}
+use Rattle.std.specs.Prelude.{◌≡◌, ℕ, ◌+◌, ◌-◌, ◌*◌, ◌/◌, ◌%◌, ◌<◌, ◌⊎◌, ◌==◌, List, Some, length, take, slice_get, slice_index}
+use Rattle.std.specs.Prelude.{slice_index_or, map, Contains, All, count_by}
 use Rattle.maglev.specs.declared.preference.Preference.{Preference}
 
 -- the slot that a backend prefers in this place, where place 0 is its first choice

@@ -1,5 +1,6 @@
 -- What a contract sees of a shard's cells: the bytes of each cell that is kept, by its id; and which cells wait for their readers.
-use Rattle.std.specs.Prelude.{◌≢◌, ℕ, ◌+◌, ◌-◌, ◌*◌, ◌<◌, ◌≤◌, Bool, not, nat_lt, List, [], ◌∷◌, ◌++◌, length, take, drop, filter, Option, Some, None, is_some, slice_index_or, slice_set}
+use Rattle.std.specs.Prelude.{◌≢◌, ℕ, ◌+◌, ◌-◌, ◌*◌, ◌<◌, ◌≤◌, Bool, not, nat_lt, List, [], ◌∷◌, ◌++◌, length, take, drop, filter}
+use Rattle.std.specs.Prelude.{Option, Some, None, is_some, slice_index_or, slice_set}
 use Rattle.isa.specs.declared.operation.AtomicOp.{AtomicOp}
 use Rattle.isa.specs.Atomic.{atomic_result}
 use Rattle.wire.specs.FrameView.{overwritten_at}
@@ -36,7 +37,7 @@ abbrev pub bytes_at : CellTable → ℕ → List ℕ
 bytes_at table id = bytes_of_cell (cell_at table id)
 
 abbrev pub number_at : CellTable → ℕ → ℕ → ℕ → ℕ
-number_at table id offset width = number_of_bytes (take width (drop offset (bytes_at table id)))
+number_at table id offset size = number_of_bytes (take size (drop offset (bytes_at table id)))
 
 -- ---- the table after each call
 
@@ -51,12 +52,12 @@ abbrev pub with_bytes : CellTable → ℕ → List ℕ → CellTable
 with_bytes table id bytes = record table { cells = slice_set table.cells id (Some bytes) }
 
 abbrev pub with_number : CellTable → ℕ → ℕ → ℕ → ℕ → CellTable
-with_number table id offset width value = with_bytes table id (overwritten_at offset (bytes_of_number width value) (bytes_at table id))
+with_number table id offset size value = with_bytes table id (overwritten_at offset (bytes_of_number size value) (bytes_at table id))
 
 -- the number that these bytes make is changed by an atomic operation
 abbrev pub with_change : CellTable → ℕ → ℕ → ℕ → AtomicOp → ℕ → ℕ → CellTable
-with_change table id offset width operation operand expected =
-    with_number table id offset width (atomic_result (8 * width) operation (number_at table id offset width) operand expected)
+with_change table id offset size operation operand expected =
+    with_number table id offset size (atomic_result (8 * size) operation (number_at table id offset size) operand expected)
 
 abbrev pub with_retired : CellTable → ℕ → ℕ → CellTable
 with_retired table id stamp = record table { retired = table.retired ++ (record { id = id; stamp = stamp }) ∷ [] }

@@ -47,7 +47,8 @@ pub record IsWaiting (place_of : List ℕ) (retired : List Retired) : Type 0 whe
   pub rising : (k m : ℕ) → k < m → m < length retired → (retired_at retired k).stamp ≤ (retired_at retired m).stamp
 
 -- the fields of a table, with the room that was made for them
-pub record IsTable (size places ids : ℕ) (bytes place_of free : List ℕ) (retired : List Retired) (ids_reserved places_reserved retired_reserved : ℕ) : Type 0 where
+pub record IsTable (size places ids : ℕ) (bytes place_of free : List ℕ) (retired : List Retired)
+    (ids_reserved places_reserved retired_reserved : ℕ) : Type 0 where
   pub small_size : size ≤ 256
   pub few : places < no_place
   pub bytes_room : length bytes ≡ places * size

@@ -4,7 +4,8 @@ ghost use Rattle.std.specs.Prelude.{◌≡◌, ◌≢◌, ◌<◌, ◌≤◌, �
 ghost use Rattle.std.specs.Prelude.{true, false, List, [], ◌∷◌, ◌++◌, length, filter, vec_len, vec_capacity, slice_index_or};
 ghost use Rattle.isa.specs.Atomic.{atomic_result};
 ghost use Rattle.map_cells.specs.Places.{place_at};
-ghost use Rattle.map_cells.specs.CellTable.{CellTable, empty_table, is_kept, bytes_at, number_at, with_new_cell, with_bytes, with_number, with_change, with_retired};
+ghost use Rattle.map_cells.specs.CellTable.{CellTable, empty_table, is_kept, bytes_at, number_at, with_new_cell, with_bytes, with_number};
+ghost use Rattle.map_cells.specs.CellTable.{with_change, with_retired};
 ghost use Rattle.map_cells.specs.CellTable.{is_below, freed_below, oldest_stamp, without_oldest, IsLowestStamp, IsNotRetired, IsLatestStamp};
 
 use crate::blocks::{block_at, write_at};
@@ -120,51 +121,51 @@ impl Cells {
         write_at(&mut self.bytes, self.size, place, 0, bytes);
     }
 
-    /// The number that `width` bytes of a kept cell make, the lowest byte first.
-    pub fn load(&self, id: u64, offset: usize, width: usize) -> u64
+    /// The number that `size` bytes of a kept cell make, the lowest byte first.
+    pub fn load(&self, id: u64, offset: usize, size: usize) -> u64
         requires kept { IsTrue (is_kept self.now id) }
-        requires within { offset + width ≤ self.now.value_size }
-        requires width { width ≤ 8 }
-        ensures number { result ≡ number_at self.now id offset width }
-        ensures below { result < 256 ^ width }
+        requires within { offset + size ≤ self.now.value_size }
+        requires size { size ≤ 8 }
+        ensures number { result ≡ number_at self.now id offset size }
+        ensures below { result < 256 ^ size }
     {
         let bytes = self.bytes(id);
-        number_of_bytes(&bytes[offset..offset + width])
+        number_of_bytes(&bytes[offset..offset + size])
     }
 
-    /// Writes a number into `width` bytes of a kept cell, the lowest byte first.
-    pub fn store(&mut self, id: u64, offset: usize, width: usize, value: u64)
+    /// Writes a number into `size` bytes of a kept cell, the lowest byte first.
+    pub fn store(&mut self, id: u64, offset: usize, size: usize, value: u64)
         requires kept { IsTrue (is_kept self.old id) }
-        requires within { offset + width ≤ self.old.value_size }
-        requires width { width ≤ 8 }
-        ensures { self.new ≡ with_number self.old id offset width value }
+        requires within { offset + size ≤ self.old.value_size }
+        requires size { size ≤ 8 }
+        ensures { self.new ≡ with_number self.old id offset size value }
     {
         let place = place_in(&self.place_of, id);
-        let number = bytes_of_number(width as u64, value);
+        let number = bytes_of_number(size as u64, value);
         write_at(&mut self.bytes, self.size, place, offset, number.as_slice());
     }
 
-    /// Changes a number in a kept cell by an atomic operation, and gives what it was. `width` is 4 or 8.
+    /// Changes a number in a kept cell by an atomic operation, and gives what it was. `size` is 4 or 8.
     pub fn atomic(
         &mut self,
         id: u64,
         offset: usize,
-        width: usize,
+        size: usize,
         operation: AtomicOp,
         operand: u64,
         expected: u64,
     ) -> u64
         requires kept { IsTrue (is_kept self.old id) }
-        requires within { offset + width ≤ self.old.value_size }
-        requires width { (width ≡ 4) ⊎ (width ≡ 8) }
-        requires operand { operand < 256 ^ width }
-        requires expected { expected < 256 ^ width }
-        ensures old { result ≡ number_at self.old id offset width }
-        ensures table { self.new ≡ with_change self.old id offset width operation operand expected }
+        requires within { offset + size ≤ self.old.value_size }
+        requires size { (size ≡ 4) ⊎ (size ≡ 8) }
+        requires operand { operand < 256 ^ size }
+        requires expected { expected < 256 ^ size }
+        ensures old { result ≡ number_at self.old id offset size }
+        ensures table { self.new ≡ with_change self.old id offset size operation operand expected }
     {
-        let old = self.load(id, offset, width);
-        let new = changed(width, operation, old, operand, expected);
-        self.store(id, offset, width, new);
+        let old = self.load(id, offset, size);
+        let new = changed(size, operation, old, operand, expected);
+        self.store(id, offset, size, new);
         old
     }
 
@@ -219,14 +220,14 @@ impl Cells {
 }
 
 /// What an atomic operation makes of a number of 4 or 8 bytes.
-fn changed(width: usize, operation: AtomicOp, old: u64, operand: u64, expected: u64) -> u64
-    requires width { (width ≡ 4) ⊎ (width ≡ 8) }
-    requires old { old < 256 ^ width }
-    requires operand { operand < 256 ^ width }
-    requires expected { expected < 256 ^ width }
-    ensures { result ≡ atomic_result (8 * width) operation old operand expected }
+fn changed(size: usize, operation: AtomicOp, old: u64, operand: u64, expected: u64) -> u64
+    requires size { (size ≡ 4) ⊎ (size ≡ 8) }
+    requires old { old < 256 ^ size }
+    requires operand { operand < 256 ^ size }
+    requires expected { expected < 256 ^ size }
+    ensures { result ≡ atomic_result (8 * size) operation old operand expected }
 {
-    if width == 4 {
+    if size == 4 {
         atomic(operation, Width::Bits32, old, operand, expected)
     } else {
         atomic(operation, Width::Bits64, old, operand, expected)

@@ -9,7 +9,7 @@ use Rattle.semantics.specs.declared.call.Call.TheVariants.{Lookup, Atomic, Updat
 use Rattle.semantics.specs.declared.call.Reply.{Reply}
 use Rattle.semantics.specs.declared.call.Reply.TheVariants.{Cell, Null}
 use Rattle.semantics.specs.Program.{Program, shard_of_key}
-use Rattle.semantics.specs.History.{is_atomic_width, is_expected}
+use Rattle.semantics.specs.History.{is_atomic_size, is_expected}
 use Rattle.semantics.specs.ServedCalls.{Held}
 use Rattle.semantics.specs.ServedCalls.{IsServedLoad}
 
@@ -43,7 +43,7 @@ abbrev pub delete_call : Maps → ℕ → List ℕ → Call
 delete_call served map key = Delete (shard_of served map key) key
 
 abbrev pub atomic_call : CellRef → ℕ → ℕ → AtomicOp → ℕ → ℕ → Call
-atomic_call cell offset width op value expected = Atomic cell offset width (atomic_code op) value expected
+atomic_call cell offset size op value expected = Atomic cell offset size (atomic_code op) value expected
 
 -- a key of a map that there is
 pub record IsKeyOf (served : Maps) (map : ℕ) (key : List ℕ) : Type 0 where
@@ -63,20 +63,20 @@ pub record IsPairOf (served : Maps) (map : ℕ) (key value : List ℕ) : Type 0 
 
 -- some bytes of a cell that was handed out, inside its value
 abbrev pub IsReadable : Maps → Held → CellRef → ℕ → ℕ → Type 0
-IsReadable served held cell offset width = IsServedLoad (program_over served) held cell offset width
+IsReadable served held cell offset size = IsServedLoad (program_over served) held cell offset size
 
 -- a number that is stored there
-pub record IsStorable (served : Maps) (held : Held) (cell : CellRef) (offset width value : ℕ) : Type 0 where
-  pub place : IsReadable served held cell offset width
-  pub fits : value < 256 ^ width
+pub record IsStorable (served : Maps) (held : Held) (cell : CellRef) (offset size value : ℕ) : Type 0 where
+  pub place : IsReadable served held cell offset size
+  pub fits : value < 256 ^ size
 
--- an atomic operation there, at a multiple of its width; only compare-and-exchange has a number to compare with
-pub record IsAtomic (served : Maps) (held : Held) (cell : CellRef) (offset width : ℕ) (op : AtomicOp) (value expected : ℕ) : Type 0 where
-  pub place : IsReadable served held cell offset width
-  pub atomic_width : IsTrue (is_atomic_width width)
-  pub aligned : offset % width ≡ 0
-  pub fits : value < 256 ^ width
-  pub expected_fits : expected < 256 ^ width
+-- an atomic operation there, at a multiple of its size; only compare-and-exchange has a number to compare with
+pub record IsAtomic (served : Maps) (held : Held) (cell : CellRef) (offset size : ℕ) (op : AtomicOp) (value expected : ℕ) : Type 0 where
+  pub place : IsReadable served held cell offset size
+  pub atomic_size : IsTrue (is_atomic_size size)
+  pub aligned : offset % size ≡ 0
+  pub fits : value < 256 ^ size
+  pub expected_fits : expected < 256 ^ size
   pub expected_if : IsTrue (is_expected (atomic_code op) expected)
 
 -- ---- handles: the numbers by which a port names the cells that it handed out

@@ -9,7 +9,8 @@ ghost use Rattle.semantics.specs.declared.call.Reply.TheVariants.{Word, Done, An
 ghost use Rattle.semantics.specs.History.{shard_of_call};
 ghost use Rattle.semantics.specs.RunTrace.{IsReplyTo};
 ghost use Rattle.semantics.specs.ServedCalls.{IsHandedOut};
-ghost use Rattle.map_port.specs.Served.{Maps, program_over, lookup_call, update_call, delete_call, atomic_call, IsKeyOf, IsPairOf, IsReadable, IsStorable, IsAtomic, handle_limit, found_reply, Keeps};
+ghost use Rattle.map_port.specs.Served.{Maps, program_over, lookup_call, update_call, delete_call, atomic_call, IsKeyOf, IsPairOf};
+ghost use Rattle.map_port.specs.Served.{IsReadable, IsStorable, IsAtomic, handle_limit, found_reply, Keeps};
 
 use isa::AtomicOp;
 use semantics::{JournalFull, Key, Value};
@@ -44,17 +45,17 @@ pub trait MapPort {
         ensures names_the_shard { IfErr result (λ fault. fault.shard ≡ shard_of_call (lookup_call (serves self.old) map key.now)) };
 
     /// Reads a number of so many bytes from a cell that this port handed out. Refused as `lookup` is.
-    fn load(&mut self, handle: u64, offset: u64, width: u64) -> Result<u64, JournalFull>
-        requires { IsReadable (serves self.old) (has_handed_out self.old) (cell_of self.old handle) offset width }
-        ensures gives { IfOk result (λ number. gives self.old (Load (cell_of self.old handle) offset width) (Word number) self.new) }
-        ensures refuses { OnErr result (refuses self.old (Load (cell_of self.old handle) offset width) self.new) }
+    fn load(&mut self, handle: u64, offset: u64, size: u64) -> Result<u64, JournalFull>
+        requires { IsReadable (serves self.old) (has_handed_out self.old) (cell_of self.old handle) offset size }
+        ensures gives { IfOk result (λ number. gives self.old (Load (cell_of self.old handle) offset size) (Word number) self.new) }
+        ensures refuses { OnErr result (refuses self.old (Load (cell_of self.old handle) offset size) self.new) }
         ensures names_the_shard { IfErr result (λ fault. fault.shard ≡ (cell_of self.old handle).shard) };
 
     /// Writes a number of so many bytes into a cell that this port handed out. Refused as `lookup` is.
-    fn store(&mut self, handle: u64, offset: u64, width: u64, value: u64) -> Result<(), JournalFull>
-        requires { IsStorable (serves self.old) (has_handed_out self.old) (cell_of self.old handle) offset width value }
-        ensures gives { OnOk result (gives self.old (Store (cell_of self.old handle) offset width value) Done self.new) }
-        ensures refuses { OnErr result (refuses self.old (Store (cell_of self.old handle) offset width value) self.new) }
+    fn store(&mut self, handle: u64, offset: u64, size: u64, value: u64) -> Result<(), JournalFull>
+        requires { IsStorable (serves self.old) (has_handed_out self.old) (cell_of self.old handle) offset size value }
+        ensures gives { OnOk result (gives self.old (Store (cell_of self.old handle) offset size value) Done self.new) }
+        ensures refuses { OnErr result (refuses self.old (Store (cell_of self.old handle) offset size value) self.new) }
         ensures names_the_shard { IfErr result (λ fault. fault.shard ≡ (cell_of self.old handle).shard) };
 
     /// Asks for an atomic operation on a number in a cell that this port handed out, and gives the number before. Refused as
@@ -63,14 +64,14 @@ pub trait MapPort {
         &mut self,
         handle: u64,
         offset: u64,
-        width: u64,
+        size: u64,
         op: AtomicOp,
         value: u64,
         expected: u64,
     ) -> Result<u64, JournalFull>
-        requires { IsAtomic (serves self.old) (has_handed_out self.old) (cell_of self.old handle) offset width op value expected }
-        ensures gives { IfOk result (λ number. gives self.old (atomic_call (cell_of self.old handle) offset width op value expected) (Word number) self.new) }
-        ensures refuses { OnErr result (refuses self.old (atomic_call (cell_of self.old handle) offset width op value expected) self.new) }
+        requires { IsAtomic (serves self.old) (has_handed_out self.old) (cell_of self.old handle) offset size op value expected }
+        ensures gives { IfOk result (λ number. gives self.old (atomic_call (cell_of self.old handle) offset size op value expected) (Word number) self.new) }
+        ensures refuses { OnErr result (refuses self.old (atomic_call (cell_of self.old handle) offset size op value expected) self.new) }
         ensures names_the_shard { IfErr result (λ fault. fault.shard ≡ (cell_of self.old handle).shard) };
 
     /// Asks for the value of a key to be set, and gives the answer. Refused as `lookup` is.
@@ -98,6 +99,7 @@ pub trait MapPort {
     ghost hands_out: { (before after : Self) (call : Call) (reply : Reply) → gives before call reply after
         → IsHandedOut (program_over (serves before)) (has_handed_out after) call reply };
 
-    /// Each reply has its call's form and width.
-    ghost replies: { (before after : Self) (call : Call) (reply : Reply) → gives before call reply after → IsReplyTo (program_over (serves before)) call reply };
+    /// Each reply has its call's form and size.
+    ghost replies: { (before after : Self) (call : Call) (reply : Reply) → gives before call reply after →
+        IsReplyTo (program_over (serves before)) call reply };
 }

@@ -7,7 +7,7 @@ use Rattle.one_thread_map.specs.declared.state.ShardState.{ShardState}
 use Rattle.semantics.specs.declared.plan.ShardPlan.{ShardPlan}
 use Rattle.semantics.specs.PlanLimits.{IsPlan}
 use Rattle.semantics.specs.SequentialShard.{SequentialShard, shard_after}
-use Rattle.semantics.specs.History.{is_atomic_width, IsLegalHistory}
+use Rattle.semantics.specs.History.{is_atomic_size, IsLegalHistory}
 
 -- what it was opened with, and its history, the newest entry first
 pub record OneThread : Type 0 where
@@ -28,16 +28,16 @@ pub record IsOneThread (plan : ShardPlan) (journal : List Entry) (state : Sequen
   pub led : state ≡ shard_after plan (reverse journal)
   pub legal : IsLegalHistory plan (reverse journal)
 
--- the sizes in a call that a shard serves: a key of the map's length, a width of at most 8, bytes within 256, numbers within the
--- width
+-- the sizes in a call that a shard serves: a key of the map's length, a size of at most 8, bytes within 256, numbers within the
+-- size
 abbrev pub IsSized : ShardPlan → Call → Type 0
 IsSized plan (Enter shard) = Unit {0}
 IsSized plan (Leave shard) = Unit {0}
 IsSized plan (Lookup shard key) = length key ≡ plan.definition.key_size
-IsSized plan (Load cell offset width) = width ≤ 8
-IsSized plan (Store cell offset width value) = (width ≤ 8) × (offset + width ≤ 256)
-IsSized plan (Atomic cell offset width op value expected) =
-    IsTrue (is_atomic_width width) × (offset + width ≤ 256) × (value < 256 ^ width) × (expected < 256 ^ width)
+IsSized plan (Load cell offset size) = size ≤ 8
+IsSized plan (Store cell offset size value) = (size ≤ 8) × (offset + size ≤ 256)
+IsSized plan (Atomic cell offset size op value expected) =
+    IsTrue (is_atomic_size size) × (offset + size ≤ 256) × (value < 256 ^ size) × (expected < 256 ^ size)
 IsSized plan (Update shard key value flags) = length key ≡ plan.definition.key_size
 IsSized plan (Delete shard key) = length key ≡ plan.definition.key_size
 IsSized plan (Reclaim shard) = Unit {0}

@@ -7,21 +7,21 @@ use Rattle.semantics.specs.declared.call.Call.{Call}
 use Rattle.semantics.specs.declared.call.Call.TheVariants.{Load, Store, Atomic}
 use Rattle.semantics.specs.declared.call.Entry.{Entry}
 use Rattle.semantics.specs.declared.plan.ShardPlan.{ShardPlan}
-use Rattle.semantics.specs.History.{is_inside_worker, is_holder, is_atomic_width, is_in_cell, is_aligned, fits_width, is_expected}
+use Rattle.semantics.specs.History.{is_inside_worker, is_holder, is_atomic_size, is_in_cell, is_aligned, fits_size, is_expected}
 use Rattle.one_thread_map.specs.declared.conditions.Standing.{Standing}
 
 -- the cell whose bytes the call reads or writes
 abbrev pub cell_of_call : Call → Option CellRef
-cell_of_call (Load cell offset width) = Some cell
-cell_of_call (Store cell offset width value) = Some cell
-cell_of_call (Atomic cell offset width op value expected) = Some cell
+cell_of_call (Load cell offset size) = Some cell
+cell_of_call (Store cell offset size value) = Some cell
+cell_of_call (Atomic cell offset size op value expected) = Some cell
 cell_of_call call = None
 
--- an atomic operation of this width may be made at this offset with these numbers
+-- an atomic operation of this size may be made at this offset with these numbers
 abbrev pub is_atomic : ShardPlan → ℕ → ℕ → ℕ → ℕ → ℕ → Bool
-is_atomic plan offset width op value expected =
-    is_atomic_width width && (is_in_cell plan offset width && is_aligned offset width) && is_some (atomic_op_of op) && fits_width value width &&
-    fits_width expected width && is_expected op expected
+is_atomic plan offset size op value expected =
+    is_atomic_size size && (is_in_cell plan offset size && is_aligned offset size) && is_some (atomic_op_of op) && fits_size value size &&
+    fits_size expected size && is_expected op expected
 
 abbrev pub is_holder_of : ShardPlan → List Entry → Caller → Option CellRef → Bool
 is_holder_of plan history who (Some cell) = is_holder plan history who cell.id

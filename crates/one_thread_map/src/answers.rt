@@ -5,8 +5,11 @@ ghost use Rattle.ebpf_decode.specs.declared.map.MapKind.TheVariants.{Hash};
 ghost use Rattle.semantics.specs.Linux.{errno_code, success, update_flags_of};
 ghost use Rattle.semantics.specs.PlanLimits.{IsWithinLimits, IsIndexSize};
 ghost use Rattle.one_thread_map.specs.OneThread.{state_of, IsSized};
-ghost use Rattle.semantics.specs.History.{is_atomic_width};
-ghost use Rattle.semantics.specs.SequentialShard.{cell_of_key, number_in_cell, changed_by, has_free_cell, is_full_of_keys, present_key_answer, array_update_answer, new_key_answer, absent_key_answer, keyed_update_answer, update_answer_of_kind, update_answer_by, update_answer, delete_answer_of_kind, delete_answer, lookup_reply, reply_of};
+ghost use Rattle.semantics.specs.History.{is_atomic_size};
+ghost use Rattle.semantics.specs.SequentialShard.{cell_of_key, number_in_cell, changed_by, has_free_cell, is_full_of_keys};
+ghost use Rattle.semantics.specs.SequentialShard.{present_key_answer, array_update_answer, new_key_answer, absent_key_answer};
+ghost use Rattle.semantics.specs.SequentialShard.{keyed_update_answer, update_answer_of_kind, update_answer_by, update_answer};
+ghost use Rattle.semantics.specs.SequentialShard.{delete_answer_of_kind, delete_answer, lookup_reply, reply_of};
 
 use crate::state::{
     ShardState, capacity, cell_bytes, cell_of_index, cell_of_present, reclaimable_count,
@@ -30,25 +33,25 @@ pub fn cell_of_key(plan: &ShardPlan, state: &ShardState, key: &Key) -> Option<u6
 }
 
 /// The number that some bytes of a cell make.
-pub fn number_in_cell(state: &ShardState, cell: u64, offset: u64, width: u64) -> u64
-    requires { width ≤ 8 }
-    ensures number { result ≡ number_in_cell (state_of state.now) cell offset width }
-    ensures below { result < 256 ^ width }
+pub fn number_in_cell(state: &ShardState, cell: u64, offset: u64, size: u64) -> u64
+    requires { size ≤ 8 }
+    ensures number { result ≡ number_in_cell (state_of state.now) cell offset size }
+    ensures below { result < 256 ^ size }
 {
     let bytes = cell_bytes(&state.cells, cell);
-    number_of_bytes(part_at(bytes.as_slice(), offset as usize, width as usize))
+    number_of_bytes(part_at(bytes.as_slice(), offset as usize, size as usize))
 }
 
 /// What an atomic operation makes of a number; without an operation it stays.
-pub fn changed_by(op: Option<AtomicOp>, width: u64, old: u64, value: u64, expected: u64) -> u64
-    requires width { IsTrue (is_atomic_width width) }
-    requires old { old < 256 ^ width }
-    requires value { value < 256 ^ width }
-    requires expected { expected < 256 ^ width }
-    ensures { result ≡ changed_by op width old value expected }
+pub fn changed_by(op: Option<AtomicOp>, size: u64, old: u64, value: u64, expected: u64) -> u64
+    requires size { IsTrue (is_atomic_size size) }
+    requires old { old < 256 ^ size }
+    requires value { value < 256 ^ size }
+    requires expected { expected < 256 ^ size }
+    ensures { result ≡ changed_by op size old value expected }
 {
     match op {
-        Some(op) => if width == 4 {
+        Some(op) => if size == 4 {
             atomic(op, Width::Bits32, old, value, expected)
         } else {
             atomic(op, Width::Bits64, old, value, expected)
@@ -220,21 +223,17 @@ pub fn reply_of(plan: &ShardPlan, journal: &[Entry], state: &ShardState, call: &
         Call::Enter { .. } => Reply::Entered,
         Call::Leave { .. } => Reply::Left,
         Call::Lookup { key, .. } => lookup_reply(plan, cell_of_key(plan, state, key)),
-        Call::Load {
-            cell,
-            offset,
-            width,
-        } => Reply::Word {
-            value: number_in_cell(state, cell.id, *offset, *width),
+        Call::Load { cell, offset, size } => Reply::Word {
+            value: number_in_cell(state, cell.id, *offset, *size),
         },
         Call::Store { .. } => Reply::Done,
         Call::Atomic {
             cell,
             offset,
-            width,
+            size,
             ..
         } => Reply::Word {
-            value: number_in_cell(state, cell.id, *offset, *width),
+            value: number_in_cell(state, cell.id, *offset, *size),
         },
         Call::Update { key, flags, .. } => Reply::Answer {
             code: update_answer(plan, state, key, *flags),

@@ -4,8 +4,10 @@ ghost use Rattle.std.specs.Prelude.{◌≡◌, ◌<◌, ◌≤◌, ◌+◌, ◌^
 ghost use Rattle.semantics.specs.PlanLimits.{IsWithinLimits, IsIndexSize};
 ghost use Rattle.semantics.specs.declared.call.Call.TheVariants.{Update, Delete};
 ghost use Rattle.one_thread_map.specs.OneThread.{state_of, IsSized};
-ghost use Rattle.semantics.specs.History.{is_atomic_width};
-ghost use Rattle.semantics.specs.SequentialShard.{with_cell, with_number_in_cell, number_in_cell, changed_by, without_key, without_found, after_eviction, with_new_key, cell_of_key, with_value, updated_where, update_answer, delete_answer, present_key, shard_after_call};
+ghost use Rattle.semantics.specs.History.{is_atomic_size};
+ghost use Rattle.semantics.specs.SequentialShard.{with_cell, with_number_in_cell, number_in_cell, changed_by, without_key, without_found};
+ghost use Rattle.semantics.specs.SequentialShard.{after_eviction, with_new_key, cell_of_key, with_value, updated_where, update_answer};
+ghost use Rattle.semantics.specs.SequentialShard.{delete_answer, present_key, shard_after_call};
 
 use crate::answers::{
     cell_of_key, changed_by, delete_answer, is_full_of_keys, number_in_cell, update_answer,
@@ -20,12 +22,12 @@ use semantics::{Call, Entry, Key, PresentKey, RetiredCell, ShardPlan, Value};
 use std::alloc::AllocError;
 
 /// Writes a number into a cell.
-fn write_number(state: &mut ShardState, cell: u64, offset: u64, width: u64, value: u64)
-    requires width { width ≤ 8 }
-    requires inside { offset + width ≤ 256 }
-    ensures { state_of state.new ≡ with_number_in_cell (state_of state.old) cell offset width value }
+fn write_number(state: &mut ShardState, cell: u64, offset: u64, size: u64, value: u64)
+    requires size { size ≤ 8 }
+    requires inside { offset + size ≤ 256 }
+    ensures { state_of state.new ≡ with_number_in_cell (state_of state.old) cell offset size value }
 {
-    let number = bytes_of_number(width, value);
+    let number = bytes_of_number(size, value);
     let bytes = cell_bytes(&state.cells, cell).overwritten(offset as usize, number.as_slice());
     set_cell(&mut state.cells, cell, bytes);
 }
@@ -194,23 +196,23 @@ pub fn apply(
         Call::Store {
             cell,
             offset,
-            width,
+            size,
             value,
         } => {
-            write_number(state, cell.id, *offset, *width, *value);
+            write_number(state, cell.id, *offset, *size, *value);
             Ok(())
         }
         Call::Atomic {
             cell,
             offset,
-            width,
+            size,
             op,
             value,
             expected,
         } => {
-            let old = number_in_cell(state, cell.id, *offset, *width);
-            let new = changed_by(AtomicOp::of(*op), *width, old, *value, *expected);
-            write_number(state, cell.id, *offset, *width, new);
+            let old = number_in_cell(state, cell.id, *offset, *size);
+            let new = changed_by(AtomicOp::of(*op), *size, old, *value, *expected);
+            write_number(state, cell.id, *offset, *size, new);
             Ok(())
         }
         Call::Update {

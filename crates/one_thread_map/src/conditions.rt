@@ -7,7 +7,10 @@ ghost use Rattle.one_thread_map.specs.Standings.{cell_of_call, is_atomic, IsStan
 ghost use Rattle.semantics.specs.PlanLimits.{IsWithinLimits, IsIndexSize};
 ghost use Rattle.semantics.specs.Reclamation.{inside_count};
 ghost use Rattle.semantics.specs.Program.{shard_number_of_key, part_of_key, shard_of_key};
-ghost use Rattle.semantics.specs.History.{is_outside_worker, is_inside_worker, is_holder, may_change_keys, is_reclaimer, are_bytes, is_own_key, is_value, are_flags, is_load_width, is_atomic_width, is_in_cell, is_aligned, fits_width, is_expected, meets_part, meets, room_for_leave, room_needed, lacks_room, journal_is_full};
+ghost use Rattle.semantics.specs.History.{is_outside_worker, is_inside_worker, is_holder, may_change_keys, is_reclaimer, are_bytes};
+ghost use Rattle.semantics.specs.History.{is_own_key, is_value, are_flags, is_load_size, is_atomic_size, is_in_cell, is_aligned};
+ghost use Rattle.semantics.specs.History.{fits_size, is_expected, meets_part, meets, room_for_leave, room_needed, lacks_room};
+ghost use Rattle.semantics.specs.History.{journal_is_full};
 
 use crate::history::{holds, inside_count, is_inside};
 use ebpf_decode::MapKind;
@@ -172,41 +175,41 @@ fn are_bytes(bytes: &[u8]) -> bool
     true
 }
 
-/// Whether a Load or a Store may have this width.
-fn is_load_width(width: u64) -> bool
-    ensures { result ≡ is_load_width width }
+/// Whether a Load or a Store may have this size.
+fn is_load_size(size: u64) -> bool
+    ensures { result ≡ is_load_size size }
 {
-    width == 1 || width == 2 || width == 4 || width == 8
+    size == 1 || size == 2 || size == 4 || size == 8
 }
 
-/// Whether an atomic operation may have this width.
-fn is_atomic_width(width: u64) -> bool
-    ensures { result ≡ is_atomic_width width }
+/// Whether an atomic operation may have this size.
+fn is_atomic_size(size: u64) -> bool
+    ensures { result ≡ is_atomic_size size }
 {
-    width == 4 || width == 8
+    size == 4 || size == 8
 }
 
 /// Whether the bytes lie inside the value.
-fn is_in_cell(plan: &ShardPlan, offset: u64, width: u64) -> bool
-    ensures { result ≡ is_in_cell plan.now offset width }
+fn is_in_cell(plan: &ShardPlan, offset: u64, size: u64) -> bool
+    ensures { result ≡ is_in_cell plan.now offset size }
 {
-    u128::from(offset) + u128::from(width) <= u128::from(plan.definition.value_size)
+    u128::from(offset) + u128::from(size) <= u128::from(plan.definition.value_size)
 }
 
-/// Whether the offset is a multiple of the width.
-fn is_aligned(offset: u64, width: u64) -> bool
-    requires { 0 < width }
-    ensures { result ≡ is_aligned offset width }
+/// Whether the offset is a multiple of the size.
+fn is_aligned(offset: u64, size: u64) -> bool
+    requires { 0 < size }
+    ensures { result ≡ is_aligned offset size }
 {
-    offset % width == 0
+    offset % size == 0
 }
 
 /// Whether so many bytes hold the number.
-fn fits_width(value: u64, width: u64) -> bool
-    requires { IsTrue (is_load_width width) }
-    ensures { result ≡ fits_width value width }
+fn fits_size(value: u64, size: u64) -> bool
+    requires { IsTrue (is_load_size size) }
+    ensures { result ≡ fits_size value size }
 {
-    match width {
+    match size {
         1 => value < 0x100,
         2 => value < 0x1_0000,
         4 => value < 0x1_0000_0000,
@@ -221,22 +224,22 @@ fn is_expected(op: u64, expected: u64) -> bool
     expected == 0 || op == u64::from(AtomicOp::CompareExchange.code())
 }
 
-/// Whether a Load of this width may be made at this offset.
-fn is_load(plan: &ShardPlan, offset: u64, width: u64) -> bool
-    ensures { result ≡ (is_load_width width && is_in_cell plan.now offset width) }
+/// Whether a Load of this size may be made at this offset.
+fn is_load(plan: &ShardPlan, offset: u64, size: u64) -> bool
+    ensures { result ≡ (is_load_size size && is_in_cell plan.now offset size) }
 {
-    is_load_width(width) && is_in_cell(plan, offset, width)
+    is_load_size(size) && is_in_cell(plan, offset, size)
 }
 
-/// Whether an atomic operation of this width may be made at this offset with these numbers.
-fn is_atomic(plan: &ShardPlan, offset: u64, width: u64, op: u64, value: u64, expected: u64) -> bool
-    ensures { result ≡ is_atomic plan.now offset width op value expected }
+/// Whether an atomic operation of this size may be made at this offset with these numbers.
+fn is_atomic(plan: &ShardPlan, offset: u64, size: u64, op: u64, value: u64, expected: u64) -> bool
+    ensures { result ≡ is_atomic plan.now offset size op value expected }
 {
-    is_atomic_width(width)
-        && (is_in_cell(plan, offset, width) && is_aligned(offset, width))
+    is_atomic_size(size)
+        && (is_in_cell(plan, offset, size) && is_aligned(offset, size))
         && AtomicOp::of(op).is_some()
-        && fits_width(value, width)
-        && fits_width(expected, width)
+        && fits_size(value, size)
+        && fits_size(expected, size)
         && is_expected(op, expected)
 }
 
@@ -253,21 +256,21 @@ fn meets_part(plan: &ShardPlan, standing: Standing, who: &Caller, call: &Call) -
         Call::Enter { .. } => is_outside_worker(plan, who, is_inside),
         Call::Leave { .. } => is_inside,
         Call::Lookup { key, .. } => is_inside && is_own_key(plan, key),
-        Call::Load { offset, width, .. } => is_holder && is_load(plan, *offset, *width),
+        Call::Load { offset, size, .. } => is_holder && is_load(plan, *offset, *size),
         Call::Store {
             offset,
-            width,
+            size,
             value,
             ..
-        } => is_holder && is_load(plan, *offset, *width) && fits_width(*value, *width),
+        } => is_holder && is_load(plan, *offset, *size) && fits_size(*value, *size),
         Call::Atomic {
             offset,
-            width,
+            size,
             op,
             value,
             expected,
             ..
-        } => is_holder && is_atomic(plan, *offset, *width, *op, *value, *expected),
+        } => is_holder && is_atomic(plan, *offset, *size, *op, *value, *expected),
         Call::Update {
             key,
             value,

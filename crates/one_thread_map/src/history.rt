@@ -2,9 +2,11 @@
 //!
 //! A journal has its oldest entry first; the definitions speak of the history, which has its newest entry first.
 
-ghost use Rattle.std.specs.Prelude.{◌≡◌, ◌==◌, ◌+◌, ◌<◌, ◌^◌, ℕ, Bool, Option, List, reverse, length, unwrap_or, count_by, bytes_eq, vec_len, vec_capacity, ◌++◌, ◌∷◌, []};
+ghost use Rattle.std.specs.Prelude.{◌≡◌, ◌==◌, ◌+◌, ◌<◌, ◌^◌, ℕ, Bool, Option, List, reverse, length, unwrap_or, count_by, bytes_eq};
+ghost use Rattle.std.specs.Prelude.{vec_len, vec_capacity, ◌++◌, ◌∷◌, []};
 ghost use Rattle.std.specs.List.{list_all};
-ghost use Rattle.semantics.specs.Reclamation.{is_worker, entered_where, entered_by, entered_at, is_inside, found_cell, held_by, holds, worker_numbers, inside_count, began_after, is_reclaimable};
+ghost use Rattle.semantics.specs.Reclamation.{is_worker, entered_where, entered_by, entered_at, is_inside, found_cell, held_by, holds};
+ghost use Rattle.semantics.specs.Reclamation.{worker_numbers, inside_count, began_after, is_reclaimable};
 ghost use Rattle.semantics.specs.LeastRecentlyUsed.{is_found, is_done, call_uses, uses, last_use};
 
 use semantics::{Call, Caller, Entry, Key, Reply, RetiredCell, SectionChange};

@@ -1,4 +1,4 @@
-//! A map's shard on one thread: the definitions of a map, run. Slow and plain, so that a faster shard can be held against it.
+//! A map's shard on one thread: the definitions of a map, run. Slow and plain, so that a faster shard can be compared with it.
 //! Its small functions are public, for a shard that keeps its state in another form.
 #![tactic(auto)]
 

@@ -1,4 +1,4 @@
-//! A map's shard on one thread: slow and plain, so that whatever a faster shard does can be held against it.
+//! A map's shard on one thread: slow and plain, so that whatever a faster shard does can be compared with it.
 
 ghost use Rattle.std.specs.Prelude.{◌≡◌, ◌<◌, [], ◌∷◌, List, IsFalse, IfOk, OnErr, reverse, vec_len, vec_capacity, ◌++◌};
 ghost use Rattle.semantics.specs.PlanLimits.{IsWithinLimits, IsPlan};

@@ -1,6 +1,8 @@
 //! The state of a map's shard on one thread: its present keys, its cells, and its retired cells. Slow and plain.
 
-ghost use Rattle.std.specs.Prelude.{◌≡◌, ◌<◌, ◌≤◌, ◌==◌, ◌+◌, ◌*◌, ◌++◌, ◌∷◌, [], Bool, not, Option, ℕ, List, IsTrue, IfOk, OnErr, vec_len, vec_capacity, length, reverse, filter, find, option_map, slice_index_or, slice_set, bytes_eq, replicate};
+ghost use Rattle.std.specs.Prelude.{◌≡◌, ◌<◌, ◌≤◌, ◌==◌, ◌+◌, ◌*◌, ◌++◌, ◌∷◌, [], Bool, not, Option, ℕ, List, IsTrue, IfOk, OnErr};
+ghost use Rattle.std.specs.Prelude.{vec_len, vec_capacity, length, reverse, filter, find, option_map, slice_index_or, slice_set};
+ghost use Rattle.std.specs.Prelude.{bytes_eq, replicate};
 ghost use Rattle.std.specs.List.{list_all};
 ghost use Rattle.semantics.specs.PlanLimits.{IsWithinLimits, IsIndexSize};
 ghost use Rattle.semantics.specs.ShardPlan.{capacity};

@@ -70,6 +70,6 @@ example_cell served served' held cell_of map key (suc handle) maps below same ha
     record {
       map = map;
       holds = handed map known.definition known.known (shard_of_known served map key known.definition known.known);
-      is_width = refl;
+      is_size = refl;
       inside = omega (arith, size, known.value_size);
     }

@@ -288,7 +288,7 @@ fn load_of(shard: u32, id: u64) -> Call {
     Call::Load {
         cell: CellRef { shard, id },
         offset: 0,
-        width: 8,
+        size: 8,
     }
 }
 

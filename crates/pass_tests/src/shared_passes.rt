@@ -64,7 +64,7 @@ impl Step {
             Step::Load { id } => Call::Load {
                 cell: CellRef { shard: 1, id },
                 offset: 0,
-                width: 8,
+                size: 8,
             },
         }
     }

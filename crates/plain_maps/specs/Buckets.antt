@@ -1,6 +1,7 @@
 -- Keys by their hash: a bucket has three entry numbers, and counts the keys of its own that found no place in it and stand in order
 -- instead. So a key that is not in its bucket is absent where that count is 0, and else costs a search among the keys in order.
-use Rattle.std.specs.Prelude.{◌≡◌, ◌≢◌, ℕ, ◌+◌, ◌==◌, ◌<◌, ◌≤◌, ◌⊎◌, Bool, true, false, not, ◌&&◌, List, [], ◌∷◌, length, slice_index_or, Option, Some, None, bytes_eq, if◌then◌else◌}
+use Rattle.std.specs.Prelude.{◌≡◌, ◌≢◌, ℕ, ◌+◌, ◌==◌, ◌<◌, ◌≤◌, ◌⊎◌, Bool, true, false, not, ◌&&◌, List, [], ◌∷◌, length, slice_index_or}
+use Rattle.std.specs.Prelude.{Option, Some, None, bytes_eq, if◌then◌else◌}
 use Rattle.plain_maps.specs.declared.buckets.Bucket.{Bucket}
 use Rattle.plain_maps.specs.Keyed.{key_of, IsOrder}
 use Rattle.plain_maps.specs.Hashing.{home_of}
@@ -39,7 +40,12 @@ abbrev pub cleared_slot : ℕ → ℕ → ℕ
 cleared_slot n slot = if slot == n then nothing else slot
 
 abbrev pub cleared : ℕ → Bucket → Bucket
-cleared n bucket = record { first = cleared_slot n bucket.first; second = cleared_slot n bucket.second; third = cleared_slot n bucket.third; over = bucket.over }
+cleared n bucket = record {
+  first = cleared_slot n bucket.first;
+  second = cleared_slot n bucket.second;
+  third = cleared_slot n bucket.third;
+  over = bucket.over;
+}
 
 abbrev pub There : List Bool → ℕ → Type 0
 There flags n = slice_index_or flags n false ≡ true

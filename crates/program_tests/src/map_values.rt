@@ -95,7 +95,7 @@ fn rules_of_values(rt: HostRuntime) {
         ("where it may be null", &[k, l, m, n, o, store(Size::U64, R0, 0, 1)], Refusal::WrongKind(R0)),
         ("an atomic operation where it may be null", &[k, l, m, n, o, one, atomic(Width::Bits64, AtomicOp::AtomicAdd, R0, 0, R6)], Refusal::WrongKind(R0)),
         ("past the value", &[k, l, m, n, o, t, one, atomic(Width::Bits64, AtomicOp::AtomicAdd, R0, 4, R6)], Refusal::ValueBounds),
-        ("at no multiple of its width", &[k, l, m, n, o, t, one, atomic(Width::Bits32, AtomicOp::AtomicAdd, R0, 2, R6)], Refusal::Misaligned),
+        ("at no multiple of its size", &[k, l, m, n, o, t, one, atomic(Width::Bits32, AtomicOp::AtomicAdd, R0, 2, R6)], Refusal::Misaligned),
         ("of a pointer", &[k, l, m, n, o, t, atomic(Width::Bits64, AtomicOp::AtomicAdd, R0, 0, R10)], Refusal::PointerLeak),
         ("of an unset register", &[k, l, m, n, o, t, atomic(Width::Bits64, AtomicOp::AtomicAdd, R0, 0, R7)], Refusal::UnsetRegister(R7)),
         ("a fetch into R10, before its kind", &[k, l, m, n, o, t, atomic(Width::Bits64, AtomicOp::FetchAdd, R0, 0, R10)], Refusal::ReadOnlyFp),

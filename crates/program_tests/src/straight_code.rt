@@ -137,7 +137,7 @@ fn registers_after_straight_code(rt: HostRuntime) {
         ("a stack pointer moves down", &[mov(R2, R10), add(R2, -512)], R2, Kind::Stack(0)),
         ("a spilled context comes back", &[spill(Size::U64, -8, R1), load(Size::U64, R4, R10, -8)], R4, Kind::Ctx),
         ("a spilled number keeps its value", &[store(Size::U64, R10, -8, 5), load(Size::U64, R4, R10, -8)], R4, scalar(5, 5)),
-        ("a part of it is any number of its width", &[store(Size::U64, R10, -8, 5), load(Size::U16, R4, R10, -6)], R4, scalar(0, 65535)),
+        ("a part of it is any number of its size", &[store(Size::U64, R10, -8, 5), load(Size::U16, R4, R10, -6)], R4, scalar(0, 65535)),
         ("a sign-extending load is any number", &[store(Size::U64, R10, -8, 5), Insn::Ldxs { extension: Extension::I8, dst: R5, src: R10, offset: -1 }], R5, any),
         ("helper 8 answers below 8", &[Insn::CallHelper { helper: 8 }], R0, scalar(0, 7)),
     ];
@@ -217,7 +217,7 @@ fn first_broken_rules(rt: HostRuntime) {
         ("a narrow store of a pointer", &[spill(Size::U32, -8, R1)], Refusal::PointerLeak),
         ("a narrow store over a spilled pointer", &[spill(Size::U64, -8, R1), store(Size::U32, R10, -8, 0), load(Size::U64, R2, R10, -8)], Refusal::StackUnset),
         ("no such context field", &[load(Size::U32, R0, R1, 8)], Refusal::ContextAccess),
-        ("a context field of another width", &[load(Size::U64, R0, R1, 0)], Refusal::ContextAccess),
+        ("a context field of another size", &[load(Size::U64, R0, R1, 0)], Refusal::ContextAccess),
         ("a value that may be null", &[k, l, m, n, o, load(Size::U64, R5, R0, 0)], Refusal::WrongKind(R0)),
         ("past a value", &[k, l, m, n, o, jump(Test::Eq, R0, Source::Imm(0)), load(Size::U64, R5, R0, 8)], Refusal::ValueBounds),
         ("across words of a value", &[k, l, m, n, o, jump(Test::Eq, R0, Source::Imm(0)), load(Size::U32, R5, R0, 2)], Refusal::Misaligned),

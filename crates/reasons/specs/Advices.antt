@@ -4,14 +4,16 @@ use Rattle.abstract_state.specs.declared.kind.Kind.{Kind}
 use Rattle.reasons.specs.Wording.{kind_text}
 use Rattle.reasons.specs.declared.cause.Need.{Need}
 use Rattle.reasons.specs.declared.cause.Cause.{Cause}
-use Rattle.reasons.specs.declared.cause.Cause.TheVariants.{ClearedByCall, LeftUnset, PathsDisagree, NoTestShows, ComparedForFewer, PacketOffsetUnknown, OutsideValue, ValuePointerLeaves, AddressPastValue, StackMisaligned, ValueMisaligned, NoMap}
+use Rattle.reasons.specs.declared.cause.Cause.TheVariants.{ClearedByCall, LeftUnset, PathsDisagree, NoTestShows, ComparedForFewer}
+use Rattle.reasons.specs.declared.cause.Cause.TheVariants.{PacketOffsetUnknown, OutsideValue, ValuePointerLeaves, AddressPastValue}
+use Rattle.reasons.specs.declared.cause.Cause.TheVariants.{StackMisaligned, ValueMisaligned, NoMap}
 use Rattle.reasons.specs.declared.advice.Advice.{Advice}
 
 abbrev pub size_text : ℕ → List ℕ
 size_text size = codes "the value has " ++ (decimal size ++ codes " bytes: ")
 
-abbrev pub width_text : ℕ → List ℕ
-width_text width = decimal width ++ codes " bytes wide: "
+abbrev pub access_text : ℕ → List ℕ
+access_text size = decimal size ++ codes " bytes wide: "
 
 abbrev pub slot_text : ℕ → List ℕ
 slot_text slot = codes "slot " ++ (decimal slot ++ codes ": ")
@@ -53,8 +55,8 @@ need_text (PacketOffsetUnknown high) = codes "the number may be up to " ++ (deci
 need_text (OutsideValue size) = size_text size
 need_text (ValuePointerLeaves size) = size_text size
 need_text (AddressPastValue size) = size_text size
-need_text (StackMisaligned width) = width_text width
-need_text (ValueMisaligned width) = width_text width
+need_text (StackMisaligned size) = access_text size
+need_text (ValueMisaligned size) = access_text size
 need_text (ClearedByCall slot) = slot_text slot
 need_text (LeftUnset slot) = slot_text slot
 need_text (PathsDisagree slot first one second other) = brought_text first one ++ (brought_text second other ++ meeting_text slot)

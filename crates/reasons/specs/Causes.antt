@@ -27,7 +27,15 @@ use Rattle.reasons.specs.declared.cause.Need.{Need}
 use Rattle.reasons.specs.declared.cause.Role.{Role}
 use Rattle.reasons.specs.declared.cause.Role.TheVariants.{Computes, Tests, Loads, Stores, Updates, Calls, Others}
 use Rattle.reasons.specs.declared.cause.Cause.{Cause}
-use Rattle.reasons.specs.declared.cause.Cause.TheVariants.{JumpsBack, JumpsOutside, JumpsIntoWide, RunsPastEnd, NoPathLeads, NotWritten, NullNotTested, NotAnAddress, PointerArithmetic, UnknownDistance, TestOfKinds, AtomicElsewhere, ExpectedPointer, BeforeBase, NoTestShows, ComparedForFewer, PacketOffsetLeaves, PacketOffsetUnknown, OutsideStack, StackPointerLeaves, ArgumentOutsideStack, LoadUnwritten, ArgumentUnwritten, OutsideValue, ValuePointerLeaves, AddressPastValue, StackMisaligned, ValueMisaligned, AtomicOffsetUnknown, ContextStore, NoContextField, FramePointerWritten, NoHelper, WantsMap, WantsContext, WantsStack, WantsNumber, VerdictPointer, PartOfPointer, PointerStored, NoMap, NoArray}
+use Rattle.reasons.specs.declared.cause.Cause.TheVariants.{JumpsBack, JumpsOutside, JumpsIntoWide, RunsPastEnd, NoPathLeads, NotWritten}
+use Rattle.reasons.specs.declared.cause.Cause.TheVariants.{NullNotTested, NotAnAddress, PointerArithmetic, UnknownDistance, TestOfKinds}
+use Rattle.reasons.specs.declared.cause.Cause.TheVariants.{AtomicElsewhere, ExpectedPointer, BeforeBase, NoTestShows, ComparedForFewer}
+use Rattle.reasons.specs.declared.cause.Cause.TheVariants.{PacketOffsetLeaves, PacketOffsetUnknown, OutsideStack, StackPointerLeaves}
+use Rattle.reasons.specs.declared.cause.Cause.TheVariants.{ArgumentOutsideStack, LoadUnwritten, ArgumentUnwritten, OutsideValue}
+use Rattle.reasons.specs.declared.cause.Cause.TheVariants.{ValuePointerLeaves, AddressPastValue, StackMisaligned, ValueMisaligned}
+use Rattle.reasons.specs.declared.cause.Cause.TheVariants.{AtomicOffsetUnknown, ContextStore, NoContextField, FramePointerWritten}
+use Rattle.reasons.specs.declared.cause.Cause.TheVariants.{NoHelper, WantsMap, WantsContext, WantsStack, WantsNumber, VerdictPointer}
+use Rattle.reasons.specs.declared.cause.Cause.TheVariants.{PartOfPointer, PointerStored, NoMap, NoArray}
 
 -- ---- the instruction
 
@@ -47,7 +55,7 @@ role_of (CallHelper helper) = Calls
 role_of insn = Others
 
 abbrev pub access : Kind → ℤ → ℕ → Option Access
-access base distance count = Some (record { base = base; distance = distance; count = count })
+access base offset count = Some (record { base = base; offset = offset; count = count })
 
 -- the place in memory that the instruction touches
 abbrev pub access_of : State → Insn → Option Access
@@ -114,11 +122,11 @@ beyond base stands (pos from) count known =
 beyond base stands (negsuc below) count known = BeforeBase
 
 abbrev pub packet_cause_at : Kind → ℤ → ℕ → Cause
-packet_cause_at (Packet id off range) distance count = beyond id off (pos off +ℤ distance) count range
-packet_cause_at other distance count = PacketOffsetLeaves
+packet_cause_at (Packet id off range) offset count = beyond id off (pos off +ℤ offset) count range
+packet_cause_at other offset count = PacketOffsetLeaves
 
 abbrev pub packet_cause : Access → Cause
-packet_cause access = packet_cause_at access.base access.distance access.count
+packet_cause access = packet_cause_at access.base access.offset access.count
 
 abbrev pub moved_packet : Option Interval → Cause
 moved_packet (Some i) = if is_single i then PacketOffsetLeaves else PacketOffsetUnknown i.high
@@ -157,7 +165,7 @@ value_bounds maps state (Ldval dst map offset) = AddressPastValue (named_size ma
 value_bounds maps state (Alu width op dst source) = ValuePointerLeaves (value_size_at maps (kind_of state dst))
 value_bounds maps state insn = OutsideValue (value_size_at maps (base_of state insn))
 
--- ---- 41: no multiple of the width
+-- ---- 41: no multiple of the size
 
 abbrev pub misaligned_from : Kind → ℕ → Cause
 misaligned_from (Value map id off) count = if off.low == off.high then ValueMisaligned count else AtomicOffsetUnknown

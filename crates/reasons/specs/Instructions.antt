@@ -1,5 +1,6 @@
 -- An instruction in words, with what is known of the registers and the words of the stack that it uses.
-use Rattle.std.specs.Prelude.{ℕ, zero, suc, ◌+◌, ◌-◌, ◌*◌, ◌/◌, ◌==◌, nat_lt, nat_le, ℤ, pos, negsuc, ◌+ℤ◌, List, [], ◌∷◌, ◌++◌, Option, Some, None, slice_get, codes, decimal, if◌then◌else◌}
+use Rattle.std.specs.Prelude.{ℕ, zero, suc, ◌+◌, ◌-◌, ◌*◌, ◌/◌, ◌==◌, nat_lt, nat_le, ℤ, pos, negsuc, ◌+ℤ◌, List, [], ◌∷◌, ◌++◌, Option}
+use Rattle.std.specs.Prelude.{Some, None, slice_get, codes, decimal, if◌then◌else◌}
 use Rattle.std.specs.List.{flat_map}
 use Rattle.isa.specs.declared.operation.AluOp.{AluOp}
 use Rattle.isa.specs.declared.operation.AluOp.TheVariants.{Mov}
@@ -92,12 +93,12 @@ place_word (pos place) = if nat_lt place 512 then Some (place / 8) else None
 place_word (negsuc below) = None
 
 abbrev pub word_from : Kind → ℤ → Option ℕ
-word_from (Stack place) distance = place_word (pos place +ℤ distance)
-word_from other distance = None
+word_from (Stack place) offset = place_word (pos place +ℤ offset)
+word_from other offset = None
 
 -- the word that an access touches first
 abbrev pub stack_word : Option Access → Option ℕ
-stack_word (Some access) = word_from access.base access.distance
+stack_word (Some access) = word_from access.base access.offset
 stack_word None = None
 
 -- a word by how far its lowest byte lies below r10

@@ -1,7 +1,7 @@
 //! The rule that is broken and the usual remedy, in words: one row for each cause.
 
 ghost use Rattle.std.specs.Prelude.{◌≡◌, ◌++◌, string_bytes, OnOk};
-ghost use Rattle.reasons.specs.Advices.{unit_text, count_text, base_text, standing_text, bytes_text, known_text, size_text, width_text, slot_text};
+ghost use Rattle.reasons.specs.Advices.{unit_text, count_text, base_text, standing_text, bytes_text, known_text, size_text, access_text, slot_text};
 ghost use Rattle.reasons.specs.Advices.{from_text, brought_text, meeting_text, need_text, advice_text};
 
 use crate::cause::{Cause, Need};
@@ -64,8 +64,8 @@ fn put_need(alloc: Global, out: &mut String, cause: Cause) -> Result<(), AllocEr
         Cause::OutsideValue { size } => put_size(alloc, out, size),
         Cause::ValuePointerLeaves { size } => put_size(alloc, out, size),
         Cause::AddressPastValue { size } => put_size(alloc, out, size),
-        Cause::StackMisaligned { width } => put_width(alloc, out, width),
-        Cause::ValueMisaligned { width } => put_width(alloc, out, width),
+        Cause::StackMisaligned { size } => put_access(alloc, out, size),
+        Cause::ValueMisaligned { size } => put_access(alloc, out, size),
         Cause::ClearedByCall { slot } => put_slot(alloc, out, slot),
         Cause::LeftUnset { slot } => put_slot(alloc, out, slot),
         Cause::PathsDisagree {
@@ -181,10 +181,10 @@ fn put_size(alloc: Global, out: &mut String, size: u32) -> Result<(), AllocError
     out.push_str(&format!(in alloc; "the value has {size} bytes: ")?)
 }
 
-fn put_width(alloc: Global, out: &mut String, width: u32) -> Result<(), AllocError>
-    ensures { OnOk result (string_bytes out.new ≡ string_bytes out.old ++ width_text width) }
+fn put_access(alloc: Global, out: &mut String, size: u32) -> Result<(), AllocError>
+    ensures { OnOk result (string_bytes out.new ≡ string_bytes out.old ++ access_text size) }
 {
-    out.push_str(&format!(in alloc; "{width} bytes wide: ")?)
+    out.push_str(&format!(in alloc; "{size} bytes wide: ")?)
 }
 
 /// The rule and the remedy of a cause.
@@ -344,7 +344,7 @@ fn memory(cause: Cause) -> (&'static str, &'static str) {
     match cause {
         Cause::OutsideStack => (
             "the stack has the 512 bytes from r10-512 up to r10",
-            "use an offset from -512 to -1 that leaves room for the width",
+            "use an offset from -512 to -1 that leaves room for the access",
         ),
         Cause::StackPointerLeaves => (
             "a stack pointer stays from r10-512 to r10",
@@ -364,7 +364,7 @@ fn memory(cause: Cause) -> (&'static str, &'static str) {
         ),
         Cause::OutsideValue { .. } => (
             "the access leaves the map's value",
-            "use an offset that leaves room for the width, or a map with larger values",
+            "use an offset that leaves room for the access, or a map with larger values",
         ),
         Cause::ValuePointerLeaves { .. } => (
             "an address in a value stays from its first byte to its end",
@@ -375,11 +375,11 @@ fn memory(cause: Cause) -> (&'static str, &'static str) {
             "use an offset up to the size",
         ),
         Cause::StackMisaligned { .. } => (
-            "an access of the stack stands at a multiple of its width",
+            "an access of the stack stands at a multiple of its size",
             "use an offset that is such a multiple, or smaller accesses",
         ),
         Cause::ValueMisaligned { .. } => (
-            "an access at a known offset of a value stands at a multiple of its width",
+            "an access at a known offset of a value stands at a multiple of its size",
             "use an offset that is such a multiple, or smaller accesses",
         ),
         Cause::AtomicOffsetUnknown => (

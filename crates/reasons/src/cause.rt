@@ -32,7 +32,7 @@ pub enum Role {
 #[derive(Clone, Copy)]
 pub struct Access {
     pub base: Kind,
-    pub distance: i16,
+    pub offset: i16,
     pub count: u32,
 }
 
@@ -117,12 +117,12 @@ pub enum Cause {
     AddressPastValue {
         size: u32,
     },
-    // 41: no multiple of the width.
+    // 41: no multiple of the size.
     StackMisaligned {
-        width: u32,
+        size: u32,
     },
     ValueMisaligned {
-        width: u32,
+        size: u32,
     },
     AtomicOffsetUnknown,
     // 42: the context.
@@ -172,11 +172,11 @@ pub(crate) fn access_of(state: &State, insn: Insn) -> Option<Access>
     ensures { result ≡ access_of state.now insn }
 {
     match insn {
-        Insn::Ldx { size, src, offset, .. } => Some(Access { base: state.kind(src), distance: offset, count: size.bytes() }),
-        Insn::Ldxs { extension, src, offset, .. } => Some(Access { base: state.kind(src), distance: offset, count: extension.size().bytes() }),
-        Insn::St { size, dst, offset, .. } => Some(Access { base: state.kind(dst), distance: offset, count: size.bytes() }),
-        Insn::Stx { size, dst, offset, .. } => Some(Access { base: state.kind(dst), distance: offset, count: size.bytes() }),
-        Insn::AtomicUpdate { width, dst, offset, .. } => Some(Access { base: state.kind(dst), distance: offset, count: width.size().bytes() }),
+        Insn::Ldx { size, src, offset, .. } => Some(Access { base: state.kind(src), offset, count: size.bytes() }),
+        Insn::Ldxs { extension, src, offset, .. } => Some(Access { base: state.kind(src), offset, count: extension.size().bytes() }),
+        Insn::St { size, dst, offset, .. } => Some(Access { base: state.kind(dst), offset, count: size.bytes() }),
+        Insn::Stx { size, dst, offset, .. } => Some(Access { base: state.kind(dst), offset, count: size.bytes() }),
+        Insn::AtomicUpdate { width, dst, offset, .. } => Some(Access { base: state.kind(dst), offset, count: width.size().bytes() }),
         _ => None,
     }
 }
@@ -279,7 +279,7 @@ fn packet_cause(access: Access) -> Cause
         Kind::Packet { id, off, range } => beyond(
             id,
             off,
-            i64::from(off) + i64::from(access.distance),
+            i64::from(off) + i64::from(access.offset),
             access.count,
             range,
         ),
@@ -389,16 +389,12 @@ fn misaligned(access: Access) -> Cause
     match access.base {
         Kind::Value { off, .. } => {
             if off.low == off.high {
-                Cause::ValueMisaligned {
-                    width: access.count,
-                }
+                Cause::ValueMisaligned { size: access.count }
             } else {
                 Cause::AtomicOffsetUnknown
             }
         }
-        _ => Cause::StackMisaligned {
-            width: access.count,
-        },
+        _ => Cause::StackMisaligned { size: access.count },
     }
 }
 

@@ -148,10 +148,10 @@ fn stack_word(access: Option<Access>) -> Option<usize>
         Some(
             Access {
                 base: Kind::Stack(place),
-                distance,
+                offset,
                 ..
             },
-        ) => place_word(i64::from(place) + i64::from(distance)),
+        ) => place_word(i64::from(place) + i64::from(offset)),
         _ => None,
     }
 }

@@ -63,7 +63,7 @@ pub record IsScriptRun (plan : ℕ → ShardPlan) (maps : List MapDef) (options 
   pub account : IsAccount plan maps options script size noted state pass
   pub who : pass.who ≡ Controller
 
--- ---- held against the journals
+-- ---- compared with the journals
 
 -- the commands that were refused
 abbrev pub refused_of : List Applied → List Applied

@@ -90,7 +90,7 @@ IsRunOf count plan program worker captured before end after = IsExit count progr
 abbrev pub IsRunBy : {B : Type 0} → ℕ → (ℕ → ShardPlan) → Program → ℕ → Sent → Working B → RunEnd → Working B → Type 0
 IsRunBy count plan program worker captured before end after = IsRunOf count plan program worker captured (pass_in before) end (pass_in after)
 
--- ---- held against the journals
+-- ---- compared with the journals
 
 -- the journal of the shard of a refused call is full for it at its end; or, where the run had not entered the shard, and so wrote nothing there, full
 -- for its Enter

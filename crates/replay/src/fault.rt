@@ -7,7 +7,7 @@ use thiserror::Error;
 /// number.
 #[derive(Clone, Copy, Debug, PartialEq, Eq, Error)]
 pub enum ReplayFault {
-    /// The options are none that shards of the image's maps are opened with, or there are commands and the maps are not those of steering.
+    /// No shards of the image's maps can be opened with these options, or there are commands and the maps are not those of steering.
     #[error("fault 51 BadOptions")]
     BadOptions,
     /// The allocator refused memory, before the threads or in one of them.

@@ -120,7 +120,7 @@ fn replay_over<B: Naming + Send + Sync, R: Threads + Wait + Sync, G: Gate + Sync
 ///
 /// The gate is told of each reply of a run, of the controller and of the reclaimer, by the actor that has it, which holds no lock then.
 ///
-/// Refused with 51 where the options are none that shards of the image's maps are opened with, or where there are commands and the image's maps
+/// Refused with 51 where no shards of the image's maps can be opened with the options, or where there are commands and the image's maps
 /// are not those of steering; with 52 for lack of memory; with 56 where a thread could not be started. Then nothing is left, and every thread that was
 /// started has ended.
 pub fn replay<R: Threads + Wait + Sync, G: Gate + Sync>(

@@ -1,9 +1,11 @@
 //! The queues, and what is done with them.
 
-ghost use Rattle.std.specs.Prelude.{◌≡◌, ◌<◌, ◌≤◌, ◌+◌, ◌∷◌, ◌++◌, ◌↔◌, [], ℕ, length, map, replicate, IfOk, IfErr, OnErr, IsErrOf, OnOk, MatchOption, slice_index_or};
+ghost use Rattle.std.specs.Prelude.{◌≡◌, ◌<◌, ◌≤◌, ◌+◌, ◌∷◌, ◌++◌, ◌↔◌, [], ℕ, length, map, replicate, IfOk, IfErr, OnErr, IsErrOf, OnOk};
+ghost use Rattle.std.specs.Prelude.{MatchOption, slice_index_or};
 ghost use Rattle.crossbeam_queue.specs.Passes.{view, IsPassOf, ruled_capacity};
 ghost use Rattle.rx_queues.specs.Fifo.{IsTakenInOrder, known};
-ghost use Rattle.rx_queues.specs.Passes.{queue_of, HasQueue, workers_of, jobs_put, jobs_taken, jobs_put_for, with_job_at, IsPutPassOf, IsTakePassOf, place_taken_from, AreTakePasses, IsPutPassFor, IsTakePassFor, WasFull};
+ghost use Rattle.rx_queues.specs.Passes.{queue_of, HasQueue, workers_of, jobs_put, jobs_taken, jobs_put_for, with_job_at, IsPutPassOf};
+ghost use Rattle.rx_queues.specs.Passes.{IsTakePassOf, place_taken_from, AreTakePasses, IsPutPassFor, IsTakePassFor, WasFull};
 ghost use Rattle.shards.specs.declared.fault.OpenFault.TheVariants.{BadOptions};
 
 use crate::job::Job;

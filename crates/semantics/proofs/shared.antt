@@ -10,3 +10,4 @@ pub mod IdLemmas
 pub mod FirstElement
 pub mod UseLemmas
 pub mod CallerLemmas
+pub mod EachLemmas

@@ -1,6 +1,7 @@
 -- Which calls a shard serves, when its journal is full, and which histories are legal. A journal lists its entries in order,
 -- the oldest first; a history has the newest first.
-use Rattle.std.specs.Prelude.{◌≡◌, ℕ, ◌+◌, ◌%◌, ◌^◌, ◌==◌, Bool, true, false, ◌&&◌, ◌||◌, nat_lt, nat_le, List, [], ◌∷◌, length, reverse, is_some, if◌then◌else◌, IsTrue, IsFalse}
+use Rattle.std.specs.Prelude.{◌≡◌, ℕ, ◌+◌, ◌%◌, ◌^◌, ◌==◌, Bool, true, false, ◌&&◌, ◌||◌, nat_lt, nat_le, List, [], ◌∷◌, length, reverse}
+use Rattle.std.specs.Prelude.{is_some, if◌then◌else◌, IsTrue, IsFalse}
 use Rattle.std.specs.List.{list_all}
 use Rattle.isa.specs.declared.operation.AtomicOp.TheVariants.{CompareExchange}
 use Rattle.semantics.specs.declared.call.Caller.{Caller}
@@ -24,9 +25,9 @@ abbrev pub shard_of_call : Call → ℕ
 shard_of_call (Enter shard) = shard
 shard_of_call (Leave shard) = shard
 shard_of_call (Lookup shard key) = shard
-shard_of_call (Load cell offset width) = cell.shard
-shard_of_call (Store cell offset width value) = cell.shard
-shard_of_call (Atomic cell offset width op value expected) = cell.shard
+shard_of_call (Load cell offset size) = cell.shard
+shard_of_call (Store cell offset size value) = cell.shard
+shard_of_call (Atomic cell offset size op value expected) = cell.shard
 shard_of_call (Update shard key value flags) = shard
 shard_of_call (Delete shard key) = shard
 shard_of_call (Reclaim shard) = shard
@@ -72,22 +73,22 @@ is_value plan value = length value == plan.definition.value_size && are_bytes va
 abbrev pub are_flags : ℕ → Bool
 are_flags flags = nat_lt flags (2 ^ 64)
 
-abbrev pub is_load_width : ℕ → Bool
-is_load_width width = width == 1 || width == 2 || width == 4 || width == 8
+abbrev pub is_load_size : ℕ → Bool
+is_load_size size = size == 1 || size == 2 || size == 4 || size == 8
 
-abbrev pub is_atomic_width : ℕ → Bool
-is_atomic_width width = width == 4 || width == 8
+abbrev pub is_atomic_size : ℕ → Bool
+is_atomic_size size = size == 4 || size == 8
 
 -- inside the value
 abbrev pub is_in_cell : ShardPlan → ℕ → ℕ → Bool
-is_in_cell plan offset width = nat_le (offset + width) plan.definition.value_size
+is_in_cell plan offset size = nat_le (offset + size) plan.definition.value_size
 
--- an atomic operation is also at a multiple of its width
+-- an atomic operation is also at a multiple of its size
 abbrev pub is_aligned : ℕ → ℕ → Bool
-is_aligned offset width = offset % width == 0
+is_aligned offset size = offset % size == 0
 
-abbrev pub fits_width : ℕ → ℕ → Bool
-fits_width value width = nat_lt value (256 ^ width)
+abbrev pub fits_size : ℕ → ℕ → Bool
+fits_size value size = nat_lt value (256 ^ size)
 
 -- only compare-and-exchange has a number to compare with
 abbrev pub is_expected : ℕ → ℕ → Bool
@@ -97,13 +98,13 @@ abbrev pub meets_part : ShardPlan → List Entry → Caller → Call → Bool
 meets_part plan history who (Enter shard) = is_outside_worker plan history who
 meets_part plan history who (Leave shard) = is_inside_worker plan history who
 meets_part plan history who (Lookup shard key) = is_inside_worker plan history who && is_own_key plan key
-meets_part plan history who (Load cell offset width) =
-    is_holder plan history who cell.id && is_load_width width && is_in_cell plan offset width
-meets_part plan history who (Store cell offset width value) =
-    is_holder plan history who cell.id && is_load_width width && is_in_cell plan offset width && fits_width value width
-meets_part plan history who (Atomic cell offset width op value expected) =
-    is_holder plan history who cell.id && is_atomic_width width && (is_in_cell plan offset width && is_aligned offset width) &&
-    is_some (atomic_op_of op) && fits_width value width && fits_width expected width && is_expected op expected
+meets_part plan history who (Load cell offset size) =
+    is_holder plan history who cell.id && is_load_size size && is_in_cell plan offset size
+meets_part plan history who (Store cell offset size value) =
+    is_holder plan history who cell.id && is_load_size size && is_in_cell plan offset size && fits_size value size
+meets_part plan history who (Atomic cell offset size op value expected) =
+    is_holder plan history who cell.id && is_atomic_size size && (is_in_cell plan offset size && is_aligned offset size) &&
+    is_some (atomic_op_of op) && fits_size value size && fits_size expected size && is_expected op expected
 meets_part plan history who (Update shard key value flags) =
     may_change_keys plan history who && is_own_key plan key && (is_value plan value && are_flags flags)
 meets_part plan history who (Delete shard key) = may_change_keys plan history who && is_own_key plan key

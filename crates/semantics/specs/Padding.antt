@@ -16,7 +16,8 @@ count_of xs = length xs
 abbrev pub padded : ℕ → List ℕ → List ℕ
 padded n xs = xs ++ replicate (n - length xs) 0
 
-pub padded-take : {A : Type 0} (n count : ℕ) (bytes : List ℕ) → IsPadded n count bytes → (make : List ℕ → ℕ → A) → make (padded n (take count bytes)) (count_of (take count bytes)) ≡ make bytes count
+pub padded-take : {A : Type 0} (n count : ℕ) (bytes : List ℕ) → IsPadded n count bytes → (make : List ℕ → ℕ → A) →
+    make (padded n (take count bytes)) (count_of (take count bytes)) ≡ make bytes count
 padded-take n count bytes kept make =
     let fits : count ≤ length bytes = rw kept.whole kept.fits in
     let counted : length (take count bytes) ≡ count = length-take-le count bytes fits in

@@ -16,13 +16,14 @@ use Rattle.semantics.specs.Semantics.{next_step}
 use Rattle.semantics.specs.ShardPlan.{ShardPlan, plan_at, AreOptions}
 use Rattle.semantics.specs.SequentialShard.{is_kept, shard_after}
 use Rattle.semantics.specs.History.{shard_of_call, Meets}
-use Rattle.semantics.specs.System.{Setting, program_of, SystemState, WorkerState, Runs, worker_state, history_of, is_entered, SystemEvent, CanAllHappen, system_after}
+use Rattle.semantics.specs.System.{Setting, program_of, SystemState, WorkerState, Runs, worker_state, history_of, is_entered}
+use Rattle.semantics.specs.System.{SystemEvent, CanAllHappen, system_after}
 
 -- a call on a cell that is not freed
 abbrev pub IsOnKeptCell : ShardPlan → List Entry → Call → Type 0
-IsOnKeptCell plan history (Load cell offset width) = IsTrue (is_kept plan (shard_after plan history) cell.id)
-IsOnKeptCell plan history (Store cell offset width value) = IsTrue (is_kept plan (shard_after plan history) cell.id)
-IsOnKeptCell plan history (Atomic cell offset width op value expected) = IsTrue (is_kept plan (shard_after plan history) cell.id)
+IsOnKeptCell plan history (Load cell offset size) = IsTrue (is_kept plan (shard_after plan history) cell.id)
+IsOnKeptCell plan history (Store cell offset size value) = IsTrue (is_kept plan (shard_after plan history) cell.id)
+IsOnKeptCell plan history (Atomic cell offset size op value expected) = IsTrue (is_kept plan (shard_after plan history) cell.id)
 IsOnKeptCell plan history call = Unit {0}
 
 -- the caller may make the call, on a cell that is not freed

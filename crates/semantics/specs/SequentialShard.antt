@@ -1,6 +1,8 @@
 -- The one-thread specification of a map's shard: what each call replies, and what it leaves (bpf(2); the answers are Linux's
 -- error numbers). A shard's state is a function of its history, whose newest entry stands first.
-use Rattle.std.specs.Prelude.{ℕ, ◌+◌, ◌*◌, ◌/◌, ◌==◌, Bool, true, false, not, ◌&&◌, ◌||◌, nat_lt, nat_le, ℤ, pos, negsuc, List, [], ◌∷◌, ◌++◌, length, take, drop, replicate, filter, find, Option, Some, None, option_map, slice_index_or, slice_set, if◌then◌else◌, bytes_eq}
+use Rattle.std.specs.Prelude.{ℕ, ◌+◌, ◌*◌, ◌/◌, ◌==◌, Bool, true, false, not, ◌&&◌, ◌||◌, nat_lt, nat_le, ℤ, pos, negsuc, List, [], ◌∷◌}
+use Rattle.std.specs.Prelude.{◌++◌, length, take, drop, replicate, filter, find, Option, Some, None, option_map, slice_index_or}
+use Rattle.std.specs.Prelude.{slice_set, if◌then◌else◌, bytes_eq}
 use Rattle.std.specs.List.{list_any}
 use Rattle.isa.specs.declared.operation.AtomicOp.{AtomicOp}
 use Rattle.isa.specs.Atomic.{atomic_result}
@@ -62,18 +64,18 @@ abbrev pub cell_bytes : SequentialShard → ℕ → List ℕ
 cell_bytes shard cell = slice_index_or shard.cells cell []
 
 abbrev pub number_in_cell : SequentialShard → ℕ → ℕ → ℕ → ℕ
-number_in_cell shard cell offset width = number_of_bytes (take width (drop offset (cell_bytes shard cell)))
+number_in_cell shard cell offset size = number_of_bytes (take size (drop offset (cell_bytes shard cell)))
 
 abbrev pub with_cell : SequentialShard → ℕ → List ℕ → SequentialShard
 with_cell shard cell bytes = record shard { cells = slice_set shard.cells cell bytes }
 
 abbrev pub with_number_in_cell : SequentialShard → ℕ → ℕ → ℕ → ℕ → SequentialShard
-with_number_in_cell shard cell offset width value =
-    with_cell shard cell (overwritten_at offset (bytes_of_number width value) (cell_bytes shard cell))
+with_number_in_cell shard cell offset size value =
+    with_cell shard cell (overwritten_at offset (bytes_of_number size value) (cell_bytes shard cell))
 
 abbrev pub changed_by : Option AtomicOp → ℕ → ℕ → ℕ → ℕ → ℕ
-changed_by (Some op) width old value expected = atomic_result (8 * width) op old value expected
-changed_by None width old value expected = old
+changed_by (Some op) size old value expected = atomic_result (8 * size) op old value expected
+changed_by None size old value expected = old
 
 -- ---- Update and Delete
 
@@ -198,19 +200,19 @@ abbrev pub reply_of : ShardPlan → List Entry → SequentialShard → Call → 
 reply_of plan history shard (Enter number) = Entered
 reply_of plan history shard (Leave number) = Left
 reply_of plan history shard (Lookup number key) = lookup_reply plan (cell_of_key plan shard key)
-reply_of plan history shard (Load cell offset width) = Word (number_in_cell shard cell.id offset width)
-reply_of plan history shard (Store cell offset width value) = Done
-reply_of plan history shard (Atomic cell offset width op value expected) = Word (number_in_cell shard cell.id offset width)
+reply_of plan history shard (Load cell offset size) = Word (number_in_cell shard cell.id offset size)
+reply_of plan history shard (Store cell offset size value) = Done
+reply_of plan history shard (Atomic cell offset size op value expected) = Word (number_in_cell shard cell.id offset size)
 reply_of plan history shard (Update number key value flags) = Answer (update_answer plan shard key flags)
 reply_of plan history shard (Delete number key) = Answer (delete_answer plan shard key)
 reply_of plan history shard (Reclaim number) = Freed (length (reclaimable_cells history shard))
 
 -- what the call leaves
 abbrev pub shard_after_call : ShardPlan → List Entry → SequentialShard → Call → SequentialShard
-shard_after_call plan history shard (Store cell offset width value) = with_number_in_cell shard cell.id offset width value
-shard_after_call plan history shard (Atomic cell offset width op value expected) =
-    with_number_in_cell shard cell.id offset width
-    (changed_by (atomic_op_of op) width (number_in_cell shard cell.id offset width) value expected)
+shard_after_call plan history shard (Store cell offset size value) = with_number_in_cell shard cell.id offset size value
+shard_after_call plan history shard (Atomic cell offset size op value expected) =
+    with_number_in_cell shard cell.id offset size
+    (changed_by (atomic_op_of op) size (number_in_cell shard cell.id offset size) value expected)
 shard_after_call plan history shard (Update number key value flags) =
     updated_where (update_answer plan shard key flags) (with_value plan history shard key value (cell_of_key plan shard key)) shard
 shard_after_call plan history shard (Delete number key) =

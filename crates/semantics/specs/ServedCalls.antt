@@ -8,7 +8,7 @@ use Rattle.semantics.specs.declared.call.Call.TheVariants.{Lookup, Load, Store, 
 use Rattle.semantics.specs.declared.call.Reply.{Reply}
 use Rattle.semantics.specs.declared.call.Reply.TheVariants.{Cell}
 use Rattle.semantics.specs.Program.{Program, shard_of_key, value_size_of}
-use Rattle.semantics.specs.History.{is_load_width, is_atomic_width, is_expected}
+use Rattle.semantics.specs.History.{is_load_size, is_atomic_size, is_expected}
 
 -- which cells are held, by map, shard and cell id
 abbrev pub Held : Type 0
@@ -24,28 +24,28 @@ pub record IsServedLookup (program : Program) (shard : ℕ) (key : List ℕ) : T
   pub own : shard ≡ shard_of_key map definition.kind program.shards key
 
 -- a load from a cell that is held, inside its value
-pub record IsServedLoad (program : Program) (held : Held) (cell : CellRef) (offset width : ℕ) : Type 0 where
+pub record IsServedLoad (program : Program) (held : Held) (cell : CellRef) (offset size : ℕ) : Type 0 where
   pub map : ℕ
   pub holds : IsTrue (held map cell.shard cell.id)
-  pub is_width : IsTrue (is_load_width width)
-  pub inside : offset + width ≤ value_size_of (slice_get program.maps map)
+  pub is_size : IsTrue (is_load_size size)
+  pub inside : offset + size ≤ value_size_of (slice_get program.maps map)
 
--- a store of a number of the width to such a place
-pub record IsServedStore (program : Program) (held : Held) (cell : CellRef) (offset width value : ℕ) : Type 0 where
-  pub at : IsServedLoad program held cell offset width
-  pub fits : value < 256 ^ width
+-- a store of a number of the size to such a place
+pub record IsServedStore (program : Program) (held : Held) (cell : CellRef) (offset size value : ℕ) : Type 0 where
+  pub at : IsServedLoad program held cell offset size
+  pub fits : value < 256 ^ size
 
--- an atomic operation on a cell that is held, inside its value and at a multiple of its width; only compare-and-exchange has a number
+-- an atomic operation on a cell that is held, inside its value and at a multiple of its size; only compare-and-exchange has a number
 -- to compare with
-pub record IsServedAtomic (program : Program) (held : Held) (cell : CellRef) (offset width op value expected : ℕ) : Type 0 where
+pub record IsServedAtomic (program : Program) (held : Held) (cell : CellRef) (offset size op value expected : ℕ) : Type 0 where
   pub map : ℕ
   pub holds : IsTrue (held map cell.shard cell.id)
-  pub is_width : IsTrue (is_atomic_width width)
-  pub inside : offset + width ≤ value_size_of (slice_get program.maps map)
-  pub aligned : offset % width ≡ 0
+  pub is_size : IsTrue (is_atomic_size size)
+  pub inside : offset + size ≤ value_size_of (slice_get program.maps map)
+  pub aligned : offset % size ≡ 0
   pub known : IsTrue (is_some (atomic_op_of op))
-  pub fits : value < 256 ^ width
-  pub expected_fits : expected < 256 ^ width
+  pub fits : value < 256 ^ size
+  pub expected_fits : expected < 256 ^ size
   pub compares : IsTrue (is_expected op expected)
 
 -- an update of such a key with a value of the map's size; the map answers flags that it doesn't know
@@ -57,9 +57,9 @@ pub record IsServedUpdate (program : Program) (shard : ℕ) (key value : List �
 
 abbrev pub IsServed : Program → Held → Call → Type 0
 IsServed program held (Lookup shard key) = IsServedLookup program shard key
-IsServed program held (Load cell offset width) = IsServedLoad program held cell offset width
-IsServed program held (Store cell offset width value) = IsServedStore program held cell offset width value
-IsServed program held (Atomic cell offset width op value expected) = IsServedAtomic program held cell offset width op value expected
+IsServed program held (Load cell offset size) = IsServedLoad program held cell offset size
+IsServed program held (Store cell offset size value) = IsServedStore program held cell offset size value
+IsServed program held (Atomic cell offset size op value expected) = IsServedAtomic program held cell offset size op value expected
 IsServed program held (Update shard key value flags) = IsServedUpdate program shard key value flags
 IsServed program held (Delete shard key) = IsServedLookup program shard key
 IsServed program held call = ⊥

@@ -5,7 +5,8 @@ use Rattle.isa.specs.declared.operation.Width.TheVariants.{Bits32, Bits64}
 use Rattle.isa.specs.declared.operation.Size.TheVariants.{U8, U16, U32, U64}
 use Rattle.isa.specs.declared.operation.Source.TheVariants.{Imm, Reg}
 use Rattle.isa.specs.declared.operation.AluOp.TheVariants.{Add, Mov}
-use Rattle.isa.specs.declared.operation.AtomicOp.TheVariants.{AtomicAdd, AtomicOr, AtomicAnd, AtomicXor, FetchAdd, FetchOr, FetchAnd, FetchXor, Exchange, CompareExchange}
+use Rattle.isa.specs.declared.operation.AtomicOp.TheVariants.{AtomicAdd, AtomicOr, AtomicAnd, AtomicXor, FetchAdd, FetchOr, FetchAnd}
+use Rattle.isa.specs.declared.operation.AtomicOp.TheVariants.{FetchXor, Exchange, CompareExchange}
 use Rattle.isa.specs.declared.operation.Register.TheVariants.{R0, R1, R2, R3, R10}
 use Rattle.ebpf_decode.specs.declared.insn.Insn.{Insn}
 use Rattle.ebpf_decode.specs.declared.insn.Insn.TheVariants.{Alu, Ldx, St, Stx, AtomicUpdate, Ldmap, Ldval, CallHelper, Exit}
@@ -49,7 +50,7 @@ pub record StoresAsk : Type 0 where
   pub immediate : Asks (St U32 R1 (pos 4) (negsuc 0)) 1 0 (Store (cell_at 0) 4 4 4294967295) Done 1 0 Drop
   pub long_immediate : Asks (St U64 R1 (pos 0) (negsuc 1)) 1 0 (Store (cell_at 0) 0 8 18446744073709551614) Done 1 0 Drop
 
--- ---- atomic operations: both widths; the old number goes to R2, to R0 by compare-and-exchange, or nowhere
+-- ---- atomic operations: both sizes; the old number goes to R2, to R0 by compare-and-exchange, or nowhere
 
 -- of 64 bits
 pub record AtomicsAsk : Type 0 where
@@ -76,8 +77,10 @@ pub record ShortAtomicsAsk : Type 0 where
   pub fetch_and : Asks (AtomicUpdate Bits32 FetchAnd R1 R2 (pos 4)) 2 4294967301 (Atomic (cell_at 0) 4 4 0x51 5 0) (Word 9) 2 9 Pass
   pub fetch_xor : Asks (AtomicUpdate Bits32 FetchXor R1 R2 (pos 4)) 2 4294967301 (Atomic (cell_at 0) 4 4 0xa1 5 0) (Word 9) 2 9 Pass
   pub exchange : Asks (AtomicUpdate Bits32 Exchange R1 R2 (pos 4)) 2 4294967301 (Atomic (cell_at 0) 4 4 0xe1 5 0) (Word 9) 2 9 Pass
-  pub compare_equal : Asks (AtomicUpdate Bits32 CompareExchange R1 R2 (pos 4)) 4294967298 4294967301 (Atomic (cell_at 0) 4 4 0xf1 5 2) (Word 2) 2 4294967301 Pass
-  pub compare_unequal : Asks (AtomicUpdate Bits32 CompareExchange R1 R2 (pos 4)) 4294967298 4294967301 (Atomic (cell_at 0) 4 4 0xf1 5 2) (Word 3) 3 4294967301 Tx
+  pub compare_equal : Asks (AtomicUpdate Bits32 CompareExchange R1 R2 (pos 4)) 4294967298 4294967301 (Atomic (cell_at 0) 4 4 0xf1 5 2)
+      (Word 2) 2 4294967301 Pass
+  pub compare_unequal : Asks (AtomicUpdate Bits32 CompareExchange R1 R2 (pos 4)) 4294967298 4294967301 (Atomic (cell_at 0) 4 4 0xf1 5 2)
+      (Word 3) 3 4294967301 Tx
 
 -- what a run leaves in R2
 abbrev pub second_left : RunStand → Option RegisterValue

@@ -46,20 +46,20 @@ pub enum Call {
     Load {
         cell: CellRef,
         offset: u64,
-        width: u64,
+        size: u64,
     },
     /// Writes some bytes of a cell, little-endian.
     Store {
         cell: CellRef,
         offset: u64,
-        width: u64,
+        size: u64,
         value: u64,
     },
     /// Changes some bytes of a cell in one step, by the operation whose immediate is `op` (RFC 9669, section 5.3).
     Atomic {
         cell: CellRef,
         offset: u64,
-        width: u64,
+        size: u64,
         op: u64,
         value: u64,
         expected: u64,

@@ -11,7 +11,7 @@ pub fn number_of_bytes(bytes: &[u8]) -> u64
     ensures number { result ≡ number_of_bytes bytes.now }
     ensures below { result < 256 ^ length bytes.now }
 {
-    // A case for each width would make the callers too large to be inlined, which costs more than it gains.
+    // A case for each size would make the callers too large to be inlined, which costs more than it gains.
     match bytes {
         [a, b, c, d, e, f, g, h] => u64::from_le_bytes([*a, *b, *c, *d, *e, *f, *g, *h]),
         _ => number_by_byte(bytes),
@@ -33,26 +33,26 @@ fn number_by_byte(bytes: &[u8]) -> u64
     number
 }
 
-/// At most `width` bytes from an offset on: fewer where the list ends before.
-pub fn part_at(bytes: &[u8], offset: usize, width: usize) -> &[u8]
-    ensures part { result.now ≡ take width (drop offset bytes.now) }
-    ensures at_most { length result.now ≤ width }
+/// At most `size` bytes from an offset on: fewer where the list ends before.
+pub fn part_at(bytes: &[u8], offset: usize, size: usize) -> &[u8]
+    ensures part { result.now ≡ take size (drop offset bytes.now) }
+    ensures at_most { length result.now ≤ size }
 {
-    front(back(bytes, offset), width)
+    front(back(bytes, offset), size)
 }
 
-/// The lowest `width` bytes of a number, which are at most eight.
-pub fn bytes_of_number(width: u64, number: u64) -> Bytes<8>
-    requires { width ≤ 8 }
-    ensures bytes { result ≡ bytes_of_number width number }
-    ensures count { length result ≡ width }
+/// The lowest `size` bytes of a number, which are at most eight.
+pub fn bytes_of_number(size: u64, number: u64) -> Bytes<8>
+    requires { size ≤ 8 }
+    ensures bytes { result ≡ bytes_of_number size number }
+    ensures count { length result ≡ size }
 {
-    match width {
+    match size {
         1 => holding(&[(number % 0x100) as u8]),
         2 => holding(&((number % 0x1_0000) as u16).to_le_bytes()),
         4 => holding(&((number % 0x1_0000_0000) as u32).to_le_bytes()),
         8 => holding(&number.to_le_bytes()),
-        _ => bytes_by_byte(width, number),
+        _ => bytes_by_byte(size, number),
     }
 }
 
@@ -65,16 +65,16 @@ fn holding(items: &[u8]) -> Bytes<8>
     bytes
 }
 
-/// The same as `bytes_of_number`, by a turn for each byte. No store has such a width, so it stays out of its callers.
+/// The same as `bytes_of_number`, by a turn for each byte. No store has such a size, so it stays out of its callers.
 #[inline(never)]
-fn bytes_by_byte(width: u64, number: u64) -> Bytes<8>
-    requires { width ≤ 8 }
-    ensures bytes { result ≡ bytes_of_number width number }
-    ensures count { length result ≡ width }
+fn bytes_by_byte(size: u64, number: u64) -> Bytes<8>
+    requires { size ≤ 8 }
+    ensures bytes { result ≡ bytes_of_number size number }
+    ensures count { length result ≡ size }
 {
     let mut bytes = Bytes::empty();
     let mut rest = number;
-    let mut left = width;
+    let mut left = size;
     'higher: while left > 0 {
         bytes.append(&[(rest % 256) as u8]);
         rest /= 256;

@@ -12,15 +12,15 @@ use Rattle.semantics.specs.PlanLimits.{IsPlan}
 use Rattle.semantics.specs.Reclamation.{holds}
 use Rattle.semantics.specs.SequentialShard.{is_kept, shard_after}
 use Rattle.isa.specs.InstructionCodes.{atomic_op_of}
-use Rattle.semantics.specs.History.{shard_of_call, is_holder, is_own_key, is_value, are_bytes, are_flags, is_load_width, is_atomic_width, is_in_cell, is_aligned, fits_width, is_expected, may_change_keys, is_inside_worker, meets_part, meets, IsLegalHistory}
+use Rattle.semantics.specs.History.{shard_of_call, is_holder, is_own_key, is_value, are_bytes, are_flags, is_load_size, is_atomic_size, is_in_cell, is_aligned, fits_size, is_expected, may_change_keys, is_inside_worker, meets_part, meets, IsLegalHistory}
 use Rattle.semantics.proofs.shared.ConditionLemmas.{first_true, second_true}
 use Rattle.semantics.proofs.shared.KeptLemmas.{held_is_kept_of_plan}
 
 -- a caller that holds the cell asks for these bytes of it
-pub record IsRangeOf (plan : ShardPlan) (history : List Entry) (cell offset width : ℕ) : Type 0 where
+pub record IsRangeOf (plan : ShardPlan) (history : List Entry) (cell offset size : ℕ) : Type 0 where
   pub kept : IsTrue (is_kept plan (shard_after plan history) cell)
-  pub narrow : width ≤ 8
-  pub within : offset + width ≤ plan.definition.value_size
+  pub narrow : size ≤ 8
+  pub within : offset + size ≤ plan.definition.value_size
 
 -- a cell that its caller holds is kept
 holder_kept : (plan : ShardPlan) (history : List Entry) (who : Caller) (cell : ℕ) → IsPlan plan → IsLegalHistory plan history → IsTrue (is_holder plan history who cell) → IsTrue (is_kept plan (shard_after plan history) cell)
@@ -32,24 +32,24 @@ holder_kept plan history (Worker number) cell is legal held =
     let below : number < 8 = grind (arith, nat_tests) in
     held_is_kept_of_plan plan history number cell is below legal (second_true (nat_lt number plan.workers) (holds number cell history) held)
 
-narrow_load : (width : ℕ) → IsTrue (is_load_width width) → width ≤ 8
-narrow_load width met = grind (arith, nat_tests)
+narrow_load : (size : ℕ) → IsTrue (is_load_size size) → size ≤ 8
+narrow_load size met = grind (arith, nat_tests)
 
-narrow_atomic : (width : ℕ) → IsTrue (is_atomic_width width) → width ≤ 8
-narrow_atomic width met = grind (arith, nat_tests)
+narrow_atomic : (size : ℕ) → IsTrue (is_atomic_size size) → size ≤ 8
+narrow_atomic size met = grind (arith, nat_tests)
 
-either_width : (width : ℕ) → IsTrue (is_atomic_width width) → (width ≡ 4) ⊎ (width ≡ 8)
-either_width width met = by_test (width == 4) refl met
+either_size : (size : ℕ) → IsTrue (is_atomic_size size) → (size ≡ 4) ⊎ (size ≡ 8)
+either_size size met = by_test (size == 4) refl met
   where
-    by_test : (test : Bool) → (width == 4) ≡ test → IsTrue (test || width == 8) → (width ≡ 4) ⊎ (width ≡ 8)
+    by_test : (test : Bool) → (size == 4) ≡ test → IsTrue (test || size == 8) → (size ≡ 4) ⊎ (size ≡ 8)
     by_test true is met = inl (grind (arith, nat_tests))
     by_test false is met = inr (grind (arith, nat_tests))
 
-in_cell : (plan : ShardPlan) (offset width : ℕ) → IsTrue (is_in_cell plan offset width) → offset + width ≤ plan.definition.value_size
-in_cell plan offset width met = grind (arith, nat_tests)
+in_cell : (plan : ShardPlan) (offset size : ℕ) → IsTrue (is_in_cell plan offset size) → offset + size ≤ plan.definition.value_size
+in_cell plan offset size met = grind (arith, nat_tests)
 
-fits : (value width : ℕ) → IsTrue (fits_width value width) → value < 256 ^ width
-fits value width met = grind (arith, nat_tests)
+fits : (value size : ℕ) → IsTrue (fits_size value size) → value < 256 ^ size
+fits value size met = grind (arith, nat_tests)
 
 same_number : (a b : ℕ) → IsTrue (a == b) → a ≡ b
 same_number a b met = grind (arith, nat_tests)
@@ -60,59 +60,59 @@ part_met plan history who call met = second_true (shard_of_call call == plan.num
 pub named_shard : (plan : ShardPlan) (history : List Entry) (who : Caller) (call : Call) → IsTrue (meets plan history who call) → shard_of_call call ≡ plan.number
 named_shard plan history who call met = same_number _ _ (first_true (shard_of_call call == plan.number) (meets_part plan history who call) met)
 
-pub load_asked : (plan : ShardPlan) (history : List Entry) (who : Caller) (shard cell offset width : ℕ) → IsPlan plan → IsLegalHistory plan history →
-    IsTrue (meets plan history who (Load (record { shard = shard; id = cell }) offset width)) → IsRangeOf plan history cell offset width
-load_asked plan history who shard cell offset width is legal met =
-    let part = part_met plan history who (Load (record { shard = shard; id = cell }) offset width) met in
+pub load_asked : (plan : ShardPlan) (history : List Entry) (who : Caller) (shard cell offset size : ℕ) → IsPlan plan → IsLegalHistory plan history →
+    IsTrue (meets plan history who (Load (record { shard = shard; id = cell }) offset size)) → IsRangeOf plan history cell offset size
+load_asked plan history who shard cell offset size is legal met =
+    let part = part_met plan history who (Load (record { shard = shard; id = cell }) offset size) met in
     record {
       kept = holder_kept plan history who cell is legal (first_true _ _ (first_true _ _ part));
-      narrow = narrow_load width (second_true _ _ (first_true _ _ part));
-      within = in_cell plan offset width (second_true _ _ part);
+      narrow = narrow_load size (second_true _ _ (first_true _ _ part));
+      within = in_cell plan offset size (second_true _ _ part);
     }
 
-pub store_asked : (plan : ShardPlan) (history : List Entry) (who : Caller) (shard cell offset width value : ℕ) → IsPlan plan → IsLegalHistory plan history →
-    IsTrue (meets plan history who (Store (record { shard = shard; id = cell }) offset width value)) → IsRangeOf plan history cell offset width
-store_asked plan history who shard cell offset width value is legal met =
-    let part = part_met plan history who (Store (record { shard = shard; id = cell }) offset width value) met in
+pub store_asked : (plan : ShardPlan) (history : List Entry) (who : Caller) (shard cell offset size value : ℕ) → IsPlan plan → IsLegalHistory plan history →
+    IsTrue (meets plan history who (Store (record { shard = shard; id = cell }) offset size value)) → IsRangeOf plan history cell offset size
+store_asked plan history who shard cell offset size value is legal met =
+    let part = part_met plan history who (Store (record { shard = shard; id = cell }) offset size value) met in
     record {
       kept = holder_kept plan history who cell is legal (first_true _ _ (first_true _ _ (first_true _ _ part)));
-      narrow = narrow_load width (second_true _ _ (first_true _ _ (first_true _ _ part)));
-      within = in_cell plan offset width (second_true _ _ (first_true _ _ part));
+      narrow = narrow_load size (second_true _ _ (first_true _ _ (first_true _ _ part)));
+      within = in_cell plan offset size (second_true _ _ (first_true _ _ part));
     }
 
 -- what an Atomic asks for
-pub record IsAtomicOf (plan : ShardPlan) (history : List Entry) (cell offset width op value expected : ℕ) : Type 0 where
-  pub range : IsRangeOf plan history cell offset width
-  pub width_is : (width ≡ 4) ⊎ (width ≡ 8)
+pub record IsAtomicOf (plan : ShardPlan) (history : List Entry) (cell offset size op value expected : ℕ) : Type 0 where
+  pub range : IsRangeOf plan history cell offset size
+  pub size_is : (size ≡ 4) ⊎ (size ≡ 8)
   pub known : IsTrue (is_some (atomic_op_of op))
   pub short : op < 256
-  pub value_fits : value < 256 ^ width
-  pub expected_fits : expected < 256 ^ width
+  pub value_fits : value < 256 ^ size
+  pub expected_fits : expected < 256 ^ size
 
 op_below : (op : ℕ) → IsTrue (is_some (atomic_op_of op)) → op < 256
 op_below op known = grind (arith, nat_tests)
 
-pub atomic_asked : (plan : ShardPlan) (history : List Entry) (who : Caller) (shard cell offset width op value expected : ℕ) → IsPlan plan → IsLegalHistory plan history →
-    IsTrue (meets plan history who (Atomic (record { shard = shard; id = cell }) offset width op value expected)) → IsAtomicOf plan history cell offset width op value expected
-atomic_asked plan history who shard cell offset width op value expected is legal met =
-    let part = part_met plan history who (Atomic (record { shard = shard; id = cell }) offset width op value expected) met in
+pub atomic_asked : (plan : ShardPlan) (history : List Entry) (who : Caller) (shard cell offset size op value expected : ℕ) → IsPlan plan → IsLegalHistory plan history →
+    IsTrue (meets plan history who (Atomic (record { shard = shard; id = cell }) offset size op value expected)) → IsAtomicOf plan history cell offset size op value expected
+atomic_asked plan history who shard cell offset size op value expected is legal met =
+    let part = part_met plan history who (Atomic (record { shard = shard; id = cell }) offset size op value expected) met in
     let to_expected = first_true _ _ part in
     let to_value = first_true _ _ to_expected in
     let to_op = first_true _ _ to_value in
     let to_place = first_true _ _ to_op in
-    let to_width = first_true _ _ to_place in
+    let to_size = first_true _ _ to_place in
     let known : IsTrue (is_some (atomic_op_of op)) = second_true _ _ to_op in
     record {
       range = record {
-        kept = holder_kept plan history who cell is legal (first_true _ _ to_width);
-        narrow = narrow_atomic width (second_true _ _ to_width);
-        within = in_cell plan offset width (first_true (is_in_cell plan offset width) (is_aligned offset width) (second_true _ _ to_place));
+        kept = holder_kept plan history who cell is legal (first_true _ _ to_size);
+        narrow = narrow_atomic size (second_true _ _ to_size);
+        within = in_cell plan offset size (first_true (is_in_cell plan offset size) (is_aligned offset size) (second_true _ _ to_place));
       };
-      width_is = either_width width (second_true _ _ to_width);
+      size_is = either_size size (second_true _ _ to_size);
       known = known;
       short = op_below op known;
-      value_fits = fits value width (second_true _ _ to_value);
-      expected_fits = fits expected width (second_true _ _ to_expected);
+      value_fits = fits value size (second_true _ _ to_value);
+      expected_fits = fits expected size (second_true _ _ to_expected);
     }
 
 key_sized : (plan : ShardPlan) (key : List ℕ) → IsTrue (is_own_key plan key) → length key ≡ plan.definition.key_size

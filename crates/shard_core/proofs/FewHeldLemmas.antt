@@ -131,9 +131,9 @@ no_creation : (plan : ShardPlan) (shard : SequentialShard) (call : Call) → pla
 no_creation plan shard (Enter number) is = refl
 no_creation plan shard (Leave number) is = refl
 no_creation plan shard (Lookup number key) is = refl
-no_creation plan shard (Load cell offset width) is = refl
-no_creation plan shard (Store cell offset width value) is = refl
-no_creation plan shard (Atomic cell offset width op value expected) is = refl
+no_creation plan shard (Load cell offset size) is = refl
+no_creation plan shard (Store cell offset size value) is = refl
+no_creation plan shard (Atomic cell offset size op value expected) is = refl
 no_creation plan shard (Update number key value flags) is = none_created plan.definition.kind plan shard (update_flags_of flags) (cell_of_key plan shard key) is
 no_creation plan shard (Delete number key) is = refl
 no_creation plan shard (Reclaim number) is = refl

@@ -89,12 +89,12 @@ room_kept plan who (Leave shard) reply older few met room before =
     omega (arith, less, before)
 room_kept plan who (Lookup shard key) reply older few met room before =
     room_at_other plan who (Lookup shard key) reply older (λ place entered. refl) room
-room_kept plan who (Load cell offset width) reply older few met room before =
-    room_at_other plan who (Load cell offset width) reply older (λ place entered. refl) room
-room_kept plan who (Store cell offset width value) reply older few met room before =
-    room_at_other plan who (Store cell offset width value) reply older (λ place entered. refl) room
-room_kept plan who (Atomic cell offset width op value expected) reply older few met room before =
-    room_at_other plan who (Atomic cell offset width op value expected) reply older (λ place entered. refl) room
+room_kept plan who (Load cell offset size) reply older few met room before =
+    room_at_other plan who (Load cell offset size) reply older (λ place entered. refl) room
+room_kept plan who (Store cell offset size value) reply older few met room before =
+    room_at_other plan who (Store cell offset size value) reply older (λ place entered. refl) room
+room_kept plan who (Atomic cell offset size op value expected) reply older few met room before =
+    room_at_other plan who (Atomic cell offset size op value expected) reply older (λ place entered. refl) room
 room_kept plan who (Update shard key value flags) reply older few met room before =
     room_at_other plan who (Update shard key value flags) reply older (λ place entered. refl) room
 room_kept plan who (Delete shard key) reply older few met room before =
@@ -158,9 +158,9 @@ served_has_room plan journal who call few legal met room =
     by_call (Enter shard) met room = by_room 1 room
     by_call (Leave shard) met room = by_leave who met
     by_call (Lookup shard key) met room = by_room 0 room
-    by_call (Load cell offset width) met room = by_room 0 room
-    by_call (Store cell offset width value) met room = by_room 0 room
-    by_call (Atomic cell offset width op value expected) met room = by_room 0 room
+    by_call (Load cell offset size) met room = by_room 0 room
+    by_call (Store cell offset size value) met room = by_room 0 room
+    by_call (Atomic cell offset size op value expected) met room = by_room 0 room
     by_call (Update shard key value flags) met room = by_room 0 room
     by_call (Delete shard key) met room = by_room 0 room
     by_call (Reclaim shard) met room = by_room 0 room

@@ -79,10 +79,10 @@ apart_after_call : (plan : ShardPlan) (history : List Entry) (shard : Sequential
 apart_after_call plan history shard (Enter number) sound apart = apart_later (length history) shard apart
 apart_after_call plan history shard (Leave number) sound apart = apart_later (length history) shard apart
 apart_after_call plan history shard (Lookup number key) sound apart = apart_later (length history) shard apart
-apart_after_call plan history shard (Load cell offset width) sound apart = apart_later (length history) shard apart
-apart_after_call plan history shard (Store cell offset width value) sound apart =
+apart_after_call plan history shard (Load cell offset size) sound apart = apart_later (length history) shard apart
+apart_after_call plan history shard (Store cell offset size value) sound apart =
     let later = apart_later (length history) shard apart in record { since = later.since; retired = later.retired; present = later.present }
-apart_after_call plan history shard (Atomic cell offset width op value expected) sound apart =
+apart_after_call plan history shard (Atomic cell offset size op value expected) sound apart =
     let later = apart_later (length history) shard apart in record { since = later.since; retired = later.retired; present = later.present }
 apart_after_call plan history shard (Update number key value flags) sound apart =
     updated_where-keeps (IsApart (suc (length history))) (update_answer plan shard key flags) (with_value plan history shard key value (cell_of_key plan shard key)) shard

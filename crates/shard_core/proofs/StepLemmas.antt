@@ -93,24 +93,24 @@ section_taken plan journal cells keys entered entered_after inside inside_after 
 pub table_keeps : (plan : ShardPlan) (history : List Entry) (state : SequentialShard) (cells : CellTable) (keys : KeyTable) (cell : ℕ) → IsContents plan history state cells keys → IsTrue (is_kept plan state cell) → IsTrue (T.is_kept cells cell)
 table_keeps plan history state cells keys cell contents kept = ap is_some (kept_bytes plan history state cells keys cell contents kept)
 
-pub kept_number : (plan : ShardPlan) (history : List Entry) (state : SequentialShard) (cells : CellTable) (keys : KeyTable) (cell offset width : ℕ) → IsContents plan history state cells keys → IsTrue (is_kept plan state cell)
-    → number_at cells cell offset width ≡ number_in_cell state cell offset width
-kept_number plan history state cells keys cell offset width contents kept =
-    ap (λ found. number_of_bytes (take width (drop offset (bytes_of_cell found)))) (kept_bytes plan history state cells keys cell contents kept)
+pub kept_number : (plan : ShardPlan) (history : List Entry) (state : SequentialShard) (cells : CellTable) (keys : KeyTable) (cell offset size : ℕ) → IsContents plan history state cells keys → IsTrue (is_kept plan state cell)
+    → number_at cells cell offset size ≡ number_in_cell state cell offset size
+kept_number plan history state cells keys cell offset size contents kept =
+    ap (λ found. number_of_bytes (take size (drop offset (bytes_of_cell found)))) (kept_bytes plan history state cells keys cell contents kept)
 
 -- a number is written
-pub contents_stored : (plan : ShardPlan) (entry : Entry) (history : List Entry) (state : SequentialShard) (cells : CellTable) (keys : KeyTable) (cell offset width value : ℕ) → IsNoUse entry → IsTrue (is_kept plan state cell)
-    → IsContents plan history state cells keys → IsContents plan (entry ∷ history) (with_number_in_cell state cell offset width value) (with_number cells cell offset width value) keys
-contents_stored plan entry history state cells keys cell offset width value none kept contents =
+pub contents_stored : (plan : ShardPlan) (entry : Entry) (history : List Entry) (state : SequentialShard) (cells : CellTable) (keys : KeyTable) (cell offset size value : ℕ) → IsNoUse entry → IsTrue (is_kept plan state cell)
+    → IsContents plan history state cells keys → IsContents plan (entry ∷ history) (with_number_in_cell state cell offset size value) (with_number cells cell offset size value) keys
+contents_stored plan entry history state cells keys cell offset size value none kept contents =
     let same : bytes_of_cell (cell_at cells cell) ≡ cell_bytes state cell = ap bytes_of_cell (kept_bytes plan history state cells keys cell contents kept) in
-    rw same (contents_written plan history (entry ∷ history) state cells keys keys cell (overwritten_at offset (bytes_of_number width value) (cell_bytes state cell)) kept contents
+    rw same (contents_written plan history (entry ∷ history) state cells keys keys cell (overwritten_at offset (bytes_of_number size value) (cell_bytes state cell)) kept contents
     contents.fits (keys_on keys entry history state.present none contents.has))
 
 -- and changed by an atomic operation
-pub contents_changed : (plan : ShardPlan) (entry : Entry) (history : List Entry) (state : SequentialShard) (cells : CellTable) (keys : KeyTable) (cell offset width op value expected : ℕ) (operation : AtomicOp) → IsNoUse entry → IsTrue (is_kept plan state cell)
+pub contents_changed : (plan : ShardPlan) (entry : Entry) (history : List Entry) (state : SequentialShard) (cells : CellTable) (keys : KeyTable) (cell offset size op value expected : ℕ) (operation : AtomicOp) → IsNoUse entry → IsTrue (is_kept plan state cell)
     → atomic_op_of op ≡ Some operation → IsContents plan history state cells keys
-    → IsContents plan (entry ∷ history) (with_number_in_cell state cell offset width (changed_by (atomic_op_of op) width (number_in_cell state cell offset width) value expected))
-    (with_number cells cell offset width (atomic_result (8 * width) operation (number_at cells cell offset width) value expected)) keys
-contents_changed plan entry history state cells keys cell offset width op value expected operation none kept known contents =
-    rw (known, kept_number plan history state cells keys cell offset width contents kept)
-    (contents_stored plan entry history state cells keys cell offset width (atomic_result (8 * width) operation (number_in_cell state cell offset width) value expected) none kept contents)
+    → IsContents plan (entry ∷ history) (with_number_in_cell state cell offset size (changed_by (atomic_op_of op) size (number_in_cell state cell offset size) value expected))
+    (with_number cells cell offset size (atomic_result (8 * size) operation (number_at cells cell offset size) value expected)) keys
+contents_changed plan entry history state cells keys cell offset size op value expected operation none kept known contents =
+    rw (known, kept_number plan history state cells keys cell offset size contents kept)
+    (contents_stored plan entry history state cells keys cell offset size (atomic_result (8 * size) operation (number_in_cell state cell offset size) value expected) none kept contents)

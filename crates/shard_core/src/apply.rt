@@ -34,33 +34,32 @@ impl Shard {
                 Ok(found) => Ok(lookup_reply(self.plan(), found)),
                 Err(full) => Err(full),
             },
-            Call::Load {
-                cell,
-                offset,
-                width,
-            } => match self.load(who, &range_of(cell, *offset, *width)) {
+            Call::Load { cell, offset, size } => match self.load(
+                who,
+                &range_of(cell, *offset, *size),
+            ) {
                 Ok(value) => Ok(Reply::Word { value }),
                 Err(full) => Err(full),
             },
             Call::Store {
                 cell,
                 offset,
-                width,
+                size,
                 value,
-            } => match self.store(who, &range_of(cell, *offset, *width), *value) {
+            } => match self.store(who, &range_of(cell, *offset, *size), *value) {
                 Ok(()) => Ok(Reply::Done),
                 Err(full) => Err(full),
             },
             Call::Atomic {
                 cell,
                 offset,
-                width,
+                size,
                 op,
                 value,
                 expected,
             } => match self.atomic(
                 who,
-                &range_of(cell, *offset, *width),
+                &range_of(cell, *offset, *size),
                 &AtomicChange {
                     op: *op,
                     value: *value,
@@ -92,12 +91,12 @@ impl Shard {
 }
 
 /// Some bytes of a cell of the shard.
-fn range_of(cell: &CellRef, offset: u64, width: u64) -> CellRange
-    ensures { result ≡ record { cell = cell.now.id; offset = offset; width = width } }
+fn range_of(cell: &CellRef, offset: u64, size: u64) -> CellRange
+    ensures { result ≡ record { cell = cell.now.id; offset = offset; size = size } }
 {
     CellRange {
         cell: cell.id,
         offset,
-        width,
+        size,
     }
 }

@@ -5,7 +5,8 @@ ghost use Rattle.semantics.specs.declared.call.Entry.{Entry};
 ghost use Rattle.semantics.specs.declared.plan.ShardPlan.{ShardPlan};
 ghost use Rattle.semantics.specs.declared.plan.PresentKey.{PresentKey};
 ghost use Rattle.semantics.specs.PlanLimits.{IsPlan};
-ghost use Rattle.shard_core.specs.KeyTables.{cell_in, count_in, IsAskedSize, touched_in, victim_cell, without_victim_in, IsInserted, IsRemoved, FitsPlan, HasKeys, IsKeyed, HasRoom, MayGrow, is_full_of};
+ghost use Rattle.shard_core.specs.KeyTables.{cell_in, count_in, IsAskedSize, touched_in, victim_cell, without_victim_in, IsInserted};
+ghost use Rattle.shard_core.specs.KeyTables.{IsRemoved, FitsPlan, HasKeys, IsKeyed, HasRoom, MayGrow, is_full_of};
 ghost use Rattle.lru_maps.specs.LruTable.{cell_of_key, victim, without_victim};
 
 use ebpf_decode::MapKind;

@@ -8,7 +8,8 @@ ghost use Rattle.semantics.specs.SequentialShard.{update_answer, delete_answer, 
 ghost use Rattle.semantics.specs.History.{journal_is_full, IsLegalJournal};
 ghost use Rattle.shard_core.specs.FewHeld.{FewAreHeld};
 ghost use Rattle.shard_core.specs.JournaledShard.{opened_shard, state_of, sequential_reply};
-ghost use Rattle.shard_core.specs.Calls.{MayCall, IsFullFor, after_call, enter_call, leave_call, lookup_call, load_call, store_call, atomic_call, update_call, delete_call, reclaim_call};
+ghost use Rattle.shard_core.specs.Calls.{MayCall, IsFullFor, after_call, enter_call, leave_call, lookup_call, load_call, store_call};
+ghost use Rattle.shard_core.specs.Calls.{atomic_call, update_call, delete_call, reclaim_call};
 
 use crate::answers::{Counts, update_answer};
 use crate::contents::{open_cells, put_value, retire_key};
@@ -188,7 +189,7 @@ impl Shard {
     /// The number that some bytes of a held cell make, the lowest first. Refused where the journal is full; then nothing is changed.
     pub fn load(&mut self, who: Caller, range: &CellRange) -> Result<u64, JournalFull>
         requires { MayCall self.old who (load_call self.old range.now) }
-        ensures of_its_cell { IfOk result (λ value. value ≡ number_in_cell (state_of self.old) range.now.cell range.now.offset range.now.width) }
+        ensures of_its_cell { IfOk result (λ value. value ≡ number_in_cell (state_of self.old) range.now.cell range.now.offset range.now.size) }
         ensures entered { IfOk result (λ value. self.new ≡ after_call self.old who (load_call self.old range.now) (Word value)) }
         ensures legal { IsLegalJournal self.new.plan self.new.journal }
         ensures full { IsErr result ↔ IsFullFor self.old (load_call self.old range.now) }
@@ -229,7 +230,7 @@ impl Shard {
         change: &AtomicChange,
     ) -> Result<u64, JournalFull>
         requires { MayCall self.old who (atomic_call self.old range.now change.now) }
-        ensures of_its_cell { IfOk result (λ old. old ≡ number_in_cell (state_of self.old) range.now.cell range.now.offset range.now.width) }
+        ensures of_its_cell { IfOk result (λ old. old ≡ number_in_cell (state_of self.old) range.now.cell range.now.offset range.now.size) }
         ensures entered { IfOk result (λ old. self.new ≡ after_call self.old who (atomic_call self.old range.now change.now) (Word old)) }
         ensures legal { IsLegalJournal self.new.plan self.new.journal }
         ensures full { IsErr result ↔ IsFullFor self.old (atomic_call self.old range.now change.now) }

@@ -60,26 +60,26 @@ number_of_bytes-below (byte ∷ higher) each =
     rw (number_of_bytes-cons byte higher) (below-more (number_of_bytes higher) byte (length higher) (number_of_bytes-below higher each.1)
     each.0)
 
--- a number of some width that is read in a cell of bytes
-pub number_in_cell-below : (shard : SequentialShard) (cell offset width : ℕ) → AllByRecursion AreBytes shard.cells →
-    number_in_cell shard cell offset width < 256 ^ width
-number_in_cell-below shard cell offset width each =
-    let bytes : List ℕ = take width (drop offset (cell_bytes shard cell)) in
-    let held : AreBytes bytes = each_take (λ byte. byte < 256) width (drop offset (cell_bytes shard cell))
+-- a number of some size that is read in a cell of bytes
+pub number_in_cell-below : (shard : SequentialShard) (cell offset size : ℕ) → AllByRecursion AreBytes shard.cells →
+    number_in_cell shard cell offset size < 256 ^ size
+number_in_cell-below shard cell offset size each =
+    let bytes : List ℕ = take size (drop offset (cell_bytes shard cell)) in
+    let held : AreBytes bytes = each_take (λ byte. byte < 256) size (drop offset (cell_bytes shard cell))
     (each_drop (λ byte. byte < 256) offset (cell_bytes shard cell) (each_at AreBytes shard.cells cell [] each tt)) in
     let below : number_of_bytes bytes < 256 ^ length bytes = number_of_bytes-below bytes held in
-    let short : length bytes ≤ width = simp length-take (omega arith) in
-    let wider : 256 ^ length bytes ≤ 256 ^ width = pow-le-pow_right {n = 256} (lit< tt) short in
+    let short : length bytes ≤ size = simp length-take (omega arith) in
+    let wider : 256 ^ length bytes ≤ 256 ^ size = pow-le-pow_right {n = 256} (lit< tt) short in
     omega (arith, below, wider)
 
 -- ---- calls
 
-number_written : (shard : SequentialShard) (cell offset width value : ℕ) → AllByRecursion AreBytes shard.cells →
-    AllByRecursion AreBytes (with_number_in_cell shard cell offset width value).cells
-number_written shard cell offset width value each =
-    each_set AreBytes shard.cells cell (take offset (cell_bytes shard cell) ++ bytes_of_number width value ++ drop
-    (offset + length (bytes_of_number width value)) (cell_bytes shard cell)) each
-    (overwritten-bytes offset (bytes_of_number width value) (cell_bytes shard cell) (bytes_of_number-bytes width value)
+number_written : (shard : SequentialShard) (cell offset size value : ℕ) → AllByRecursion AreBytes shard.cells →
+    AllByRecursion AreBytes (with_number_in_cell shard cell offset size value).cells
+number_written shard cell offset size value each =
+    each_set AreBytes shard.cells cell (take offset (cell_bytes shard cell) ++ bytes_of_number size value ++ drop
+    (offset + length (bytes_of_number size value)) (cell_bytes shard cell)) each
+    (overwritten-bytes offset (bytes_of_number size value) (cell_bytes shard cell) (bytes_of_number-bytes size value)
     (each_at AreBytes shard.cells cell [] each tt))
 
 cells_without : (shard : SequentialShard) (place : ℕ) (gone : Option PresentKey) → AllByRecursion AreBytes shard.cells →
@@ -101,10 +101,10 @@ pub cells_after_call : (plan : ShardPlan) (history : List Entry) (shard : Sequen
 cells_after_call plan history shard (Enter number) sets each = each
 cells_after_call plan history shard (Leave number) sets each = each
 cells_after_call plan history shard (Lookup number key) sets each = each
-cells_after_call plan history shard (Load cell offset width) sets each = each
-cells_after_call plan history shard (Store cell offset width value) sets each = number_written shard cell.id offset width value each
-cells_after_call plan history shard (Atomic cell offset width op value expected) sets each =
-    number_written shard cell.id offset width _ each
+cells_after_call plan history shard (Load cell offset size) sets each = each
+cells_after_call plan history shard (Store cell offset size value) sets each = number_written shard cell.id offset size value each
+cells_after_call plan history shard (Atomic cell offset size op value expected) sets each =
+    number_written shard cell.id offset size _ each
 cells_after_call plan history shard (Update number key value flags) sets each =
     updated_where-keeps (λ after. AllByRecursion AreBytes after.cells) (update_answer plan shard key flags)
     (with_value plan history shard key value (cell_of_key plan shard key)) shard

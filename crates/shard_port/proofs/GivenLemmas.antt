@@ -204,28 +204,28 @@ lookup_formed maps options worker before number key reply after ready among =
 word_again : (reply : Reply) (value : ℕ) → reply ≡ Word value → reply ≡ Word (word_in reply)
 word_again reply value is = is ∙ ap (λ (one : Reply). Word (word_in one)) (sym is)
 
-pub load_told : (worker : ℕ) (before : List JournaledShard) (cell : CellRef) (offset width : ℕ) (reply : Reply) (after : List JournaledShard) → IsAnsweredAmong worker before (Load cell offset width) reply after → reply ≡ Word (word_in reply)
-load_told worker before cell offset width reply after among = word_again reply _ among.answered.replied
+pub load_told : (worker : ℕ) (before : List JournaledShard) (cell : CellRef) (offset size : ℕ) (reply : Reply) (after : List JournaledShard) → IsAnsweredAmong worker before (Load cell offset size) reply after → reply ≡ Word (word_in reply)
+load_told worker before cell offset size reply after among = word_again reply _ among.answered.replied
 
-pub change_told : (worker : ℕ) (before : List JournaledShard) (cell : CellRef) (offset width op value expected : ℕ) (reply : Reply) (after : List JournaledShard) → IsAnsweredAmong worker before (Atomic cell offset width op value expected) reply after → reply ≡ Word (word_in reply)
-change_told worker before cell offset width op value expected reply after among = word_again reply _ among.answered.replied
+pub change_told : (worker : ℕ) (before : List JournaledShard) (cell : CellRef) (offset size op value expected : ℕ) (reply : Reply) (after : List JournaledShard) → IsAnsweredAmong worker before (Atomic cell offset size op value expected) reply after → reply ≡ Word (word_in reply)
+change_told worker before cell offset size op value expected reply after among = word_again reply _ among.answered.replied
 
-pub load_below : (maps : List MapDef) (options : Options) (worker : ℕ) (before : List JournaledShard) (cell : CellRef) (offset width : ℕ) (reply : Reply) (after : List JournaledShard) → IsReady maps options worker before → IsAnsweredAmong worker before (Load cell offset width) reply after → word_in reply < 256 ^ width
-load_below maps options worker before cell offset width reply after ready among =
+pub load_below : (maps : List MapDef) (options : Options) (worker : ℕ) (before : List JournaledShard) (cell : CellRef) (offset size : ℕ) (reply : Reply) (after : List JournaledShard) → IsReady maps options worker before → IsAnsweredAmong worker before (Load cell offset size) reply after → word_in reply < 256 ^ size
+load_below maps options worker before cell offset size reply after ready among =
     let is : IsShardOf maps options cell.shard among.shard = ready.are_shards.each cell.shard among.shard among.known in
-    subst (λ (one : Reply). word_in one < 256 ^ width) (sym among.answered.replied)
-    (number_in_cell-below (shard_after among.shard.plan (reverse (entered worker among.shard).journal)) cell.id offset width (bytes_entered worker among.shard is.bytes))
+    subst (λ (one : Reply). word_in one < 256 ^ size) (sym among.answered.replied)
+    (number_in_cell-below (shard_after among.shard.plan (reverse (entered worker among.shard).journal)) cell.id offset size (bytes_entered worker among.shard is.bytes))
 
-pub change_below : (maps : List MapDef) (options : Options) (worker : ℕ) (before : List JournaledShard) (cell : CellRef) (offset width op value expected : ℕ) (reply : Reply) (after : List JournaledShard) → IsReady maps options worker before → IsAnsweredAmong worker before (Atomic cell offset width op value expected) reply after → word_in reply < 256 ^ width
-change_below maps options worker before cell offset width op value expected reply after ready among =
+pub change_below : (maps : List MapDef) (options : Options) (worker : ℕ) (before : List JournaledShard) (cell : CellRef) (offset size op value expected : ℕ) (reply : Reply) (after : List JournaledShard) → IsReady maps options worker before → IsAnsweredAmong worker before (Atomic cell offset size op value expected) reply after → word_in reply < 256 ^ size
+change_below maps options worker before cell offset size op value expected reply after ready among =
     let is : IsShardOf maps options cell.shard among.shard = ready.are_shards.each cell.shard among.shard among.known in
-    subst (λ (one : Reply). word_in one < 256 ^ width) (sym among.answered.replied)
-    (number_in_cell-below (shard_after among.shard.plan (reverse (entered worker among.shard).journal)) cell.id offset width (bytes_entered worker among.shard is.bytes))
+    subst (λ (one : Reply). word_in one < 256 ^ size) (sym among.answered.replied)
+    (number_in_cell-below (shard_after among.shard.plan (reverse (entered worker among.shard).journal)) cell.id offset size (bytes_entered worker among.shard is.bytes))
 
 -- ---- stores and answers
 
-pub store_told : (worker : ℕ) (before : List JournaledShard) (cell : CellRef) (offset width value : ℕ) (reply : Reply) (after : List JournaledShard) → IsAnsweredAmong worker before (Store cell offset width value) reply after → reply ≡ Done
-store_told worker before cell offset width value reply after among = among.answered.replied
+pub store_told : (worker : ℕ) (before : List JournaledShard) (cell : CellRef) (offset size value : ℕ) (reply : Reply) (after : List JournaledShard) → IsAnsweredAmong worker before (Store cell offset size value) reply after → reply ≡ Done
+store_told worker before cell offset size value reply after among = among.answered.replied
 
 answer_again : (reply : Reply) (code : ℤ) → reply ≡ Answer code → reply ≡ Answer (answer_in reply)
 answer_again reply code is = is ∙ ap (λ (one : Reply). Answer (answer_in one)) (sym is)

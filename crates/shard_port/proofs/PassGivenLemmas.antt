@@ -48,9 +48,9 @@ sets_bytes : (plan : ShardPlan) (history : List Entry) (who : Caller) (call : Ca
 sets_bytes plan history who (Enter shard) met = tt
 sets_bytes plan history who (Leave shard) met = tt
 sets_bytes plan history who (Lookup shard key) met = tt
-sets_bytes plan history who (Load cell offset width) met = tt
-sets_bytes plan history who (Store cell offset width value) met = tt
-sets_bytes plan history who (Atomic cell offset width op value expected) met = tt
+sets_bytes plan history who (Load cell offset size) met = tt
+sets_bytes plan history who (Store cell offset size value) met = tt
+sets_bytes plan history who (Atomic cell offset size op value expected) met = tt
 sets_bytes plan history who (Update shard key value flags) met =
     let part : IsTrue ((may_change_keys plan history who && is_own_key plan key) && (is_value plan value && are_flags flags)) =
     second_true (shard == plan.number) _ met in
@@ -163,24 +163,24 @@ lookup_formed maps options count plan number worker before after key reply plans
 
 -- ---- words
 
-pub word_below : (plan : ShardPlan) (number worker : ℕ) (before after : CallerView) (cell : CellRef) (offset width value : ℕ) →
-    IsAskedAt plan number worker before after (Load cell offset width) (Word value) → value < 256 ^ width
-word_below plan number worker before after cell offset width value asked =
+pub word_below : (plan : ShardPlan) (number worker : ℕ) (before after : CallerView) (cell : CellRef) (offset size value : ℕ) →
+    IsAskedAt plan number worker before after (Load cell offset size) (Word value) → value < 256 ^ size
+word_below plan number worker before after cell offset size value asked =
     let history : List Entry = entering worker number before.own ++ asked.earlier in
-    let legal = legal_step plan number worker before after (Load cell offset width) (Word value) asked in
-    subst (λ (one : Reply). word_in one < 256 ^ width)
-    (sym (answered plan number worker before after (Load cell offset width) (Word value) asked))
-    (number_in_cell-below (shard_after plan history) cell.id offset width (legal_bytes plan history legal.1))
+    let legal = legal_step plan number worker before after (Load cell offset size) (Word value) asked in
+    subst (λ (one : Reply). word_in one < 256 ^ size)
+    (sym (answered plan number worker before after (Load cell offset size) (Word value) asked))
+    (number_in_cell-below (shard_after plan history) cell.id offset size (legal_bytes plan history legal.1))
 
 pub changed_below : (plan : ShardPlan) (number worker : ℕ) (before after : CallerView) (cell : CellRef)
-    (offset width op value expected old : ℕ) →
-    IsAskedAt plan number worker before after (Atomic cell offset width op value expected) (Word old) → old < 256 ^ width
-changed_below plan number worker before after cell offset width op value expected old asked =
+    (offset size op value expected old : ℕ) →
+    IsAskedAt plan number worker before after (Atomic cell offset size op value expected) (Word old) → old < 256 ^ size
+changed_below plan number worker before after cell offset size op value expected old asked =
     let history : List Entry = entering worker number before.own ++ asked.earlier in
-    let legal = legal_step plan number worker before after (Atomic cell offset width op value expected) (Word old) asked in
-    subst (λ (one : Reply). word_in one < 256 ^ width)
-    (sym (answered plan number worker before after (Atomic cell offset width op value expected) (Word old) asked))
-    (number_in_cell-below (shard_after plan history) cell.id offset width (legal_bytes plan history legal.1))
+    let legal = legal_step plan number worker before after (Atomic cell offset size op value expected) (Word old) asked in
+    subst (λ (one : Reply). word_in one < 256 ^ size)
+    (sym (answered plan number worker before after (Atomic cell offset size op value expected) (Word old) asked))
+    (number_in_cell-below (shard_after plan history) cell.id offset size (legal_bytes plan history legal.1))
 
 -- ---- together
 

@@ -22,7 +22,7 @@ use Rattle.ebpf_decode.specs.declared.version.Version.TheVariants.{V2}
 use Rattle.journals.specs.JournalsView.{AreImageMaps}
 use Rattle.shard_port.proofs.GivenLemmas.{sizes_at, some_same}
 use Rattle.semantics.specs.Reclamation.{is_inside, holds}
-use Rattle.semantics.specs.History.{is_inside_worker, is_holder, is_own_key, is_load_width, is_in_cell, Meets}
+use Rattle.semantics.specs.History.{is_inside_worker, is_holder, is_own_key, is_load_size, is_in_cell, Meets}
 use Rattle.semantics.proofs.shared.ConditionLemmas.{first_true, second_true, bytes_test}
 use Rattle.map_port.specs.Served.{Maps, shard_of, IsKeyOf, IsPairOf, IsReadable, IsStorable, IsAtomic, lookup_call, update_call, delete_call, atomic_call}
 use Rattle.shared_shards.specs.SharedMaps.{ArePlans}
@@ -133,19 +133,19 @@ update_met maps options count plan Reclaimer own map key value flags plans are b
 
 -- a place in a cell that was handed out
 pub record IsAtPlace (options : Options) (count : ℕ) (plan : ℕ → ShardPlan) (who : Caller) (own : List Entry) (cell : CellRef)
-    (offset width : ℕ) : Type 0 where
+    (offset size : ℕ) : Type 0 where
   pub within : cell.shard < count
   pub numbered : (cell.shard == (plan cell.shard).number) ≡ true
   pub holder : is_holder (plan cell.shard) (inside_own (worker_of who) cell.shard own) who cell.id ≡ true
-  pub is_width : is_load_width width ≡ true
-  pub in_cell : is_in_cell (plan cell.shard) offset width ≡ true
+  pub is_size : is_load_size size ≡ true
+  pub in_cell : is_in_cell (plan cell.shard) offset size ≡ true
 
-some_map : (maps : List MapDef) (map offset width : ℕ) (found : Option MapDef) → slice_get maps map ≡ found → is_load_width width ≡ true →
-    offset + width ≤ value_size_of found → (definition : MapDef) × (slice_get maps map ≡ Some definition)
-some_map maps map offset width (Some definition) is width_is inside = (definition, is)
-some_map maps map offset width None is width_is inside =
-    let none : width ≡ 0 = omega (arith, inside) in
-    let bad : is_load_width 0 ≡ true = subst (λ (n : ℕ). is_load_width n ≡ true) none width_is in
+some_map : (maps : List MapDef) (map offset size : ℕ) (found : Option MapDef) → slice_get maps map ≡ found → is_load_size size ≡ true →
+    offset + size ≤ value_size_of found → (definition : MapDef) × (slice_get maps map ≡ Some definition)
+some_map maps map offset size (Some definition) is size_is inside = (definition, is)
+some_map maps map offset size None is size_is inside =
+    let none : size ≡ 0 = omega (arith, inside) in
+    let bad : is_load_size 0 ≡ true = subst (λ (n : ℕ). is_load_size n ≡ true) none size_is in
     absurd (cc bad)
 
 holder_of : (options : Options) (plan : ShardPlan) (who : Caller) (number cell : ℕ) (own : List Entry) → plan.workers ≡ options.workers →
@@ -160,17 +160,17 @@ holder_of options plan Controller number cell own same below held = cc
 holder_of options plan Reclaimer number cell own same below held = cc
 
 pub at_place : (maps : List MapDef) (options : Options) (count : ℕ) (plan : ℕ → ShardPlan) (pass : PassView) (cell : CellRef)
-    (offset width : ℕ) → ArePlans maps options count plan → AreOptions maps options → IsTrue (is_worker_below options.workers pass.who) →
-    IsReadable (served_by maps options) (has_found (record { served = served_by maps options; pass = pass })) cell offset width →
-    IsAtPlace options count plan pass.who (own_at pass cell.shard) cell offset width
-at_place maps options count plan pass cell offset width plans are below readable =
+    (offset size : ℕ) → ArePlans maps options count plan → AreOptions maps options → IsTrue (is_worker_below options.workers pass.who) →
+    IsReadable (served_by maps options) (has_found (record { served = served_by maps options; pass = pass })) cell offset size →
+    IsAtPlace options count plan pass.who (own_at pass cell.shard) cell offset size
+at_place maps options count plan pass cell offset size plans are below readable =
     let map : ℕ = readable.map in
     let of_map : IsTrue (cell.shard / options.shards == map) =
     first_true (cell.shard / options.shards == map) (holds_own pass.who (own_at pass cell.shard) cell.id) readable.holds in
     let held : IsTrue (holds_own pass.who (own_at pass cell.shard) cell.id) =
     second_true (cell.shard / options.shards == map) (holds_own pass.who (own_at pass cell.shard) cell.id) readable.holds in
     let place : cell.shard / options.shards ≡ map = grind (arith, nat_tests) in
-    let known = some_map maps map offset width (slice_get maps map) refl readable.is_width readable.inside in
+    let known = some_map maps map offset size (slice_get maps map) refl readable.is_size readable.inside in
     let among : map < length maps = slice_get_within maps map known.0 known.1 in
     let some : 0 < options.shards = keys.some_part maps options are in
     let below_all : cell.shard < length maps * options.shards =
@@ -185,38 +185,38 @@ at_place maps options count plan pass cell offset width plans are below readable
       within = within;
       numbered = at.numbered_test;
       holder = holder_of options (plan cell.shard) pass.who cell.shard cell.id (own_at pass cell.shard) at.workers below held;
-      is_width = readable.is_width;
-      in_cell = in_cell_of maps map (plan cell.shard) offset width defined readable.inside;
+      is_size = readable.is_size;
+      in_cell = in_cell_of maps map (plan cell.shard) offset size defined readable.inside;
     }
 
 pub load_met : (maps : List MapDef) (options : Options) (count : ℕ) (plan : ℕ → ShardPlan) (pass : PassView) (cell : CellRef)
-    (offset width : ℕ) → ArePlans maps options count plan → AreOptions maps options → IsTrue (is_worker_below options.workers pass.who) →
-    IsReadable (served_by maps options) (has_found (record { served = served_by maps options; pass = pass })) cell offset width →
-    Meets (plan cell.shard) (inside_own (worker_of pass.who) cell.shard (own_at pass cell.shard)) pass.who (Load cell offset width)
-load_met maps options count plan pass cell offset width plans are below readable =
-    let at = at_place maps options count plan pass cell offset width plans are below readable in
-    both_true _ _ at.numbered (both_true _ _ (both_true _ _ at.holder at.is_width) at.in_cell)
+    (offset size : ℕ) → ArePlans maps options count plan → AreOptions maps options → IsTrue (is_worker_below options.workers pass.who) →
+    IsReadable (served_by maps options) (has_found (record { served = served_by maps options; pass = pass })) cell offset size →
+    Meets (plan cell.shard) (inside_own (worker_of pass.who) cell.shard (own_at pass cell.shard)) pass.who (Load cell offset size)
+load_met maps options count plan pass cell offset size plans are below readable =
+    let at = at_place maps options count plan pass cell offset size plans are below readable in
+    both_true _ _ at.numbered (both_true _ _ (both_true _ _ at.holder at.is_size) at.in_cell)
 
 pub store_met : (maps : List MapDef) (options : Options) (count : ℕ) (plan : ℕ → ShardPlan) (pass : PassView) (cell : CellRef)
-    (offset width value : ℕ) → ArePlans maps options count plan → AreOptions maps options →
+    (offset size value : ℕ) → ArePlans maps options count plan → AreOptions maps options →
     IsTrue (is_worker_below options.workers pass.who) →
-    IsStorable (served_by maps options) (has_found (record { served = served_by maps options; pass = pass })) cell offset width value →
-    Meets (plan cell.shard) (inside_own (worker_of pass.who) cell.shard (own_at pass cell.shard)) pass.who (Store cell offset width value)
-store_met maps options count plan pass cell offset width value plans are below storable =
-    let at = at_place maps options count plan pass cell offset width plans are below storable.place in
+    IsStorable (served_by maps options) (has_found (record { served = served_by maps options; pass = pass })) cell offset size value →
+    Meets (plan cell.shard) (inside_own (worker_of pass.who) cell.shard (own_at pass cell.shard)) pass.who (Store cell offset size value)
+store_met maps options count plan pass cell offset size value plans are below storable =
+    let at = at_place maps options count plan pass cell offset size plans are below storable.place in
     both_true _ _ at.numbered
-    (both_true _ _ (both_true _ _ (both_true _ _ at.holder at.is_width) at.in_cell) (fits_test value width storable.fits))
+    (both_true _ _ (both_true _ _ (both_true _ _ at.holder at.is_size) at.in_cell) (fits_test value size storable.fits))
 
 pub change_met : (maps : List MapDef) (options : Options) (count : ℕ) (plan : ℕ → ShardPlan) (pass : PassView) (cell : CellRef)
-    (offset width : ℕ) (op : AtomicOp) (value expected : ℕ) → ArePlans maps options count plan → AreOptions maps options →
+    (offset size : ℕ) (op : AtomicOp) (value expected : ℕ) → ArePlans maps options count plan → AreOptions maps options →
     IsTrue (is_worker_below options.workers pass.who) →
-    IsAtomic (served_by maps options) (has_found (record { served = served_by maps options; pass = pass })) cell offset width op value
+    IsAtomic (served_by maps options) (has_found (record { served = served_by maps options; pass = pass })) cell offset size op value
     expected →
     Meets (plan cell.shard) (inside_own (worker_of pass.who) cell.shard (own_at pass cell.shard)) pass.who
-    (atomic_call cell offset width op value expected)
-change_met maps options count plan pass cell offset width op value expected plans are below atomic =
-    let at = at_place maps options count plan pass cell offset width plans are below atomic.place in
+    (atomic_call cell offset size op value expected)
+change_met maps options count plan pass cell offset size op value expected plans are below atomic =
+    let at = at_place maps options count plan pass cell offset size plans are below atomic.place in
     both_true _ _ at.numbered
-    (both_true _ _ (both_true _ _ (both_true _ _ (both_true _ _ (both_true _ _ (both_true _ _ at.holder atomic.atomic_width)
-    (both_true _ _ at.in_cell (same_test _ _ atomic.aligned))) (known_op op)) (fits_test value width atomic.fits))
-    (fits_test expected width atomic.expected_fits)) atomic.expected_if)
+    (both_true _ _ (both_true _ _ (both_true _ _ (both_true _ _ (both_true _ _ (both_true _ _ at.holder atomic.atomic_size)
+    (both_true _ _ at.in_cell (same_test _ _ atomic.aligned))) (known_op op)) (fits_test value size atomic.fits))
+    (fits_test expected size atomic.expected_fits)) atomic.expected_if)

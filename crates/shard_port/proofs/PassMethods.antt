@@ -224,100 +224,100 @@ update_refused count plan shards shards' before after map key value flags number
 
 -- ---- cells
 
-readable_at : (shards : SharedMaps) (pass : PassView) (handle : ℕ) (cell : CellRef) (offset width : ℕ) → cell ≡ cell_of_handle handle →
-    IsReadable (served_of shards) (has_found (port_of shards pass)) (cell_of_handle handle) offset width →
-    IsReadable (served_of shards) (has_found (port_of shards pass)) cell offset width
-readable_at shards pass handle cell offset width is readable =
-    subst (λ (one : CellRef). IsReadable (served_of shards) (has_found (port_of shards pass)) one offset width) (sym is) readable
+readable_at : (shards : SharedMaps) (pass : PassView) (handle : ℕ) (cell : CellRef) (offset size : ℕ) → cell ≡ cell_of_handle handle →
+    IsReadable (served_of shards) (has_found (port_of shards pass)) (cell_of_handle handle) offset size →
+    IsReadable (served_of shards) (has_found (port_of shards pass)) cell offset size
+readable_at shards pass handle cell offset size is readable =
+    subst (λ (one : CellRef). IsReadable (served_of shards) (has_found (port_of shards pass)) one offset size) (sym is) readable
 
 pub cell_within : (count : ℕ) (plan : ℕ → ShardPlan) (shards : SharedMaps) (pass : PassView) (handle : ℕ) (cell : CellRef)
-    (offset width : ℕ) → Stands count plan shards pass → cell ≡ cell_of_handle handle →
-    IsReadable (served_of shards) (has_found (port_of shards pass)) (cell_of_handle handle) offset width → cell.shard < count
-cell_within count plan shards pass handle cell offset width stands is readable =
-    (at_place shards.maps shards.options count plan pass cell offset width stands.plans stands.options stands.below
-    (readable_at shards pass handle cell offset width is readable)).within
+    (offset size : ℕ) → Stands count plan shards pass → cell ≡ cell_of_handle handle →
+    IsReadable (served_of shards) (has_found (port_of shards pass)) (cell_of_handle handle) offset size → cell.shard < count
+cell_within count plan shards pass handle cell offset size stands is readable =
+    (at_place shards.maps shards.options count plan pass cell offset size stands.plans stands.options stands.below
+    (readable_at shards pass handle cell offset size is readable)).within
 
 pub met_load : (count : ℕ) (plan : ℕ → ShardPlan) (shards : SharedMaps) (pass : PassView) (handle : ℕ) (cell : CellRef)
-    (offset width : ℕ) → Stands count plan shards pass → cell ≡ cell_of_handle handle →
-    IsReadable (served_of shards) (has_found (port_of shards pass)) (cell_of_handle handle) offset width →
-    Meets (plan cell.shard) (inside_own (worker_of pass.who) cell.shard (own_at pass cell.shard)) pass.who (Load cell offset width)
-met_load count plan shards pass handle cell offset width stands is readable =
-    load_met shards.maps shards.options count plan pass cell offset width stands.plans stands.options stands.below
-    (readable_at shards pass handle cell offset width is readable)
+    (offset size : ℕ) → Stands count plan shards pass → cell ≡ cell_of_handle handle →
+    IsReadable (served_of shards) (has_found (port_of shards pass)) (cell_of_handle handle) offset size →
+    Meets (plan cell.shard) (inside_own (worker_of pass.who) cell.shard (own_at pass cell.shard)) pass.who (Load cell offset size)
+met_load count plan shards pass handle cell offset size stands is readable =
+    load_met shards.maps shards.options count plan pass cell offset size stands.plans stands.options stands.below
+    (readable_at shards pass handle cell offset size is readable)
 
 pub met_store : (count : ℕ) (plan : ℕ → ShardPlan) (shards : SharedMaps) (pass : PassView) (handle : ℕ) (cell : CellRef)
-    (offset width value : ℕ) → Stands count plan shards pass → cell ≡ cell_of_handle handle →
-    IsStorable (served_of shards) (has_found (port_of shards pass)) (cell_of_handle handle) offset width value →
-    Meets (plan cell.shard) (inside_own (worker_of pass.who) cell.shard (own_at pass cell.shard)) pass.who (Store cell offset width value)
-met_store count plan shards pass handle cell offset width value stands is storable =
-    store_met shards.maps shards.options count plan pass cell offset width value stands.plans stands.options stands.below
-    (subst (λ (one : CellRef). IsStorable (served_of shards) (has_found (port_of shards pass)) one offset width value) (sym is) storable)
+    (offset size value : ℕ) → Stands count plan shards pass → cell ≡ cell_of_handle handle →
+    IsStorable (served_of shards) (has_found (port_of shards pass)) (cell_of_handle handle) offset size value →
+    Meets (plan cell.shard) (inside_own (worker_of pass.who) cell.shard (own_at pass cell.shard)) pass.who (Store cell offset size value)
+met_store count plan shards pass handle cell offset size value stands is storable =
+    store_met shards.maps shards.options count plan pass cell offset size value stands.plans stands.options stands.below
+    (subst (λ (one : CellRef). IsStorable (served_of shards) (has_found (port_of shards pass)) one offset size value) (sym is) storable)
 
 pub met_change : (count : ℕ) (plan : ℕ → ShardPlan) (shards : SharedMaps) (pass : PassView) (handle : ℕ) (cell : CellRef)
-    (offset width : ℕ) (op : AtomicOp) (value expected : ℕ) → Stands count plan shards pass → cell ≡ cell_of_handle handle →
-    IsAtomic (served_of shards) (has_found (port_of shards pass)) (cell_of_handle handle) offset width op value expected →
+    (offset size : ℕ) (op : AtomicOp) (value expected : ℕ) → Stands count plan shards pass → cell ≡ cell_of_handle handle →
+    IsAtomic (served_of shards) (has_found (port_of shards pass)) (cell_of_handle handle) offset size op value expected →
     Meets (plan cell.shard) (inside_own (worker_of pass.who) cell.shard (own_at pass cell.shard)) pass.who
-    (Atomic cell offset width (atomic_code op) value expected)
-met_change count plan shards pass handle cell offset width op value expected stands is atomic =
-    change_met shards.maps shards.options count plan pass cell offset width op value expected stands.plans stands.options stands.below
-    (subst (λ (one : CellRef). IsAtomic (served_of shards) (has_found (port_of shards pass)) one offset width op value expected) (sym is)
+    (Atomic cell offset size (atomic_code op) value expected)
+met_change count plan shards pass handle cell offset size op value expected stands is atomic =
+    change_met shards.maps shards.options count plan pass cell offset size op value expected stands.plans stands.options stands.below
+    (subst (λ (one : CellRef). IsAtomic (served_of shards) (has_found (port_of shards pass)) one offset size op value expected) (sym is)
     atomic)
 
 pub load_given : (count : ℕ) (plan : ℕ → ShardPlan) (shards shards' : SharedMaps) (before after : PassView) (handle : ℕ) (cell : CellRef)
-    (offset width value : ℕ) → Stands count plan shards before → shards' ≡ shards → cell ≡ cell_of_handle handle →
+    (offset size value : ℕ) → Stands count plan shards before → shards' ≡ shards → cell ≡ cell_of_handle handle →
     IsElsewhereSame cell.shard before after →
-    IsReadable (served_of shards) (has_found (port_of shards before)) (cell_of_handle handle) offset width →
+    IsReadable (served_of shards) (has_found (port_of shards before)) (cell_of_handle handle) offset size →
     IsAskedAt (plan cell.shard) cell.shard (worker_of before.who) (view_at before cell.shard) (view_at after cell.shard)
-    (Load cell offset width) (Word value) →
-    IsGivenBy plan count (port_of shards before) (Load (cell_of_handle handle) offset width) (Word value) (port_of shards' after)
-load_given count plan shards shards' before after handle cell offset width value stands same_shards is elsewhere readable asked =
-    subst (λ (one : CellRef). IsGivenBy plan count (port_of shards before) (Load one offset width) (Word value) (port_of shards' after)) is
-    (given_one count plan shards shards' before after (Load cell offset width) (Word value) stands same_shards
-    (cell_within count plan shards before handle cell offset width stands is readable) elsewhere tt
-    (word_below (plan cell.shard) cell.shard (worker_of before.who) (view_at before cell.shard) (view_at after cell.shard) cell offset width
+    (Load cell offset size) (Word value) →
+    IsGivenBy plan count (port_of shards before) (Load (cell_of_handle handle) offset size) (Word value) (port_of shards' after)
+load_given count plan shards shards' before after handle cell offset size value stands same_shards is elsewhere readable asked =
+    subst (λ (one : CellRef). IsGivenBy plan count (port_of shards before) (Load one offset size) (Word value) (port_of shards' after)) is
+    (given_one count plan shards shards' before after (Load cell offset size) (Word value) stands same_shards
+    (cell_within count plan shards before handle cell offset size stands is readable) elsewhere tt
+    (word_below (plan cell.shard) cell.shard (worker_of before.who) (view_at before cell.shard) (view_at after cell.shard) cell offset size
     value asked) asked)
 
 pub store_given : (count : ℕ) (plan : ℕ → ShardPlan) (shards shards' : SharedMaps) (before after : PassView) (handle : ℕ) (cell : CellRef)
-    (offset width value : ℕ) → Stands count plan shards before → shards' ≡ shards → cell ≡ cell_of_handle handle →
+    (offset size value : ℕ) → Stands count plan shards before → shards' ≡ shards → cell ≡ cell_of_handle handle →
     IsElsewhereSame cell.shard before after →
-    IsReadable (served_of shards) (has_found (port_of shards before)) (cell_of_handle handle) offset width →
+    IsReadable (served_of shards) (has_found (port_of shards before)) (cell_of_handle handle) offset size →
     IsAskedAt (plan cell.shard) cell.shard (worker_of before.who) (view_at before cell.shard) (view_at after cell.shard)
-    (Store cell offset width value) Done →
-    IsGivenBy plan count (port_of shards before) (Store (cell_of_handle handle) offset width value) Done (port_of shards' after)
-store_given count plan shards shards' before after handle cell offset width value stands same_shards is elsewhere readable asked =
-    subst (λ (one : CellRef). IsGivenBy plan count (port_of shards before) (Store one offset width value) Done (port_of shards' after)) is
-    (given_one count plan shards shards' before after (Store cell offset width value) Done stands same_shards
-    (cell_within count plan shards before handle cell offset width stands is readable) elsewhere tt tt asked)
+    (Store cell offset size value) Done →
+    IsGivenBy plan count (port_of shards before) (Store (cell_of_handle handle) offset size value) Done (port_of shards' after)
+store_given count plan shards shards' before after handle cell offset size value stands same_shards is elsewhere readable asked =
+    subst (λ (one : CellRef). IsGivenBy plan count (port_of shards before) (Store one offset size value) Done (port_of shards' after)) is
+    (given_one count plan shards shards' before after (Store cell offset size value) Done stands same_shards
+    (cell_within count plan shards before handle cell offset size stands is readable) elsewhere tt tt asked)
 
 pub change_given : (count : ℕ) (plan : ℕ → ShardPlan) (shards shards' : SharedMaps) (before after : PassView) (handle : ℕ) (cell : CellRef)
-    (offset width op value expected old : ℕ) → Stands count plan shards before → shards' ≡ shards → cell ≡ cell_of_handle handle →
+    (offset size op value expected old : ℕ) → Stands count plan shards before → shards' ≡ shards → cell ≡ cell_of_handle handle →
     IsElsewhereSame cell.shard before after →
-    IsReadable (served_of shards) (has_found (port_of shards before)) (cell_of_handle handle) offset width →
+    IsReadable (served_of shards) (has_found (port_of shards before)) (cell_of_handle handle) offset size →
     IsAskedAt (plan cell.shard) cell.shard (worker_of before.who) (view_at before cell.shard) (view_at after cell.shard)
-    (Atomic cell offset width op value expected) (Word old) →
-    IsGivenBy plan count (port_of shards before) (Atomic (cell_of_handle handle) offset width op value expected) (Word old)
+    (Atomic cell offset size op value expected) (Word old) →
+    IsGivenBy plan count (port_of shards before) (Atomic (cell_of_handle handle) offset size op value expected) (Word old)
     (port_of shards' after)
-change_given count plan shards shards' before after handle cell offset width op value expected old stands same_shards is elsewhere readable
+change_given count plan shards shards' before after handle cell offset size op value expected old stands same_shards is elsewhere readable
     asked =
-    subst (λ (one : CellRef). IsGivenBy plan count (port_of shards before) (Atomic one offset width op value expected) (Word old)
+    subst (λ (one : CellRef). IsGivenBy plan count (port_of shards before) (Atomic one offset size op value expected) (Word old)
     (port_of shards' after)) is
-    (given_one count plan shards shards' before after (Atomic cell offset width op value expected) (Word old) stands same_shards
-    (cell_within count plan shards before handle cell offset width stands is readable) elsewhere tt
+    (given_one count plan shards shards' before after (Atomic cell offset size op value expected) (Word old) stands same_shards
+    (cell_within count plan shards before handle cell offset size stands is readable) elsewhere tt
     (changed_below (plan cell.shard) cell.shard (worker_of before.who) (view_at before cell.shard) (view_at after cell.shard) cell offset
-    width op value expected old asked) asked)
+    size op value expected old asked) asked)
 
 -- a refusal of a call of a cell
 pub cell_refused : (count : ℕ) (plan : ℕ → ShardPlan) (shards shards' : SharedMaps) (before after : PassView) (handle : ℕ) (cell : CellRef)
-    (offset width : ℕ) (call : CellRef → Call) → ((one : CellRef) → shard_of_call (call one) ≡ one.shard) →
+    (offset size : ℕ) (call : CellRef → Call) → ((one : CellRef) → shard_of_call (call one) ≡ one.shard) →
     Stands count plan shards before → shards' ≡ shards →
     cell ≡ cell_of_handle handle → IsElsewhereSame cell.shard before after →
-    IsReadable (served_of shards) (has_found (port_of shards before)) (cell_of_handle handle) offset width →
+    IsReadable (served_of shards) (has_found (port_of shards before)) (cell_of_handle handle) offset size →
     IsTurnedAwayAt (plan cell.shard) cell.shard (worker_of before.who) (view_at before cell.shard) (view_at after cell.shard) (call cell) →
     IsRefusedBy plan count (port_of shards before) (call (cell_of_handle handle)) (port_of shards' after)
-cell_refused count plan shards shards' before after handle cell offset width call own stands same_shards is elsewhere readable away =
+cell_refused count plan shards shards' before after handle cell offset size call own stands same_shards is elsewhere readable away =
     let at : cell.shard ≡ shard_of_call (call cell) = sym (own cell) in
     subst (λ (one : CellRef). IsRefusedBy plan count (port_of shards before) (call one) (port_of shards' after)) is
     (refused_one count plan shards shards' before after (call cell) stands same_shards
-    (subst (λ (n : ℕ). n < count) at (cell_within count plan shards before handle cell offset width stands is readable))
+    (subst (λ (n : ℕ). n < count) at (cell_within count plan shards before handle cell offset size stands is readable))
     (subst (λ (n : ℕ). IsElsewhereSame n before after) at elsewhere)
     (subst (λ (n : ℕ). IsTurnedAwayAt (plan n) n (worker_of before.who) (view_at before n) (view_at after n) (call cell)) at away))

@@ -145,9 +145,9 @@ pub hands_out_by : (plan : ℕ → ShardPlan) (count : ℕ) (before after : Pass
 hands_out_by plan count before after (Lookup shard key) reply given = found_in plan count before after shard key reply given
 hands_out_by plan count before after (Enter shard) reply given = tt
 hands_out_by plan count before after (Leave shard) reply given = tt
-hands_out_by plan count before after (Load cell offset width) reply given = tt
-hands_out_by plan count before after (Store cell offset width value) reply given = tt
-hands_out_by plan count before after (Atomic cell offset width op value expected) reply given = tt
+hands_out_by plan count before after (Load cell offset size) reply given = tt
+hands_out_by plan count before after (Store cell offset size value) reply given = tt
+hands_out_by plan count before after (Atomic cell offset size op value expected) reply given = tt
 hands_out_by plan count before after (Update shard key value flags) reply given = tt
 hands_out_by plan count before after (Delete shard key) reply given = tt
 hands_out_by plan count before after (Reclaim shard) reply given = tt

@@ -1,5 +1,6 @@
 -- What a port's calls keep and hand out.
-use Rattle.std.proofs.Common.{◌≡◌, ℕ, zero, suc, ◌+◌, ◌*◌, ◌/◌, ◌<◌, Bool, true, false, ◌&&◌, ◌||◌, List, [], ◌∷◌, ◌++◌, reverse, Some, arith, refl, sym, ◌∙◌, ap, subst}
+use Rattle.std.proofs.Common.{◌≡◌, ℕ, zero, suc, ◌+◌, ◌*◌, ◌/◌, ◌<◌, Bool, true, false, ◌&&◌, ◌||◌, List, [], ◌∷◌, ◌++◌, reverse, Some}
+use Rattle.std.proofs.Common.{arith, refl, sym, ◌∙◌, ap, subst}
 use Rattle.std.specs.Prelude.{◌==◌, IsTrue, is_some, slice_get, slice_set, if◌then◌else◌}
 use Rattle.std.proofs.lemmas.List.{reverse-append}
 use Rattle.std.proofs.lemmas.Bool.Decides.{nat_tests}
@@ -60,9 +61,9 @@ held_after_call worker cell (Enter shard) reply history run held = absurd run
 held_after_call worker cell (Leave shard) reply history run held = absurd run
 held_after_call worker cell (Reclaim shard) reply history run held = absurd run
 held_after_call worker cell (Lookup shard key) reply history run held = rw (same_worker worker, held) (or_held (found_cell reply cell))
-held_after_call worker cell (Load at offset width) reply history run held = rw (same_worker worker) held
-held_after_call worker cell (Store at offset width value) reply history run held = rw (same_worker worker) held
-held_after_call worker cell (Atomic at offset width op value expected) reply history run held = rw (same_worker worker) held
+held_after_call worker cell (Load at offset size) reply history run held = rw (same_worker worker) held
+held_after_call worker cell (Store at offset size value) reply history run held = rw (same_worker worker) held
+held_after_call worker cell (Atomic at offset size op value expected) reply history run held = rw (same_worker worker) held
 held_after_call worker cell (Update shard key value flags) reply history run held = rw (same_worker worker) held
 held_after_call worker cell (Delete shard key) reply history run held = rw (same_worker worker) held
 
@@ -73,9 +74,9 @@ inside_after_call worker (Enter shard) reply history run inside = absurd run
 inside_after_call worker (Leave shard) reply history run inside = absurd run
 inside_after_call worker (Reclaim shard) reply history run inside = absurd run
 inside_after_call worker (Lookup shard key) reply history run inside = rw (same_worker worker) inside
-inside_after_call worker (Load at offset width) reply history run inside = rw (same_worker worker) inside
-inside_after_call worker (Store at offset width value) reply history run inside = rw (same_worker worker) inside
-inside_after_call worker (Atomic at offset width op value expected) reply history run inside = rw (same_worker worker) inside
+inside_after_call worker (Load at offset size) reply history run inside = rw (same_worker worker) inside
+inside_after_call worker (Store at offset size value) reply history run inside = rw (same_worker worker) inside
+inside_after_call worker (Atomic at offset size op value expected) reply history run inside = rw (same_worker worker) inside
 inside_after_call worker (Update shard key value flags) reply history run inside = rw (same_worker worker) inside
 inside_after_call worker (Delete shard key) reply history run inside = rw (same_worker worker) inside
 
@@ -186,9 +187,9 @@ pub hands_out_by : (before after : PortView) (call : Call) (reply : Reply) → I
 hands_out_by before after (Lookup shard key) reply given = found_in before after shard key reply given
 hands_out_by before after (Enter shard) reply given = tt
 hands_out_by before after (Leave shard) reply given = tt
-hands_out_by before after (Load cell offset width) reply given = tt
-hands_out_by before after (Store cell offset width value) reply given = tt
-hands_out_by before after (Atomic cell offset width op value expected) reply given = tt
+hands_out_by before after (Load cell offset size) reply given = tt
+hands_out_by before after (Store cell offset size value) reply given = tt
+hands_out_by before after (Atomic cell offset size op value expected) reply given = tt
 hands_out_by before after (Update shard key value flags) reply given = tt
 hands_out_by before after (Delete shard key) reply given = tt
 hands_out_by before after (Reclaim shard) reply given = tt

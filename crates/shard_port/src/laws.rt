@@ -1,7 +1,8 @@
 //! Laws of ports: each is the contract of a function that does nothing.
 
 ghost use Rattle.shard_port.specs.PassSessions.{WritesOwnSessions, WritesRefusedOwnSessions};
-ghost use Rattle.shard_port.specs.Sessions.{WritesSessions, WritesRefusedSessions, StaysOnePort, IsOutsideAll, LeavesOthersAlone, OpenedServe, OpenedAreOutside, CallsKeepServing};
+ghost use Rattle.shard_port.specs.Sessions.{WritesSessions, WritesRefusedSessions, StaysOnePort, IsOutsideAll, LeavesOthersAlone};
+ghost use Rattle.shard_port.specs.Sessions.{OpenedServe, OpenedAreOutside, CallsKeepServing};
 
 /// From a port whose worker is outside a shard: what the shard was asked and what it answered is what its journal then has more,
 /// between one Enter and one Leave.

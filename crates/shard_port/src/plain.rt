@@ -3,7 +3,8 @@
 ghost use Rattle.std.specs.Prelude.{Some, ◌≡◌, ◌<◌, ◌≤◌, ◌+◌, ◌*◌, ◌%◌, ◌^◌, ℕ, pos, IsTrue, IfOk, IfErr, OnErr, length, slice_get, nat_lt, IsFalse, OnOk};
 ghost use Rattle.semantics.specs.ShardPlan.{AreOptions};
 ghost use Rattle.semantics.specs.History.{shard_of_call, IsLegalJournal};
-ghost use Rattle.shard_port.specs.Asking.{may_ask_at, all_left, IsAnsweredAmong, IsTurnedAwayAmong, entered, left, can_enter, may_ask, IsAnswered, IsTurnedAway, IsWorkerOf};
+ghost use Rattle.shard_port.specs.Asking.{may_ask_at, all_left, IsAnsweredAmong, IsTurnedAwayAmong, entered, left, can_enter, may_ask};
+ghost use Rattle.shard_port.specs.Asking.{IsAnswered, IsTurnedAway, IsWorkerOf};
 ghost use Rattle.shard_port.specs.PortView.{ServesMaps, IsReady, IsRunCall, SetsBytes, cell_of_handle, handle_of, word_in, answer_in, has_small_cell};
 ghost use Rattle.map_port.specs.Served.{handle_limit};
 ghost use Rattle.std.specs.List.{AllByRecursion};
@@ -132,11 +133,11 @@ impl<'a> MapPort for PlainPort<'a> {
         }
     }
 
-    fn load(&mut self, handle: u64, offset: u64, width: u64) -> Result<u64, JournalFull> {
+    fn load(&mut self, handle: u64, offset: u64, size: u64) -> Result<u64, JournalFull> {
         let call = Call::Load {
             cell: cell_of_handle(handle),
             offset,
-            width,
+            size,
         };
         match self.ask(&call) {
             Ok(reply) => Ok(word_in(&reply)),
@@ -148,13 +149,13 @@ impl<'a> MapPort for PlainPort<'a> {
         &mut self,
         handle: u64,
         offset: u64,
-        width: u64,
+        size: u64,
         value: u64,
     ) -> Result<(), JournalFull> {
         let call = Call::Store {
             cell: cell_of_handle(handle),
             offset,
-            width,
+            size,
             value,
         };
         match self.ask(&call) {
@@ -167,7 +168,7 @@ impl<'a> MapPort for PlainPort<'a> {
         &mut self,
         handle: u64,
         offset: u64,
-        width: u64,
+        size: u64,
         op: AtomicOp,
         value: u64,
         expected: u64,
@@ -175,7 +176,7 @@ impl<'a> MapPort for PlainPort<'a> {
         let call = Call::Atomic {
             cell: cell_of_handle(handle),
             offset,
-            width,
+            size,
             op: u64::from(op.code()),
             value,
             expected,

@@ -151,13 +151,13 @@ impl<'a, B: Naming, W: Wait, G: Gate> MapPort for ShardPort<'a, B, W, G> {
         }
     }
 
-    fn load(&mut self, handle: u64, offset: u64, width: u64) -> Result<u64, JournalFull> {
+    fn load(&mut self, handle: u64, offset: u64, size: u64) -> Result<u64, JournalFull> {
         self.shards.planned();
         let cell = cell_of_handle(handle);
         let range = CellRange {
             cell: cell.id,
             offset,
-            width,
+            size,
         };
         match self.ask(cell.shard, Loads { range: &range }) {
             Ok(number) => Ok(number),
@@ -169,7 +169,7 @@ impl<'a, B: Naming, W: Wait, G: Gate> MapPort for ShardPort<'a, B, W, G> {
         &mut self,
         handle: u64,
         offset: u64,
-        width: u64,
+        size: u64,
         value: u64,
     ) -> Result<(), JournalFull> {
         self.shards.planned();
@@ -177,7 +177,7 @@ impl<'a, B: Naming, W: Wait, G: Gate> MapPort for ShardPort<'a, B, W, G> {
         let range = CellRange {
             cell: cell.id,
             offset,
-            width,
+            size,
         };
         let ask = Stores {
             range: &range,
@@ -193,7 +193,7 @@ impl<'a, B: Naming, W: Wait, G: Gate> MapPort for ShardPort<'a, B, W, G> {
         &mut self,
         handle: u64,
         offset: u64,
-        width: u64,
+        size: u64,
         op: AtomicOp,
         value: u64,
         expected: u64,
@@ -203,7 +203,7 @@ impl<'a, B: Naming, W: Wait, G: Gate> MapPort for ShardPort<'a, B, W, G> {
         let range = CellRange {
             cell: cell.id,
             offset,
-            width,
+            size,
         };
         let change = AtomicChange {
             op: u64::from(op.code()),

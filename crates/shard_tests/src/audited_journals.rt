@@ -22,7 +22,7 @@ fn journals(alloc: Global, is_loaded: bool) -> Result<Journals, Fail> {
         let load = Call::Load {
             cell: CellRef { shard, id: 0 },
             offset: 0,
-            width: 8,
+            size: 8,
         };
         entries.push(&entry(1, load, Reply::Word { value: 0 }))?;
     }

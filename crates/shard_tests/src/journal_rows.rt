@@ -19,7 +19,7 @@ fn one_of_each(journal: &mut Journal)
     let range = CellRange {
         cell: 7,
         offset: 248,
-        width: 8,
+        size: 8,
     };
     let change = AtomicChange {
         op: 0xf1,
@@ -60,7 +60,7 @@ fn value(bytes: [u8; 8]) -> Value {
 fn wanted() -> [(Caller, Call, Reply); 10] {
     let shard = 5;
     let cell = CellRef { shard, id: 7 };
-    let (offset, width) = (248, 8);
+    let (offset, size) = (248, 8);
     let code = -7;
     [
         (WORKER, Call::Enter { shard }, Reply::Entered),
@@ -82,11 +82,7 @@ fn wanted() -> [(Caller, Call, Reply); 10] {
         ),
         (
             WORKER,
-            Call::Load {
-                cell,
-                offset,
-                width,
-            },
+            Call::Load { cell, offset, size },
             Reply::Word { value: u64::MAX },
         ),
         (
@@ -94,7 +90,7 @@ fn wanted() -> [(Caller, Call, Reply); 10] {
             Call::Store {
                 cell,
                 offset,
-                width,
+                size,
                 value: 10,
             },
             Reply::Done,
@@ -104,7 +100,7 @@ fn wanted() -> [(Caller, Call, Reply); 10] {
             Call::Atomic {
                 cell,
                 offset,
-                width,
+                size,
                 op: 0xf1,
                 value: 11,
                 expected: 12,

@@ -29,9 +29,9 @@ enum Ask {
     Leave(u8),
     /// Worker, index.
     Look(u8, u32),
-    /// Worker, cell, offset, width.
+    /// Worker, cell, offset, size.
     Load(u8, u64, u64, u64),
-    /// Worker, cell, offset, width, number.
+    /// Worker, cell, offset, size, number.
     Store(u8, u64, u64, u64, u64),
     /// Worker, cell, operation, number, expected: on the first eight bytes.
     Change(u8, u64, u64, u64, u64),
@@ -102,21 +102,21 @@ fn call_of(ask: Ask) -> Call {
             shard: SHARD,
             key: key_of(index),
         },
-        Ask::Load(_, id, offset, width) => Call::Load {
+        Ask::Load(_, id, offset, size) => Call::Load {
             cell: cell(id),
             offset,
-            width,
+            size,
         },
-        Ask::Store(_, id, offset, width, value) => Call::Store {
+        Ask::Store(_, id, offset, size, value) => Call::Store {
             cell: cell(id),
             offset,
-            width,
+            size,
             value,
         },
         Ask::Change(_, id, op, value, expected) => Call::Atomic {
             cell: cell(id),
             offset: 0,
-            width: 8,
+            size: 8,
             op,
             value,
             expected,

@@ -29,9 +29,9 @@ enum Ask {
     Enter(u8),
     Leave(u8),
     Look(u8, u8),
-    /// Worker, cell, offset, width.
+    /// Worker, cell, offset, size.
     Load(u8, u64, u64, u64),
-    /// Worker, cell, offset, width, number.
+    /// Worker, cell, offset, size, number.
     Store(u8, u64, u64, u64, u64),
     /// Worker, cell, operation, number, expected: on the first eight bytes.
     Change(u8, u64, u64, u64, u64),
@@ -103,21 +103,21 @@ fn call_of(ask: Ask) -> Call {
             shard: 0,
             key: key_of(key),
         },
-        Ask::Load(_, id, offset, width) => Call::Load {
+        Ask::Load(_, id, offset, size) => Call::Load {
             cell: cell(id),
             offset,
-            width,
+            size,
         },
-        Ask::Store(_, id, offset, width, value) => Call::Store {
+        Ask::Store(_, id, offset, size, value) => Call::Store {
             cell: cell(id),
             offset,
-            width,
+            size,
             value,
         },
         Ask::Change(_, id, op, value, expected) => Call::Atomic {
             cell: cell(id),
             offset: 0,
-            width: 8,
+            size: 8,
             op,
             value,
             expected,
@@ -125,7 +125,7 @@ fn call_of(ask: Ask) -> Call {
         Ask::Add(_, id, offset) => Call::Atomic {
             cell: cell(id),
             offset,
-            width: 4,
+            size: 4,
             op: 0,
             value: 1,
             expected: 0,
@@ -222,7 +222,7 @@ const ARRAY_OF_TWO: [Row; 15] = [
     ("index 1 has cell 1",                   Ask::Look(0, 1),        Reply::Cell { cell: CellRef { shard: 0, id: 1 } }),
     ("a store of two bytes",                 Ask::Store(0, 1, 2, 2, 0xabcd), Reply::Done),
     ("bytes are little-endian",              Ask::Load(0, 1, 0, 8),  Reply::Word { value: 0x01010101_abcd0101 }),
-    ("a load at no multiple of its width",   Ask::Load(0, 1, 2, 4),  Reply::Word { value: 0x0101abcd }),
+    ("a load at no multiple of its size",   Ask::Load(0, 1, 2, 4),  Reply::Word { value: 0x0101abcd }),
     ("an atomic addition of four bytes",     Ask::Add(0, 1, 4),      Reply::Word { value: 0x01010101 }),
     ("adds to these four alone",             Ask::Load(0, 1, 0, 8),  Reply::Word { value: 0x01010102_abcd0101 }),
     ("an atomic addition replies the old number", Ask::Change(0, 1, 0x00, 0xff, 0), Reply::Word { value: 0x01010102_abcd0101 }),
@@ -290,7 +290,7 @@ const NOT_SERVED: [(&str, Ask); 14] = [
     ("a worker outside looks nothing up",      Ask::Look(1, 0)),
     ("a worker that the plan lacks",           Ask::Enter(2)),
     ("a cell that was not found is not held",  Ask::Load(0, 0, 0, 8)),
-    ("a width of three",                       Ask::Load(0, 1, 0, 3)),
+    ("a size of three",                       Ask::Load(0, 1, 0, 3)),
     ("an atomic addition at no multiple of four", Ask::Add(0, 1, 2)),
     ("bytes past the value",                   Ask::Load(0, 1, 8, 1)),
     ("an offset near 2^64",                    Ask::Load(0, 1, 0xffff_ffff_ffff_fff8, 8)),

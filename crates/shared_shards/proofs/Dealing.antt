@@ -15,7 +15,7 @@ use Rattle.shared_shards.specs.NewShards.{IsNewBadge, row_at, is_dealt_at, IsDea
 use Rattle.shared_shards.specs.HeldCells.{HeldIds, held_at, AreHeldOf, room_at, room_of}
 use Rattle.shared_shards.proofs.Badges.{view_is}
 use Rattle.shared_shards.proofs.HeldLemmas.{held_by_none}
-use Rattle.shared_shards.proofs.shared.Each.{or_set_here, or_set_else, or_past}
+use Rattle.semantics.proofs.shared.EachLemmas.{or_set_here, or_set_else, or_past}
 
 caller_is : (who : Caller) → caller_at (place_of who) ≡ who
 caller_is (Worker number) = refl

@@ -31,9 +31,9 @@ pub worker_within : (plan : ShardPlan) (history : List Entry) (number : ℕ) (ca
 worker_within plan history number (Enter shard) met = known_by number plan.workers _ met
 worker_within plan history number (Leave shard) met = known_by number plan.workers _ met
 worker_within plan history number (Lookup shard key) met = known_by number plan.workers _ (head_true _ _ met)
-worker_within plan history number (Load cell offset width) met = known_by number plan.workers _ (head_true _ _ (head_true _ _ met))
-worker_within plan history number (Store cell offset width value) met = known_by number plan.workers _ (head_true _ _ (head_true _ _ (head_true _ _ met)))
-worker_within plan history number (Atomic cell offset width op value expected) met =
+worker_within plan history number (Load cell offset size) met = known_by number plan.workers _ (head_true _ _ (head_true _ _ met))
+worker_within plan history number (Store cell offset size value) met = known_by number plan.workers _ (head_true _ _ (head_true _ _ (head_true _ _ met)))
+worker_within plan history number (Atomic cell offset size op value expected) met =
     known_by number plan.workers _ (head_true _ _ (head_true _ _ (head_true _ _ (head_true _ _ (head_true _ _ (head_true _ _ met))))))
 worker_within plan history number (Update shard key value flags) met = known_by number plan.workers _ (head_true _ _ (head_true _ _ met))
 worker_within plan history number (Delete shard key) met = known_by number plan.workers _ (head_true _ _ met)

@@ -9,6 +9,7 @@ use Rattle.atomic_table.proofs.Lists.{at_set}
 use Rattle.semantics.specs.declared.call.Caller.{Caller}
 use Rattle.semantics.specs.declared.call.Entry.{Entry}
 use Rattle.semantics.specs.CallerLaws.{own_entries}
+use Rattle.semantics.proofs.shared.EachLemmas.{at_snoc}
 use Rattle.shard_core.specs.JournaledShard.{JournaledShard}
 use Rattle.shared_shards.specs.declared.rule.Known.{Known}
 use Rattle.shared_shards.specs.LengthRule.{caller_at, place_of, keeper_of, nobody, one_more, newcomer, joined, keeper_part, pass_part, Fits, IsKept, with_history, with_told, all_seen, Adds, Sees}
@@ -16,13 +17,6 @@ use Rattle.shared_shards.proofs.Callers.{place_at, own_of_maker, own_of_other}
 
 off : false ≡ true → ⊥
 off e = true≢false (sym e)
-
-module _ {A : Type 0} where
-  at_snoc' : (l : List A) (a b : A) (j : ℕ) → get_elem? (l ++ a ∷ []) j ≡ some b → (get_elem? l j ≡ some b) ⊎ ((j ≡ length l) × (a ≡ b))
-  at_snoc' [] a b zero e = inr (refl, some-injective a b e)
-  at_snoc' [] a b (suc j) e = absurd (some-ne-none b (sym e))
-  at_snoc' (x ∷ xs) a b zero e = inl e
-  at_snoc' (x ∷ xs) a b (suc j) e = ⊎_elim inl (λ t. inr (ap suc t.0, t.1)) (at_snoc' xs a b j e)
 
 abbrev All : (ℕ → Known → Type 0) → List Known → Type 0
 All F views = (id : ℕ) (v : Known) → get_elem? views id ≡ some v → F id v
@@ -32,7 +26,7 @@ all_set F views id w mine others j u e = ⊎_elim (λ (x : (j ≡ id) × (w ≡ 
     (λ (x : (j ≢ id) × (get_elem? views j ≡ some u)). others j u x.0 x.1) (at_set views id j w u e)
 
 all_push : (F : ℕ → Known → Type 0) (views : List Known) (w : Known) → All F views → F (length views) w → All F (views ++ w ∷ [])
-all_push F views w were mine j u e = ⊎_elim (λ x. were j u x) (λ (x : (j ≡ length views) × (w ≡ u)). subst (λ (y : ℕ × Known). F y.0 y.1) (λ i. (sym x.0 i, x.1 i)) mine) (at_snoc' views w u j e)
+all_push F views w were mine j u e = ⊎_elim (λ x. were j u x) (λ (x : (j ≡ length views) × (w ≡ u)). subst (λ (y : ℕ × Known). F y.0 y.1) (λ i. (sym x.0 i, x.1 i)) mine) (at_snoc views w u j e)
 
 -- the seats after one caller's seat has moved
 abbrev moved : (ℕ → ℕ) → ℕ → ℕ → ℕ → ℕ

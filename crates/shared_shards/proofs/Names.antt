@@ -11,7 +11,7 @@ use Rattle.shared_shards.specs.declared.rule.Known.{Known}
 use Rattle.semantics.specs.Each.{Each}
 use Rattle.shared_shards.specs.NewShards.{NewShardView, no_shard, new_at, IsOpening, IsNamed, IsNamedAt, row_at, is_dealt_at, IsRowOf, IsDealer}
 use Rattle.shared_shards.specs.HeldCells.{room_at, IsRoomOf}
-use Rattle.shared_shards.proofs.shared.Each.{within, at_or, each_at, each_start, or_within}
+use Rattle.semantics.proofs.shared.EachLemmas.{within, at_or, each_at, each_start, or_within}
 
 -- a plan has the number that it was asked for
 number_of : (options : Options) (number : ℕ) (plan : ShardPlan) (found : Option MapDef) → plan_for_map options number found ≡ Some plan → plan.number ≡ number

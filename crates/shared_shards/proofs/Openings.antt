@@ -11,7 +11,7 @@ use Rattle.journals.specs.JournalsView.{AreImageMaps}
 use Rattle.semantics.specs.Each.{Each}
 use Rattle.shared_shards.specs.Seats.{no_plan}
 use Rattle.shared_shards.specs.NewShards.{NewShardView, no_shard, new_at, shard_at, IsUnused, AreUnused, IsMadeOf, IsOpening}
-use Rattle.shared_shards.proofs.shared.Each.{within, at_or, each_at}
+use Rattle.semantics.proofs.shared.EachLemmas.{within, at_or, each_at}
 
 module _ {A : Type 0} where
   get_is : (xs : List A) (place : ℕ) (d : A) → place < length xs → slice_get xs place ≡ Some (get_or xs place d)

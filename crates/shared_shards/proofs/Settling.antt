@@ -7,7 +7,7 @@ use Rattle.semantics.specs.declared.plan.ShardPlan.{ShardPlan}
 use Rattle.semantics.specs.History.{IsLegalJournal}
 use Rattle.shared_shards.specs.CallerView.{CallerView, IsSettled}
 use Rattle.shared_shards.specs.Passes.{PassView, no_pass, pass_at, view_at, IsElsewhereSame}
-use Rattle.shared_shards.proofs.shared.Each.{or_set_here, or_set_else, or_push_here, or_push_else}
+use Rattle.semantics.proofs.shared.EachLemmas.{or_set_here, or_set_else, or_push_here, or_push_else}
 
 pub same_or_other : (a b : ℕ) → (a ≡ b) ⊎ (a ≢ b)
 same_or_other zero zero = inl refl

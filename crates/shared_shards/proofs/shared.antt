@@ -1,5 +1,4 @@
 -- Lemmas that other crates cite.
 pub mod Keys
 pub mod Names
-pub mod Each
 pub mod ImageMaps

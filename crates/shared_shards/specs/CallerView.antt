@@ -46,7 +46,7 @@ pub record HasLooked (plan : ShardPlan) (before after : CallerView) : Type 0 whe
   pub legal : IsLegalHistory plan after.seen
   pub own : after.own ≡ before.own
 
--- a caller's view, held against the shard's journal: what was seen is a beginning of it, and own are all of this caller's entries in it
+-- a caller's view, compared with the shard's journal: what was seen is a beginning of it, and own are all of this caller's entries in it
 pub record IsSettled (who : Caller) (view : CallerView) (journal : List Entry) : Type 0 where
   pub begins : BeginsWith (reverse journal) view.seen
   pub own : view.own ≡ own_entries who (reverse journal)

@@ -85,9 +85,11 @@ is_dealt_at dealt place = slice_index_or dealt place true
 
 -- the row has the seats of the callers that have none yet
 abbrev pub IsRow : (ℕ → TableId) → List Bool → ℕ → List (Badge Known) → Type 0
-IsRow table dealt number row = (place : ℕ) → is_dealt_at dealt place ≡ false → (place < length row) × IsNewBadge (table number) (caller_at place) (badge_at row place)
+IsRow table dealt number row = (place : ℕ) → is_dealt_at dealt place ≡ false →
+    (place < length row) × IsNewBadge (table number) (caller_at place) (badge_at row place)
 
-pub record IsDealer (table : ℕ → TableId) (plan : ℕ → ShardPlan) (count : ℕ) (rooms : List ℕ) (dealt : List Bool) (rows : List (List (Badge Known))) : Type 0 where
+pub record IsDealer (table : ℕ → TableId) (plan : ℕ → ShardPlan) (count : ℕ) (rooms : List ℕ)
+    (dealt : List Bool) (rows : List (List (Badge Known))) : Type 0 where
   pub sized : length rows ≡ count
   pub waiting : (number : ℕ) → number < count → IsRow table dealt number (row_at rows number)
   pub roomed : length rooms ≡ count

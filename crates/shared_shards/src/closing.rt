@@ -43,7 +43,7 @@ impl<B: Naming> Shards<B> {
     }
 }
 
-/// The journal of a shard that nobody calls any more, held against the passes.
+/// The journal of a shard that nobody calls any more, compared with the passes.
 fn settled<B: Naming>(
     mut desk: Desk<B>,
     word: &Length,

@@ -2,7 +2,7 @@
 use Rattle.std.proofs.Common.{◌≡◌, ⊎_elim, ℕ, ◌+◌, ◌<◌, List, [], ◌∷◌, ◌++◌, length, sym, subst, arith}
 use Rattle.std.specs.Prelude.{slice_index_or}
 use Rattle.std.proofs.lemmas.Bool.{cases_eq}
-use Rattle.shared_shards.proofs.shared.Each.{or_push_here, or_push_else}
+use Rattle.semantics.proofs.shared.EachLemmas.{or_push_here, or_push_else}
 
 pub pushed_at : {A : Type 0} (P : ℕ → A → Type 0) (xs : List A) (x d : A) (number : ℕ) → length xs ≡ number →
     ((k : ℕ) → k < number → P k (slice_index_or xs k d)) → P number x → (k : ℕ) → k < number + 1 → P k (slice_index_or (xs ++ x ∷ []) k d)

@@ -29,7 +29,7 @@ use Rattle.shard_port.proofs.shared.ReadyLemmas.{plan_number}
 use Rattle.shard_port.specs.PortLaws.{both_true}
 use Rattle.shared_shards.specs.Seats.{no_plan}
 use Rattle.shared_shards.specs.NewShards.{shard_at}
-use Rattle.shared_shards.proofs.shared.Each.{or_set_here, or_set_else}
+use Rattle.semantics.proofs.shared.EachLemmas.{or_set_here, or_set_else}
 use Rattle.single_run.specs.Updates.{served_by, shard_of_update, entry_of_update, is_update_at, updates_at, AreUpdated, may_update, IsMade, IsNext, updated_shard}
 
 -- ---- an update that fits its map

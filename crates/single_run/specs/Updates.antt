@@ -1,5 +1,6 @@
 -- What the controller sets before a run: for each update one entry of its own, in the journal of the shard that the key belongs to.
-use Rattle.std.specs.Prelude.{◌≡◌, ◌≢◌, ℕ, ◌*◌, ◌<◌, ◌==◌, ℤ, pos, Bool, false, ◌&&◌, List, ◌++◌, [], ◌∷◌, length, map, take, reverse, Option, Some, None, slice_get, slice_set}
+use Rattle.std.specs.Prelude.{◌≡◌, ◌≢◌, ℕ, ◌*◌, ◌<◌, ◌==◌, ℤ, pos, Bool, false, ◌&&◌, List, ◌++◌, [], ◌∷◌, length, map, take, reverse}
+use Rattle.std.specs.Prelude.{Option, Some, None, slice_get, slice_set}
 use Rattle.std.specs.List.{filter}
 use Rattle.ebpf_decode.specs.declared.map.MapDef.{MapDef}
 use Rattle.map_updates.specs.declared.update.MapUpdate.{MapUpdate}

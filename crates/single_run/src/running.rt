@@ -38,7 +38,7 @@ pub struct SingleRun {
 /// with these values. Stop 60 where a journal was full for a call: the calls before it stand in the journals in the same way, and the frame is as the run
 /// has made it by then.
 ///
-/// Refused with 51 where the options are none that shards of the image's maps are opened with, or have no worker of that number, with 52 for lack of
+/// Refused with 51 where no shards of the image's maps can be opened with the options, or have no worker of that number, with 52 for lack of
 /// memory, with 93 for the first update that a map refused, and with 94 for the first for which a journal was full. Then nothing was run, and the frame
 /// is as it was.
 pub fn run_alone(

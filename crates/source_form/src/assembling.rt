@@ -54,7 +54,7 @@ fn image_of(alloc: Global, statements: &[&str], text: &str) -> Result<Image, Sou
 }
 
 /// The image of a source: that of the exact text that it means. Else 21 with a line of the source, counted from 1, and what is wrong
-/// with it: the first without a meaning, or where all have one, the first whose meaning is no right spelling; 22 with the fault of the image
+/// with it: the first without a meaning, or where all have one, the first whose meaning is misspelled; 22 with the fault of the image
 /// so spelled; or 23 where memory is refused.
 pub fn assemble_source(alloc: Global, source: &str) -> Result<Image, SourceFault>
     ensures found { IfOk result (λ image. IsSource source.now image) }

@@ -166,12 +166,12 @@ fn wrong_operand(
         Some(operand) => format!(in alloc; "\"{}\": no operand is expected here", operand.trim()),
         None => String::from_str(
             alloc,
-            "no right spelling of the text form, or not in its place: first version 1 or version 2, then maps, then instructions",
+            "not a line of the text form, or not in its place: first version 1 or version 2, then maps, then instructions",
         ),
     }
 }
 
-/// What is wrong with an instruction that is no right spelling.
+/// What is wrong with an instruction that is misspelled.
 fn wrong_spelling(alloc: Global, statement: &str, exact: &str) -> Result<String, AllocError> {
     let word = first_word(statement);
     if word.is_empty() || is_heading(word) {
@@ -222,7 +222,7 @@ fn problem_text(
         ),
         Problem::NoSpelling => match line_text(alloc, statements, place, statement) {
             Ok(exact) => wrong_spelling(alloc, words, exact.trim()),
-            Err(_) => String::from_str(alloc, "no right spelling of the text form"),
+            Err(_) => String::from_str(alloc, "not a line of the text form"),
         },
     }
 }

@@ -20,7 +20,7 @@ pub enum Problem {
     UnknownHelper,
     /// An operand with an `x` is no number in hexadecimal of 64 bits, or that of `lddw` no number of 64 bits.
     NoNumber,
-    /// Without comment, label and names it is no right spelling of the text form.
+    /// Without comment, label and names it is not a line of the text form.
     NoSpelling,
 }
 

@@ -2,7 +2,8 @@
 
 ghost use Rattle.std.specs.Prelude.{◌≡◌, ◌++◌, Ok, IfOk, IfErr, string_bytes};
 ghost use Rattle.std.specs.Fmt.{decimal};
-ghost use Rattle.source_form.specs.SourceText.{finishes, number_in, is_sign, digits_of, bracket_of, signed_meaning, hex_meaning, number_meaning, wide_value, wide_told};
+ghost use Rattle.source_form.specs.SourceText.{finishes, number_in, is_sign, digits_of, bracket_of, signed_meaning, hex_meaning};
+ghost use Rattle.source_form.specs.SourceText.{number_meaning, wide_value, wide_told};
 ghost use Rattle.source_form.specs.Told.{IsToldBy};
 
 use crate::fault::{LineFault, Problem};

@@ -3,7 +3,8 @@
 ghost use Rattle.std.specs.Prelude.{◌≡◌, ◌≤◌, IfOk, IfErr, Ok, map, length, string_bytes, List, ℕ, []};
 ghost use Rattle.std.specs.Str.{trim};
 ghost use Rattle.std.specs.Option.{option_map};
-ghost use Rattle.source_form.specs.SourceText.{parts_at, helper_number, helper_told, helper_meaning, plain_name, last_meaning, operands_meaning, instruction_meaning};
+ghost use Rattle.source_form.specs.SourceText.{parts_at, helper_number, helper_told, helper_meaning, plain_name, last_meaning};
+ghost use Rattle.source_form.specs.SourceText.{operands_meaning, instruction_meaning};
 ghost use Rattle.source_form.specs.Told.{IsToldBy};
 
 use crate::fault::{LineFault, Problem};

@@ -1,4 +1,4 @@
--- Bytes that are no text.
+-- Bytes that are not UTF-8.
 use Rattle.std.specs.Prelude.{◌≡◌, ◌==◌, ◌+◌, ℕ, List, IsUtf8, count_by, take}
 use Rattle.std.specs.Str.{IsValidUpTo}
 

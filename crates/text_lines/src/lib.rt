@@ -1,4 +1,4 @@
-//! Bytes read as text, and the line of the first byte that is none; texts cut at a mark; decimal numbers and hexadecimal digits.
+//! Bytes read as text, and the line of the first byte that is not UTF-8; texts cut at a mark; decimal numbers and hexadecimal digits.
 #![tactic(auto)]
 
 mod cutting;

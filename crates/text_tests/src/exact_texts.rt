@@ -50,7 +50,7 @@ fn first_run(rt: HostRuntime) -> Result<(), Fail> {
 
 // Each slot as its eight bytes stand, by the opcodes of RFC 9669.
 #[rattlefmt::skip]
-const ARITHMETIC: [(&str, u64); 30] = [
+const ARITHMETIC: [(&str, u64); 31] = [
     ("add r0, -5",            0x07000000fbffffff),
     ("add32 r3, r0",          0x0c03000000000000),
     ("sub r1, -5",            0x17010000fbffffff),
@@ -76,6 +76,7 @@ const ARITHMETIC: [(&str, u64); 30] = [
     ("xor r0, -5",            0xa7000000fbffffff),
     ("xor32 r3, r0",          0xac03000000000000),
     ("mov r1, -5",            0xb7010000fbffffff),
+    ("mov r0, 2",             0xb700000002000000),
     ("mov32 r4, r1",          0xbc14000000000000),
     ("arsh r2, -5",           0xc7020000fbffffff),
     ("arsh32 r5, r2",         0xcc25000000000000),

@@ -142,7 +142,7 @@ const REFUSED: [(&str, u8, &str); 44] = [
     ("xlb play a b",                            2, "error: unrecognized subcommand 'play'"),
     ("xlb replay a",                            2, "error: the following required arguments were not provided:\n  <SENT>"),
     ("xlb replay a b --image i --script s",     2, "error: the options --image and --script cannot be used together"),
-    ("xlb help",                                0, "Checks, runs, prints and assembles images of eBPF programs"),
+    ("xlb help",                                0, "Replays captures through eBPF programs; checks, runs, audits, prints and assembles them"),
     ("xlb check",                               2, "error: the following required arguments were not provided:\n  <IMAGE>"),
     ("xlb check a b",                           2, "error: unexpected argument 'b' found"),
     ("xlb check a --now 1",                     2, "error: unexpected argument '--now' found"),
@@ -179,7 +179,7 @@ const REFUSED: [(&str, u8, &str); 44] = [
     ("xlb shipped a b",                         2, "error: unexpected argument 'b' found"),
     ("xlb shipped a --ring x",                  2, "error: invalid value 'x' for '--ring <N>'"),
     ("xlb help run",                            0, "Runs an image on one frame"),
-    ("xlb --help",                              0, "Checks, runs, prints and assembles images of eBPF programs"),
+    ("xlb --help",                              0, "Replays captures through eBPF programs; checks, runs, audits, prints and assembles them"),
     ("xlb run --help",                          0, "Runs an image on one frame"),
     ("xlb --version",                           0, "xlb 0.1.0\n"),
 ];

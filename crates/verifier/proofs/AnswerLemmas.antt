@@ -1,4 +1,4 @@
--- An accepted program has no first reject but a want of memory: entry states are the only ones.
+-- An accepted program can be rejected only for lack of memory: entry states are the only ones.
 use Rattle.std.proofs.Common.{◌≡◌, ℕ, zero, suc, ◌+◌, ◌<◌, ◌≤◌, List, Option, Some, None, true, false, Ok, Err, refl, sym, ap, subst, ◌∙◌, ⊎_elim, arith}
 use Rattle.std.specs.Prelude.{IsOk}
 use Rattle.std.proofs.lemmas.Bool.{cases_lt}

@@ -12,10 +12,10 @@ use Rattle.image_shape.specs.Edges.{is_begin}
 use Rattle.image_shape.proofs.shared.SlotLemmas.{past_end}
 
 -- what begins past an instruction begins in the rest
-past_some : (width k : ℕ) (rest : ℕ → Option Insn) (insn : Insn) → past_instruction width k rest ≡ Some insn → (n : ℕ) × (rest n ≡ Some insn)
+past_some : (slots k : ℕ) (rest : ℕ → Option Insn) (insn : Insn) → past_instruction slots k rest ≡ Some insn → (n : ℕ) × (rest n ≡ Some insn)
 past_some zero k rest insn e = (k, e)
-past_some (suc width) zero rest insn e = absurd cc
-past_some (suc width) (suc k) rest insn e = past_some width k rest insn e
+past_some (suc slots) zero rest insn e = absurd cc
+past_some (suc slots) (suc k) rest insn e = past_some slots k rest insn e
 
 -- each instruction of a program has fields that hold its numbers
 pub fields_here : (code : List Insn) (slot : ℕ) (insn : Insn) → AllByRecursion FieldsFit code → instruction_at code slot ≡ Some insn → FieldsFit insn

@@ -1,5 +1,6 @@
 -- The pass by rising slot: edges go up, so what is known at a slot is whole before the slot is looked at.
 use Rattle.std.proofs.Common.{◌≡◌, ℕ, suc, ◌+◌, ◌-◌, ◌<◌, ◌≤◌, Bool, ℤ, pos, negsuc, List, length, take, get_or, Option, Some, None, refl, sym, ap, subst, ◌∙◌, ⊎_elim, arith}
+use Rattle.std.specs.Option.{option_or}
 use Rattle.std.specs.Prelude.{IsOk, ◌≤ℤ◌}
 use Rattle.std.proofs.Math.Facts.{yes_leb}
 use Rattle.std.proofs.lemmas.List.Sums.{sum_by_more_le}
@@ -13,7 +14,7 @@ use Rattle.semantics.specs.Program.{instruction_at}
 use Rattle.image_shape.specs.declared.fault.ShapeFault.{ShapeFault}
 use Rattle.ebpf_decode.specs.Jumps.{jump_distance}
 use Rattle.image_shape.specs.Edges.{is_begin}
-use Rattle.image_shape.specs.Structure.{jump_fault, fall_fault, or_else, instruction_fault, HasShape}
+use Rattle.image_shape.specs.Structure.{jump_fault, fall_fault, instruction_fault, HasShape}
 use Rattle.image_shape.proofs.shared.FaultLemmas.{fault_here}
 use Rattle.image_shape.proofs.shared.SlotLemmas.{some_slots, past_end, instruction_here}
 use Rattle.abstract_state.specs.declared.refusal.Refusal.{Refusal}
@@ -33,7 +34,7 @@ use Rattle.verifier.proofs.shared.EntryStates.{quiet, are_entry_states}
 
 -- ---- edges go up
 
-no_jump_back : (begins : ℕ → Bool) (total slot : ℕ) (d : ℤ) (fall : Option ShapeFault) → or_else (jump_fault begins total slot (Some d)) fall ≡ None → (n : ℕ) × (d ≡ pos n)
+no_jump_back : (begins : ℕ → Bool) (total slot : ℕ) (d : ℤ) (fall : Option ShapeFault) → option_or (jump_fault begins total slot (Some d)) fall ≡ None → (n : ℕ) × (d ≡ pos n)
 no_jump_back begins total slot (pos n) fall e = (n, refl)
 no_jump_back begins total slot (negsuc n) fall e = absurd cc
 

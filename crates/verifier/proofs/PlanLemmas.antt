@@ -19,7 +19,7 @@ use Rattle.semantics.specs.declared.call.Entry.{Entry}
 use Rattle.semantics.specs.Program.{shard_number_of_key}
 use Rattle.semantics.specs.Reclamation.{is_inside, holds}
 use Rattle.semantics.specs.ShardPlan.{plan_for_map, plan_at, AreOptions}
-use Rattle.semantics.specs.History.{is_holder, is_inside_worker, is_own_key, is_value, is_load_width, is_atomic_width, is_in_cell, is_aligned, fits_width, Meets}
+use Rattle.semantics.specs.History.{is_holder, is_inside_worker, is_own_key, is_value, is_load_size, is_atomic_size, is_in_cell, is_aligned, fits_size, Meets}
 use Rattle.abstract_state.specs.States.{value_size_of}
 use Rattle.abstract_state.specs.Abstraction.{Held}
 use Rattle.abstract_state.specs.Soundness.{IsServedLookup, IsServedLoad, IsServedAtomic}
@@ -151,61 +151,61 @@ lookup_plan maps code options shard key some served =
     }
 
 -- a load from a held cell is one that the cell's shard serves
-pub load_meets : (maps : List MapDef) (code : List Insn) (options : Options) (held : Held) (cell : CellRef) (offset width : ℕ) (plan : ShardPlan) (h : List Entry) (worker : ℕ) →
+pub load_meets : (maps : List MapDef) (code : List Insn) (options : Options) (held : Held) (cell : CellRef) (offset size : ℕ) (plan : ShardPlan) (h : List Entry) (worker : ℕ) →
     ((map : ℕ) → IsTrue (held map cell.shard cell.id) → (cell.shard / options.shards ≡ map) × (holds worker cell.id h ≡ true)) →
-    IsServedLoad (record { code = code; maps = maps; shards = options.shards }) held cell offset width →
-    plan_at maps options cell.shard ≡ Some plan → worker < options.workers → Meets plan h (Worker worker) (Load cell offset width)
-load_meets maps code options held cell offset width plan h worker of_held served planned few =
+    IsServedLoad (record { code = code; maps = maps; shards = options.shards }) held cell offset size →
+    plan_at maps options cell.shard ≡ Some plan → worker < options.workers → Meets plan h (Worker worker) (Load cell offset size)
+load_meets maps code options held cell offset size plan h worker of_held served planned few =
     let facts = plan_facts maps options cell.shard plan planned
     in let of_map = of_held served.map served.holds
     in let definition : slice_get maps served.map ≡ Some plan.definition = ap (slice_get maps) (sym of_map.0) ∙ facts.definition
-    in let size : value_size_of (slice_get maps served.map) ≡ plan.definition.value_size = ap value_size_of definition
-    in let inside : offset + width ≤ plan.definition.value_size = omega (arith, size, served.inside)
+    in let sized : value_size_of (slice_get maps served.map) ≡ plan.definition.value_size = ap value_size_of definition
+    in let inside : offset + size ≤ plan.definition.value_size = omega (arith, sized, served.inside)
     in let known : worker < plan.workers = omega (arith, facts.workers, few)
     in both (cell.shard == plan.number) _ (same_true cell.shard plan.number (sym facts.number))
-    (both (nat_lt worker plan.workers && holds worker cell.id h && is_load_width width) _
-    (both (nat_lt worker plan.workers && holds worker cell.id h) _ (both (nat_lt worker plan.workers) _ (below_true worker plan.workers known) of_map.1) served.is_width)
-    (at_most_true (offset + width) plan.definition.value_size inside))
+    (both (nat_lt worker plan.workers && holds worker cell.id h && is_load_size size) _
+    (both (nat_lt worker plan.workers && holds worker cell.id h) _ (both (nat_lt worker plan.workers) _ (below_true worker plan.workers known) of_map.1) served.is_size)
+    (at_most_true (offset + size) plan.definition.value_size inside))
 
--- a store of a number of the width to such a place
-pub store_meets : (plan : ShardPlan) (h : List Entry) (worker : ℕ) (cell : CellRef) (offset width value : ℕ) → Meets plan h (Worker worker) (Load cell offset width) → value < 256 ^ width →
-    Meets plan h (Worker worker) (Store cell offset width value)
-store_meets plan h worker cell offset width value loads fits =
-    let parts = and_parts (cell.shard == plan.number) (is_holder plan h (Worker worker) cell.id && is_load_width width && is_in_cell plan offset width) loads
+-- a store of a number of the size to such a place
+pub store_meets : (plan : ShardPlan) (h : List Entry) (worker : ℕ) (cell : CellRef) (offset size value : ℕ) → Meets plan h (Worker worker) (Load cell offset size) → value < 256 ^ size →
+    Meets plan h (Worker worker) (Store cell offset size value)
+store_meets plan h worker cell offset size value loads fits =
+    let parts = and_parts (cell.shard == plan.number) (is_holder plan h (Worker worker) cell.id && is_load_size size && is_in_cell plan offset size) loads
     in both (cell.shard == plan.number) _ parts.0
-    (both (is_holder plan h (Worker worker) cell.id && is_load_width width && is_in_cell plan offset width) _ parts.1 (below_true value (256 ^ width) fits))
+    (both (is_holder plan h (Worker worker) cell.id && is_load_size size && is_in_cell plan offset size) _ parts.1 (below_true value (256 ^ size) fits))
 
 -- an atomic operation on a held cell is one that the cell's shard serves
-pub atomic_meets : (maps : List MapDef) (code : List Insn) (options : Options) (held : Held) (cell : CellRef) (offset width op value expected : ℕ) (plan : ShardPlan) (h : List Entry) (worker : ℕ) →
+pub atomic_meets : (maps : List MapDef) (code : List Insn) (options : Options) (held : Held) (cell : CellRef) (offset size op value expected : ℕ) (plan : ShardPlan) (h : List Entry) (worker : ℕ) →
     ((map : ℕ) → IsTrue (held map cell.shard cell.id) → (cell.shard / options.shards ≡ map) × (holds worker cell.id h ≡ true)) →
-    IsServedAtomic (record { code = code; maps = maps; shards = options.shards }) held cell offset width op value expected →
-    plan_at maps options cell.shard ≡ Some plan → worker < options.workers → Meets plan h (Worker worker) (Atomic cell offset width op value expected)
-atomic_meets maps code options held cell offset width op value expected plan h worker of_held served planned few =
+    IsServedAtomic (record { code = code; maps = maps; shards = options.shards }) held cell offset size op value expected →
+    plan_at maps options cell.shard ≡ Some plan → worker < options.workers → Meets plan h (Worker worker) (Atomic cell offset size op value expected)
+atomic_meets maps code options held cell offset size op value expected plan h worker of_held served planned few =
     let facts = plan_facts maps options cell.shard plan planned
     in let of_map = of_held served.map served.holds
     in let definition : slice_get maps served.map ≡ Some plan.definition = ap (slice_get maps) (sym of_map.0) ∙ facts.definition
-    in let size : value_size_of (slice_get maps served.map) ≡ plan.definition.value_size = ap value_size_of definition
-    in let inside : offset + width ≤ plan.definition.value_size = omega (arith, size, served.inside)
+    in let sized : value_size_of (slice_get maps served.map) ≡ plan.definition.value_size = ap value_size_of definition
+    in let inside : offset + size ≤ plan.definition.value_size = omega (arith, sized, served.inside)
     in let known : worker < plan.workers = omega (arith, facts.workers, few)
     in let holder : is_holder plan h (Worker worker) cell.id ≡ true = both (nat_lt worker plan.workers) _ (below_true worker plan.workers known) of_map.1
-    in let place : (is_in_cell plan offset width && is_aligned offset width) ≡ true =
-    both (is_in_cell plan offset width) _ (at_most_true (offset + width) plan.definition.value_size inside) (same_true (offset % width) 0 served.aligned)
-    in let one : (is_holder plan h (Worker worker) cell.id && is_atomic_width width) ≡ true = both (is_holder plan h (Worker worker) cell.id) _ holder served.is_width
-    in let two : (is_holder plan h (Worker worker) cell.id && is_atomic_width width && (is_in_cell plan offset width && is_aligned offset width)) ≡ true =
-    both (is_holder plan h (Worker worker) cell.id && is_atomic_width width) _ one place
-    in let three : (is_holder plan h (Worker worker) cell.id && is_atomic_width width && (is_in_cell plan offset width && is_aligned offset width) && is_some (atomic_op_of op)) ≡ true =
-    both (is_holder plan h (Worker worker) cell.id && is_atomic_width width && (is_in_cell plan offset width && is_aligned offset width)) _ two served.known
-    in let four : (is_holder plan h (Worker worker) cell.id && is_atomic_width width && (is_in_cell plan offset width && is_aligned offset width) && is_some (atomic_op_of op) &&
-    fits_width value width) ≡ true =
-    both (is_holder plan h (Worker worker) cell.id && is_atomic_width width && (is_in_cell plan offset width && is_aligned offset width) && is_some (atomic_op_of op)) _ three
-    (below_true value (256 ^ width) served.fits)
-    in let five : (is_holder plan h (Worker worker) cell.id && is_atomic_width width && (is_in_cell plan offset width && is_aligned offset width) && is_some (atomic_op_of op) &&
-    fits_width value width && fits_width expected width) ≡ true =
-    both (is_holder plan h (Worker worker) cell.id && is_atomic_width width && (is_in_cell plan offset width && is_aligned offset width) && is_some (atomic_op_of op) &&
-    fits_width value width) _ four (below_true expected (256 ^ width) served.expected_fits)
+    in let place : (is_in_cell plan offset size && is_aligned offset size) ≡ true =
+    both (is_in_cell plan offset size) _ (at_most_true (offset + size) plan.definition.value_size inside) (same_true (offset % size) 0 served.aligned)
+    in let one : (is_holder plan h (Worker worker) cell.id && is_atomic_size size) ≡ true = both (is_holder plan h (Worker worker) cell.id) _ holder served.is_size
+    in let two : (is_holder plan h (Worker worker) cell.id && is_atomic_size size && (is_in_cell plan offset size && is_aligned offset size)) ≡ true =
+    both (is_holder plan h (Worker worker) cell.id && is_atomic_size size) _ one place
+    in let three : (is_holder plan h (Worker worker) cell.id && is_atomic_size size && (is_in_cell plan offset size && is_aligned offset size) && is_some (atomic_op_of op)) ≡ true =
+    both (is_holder plan h (Worker worker) cell.id && is_atomic_size size && (is_in_cell plan offset size && is_aligned offset size)) _ two served.known
+    in let four : (is_holder plan h (Worker worker) cell.id && is_atomic_size size && (is_in_cell plan offset size && is_aligned offset size) && is_some (atomic_op_of op) &&
+    fits_size value size) ≡ true =
+    both (is_holder plan h (Worker worker) cell.id && is_atomic_size size && (is_in_cell plan offset size && is_aligned offset size) && is_some (atomic_op_of op)) _ three
+    (below_true value (256 ^ size) served.fits)
+    in let five : (is_holder plan h (Worker worker) cell.id && is_atomic_size size && (is_in_cell plan offset size && is_aligned offset size) && is_some (atomic_op_of op) &&
+    fits_size value size && fits_size expected size) ≡ true =
+    both (is_holder plan h (Worker worker) cell.id && is_atomic_size size && (is_in_cell plan offset size && is_aligned offset size) && is_some (atomic_op_of op) &&
+    fits_size value size) _ four (below_true expected (256 ^ size) served.expected_fits)
     in both (cell.shard == plan.number) _ (same_true cell.shard plan.number (sym facts.number))
-    (both (is_holder plan h (Worker worker) cell.id && is_atomic_width width && (is_in_cell plan offset width && is_aligned offset width) && is_some (atomic_op_of op) &&
-    fits_width value width && fits_width expected width) _ five served.compares)
+    (both (is_holder plan h (Worker worker) cell.id && is_atomic_size size && (is_in_cell plan offset size && is_aligned offset size) && is_some (atomic_op_of op) &&
+    fits_size value size && fits_size expected size) _ five served.compares)
 
 -- who may look a key up may delete it, and update it with a value of the map's size
 pub delete_meets : (plan : ShardPlan) (h : List Entry) (worker shard : ℕ) (key : List ℕ) → Meets plan h (Worker worker) (Lookup shard key) → Meets plan h (Worker worker) (Delete shard key)

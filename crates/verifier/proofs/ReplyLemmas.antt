@@ -1,4 +1,4 @@
--- A shard's replies have the form and the width that a run expects.
+-- A shard's replies have the form and the size that a run expects.
 use Rattle.std.proofs.Common.{◌≡◌, ℕ, suc, ◌+◌, ◌*◌, ◌/◌, ◌^◌, ◌<◌, ◌≤◌, List, [], ◌∷◌, length, take, drop, get_or, Bool, true, false, ◌&&◌, ℤ, Option, Some, None, All, refl, ⊎_elim, arith, lit<}
 use Rattle.std.specs.Prelude.{slice_get, FitsSigned, if◌then◌else◌}
 use Rattle.std.specs.Int.{w32}
@@ -48,11 +48,11 @@ number_below (byte ∷ higher) all =
     in let more : number_of_bytes higher * 256 + byte < 256 ^ suc (length higher) = below-more (number_of_bytes higher) byte (length higher) rest here
     in rw (number_of_bytes-cons byte higher) more
 
-pub taken_below : (width : ℕ) (bytes : List ℕ) → AreAllBytes bytes → number_of_bytes (take width bytes) < 256 ^ width
-taken_below width bytes all =
-    let some : number_of_bytes (take width bytes) < 256 ^ length (take width bytes) = number_below (take width bytes) (All-take (λ one. one < 256) width bytes all)
-    in let few : length (take width bytes) ≤ width = omega (arith, length-take width bytes)
-    in let wider : 256 ^ length (take width bytes) ≤ 256 ^ width = pow-le-pow_right {n = 256} (lit< tt) few
+pub taken_below : (size : ℕ) (bytes : List ℕ) → AreAllBytes bytes → number_of_bytes (take size bytes) < 256 ^ size
+taken_below size bytes all =
+    let some : number_of_bytes (take size bytes) < 256 ^ length (take size bytes) = number_below (take size bytes) (All-take (λ one. one < 256) size bytes all)
+    in let few : length (take size bytes) ≤ size = omega (arith, length-take size bytes)
+    in let wider : 256 ^ length (take size bytes) ≤ 256 ^ size = pow-le-pow_right {n = 256} (lit< tt) few
     in omega (arith, some, wider)
 
 -- bytes of each cell: of one that is there, or none
@@ -62,10 +62,10 @@ cell_all cells cell all = ⊎_elim
     (λ past. rw (get_or_past cells cell [] past) (All-nil (λ byte. byte < 256)))
     (cases_lt cell (length cells))
 
--- a number in a cell has the width that is read
-pub word_fits : (plan : ShardPlan) (h : List Entry) (cell offset width : ℕ) → IsSoundShard plan h → number_in_cell (shard_after plan h) cell offset width < 256 ^ width
-word_fits plan h cell offset width sound =
-    taken_below width (drop offset (get_or (shard_after plan h).cells cell []))
+-- a number in a cell has the size that is read
+pub word_fits : (plan : ShardPlan) (h : List Entry) (cell offset size : ℕ) → IsSoundShard plan h → number_in_cell (shard_after plan h) cell offset size < 256 ^ size
+word_fits plan h cell offset size sound =
+    taken_below size (drop offset (get_or (shard_after plan h).cells cell []))
     (All-drop (λ one. one < 256) offset (get_or (shard_after plan h).cells cell []) (cell_all (shard_after plan h).cells cell sound.bytes))
 
 -- ---- answers of updates and deletions

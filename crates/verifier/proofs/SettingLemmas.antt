@@ -147,39 +147,39 @@ cell_served setting states system worker entered map cell call good few inside p
     ))
     (λ outside. let entered_it : is_entered plan.number entered ≡ true = subst (λ number. is_entered number entered ≡ true) (sym at) held.was_entered in absurd cc)
 
-load_meets_held : (setting : Setting) (system : SystemState) (worker : ℕ) (entered : List ℕ) (cell : CellRef) (offset width : ℕ) → worker < setting.options.workers →
-    (plan : ShardPlan) → plan_at setting.maps setting.options cell.shard ≡ Some plan → IsServedLoad (program_of setting) (held_by setting system worker entered) cell offset width →
-    holds worker cell.id (history_of system plan.number) ≡ true → Meets plan (history_of system plan.number) (Worker worker) (Load cell offset width)
-load_meets_held setting system worker entered cell offset width few plan planned served holds_at =
-    load_meets setting.maps setting.code setting.options (held_by setting system worker entered) cell offset width plan (history_of system plan.number) worker
+load_meets_held : (setting : Setting) (system : SystemState) (worker : ℕ) (entered : List ℕ) (cell : CellRef) (offset size : ℕ) → worker < setting.options.workers →
+    (plan : ShardPlan) → plan_at setting.maps setting.options cell.shard ≡ Some plan → IsServedLoad (program_of setting) (held_by setting system worker entered) cell offset size →
+    holds worker cell.id (history_of system plan.number) ≡ true → Meets plan (history_of system plan.number) (Worker worker) (Load cell offset size)
+load_meets_held setting system worker entered cell offset size few plan planned served holds_at =
+    load_meets setting.maps setting.code setting.options (held_by setting system worker entered) cell offset size plan (history_of system plan.number) worker
     (λ map is. ((held_facts setting system worker entered map cell.shard cell.id is).of_map, holds_at)) served planned few
 
 -- loads, stores and atomic operations that the abstract state lets through
-pub load_served : (setting : Setting) (states : List (Option State)) (system : SystemState) (worker : ℕ) (entered : List ℕ) (cell : CellRef) (offset width : ℕ) → IsSetting setting states →
+pub load_served : (setting : Setting) (states : List (Option State)) (system : SystemState) (worker : ℕ) (entered : List ℕ) (cell : CellRef) (offset size : ℕ) → IsSetting setting states →
     worker < setting.options.workers → is_inside worker (history_of system cell.shard) ≡ is_entered cell.shard entered →
     (plan : ShardPlan) → plan_at setting.maps setting.options cell.shard ≡ Some plan → IsSoundShard plan (history_of system cell.shard) →
-    IsServedLoad (program_of setting) (held_by setting system worker entered) cell offset width →
-    IsServedCall (plan_at setting.maps setting.options cell.shard) system worker entered (Load cell offset width)
-load_served setting states system worker entered cell offset width good few inside plan planned sound served =
-    cell_served setting states system worker entered served.map cell (Load cell offset width) good few inside plan planned sound served.holds
-    (load_meets_held setting system worker entered cell offset width few plan planned served) (λ kept. kept)
+    IsServedLoad (program_of setting) (held_by setting system worker entered) cell offset size →
+    IsServedCall (plan_at setting.maps setting.options cell.shard) system worker entered (Load cell offset size)
+load_served setting states system worker entered cell offset size good few inside plan planned sound served =
+    cell_served setting states system worker entered served.map cell (Load cell offset size) good few inside plan planned sound served.holds
+    (load_meets_held setting system worker entered cell offset size few plan planned served) (λ kept. kept)
 
-pub store_served : (setting : Setting) (states : List (Option State)) (system : SystemState) (worker : ℕ) (entered : List ℕ) (cell : CellRef) (offset width value : ℕ) → IsSetting setting states →
+pub store_served : (setting : Setting) (states : List (Option State)) (system : SystemState) (worker : ℕ) (entered : List ℕ) (cell : CellRef) (offset size value : ℕ) → IsSetting setting states →
     worker < setting.options.workers → is_inside worker (history_of system cell.shard) ≡ is_entered cell.shard entered →
     (plan : ShardPlan) → plan_at setting.maps setting.options cell.shard ≡ Some plan → IsSoundShard plan (history_of system cell.shard) →
-    IsServedStore (program_of setting) (held_by setting system worker entered) cell offset width value →
-    IsServedCall (plan_at setting.maps setting.options cell.shard) system worker entered (Store cell offset width value)
-store_served setting states system worker entered cell offset width value good few inside plan planned sound served =
-    cell_served setting states system worker entered served.at.map cell (Store cell offset width value) good few inside plan planned sound served.at.holds
-    (λ holds_at. store_meets plan (history_of system plan.number) worker cell offset width value
-    (load_meets_held setting system worker entered cell offset width few plan planned served.at holds_at) served.fits) (λ kept. kept)
+    IsServedStore (program_of setting) (held_by setting system worker entered) cell offset size value →
+    IsServedCall (plan_at setting.maps setting.options cell.shard) system worker entered (Store cell offset size value)
+store_served setting states system worker entered cell offset size value good few inside plan planned sound served =
+    cell_served setting states system worker entered served.at.map cell (Store cell offset size value) good few inside plan planned sound served.at.holds
+    (λ holds_at. store_meets plan (history_of system plan.number) worker cell offset size value
+    (load_meets_held setting system worker entered cell offset size few plan planned served.at holds_at) served.fits) (λ kept. kept)
 
-pub atomic_served : (setting : Setting) (states : List (Option State)) (system : SystemState) (worker : ℕ) (entered : List ℕ) (cell : CellRef) (offset width op value expected : ℕ) → IsSetting setting states →
+pub atomic_served : (setting : Setting) (states : List (Option State)) (system : SystemState) (worker : ℕ) (entered : List ℕ) (cell : CellRef) (offset size op value expected : ℕ) → IsSetting setting states →
     worker < setting.options.workers → is_inside worker (history_of system cell.shard) ≡ is_entered cell.shard entered →
     (plan : ShardPlan) → plan_at setting.maps setting.options cell.shard ≡ Some plan → IsSoundShard plan (history_of system cell.shard) →
-    IsServedAtomic (program_of setting) (held_by setting system worker entered) cell offset width op value expected →
-    IsServedCall (plan_at setting.maps setting.options cell.shard) system worker entered (Atomic cell offset width op value expected)
-atomic_served setting states system worker entered cell offset width op value expected good few inside plan planned sound served =
-    cell_served setting states system worker entered served.map cell (Atomic cell offset width op value expected) good few inside plan planned sound served.holds
-    (λ holds_at. atomic_meets setting.maps setting.code setting.options (held_by setting system worker entered) cell offset width op value expected plan (history_of system plan.number) worker
+    IsServedAtomic (program_of setting) (held_by setting system worker entered) cell offset size op value expected →
+    IsServedCall (plan_at setting.maps setting.options cell.shard) system worker entered (Atomic cell offset size op value expected)
+atomic_served setting states system worker entered cell offset size op value expected good few inside plan planned sound served =
+    cell_served setting states system worker entered served.map cell (Atomic cell offset size op value expected) good few inside plan planned sound served.holds
+    (λ holds_at. atomic_meets setting.maps setting.code setting.options (held_by setting system worker entered) cell offset size op value expected plan (history_of system plan.number) worker
     (λ map is. ((held_facts setting system worker entered map cell.shard cell.id is).of_map, holds_at)) served planned few) (λ kept. kept)

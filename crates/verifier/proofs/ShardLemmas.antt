@@ -45,14 +45,14 @@ abbrev pub BringsBytes : Call → Type 0
 BringsBytes (Update shard key value flags) = AreAllBytes value
 BringsBytes call = Unit {0}
 
-number_bytes : (shard : SequentialShard) (cell offset width value : ℕ) → AreAllCellsBytes shard.cells → AreAllCellsBytes (with_number_in_cell shard cell offset width value).cells
-number_bytes shard cell offset width value all =
+number_bytes : (shard : SequentialShard) (cell offset size value : ℕ) → AreAllCellsBytes shard.cells → AreAllCellsBytes (with_number_in_cell shard cell offset size value).cells
+number_bytes shard cell offset size value all =
     let before : AreAllBytes (cell_bytes shard cell) = cell_all shard.cells cell all
-    in let new : AreAllBytes (bytes_of_number width value) = All-from_recursion (λ byte. byte < 256) (bytes_of_number width value) (bytes_small width value)
-    in let after : ℕ = offset + length (bytes_of_number width value)
-    in All-set (All (λ byte. byte < 256)) shard.cells cell (overwritten_at offset (bytes_of_number width value) (cell_bytes shard cell))
-    (All-append (λ byte. byte < 256) (take offset (cell_bytes shard cell) ++ bytes_of_number width value) (drop after (cell_bytes shard cell))
-    (All-append (λ byte. byte < 256) (take offset (cell_bytes shard cell)) (bytes_of_number width value) (All-take (λ byte. byte < 256) offset (cell_bytes shard cell) before) new)
+    in let new : AreAllBytes (bytes_of_number size value) = All-from_recursion (λ byte. byte < 256) (bytes_of_number size value) (bytes_small size value)
+    in let after : ℕ = offset + length (bytes_of_number size value)
+    in All-set (All (λ byte. byte < 256)) shard.cells cell (overwritten_at offset (bytes_of_number size value) (cell_bytes shard cell))
+    (All-append (λ byte. byte < 256) (take offset (cell_bytes shard cell) ++ bytes_of_number size value) (drop after (cell_bytes shard cell))
+    (All-append (λ byte. byte < 256) (take offset (cell_bytes shard cell)) (bytes_of_number size value) (All-take (λ byte. byte < 256) offset (cell_bytes shard cell) before) new)
     (All-drop (λ byte. byte < 256) after (cell_bytes shard cell) before))
     all
 
@@ -67,10 +67,10 @@ cells_after : (plan : ShardPlan) (h : List Entry) (shard : SequentialShard) (cal
 cells_after plan h shard (Enter number) brings all = all
 cells_after plan h shard (Leave number) brings all = all
 cells_after plan h shard (Lookup number key) brings all = all
-cells_after plan h shard (Load cell offset width) brings all = all
-cells_after plan h shard (Store cell offset width value) brings all = number_bytes shard cell.id offset width value all
-cells_after plan h shard (Atomic cell offset width op value expected) brings all =
-    number_bytes shard cell.id offset width (changed_by (atomic_op_of op) width (number_in_cell shard cell.id offset width) value expected) all
+cells_after plan h shard (Load cell offset size) brings all = all
+cells_after plan h shard (Store cell offset size value) brings all = number_bytes shard cell.id offset size value all
+cells_after plan h shard (Atomic cell offset size op value expected) brings all =
+    number_bytes shard cell.id offset size (changed_by (atomic_op_of op) size (number_in_cell shard cell.id offset size) value expected) all
 cells_after plan h shard (Update number key value flags) brings all =
     updated_where-keeps (λ one. AreAllCellsBytes one.cells) (update_answer plan shard key flags) (with_value plan h shard key value (cell_of_key plan shard key)) shard
     (value_bytes plan h shard key value (cell_of_key plan shard key) brings all) all
@@ -94,9 +94,9 @@ brings_bytes plan h who (Update shard key value flags) may =
 brings_bytes plan h who (Enter shard) may = tt
 brings_bytes plan h who (Leave shard) may = tt
 brings_bytes plan h who (Lookup shard key) may = tt
-brings_bytes plan h who (Load cell offset width) may = tt
-brings_bytes plan h who (Store cell offset width value) may = tt
-brings_bytes plan h who (Atomic cell offset width op value expected) may = tt
+brings_bytes plan h who (Load cell offset size) may = tt
+brings_bytes plan h who (Store cell offset size value) may = tt
+brings_bytes plan h who (Atomic cell offset size op value expected) may = tt
 brings_bytes plan h who (Delete shard key) may = tt
 brings_bytes plan h who (Reclaim shard) may = tt
 

@@ -14,14 +14,14 @@ use Rattle.verifier.specs.declared.reject.Reject.TheVariants.{Memory}
 use Rattle.verifier.specs.Dataflow.{known_at, Accepts, IsFirstBroken, IsFirstReject}
 use Rattle.verifier.specs.Rejects.{reject_of_refusal}
 
--- of a program that some entry states let through, only a want of memory can be answered
+-- a program that some entry states let through can be rejected only for lack of memory
 abbrev pub HasOneAnswer : Type 0
 HasOneAnswer =
     (version : Version) (maps : List MapDef) (code : List Insn) (states : List (Option State)) (reject : Reject) →
     Accepts version maps code states → IsFirstReject version maps code reject →
     reject ≡ Memory
 
--- a refused program has one first reject, but for a want of memory
+-- a refused program has one first reject, unless memory is refused
 abbrev pub FirstRejectIsOne : Type 0
 FirstRejectIsOne =
     (version : Version) (maps : List MapDef) (code : List Insn) (one other : Reject) →

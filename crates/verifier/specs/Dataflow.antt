@@ -133,8 +133,8 @@ pub record IsFirstBroken (version : Version) (maps : List MapDef) (code : List I
   pub known : known_at states slot ≡ Some state
   pub breaks : flow_of maps state slot insn ≡ Err why
 
--- the first rule that a program breaks: those of structure first, and then those of kinds by rising slot. A want of memory may be
--- answered in place of a rule of kinds, where memory may have been asked for before the rule was looked at.
+-- the first rule that a program breaks: those of structure first, and then those of kinds by rising slot. Lack of memory may be
+-- reported in place of a rule of kinds, where memory may have been asked for before the rule was looked at.
 pub data IsFirstReject (version : Version) (maps : List MapDef) (code : List Insn) (reject : Reject) : Type 0 where
   has_no_shape : (fault : ShapeFault) → IsFirstFault code fault → reject ≡ reject_of_shape fault → IsFirstReject version maps code reject
   breaks_rule : (slot : ℕ) (why : Refusal) → IsFirstBroken version maps code slot why →

@@ -2,13 +2,13 @@
 
 ghost use Rattle.verifier.specs.Answers.{HasOneAnswer, FirstRejectIsOne, RuleBeforeJumpsIsTold, EachInstructionHasState, AcceptedIsSafe};
 
-/// A program that some entry states let through has no reject but a want of memory: so `verify` answers `Ok` exactly for these, where
+/// A program that some entry states let through can be rejected only for lack of memory: so `verify` returns `Ok` exactly for these, where
 /// there is memory.
 pub fn one_answer()
     ensures { HasOneAnswer }
 {}
 
-/// A refused program has one first reject, but for a want of memory.
+/// A refused program has one first reject, unless memory is refused.
 pub fn first_reject_is_one()
     ensures { FirstRejectIsOne }
 {}

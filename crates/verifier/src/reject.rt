@@ -44,7 +44,7 @@ pub enum Reject {
     /// 40: outside a map's value.
     #[error("fault 40 ValueBounds slot {slot}")]
     ValueBounds { slot: u32 },
-    /// 41: no multiple of the access's width.
+    /// 41: no multiple of the access's size.
     #[error("fault 41 Misaligned slot {slot}")]
     Misaligned { slot: u32 },
     /// 42: no field of the context.

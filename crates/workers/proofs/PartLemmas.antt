@@ -8,7 +8,7 @@ use Rattle.workers.specs.declared.crew.Handled.{Handled}
 use Rattle.workers.specs.declared.run_end.Ran.{Ran}
 use Rattle.workers.specs.Accounts.{lists_of, runs_at}
 use Rattle.workers.specs.Crews.{IsPart}
-use Rattle.workers.proofs.ListLemmas.{or_push_else, or_push_here}
+use Rattle.semantics.proofs.shared.EachLemmas.{or_push_else, or_push_here}
 
 module _ {A : Type 0} where
   pub rest_there : (l : List A) (j : ℕ) → get_elem? (remove l 0) j ≡ get_elem? l (suc j)

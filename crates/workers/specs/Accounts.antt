@@ -1,5 +1,6 @@
 -- What became of each record, by the runs of the workers, and what is counted and sent of it.
-use Rattle.std.specs.Prelude.{◌≡◌, ℕ, zero, suc, ◌+◌, List, [], ◌∷◌, ◌++◌, length, map, Option, Some, None, Vec, slice_index, slice_index_or, ◌<◌, if◌then◌else◌}
+use Rattle.std.specs.Prelude.{◌≡◌, ℕ, zero, suc, ◌+◌, List, [], ◌∷◌, ◌++◌, length, map, Option, Some, None, Vec, slice_index}
+use Rattle.std.specs.Prelude.{slice_index_or, ◌<◌, if◌then◌else◌}
 use Rattle.wire.specs.declared.records.Sent.{Sent}
 use Rattle.workers.specs.declared.counts.Counts.{Counts}
 use Rattle.workers.specs.declared.run_end.RunEnd.{RunEnd}

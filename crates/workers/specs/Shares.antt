@@ -1,5 +1,6 @@
 -- Which worker handles a record, and the records of each worker, in the capture's order.
-use Rattle.std.specs.Prelude.{ℕ, zero, suc, ◌+◌, ◌%◌, ◌==◌, Bool, not, ◌&&◌, ◌||◌, nat_lt, List, [], ◌∷◌, ◌++◌, length, slice_index, slice_index_or, bit_and, map, if◌then◌else◌}
+use Rattle.std.specs.Prelude.{ℕ, zero, suc, ◌+◌, ◌%◌, ◌==◌, Bool, not, ◌&&◌, ◌||◌, nat_lt, List, [], ◌∷◌, ◌++◌, length, slice_index}
+use Rattle.std.specs.Prelude.{slice_index_or, bit_and, map, if◌then◌else◌}
 use Rattle.wire.specs.declared.records.Sent.{Sent}
 use Rattle.wire.specs.FlowForm.{be_word_at, flow_bytes_of}
 use Rattle.wire.specs.Fnv.{fnv1a64_of}

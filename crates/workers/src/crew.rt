@@ -96,7 +96,7 @@ pub(crate) fn abandon<S: Drop, W: Runner<S>, R: Threads + Wait>(
     }
 }
 
-/// What a worker that has ended did, held against what was put into its queue. None where it was refused memory.
+/// What a worker that has ended did, compared with what was put into its queue. None where it was refused memory.
 fn settled<S: Drop, W: Runner<S>, R: Threads + Wait>(
     rt: &R,
     queues: &Queues,

@@ -25,7 +25,7 @@ use Rattle.journal_files.specs.declared.fault.FileFault.TheVariants as journal_f
 use Rattle.journal_files.specs.JournalReading.{IsJournalsFile, Refuses as RefusesJournals}
 use Rattle.audit.specs.declared.fault.AuditFault.{AuditFault}
 use Rattle.audit.specs.Audited.{Explains as ExplainsJournals}
-use Rattle.audit.specs.Audited.{AreLegal}
+use Rattle.journals.specs.LegalJournals.{AreLegal}
 use Rattle.disasm.specs.AssemblyText.{IsAssemblyText}
 use Rattle.source_form.specs.SourceImage.{IsSource}
 use Rattle.explanations.specs.Refusals.{IsRefusalText}
@@ -242,7 +242,8 @@ pub data IsRunRefusal (files after : FileBytes) (failed : Type 0) (run : RunFile
   stopped : (program : Contents) (bytes : List ℕ) (stop : Stop) → AreKept files after → AreRunInputs files run updates program bytes → worker < 8
       → IsStoppedRun program bytes now worker updates stop → fault ≡ faults.Run stop → IsRunRefusal files after failed run now worker updates fault
   not_told : (program : Contents) (bytes : List ℕ) → AreRunInputs files run updates program bytes → worker < 8
-      → IsEndedRun program bytes now worker updates → IsUnreported (text_of run.journals) failed fault → IsRunRefusal files after failed run now worker updates fault
+      → IsEndedRun program bytes now worker updates → IsUnreported (text_of run.journals) failed fault →
+      IsRunRefusal files after failed run now worker updates fault
 
 -- ---- replays
 

@@ -22,7 +22,7 @@ use Rattle.steer.specs.ShippedProgram.{shipped_image}
 use Rattle.single_run.specs.SingleRuns.{HasRunAlone}
 use Rattle.journals.specs.JournalsView.{JournalsView}
 use Rattle.journal_files.specs.JournalReading.{IsJournalsFile}
-use Rattle.audit.specs.Audited.{AreLegal}
+use Rattle.journals.specs.LegalJournals.{AreLegal}
 use Rattle.explanations.specs.Explanations.{explanation_text}
 use Rattle.reasons.specs.Explanations.{IsExplanation}
 use Rattle.command_line.specs.Reading.{text_of}

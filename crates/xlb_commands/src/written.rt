@@ -38,7 +38,8 @@ fn write_to<D: Folder>(
     requires { D.failure_count folder.old < 2 ^ 64 - 1 }
     ensures written { OnOk result (D.holds folder.new name.now (journals_text journals.now)) }
     ensures others { AreOthersKept (D.holds folder.old) (D.holds folder.new) name.now }
-    ensures refused { IfErr result (λ refusal. IsUnreported (Some name.now) (HasFailed (D.failure_count folder.old) (D.failure_count folder.new)) refusal.fault) }
+    ensures refused { IfErr result (λ refusal. IsUnreported (Some name.now) (HasFailed (D.failure_count folder.old)
+        (D.failure_count folder.new)) refusal.fault) }
 {
     let file = bytes_of_journals(alloc, journals)?;
     match folder.write(alloc, name, file.bytes()) {

@@ -53,8 +53,8 @@ both_found place count limit why from e =
       multiple = subst (λ at. at % count ≡ 0) same multiple.1;
     }
 
-pub stack_found : (place : ℕ) (distance : ℤ) (count from : ℕ) → stack_access place distance count ≡ Ok from → IsAligned (pos place +ℤ distance) count 512 from
-stack_found place distance count from e = both_found (pos place +ℤ distance) count 512 _ from e
+pub stack_found : (place : ℕ) (offset : ℤ) (count from : ℕ) → stack_access place offset count ≡ Ok from → IsAligned (pos place +ℤ offset) count 512 from
+stack_found place offset count from e = both_found (pos place +ℤ offset) count 512 _ from e
 
 -- ---- values of maps, at any offset of an interval
 
@@ -70,22 +70,22 @@ pub aligned_within : (place : ℤ) (count limit from : ℕ) → IsAligned place 
 aligned_within place count limit from found = record { at = found.at; inside = found.inside }
 
 -- both ends of the interval lie in the value
-record AreEnds (maps : List MapDef) (map : ℕ) (off : Offsets) (distance : ℤ) (count from : ℕ) : Type 0 where
+record AreEnds (maps : List MapDef) (map : ℕ) (off : Offsets) (offset : ℤ) (count from : ℕ) : Type 0 where
   last : ℕ
-  first_is : pos off.low +ℤ distance ≡ pos from
-  last_is : pos off.high +ℤ distance ≡ pos last
+  first_is : pos off.low +ℤ offset ≡ pos from
+  last_is : pos off.high +ℤ offset ≡ pos last
   first_inside : from + count ≤ value_size_of (slice_get maps map)
   last_inside : last + count ≤ value_size_of (slice_get maps map)
 
-ends_found : (maps : List MapDef) (map : ℕ) (off : Offsets) (distance : ℤ) (count from : ℕ) → value_range maps map off distance count ≡ Ok from →
-    AreEnds maps map off distance count from
-ends_found maps map off distance count from e =
-    let first = ok_then (range_within (pos off.low +ℤ distance) count (value_size_of (slice_get maps map)) ValueBounds) (λ from.
-    range_within (pos off.high +ℤ distance) count (value_size_of (slice_get maps map)) ValueBounds >>= (λ last. Ok from)) from e
-    in let second = ok_then (range_within (pos off.high +ℤ distance) count (value_size_of (slice_get maps map)) ValueBounds) (λ last. Ok first.0) from first.1.1
+ends_found : (maps : List MapDef) (map : ℕ) (off : Offsets) (offset : ℤ) (count from : ℕ) → value_range maps map off offset count ≡ Ok from →
+    AreEnds maps map off offset count from
+ends_found maps map off offset count from e =
+    let first = ok_then (range_within (pos off.low +ℤ offset) count (value_size_of (slice_get maps map)) ValueBounds) (λ from.
+    range_within (pos off.high +ℤ offset) count (value_size_of (slice_get maps map)) ValueBounds >>= (λ last. Ok from)) from e
+    in let second = ok_then (range_within (pos off.high +ℤ offset) count (value_size_of (slice_get maps map)) ValueBounds) (λ last. Ok first.0) from first.1.1
     in let same : first.0 ≡ from = ok_same (Ok first.0) first.0 from refl second.1.1
-    in let low = range_found (pos off.low +ℤ distance) count (value_size_of (slice_get maps map)) ValueBounds first.0 first.1.0
-    in let high = range_found (pos off.high +ℤ distance) count (value_size_of (slice_get maps map)) ValueBounds second.0 second.1.0
+    in let low = range_found (pos off.low +ℤ offset) count (value_size_of (slice_get maps map)) ValueBounds first.0 first.1.0
+    in let high = range_found (pos off.high +ℤ offset) count (value_size_of (slice_get maps map)) ValueBounds second.0 second.1.0
     in record {
       last = second.0;
       first_is = low.0 ∙ ap pos same;
@@ -94,12 +94,12 @@ ends_found maps map off distance count from e =
       last_inside = high.1;
     }
 
-pub value_found : (maps : List MapDef) (map : ℕ) (off : Offsets) (distance : ℤ) (count from at : ℕ) → off.low ≤ at → at ≤ off.high →
-    value_access maps map off distance count ≡ Ok from → ReachesValue (pos at +ℤ distance) count (value_size_of (slice_get maps map))
-value_found maps map off distance count from at least most e =
-    let parts = ok_then (value_range maps map off distance count) (λ from. if off.low == off.high then aligned from count else Ok from) from e
-    in let ends : AreEnds maps map off distance count parts.0 = ends_found maps map off distance count parts.0 parts.1.0
-    in let there : IsBetween at distance parts.0 ends.last = between off.low off.high at parts.0 ends.last distance least most ends.first_is ends.last_is
+pub value_found : (maps : List MapDef) (map : ℕ) (off : Offsets) (offset : ℤ) (count from at : ℕ) → off.low ≤ at → at ≤ off.high →
+    value_access maps map off offset count ≡ Ok from → ReachesValue (pos at +ℤ offset) count (value_size_of (slice_get maps map))
+value_found maps map off offset count from at least most e =
+    let parts = ok_then (value_range maps map off offset count) (λ from. if off.low == off.high then aligned from count else Ok from) from e
+    in let ends : AreEnds maps map off offset count parts.0 = ends_found maps map off offset count parts.0 parts.1.0
+    in let there : IsBetween at offset parts.0 ends.last = between off.low off.high at parts.0 ends.last offset least most ends.first_is ends.last_is
     in let low : there.place ≤ ends.last = there.most
     in let inside : ends.last + count ≤ value_size_of (slice_get maps map) = ends.last_inside
     in record { from = there.place; found = record { at = there.is; inside = omega arith } }
@@ -109,18 +109,18 @@ only true one why from e = (refl, e)
 only false one why from e = cc
 
 -- of an atomic operation the offset is a single one
-pub atomic_found : (maps : List MapDef) (map : ℕ) (off : Offsets) (distance : ℤ) (count from at : ℕ) → off.low ≤ at → at ≤ off.high →
-    atomic_access maps map off distance count ≡ Ok from → IsAligned (pos at +ℤ distance) count (value_size_of (slice_get maps map)) from
-atomic_found maps map off distance count from at least most e =
-    let parts = ok_then (value_range maps map off distance count) (λ from. if off.low == off.high then aligned from count else Err Misaligned) from e
-    in let ends : AreEnds maps map off distance count parts.0 = ends_found maps map off distance count parts.0 parts.1.0
+pub atomic_found : (maps : List MapDef) (map : ℕ) (off : Offsets) (offset : ℤ) (count from at : ℕ) → off.low ≤ at → at ≤ off.high →
+    atomic_access maps map off offset count ≡ Ok from → IsAligned (pos at +ℤ offset) count (value_size_of (slice_get maps map)) from
+atomic_found maps map off offset count from at least most e =
+    let parts = ok_then (value_range maps map off offset count) (λ from. if off.low == off.high then aligned from count else Err Misaligned) from e
+    in let ends : AreEnds maps map off offset count parts.0 = ends_found maps map off offset count parts.0 parts.1.0
     in let one = only (off.low == off.high) (aligned parts.0 count) Misaligned from parts.1.1
     in let single : off.low ≡ off.high = eqb-true off.low off.high one.0
     in let multiple = aligned_found parts.0 count from one.1
     in let same : parts.0 ≡ from = multiple.0
     in let here : at ≡ off.low = omega arith
     in record {
-      at = ap (λ n. pos n +ℤ distance) here ∙ (ends.first_is ∙ ap pos same);
+      at = ap (λ n. pos n +ℤ offset) here ∙ (ends.first_is ∙ ap pos same);
       inside = subst (λ at. at + count ≤ value_size_of (slice_get maps map)) same ends.first_inside;
       multiple = subst (λ at. at % count ≡ 0) same multiple.1;
     }
@@ -176,7 +176,7 @@ cell_reached program map place from count found =
     let inside : from + count ≤ value_size_of_map program map = rw (map_value_size program map) found.inside
     in rw (found.at, within_true (from + count) (value_size_of_map program map) inside) refl
 
--- an atomic operation's place is also at a multiple of its width
+-- an atomic operation's place is also at a multiple of its size
 pub aligned_cell_reached : (program : Program) (map : ℕ) (place : ℤ) (from count : ℕ) → IsAligned place count (value_size_of (slice_get program.maps map)) from →
     aligned_cell_range program map place count ≡ Ok from
 aligned_cell_reached program map place from count found =

@@ -210,52 +210,52 @@ some_bytes U16 = omega arith
 some_bytes U32 = omega arith
 some_bytes U64 = omega arith
 
-lies : (place : ℕ) (distance : ℤ) (size : Size) (from : ℕ) → stack_access place distance (size_bytes size) ≡ Ok from → Lies size from
-lies place distance size from e =
-    let p = ok_then (range_within (pos place +ℤ distance) (size_bytes size) stack_bytes StackBounds) (λ at. aligned at (size_bytes size)) from e
-    in let l : p.value + size_bytes size ≤ 512 = range_is (pos place +ℤ distance) (size_bytes size) stack_bytes p.value StackBounds p.is
+lies : (place : ℕ) (offset : ℤ) (size : Size) (from : ℕ) → stack_access place offset (size_bytes size) ≡ Ok from → Lies size from
+lies place offset size from e =
+    let p = ok_then (range_within (pos place +ℤ offset) (size_bytes size) stack_bytes StackBounds) (λ at. aligned at (size_bytes size)) from e
+    in let l : p.value + size_bytes size ≤ 512 = range_is (pos place +ℤ offset) (size_bytes size) stack_bytes p.value StackBounds p.is
     in let c = ok_if (p.value % size_bytes size == 0) (Ok p.value) Misaligned from p.next
     in let same : p.value ≡ from = ok_value p.value from c.next
     in let m : p.value % size_bytes size ≡ 0 = eqb-true (p.value % size_bytes size) 0 c.holds
     in let some : 0 < size_bytes size = some_bytes size
     in record { low = omega arith; multiple = ap (λ at. at % size_bytes size) (sym same) ∙ m }
 
-store_kept : (maps : List MapDef) (state : State) (size : Size) (target : Kind) (distance : ℤ) (dst : Register) (kind : Kind) → IsShaped state →
-    Keeps (stored maps state size target distance dst kind)
-store_kept maps state size Ctx distance dst kind s = keeps_err ContextAccess
-store_kept maps state size (Stack place) distance dst kind s =
-    keeps_then (stack_access place distance (size_bytes size)) (λ from. storable size kind >>= (λ _. Ok (stack_stored state size from kind)))
-    (λ from e. let at = lies place distance size from e
+store_kept : (maps : List MapDef) (state : State) (size : Size) (target : Kind) (offset : ℤ) (dst : Register) (kind : Kind) → IsShaped state →
+    Keeps (stored maps state size target offset dst kind)
+store_kept maps state size Ctx offset dst kind s = keeps_err ContextAccess
+store_kept maps state size (Stack place) offset dst kind s =
+    keeps_then (stack_access place offset (size_bytes size)) (λ from. storable size kind >>= (λ _. Ok (stack_stored state size from kind)))
+    (λ from e. let at = lies place offset size from e
     in keeps_then (storable size kind) (λ _. Ok (stack_stored state size from kind))
     (λ _ f. keeps_ok (stack_stored state size from kind) (stack_shaped state size from kind s at.low at.multiple)))
-store_kept maps state size (Packet id off range) distance dst kind s =
-    keeps_then (packet_access off range distance (size_bytes size)) (λ from. narrow_storable kind >>= (λ _. Ok state))
+store_kept maps state size (Packet id off range) offset dst kind s =
+    keeps_then (packet_access off range offset (size_bytes size)) (λ from. narrow_storable kind >>= (λ _. Ok state))
     (λ from e. keeps_then (narrow_storable kind) (λ _. Ok state) (λ _ f. keeps_ok state s))
-store_kept maps state size (Value map id off) distance dst kind s =
-    keeps_then (value_access maps map off distance (size_bytes size)) (λ from. narrow_storable kind >>= (λ _. Ok state))
+store_kept maps state size (Value map id off) offset dst kind s =
+    keeps_then (value_access maps map off offset (size_bytes size)) (λ from. narrow_storable kind >>= (λ _. Ok state))
     (λ from e. keeps_then (narrow_storable kind) (λ _. Ok state) (λ _ f. keeps_ok state s))
-store_kept maps state size Unset distance dst kind s = keeps_err (WrongKind dst)
-store_kept maps state size (Scalar i) distance dst kind s = keeps_err (WrongKind dst)
-store_kept maps state size PacketEnd distance dst kind s = keeps_err (WrongKind dst)
-store_kept maps state size (Map map) distance dst kind s = keeps_err (WrongKind dst)
-store_kept maps state size (ValueOrNull map id) distance dst kind s = keeps_err (WrongKind dst)
+store_kept maps state size Unset offset dst kind s = keeps_err (WrongKind dst)
+store_kept maps state size (Scalar i) offset dst kind s = keeps_err (WrongKind dst)
+store_kept maps state size PacketEnd offset dst kind s = keeps_err (WrongKind dst)
+store_kept maps state size (Map map) offset dst kind s = keeps_err (WrongKind dst)
+store_kept maps state size (ValueOrNull map id) offset dst kind s = keeps_err (WrongKind dst)
 
 fetched_shaped : (state : State) (register : Option Register) (width : Width) → IsShaped state → IsShaped (with_fetched_kind state register width)
 fetched_shaped state None width s = s
 fetched_shaped state (Some register) width s = kind_shaped state register (Scalar (full_of (width_bits width))) s
 
-atomic_kept : (maps : List MapDef) (state : State) (width : Width) (op : AtomicOp) (target : Kind) (distance : ℤ) (dst src : Register) → IsShaped state →
-    Keeps (atomic_on maps state width op target distance dst src)
-atomic_kept maps state width op Unset distance dst src s = keeps_err (WrongKind dst)
-atomic_kept maps state width op (Scalar i) distance dst src s = keeps_err (WrongKind dst)
-atomic_kept maps state width op Ctx distance dst src s = keeps_err (WrongKind dst)
-atomic_kept maps state width op (Stack place) distance dst src s = keeps_err (WrongKind dst)
-atomic_kept maps state width op (Packet id off range) distance dst src s = keeps_err (WrongKind dst)
-atomic_kept maps state width op PacketEnd distance dst src s = keeps_err (WrongKind dst)
-atomic_kept maps state width op (Map map) distance dst src s = keeps_err (WrongKind dst)
-atomic_kept maps state width op (ValueOrNull map id) distance dst src s = keeps_err (WrongKind dst)
-atomic_kept maps state width op (Value map id off) distance dst src s =
-    keeps_then (atomic_access maps map off distance (size_bytes (width_size width))) (λ from.
+atomic_kept : (maps : List MapDef) (state : State) (width : Width) (op : AtomicOp) (target : Kind) (offset : ℤ) (dst src : Register) → IsShaped state →
+    Keeps (atomic_on maps state width op target offset dst src)
+atomic_kept maps state width op Unset offset dst src s = keeps_err (WrongKind dst)
+atomic_kept maps state width op (Scalar i) offset dst src s = keeps_err (WrongKind dst)
+atomic_kept maps state width op Ctx offset dst src s = keeps_err (WrongKind dst)
+atomic_kept maps state width op (Stack place) offset dst src s = keeps_err (WrongKind dst)
+atomic_kept maps state width op (Packet id off range) offset dst src s = keeps_err (WrongKind dst)
+atomic_kept maps state width op PacketEnd offset dst src s = keeps_err (WrongKind dst)
+atomic_kept maps state width op (Map map) offset dst src s = keeps_err (WrongKind dst)
+atomic_kept maps state width op (ValueOrNull map id) offset dst src s = keeps_err (WrongKind dst)
+atomic_kept maps state width op (Value map id off) offset dst src s =
+    keeps_then (atomic_access maps map off offset (size_bytes (width_size width))) (λ from.
     narrow_storable (kind_of state src) >>= (λ _. expects op (kind_of state R0) >>= (λ _. Ok (with_fetched_kind state (fetched_register op src) width))))
     (λ from e. keeps_then (narrow_storable (kind_of state src)) (λ _. expects op (kind_of state R0) >>= (λ _. Ok (with_fetched_kind state (fetched_register op src) width)))
     (λ _ f. keeps_then (expects op (kind_of state R0)) (λ _. Ok (with_fetched_kind state (fetched_register op src) width))

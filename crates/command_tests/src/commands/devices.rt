@@ -32,7 +32,7 @@ impl Sink for BrokenSink {
     }
 }
 
-/// A folder in which nothing can be written, for want of memory or because the device fails.
+/// A folder in which nothing can be written, for lack of memory or because the device fails.
 #[derive(Drop)]
 struct FullFolder {
     failures: u64,

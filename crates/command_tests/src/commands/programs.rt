@@ -34,7 +34,7 @@ const ROWS: [Row; 32] = [
     ("past the stack", "version 1\nstw [r10+0], 0\nmov r0, 2\nexit\n", 1, "", "fault 38 StackBounds slot 0\n"),
     ("stack that was not written", "version 1\nldxb r0, [r10-1]\nexit\n", 1, "", "fault 39 StackUnset slot 0\n"),
     ("past a value", "version 1\nmap array 4 8 1\nstw [r10-4], 0\nmov r2, r10\nadd r2, -4\nldmap r1, 0\ncall 1\njeq r0, 0, +1\nldxdw r3, [r0+8]\nmov r0, 2\nexit\n", 1, "", "fault 40 ValueBounds slot 7\n"),
-    ("no multiple of the width", "version 1\nstw [r10-6], 0\nmov r0, 2\nexit\n", 1, "", "fault 41 Misaligned slot 0\n"),
+    ("no multiple of the size", "version 1\nstw [r10-6], 0\nmov r0, 2\nexit\n", 1, "", "fault 41 Misaligned slot 0\n"),
     ("no field of the context", "version 1\nldxw r0, [r1+8]\nexit\n", 1, "", "fault 42 ContextAccess slot 0\n"),
     ("the frame pointer is written", "version 1\nmov r10, 1\nexit\n", 1, "", "fault 43 ReadOnlyFp slot 0\n"),
     ("no such helper", "version 1\ncall 99\nexit\n", 1, "", "fault 44 UnknownHelper slot 0\n"),

@@ -46,6 +46,14 @@ const DATAGRAM: &str =
 const IN_A_TUNNEL: &str =
     "02000000000b02000000000a0800450000300000400040046ec00a000009c00002014500001c0001000040111494c6336407cb0071019c40005000080000";
 
+/// The same in a tunnel to 192.0.2.2.
+const IN_THE_OTHER_TUNNEL: &str =
+    "02000000000b02000000000a0800450000300000400040046ebf0a000009c00002024500001c0001000040111494c6336407cb0071019c40005000080000";
+
+/// The datagram with a time to live of 0.
+const NOT_TO_LIVE: &str =
+    "02000000000102000000000208004500001c0001000000111494c6336407cb0071019c40005000080000";
+
 const NO_FRAME: &str = "frames 0\nshort 0\nstopped 0\naborted 0\ndrop 0\npass 0\ntx 0\n";
 
 const ONE_SHORT: &str = "frames 1\nshort 1\nstopped 0\naborted 0\ndrop 0\npass 0\ntx 0\n";
@@ -68,6 +76,12 @@ const UNTRACKED: &str =
 const NO_BACKEND: &str =
     "0 gateway 10.0.0.9 02:00:00:00:00:0a 02:00:00:00:00:0b\n0 vip 203.0.113.1 80 udp\n";
 
+/// A second backend, and then the first one is down.
+const ANOTHER_BACKEND: &str =
+    "0 gateway 10.0.0.9 02:00:00:00:00:0a 02:00:00:00:00:0b\n0 vip 203.0.113.1 80 udp\n0 up 0 192.0.2.1\n0 up 1 192.0.2.2\n0 down 0\n";
+
+const NO_TUNNEL: &str = "0 vip 203.0.113.1 80 udp\n0 up 0 192.0.2.1\n";
+
 /// What a replay is given: a name for the row, the image's text (none: the shipped program), the script, the hexadecimal digits of the capture in
 /// three parts, and the words after its files.
 type Input = (
@@ -82,7 +96,7 @@ type Input = (
 type Output = (u8, &'static str, &'static str, [&'static str; 3]);
 
 #[rattlefmt::skip]
-const ROWS: [(Input, Output); 19] = [
+const ROWS: [(Input, Output); 23] = [
     (("one frame is sent",        COUNTS_TO_THREE, "", [HEAD, OF_14, ZEROS, "", "", ""], "--image image --journal 16"), (0, ONE_TX, "", [HEAD, OF_14, ZEROS])),
     (("none is",                  SENDS, "", [HEAD, "", "", "", "", ""], "--image image"), (0, NO_FRAME, "", [HEAD, "", ""])),
     (("13 bytes are short",       SENDS, "", [HEAD, OF_13, ZEROS_13, "", "", ""], "--image image"), (0, ONE_SHORT, "", [HEAD, "", ""])),
@@ -92,6 +106,10 @@ const ROWS: [(Input, Output); 19] = [
     (("a service's backend",      "", ONE_BACKEND, [HEAD, OF_42, DATAGRAM, "", "", ""], "--script script"), (0, ONE_TX, "", [HEAD, OF_62, IN_A_TUNNEL])),
     (("without tracking",         "", UNTRACKED, [HEAD, OF_42, DATAGRAM, "", "", ""], "--script script"), (0, ONE_TX, "", [HEAD, OF_62, IN_A_TUNNEL])),
     (("no backend",               "", NO_BACKEND, [HEAD, OF_42, DATAGRAM, "", "", ""], "--script script --ring 7"), (0, ONE_DROP, "", [HEAD, "", ""])),
+    (("no backend of 251 slots",  "", NO_BACKEND, [HEAD, OF_42, DATAGRAM, "", "", ""], "--script script"), (0, ONE_DROP, "", [HEAD, "", ""])),
+    (("the backend that is up",   "", ANOTHER_BACKEND, [HEAD, OF_42, DATAGRAM, "", "", ""], "--script script"), (0, ONE_TX, "", [HEAD, OF_62, IN_THE_OTHER_TUNNEL])),
+    (("a time to live of 0",      "", ONE_BACKEND, [HEAD, OF_42, NOT_TO_LIVE, "", "", ""], "--script script"), (0, ONE_DROP, "", [HEAD, "", ""])),
+    (("no tunnel",                "", NO_TUNNEL, [HEAD, OF_42, DATAGRAM, "", "", ""], "--script script"), (0, ONE_DROP, "", [HEAD, "", ""])),
     (("no script",                "", "", [HEAD, OF_42, DATAGRAM, "", "", ""], "--script script"), (0, ONE_PASS, "", [HEAD, "", ""])),
     (("a backend that isn't up",  "", "0 down 3\n", [HEAD, "", "", "", "", ""], "--script script"), (1, "frames 0\nshort 0\nstopped 0\naborted 0\ndrop 0\npass 0\ntx 0\ncommand 1 refused 91\n", "", [HEAD, "", ""])),
     (("a backend twice",          "", "0 up 0 10.0.0.1\n0 up 0 10.0.0.1\n", [HEAD, "", "", "", "", ""], "--script script"), (1, "frames 0\nshort 0\nstopped 0\naborted 0\ndrop 0\npass 0\ntx 0\ncommand 2 refused 92\n", "", [HEAD, "", ""])),
@@ -142,6 +160,7 @@ fn compare<R: Abort + Threads + Wait + Sync>(
     assert!(rt; found.folder.failures() == 0, "device of {name}");
     match file(alloc, &mut found.folder, "sent") {
         Ok(bytes) => {
+            assert!(rt; !sent[0].is_empty(), "a file of {name}");
             assert!(rt; bytes == bytes_of(alloc, &sent)?, "frames sent of {name}");
         }
         Err(_) => assert!(rt; sent[0].is_empty(), "no file of {name}"),
@@ -157,13 +176,17 @@ fn replays_captures(rt: HostRuntime) -> Result<(), Fail> {
     Ok(())
 }
 
-/// The journals of two replays.
+/// The journals of four replays.
 #[rattlefmt::skip]
-const JOURNALS: [(Input, &str); 2] = [
+const JOURNALS: [(Input, &str); 4] = [
     (("one run",          COUNTS_TO_THREE, "", [HEAD, OF_14, ZEROS, "", "", ""], "--image image --journal 16"),
      "XLBJ 1 1 1 16\n0 w0 enter ok\n0 w0 update 07000000 0200000000000000 0 answer 0\n0 w0 lookup 07000000 cell 0\n0 w0 atomic 0 0 8 1 1 0 word 2\n0 w0 load 0 0 8 word 3\n0 w0 leave ok\n0 r reclaim freed 0\n"),
     (("a service alone",  "", "0 vip 203.0.113.1 80 udp notrack\n", [HEAD, "", "", "", "", ""], "--script script --journal 16"),
      "XLBJ 1 1 1 16\n0 c update cb00710100501100 0100000000000000 0 answer 0\n0 r reclaim freed 0\n1 r reclaim freed 0\n"),
+    (("a new flow",       "", ONE_BACKEND, [HEAD, OF_42, DATAGRAM, "", "", ""], "--script script --ring 7 --journal 16"),
+     "XLBJ 1 1 1 16\n0 c update cb00710100501100 0000000000000000 0 answer 0\n0 w0 enter ok\n0 w0 lookup cb00710100501100 cell 0\n0 w0 load 0 0 8 word 0\n0 w0 leave ok\n0 r reclaim freed 0\n1 w0 enter ok\n1 w0 lookup c6336407cb0071019c40005011000000 null\n1 w0 update c6336407cb0071019c40005011000000 0000000000000000 0 answer 0\n1 w0 leave ok\n1 r reclaim freed 0\n2 c update 00000000 0100000000000000 0 answer 0\n2 c update 01000000 0100000000000000 0 answer 0\n2 c update 02000000 0100000000000000 0 answer 0\n2 c update 03000000 0100000000000000 0 answer 0\n2 c update 04000000 0100000000000000 0 answer 0\n2 c update 05000000 0100000000000000 0 answer 0\n2 c update 06000000 0100000000000000 0 answer 0\n2 w0 enter ok\n2 w0 lookup 00000000 cell 0\n2 w0 load 0 0 4 word 1\n2 w0 leave ok\n3 c update 00000000 c000020101000000 0 answer 0\n3 w0 enter ok\n3 w0 lookup 00000000 cell 0\n3 w0 load 0 0 8 word 4311875776\n3 w0 leave ok\n4 c update 00000000 0a00000902000000000a02000000000b0100000000000000 0 answer 0\n4 w0 enter ok\n4 w0 lookup 00000000 cell 0\n4 w0 load 0 16 8 word 1\n4 w0 load 0 0 8 word 8740929546\n4 w0 load 0 8 8 word 792633534417340928\n4 w0 leave ok\n5 w0 enter ok\n5 w0 lookup 03000000 cell 3\n5 w0 atomic 3 0 8 0 1 0 word 0\n5 w0 leave ok\n"),
+    (("without tracking, no flow is noted", "", UNTRACKED, [HEAD, OF_42, DATAGRAM, "", "", ""], "--script script --ring 7 --journal 16"),
+     "XLBJ 1 1 1 16\n0 c update cb00710100501100 0100000000000000 0 answer 0\n0 w0 enter ok\n0 w0 lookup cb00710100501100 cell 0\n0 w0 load 0 0 8 word 1\n0 w0 leave ok\n0 r reclaim freed 0\n1 r reclaim freed 0\n2 c update 00000000 0100000000000000 0 answer 0\n2 c update 01000000 0100000000000000 0 answer 0\n2 c update 02000000 0100000000000000 0 answer 0\n2 c update 03000000 0100000000000000 0 answer 0\n2 c update 04000000 0100000000000000 0 answer 0\n2 c update 05000000 0100000000000000 0 answer 0\n2 c update 06000000 0100000000000000 0 answer 0\n2 w0 enter ok\n2 w0 lookup 00000000 cell 0\n2 w0 load 0 0 4 word 1\n2 w0 leave ok\n3 c update 00000000 c000020101000000 0 answer 0\n3 w0 enter ok\n3 w0 lookup 00000000 cell 0\n3 w0 load 0 0 8 word 4311875776\n3 w0 leave ok\n4 c update 00000000 0a00000902000000000a02000000000b0100000000000000 0 answer 0\n4 w0 enter ok\n4 w0 lookup 00000000 cell 0\n4 w0 load 0 16 8 word 1\n4 w0 load 0 0 8 word 8740929546\n4 w0 load 0 8 8 word 792633534417340928\n4 w0 leave ok\n5 w0 enter ok\n5 w0 lookup 03000000 cell 3\n5 w0 atomic 3 0 8 0 1 0 word 0\n5 w0 leave ok\n"),
 ];
 
 #[test]

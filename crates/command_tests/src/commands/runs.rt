@@ -18,7 +18,7 @@ type Row = (
 );
 
 #[rattlefmt::skip]
-const ROWS: [Row; 26] = [
+const ROWS: [Row; 28] = [
     ("two instructions", "version 1\nmov r0, 2\nexit\n", "0000000000000000000000000000", "xlb run image frame", "verdict pass\ninstructions 2\nframe 0000000000000000000000000000\n"),
     ("byte 13 of 14", "version 1\nldxw r2, [r1+0]\nldxw r3, [r1+4]\nmov r4, r2\nadd r4, 14\nmov r0, 2\njgt r4, r3, +1\nldxb r0, [r2+13]\nexit\n", "0000000000000000000000000001", "xlb run image frame", "verdict drop\ninstructions 8\nframe 0000000000000000000000000001\n"),
     ("byte 13 of 15", "version 1\nldxw r2, [r1+0]\nldxw r3, [r1+4]\nmov r4, r2\nadd r4, 14\nmov r0, 2\njgt r4, r3, +1\nldxb r0, [r2+13]\nexit\n", "000000000000000000000000000100", "xlb run image frame", "verdict drop\ninstructions 8\nframe 000000000000000000000000000100\n"),
@@ -45,6 +45,8 @@ const ROWS: [Row; 26] = [
     ("a number is added to an element", "version 1\nmap array 4 8 1\nstw [r10-4], 0\nmov r2, r10\nadd r2, -4\nldmap r1, 0\ncall 1\njeq r0, 0, +3\nmov r1, 2\naadddw [r0+0], r1\nldxdw r0, [r0+0]\nexit\n", "0000000000000000000000000000", "xlb run image frame", "verdict pass\ninstructions 10\nframe 0000000000000000000000000000\n"),
     ("an address that the program names itself", "version 2\nmap array 4 8 1\nldval r1, 0, 0\nmov r2, 3\naadddw [r1+0], r2\nldxdw r0, [r1+0]\nexit\n", "0000000000000000000000000000", "xlb run image frame", "verdict tx\ninstructions 5\nframe 0000000000000000000000000000\n"),
     ("the packet's start is moved back", "version 1\nmov r2, -20\ncall 44\nmov r0, 3\nexit\n", "0000000000000000000000000000", "xlb run image frame", "verdict tx\ninstructions 4\nframe 00000000000000000000000000000000000000000000000000000000000000000000\n"),
+    ("20 zeros before the packet", "version 1\nmov r2, -20\ncall 44\nmov r0, 3\nexit\n", "aaaaaaaaaaaaaaaaaaaaaaaaaaaa", "xlb run image frame", "verdict tx\ninstructions 4\nframe 0000000000000000000000000000000000000000aaaaaaaaaaaaaaaaaaaaaaaaaaaa\n"),
+    ("past the headroom the packet stays", "version 1\nmov r2, -257\ncall 44\nmov r0, 3\nexit\n", "aaaaaaaaaaaaaaaaaaaaaaaaaaaa", "xlb run image frame", "verdict tx\ninstructions 4\nframe aaaaaaaaaaaaaaaaaaaaaaaaaaaa\n"),
 ];
 
 /// The image of a text.

@@ -17,22 +17,18 @@ fn address(dst: Register, map: i32) -> Insn {
 }
 
 /// A call on the first cell of a shard.
-fn loaded(shard: u32, offset: u64, width: u64, value: u64) -> (Call, Reply) {
+fn loaded(shard: u32, offset: u64, size: u64, value: u64) -> (Call, Reply) {
     let cell = CellRef { shard, id: 0 };
-    let call = Call::Load {
-        cell,
-        offset,
-        width,
-    };
+    let call = Call::Load { cell, offset, size };
     (call, Reply::Word { value })
 }
 
-fn stored(shard: u32, offset: u64, width: u64, value: u64) -> (Call, Reply) {
+fn stored(shard: u32, offset: u64, size: u64, value: u64) -> (Call, Reply) {
     let cell = CellRef { shard, id: 0 };
     let call = Call::Store {
         cell,
         offset,
-        width,
+        size,
         value,
     };
     (call, Reply::Done)
@@ -60,7 +56,7 @@ fn entries_of_count(shard: u32) -> [(Call, Reply); 5] {
     let added = Call::Atomic {
         cell: CellRef { shard, id: 0 },
         offset: 0,
-        width: 8,
+        size: 8,
         op: 0,
         value: 3,
         expected: 0,
@@ -137,12 +133,12 @@ fn a_place_in_a_value_that_the_packet_tells(rt: HostRuntime) -> Result<(), Fail>
     ];
     let mut bytes = [0; 14];
     bytes[13] = 0xff;
-    for (name, skip, tail, steps, place, width) in rows {
+    for (name, skip, tail, steps, place, size) in rows {
         let verified = accepted_in(rt.alloc(), Version::V2, &wide, &measured(skip), tail)?;
         let entries = [
             enter(0),
             lookup(0, 0, found(0, 0)),
-            stored(0, place, width, 3),
+            stored(0, place, size, 3),
             loaded(0, place, 1, 3),
             leave(0),
         ];

@@ -64,22 +64,18 @@ pub(super) fn found(shard: u32, id: u64) -> Reply {
 }
 
 /// A load from an array's first cell, whose bytes are zeros.
-fn zeros(shard: u32, offset: u64, width: u64) -> (Call, Reply) {
+fn zeros(shard: u32, offset: u64, size: u64) -> (Call, Reply) {
     let cell = CellRef { shard, id: 0 };
-    let call = Call::Load {
-        cell,
-        offset,
-        width,
-    };
+    let call = Call::Load { cell, offset, size };
     (call, Reply::Word { value: 0 })
 }
 
 /// What index 0 of the array leaves in the journal, where so many of its bytes are read.
-fn found_and_read(offset: u64, width: u64) -> [(Call, Reply); 4] {
+fn found_and_read(offset: u64, size: u64) -> [(Call, Reply); 4] {
     [
         enter(0),
         lookup(0, 0, found(0, 0)),
-        zeros(0, offset, width),
+        zeros(0, offset, size),
         leave(0),
     ]
 }

@@ -1,5 +1,6 @@
 -- Faults of edges: what they depend on, and what it means that there is none.
 use Rattle.std.proofs.Common.{◌≡◌, ◌≢◌, ℕ, ◌+◌, ◌<◌, ◌≤◌, Bool, true, false, cond, ◌&&◌, leb, ℤ, pos, negsuc, ◌+ℤ◌, ◌≤ℤ◌, List, length, get_or, take, Option, Some, None, refl, sym, ap, subst, ◌∙◌, ⊎_elim, arith}
+use Rattle.std.specs.Option.{option_or}
 use Rattle.std.specs.Prelude.{IsTrue}
 use Rattle.std.proofs.Math.Facts.{yes_leb}
 use Rattle.std.proofs.lemmas.Bool.{cases_lt, cases_eq, leb-false}
@@ -11,7 +12,7 @@ use Rattle.image_shape.specs.declared.fault.ShapeFault.TheVariants.{JumpBackward
 use Rattle.ebpf_decode.specs.Jumps.{jump_distance}
 use Rattle.image_shape.specs.Edges.{falls_through, IsEdge, is_begin}
 use Rattle.image_shape.specs.Layouts.{IsLayout, GoesForward}
-use Rattle.image_shape.specs.Structure.{jump_fault, fall_fault, or_else, instruction_fault, fault_at, HasSoundEdges, IsFirstFault, IsFirstBadEdge}
+use Rattle.image_shape.specs.Structure.{jump_fault, fall_fault, instruction_fault, fault_at, HasSoundEdges, IsFirstFault, IsFirstBadEdge}
 use Rattle.image_shape.proofs.shared.SlotLemmas.{some_slots, instruction_here, none_inside, past_end, next_begins}
 
 -- ---- the same marks give the same fault
@@ -54,7 +55,7 @@ fall_named true true slot fault e = let is : FallsOff slot ≡ fault = cc in sub
 fall_named true false slot fault e = absurd cc
 fall_named false outside slot fault e = absurd cc
 
-either_named : (one two : Option ShapeFault) (slot : ℕ) (fault : ShapeFault) → (one ≡ Some fault → IsEdgeFault slot fault) → (two ≡ Some fault → IsEdgeFault slot fault) → or_else one two ≡ Some fault → IsEdgeFault slot fault
+either_named : (one two : Option ShapeFault) (slot : ℕ) (fault : ShapeFault) → (one ≡ Some fault → IsEdgeFault slot fault) → (two ≡ Some fault → IsEdgeFault slot fault) → option_or one two ≡ Some fault → IsEdgeFault slot fault
 either_named None two slot fault first second e = second e
 either_named (Some one) two slot fault first second e = first e
 
@@ -78,7 +79,7 @@ first_bad code slot insn fault found is earlier =
 
 -- ---- no fault
 
-no_fault_parts : (one two : Option ShapeFault) → or_else one two ≡ None → (one ≡ None) × (two ≡ None)
+no_fault_parts : (one two : Option ShapeFault) → option_or one two ≡ None → (one ≡ None) × (two ≡ None)
 no_fault_parts None two e = (refl, e)
 no_fault_parts (Some fault) two e = absurd cc
 

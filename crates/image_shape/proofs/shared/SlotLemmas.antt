@@ -18,20 +18,20 @@ some_slots insn = omega arith
 
 -- ---- one instruction
 
-past_it : (width k : ℕ) (rest : ℕ → Option Insn) → past_instruction width (width + k) rest ≡ rest k
+past_it : (slots k : ℕ) (rest : ℕ → Option Insn) → past_instruction slots (slots + k) rest ≡ rest k
 past_it zero k rest = let e : 0 + k ≡ k = omega arith in rw e refl
-past_it (suc width) k rest = let e : suc width + k ≡ suc (width + k) = omega arith in rw e (past_it width k rest)
+past_it (suc slots) k rest = let e : suc slots + k ≡ suc (slots + k) = omega arith in rw e (past_it slots k rest)
 
-inside_it : (width k : ℕ) (rest : ℕ → Option Insn) → k < width → past_instruction width k rest ≡ None
+inside_it : (slots k : ℕ) (rest : ℕ → Option Insn) → k < slots → past_instruction slots k rest ≡ None
 inside_it zero k rest lt = absurd (omega arith)
-inside_it (suc width) zero rest lt = refl
-inside_it (suc width) (suc k) rest lt = inside_it width k rest (omega arith)
+inside_it (suc slots) zero rest lt = refl
+inside_it (suc slots) (suc k) rest lt = inside_it slots k rest (omega arith)
 
 -- what begins past an instruction begins in the rest
-past_some : (width k : ℕ) (rest : ℕ → Option Insn) (insn : Insn) → past_instruction width k rest ≡ Some insn → (n : ℕ) × (k ≡ width + n) × (rest n ≡ Some insn)
+past_some : (slots k : ℕ) (rest : ℕ → Option Insn) (insn : Insn) → past_instruction slots k rest ≡ Some insn → (n : ℕ) × (k ≡ slots + n) × (rest n ≡ Some insn)
 past_some zero k rest insn e = (k, omega arith, e)
-past_some (suc width) zero rest insn e = absurd cc
-past_some (suc width) (suc k) rest insn e = let found = past_some width k rest insn e in (found.0, (let same : k ≡ width + found.0 = found.1 in omega arith), found.2)
+past_some (suc slots) zero rest insn e = absurd cc
+past_some (suc slots) (suc k) rest insn e = let found = past_some slots k rest insn e in (found.0, (let same : k ≡ slots + found.0 = found.1 in omega arith), found.2)
 
 after_instruction : (insn : Insn) (rest : List Insn) (k : ℕ) → instruction_at (insn ∷ rest) (slot_count insn + k) ≡ instruction_at rest k
 after_instruction insn rest k =

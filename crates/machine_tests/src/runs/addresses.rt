@@ -41,7 +41,7 @@ fn stores_at_an_address(rt: HostRuntime) -> Result<(), Fail> {
         let asked = Asked::Store {
             handle: 1,
             offset: place,
-            width: 1,
+            size: 1,
             value: 5,
         };
         let want = ended(Verdict::Tx, 4);
@@ -79,7 +79,7 @@ fn stores_as_far_as_the_packet_says(rt: HostRuntime) -> Result<(), Fail> {
     let asked = Asked::Store {
         handle: 1,
         offset: 0xaa,
-        width: 1,
+        size: 1,
         value: 3,
     };
     let want = ended(Verdict::Tx, 12);
@@ -112,7 +112,7 @@ fn a_spilled_address(rt: HostRuntime) -> Result<(), Fail> {
     let asked = Asked::Store {
         handle: 1,
         offset: 28,
-        width: 4,
+        size: 4,
         value: 9,
     };
     let want = ended(Verdict::Drop, 6);

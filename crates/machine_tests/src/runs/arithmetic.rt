@@ -141,11 +141,13 @@ fn arithmetic_on_32_bits(rt: HostRuntime) -> Result<(), Fail> {
 }
 
 #[rattlefmt::skip]
-const IMMEDIATES: [(&str, Width, AluOp, u64, i32, u64); 5] = [
+const IMMEDIATES: [(&str, Width, AluOp, u64, i32, u64); 7] = [
     ("-1 on 64 bits",                   Width::Bits64, AluOp::Mov,  0,        -1, MINUS_ONE),
     ("-1 on 32 bits",                   Width::Bits32, AluOp::Mov,  0,        -1, 0xffffffff),
     ("the sign counts on 64 bits",      Width::Bits64, AluOp::Add,  NUMBER,   -1, 0x1122334455667787),
     ("div by -1 read as 2^64 - 1",      Width::Bits64, AluOp::Div,  7,        -1, 0),
+    ("33 bits by -1 on 64 bits",        Width::Bits64, AluOp::Div,  0x1ffffffff, -1, 0),
+    ("33 bits by -1 on 32 bits",        Width::Bits32, AluOp::Div,  0x1ffffffff, -1, 1),
     ("and by a negative",               Width::Bits64, AluOp::And,  NUMBER,  -16, 0x1122334455667780),
 ];
 

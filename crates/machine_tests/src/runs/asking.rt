@@ -97,7 +97,7 @@ const STORES: [(&str, Size, i16, u64, u64); 4] = [
 /// A store asks for the low bytes of the register.
 #[test]
 fn stores_of_a_register(rt: HostRuntime) -> Result<(), Fail> {
-    for (name, size, offset, width, value) in STORES {
+    for (name, size, offset, bytes, value) in STORES {
         let tail = [
             lddw(R5, NUMBER),
             store(size, R6, offset, R5),
@@ -107,7 +107,7 @@ fn stores_of_a_register(rt: HostRuntime) -> Result<(), Fail> {
         let asked = Asked::Store {
             handle: 1,
             offset: u64::from(offset.unsigned_abs()),
-            width,
+            size: bytes,
             value,
         };
         asks(
@@ -136,12 +136,12 @@ const PUTS: [(&str, Size, i32, u64, u64); 4] = [
 /// An immediate is sign-extended first.
 #[test]
 fn stores_of_an_immediate(rt: HostRuntime) -> Result<(), Fail> {
-    for (name, size, immediate, width, value) in PUTS {
+    for (name, size, immediate, bytes, value) in PUTS {
         let tail = [put(size, R6, 8, immediate), mov(R0, 3), EXIT];
         let asked = Asked::Store {
             handle: 1,
             offset: 8,
-            width,
+            size: bytes,
             value,
         };
         asks(
@@ -190,7 +190,7 @@ fn atomic_operations(rt: HostRuntime) -> Result<(), Fail> {
             let asked = Asked::Atomic {
                 handle: 1,
                 offset: 8,
-                width: bytes,
+                size: bytes,
                 op,
                 value: 2,
                 expected,
@@ -231,7 +231,7 @@ fn short_atomic_operations(rt: HostRuntime) -> Result<(), Fail> {
     let asked = Asked::Atomic {
         handle: 1,
         offset: 0,
-        width: 4,
+        size: 4,
         op,
         value: 0x5566_7788,
         expected: 0x5544_3322,
@@ -268,7 +268,7 @@ fn a_spilled_value(rt: HostRuntime) -> Result<(), Fail> {
     let asked = Asked::Store {
         handle: 1,
         offset: 12,
-        width: 4,
+        size: 4,
         value: 5,
     };
     asks(
@@ -515,7 +515,7 @@ fn a_refusal_in_the_middle(rt: HostRuntime) -> Result<(), Fail> {
     let asked = Asked::Store {
         handle: 1,
         offset: 0,
-        width: 8,
+        size: 8,
         value: 6,
     };
     let mut bytes = [0xaa; 20];

@@ -57,7 +57,7 @@ impl<'a> MapPort for NothingPort<'a> {
         Err(JournalFull { shard: map })
     }
 
-    fn load(&mut self, _handle: u64, _offset: u64, _width: u64) -> Result<u64, JournalFull> {
+    fn load(&mut self, _handle: u64, _offset: u64, _size: u64) -> Result<u64, JournalFull> {
         Ok(0)
     }
 
@@ -65,7 +65,7 @@ impl<'a> MapPort for NothingPort<'a> {
         &mut self,
         _handle: u64,
         _offset: u64,
-        _width: u64,
+        _size: u64,
         _value: u64,
     ) -> Result<(), JournalFull> {
         Ok(())
@@ -75,7 +75,7 @@ impl<'a> MapPort for NothingPort<'a> {
         &mut self,
         _handle: u64,
         _offset: u64,
-        _width: u64,
+        _size: u64,
         _op: AtomicOp,
         _value: u64,
         _expected: u64,

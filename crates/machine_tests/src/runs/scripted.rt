@@ -14,18 +14,18 @@ pub(super) enum Asked {
     Load {
         handle: u64,
         offset: u64,
-        width: u64,
+        size: u64,
     },
     Store {
         handle: u64,
         offset: u64,
-        width: u64,
+        size: u64,
         value: u64,
     },
     Atomic {
         handle: u64,
         offset: u64,
-        width: u64,
+        size: u64,
         op: AtomicOp,
         value: u64,
         expected: u64,
@@ -132,11 +132,11 @@ impl<'a> MapPort for ScriptedPort<'a> {
         }
     }
 
-    fn load(&mut self, handle: u64, offset: u64, width: u64) -> Result<u64, JournalFull> {
+    fn load(&mut self, handle: u64, offset: u64, size: u64) -> Result<u64, JournalFull> {
         self.asked = Asked::Load {
             handle,
             offset,
-            width,
+            size,
         };
         if self.is_refused() {
             return Err(JournalFull { shard: 0 });
@@ -148,13 +148,13 @@ impl<'a> MapPort for ScriptedPort<'a> {
         &mut self,
         handle: u64,
         offset: u64,
-        width: u64,
+        size: u64,
         value: u64,
     ) -> Result<(), JournalFull> {
         self.asked = Asked::Store {
             handle,
             offset,
-            width,
+            size,
             value,
         };
         if self.is_refused() {
@@ -167,7 +167,7 @@ impl<'a> MapPort for ScriptedPort<'a> {
         &mut self,
         handle: u64,
         offset: u64,
-        width: u64,
+        size: u64,
         op: AtomicOp,
         value: u64,
         expected: u64,
@@ -175,7 +175,7 @@ impl<'a> MapPort for ScriptedPort<'a> {
         self.asked = Asked::Atomic {
             handle,
             offset,
-            width,
+            size,
             op,
             value,
             expected,

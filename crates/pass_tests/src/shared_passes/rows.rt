@@ -66,7 +66,7 @@ impl Asked {
             Asked::Load { id } => Some(Call::Load {
                 cell: CellRef { shard: 0, id },
                 offset: 0,
-                width: 8,
+                size: 8,
             }),
             Asked::Update { key, value, flags } => Some(Call::Update {
                 shard: 0,

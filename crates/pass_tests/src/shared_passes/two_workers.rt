@@ -53,7 +53,7 @@ fn enter_find_load<B: Naming>(
     let range = CellRange {
         cell,
         offset: 0,
-        width: 8,
+        size: 8,
     };
     shards.load(rt, pass, 0, &range)
 }

@@ -60,9 +60,9 @@ part_same : (plan : ShardPlan) (history : List Entry) (who : Caller) (call : Cal
 part_same plan history who (Enter shard) = outside_same plan history who
 part_same plan history who (Leave shard) = inside_same plan history who
 part_same plan history who (Lookup shard key) = rw (inside_same plan history who) refl
-part_same plan history who (Load cell offset width) = rw (holder_same plan history who cell.id) refl
-part_same plan history who (Store cell offset width value) = rw (holder_same plan history who cell.id) refl
-part_same plan history who (Atomic cell offset width op value expected) = rw (holder_same plan history who cell.id) refl
+part_same plan history who (Load cell offset size) = rw (holder_same plan history who cell.id) refl
+part_same plan history who (Store cell offset size value) = rw (holder_same plan history who cell.id) refl
+part_same plan history who (Atomic cell offset size op value expected) = rw (holder_same plan history who cell.id) refl
 part_same plan history who (Update shard key value flags) = rw (change_same plan history who) refl
 part_same plan history who (Delete shard key) = rw (change_same plan history who) refl
 part_same plan history who (Reclaim shard) = refl

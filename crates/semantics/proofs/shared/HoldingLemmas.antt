@@ -100,9 +100,9 @@ pub sound_after_call : (plan : ShardPlan) (history : List Entry) (shard : Sequen
 sound_after_call plan history shard (Enter number) sound = sound
 sound_after_call plan history shard (Leave number) sound = sound
 sound_after_call plan history shard (Lookup number key) sound = sound
-sound_after_call plan history shard (Load cell offset width) sound = sound
-sound_after_call plan history shard (Store cell offset width value) sound = sound_with_cell shard cell.id _ sound
-sound_after_call plan history shard (Atomic cell offset width op value expected) sound = sound_with_cell shard cell.id _ sound
+sound_after_call plan history shard (Load cell offset size) sound = sound
+sound_after_call plan history shard (Store cell offset size value) sound = sound_with_cell shard cell.id _ sound
+sound_after_call plan history shard (Atomic cell offset size op value expected) sound = sound_with_cell shard cell.id _ sound
 sound_after_call plan history shard (Update number key value flags) sound =
     updated_where-keeps IsSound (update_answer plan shard key flags) (with_value plan history shard key value (cell_of_key plan shard key)) shard
     (sound_with_value plan history shard key value (cell_of_key plan shard key) sound) sound
@@ -132,9 +132,9 @@ array_call : (plan : ShardPlan) (history : List Entry) (shard : SequentialShard)
 array_call plan history shard (Enter number) kind none = none
 array_call plan history shard (Leave number) kind none = none
 array_call plan history shard (Lookup number key) kind none = none
-array_call plan history shard (Load cell offset width) kind none = none
-array_call plan history shard (Store cell offset width value) kind none = none
-array_call plan history shard (Atomic cell offset width op value expected) kind none = none
+array_call plan history shard (Load cell offset size) kind none = none
+array_call plan history shard (Store cell offset size value) kind none = none
+array_call plan history shard (Atomic cell offset size op value expected) kind none = none
 array_call plan history shard (Update number key value flags) kind none =
     let at_kind : MapKind → Type 0 = λ k. (updated_where (update_answer_by k plan shard (update_flags_of flags) (cell_of_key plan shard key)) (with_value plan history shard key value (cell_of_key plan shard key)) shard).retired ≡ shard.retired in
     subst at_kind (sym kind) (no_more_retired_at_array plan history shard key value (update_flags_of flags) (cell_of_key plan shard key)) ∙ none
@@ -183,9 +183,9 @@ late_after_call : (plan : ShardPlan) (history : List Entry) (shard : SequentialS
 late_after_call plan history shard (Enter number) cell entered before late = late
 late_after_call plan history shard (Leave number) cell entered before late = late
 late_after_call plan history shard (Lookup number key) cell entered before late = late
-late_after_call plan history shard (Load held offset width) cell entered before late = late
-late_after_call plan history shard (Store held offset width value) cell entered before late = late
-late_after_call plan history shard (Atomic held offset width op value expected) cell entered before late = late
+late_after_call plan history shard (Load held offset size) cell entered before late = late
+late_after_call plan history shard (Store held offset size value) cell entered before late = late
+late_after_call plan history shard (Atomic held offset size op value expected) cell entered before late = late
 late_after_call plan history shard (Update number key value flags) cell entered before late =
     updated_where-keeps (λ after. IsLate cell entered after.retired) (update_answer plan shard key flags) (with_value plan history shard key value (cell_of_key plan shard key)) shard
     (late_with_value plan history shard key value cell entered (cell_of_key plan shard key) before late) late

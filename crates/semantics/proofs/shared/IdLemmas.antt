@@ -33,9 +33,9 @@ call_adds : (plan : ShardPlan) (history : List Entry) (shard : SequentialShard) 
 call_adds plan history shard (Enter number) = omega arith
 call_adds plan history shard (Leave number) = omega arith
 call_adds plan history shard (Lookup number key) = omega arith
-call_adds plan history shard (Load cell offset width) = omega arith
-call_adds plan history shard (Store cell offset width value) = simp length-set (omega arith)
-call_adds plan history shard (Atomic cell offset width op value expected) = simp length-set (omega arith)
+call_adds plan history shard (Load cell offset size) = omega arith
+call_adds plan history shard (Store cell offset size value) = simp length-set (omega arith)
+call_adds plan history shard (Atomic cell offset size op value expected) = simp length-set (omega arith)
 call_adds plan history shard (Update number key value flags) =
     update_adds (update_answer plan shard key flags) (not (is_some (cell_of_key plan shard key))) (with_value plan history shard key value (cell_of_key plan shard key)) shard
     (value_adds plan history shard key value (cell_of_key plan shard key))

@@ -96,9 +96,9 @@ there_after_call : (plan : ShardPlan) (history : List Entry) (shard : Sequential
 there_after_call plan history shard (Enter number) cell each there = there
 there_after_call plan history shard (Leave number) cell each there = there
 there_after_call plan history shard (Lookup number key) cell each there = there
-there_after_call plan history shard (Load held offset width) cell each there = there
-there_after_call plan history shard (Store held offset width value) cell each there = there
-there_after_call plan history shard (Atomic held offset width op value expected) cell each there = there
+there_after_call plan history shard (Load held offset size) cell each there = there
+there_after_call plan history shard (Store held offset size value) cell each there = there
+there_after_call plan history shard (Atomic held offset size op value expected) cell each there = there
 there_after_call plan history shard (Update number key value flags) cell each there =
     updated_where-keeps (λ after. is_there after cell ≡ true) (update_answer plan shard key flags) (with_value plan history shard key value (cell_of_key plan shard key)) shard
     (there_with_value plan history shard key value cell (cell_of_key plan shard key) there) there
@@ -183,9 +183,9 @@ held_own (Lookup number key) reply cell before P held earlier found = by_found (
     by_found : (this : Bool) → found_cell reply cell ≡ this → (this || before) ≡ true → P
     by_found true is held = found number key refl is
     by_found false is held = earlier held
-held_own (Load at offset width) reply cell before P held earlier found = earlier held
-held_own (Store at offset width value) reply cell before P held earlier found = earlier held
-held_own (Atomic at offset width op value expected) reply cell before P held earlier found = earlier held
+held_own (Load at offset size) reply cell before P held earlier found = earlier held
+held_own (Store at offset size value) reply cell before P held earlier found = earlier held
+held_own (Atomic at offset size op value expected) reply cell before P held earlier found = earlier held
 held_own (Update number key value flags) reply cell before P held earlier found = earlier held
 held_own (Delete number key) reply cell before P held earlier found = earlier held
 held_own (Reclaim number) reply cell before P held earlier found = earlier held

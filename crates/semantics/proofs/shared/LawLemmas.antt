@@ -46,9 +46,9 @@ pub call_grows : (plan : ShardPlan) (history : List Entry) (shard : SequentialSh
 call_grows plan history shard (Enter number) = omega arith
 call_grows plan history shard (Leave number) = omega arith
 call_grows plan history shard (Lookup number key) = omega arith
-call_grows plan history shard (Load cell offset width) = omega arith
-call_grows plan history shard (Store cell offset width value) = simp length-set (omega arith)
-call_grows plan history shard (Atomic cell offset width op value expected) = simp length-set (omega arith)
+call_grows plan history shard (Load cell offset size) = omega arith
+call_grows plan history shard (Store cell offset size value) = simp length-set (omega arith)
+call_grows plan history shard (Atomic cell offset size op value expected) = simp length-set (omega arith)
 call_grows plan history shard (Update number key value flags) =
     updated_where-keeps (λ after. length shard.cells ≤ length after.cells) (update_answer plan shard key flags) (with_value plan history shard key value (cell_of_key plan shard key)) shard
     (value_grows plan history shard key value (cell_of_key plan shard key)) (omega arith)

@@ -55,9 +55,9 @@ one_key entry (Lookup shard asked) reply a b first second = sym (same_bytes aske
 one_key entry (Update shard asked value flags) reply a b first second = sym (same_bytes asked a (first_holds _ _ first)) ∙ same_bytes asked b (first_holds _ _ second)
 one_key entry (Enter shard) reply a b first second = cc
 one_key entry (Leave shard) reply a b first second = cc
-one_key entry (Load cell offset width) reply a b first second = cc
-one_key entry (Store cell offset width value) reply a b first second = cc
-one_key entry (Atomic cell offset width op value expected) reply a b first second = cc
+one_key entry (Load cell offset size) reply a b first second = cc
+one_key entry (Store cell offset size value) reply a b first second = cc
+one_key entry (Atomic cell offset size op value expected) reply a b first second = cc
 one_key entry (Delete shard key) reply a b first second = cc
 one_key entry (Reclaim shard) reply a b first second = cc
 
@@ -187,9 +187,9 @@ call_used : (plan : ShardPlan) (entry : Entry) (older : List Entry) (shard : Seq
 call_used plan entry older shard (Enter number) call replied kept = used_longer entry older shard kept
 call_used plan entry older shard (Leave number) call replied kept = used_longer entry older shard kept
 call_used plan entry older shard (Lookup number key) call replied kept = used_longer entry older shard kept
-call_used plan entry older shard (Load cell offset width) call replied kept = used_longer entry older shard kept
-call_used plan entry older shard (Store cell offset width value) call replied kept = same_present (entry ∷ older) shard _ refl (used_longer entry older shard kept)
-call_used plan entry older shard (Atomic cell offset width op value expected) call replied kept = same_present (entry ∷ older) shard _ refl (used_longer entry older shard kept)
+call_used plan entry older shard (Load cell offset size) call replied kept = used_longer entry older shard kept
+call_used plan entry older shard (Store cell offset size value) call replied kept = same_present (entry ∷ older) shard _ refl (used_longer entry older shard kept)
+call_used plan entry older shard (Atomic cell offset size op value expected) call replied kept = same_present (entry ∷ older) shard _ refl (used_longer entry older shard kept)
 call_used plan entry older shard (Update number key value flags) call replied kept = update_used plan entry older shard number key value flags call replied kept
 call_used plan entry older shard (Delete number key) call replied kept =
     updated_where-keeps (AreUsed (entry ∷ older)) (delete_answer plan shard key) (without_found shard (length older) (present_key shard key)) shard

@@ -16,7 +16,7 @@ use Rattle.semantics.specs.declared.call.Call.TheVariants.{Load, Store}
 use Rattle.semantics.specs.Program.{part_of_key, shard_number_of_key}
 use Rattle.semantics.specs.ShardPlan.{AreOptions}
 use Rattle.semantics.specs.Reclamation.{is_inside, holds}
-use Rattle.semantics.specs.History.{are_flags, is_own_key, is_load_width, is_in_cell, fits_width}
+use Rattle.semantics.specs.History.{are_flags, is_own_key, is_load_size, is_in_cell, fits_size}
 use Rattle.semantics.proofs.shared.ConditionLemmas.{first_true, second_true, bytes_test}
 use Rattle.semantics.specs.Program.{value_size_of}
 use Rattle.shard_core.specs.JournaledShard.{JournaledShard}
@@ -184,29 +184,29 @@ at_cell maps options worker shards map cell ready handed =
       definition = ap (slice_get maps) (sym place) ∙ plan.4;
     }
 
-pub in_cell_of : (maps : List MapDef) (map : ℕ) (plan : ShardPlan) (offset width : ℕ) → slice_get maps map ≡ Some plan.definition →
-    offset + width ≤ value_size_of (slice_get maps map) → is_in_cell plan offset width ≡ true
-in_cell_of maps map plan offset width defined inside =
-    let size : value_size_of (slice_get maps map) ≡ plan.definition.value_size = ap value_size_of defined in
-    let within : offset + width ≤ plan.definition.value_size = omega (arith, size, inside) in
+pub in_cell_of : (maps : List MapDef) (map : ℕ) (plan : ShardPlan) (offset size : ℕ) → slice_get maps map ≡ Some plan.definition →
+    offset + size ≤ value_size_of (slice_get maps map) → is_in_cell plan offset size ≡ true
+in_cell_of maps map plan offset size defined inside =
+    let sized : value_size_of (slice_get maps map) ≡ plan.definition.value_size = ap value_size_of defined in
+    let within : offset + size ≤ plan.definition.value_size = omega (arith, sized, inside) in
     grind (arith, nat_tests)
 
 -- what a Load, a Store and an atomic operation share
 pub record IsAtPlace (maps : List MapDef) (options : Options) (worker : ℕ) (shards : List JournaledShard) (cell : CellRef)
-    (offset width : ℕ) : Type 0 where
+    (offset size : ℕ) : Type 0 where
   pub shard : JournaledShard
   pub known : slice_get shards cell.shard ≡ Some shard
   pub is_worker : nat_lt worker shard.plan.workers ≡ true
   pub numbered : (cell.shard == shard.plan.number) ≡ true
   pub held : holds worker cell.id (reverse (entered worker shard).journal) ≡ true
-  pub is_width : is_load_width width ≡ true
-  pub in_cell : is_in_cell shard.plan offset width ≡ true
+  pub is_size : is_load_size size ≡ true
+  pub in_cell : is_in_cell shard.plan offset size ≡ true
 
-pub at_place : (maps : List MapDef) (options : Options) (worker : ℕ) (shards : List JournaledShard) (cell : CellRef) (offset width : ℕ) →
+pub at_place : (maps : List MapDef) (options : Options) (worker : ℕ) (shards : List JournaledShard) (cell : CellRef) (offset size : ℕ) →
     IsReady maps options worker shards → IsReadable (served_by maps options)
-    (is_handed_out (record { served = served_by maps options; worker = worker; shards = shards })) cell offset width →
-    IsAtPlace maps options worker shards cell offset width
-at_place maps options worker shards cell offset width ready readable =
+    (is_handed_out (record { served = served_by maps options; worker = worker; shards = shards })) cell offset size →
+    IsAtPlace maps options worker shards cell offset size
+at_place maps options worker shards cell offset size ready readable =
     let at = at_cell maps options worker shards readable.map cell ready readable.holds in
     record {
       shard = at.shard;
@@ -214,12 +214,12 @@ at_place maps options worker shards cell offset width ready readable =
       is_worker = at.is_worker;
       numbered = at.numbered;
       held = at.held;
-      is_width = readable.is_width;
-      in_cell = in_cell_of maps readable.map at.shard.plan offset width at.definition readable.inside;
+      is_size = readable.is_size;
+      in_cell = in_cell_of maps readable.map at.shard.plan offset size at.definition readable.inside;
     }
 
-pub fits_test : (value width : ℕ) → value < 256 ^ width → fits_width value width ≡ true
-fits_test value width fits = grind (arith, nat_tests)
+pub fits_test : (value size : ℕ) → value < 256 ^ size → fits_size value size ≡ true
+fits_test value size fits = grind (arith, nat_tests)
 
 pub known_op : (op : AtomicOp) → is_some (atomic_op_of (atomic_code op)) ≡ true
 known_op AtomicAdd = refl
@@ -233,33 +233,33 @@ known_op FetchXor = refl
 known_op Exchange = refl
 known_op CompareExchange = refl
 
-pub may_load : (maps : List MapDef) (options : Options) (worker : ℕ) (shards : List JournaledShard) (cell : CellRef) (offset width : ℕ) →
+pub may_load : (maps : List MapDef) (options : Options) (worker : ℕ) (shards : List JournaledShard) (cell : CellRef) (offset size : ℕ) →
     IsReady maps options worker shards → IsReadable (served_by maps options)
-    (is_handed_out (record { served = served_by maps options; worker = worker; shards = shards })) cell offset width →
-    IsTrue (may_ask_at worker (slice_get shards cell.shard) (Load cell offset width))
-may_load maps options worker shards cell offset width ready readable =
-    let at = at_place maps options worker shards cell offset width ready readable in
+    (is_handed_out (record { served = served_by maps options; worker = worker; shards = shards })) cell offset size →
+    IsTrue (may_ask_at worker (slice_get shards cell.shard) (Load cell offset size))
+may_load maps options worker shards cell offset size ready readable =
+    let at = at_place maps options worker shards cell offset size ready readable in
     rw at.known (both_true _ _ at.is_worker (both_true _ _ at.numbered
-    (both_true _ _ (both_true _ _ (both_true _ _ at.is_worker at.held) at.is_width) at.in_cell)))
+    (both_true _ _ (both_true _ _ (both_true _ _ at.is_worker at.held) at.is_size) at.in_cell)))
 
 pub may_store : (maps : List MapDef) (options : Options) (worker : ℕ) (shards : List JournaledShard) (cell : CellRef)
-    (offset width value : ℕ) → IsReady maps options worker shards →
+    (offset size value : ℕ) → IsReady maps options worker shards →
     IsStorable (served_by maps options) (is_handed_out (record { served = served_by maps options; worker = worker; shards = shards })) cell
-    offset width value → IsTrue (may_ask_at worker (slice_get shards cell.shard) (Store cell offset width value))
-may_store maps options worker shards cell offset width value ready storable =
-    let at = at_place maps options worker shards cell offset width ready storable.place in
+    offset size value → IsTrue (may_ask_at worker (slice_get shards cell.shard) (Store cell offset size value))
+may_store maps options worker shards cell offset size value ready storable =
+    let at = at_place maps options worker shards cell offset size ready storable.place in
     rw at.known (both_true _ _ at.is_worker (both_true _ _ at.numbered
-    (both_true _ _ (both_true _ _ (both_true _ _ (both_true _ _ at.is_worker at.held) at.is_width) at.in_cell)
-    (fits_test value width storable.fits))))
+    (both_true _ _ (both_true _ _ (both_true _ _ (both_true _ _ at.is_worker at.held) at.is_size) at.in_cell)
+    (fits_test value size storable.fits))))
 
-pub may_change : (maps : List MapDef) (options : Options) (worker : ℕ) (shards : List JournaledShard) (cell : CellRef) (offset width : ℕ)
+pub may_change : (maps : List MapDef) (options : Options) (worker : ℕ) (shards : List JournaledShard) (cell : CellRef) (offset size : ℕ)
     (op : AtomicOp) (value expected : ℕ) → IsReady maps options worker shards →
     IsAtomic (served_by maps options) (is_handed_out (record { served = served_by maps options; worker = worker; shards = shards })) cell
-    offset width op value expected → IsTrue (may_ask_at worker (slice_get shards cell.shard)
-    (atomic_call cell offset width op value expected))
-may_change maps options worker shards cell offset width op value expected ready atomic =
-    let at = at_place maps options worker shards cell offset width ready atomic.place in
+    offset size op value expected → IsTrue (may_ask_at worker (slice_get shards cell.shard)
+    (atomic_call cell offset size op value expected))
+may_change maps options worker shards cell offset size op value expected ready atomic =
+    let at = at_place maps options worker shards cell offset size ready atomic.place in
     rw at.known (both_true _ _ at.is_worker (both_true _ _ at.numbered
     (both_true _ _ (both_true _ _ (both_true _ _ (both_true _ _ (both_true _ _ (both_true _ _ (both_true _ _ at.is_worker at.held)
-    atomic.atomic_width) (both_true _ _ at.in_cell (same_test _ _ atomic.aligned))) (known_op op)) (fits_test value width atomic.fits))
-    (fits_test expected width atomic.expected_fits)) atomic.expected_if)))
+    atomic.atomic_size) (both_true _ _ at.in_cell (same_test _ _ atomic.aligned))) (known_op op)) (fits_test value size atomic.fits))
+    (fits_test expected size atomic.expected_fits)) atomic.expected_if)))

@@ -39,7 +39,7 @@ fn rows(value: Value) -> [(&'static str, Call, Reply); 8] {
             Call::Load {
                 cell,
                 offset: 0,
-                width: 4,
+                size: 4,
             },
             Reply::Word { value: 0x0302_0100 },
         ),
@@ -48,7 +48,7 @@ fn rows(value: Value) -> [(&'static str, Call, Reply); 8] {
             Call::Load {
                 cell,
                 offset: 248,
-                width: 8,
+                size: 8,
             },
             Reply::Word {
                 value: 0xfffe_fdfc_fbfa_f9f8,
@@ -59,7 +59,7 @@ fn rows(value: Value) -> [(&'static str, Call, Reply); 8] {
             Call::Store {
                 cell,
                 offset: 254,
-                width: 2,
+                size: 2,
                 value: 0x1122,
             },
             Reply::Done,
@@ -69,7 +69,7 @@ fn rows(value: Value) -> [(&'static str, Call, Reply); 8] {
             Call::Atomic {
                 cell,
                 offset: 248,
-                width: 4,
+                size: 4,
                 op: 0,
                 value: 8,
                 expected: 0,
@@ -81,7 +81,7 @@ fn rows(value: Value) -> [(&'static str, Call, Reply); 8] {
             Call::Load {
                 cell,
                 offset: 248,
-                width: 8,
+                size: 8,
             },
             Reply::Word {
                 value: 0x1122_fdfc_fbfa_fa00,

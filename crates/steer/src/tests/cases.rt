@@ -143,7 +143,7 @@ fn count_at(cell: CellRef) -> Call {
     Call::Atomic {
         cell,
         offset: 0,
-        width: 8,
+        size: 8,
         op: u64::from(AtomicOp::AtomicAdd.code()),
         value: 1,
         expected: 0,

@@ -59,15 +59,15 @@ pub call_served : (setting : Setting) (states : List (Option State)) (system : S
 call_served setting states system worker state entered good sound runs (Lookup shard key) served =
     lookup_served setting states system worker entered shard key good (is_worker setting states system worker state entered sound runs)
     (sound.inside worker shard ∙ ap (λ one. is_entered shard (entered_of one)) runs) served
-call_served setting states system worker state entered good sound runs (Load cell offset width) served =
+call_served setting states system worker state entered good sound runs (Load cell offset size) served =
     let at = cell_shard setting states system worker state entered served.map cell good sound runs served.holds
-    in load_served setting states system worker entered cell offset width good (is_worker setting states system worker state entered sound runs) at.inside at.plan at.planned at.sound served
-call_served setting states system worker state entered good sound runs (Store cell offset width value) served =
+    in load_served setting states system worker entered cell offset size good (is_worker setting states system worker state entered sound runs) at.inside at.plan at.planned at.sound served
+call_served setting states system worker state entered good sound runs (Store cell offset size value) served =
     let at = cell_shard setting states system worker state entered served.at.map cell good sound runs served.at.holds
-    in store_served setting states system worker entered cell offset width value good (is_worker setting states system worker state entered sound runs) at.inside at.plan at.planned at.sound served
-call_served setting states system worker state entered good sound runs (Atomic cell offset width op value expected) served =
+    in store_served setting states system worker entered cell offset size value good (is_worker setting states system worker state entered sound runs) at.inside at.plan at.planned at.sound served
+call_served setting states system worker state entered good sound runs (Atomic cell offset size op value expected) served =
     let at = cell_shard setting states system worker state entered served.map cell good sound runs served.holds
-    in atomic_served setting states system worker entered cell offset width op value expected good (is_worker setting states system worker state entered sound runs)
+    in atomic_served setting states system worker entered cell offset size op value expected good (is_worker setting states system worker state entered sound runs)
     at.inside at.plan at.planned at.sound served
 call_served setting states system worker state entered good sound runs (Update shard key value flags) served =
     update_served setting states system worker entered shard key value flags good (is_worker setting states system worker state entered sound runs)

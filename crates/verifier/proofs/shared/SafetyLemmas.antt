@@ -103,17 +103,17 @@ asks setting states system worker state entered (Lookup shard key) go good sound
     in ask_sound setting states system worker shard (Lookup shard key) state entered plan go good sound is planned (may plan refl) (quiet_lookup plan system worker shard key)
     (called_soundly setting states system worker state entered (Lookup shard key) go good sound is steps (entry_for plan system (Worker worker) (Lookup shard key)).reply fits _
     (lookup_holds setting states system worker shard key entered plan good sound planned into fits))
-asks setting states system worker state entered (Load cell offset width) go good sound is steps served into (Some plan) planned may =
-    asks_still setting states system worker state entered (Load cell offset width) go good sound is steps plan planned (may plan refl)
-    (quiet_call plan system worker (Load cell offset width) refl (λ reply one before. refl))
-    (word_fits plan (history_of system plan.number) cell.id offset width (shard_sound setting states system cell.shard plan sound planned)) tt
-asks setting states system worker state entered (Store cell offset width value) go good sound is steps served into (Some plan) planned may =
-    asks_still setting states system worker state entered (Store cell offset width value) go good sound is steps plan planned (may plan refl)
-    (quiet_call plan system worker (Store cell offset width value) refl (λ reply one before. refl)) tt tt
-asks setting states system worker state entered (Atomic cell offset width op value expected) go good sound is steps served into (Some plan) planned may =
-    asks_still setting states system worker state entered (Atomic cell offset width op value expected) go good sound is steps plan planned (may plan refl)
-    (quiet_call plan system worker (Atomic cell offset width op value expected) refl (λ reply one before. refl))
-    (word_fits plan (history_of system plan.number) cell.id offset width (shard_sound setting states system cell.shard plan sound planned)) tt
+asks setting states system worker state entered (Load cell offset size) go good sound is steps served into (Some plan) planned may =
+    asks_still setting states system worker state entered (Load cell offset size) go good sound is steps plan planned (may plan refl)
+    (quiet_call plan system worker (Load cell offset size) refl (λ reply one before. refl))
+    (word_fits plan (history_of system plan.number) cell.id offset size (shard_sound setting states system cell.shard plan sound planned)) tt
+asks setting states system worker state entered (Store cell offset size value) go good sound is steps served into (Some plan) planned may =
+    asks_still setting states system worker state entered (Store cell offset size value) go good sound is steps plan planned (may plan refl)
+    (quiet_call plan system worker (Store cell offset size value) refl (λ reply one before. refl)) tt tt
+asks setting states system worker state entered (Atomic cell offset size op value expected) go good sound is steps served into (Some plan) planned may =
+    asks_still setting states system worker state entered (Atomic cell offset size op value expected) go good sound is steps plan planned (may plan refl)
+    (quiet_call plan system worker (Atomic cell offset size op value expected) refl (λ reply one before. refl))
+    (word_fits plan (history_of system plan.number) cell.id offset size (shard_sound setting states system cell.shard plan sound planned)) tt
 asks setting states system worker state entered (Update shard key value flags) go good sound is steps served into (Some plan) planned may =
     asks_still setting states system worker state entered (Update shard key value flags) go good sound is steps plan planned (may plan refl)
     (quiet_call plan system worker (Update shard key value flags) refl (λ reply one before. refl))

@@ -3,7 +3,7 @@ use Rattle.std.proofs.Common.{◌≡◌, ◌≢◌, ℕ, zero, suc, ◌+◌, ◌
 use Rattle.wire.specs.declared.records.Sent.{Sent}
 use Rattle.std.specs.Prelude.{Vec, Some, slice_index}
 use Rattle.std.proofs.lemmas.Bool.Decides.{nat_tests}
-use Rattle.workers.proofs.ListLemmas.{or_set_here, or_set_else, set_count, found_or}
+use Rattle.semantics.proofs.shared.EachLemmas.{or_set_here, or_set_else, set_count, found_or}
 use Rattle.workers.specs.declared.run_end.Ran.{Ran}
 use Rattle.workers.specs.Shares.{frames_of, frame_at, is_short, worker_of_frame, is_handed, share}
 use Rattle.workers.specs.Jobs.{records_of}

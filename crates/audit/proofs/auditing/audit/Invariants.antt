@@ -1,5 +1,5 @@
 use Rattle.std.proofs.Common.{ℕ, ◌<◌}
-use Rattle.audit.specs.Audited.{IsLegalShard}
+use Rattle.journals.specs.LegalJournals.{IsLegalShard}
 use Rattle.audit.proofs.auditing.audit.Given as goal
 
 abbrev pub invariant-shards : goal.invariant-shards

@@ -9,8 +9,8 @@ use Rattle.journal_files.proofs.reading.load_of.Goals as goal
 
 pub returns-clause-found : goal.returns-clause-found
 unfolding Reads told_text
-returns-clause-found c = λ id offset width reply f_id f_offset f_width replies is.
-    let at_id = c.field-id.ensures id (decimal offset ++ 32 ∷ (decimal width ++ 32 ∷ reply_text reply)) f_id is in
-    let at_offset = c.field-offset.ensures offset (decimal width ++ 32 ∷ reply_text reply) f_offset at_id.1 in
-    let at_width = c.field-width.ensures width (reply_text reply) f_width at_offset.1 in
-    rw (at_id.0, at_offset.0, at_width.0, c.word_of.ensures.found reply replies at_width.1) refl
+returns-clause-found c = λ id offset size reply f_id f_offset f_size replies is.
+    let at_id = c.field-id.ensures id (decimal offset ++ 32 ∷ (decimal size ++ 32 ∷ reply_text reply)) f_id is in
+    let at_offset = c.field-offset.ensures offset (decimal size ++ 32 ∷ reply_text reply) f_offset at_id.1 in
+    let at_size = c.field-size.ensures size (reply_text reply) f_size at_offset.1 in
+    rw (at_id.0, at_offset.0, at_size.0, c.word_of.ensures.found reply replies at_size.1) refl

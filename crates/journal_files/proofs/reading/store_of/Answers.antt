@@ -9,9 +9,9 @@ use Rattle.journal_files.proofs.reading.store_of.Goals as goal
 
 pub returns-clause-found : goal.returns-clause-found
 unfolding Reads told_text
-returns-clause-found c = λ id offset width value f_id f_offset f_width f_value is.
-    let at_id = c.field-id.ensures id (decimal offset ++ 32 ∷ (decimal width ++ 32 ∷ (decimal value ++ 32 ∷ reply_text Done))) f_id is in
-    let at_offset = c.field-offset.ensures offset (decimal width ++ 32 ∷ (decimal value ++ 32 ∷ reply_text Done)) f_offset at_id.1 in
-    let at_width = c.field-width.ensures width (decimal value ++ 32 ∷ reply_text Done) f_width at_offset.1 in
-    let at_value = c.field-value.ensures value (reply_text Done) f_value at_width.1 in
-    rw (at_id.0, at_offset.0, at_width.0, at_value.0) refl
+returns-clause-found c = λ id offset size value f_id f_offset f_size f_value is.
+    let at_id = c.field-id.ensures id (decimal offset ++ 32 ∷ (decimal size ++ 32 ∷ (decimal value ++ 32 ∷ reply_text Done))) f_id is in
+    let at_offset = c.field-offset.ensures offset (decimal size ++ 32 ∷ (decimal value ++ 32 ∷ reply_text Done)) f_offset at_id.1 in
+    let at_size = c.field-size.ensures size (decimal value ++ 32 ∷ reply_text Done) f_size at_offset.1 in
+    let at_value = c.field-value.ensures value (reply_text Done) f_value at_size.1 in
+    rw (at_id.0, at_offset.0, at_size.0, at_value.0) refl

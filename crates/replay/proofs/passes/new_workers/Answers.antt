@@ -2,7 +2,7 @@ use Rattle.std.proofs.Common.{◌≡◌, ◌+◌, ◌++◌, ◌∷◌, [], lengt
 use Rattle.semantics.specs.Each.{Each}
 use Rattle.replay.specs.declared.shard_runner.Working.{Working}
 use Rattle.replay.specs.Runs.{IsNewAt}
-use Rattle.replay.proofs.Lists.{each_push}
+use Rattle.semantics.proofs.shared.EachLemmas.{each_push}
 use Rattle.replay.proofs.passes.new_workers.Goals as goal
 
 pub workers-preserved : goal.workers-preserved

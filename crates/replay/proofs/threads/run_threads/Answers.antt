@@ -6,7 +6,7 @@ use Rattle.workers.specs.Crews.{IsHandled}
 use Rattle.replay.specs.Parts.{rounds_of}
 use Rattle.replay.specs.Runs.{IsNewAt, IsRunBy, pass_in}
 use Rattle.replay.proofs.Accounts.{new_is_idle}
-use Rattle.replay.proofs.Lists.{stands_within}
+use Rattle.semantics.proofs.shared.EachLemmas.{within}
 use Rattle.replay.proofs.PartLemmas.{script_run, rounds_made}
 use Rattle.replay.proofs.threads.run_threads.Goals as goal
 
@@ -17,9 +17,9 @@ run_all-requires-clause-first g c κs within =
     omega (arith, below, many)
 
 pub run_all-requires-clause-states : goal.run_all-requires-clause-states
-run_all-requires-clause-states g c κs within = λ place x there.
+run_all-requires-clause-states g c κs started = λ place x there.
     let is_new = c.requires.states place x there in
-    let inside = stands_within c.args.states.items place x there in
+    let inside = within c.args.states.items place x there in
     let many = c.requires.options in
     record {
       is_new = is_new;

@@ -3,7 +3,7 @@ use Rattle.semantics.specs.declared.call.Entry.{Entry}
 use Rattle.shard_core.specs.JournaledShard.{JournaledShard}
 use Rattle.shared_shards.specs.CallerView.{IsSettled}
 use Rattle.shared_shards.specs.Passes.{no_pass, pass_at, view_at}
-use Rattle.shared_shards.proofs.shared.Each.{or_within, set_count}
+use Rattle.semantics.proofs.shared.EachLemmas.{or_within, set_count}
 use Rattle.shared_shards.proofs.Settling.{held_more, left_less, callers_stay, others_stay}
 use Rattle.shared_shards.proofs.closing.settled.Goals as goal
 

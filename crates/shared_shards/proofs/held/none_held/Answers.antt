@@ -1,6 +1,6 @@
 use Rattle.std.proofs.Common.{◌≡◌, ◌≢◌, ◌≤◌, ◌<◌, ◌+◌, ◌++◌, ℕ, List, [], ◌∷◌, length, length-append, sym, ap, ◌∙◌, subst, ⊎_elim, arith}
 use Rattle.shared_shards.specs.HeldCells.{HeldIds, no_ids, held_at, room_at, room_of}
-use Rattle.shared_shards.proofs.shared.Each.{or_push_here, or_push_else}
+use Rattle.semantics.proofs.shared.EachLemmas.{or_push_here, or_push_else}
 use Rattle.shared_shards.proofs.Settling.{same_or_other}
 use Rattle.shared_shards.proofs.held.none_held.Goals as goal
 

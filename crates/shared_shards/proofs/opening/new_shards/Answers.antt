@@ -3,7 +3,7 @@ use Rattle.shard_core.specs.JournaledShard.{JournaledShard, opened_shard}
 use Rattle.semantics.specs.Each.{Each}
 use Rattle.shared_shards.specs.Seats.{no_plan}
 use Rattle.shared_shards.specs.NewShards.{shard_at, IsUnused, IsMadeOf}
-use Rattle.shared_shards.proofs.shared.Each.{each_push, each_first, each_rest, each_none, each_start, at_or}
+use Rattle.semantics.proofs.shared.EachLemmas.{each_push, each_first, each_rest, each_none, each_start, at_or}
 use Rattle.shared_shards.proofs.opening.new_shards.Goals as goal
 
 abbrev IsLeft : List JournaledShard → ℕ → JournaledShard → Type 0

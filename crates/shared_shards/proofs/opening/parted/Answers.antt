@@ -10,7 +10,7 @@ use Rattle.shared_shards.specs.Seats.{IsKeeper}
 use Rattle.shared_shards.specs.HeldCells.{most_held, IsRoomOf}
 use Rattle.shared_shards.specs.SharedMaps.{IsWordOf, AreWords}
 use Rattle.shared_shards.specs.NewShards.{NewShardView, no_shard, new_at, AreNewSeats, IsNamedAt, IsRowOf}
-use Rattle.shared_shards.proofs.shared.Each.{each_push, each_first, each_rest, each_none, each_start, at_or}
+use Rattle.semantics.proofs.shared.EachLemmas.{each_push, each_first, each_rest, each_none, each_start, at_or}
 use Rattle.shared_shards.proofs.opening.parted.Goals as goal
 
 abbrev IsLeft : (ℕ → TableId) → (ℕ → ShardPlan) → List NewShardView → ℕ → NewShardView → Type 0

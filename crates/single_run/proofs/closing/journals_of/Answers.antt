@@ -6,7 +6,7 @@ use Rattle.shard_core.specs.JournaledShard.{JournaledShard, opened_shard}
 use Rattle.semantics.specs.Each.{Each}
 use Rattle.shared_shards.specs.Seats.{no_plan}
 use Rattle.shared_shards.specs.NewShards.{shard_at}
-use Rattle.shared_shards.proofs.shared.Each.{each_first, each_rest, each_start, at_or}
+use Rattle.semantics.proofs.shared.EachLemmas.{each_first, each_rest, each_start, at_or}
 use Rattle.single_run.proofs.PushLemmas.{pushed_at}
 use Rattle.single_run.proofs.closing.journals_of.Goals as goal
 

@@ -2,7 +2,8 @@ use Rattle.std.proofs.Common.{◌<◌, ◌+◌, length, sym, ◌∙◌, subst, a
 use Rattle.std.specs.Prelude.{IfSome}
 use Rattle.semantics.specs.Each.{Each}
 use Rattle.workers.specs.Crews.{IsLane, IsHandled}
-use Rattle.workers.proofs.ListLemmas.{each_first, each_rest, each_more, if_some}
+use Rattle.semantics.proofs.shared.EachLemmas.{each_first, each_rest}
+use Rattle.workers.proofs.ListLemmas.{each_more, if_some}
 use Rattle.workers.proofs.crew.finish_all.Goals as goal
 
 pub settled-handled-requires-clause-lane : goal.settled-handled-requires-clause-lane

@@ -3,7 +3,7 @@ use Rattle.std.specs.Prelude.{remove}
 use Rattle.atomic_table.proofs.Lists.{at_index}
 use Rattle.workers.specs.Accounts.{lists_of}
 use Rattle.workers.specs.Crews.{IsPart}
-use Rattle.workers.proofs.ListLemmas.{within}
+use Rattle.semantics.proofs.shared.EachLemmas.{within}
 use Rattle.workers.proofs.PartLemmas.{ArePartedTo, one_parted}
 use Rattle.workers.proofs.crew.parted.Goals as goal
 

@@ -1,7 +1,7 @@
 use Rattle.std.proofs.Common.{◌<◌, ◌+◌, ◌∷◌, ◌++◌, [], length, length-append, ap, sym, ◌∙◌, subst, arith}
 use Rattle.semantics.specs.Each.{Each}
 use Rattle.workers.specs.Crews.{IsReadyAt, IsLane}
-use Rattle.workers.proofs.ListLemmas.{each_first, each_rest, each_push, each_none, each_start}
+use Rattle.semantics.proofs.shared.EachLemmas.{each_first, each_rest, each_push, each_none, each_start}
 use Rattle.workers.proofs.crew.start_all.Invariants.{IsTakeAt}
 use Rattle.workers.proofs.crew.start_all.Goals as goal
 

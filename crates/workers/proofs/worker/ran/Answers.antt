@@ -1,6 +1,6 @@
 use Rattle.std.proofs.Common.{◌<◌, ◌∷◌, ◌++◌, [], List, length, refl, ap, ◌∙◌, arith}
 use Rattle.workers.specs.declared.run_end.Ran.{Ran}
-use Rattle.workers.proofs.ListLemmas.{got_there}
+use Rattle.semantics.proofs.shared.EachLemmas.{got_there}
 use Rattle.workers.proofs.worker.ran.Goals as goal
 
 pub returns-in-Some-clause-ran : goal.returns-in-Some-clause-ran

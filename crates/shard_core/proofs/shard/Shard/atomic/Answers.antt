@@ -14,7 +14,7 @@ change_number-old-requires-clause-kept c =
     let inside = c.self.inside in
     let range = c.args.range.now in
     let change = c.args.change.now in
-    let asked = atomic_asked inside.plan (reverse inside.journal.entries) c.args.who inside.plan.number range.cell range.offset range.width change.op change.value change.expected
+    let asked = atomic_asked inside.plan (reverse inside.journal.entries) c.args.who inside.plan.number range.cell range.offset range.size change.op change.value change.expected
     c.self.invariant.plan_is c.self.invariant.legal (rw (← c.self.view_is) at c.requires) in
     table_keeps inside.plan (reverse inside.journal.entries) (shard_after inside.plan (reverse inside.journal.entries)) inside.cells inside.keys range.cell c.self.invariant.contents asked.range.kept
 
@@ -23,26 +23,26 @@ change_number-old-requires-clause-within c =
     let inside = c.self.inside in
     let range = c.args.range.now in
     let change = c.args.change.now in
-    let asked = atomic_asked inside.plan (reverse inside.journal.entries) c.args.who inside.plan.number range.cell range.offset range.width change.op change.value change.expected
+    let asked = atomic_asked inside.plan (reverse inside.journal.entries) c.args.who inside.plan.number range.cell range.offset range.size change.op change.value change.expected
     c.self.invariant.plan_is c.self.invariant.legal (rw (← c.self.view_is) at c.requires) in
-    let within : range.offset + range.width ≤ inside.plan.definition.value_size = asked.range.within in
+    let within : range.offset + range.size ≤ inside.plan.definition.value_size = asked.range.within in
     omega (arith, within, c.self.invariant.contents.sized)
 
-pub change_number-old-requires-clause-width : goal.change_number-old-requires-clause-width
-change_number-old-requires-clause-width c =
+pub change_number-old-requires-clause-size : goal.change_number-old-requires-clause-size
+change_number-old-requires-clause-size c =
     let inside = c.self.inside in
     let range = c.args.range.now in
     let change = c.args.change.now in
-    let asked = atomic_asked inside.plan (reverse inside.journal.entries) c.args.who inside.plan.number range.cell range.offset range.width change.op change.value change.expected
+    let asked = atomic_asked inside.plan (reverse inside.journal.entries) c.args.who inside.plan.number range.cell range.offset range.size change.op change.value change.expected
     c.self.invariant.plan_is c.self.invariant.legal (rw (← c.self.view_is) at c.requires) in
-    asked.width_is
+    asked.size_is
 
 pub change_number-old-requires-clause-operand : goal.change_number-old-requires-clause-operand
 change_number-old-requires-clause-operand c =
     let inside = c.self.inside in
     let range = c.args.range.now in
     let change = c.args.change.now in
-    let asked = atomic_asked inside.plan (reverse inside.journal.entries) c.args.who inside.plan.number range.cell range.offset range.width change.op change.value change.expected
+    let asked = atomic_asked inside.plan (reverse inside.journal.entries) c.args.who inside.plan.number range.cell range.offset range.size change.op change.value change.expected
     c.self.invariant.plan_is c.self.invariant.legal (rw (← c.self.view_is) at c.requires) in
     asked.value_fits
 
@@ -51,7 +51,7 @@ change_number-old-requires-clause-expected c =
     let inside = c.self.inside in
     let range = c.args.range.now in
     let change = c.args.change.now in
-    let asked = atomic_asked inside.plan (reverse inside.journal.entries) c.args.who inside.plan.number range.cell range.offset range.width change.op change.value change.expected
+    let asked = atomic_asked inside.plan (reverse inside.journal.entries) c.args.who inside.plan.number range.cell range.offset range.size change.op change.value change.expected
     c.self.invariant.plan_is c.self.invariant.legal (rw (← c.self.view_is) at c.requires) in
     asked.expected_fits
 
@@ -60,10 +60,10 @@ append_atomic-requires-clause-range c =
     let inside = c.self.inside in
     let range = c.args.range.now in
     let change = c.args.change.now in
-    let asked = atomic_asked inside.plan (reverse inside.journal.entries) c.args.who inside.plan.number range.cell range.offset range.width change.op change.value change.expected
+    let asked = atomic_asked inside.plan (reverse inside.journal.entries) c.args.who inside.plan.number range.cell range.offset range.size change.op change.value change.expected
     c.self.invariant.plan_is c.self.invariant.legal (rw (← c.self.view_is) at c.requires) in
-    let within : range.offset + range.width ≤ inside.plan.definition.value_size = asked.range.within in
-    let narrow : range.width ≤ 8 = asked.range.narrow in
+    let within : range.offset + range.size ≤ inside.plan.definition.value_size = asked.range.within in
+    let narrow : range.size ≤ 8 = asked.range.narrow in
     let most : inside.plan.definition.value_size ≤ 256 = c.self.invariant.plan_is.limits.value_size in
     (omega (arith, within, most), omega (arith, narrow))
 
@@ -72,21 +72,21 @@ invariant_of-self c =
     let inside = c.self.inside in
     let range = c.args.range.now in
     let change = c.args.change.now in
-    let met : IsTrue (meets inside.plan (reverse inside.journal.entries) c.args.who (Atomic (record { shard = inside.plan.number; id = range.cell }) range.offset range.width change.op change.value change.expected)) =
+    let met : IsTrue (meets inside.plan (reverse inside.journal.entries) c.args.who (Atomic (record { shard = inside.plan.number; id = range.cell }) range.offset range.size change.op change.value change.expected)) =
     rw (← c.self.view_is) at c.requires in
-    let has_room : IsFalse (journal_is_full inside.plan (reverse inside.journal.entries) (Atomic (record { shard = inside.plan.number; id = range.cell }) range.offset range.width change.op change.value change.expected)) =
+    let has_room : IsFalse (journal_is_full inside.plan (reverse inside.journal.entries) (Atomic (record { shard = inside.plan.number; id = range.cell }) range.offset range.size change.op change.value change.expected)) =
     sym (rw (← c.self.view_is) at c.lacks_room.ensures) ∙ c.if-lacks_room.false in
-    let asked = atomic_asked inside.plan (reverse inside.journal.entries) c.args.who inside.plan.number range.cell range.offset range.width change.op change.value change.expected
+    let asked = atomic_asked inside.plan (reverse inside.journal.entries) c.args.who inside.plan.number range.cell range.offset range.size change.op change.value change.expected
     c.self.invariant.plan_is c.self.invariant.legal met in
-    let number = kept_number inside.plan (reverse inside.journal.entries) (shard_after inside.plan (reverse inside.journal.entries)) inside.cells inside.keys range.cell range.offset range.width c.self.invariant.contents asked.range.kept in
+    let number = kept_number inside.plan (reverse inside.journal.entries) (shard_after inside.plan (reverse inside.journal.entries)) inside.cells inside.keys range.cell range.offset range.size c.self.invariant.contents asked.range.kept in
     rw (c.append_atomic.ensures, c.change_number-old.ensures.table) (step_taken inside.plan inside.journal inside.cells _ inside.keys inside.keys inside.entered inside.inside c.args.who
-    (Atomic (record { shard = inside.plan.number; id = range.cell }) range.offset range.width change.op change.value change.expected) (Word c.change_number-old.result)
+    (Atomic (record { shard = inside.plan.number; id = range.cell }) range.offset range.size change.op change.value change.expected) (Word c.change_number-old.result)
     (atomic_entry inside.journal.shard c.args.who range change c.change_number-old.result) c.self.invariant
     (record {
       met = met;
       has_room = has_room;
       replied = ap Word (c.change_number-old.ensures.old ∙ number);
-      contents = contents_changed inside.plan _ (reverse inside.journal.entries) (shard_after inside.plan (reverse inside.journal.entries)) inside.cells inside.keys range.cell range.offset range.width change.op change.value change.expected c.in-Some.op (λ q. refl) asked.range.kept (sym c.in-Some.ensures) c.self.invariant.contents;
+      contents = contents_changed inside.plan _ (reverse inside.journal.entries) (shard_after inside.plan (reverse inside.journal.entries)) inside.cells inside.keys range.cell range.offset range.size change.op change.value change.expected c.in-Some.op (λ q. refl) asked.range.kept (sym c.in-Some.ensures) c.self.invariant.contents;
       keeps = λ _ _. refl;
     }) (ap (λ shard. atomic_entry shard c.args.who range change c.change_number-old.result) c.self.invariant.journal_is.number))
 
@@ -95,9 +95,9 @@ returns-clause-of_its_cell c =
     let inside = c.self.inside in
     let range = c.args.range.now in
     let change = c.args.change.now in
-    let asked = atomic_asked inside.plan (reverse inside.journal.entries) c.args.who inside.plan.number range.cell range.offset range.width change.op change.value change.expected
+    let asked = atomic_asked inside.plan (reverse inside.journal.entries) c.args.who inside.plan.number range.cell range.offset range.size change.op change.value change.expected
     c.self.invariant.plan_is c.self.invariant.legal (rw (← c.self.view_is) at c.requires) in
-    let number = kept_number inside.plan (reverse inside.journal.entries) (shard_after inside.plan (reverse inside.journal.entries)) inside.cells inside.keys range.cell range.offset range.width c.self.invariant.contents asked.range.kept in
+    let number = kept_number inside.plan (reverse inside.journal.entries) (shard_after inside.plan (reverse inside.journal.entries)) inside.cells inside.keys range.cell range.offset range.size c.self.invariant.contents asked.range.kept in
     rw (← c.self.view_is) (c.change_number-old.ensures.old ∙ number)
 
 pub returns-clause-legal : goal.returns-clause-legal
@@ -105,20 +105,20 @@ returns-clause-legal c =
     let inside = c.self.inside in
     let range = c.args.range.now in
     let change = c.args.change.now in
-    let met : IsTrue (meets inside.plan (reverse inside.journal.entries) c.args.who (Atomic (record { shard = inside.plan.number; id = range.cell }) range.offset range.width change.op change.value change.expected)) =
+    let met : IsTrue (meets inside.plan (reverse inside.journal.entries) c.args.who (Atomic (record { shard = inside.plan.number; id = range.cell }) range.offset range.size change.op change.value change.expected)) =
     rw (← c.self.view_is) at c.requires in
-    let has_room : IsFalse (journal_is_full inside.plan (reverse inside.journal.entries) (Atomic (record { shard = inside.plan.number; id = range.cell }) range.offset range.width change.op change.value change.expected)) =
+    let has_room : IsFalse (journal_is_full inside.plan (reverse inside.journal.entries) (Atomic (record { shard = inside.plan.number; id = range.cell }) range.offset range.size change.op change.value change.expected)) =
     sym (rw (← c.self.view_is) at c.lacks_room.ensures) ∙ c.if-lacks_room.false in
-    let asked = atomic_asked inside.plan (reverse inside.journal.entries) c.args.who inside.plan.number range.cell range.offset range.width change.op change.value change.expected
+    let asked = atomic_asked inside.plan (reverse inside.journal.entries) c.args.who inside.plan.number range.cell range.offset range.size change.op change.value change.expected
     c.self.invariant.plan_is c.self.invariant.legal met in
-    let number = kept_number inside.plan (reverse inside.journal.entries) (shard_after inside.plan (reverse inside.journal.entries)) inside.cells inside.keys range.cell range.offset range.width c.self.invariant.contents asked.range.kept in
+    let number = kept_number inside.plan (reverse inside.journal.entries) (shard_after inside.plan (reverse inside.journal.entries)) inside.cells inside.keys range.cell range.offset range.size c.self.invariant.contents asked.range.kept in
     rw c.append_atomic.ensures ((step_taken inside.plan inside.journal inside.cells _ inside.keys inside.keys inside.entered inside.inside c.args.who
-    (Atomic (record { shard = inside.plan.number; id = range.cell }) range.offset range.width change.op change.value change.expected) (Word c.change_number-old.result)
+    (Atomic (record { shard = inside.plan.number; id = range.cell }) range.offset range.size change.op change.value change.expected) (Word c.change_number-old.result)
     (atomic_entry inside.journal.shard c.args.who range change c.change_number-old.result) c.self.invariant
     (record {
       met = met;
       has_room = has_room;
       replied = ap Word (c.change_number-old.ensures.old ∙ number);
-      contents = contents_changed inside.plan _ (reverse inside.journal.entries) (shard_after inside.plan (reverse inside.journal.entries)) inside.cells inside.keys range.cell range.offset range.width change.op change.value change.expected c.in-Some.op (λ q. refl) asked.range.kept (sym c.in-Some.ensures) c.self.invariant.contents;
+      contents = contents_changed inside.plan _ (reverse inside.journal.entries) (shard_after inside.plan (reverse inside.journal.entries)) inside.cells inside.keys range.cell range.offset range.size change.op change.value change.expected c.in-Some.op (λ q. refl) asked.range.kept (sym c.in-Some.ensures) c.self.invariant.contents;
       keeps = λ _ _. refl;
     }) (ap (λ shard. atomic_entry shard c.args.who range change c.change_number-old.result) c.self.invariant.journal_is.number)).legal)

@@ -15,18 +15,18 @@ ask-requires-clause-may c = rw (c.cell_of_handle.ensures, c.from.ensures, c.code
     (∥∥₁_elim c.args.self.now.ready (Coded-set coded_bool _ _)
     (λ (ready : IsReady c.args.self.now.image.now.maps c.args.self.now.options c.args.self.now.worker c.args.self.now.shards.now).
     may_change c.args.self.now.image.now.maps c.args.self.now.options c.args.self.now.worker c.args.self.now.shards.now
-    (cell_of_handle c.args.handle) c.args.offset c.args.width c.args.op c.args.value c.args.expected ready c.requires))
+    (cell_of_handle c.args.handle) c.args.offset c.args.size c.args.op c.args.value c.args.expected ready c.requires))
 
 pub returns-in-Ok-clause-gives : goal.returns-in-Ok-clause-gives
 returns-in-Ok-clause-gives c =
     let among : IsAnsweredAmong c.args.self.now.worker c.args.self.now.shards.now
-    (Atomic (cell_of_handle c.args.handle) c.args.offset c.args.width (atomic_code c.args.op) c.args.value c.args.expected)
+    (Atomic (cell_of_handle c.args.handle) c.args.offset c.args.size (atomic_code c.args.op) c.args.value c.args.expected)
     c.in-Ok.reply c.ask.new.self.shards.now = rw (c.cell_of_handle.ensures, c.from.ensures, c.code.ensures) at
     c.in-Ok.ensures.answered in
-    let below : word_in c.in-Ok.reply < 256 ^ c.args.width =
+    let below : word_in c.in-Ok.reply < 256 ^ c.args.size =
     ∥∥₁_elim c.args.self.now.ready le_prop (λ (ready : IsReady c.args.self.now.image.now.maps c.args.self.now.options
     c.args.self.now.worker c.args.self.now.shards.now). change_below c.args.self.now.image.now.maps c.args.self.now.options
-    c.args.self.now.worker c.args.self.now.shards.now (cell_of_handle c.args.handle) c.args.offset c.args.width (atomic_code c.args.op)
+    c.args.self.now.worker c.args.self.now.shards.now (cell_of_handle c.args.handle) c.args.offset c.args.size (atomic_code c.args.op)
     c.args.value c.args.expected c.in-Ok.reply c.ask.new.self.shards.now ready among) in
     rw c.word_in.ensures (record {
       same_port = record {
@@ -36,11 +36,11 @@ returns-in-Ok-clause-gives c =
         same_worker = c.ask.ensures.same_worker;
       };
       given = given_by c.args.self.now.image.now.maps _ c.args.self.now.options _ c.args.self.now.worker _ c.args.self.now.shards.now _
-          (Atomic (cell_of_handle c.args.handle) c.args.offset c.args.width (atomic_code c.args.op) c.args.value c.args.expected)
+          (Atomic (cell_of_handle c.args.handle) c.args.offset c.args.size (atomic_code c.args.op) c.args.value c.args.expected)
           c.in-Ok.reply (Word (word_in c.in-Ok.reply))
           (ap (λ image. image.now.maps) c.ask.ensures.same_image) c.ask.ensures.same_options c.ask.ensures.same_worker
           (∥∥₁_elim c.args.self.now.ready le_prop (λ (ready : IsReady c.args.self.now.image.now.maps c.args.self.now.options
           c.args.self.now.worker c.args.self.now.shards.now). some_part _ c.args.self.now.options ready.are_options)) tt tt (below)
-          (change_told c.args.self.now.worker c.args.self.now.shards.now (cell_of_handle c.args.handle) c.args.offset c.args.width
+          (change_told c.args.self.now.worker c.args.self.now.shards.now (cell_of_handle c.args.handle) c.args.offset c.args.size
           (atomic_code c.args.op) c.args.value c.args.expected c.in-Ok.reply c.ask.new.self.shards.now among) among;
     })

@@ -13,12 +13,12 @@ pub ask-requires-clause-may : goal.ask-requires-clause-may
 ask-requires-clause-may c = rw c.cell_of_handle.ensures (∥∥₁_elim c.args.self.now.ready (Coded-set coded_bool _ _)
     (λ (ready : IsReady c.args.self.now.image.now.maps c.args.self.now.options c.args.self.now.worker c.args.self.now.shards.now). may_store
     c.args.self.now.image.now.maps c.args.self.now.options c.args.self.now.worker c.args.self.now.shards.now (cell_of_handle c.args.handle)
-    c.args.offset c.args.width c.args.value ready c.requires))
+    c.args.offset c.args.size c.args.value ready c.requires))
 
 pub returns-in-Ok-clause-gives : goal.returns-in-Ok-clause-gives
 returns-in-Ok-clause-gives c =
     let among : IsAnsweredAmong c.args.self.now.worker c.args.self.now.shards.now
-    (Store (cell_of_handle c.args.handle) c.args.offset c.args.width c.args.value) c.in-Ok.field-0 c.ask.new.self.shards.now =
+    (Store (cell_of_handle c.args.handle) c.args.offset c.args.size c.args.value) c.in-Ok.field-0 c.ask.new.self.shards.now =
     rw c.cell_of_handle.ensures at c.in-Ok.ensures.answered in
     record {
       same_port = record {
@@ -28,10 +28,10 @@ returns-in-Ok-clause-gives c =
         same_worker = c.ask.ensures.same_worker;
       };
       given = given_by c.args.self.now.image.now.maps _ c.args.self.now.options _ c.args.self.now.worker _ c.args.self.now.shards.now _
-          (Store (cell_of_handle c.args.handle) c.args.offset c.args.width c.args.value) c.in-Ok.field-0 (Done)
+          (Store (cell_of_handle c.args.handle) c.args.offset c.args.size c.args.value) c.in-Ok.field-0 (Done)
           (ap (λ image. image.now.maps) c.ask.ensures.same_image) c.ask.ensures.same_options c.ask.ensures.same_worker
           (∥∥₁_elim c.args.self.now.ready le_prop (λ (ready : IsReady c.args.self.now.image.now.maps c.args.self.now.options
           c.args.self.now.worker c.args.self.now.shards.now). some_part _ c.args.self.now.options ready.are_options)) tt tt (tt)
-          (store_told c.args.self.now.worker c.args.self.now.shards.now (cell_of_handle c.args.handle) c.args.offset c.args.width
+          (store_told c.args.self.now.worker c.args.self.now.shards.now (cell_of_handle c.args.handle) c.args.offset c.args.size
           c.args.value c.in-Ok.field-0 c.ask.new.self.shards.now among) among;
     }

@@ -10,13 +10,13 @@ use Rattle.shared_shards.specs.Passes.{view_at}
 
 pub ask-requires-clause-shard : goal.ask-requires-clause-shard
 ask-requires-clause-shard g c =
-    cell_within g.B.Naming.count g.B.Naming.plan c.args.self.now.shards.now c.args.self.now.pass.now c.args.handle c.cell_of_handle-cell.result c.args.offset c.args.width
+    cell_within g.B.Naming.count g.B.Naming.plan c.args.self.now.shards.now c.args.self.now.pass.now c.args.handle c.cell_of_handle-cell.result c.args.offset c.args.size
     (record { plans = c.planned.ensures.plans; options = c.planned.ensures.options; maps = c.planned.ensures.maps; below = c.args.self.now.ready })
     c.cell_of_handle-cell.ensures c.requires.place
 
 pub ask-requires-clause-met : goal.ask-requires-clause-met
 ask-requires-clause-met g c = rw (c.from.ensures, c.code.ensures)
-    (met_change g.B.Naming.count g.B.Naming.plan c.args.self.now.shards.now c.args.self.now.pass.now c.args.handle c.cell_of_handle-cell.result c.args.offset c.args.width c.args.op c.args.value c.args.expected
+    (met_change g.B.Naming.count g.B.Naming.plan c.args.self.now.shards.now c.args.self.now.pass.now c.args.handle c.cell_of_handle-cell.result c.args.offset c.args.size c.args.op c.args.value c.args.expected
     (record { plans = c.planned.ensures.plans; options = c.planned.ensures.options; maps = c.planned.ensures.maps; below = c.args.self.now.ready })
     c.cell_of_handle-cell.ensures c.requires)
 
@@ -24,11 +24,11 @@ pub returns-in-Ok-clause-gives : goal.returns-in-Ok-clause-gives
 returns-in-Ok-clause-gives g c =
     let asked : IsAskedAt (g.B.Naming.plan c.cell_of_handle-cell.result.shard) c.cell_of_handle-cell.result.shard (worker_of c.args.self.now.pass.now.who)
     (view_at c.args.self.now.pass.now c.cell_of_handle-cell.result.shard) (view_at c.ask.new.self.pass.now c.cell_of_handle-cell.result.shard)
-    (Atomic c.cell_of_handle-cell.result c.args.offset c.args.width (atomic_code c.args.op) c.args.value c.args.expected) (Word c.in-Ok.number) =
+    (Atomic c.cell_of_handle-cell.result c.args.offset c.args.size (atomic_code c.args.op) c.args.value c.args.expected) (Word c.in-Ok.number) =
     rw (c.from.ensures, c.code.ensures) at c.in-Ok.ensures.answered in record {
       given_within = (
         c.ask.ensures.same_pass,
-        change_given g.B.Naming.count g.B.Naming.plan c.args.self.now.shards.now c.ask.new.self.shards.now c.args.self.now.pass.now c.ask.new.self.pass.now c.args.handle c.cell_of_handle-cell.result c.args.offset c.args.width (atomic_code c.args.op) c.args.value c.args.expected c.in-Ok.number
+        change_given g.B.Naming.count g.B.Naming.plan c.args.self.now.shards.now c.ask.new.self.shards.now c.args.self.now.pass.now c.ask.new.self.pass.now c.args.handle c.cell_of_handle-cell.result c.args.offset c.args.size (atomic_code c.args.op) c.args.value c.args.expected c.in-Ok.number
             (record { plans = c.planned.ensures.plans; options = c.planned.ensures.options; maps = c.planned.ensures.maps; below = c.args.self.now.ready }) (ap (λ shards. shards.now) c.ask.ensures.same_shards) c.cell_of_handle-cell.ensures
             c.ask.ensures.elsewhere c.requires.place asked,
       );
@@ -40,12 +40,12 @@ pub returns-in-Err-clause-refuses : goal.returns-in-Err-clause-refuses
 returns-in-Err-clause-refuses g c =
     let away : IsTurnedAwayAt (g.B.Naming.plan c.cell_of_handle-cell.result.shard) c.cell_of_handle-cell.result.shard (worker_of c.args.self.now.pass.now.who)
     (view_at c.args.self.now.pass.now c.cell_of_handle-cell.result.shard) (view_at c.ask.new.self.pass.now c.cell_of_handle-cell.result.shard)
-    (Atomic c.cell_of_handle-cell.result c.args.offset c.args.width (atomic_code c.args.op) c.args.value c.args.expected) =
+    (Atomic c.cell_of_handle-cell.result c.args.offset c.args.size (atomic_code c.args.op) c.args.value c.args.expected) =
     rw (c.from.ensures, c.code.ensures) at c.in-Err.ensures.turned_away in record {
       refused_within = (
         c.ask.ensures.same_pass,
-        cell_refused g.B.Naming.count g.B.Naming.plan c.args.self.now.shards.now c.ask.new.self.shards.now c.args.self.now.pass.now c.ask.new.self.pass.now c.args.handle c.cell_of_handle-cell.result c.args.offset c.args.width
-            (λ one. Atomic one c.args.offset c.args.width (atomic_code c.args.op) c.args.value c.args.expected) (λ one. refl)
+        cell_refused g.B.Naming.count g.B.Naming.plan c.args.self.now.shards.now c.ask.new.self.shards.now c.args.self.now.pass.now c.ask.new.self.pass.now c.args.handle c.cell_of_handle-cell.result c.args.offset c.args.size
+            (λ one. Atomic one c.args.offset c.args.size (atomic_code c.args.op) c.args.value c.args.expected) (λ one. refl)
             (record { plans = c.planned.ensures.plans; options = c.planned.ensures.options; maps = c.planned.ensures.maps; below = c.args.self.now.ready }) (ap (λ shards. shards.now) c.ask.ensures.same_shards) c.cell_of_handle-cell.ensures
             c.ask.ensures.elsewhere c.requires.place away,
       );

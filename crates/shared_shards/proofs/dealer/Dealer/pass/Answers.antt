@@ -1,6 +1,6 @@
 use Rattle.std.proofs.Common.{rules, ◌≡◌, ◌<◌, true, false, length, sym, ◌∙◌, arith}
 use Rattle.shared_shards.specs.NewShards.{is_dealt_at}
-use Rattle.shared_shards.proofs.shared.Each.{or_within}
+use Rattle.semantics.proofs.shared.EachLemmas.{or_within}
 use Rattle.shared_shards.proofs.Dealing.{new_pass, nothing_at, rest_of_rows}
 use Rattle.shared_shards.proofs.dealer.Dealer.pass.Goals as goal
 

@@ -1,6 +1,6 @@
 use Rattle.std.proofs.Common.{◌<◌, length, arith}
 use Rattle.shared_shards.specs.SharedMaps.{IsWordOf}
-use Rattle.shared_shards.proofs.shared.Each.{each_at}
+use Rattle.semantics.proofs.shared.EachLemmas.{each_at}
 use Rattle.shared_shards.proofs.sharing.Shards.ask.Goals as goal
 
 pub ask-requires-clause-word : goal.ask-requires-clause-word

@@ -6,7 +6,7 @@ use Rattle.journals.specs.JournalsView.{JournalsView, entries_at}
 use Rattle.shared_shards.specs.CallerView.{IsSettled}
 use Rattle.shared_shards.specs.Passes.{pass_at, view_at}
 use Rattle.shared_shards.specs.SharedMaps.{IsWordOf}
-use Rattle.shared_shards.proofs.shared.Each.{each_at}
+use Rattle.semantics.proofs.shared.EachLemmas.{each_at}
 use Rattle.shared_shards.proofs.Settling.{legal_more, settled_more, untouched_less}
 use Rattle.shared_shards.proofs.sharing.Shards.close.Goals as goal
 

@@ -1,6 +1,6 @@
 use Rattle.std.proofs.Common.{◌<◌, length, ap, ◌∙◌, arith}
 use Rattle.shared_shards.specs.SharedMaps.{IsWordOf}
-use Rattle.shared_shards.proofs.shared.Each.{each_at}
+use Rattle.semantics.proofs.shared.EachLemmas.{each_at}
 use Rattle.shared_shards.proofs.sharing.Shards.may_call.Goals as goal
 
 pub may_call-requires-clause-word : goal.may_call-requires-clause-word

@@ -1,17 +1,29 @@
--- What a fact of each member of a list becomes when the list changes.
+-- What a fact of each member of a list becomes when the list changes, and what stands at a place.
 use Rattle.std.proofs.Common.{◌≡◌, ◌≢◌, ◌⊎◌, ℕ, zero, suc, ◌+◌, ◌<◌, ◌≤◌, List, [], ◌∷◌, ◌++◌, length, set, get_or, refl, sym, ap, subst, inl, inr, ⊎_elim, arith}
-use Rattle.std.specs.Prelude.{remove}
+use Rattle.std.specs.Prelude.{remove, Option, Some, slice_get}
 use mathlib.Core.Option.{some, some-injective, some-ne-none}
 use lib.ListN.{get_elem?}
-use Rattle.atomic_table.proofs.Lists.{at_set, at_index}
 use Rattle.semantics.specs.Each.{Each}
 
 module _ {A : Type 0} where
-  pub at_snoc' : (l : List A) (a b : A) (j : ℕ) → get_elem? (l ++ a ∷ []) j ≡ some b → (get_elem? l j ≡ some b) ⊎ ((j ≡ length l) × (a ≡ b))
-  at_snoc' [] a b zero e = inr (refl, some-injective a b e)
-  at_snoc' [] a b (suc j) e = absurd (some-ne-none b (sym e))
-  at_snoc' (x ∷ xs) a b zero e = inl e
-  at_snoc' (x ∷ xs) a b (suc j) e = ⊎_elim inl (λ t. inr (ap suc t.0, t.1)) (at_snoc' xs a b j e)
+  -- a list that has another member at one place, or one more at its end
+  pub at_set : (l : List A) (i j : ℕ) (a b : A) → get_elem? (set l i a) j ≡ some b → ((j ≡ i) × (a ≡ b)) ⊎ ((j ≢ i) × (get_elem? l j ≡ some b))
+  at_set [] i j a b e = absurd (some-ne-none b (sym e))
+  at_set (x ∷ xs) zero zero a b e = inl (refl, some-injective a b e)
+  at_set (x ∷ xs) zero (suc j) a b e = inr ((λ h. omega arith), e)
+  at_set (x ∷ xs) (suc i) zero a b e = inr ((λ h. omega arith), e)
+  at_set (x ∷ xs) (suc i) (suc j) a b e = ⊎_elim (λ t. inl (ap suc t.0, t.1)) (λ t. let n = t.0 in inr ((λ h. n (omega arith)), t.1)) (at_set xs i j a b e)
+
+  pub at_index : (l : List A) (i : ℕ) (a : A) → i < length l → a ≡ get_or l i a → get_elem? l i ≡ some a
+  at_index [] i a h e = absurd (omega arith)
+  at_index (x ∷ xs) zero a h e = ap some (sym e)
+  at_index (x ∷ xs) (suc i) a h e = at_index xs i a (omega arith) e
+
+  pub at_snoc : (l : List A) (a b : A) (j : ℕ) → get_elem? (l ++ a ∷ []) j ≡ some b → (get_elem? l j ≡ some b) ⊎ ((j ≡ length l) × (a ≡ b))
+  at_snoc [] a b zero e = inr (refl, some-injective a b e)
+  at_snoc [] a b (suc j) e = absurd (some-ne-none b (sym e))
+  at_snoc (x ∷ xs) a b zero e = inl e
+  at_snoc (x ∷ xs) a b (suc j) e = ⊎_elim inl (λ t. inr (ap suc t.0, t.1)) (at_snoc xs a b j e)
 
   at_rest : (l : List A) (j : ℕ) (b : A) → get_elem? (remove l 0) j ≡ some b → get_elem? l (suc j) ≡ some b
   at_rest [] j b e = absurd (some-ne-none b (sym e))
@@ -19,7 +31,7 @@ module _ {A : Type 0} where
 
   pub each_push : (P : ℕ → A → Type 0) (xs : List A) (k : ℕ) (x : A) → length xs ≡ k → Each P 0 xs → P k x → Each P 0 (xs ++ x ∷ [])
   each_push P xs k x len were is j b e =
-      ⊎_elim (λ was. were j b was) (λ (t : (j ≡ length xs) × (x ≡ b)). let here : k ≡ 0 + j = (let a = t.0 in omega arith) in subst (λ (y : ℕ × A). P y.0 y.1) (λ i. (here i, t.1 i)) is) (at_snoc' xs x b j e)
+      ⊎_elim (λ was. were j b was) (λ (t : (j ≡ length xs) × (x ≡ b)). let here : k ≡ 0 + j = (let a = t.0 in omega arith) in subst (λ (y : ℕ × A). P y.0 y.1) (λ i. (here i, t.1 i)) is) (at_snoc xs x b j e)
 
   pub each_first : (P : ℕ → A → Type 0) (from : ℕ) (xs : List A) (x : A) → Each P from xs → 0 < length xs → x ≡ get_or xs 0 x → P from x
   each_first P from xs x were some_left is = subst (λ n. P n x) (omega arith) (were 0 x (at_index xs 0 x some_left is))
@@ -98,3 +110,15 @@ module _ {A : Type 0} where
   or_within [] d e place below = absurd (omega arith)
   or_within (y ∷ xs) d e zero below = refl
   or_within (y ∷ xs) d e (suc place) below = or_within xs d e place (omega arith)
+
+  -- what is found within a list, whatever stands past the end
+  pub found_or : (xs : List A) (place : ℕ) (x d : A) → place < length xs → x ≡ get_or xs place x → x ≡ get_or xs place d
+  found_or [] place x d below is = absurd (omega arith)
+  found_or (y ∷ xs) zero x d below is = is
+  found_or (y ∷ xs) (suc place) x d below is = found_or xs place x d (omega arith) is
+
+  -- what an index gives, `get` would give
+  pub got_there : (xs : List A) (place : ℕ) (x : A) → place < length xs → x ≡ get_or xs place x → slice_get xs place ≡ Some x
+  got_there [] place x below is = absurd (omega arith)
+  got_there (y ∷ xs) zero x below is = ap Some (sym is)
+  got_there (y ∷ xs) (suc place) x below is = got_there xs place x (omega arith) is
