@@ -69,7 +69,8 @@ pub const UPDATE: &str = "update";
 /// The file of journals that a run or a replay writes.
 pub const JOURNALS_OUT: &str = "journals";
 
-const ABOUT: &str = "Replays captures through eBPF programs; checks, runs, audits, prints and assembles them";
+const ABOUT: &str =
+    "Replays captures through eBPF programs; checks, runs, audits, prints and assembles them";
 
 const VERSION: &str = "0.1.0";
 
