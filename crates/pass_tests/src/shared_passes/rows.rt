@@ -1,5 +1,7 @@
 //! Calls of several callers on one shard, one after the other: what each replies, and what its pass says then.
 
+mod by_threads;
+
 ghost use Rattle.shared_shards.specs.NewShards.{IsNamed};
 
 use super::length_of;

@@ -1,0 +1,373 @@
+//! Calls of a worker, the controller and the reclaimer on one shard, each on a thread of its own.
+
+mod one_key;
+
+ghost use Rattle.shared_shards.specs.NewShards.{IsNamed};
+
+use super::{Asked, CONTROLLER, FIRST, HELD_AND_DELETED, RECLAIMER, Row, W0, attempt, opened};
+use crate::shared_passes::length_of;
+use ebpf_decode::MapKind;
+use journals::Journals;
+use one_key::{OneKey, first_value};
+use semantics::{Caller, CellRef, Reply};
+use shared_shards::{Naming, Opened, Pass, Shards};
+use std::alloc::{AllocError, Global};
+use std::marker::Brand;
+use std::process::Abort;
+use std::sync::Wait;
+use std::sync::atomic::{AtomicU64, Ordering};
+use std::test::Fail;
+use std::thread::{Threads, join, yield_now};
+
+/// Waits until so many have been counted.
+fn wait_for<R: Wait>(rt: &R, counted: &AtomicU64, wanted: u64) {
+    for _ in rt.forever() {
+        if counted.load(Ordering::SeqCst) >= wanted {
+            return;
+        }
+    }
+    unreachable!()
+}
+
+/// What a caller has had of its calls.
+#[derive(Clone, Copy)]
+struct Had {
+    /// How many replies.
+    replies: usize,
+    /// The first call with another reply than it should have.
+    wrong: Option<&'static str>,
+    /// How many updates that were answered 0.
+    updates: u64,
+}
+
+const NOTHING: Had = Had {
+    replies: 0,
+    wrong: None,
+    updates: 0,
+};
+
+impl Had {
+    fn note(&mut self, name: &'static str, got: Option<Reply>, is_right: bool) {
+        if got.is_some() {
+            self.replies = self.replies.saturating_add(1);
+        }
+        if !is_right && self.wrong.is_none() {
+            self.wrong = Some(name);
+        }
+    }
+}
+
+/// A caller's pass at the end of its thread, and what it had.
+#[derive(Drop)]
+struct Ended<B: Naming> {
+    pass: Pass<B>,
+    had: Had,
+}
+
+/// Makes a caller's calls of the rows, each when those of the rows before it were made.
+fn in_turn<B: Naming, R: Abort + Wait>(
+    rt: &R,
+    shards: &Shards<B>,
+    mut pass: Pass<B>,
+    mine: usize,
+    rows: &[Row],
+    made: &AtomicU64,
+) -> Ended<B> {
+    let mut had = NOTHING;
+    assert!(rt; 0 < shards.count());
+    for (turn, (name, place, asked, want, inside, holds)) in rows.iter().enumerate() {
+        if *place == mine {
+            wait_for(rt, made, turn as u64);
+            let got = attempt(rt, shards, &mut pass, *asked);
+            had.note(name, got, got == *want);
+            had.note(name, None, pass.is_inside(0) == *inside);
+            had.note(name, None, pass.holds(&FIRST) == *holds);
+            made.fetch_add(1, Ordering::SeqCst);
+        }
+    }
+    Ended { pass, had }
+}
+
+/// What two callers had.
+fn both(one: Had, other: Had) -> Had {
+    Had {
+        replies: one.replies.saturating_add(other.replies),
+        wrong: one.wrong.or(other.wrong),
+        updates: one.updates.wrapping_add(other.updates),
+    }
+}
+
+/// The journals when the shards are closed, and what all three callers had.
+fn closed<B: Naming>(
+    rt: &impl Wait,
+    alloc: Global,
+    shards: Shards<B>,
+    worker: Ended<B>,
+    controller: Ended<B>,
+    reclaimer: Ended<B>,
+) -> Result<(Journals, Had), AllocError> {
+    let had = both(worker.had, both(controller.had, reclaimer.had));
+    let mut passes = Vec::with_capacity(alloc, 3)?;
+    passes.push_reserved(worker.pass);
+    passes.push_reserved(controller.pass);
+    passes.push_reserved(reclaimer.pass);
+    Ok((shards.close(rt, passes), had))
+}
+
+/// Makes the calls of all rows in turn, by three threads.
+fn by_turns<B: Naming + Send + Sync, R: Threads + Abort + Wait + Sync>(
+    rt: &R,
+    alloc: Global,
+    opened: Opened,
+    rows: &[Row],
+) -> Result<(), Fail>
+    requires { IsNamed B.count B.table B.plan opened }
+{
+    let (shards, mut dealer) = opened.share::<B>(alloc)?;
+    let worker = dealer.pass(alloc, Caller::Worker { number: 0 })?;
+    let controller = dealer.pass(alloc, Caller::Controller)?;
+    let reclaimer = dealer.pass(alloc, Caller::Reclaimer)?;
+    let made = AtomicU64::new(0);
+    let (one, (two, three)) = join(
+        rt,
+        || in_turn(rt, &shards, worker, W0, rows, &made),
+        || {
+            join(
+                rt,
+                || in_turn(rt, &shards, controller, CONTROLLER, rows, &made),
+                || in_turn(rt, &shards, reclaimer, RECLAIMER, rows, &made),
+            )
+        },
+    );
+    let (journals, had) = closed(rt, alloc, shards, one, two, three)?;
+    assert_eq!(rt; had.wrong, None);
+    assert_eq!(rt; had.replies, rows.len());
+    assert_eq!(rt; length_of(&journals, 0), rows.len());
+    Ok(())
+}
+
+#[test]
+fn a_held_cell_outlives_its_key_by_threads(rt: HostRuntime) -> Result<(), Fail> {
+    let opened = opened(rt.alloc(), MapKind::Hash, 1)?;
+    by_turns::<Brand, HostRuntime>(&rt, rt.alloc(), opened, &HELD_AND_DELETED)
+}
+
+const THIRD: CellRef = CellRef { shard: 0, id: 2 };
+
+/// The shard has two cells, so a third key has none until those of the first two are freed.
+#[rattlefmt::skip]
+const ALL_CELLS_RETIRED: [Row; 12] = [
+    ("a key is set",                          CONTROLLER, Asked::Update { key: 10, value: 5, flags: 0 }, Some(Reply::Answer { code: 0 }),   false, false),
+    ("it is deleted",                         CONTROLLER, Asked::Delete { key: 10 },                     Some(Reply::Answer { code: 0 }),   false, false),
+    ("another is set",                        CONTROLLER, Asked::Update { key: 11, value: 6, flags: 0 }, Some(Reply::Answer { code: 0 }),   false, false),
+    ("and deleted",                           CONTROLLER, Asked::Delete { key: 11 },                     Some(Reply::Answer { code: 0 }),   false, false),
+    ("a worker enters",                       W0,         Asked::Enter,                                  Some(Reply::Entered),              true,  false),
+    ("there is no cell for a third key",      CONTROLLER, Asked::Update { key: 12, value: 7, flags: 0 }, Some(Reply::Answer { code: -12 }), false, false),
+    ("the worker entered after both deletes", RECLAIMER,  Asked::Reclaim,                                Some(Reply::Freed { count: 2 }),   false, false),
+    ("now there is a cell",                   CONTROLLER, Asked::Update { key: 12, value: 7, flags: 0 }, Some(Reply::Answer { code: 0 }),   false, false),
+    ("the worker finds the third cell",       W0,         Asked::Look { key: 12 },                       Some(Reply::Cell { cell: THIRD }), true,  false),
+    ("with the third value",                  W0,         Asked::Load { id: 2 },                         Some(Reply::Word { value: 7 }),    true,  false),
+    ("it leaves",                             W0,         Asked::Leave,                                  Some(Reply::Left),                 false, false),
+    ("nothing is retired",                    RECLAIMER,  Asked::Reclaim,                                Some(Reply::Freed { count: 0 }),   false, false),
+];
+
+#[test]
+fn retired_cells_are_freed_by_threads(rt: HostRuntime) -> Result<(), Fail> {
+    let opened = opened(rt.alloc(), MapKind::Hash, 1)?;
+    by_turns::<Brand, HostRuntime>(&rt, rt.alloc(), opened, &ALL_CELLS_RETIRED)
+}
+
+/// How many runs the worker makes, and how often the controller sets and deletes the key.
+const ROUNDS: u32 = 60;
+
+/// How many rounds the reclaimer makes: so many that it seldom ends before the controller, who would find no free cell then.
+const RECLAIMS: u32 = 240;
+
+/// How often a run loads what it found.
+const LOADS: u32 = 3;
+
+const KEY: u32 = 10;
+
+fn answer(code: i32) -> Option<Reply> {
+    Some(Reply::Answer { code })
+}
+
+/// Waits until all three threads have begun, so that they call at the same time.
+fn begin<R: Wait>(rt: &R, begun: &AtomicU64) {
+    begun.fetch_add(1, Ordering::SeqCst);
+    wait_for(rt, begun, 3);
+}
+
+/// A run: it looks the key up, and loads what it found, which is to keep the value that it was set to when it was made.
+fn visit<B: Naming, R: Abort + Wait>(
+    rt: &R,
+    shards: &Shards<B>,
+    pass: &mut Pass<B>,
+    had: &mut Had,
+) {
+    let got = attempt(rt, shards, pass, Asked::Enter);
+    had.note("an Enter", got, got == Some(Reply::Entered));
+    let got = attempt(rt, shards, pass, Asked::Look { key: KEY });
+    if let Some(Reply::Cell { cell }) = got {
+        had.note("a Lookup", got, true);
+        let want = Some(Reply::Word {
+            value: first_value(cell.id),
+        });
+        for _ in 0..LOADS {
+            yield_now();
+            let got = attempt(rt, shards, pass, Asked::Load { id: cell.id });
+            had.note("a Load", got, got == want);
+        }
+    } else {
+        had.note("a Lookup", got, got == Some(Reply::Null));
+    }
+    let got = attempt(rt, shards, pass, Asked::Leave);
+    had.note("a Leave", got, got == Some(Reply::Left));
+}
+
+/// Sets the key, to the value of the next cell. It may be that no cell is free.
+fn set<B: Naming, R: Abort + Wait>(
+    rt: &R,
+    shards: &Shards<B>,
+    pass: &mut Pass<B>,
+    had: &mut Had,
+) -> bool {
+    let asked = Asked::Update {
+        key: KEY,
+        value: first_value(had.updates),
+        flags: 0,
+    };
+    let got = attempt(rt, shards, pass, asked);
+    let is_set = got == answer(0);
+    had.note("an Update", got, is_set || got == answer(-12));
+    if is_set {
+        had.updates = had.updates.wrapping_add(1);
+    }
+    is_set
+}
+
+fn runs<B: Naming, R: Abort + Wait>(
+    rt: &R,
+    shards: &Shards<B>,
+    mut pass: Pass<B>,
+    begun: &AtomicU64,
+) -> Ended<B> {
+    let mut had = NOTHING;
+    begin(rt, begun);
+    for _ in 0..ROUNDS {
+        visit(rt, shards, &mut pass, &mut had);
+    }
+    Ended { pass, had }
+}
+
+fn changes<B: Naming, R: Abort + Wait>(
+    rt: &R,
+    shards: &Shards<B>,
+    mut pass: Pass<B>,
+    begun: &AtomicU64,
+) -> Ended<B> {
+    let mut had = NOTHING;
+    begin(rt, begun);
+    for _ in 0..ROUNDS {
+        let want = if set(rt, shards, &mut pass, &mut had) {
+            0
+        } else {
+            -2
+        };
+        yield_now();
+        let got = attempt(rt, shards, &mut pass, Asked::Delete { key: KEY });
+        had.note("a Delete", got, got == answer(want));
+    }
+    Ended { pass, had }
+}
+
+fn reclaims<B: Naming, R: Abort + Wait>(
+    rt: &R,
+    shards: &Shards<B>,
+    mut pass: Pass<B>,
+    begun: &AtomicU64,
+) -> Ended<B> {
+    let mut had = NOTHING;
+    begin(rt, begun);
+    for _ in 0..RECLAIMS {
+        let got = attempt(rt, shards, &mut pass, Asked::Reclaim);
+        let is_right = match got {
+            Some(Reply::Freed { count }) => count <= 2,
+            _ => false,
+        };
+        had.note("a Reclaim", got, is_right);
+        yield_now();
+    }
+    Ended { pass, had }
+}
+
+/// When all three have ended: what is retired is freed, the key is set once more, and the worker finds it.
+fn afterwards<B: Naming, R: Abort + Wait>(
+    rt: &R,
+    shards: &Shards<B>,
+    worker: &mut Ended<B>,
+    controller: &mut Ended<B>,
+    reclaimer: &mut Ended<B>,
+) {
+    let got = attempt(rt, shards, &mut reclaimer.pass, Asked::Reclaim);
+    reclaimer.had.note("the last Reclaim", got, got.is_some());
+    let is_set = set(rt, shards, &mut controller.pass, &mut controller.had);
+    assert!(rt; is_set);
+    let before = worker.had.replies;
+    visit(rt, shards, &mut worker.pass, &mut worker.had);
+    assert_eq!(rt; worker.had.replies, before.saturating_add(6));
+}
+
+/// What the three do at the same time: each is replied what it may be, and the journal has their calls, each with the reply that one thread would give.
+fn freely<B: Naming + Send + Sync, R: Threads + Abort + Wait + Sync>(
+    rt: &R,
+    alloc: Global,
+    opened: Opened,
+) -> Result<(), Fail>
+    requires { IsNamed B.count B.table B.plan opened }
+{
+    let (shards, mut dealer) = opened.share::<B>(alloc)?;
+    let worker = dealer.pass(alloc, Caller::Worker { number: 0 })?;
+    let controller = dealer.pass(alloc, Caller::Controller)?;
+    let reclaimer = dealer.pass(alloc, Caller::Reclaimer)?;
+    let begun = AtomicU64::new(0);
+    let (mut one, (mut two, mut three)) = join(
+        rt,
+        || runs(rt, &shards, worker, &begun),
+        || {
+            join(
+                rt,
+                || changes(rt, &shards, controller, &begun),
+                || reclaims(rt, &shards, reclaimer, &begun),
+            )
+        },
+    );
+    afterwards(rt, &shards, &mut one, &mut two, &mut three);
+    let (journals, had) = closed(rt, alloc, shards, one, two, three)?;
+    assert_eq!(rt; had.wrong, None);
+    assert_eq!(rt; length_of(&journals, 0), had.replies);
+    assert_eq!(rt; first_other(&journals), None);
+    Ok(())
+}
+
+/// The place of the first entry whose reply one thread would not give.
+fn first_other(journals: &Journals) -> Option<usize> {
+    let mut shard = OneKey::new();
+    if journals.count() == 0 {
+        return None;
+    }
+    let journal = journals.journal(0);
+    for place in 0..journal.len() {
+        let entry = journal.entry(place);
+        if shard.reply(&entry.call) != entry.reply {
+            return Some(place);
+        }
+    }
+    None
+}
+
+#[test]
+fn three_threads_on_one_shard(rt: HostRuntime) -> Result<(), Fail> {
+    let opened = opened(rt.alloc(), MapKind::Hash, 1)?;
+    freely::<Brand, HostRuntime>(&rt, rt.alloc(), opened)
+}
