@@ -6,7 +6,7 @@ ghost use Rattle.shared_shards.specs.NewShards.{IsNamed};
 
 use actors::{Applied, Commander, Reclaiming, commands_until_end, rounds_until_end};
 use conntrack::{maps, table_size};
-use control::parse_script;
+use control::{ControlFault, parse_script};
 use ebpf_decode::{Image, Insn, Version};
 use gates::{Gate, NoGate};
 use journals::Journals;
@@ -87,6 +87,14 @@ fn lengths_are(journals: &Journals, want: &[usize]) -> bool {
         .eq(want.iter().copied())
 }
 
+/// Whether each service that was refused was answered that the map is full.
+fn refused_by_a_full_map(noted: &[Applied]) -> bool {
+    noted.iter().all(|one| match one.fault {
+        Some(ControlFault::Refused { answer }) => answer == -7,
+        _ => true,
+    })
+}
+
 /// Applies the row's script, and compares.
 fn applied<B: Naming, R: Abort + Wait>(
     rt: &R,
@@ -113,6 +121,7 @@ fn applied<B: Naming, R: Abort + Wait>(
     }
     let (pass, noted) = commander.finish();
     assert!(rt; faults_are(&noted, row.faults));
+    assert!(rt; refused_by_a_full_map(&noted));
     assert_eq!(rt; gate.times.get(), row.told);
     assert_eq!(rt; gate.last.get(), row.told);
     let mut passes = Vec::with_capacity(alloc, 1)?;
@@ -173,7 +182,7 @@ fn a_full_journal_stops_the_controller(rt: HostRuntime) -> Result<(), Fail> {
     applied::<Brand, HostRuntime>(&rt, rt.alloc(), opened, row)
 }
 
-/// The map of services has 64 entries: the 65th service is refused, and its answer stands in the journal.
+/// The map of services has 64 entries: the 65th service is refused with its answer, which stands in the journal.
 #[test]
 fn the_65th_service(rt: HostRuntime) -> Result<(), Fail> {
     let mut text = String::new(rt.alloc());

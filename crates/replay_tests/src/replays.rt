@@ -1,6 +1,7 @@
 //! Whole replays, each with threads.
 
 mod schedules;
+mod shipped_program;
 
 ghost use Rattle.std.specs.Prelude.{◌≡◌, ◌≤◌, ◌<◌, ◌^◌, length};
 

@@ -1,0 +1,257 @@
+//! The shipped program, replayed while a gate fixes between which frames the controller changes the backends.
+
+use super::{Files, NONE, capture, one_record, segment, written};
+use control::parse_script;
+use replay::{Counts, Gate, Outcome, replay};
+use semantics::{Caller, Options};
+use std::alloc::Global;
+use std::hint::spin_loop;
+use std::process::Abort;
+use std::sync::Wait;
+use std::sync::atomic::{AtomicU64, Ordering};
+use std::test::Fail;
+use std::thread::Threads;
+use steer::shipped;
+use verifier::verify;
+use wire::{Capture, Sent};
+
+/// The actor whose reply of this number is held until worker 0, worker 1 and the controller have had so many.
+type Hold = (Caller, u64, [u64; 3]);
+
+const W0: Caller = Caller::Worker { number: 0 };
+
+const W1: Caller = Caller::Worker { number: 1 };
+
+const C: Caller = Caller::Controller;
+
+/// A gate that holds actors as a list says, but no longer than its limit of turns.
+#[derive(Drop)]
+struct Order<'a> {
+    holds: &'a [Hold],
+    first: AtomicU64,
+    second: AtomicU64,
+    controller: AtomicU64,
+    /// How many were held up to the limit.
+    late: AtomicU64,
+}
+
+const LIMIT: u32 = 400_000_000;
+
+impl<'a> Order<'a> {
+    fn new(holds: &'a [Hold]) -> Order<'a> {
+        Order {
+            holds,
+            first: AtomicU64::new(0),
+            second: AtomicU64::new(0),
+            controller: AtomicU64::new(0),
+            late: AtomicU64::new(0),
+        }
+    }
+
+    fn have_had(&self, wanted: [u64; 3]) -> bool {
+        let [first, second, controller] = wanted;
+        self.first.load(Ordering::SeqCst) >= first
+            && self.second.load(Ordering::SeqCst) >= second
+            && self.controller.load(Ordering::SeqCst) >= controller
+    }
+
+    fn hold(&self, wanted: [u64; 3]) {
+        for _ in 0..LIMIT {
+            if self.have_had(wanted) {
+                return;
+            }
+            spin_loop();
+        }
+        self.late.fetch_add(1, Ordering::SeqCst);
+    }
+}
+
+impl<'a> Gate for Order<'a> {
+    fn replied(&self, who: Caller, nth: u64) {
+        match who {
+            Caller::Worker { number: 0 } => self.first.store(nth, Ordering::SeqCst),
+            Caller::Worker { .. } => self.second.store(nth, Ordering::SeqCst),
+            Caller::Controller => self.controller.store(nth, Ordering::SeqCst),
+            Caller::Reclaimer => {}
+        }
+        for (held, reply, wanted) in self.holds {
+            if *held == who && *reply == nth {
+                self.hold(*wanted);
+            }
+        }
+    }
+}
+
+/// What the controller does before the first frame beside the service, with ten replies in all.
+const AT_FIRST: &str = "0 gateway 10.0.0.9 02:00:00:00:00:0a 02:00:00:00:00:0b\n0 up 0 192.0.2.1\n";
+
+/// What it does later. The service of another port, with one reply, is where the gate holds it until the frames before are done.
+const LATER: &str = "2 vip 203.0.113.1 81 tcp
+2 up 1 192.0.2.2
+5 vip 203.0.113.1 81 tcp
+5 down 0
+7 vip 203.0.113.1 81 tcp
+7 up 0 192.0.2.1
+10 vip 203.0.113.1 81 tcp
+10 down 1
+10 down 0
+";
+
+/// A replay for a lookup table of seven slots. By Maglev's population backend 1 takes slots 0, 3 and 6 from backend 0, and leaves it 1, 2, 4 and 5. The flow of
+/// port 40001 has slot 1, 40002 3, 40003 3, 40004 0, 40005 1, 40007 0 and 40008 4; of two workers the second one has the odd ports.
+#[derive(Clone, Copy)]
+struct Row<'a> {
+    name: &'a str,
+    service: &'a str,
+    workers: u32,
+    holds: &'a [Hold],
+    /// The source port of each frame.
+    frames: &'a [u16],
+    /// Of each frame that is sent the port, and the last byte of the backend's address. They are the first frames.
+    sent: &'a [(u16, u8)],
+    /// How often a backend is noted for a flow.
+    notes: usize,
+}
+
+/// A new flow has 14 replies, a noted backend that is up 12, one that is not up 17, and a frame of a service without tracking 12. Backend 1 comes up with 4
+/// replies, backend 0 goes down and comes up with 5 each.
+#[rattlefmt::skip]
+const ROWS: [Row<'static>; 3] = [
+    Row {
+        name: "a flow keeps its backend while that is up",
+        service: "0 vip 203.0.113.1 80 tcp\n",
+        workers: 1,
+        holds: &[
+            (C, 11, [28, 0, 0]), (W0, 29, [0, 0, 15]), (C, 16, [68, 0, 0]), (W0, 69, [0, 0, 21]),
+            (C, 22, [102, 0, 0]), (W0, 103, [0, 0, 27]), (C, 28, [142, 0, 0]), (W0, 143, [0, 0, 40]),
+        ],
+        frames: &[40002, 40001, 40002, 40003, 40005, 40002, 40005, 40005, 40008, 40007, 40005],
+        sent: &[
+            (40002, 1), (40001, 1), (40002, 1), (40003, 2), (40005, 1), (40002, 2), (40005, 2), (40005, 2), (40008, 1), (40007, 2),
+        ],
+        notes: 8,
+    },
+    Row {
+        name: "without tracking it has the owner of its slot",
+        service: "0 vip 203.0.113.1 80 tcp notrack\n",
+        workers: 1,
+        holds: &[
+            (C, 11, [24, 0, 0]), (W0, 25, [0, 0, 15]), (C, 16, [60, 0, 0]), (W0, 61, [0, 0, 21]),
+            (C, 22, [84, 0, 0]), (W0, 85, [0, 0, 27]), (C, 28, [120, 0, 0]), (W0, 121, [0, 0, 40]),
+        ],
+        frames: &[40002, 40001, 40002, 40003, 40005, 40002, 40005, 40005, 40008, 40007, 40005],
+        sent: &[
+            (40002, 1), (40001, 1), (40002, 2), (40003, 2), (40005, 1), (40002, 2), (40005, 2), (40005, 1), (40008, 1), (40007, 2),
+        ],
+        notes: 0,
+    },
+    Row {
+        name: "flows of two workers",
+        service: "0 vip 203.0.113.1 80 tcp\n",
+        workers: 2,
+        holds: &[
+            (C, 11, [14, 14, 0]), (W0, 15, [0, 0, 15]), (W1, 15, [0, 0, 15]),
+            (C, 16, [40, 26, 0]), (W0, 41, [0, 0, 21]), (W1, 27, [0, 0, 21]), (C, 22, [57, 43, 0]),
+        ],
+        frames: &[40002, 40003, 40002, 40003, 40004, 40002, 40003],
+        sent: &[(40002, 1), (40003, 1), (40002, 1), (40003, 1), (40004, 2), (40002, 2), (40003, 2)],
+        notes: 5,
+    },
+];
+
+/// The Ethernet header of a sent frame, and its outer header: a packet of 60 bytes from 10.0.0.9 to 192.0.2.0, without the backend's part of checksum
+/// and address.
+#[rattlefmt::skip]
+const HEAD: [u8; 34] = [
+    2, 0, 0, 0, 0, 0x0b, 2, 0, 0, 0, 0, 0x0a, 8, 0,
+    0x45, 0, 0, 60, 0, 0, 0x40, 0, 64, 4, 0x6e, 0xb5, 10, 0, 0, 9, 192, 0, 2, 0,
+];
+
+/// The segment of a port in a tunnel to a backend.
+fn in_a_tunnel(port: u16, backend: u8) -> [u8; 74] {
+    let mut frame = [0; 74];
+    frame[..34].copy_from_slice(&HEAD);
+    frame[25] = frame[25].wrapping_sub(backend);
+    frame[33] = backend;
+    frame[34..].copy_from_slice(&segment(port)[14..]);
+    frame
+}
+
+/// The place of the first frame that is not in its tunnel.
+fn first_wrong(sent: &[Sent], want: &[(u16, u8)]) -> Option<usize> {
+    for (place, (one, (port, backend))) in sent.iter().zip(want).enumerate() {
+        if one.bytes.as_slice() != in_a_tunnel(*port, *backend).as_slice() {
+            return Some(place);
+        }
+    }
+    None
+}
+
+/// A segment of each of these ports.
+fn segments(alloc: Global, ports: &[u16]) -> Result<Capture, Fail> {
+    let mut records = Vec::new(alloc);
+    for port in ports {
+        records.push(one_record(alloc, 1, &segment(*port))?)?;
+    }
+    capture(alloc, &records)
+}
+
+/// How often the journals have an update of a flow: the key of one begins with both addresses.
+fn notes_of(files: &Files) -> usize {
+    let part = b" update c6336407cb007101".as_slice();
+    files
+        .journals
+        .bytes()
+        .windows(24)
+        .filter(|window| *window == part)
+        .count()
+}
+
+/// The replay of a row under a gate. No command is refused.
+fn steered<R: Threads + Abort + Wait + Sync>(
+    rt: &R,
+    alloc: Global,
+    row: Row<'_>,
+    gate: &Order<'_>,
+) -> Result<Outcome, Fail> {
+    let verified = verify(alloc, shipped(alloc, 7)?)?;
+    let text = format!(in alloc; "{}{AT_FIRST}{LATER}", row.service)?;
+    let script = parse_script(alloc, text.as_str().as_bytes())?;
+    let capture = segments(alloc, row.frames)?;
+    let options = Options {
+        workers: row.workers,
+        shards: 1,
+        journal: 1024,
+    };
+    Ok(replay(rt, alloc, &verified, &capture, &script, options, gate)?)
+}
+
+/// Replays a row, and compares.
+fn compare<R: Threads + Abort + Wait + Sync>(
+    rt: &R,
+    alloc: Global,
+    row: Row<'_>,
+) -> Result<(), Fail> {
+    let gate = Order::new(row.holds);
+    let outcome = steered(rt, alloc, row, &gate)?;
+    assert_eq!(rt; outcome.refused.len(), 0, "{}", row.name);
+    assert_eq!(rt; gate.late.load(Ordering::SeqCst), 0, "{}", row.name);
+    assert_eq!(rt; first_wrong(&outcome.sent, row.sent), None, "{}", row.name);
+    let want = Counts {
+        tx: row.sent.len() as u64,
+        drop: row.frames.len().saturating_sub(row.sent.len()) as u64,
+        ..NONE
+    };
+    let files = written(alloc, &outcome)?;
+    assert_eq!(rt; files.counts, want, "{}", row.name);
+    assert_eq!(rt; notes_of(&files), row.notes, "{}", row.name);
+    Ok(())
+}
+
+#[test]
+fn backends_change_between_frames(rt: HostRuntime) -> Result<(), Fail> {
+    for row in ROWS {
+        compare(&rt, rt.alloc(), row)?;
+    }
+    Ok(())
+}
