@@ -96,21 +96,13 @@ type Input = (
 type Output = (u8, &'static str, &'static str, [&'static str; 3]);
 
 #[rattlefmt::skip]
-const ROWS: [(Input, Output); 23] = [
+const ROWS: [(Input, Output); 15] = [
     (("one frame is sent",        COUNTS_TO_THREE, "", [HEAD, OF_14, ZEROS, "", "", ""], "--image image --journal 16"), (0, ONE_TX, "", [HEAD, OF_14, ZEROS])),
     (("none is",                  SENDS, "", [HEAD, "", "", "", "", ""], "--image image"), (0, NO_FRAME, "", [HEAD, "", ""])),
     (("13 bytes are short",       SENDS, "", [HEAD, OF_13, ZEROS_13, "", "", ""], "--image image"), (0, ONE_SHORT, "", [HEAD, "", ""])),
     (("eight workers",            SENDS, "", [HEAD, OF_14, ZEROS, "", "", ""], "--image image --workers 8 --shards 8"), (0, ONE_TX, "", [HEAD, OF_14, ZEROS])),
     (("the ring is not read",     SENDS, "", [HEAD, OF_14, ZEROS, "", "", ""], "--image image --ring 8"), (0, ONE_TX, "", [HEAD, OF_14, ZEROS])),
     (("a full journal",           READS_ONE, "", [HEAD, OF_14, ZEROS, OF_14, ZEROS, "01000000020000000e0000000e000000000000000000000000000000000001000000020000000e0000000e000000000000000000000000000000000001000000020000000e0000000e0000000000000000000000000000000000"], "--image image --journal 16"), (0, FIVE, "", [HEAD, "", ""])),
-    (("a service's backend",      "", ONE_BACKEND, [HEAD, OF_42, DATAGRAM, "", "", ""], "--script script"), (0, ONE_TX, "", [HEAD, OF_62, IN_A_TUNNEL])),
-    (("without tracking",         "", UNTRACKED, [HEAD, OF_42, DATAGRAM, "", "", ""], "--script script"), (0, ONE_TX, "", [HEAD, OF_62, IN_A_TUNNEL])),
-    (("no backend",               "", NO_BACKEND, [HEAD, OF_42, DATAGRAM, "", "", ""], "--script script --ring 7"), (0, ONE_DROP, "", [HEAD, "", ""])),
-    (("no backend of 251 slots",  "", NO_BACKEND, [HEAD, OF_42, DATAGRAM, "", "", ""], "--script script"), (0, ONE_DROP, "", [HEAD, "", ""])),
-    (("the backend that is up",   "", ANOTHER_BACKEND, [HEAD, OF_42, DATAGRAM, "", "", ""], "--script script"), (0, ONE_TX, "", [HEAD, OF_62, IN_THE_OTHER_TUNNEL])),
-    (("a time to live of 0",      "", ONE_BACKEND, [HEAD, OF_42, NOT_TO_LIVE, "", "", ""], "--script script"), (0, ONE_DROP, "", [HEAD, "", ""])),
-    (("no tunnel",                "", NO_TUNNEL, [HEAD, OF_42, DATAGRAM, "", "", ""], "--script script"), (0, ONE_DROP, "", [HEAD, "", ""])),
-    (("no script",                "", "", [HEAD, OF_42, DATAGRAM, "", "", ""], "--script script"), (0, ONE_PASS, "", [HEAD, "", ""])),
     (("a backend that isn't up",  "", "0 down 3\n", [HEAD, "", "", "", "", ""], "--script script"), (1, "frames 0\nshort 0\nstopped 0\naborted 0\ndrop 0\npass 0\ntx 0\ncommand 1 refused 91\n", "", [HEAD, "", ""])),
     (("a backend twice",          "", "0 up 0 10.0.0.1\n0 up 0 10.0.0.1\n", [HEAD, "", "", "", "", ""], "--script script"), (1, "frames 0\nshort 0\nstopped 0\naborted 0\ndrop 0\npass 0\ntx 0\ncommand 2 refused 92\n", "", [HEAD, "", ""])),
     (("a down and a full journal", "", "0 up 0 10.0.0.1\n0 up 1 10.0.0.2\n0 down 0\n0 up 2 10.0.0.3\n", [HEAD, "", "", "", "", ""], "--script script --journal 400"), (1, "frames 0\nshort 0\nstopped 0\naborted 0\ndrop 0\npass 0\ntx 0\ncommand 3 refused 94\ncommand 4 refused 94\n", "", [HEAD, "", ""])),
@@ -120,6 +112,19 @@ const ROWS: [(Input, Output); 23] = [
     (("an empty capture",         SENDS, "", ["", "", "", "", "", ""], "--image image --workers 9"), (1, "", "fault 4 CutHead record 0\n  at byte 0 of 0\n", ["", "", ""])),
     (("a cut third record",       SENDS, "", [HEAD, OF_14, ZEROS, OF_14, ZEROS, "01000000020000000e0000000e00000000"], "--image image"), (1, "", "fault 5 CutFrame record 3\n  at byte 84 of 101\n", ["", "", ""])),
     (("nine workers",             SENDS, "", [HEAD, OF_14, ZEROS, "", "", ""], "--image image --workers 9"), (1, "", "fault 51 BadOptions\n", ["", "", ""])),
+];
+
+/// Frames that the shipped program steers.
+#[rattlefmt::skip]
+const STEERED: [(Input, Output); 8] = [
+    (("a service's backend",      "", ONE_BACKEND, [HEAD, OF_42, DATAGRAM, "", "", ""], "--script script"), (0, ONE_TX, "", [HEAD, OF_62, IN_A_TUNNEL])),
+    (("without tracking",         "", UNTRACKED, [HEAD, OF_42, DATAGRAM, "", "", ""], "--script script"), (0, ONE_TX, "", [HEAD, OF_62, IN_A_TUNNEL])),
+    (("no backend",               "", NO_BACKEND, [HEAD, OF_42, DATAGRAM, "", "", ""], "--script script --ring 7"), (0, ONE_DROP, "", [HEAD, "", ""])),
+    (("no backend of 251 slots",  "", NO_BACKEND, [HEAD, OF_42, DATAGRAM, "", "", ""], "--script script"), (0, ONE_DROP, "", [HEAD, "", ""])),
+    (("the backend that is up",   "", ANOTHER_BACKEND, [HEAD, OF_42, DATAGRAM, "", "", ""], "--script script"), (0, ONE_TX, "", [HEAD, OF_62, IN_THE_OTHER_TUNNEL])),
+    (("a time to live of 0",      "", ONE_BACKEND, [HEAD, OF_42, NOT_TO_LIVE, "", "", ""], "--script script"), (0, ONE_DROP, "", [HEAD, "", ""])),
+    (("no tunnel",                "", NO_TUNNEL, [HEAD, OF_42, DATAGRAM, "", "", ""], "--script script"), (0, ONE_DROP, "", [HEAD, "", ""])),
+    (("no script",                "", "", [HEAD, OF_42, DATAGRAM, "", "", ""], "--script script"), (0, ONE_PASS, "", [HEAD, "", ""])),
 ];
 
 /// The bytes of hexadecimal digits in parts.
@@ -171,6 +176,14 @@ fn compare<R: Abort + Threads + Wait + Sync>(
 #[test]
 fn replays_captures(rt: HostRuntime) -> Result<(), Fail> {
     for row in ROWS {
+        compare(&rt, rt.alloc(), row)?;
+    }
+    Ok(())
+}
+
+#[test]
+fn steers_captures(rt: HostRuntime) -> Result<(), Fail> {
+    for row in STEERED {
         compare(&rt, rt.alloc(), row)?;
     }
     Ok(())

@@ -26,8 +26,8 @@ const C: Caller = Caller::Controller;
 
 /// A gate that holds actors as a list says, but no longer than its limit of turns.
 #[derive(Drop)]
-struct Order<'a> {
-    holds: &'a [Hold],
+struct Order {
+    holds: &'static [Hold],
     first: AtomicU64,
     second: AtomicU64,
     controller: AtomicU64,
@@ -37,8 +37,8 @@ struct Order<'a> {
 
 const LIMIT: u32 = 400_000_000;
 
-impl<'a> Order<'a> {
-    fn new(holds: &'a [Hold]) -> Order<'a> {
+impl Order {
+    fn new(holds: &'static [Hold]) -> Order {
         Order {
             holds,
             first: AtomicU64::new(0),
@@ -66,7 +66,7 @@ impl<'a> Order<'a> {
     }
 }
 
-impl<'a> Gate for Order<'a> {
+impl Gate for Order {
     fn replied(&self, who: Caller, nth: u64) {
         match who {
             Caller::Worker { number: 0 } => self.first.store(nth, Ordering::SeqCst),
@@ -100,15 +100,15 @@ const LATER: &str = "2 vip 203.0.113.1 81 tcp
 /// A replay for a lookup table of seven slots. By Maglev's population backend 1 takes slots 0, 3 and 6 from backend 0, and leaves it 1, 2, 4 and 5. The flow of
 /// port 40001 has slot 1, 40002 3, 40003 3, 40004 0, 40005 1, 40007 0 and 40008 4; of two workers the second one has the odd ports.
 #[derive(Clone, Copy)]
-struct Row<'a> {
-    name: &'a str,
-    service: &'a str,
+struct Row {
+    name: &'static str,
+    service: &'static str,
     workers: u32,
-    holds: &'a [Hold],
+    holds: &'static [Hold],
     /// The source port of each frame.
-    frames: &'a [u16],
+    frames: &'static [u16],
     /// Of each frame that is sent the port, and the last byte of the backend's address. They are the first frames.
-    sent: &'a [(u16, u8)],
+    sent: &'static [(u16, u8)],
     /// How often a backend is noted for a flow.
     notes: usize,
 }
@@ -116,7 +116,7 @@ struct Row<'a> {
 /// A new flow has 14 replies, a noted backend that is up 12, one that is not up 17, and a frame of a service without tracking 12. Backend 1 comes up with 4
 /// replies, backend 0 goes down and comes up with 5 each.
 #[rattlefmt::skip]
-const ROWS: [Row<'static>; 3] = [
+const ROWS: [Row; 3] = [
     Row {
         name: "a flow keeps its backend while that is up",
         service: "0 vip 203.0.113.1 80 tcp\n",
@@ -211,8 +211,8 @@ fn notes_of(files: &Files) -> usize {
 fn steered<R: Threads + Abort + Wait + Sync>(
     rt: &R,
     alloc: Global,
-    row: Row<'_>,
-    gate: &Order<'_>,
+    row: Row,
+    gate: &Order,
 ) -> Result<Outcome, Fail> {
     let verified = verify(alloc, shipped(alloc, 7)?)?;
     let text = format!(in alloc; "{}{AT_FIRST}{LATER}", row.service)?;
@@ -226,32 +226,39 @@ fn steered<R: Threads + Abort + Wait + Sync>(
     Ok(replay(rt, alloc, &verified, &capture, &script, options, gate)?)
 }
 
-/// Replays a row, and compares.
-fn compare<R: Threads + Abort + Wait + Sync>(
-    rt: &R,
-    alloc: Global,
-    row: Row<'_>,
-) -> Result<(), Fail> {
-    let gate = Order::new(row.holds);
-    let outcome = steered(rt, alloc, row, &gate)?;
-    assert_eq!(rt; outcome.refused.len(), 0, "{}", row.name);
-    assert_eq!(rt; gate.late.load(Ordering::SeqCst), 0, "{}", row.name);
-    assert_eq!(rt; first_wrong(&outcome.sent, row.sent), None, "{}", row.name);
+/// Compares what was sent, and what the files of the replay have.
+fn compare<R: Abort>(rt: &R, alloc: Global, row: Row, outcome: &Outcome) -> Result<(), Fail> {
+    let name = row.name;
+    assert_eq!(rt; first_wrong(&outcome.sent, row.sent), None, "{name}");
     let want = Counts {
         tx: row.sent.len() as u64,
         drop: row.frames.len().saturating_sub(row.sent.len()) as u64,
         ..NONE
     };
-    let files = written(alloc, &outcome)?;
-    assert_eq!(rt; files.counts, want, "{}", row.name);
-    assert_eq!(rt; notes_of(&files), row.notes, "{}", row.name);
+    let files = written(alloc, outcome)?;
+    assert_eq!(rt; files.counts, want, "{name}");
+    assert_eq!(rt; notes_of(&files), row.notes, "{name}");
     Ok(())
+}
+
+/// Replays a row. No command is refused, and nobody is held up to the limit.
+fn replayed<R: Threads + Abort + Wait + Sync>(
+    rt: &R,
+    alloc: Global,
+    row: Row,
+) -> Result<Outcome, Fail> {
+    let gate = Order::new(row.holds);
+    let outcome = steered(rt, alloc, row, &gate)?;
+    assert_eq!(rt; outcome.refused.len(), 0);
+    assert_eq!(rt; gate.late.load(Ordering::SeqCst), 0);
+    Ok(outcome)
 }
 
 #[test]
 fn backends_change_between_frames(rt: HostRuntime) -> Result<(), Fail> {
     for row in ROWS {
-        compare(&rt, rt.alloc(), row)?;
+        let outcome = replayed(&rt, rt.alloc(), row)?;
+        compare(&rt, rt.alloc(), row, &outcome)?;
     }
     Ok(())
 }
