@@ -1,5 +1,6 @@
 //! Short journals that are legal, and others with one entry that is not.
 
+use crate::asserting::same;
 use audit::{AuditFault, audit};
 use ebpf_decode::{MapDef, MapKind};
 use journals::{EntryList, Journals, ShardJournal};
@@ -43,12 +44,21 @@ fn journals(alloc: Global, is_loaded: bool) -> Result<Journals, Fail> {
     Ok(Journals::of(maps, options, shards))
 }
 
+/// What the audit says of these journals.
+fn audited(alloc: Global, is_loaded: bool) -> Result<Result<(), AuditFault>, Fail> {
+    let journals = journals(alloc, is_loaded)?;
+    Ok(audit(alloc, &journals))
+}
+
 #[test]
 fn first_illegal_entries(rt: HostRuntime) -> Result<(), Fail> {
-    let legal = journals(rt.alloc(), false)?;
-    assert_eq!(rt; audit(rt.alloc(), &legal), Ok(()));
-    let illegal = journals(rt.alloc(), true)?;
-    let want = Err(AuditFault::Illegal { shard: 0, place: 2 });
-    assert_eq!(rt; audit(rt.alloc(), &illegal), want);
+    let wanted = Err(AuditFault::Illegal { shard: 0, place: 2 });
+    same(&rt, "two runs enter", &audited(rt.alloc(), false)?, &Ok(()));
+    same(
+        &rt,
+        "a Load of no cell",
+        &audited(rt.alloc(), true)?,
+        &wanted,
+    );
     Ok(())
 }

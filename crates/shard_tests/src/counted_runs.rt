@@ -1,21 +1,27 @@
 //! What a book says over a few runs.
 
+use crate::asserting::same;
 use epochs::EpochBook;
 
 #[test]
 fn a_stamp_waits_for_the_runs_before_it(rt: HostRuntime) {
     let mut book = EpochBook::new();
-    assert_eq!(rt; book.floor(), 0);
+    same(&rt, "nothing has happened", &book.floor(), &0);
     let first = book.enter();
     let stamp = book.stamp();
     let second = book.enter();
-    assert_eq!(rt; (first, stamp, second), (0, 0, 1));
+    same(
+        &rt,
+        "a run, a stamp, a run",
+        &[first, stamp, second],
+        &[0, 0, 1],
+    );
     // The first run entered before the retirement.
-    assert_eq!(rt; book.floor(), 0);
+    same(&rt, "both runs are inside", &book.floor(), &0);
     book.leave(first);
-    assert_eq!(rt; book.floor(), 1);
+    same(&rt, "the first has left", &book.floor(), &1);
     book.leave(second);
-    assert_eq!(rt; book.floor(), 1);
+    same(&rt, "the second has left", &book.floor(), &1);
 }
 
 #[test]
@@ -28,14 +34,14 @@ fn several_runs_in_an_epoch(rt: HostRuntime) {
     let c = book.enter();
     let d = book.enter();
     book.stamp();
-    assert_eq!(rt; (a, b, c, d), (0, 1, 2, 2));
-    assert_eq!(rt; book.floor(), 0);
+    same(&rt, "epochs of four runs", &[a, b, c, d], &[0, 1, 2, 2]);
+    same(&rt, "all are inside", &book.floor(), &0);
     book.leave(b);
-    assert_eq!(rt; book.floor(), 0);
+    same(&rt, "the second has left", &book.floor(), &0);
     book.leave(a);
-    assert_eq!(rt; book.floor(), 2);
+    same(&rt, "the first has left", &book.floor(), &2);
     book.leave(d);
-    assert_eq!(rt; book.floor(), 2);
+    same(&rt, "the fourth has left", &book.floor(), &2);
     book.leave(c);
-    assert_eq!(rt; book.floor(), 3);
+    same(&rt, "all have left", &book.floor(), &3);
 }

@@ -1,6 +1,8 @@
-//! Tests of the public calls of `one_thread_map`, `map_cells`, `lru_maps`, `epochs`, `journal`, `journals`, `shard_core`, `shards` and `audit`.
+//! Tests of the public calls of `one_thread_map`, `map_cells`, `plain_maps`, `lru_maps`, `epochs`, `journal`, `journals`, `shard_core`, `shards` and `audit`.
 #![tactic(auto)]
 
+#[cfg(test)]
+mod asserting;
 #[cfg(test)]
 mod audited_journals;
 #[cfg(test)]
@@ -17,5 +19,7 @@ mod lists_of_entries;
 mod one_shard;
 #[cfg(test)]
 mod one_thread_rows;
+#[cfg(test)]
+mod plain_keys;
 #[cfg(test)]
 mod shards_of_images;

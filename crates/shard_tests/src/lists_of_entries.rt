@@ -1,9 +1,10 @@
 //! Which options open shards, by rows; lists of entries, read back.
 
+use crate::asserting::same;
 use ebpf_decode::{MapDef, MapKind};
 use journals::{EntryList, are_options};
 use semantics::{Call, Caller, CellRef, Entry, Key, Options, Reply, Value};
-use std::test::Fail;
+use std::alloc::{AllocError, Global};
 
 /// Two maps whose entries 1, 2 and 4 divide, and 8 does not.
 const MAPS: [MapDef; 2] = [
@@ -45,7 +46,7 @@ fn options_that_open_shards(rt: HostRuntime) {
             shards,
             journal,
         };
-        assert_eq!(rt; are_options(&MAPS, &options), want, "{name}");
+        same(&rt, name, &are_options(&MAPS, &options), &want);
     }
 }
 
@@ -106,19 +107,35 @@ fn entry_at(calls: &[Call; 12], place: usize) -> Entry {
     }
 }
 
-#[test]
-fn entries_read_back(rt: HostRuntime) -> Result<(), Fail> {
-    let calls = calls();
-    let mut list = EntryList::new(rt.alloc());
-    for place in 0..1000 {
-        list.push(&entry_at(&calls, place))?;
+/// So many entries.
+fn list_of(alloc: Global, calls: &[Call; 12], count: usize) -> Result<EntryList, AllocError> {
+    let mut list = EntryList::new(alloc);
+    for place in 0..count {
+        list.push(&entry_at(calls, place))?;
     }
-    assert_eq!(rt; list.len(), 1000);
+    Ok(list)
+}
+
+/// The place of the first entry that is not what was put there.
+fn first_other(list: &EntryList, calls: &[Call; 12]) -> Option<usize> {
     for place in 0..list.len() {
-        assert!(rt;
-            list.entry(place) == entry_at(&calls, place),
-            "entry {place}"
-        );
+        if list.entry(place) != entry_at(calls, place) {
+            return Some(place);
+        }
     }
+    None
+}
+
+#[test]
+fn entries_read_back(rt: HostRuntime) -> Result<(), AllocError> {
+    let calls = calls();
+    let list = list_of(rt.alloc(), &calls, 1000)?;
+    same(&rt, "how many entries", &list.len(), &1000);
+    same(
+        &rt,
+        "the first other one",
+        &first_other(&list, &calls),
+        &None,
+    );
     Ok(())
 }

@@ -2,9 +2,11 @@
 
 ghost use Rattle.semantics.specs.PlanLimits.{IsPlan};
 
+use crate::asserting::{holds, same};
 use ebpf_decode::{MapDef, MapKind};
 use semantics::{Call, Caller, CellRef, JournalFull, Key, Reply, ShardPlan, Value};
 use shard_core::shard::Shard;
+use std::alloc::{AllocError, Global};
 use std::process::Abort;
 use std::test::Fail;
 
@@ -144,7 +146,7 @@ fn make(
 ) -> Result<Reply, JournalFull> {
     let who = caller_of(ask);
     let call = call_of(ask);
-    assert!(rt; shard.meets(&who, &call), "{name}");
+    holds(rt, name, shard.meets(&who, &call));
     shard.apply(who, &call)
 }
 
@@ -159,28 +161,53 @@ fn newest(shard: &Shard) -> Option<(Caller, Call, Reply)> {
     Some((entry.who, entry.call, entry.reply))
 }
 
-/// Makes the calls of the rows in turn. Each is served, and its entry is the newest.
+/// Makes a call, which is served, and whose entry is the newest.
+fn served(rt: &impl Abort, shard: &mut Shard, name: &'static str, ask: Ask, want: Reply) {
+    same(rt, name, &make(rt, shard, ask, name), &Ok(want));
+    let entered = Some((caller_of(ask), call_of(ask), want));
+    same(rt, name, &newest(shard), &entered);
+}
+
+/// Makes a call, which a full journal refuses, and nothing is changed.
+fn refused(rt: &impl Abort, shard: &mut Shard, name: &'static str, ask: Ask) {
+    let before = shard.journal().len();
+    let full = Err(JournalFull { shard: SHARD });
+    same(rt, name, &make(rt, shard, ask, name), &full);
+    same(rt, name, &shard.journal().len(), &before);
+}
+
+/// Makes the calls of the rows in turn. Each is served.
 fn serves(rt: &impl Abort, shard: &mut Shard, rows: &[Row]) {
     for (name, ask, want) in rows {
-        let reply = make(rt, shard, *ask, name);
-        assert_eq!(rt; reply, Ok(*want), "{name}");
-        let newest = newest(shard);
-        assert_eq!(rt;
-            newest,
-            Some((caller_of(*ask), call_of(*ask), *want)),
-            "{name}"
-        );
+        served(rt, shard, name, *ask, *want);
     }
 }
 
-/// A full journal refuses the call of each row, and nothing is changed.
-fn refuses(rt: &impl Abort, shard: &mut Shard, rows: &[(&'static str, Ask)]) {
-    for (name, ask) in rows {
-        let before = shard.journal().len();
-        let reply = make(rt, shard, *ask, name);
-        assert_eq!(rt; reply, Err(JournalFull { shard: SHARD }), "{name}");
-        assert_eq!(rt; shard.journal().len(), before, "{name}");
-    }
+/// Makes the calls of the rows in turn, on a shard in which nothing has happened.
+fn serves_new(
+    rt: &impl Abort,
+    alloc: Global,
+    plan: ShardPlan,
+    rows: &[Row],
+) -> Result<Shard, AllocError>
+    requires { IsPlan plan }
+{
+    let mut shard = Shard::open(alloc, plan)?;
+    serves(rt, &mut shard, rows);
+    Ok(shard)
+}
+
+/// The same, and says how many entries the journal then has.
+fn entries_of(
+    rt: &impl Abort,
+    alloc: Global,
+    plan: ShardPlan,
+    rows: &[Row],
+) -> Result<usize, AllocError>
+    requires { IsPlan plan }
+{
+    let shard = serves_new(rt, alloc, plan, rows)?;
+    Ok(shard.journal().len())
 }
 
 #[rattlefmt::skip]
@@ -214,10 +241,9 @@ const ARRAY_OF_TWO: [Row; 26] = [
 ];
 
 #[test]
-fn array_of_two_entries(rt: HostRuntime) -> Result<(), Fail> {
-    let mut shard = Shard::open(rt.alloc(), plan(8, 2, 64))?;
-    serves(&rt, &mut shard, &ARRAY_OF_TWO);
-    assert_eq!(rt; shard.journal().len(), ARRAY_OF_TWO.len());
+fn array_of_two_entries(rt: HostRuntime) -> Result<(), AllocError> {
+    let count = entries_of(&rt, rt.alloc(), plan(8, 2, 64), &ARRAY_OF_TWO)?;
+    same(&rt, "how many entries", &count, &ARRAY_OF_TWO.len());
     Ok(())
 }
 
@@ -227,28 +253,38 @@ const SIZES: [(u32, u32); 10] = [
     (8, 1), (16, 2), (24, 3), (32, 4), (40, 5), (48, 6), (56, 7), (64, 8), (8, 4096), (64, 256),
 ];
 
+/// Finds the last cell of such an array, and reads its last bytes.
+fn array_of_size(
+    rt: &impl Abort,
+    alloc: Global,
+    value_size: u32,
+    max_entries: u32,
+) -> Result<(), AllocError> {
+    let last = max_entries.saturating_sub(1);
+    let found = cell(u64::from(last));
+    let place = u64::from(value_size.saturating_sub(8));
+    let rows = [
+        ("a worker enters", Ask::Enter(1), Reply::Entered),
+        ("past the end", Ask::Look(1, max_entries), Reply::Null),
+        (
+            "the last index",
+            Ask::Look(1, last),
+            Reply::Cell { cell: found },
+        ),
+        (
+            "its last bytes are zeros",
+            Ask::Load(1, found.id, place, 8),
+            Reply::Word { value: 0 },
+        ),
+    ];
+    let _count = entries_of(rt, alloc, plan(value_size, max_entries, 16), &rows)?;
+    Ok(())
+}
+
 #[test]
-fn arrays_of_each_size(rt: HostRuntime) -> Result<(), Fail> {
+fn arrays_of_each_size(rt: HostRuntime) -> Result<(), AllocError> {
     for (value_size, max_entries) in SIZES {
-        let mut shard = Shard::open(rt.alloc(), plan(value_size, max_entries, 16))?;
-        let last = max_entries.saturating_sub(1);
-        let found = cell(u64::from(last));
-        let place = u64::from(value_size.saturating_sub(8));
-        let rows = [
-            ("a worker enters", Ask::Enter(1), Reply::Entered),
-            ("past the end", Ask::Look(1, max_entries), Reply::Null),
-            (
-                "the last index",
-                Ask::Look(1, last),
-                Reply::Cell { cell: found },
-            ),
-            (
-                "its last bytes are zeros",
-                Ask::Load(1, found.id, place, 8),
-                Reply::Word { value: 0 },
-            ),
-        ];
-        serves(&rt, &mut shard, &rows);
+        array_of_size(&rt, rt.alloc(), value_size, max_entries)?;
     }
     Ok(())
 }
@@ -299,115 +335,109 @@ fn hash_plan(max_entries: u32) -> ShardPlan
 }
 
 #[test]
-fn hash_of_one_entry(rt: HostRuntime) -> Result<(), Fail> {
-    let mut shard = Shard::open(rt.alloc(), hash_plan(1))?;
-    serves(&rt, &mut shard, &HASH_OF_ONE);
-    let mut shard = Shard::open(rt.alloc(), hash_plan(1))?;
-    serves(&rt, &mut shard, &CELLS_RUN_OUT);
-    let mut shard = Shard::open(rt.alloc(), hash_plan(1))?;
-    serves(&rt, &mut shard, &HELD_CELL_STAYS);
+fn hash_of_one_entry(rt: HostRuntime) -> Result<(), AllocError> {
+    for rows in [&HASH_OF_ONE[..], &CELLS_RUN_OUT, &HELD_CELL_STAYS] {
+        let _count = entries_of(&rt, rt.alloc(), hash_plan(1), rows)?;
+    }
     Ok(())
 }
 
 #[test]
-fn large_hash(rt: HostRuntime) -> Result<(), Fail> {
-    let mut shard = Shard::open(rt.alloc(), hash_plan(131_072))?;
-    serves(&rt, &mut shard, &HELD_CELL_STAYS);
+fn large_hash(rt: HostRuntime) -> Result<(), AllocError> {
+    let _count = entries_of(&rt, rt.alloc(), hash_plan(131_072), &HELD_CELL_STAYS)?;
     Ok(())
 }
+
+/// A call that is made so many times: its reply, or None where the full journal refuses it.
+type Filling = (&'static str, u32, Ask, Option<Reply>);
+
+/// Makes the calls of the rows in turn, on an array with a journal of 16, and says how many entries it then has.
+fn fills(rt: &impl Abort, alloc: Global, rows: &[Filling]) -> Result<usize, AllocError> {
+    let mut shard = Shard::open(alloc, plan(8, 2, 16))?;
+    for (name, times, ask, want) in rows {
+        for _ in 0..*times {
+            match want {
+                Some(reply) => served(rt, &mut shard, name, *ask, *reply),
+                None => refused(rt, &mut shard, name, *ask),
+            }
+        }
+    }
+    Ok(shard.journal().len())
+}
+
+#[rattlefmt::skip]
+const LAST_IS_A_LEAVE: [Filling; 8] = [
+    ("a worker enters",       1,  Ask::Enter(0),       Some(Reply::Entered)),
+    ("an index out of range", 14, Ask::Look(0, 2),     Some(Reply::Null)),
+    ("a Lookup",              1,  Ask::Look(0, 0),     None),
+    ("another run",           1,  Ask::Enter(1),       None),
+    ("the controller",        1,  Ask::Put(0, 1, ANY), None),
+    ("the run leaves",        1,  Ask::Leave(0),       Some(Reply::Left)),
+    ("a Reclaim",             1,  Ask::Reclaim,        None),
+    ("an Enter",              1,  Ask::Enter(0),       None),
+];
 
 /// With one run inside and 15 entries, a journal of 16 has room for that run's Leave alone.
 #[test]
-fn last_entry_is_a_leave(rt: HostRuntime) -> Result<(), Fail> {
-    let mut shard = Shard::open(rt.alloc(), plan(8, 2, 16))?;
-    serves(
-        &rt,
-        &mut shard,
-        &[("a worker enters", Ask::Enter(0), Reply::Entered)],
-    );
-    for _ in 0..14 {
-        serves(
-            &rt,
-            &mut shard,
-            &[("an index out of range", Ask::Look(0, 2), Reply::Null)],
-        );
-    }
-    let rows = [
-        ("a Lookup", Ask::Look(0, 0)),
-        ("another run", Ask::Enter(1)),
-        ("the controller", Ask::Put(0, 1, ANY)),
-    ];
-    refuses(&rt, &mut shard, &rows);
-    serves(
-        &rt,
-        &mut shard,
-        &[("the run leaves", Ask::Leave(0), Reply::Left)],
-    );
-    assert_eq!(rt; shard.journal().len(), 16);
-    refuses(
-        &rt,
-        &mut shard,
-        &[("a Reclaim", Ask::Reclaim), ("an Enter", Ask::Enter(0))],
-    );
+fn last_entry_is_a_leave(rt: HostRuntime) -> Result<(), AllocError> {
+    let count = fills(&rt, rt.alloc(), &LAST_IS_A_LEAVE)?;
+    same(&rt, "how many entries", &count, &16);
     Ok(())
 }
 
+#[rattlefmt::skip]
+const ENTERS_AFTER_14: [Filling; 2] = [
+    ("an Update",        14, Ask::Put(0, 1, ANY), Some(Reply::Answer { code: 0 })),
+    ("after 14 entries", 1,  Ask::Enter(0),       Some(Reply::Entered)),
+];
+
+#[rattlefmt::skip]
+const ENTERS_AFTER_15: [Filling; 4] = [
+    ("an Update",        15, Ask::Put(0, 1, ANY), Some(Reply::Answer { code: 0 })),
+    ("after 15 entries", 1,  Ask::Enter(0),       None),
+    ("one more Update",  1,  Ask::Put(0, 1, ANY), Some(Reply::Answer { code: 0 })),
+    ("after 16 entries", 1,  Ask::Put(0, 1, ANY), None),
+];
+
 /// With no run inside, a run that enters needs room for its Enter and for its Leave.
 #[test]
-fn last_enter_needs_two_places(rt: HostRuntime) -> Result<(), Fail> {
-    let put = [("an Update", Ask::Put(0, 1, ANY), Reply::Answer { code: 0 })];
-    let mut shard = Shard::open(rt.alloc(), plan(8, 2, 16))?;
-    for _ in 0..14 {
-        serves(&rt, &mut shard, &put);
-    }
-    serves(
-        &rt,
-        &mut shard,
-        &[("after 14 entries", Ask::Enter(0), Reply::Entered)],
-    );
-    let mut shard = Shard::open(rt.alloc(), plan(8, 2, 16))?;
-    for _ in 0..15 {
-        serves(&rt, &mut shard, &put);
-    }
-    refuses(&rt, &mut shard, &[("after 15 entries", Ask::Enter(0))]);
-    serves(&rt, &mut shard, &put);
-    refuses(
-        &rt,
-        &mut shard,
-        &[("after 16 entries", Ask::Put(0, 1, ANY))],
-    );
+fn last_enter_needs_two_places(rt: HostRuntime) -> Result<(), AllocError> {
+    let fourteen = fills(&rt, rt.alloc(), &ENTERS_AFTER_14)?;
+    same(&rt, "entries with the Enter", &fourteen, &15);
+    let fifteen = fills(&rt, rt.alloc(), &ENTERS_AFTER_15)?;
+    same(&rt, "entries without it", &fifteen, &16);
     Ok(())
+}
+
+#[rattlefmt::skip]
+const HOLDS_CELL_0: [Row; 2] = [
+    ("a worker enters", Ask::Enter(1),   Reply::Entered),
+    ("it finds cell 0", Ask::Look(1, 0), Reply::Cell { cell: CellRef { shard: SHARD, id: 0 } }),
+];
+
+const LEAVES: [Row; 1] = [("it leaves", Ask::Leave(1), Reply::Left)];
+
+/// Whether the workers 1 and 0 are inside, and whether they hold a cell: 1 the cells 0 and 1, 0 the cell 0.
+fn standings(shard: &Shard) -> [bool; 5] {
+    [
+        shard.is_inside(1),
+        shard.is_inside(0),
+        shard.holds(1, 0),
+        shard.holds(1, 1),
+        shard.holds(0, 0),
+    ]
 }
 
 /// What a caller can ask of a shard before it calls.
 #[test]
-fn tests_for_callers(rt: HostRuntime) -> Result<(), Fail> {
-    let mut shard = Shard::open(rt.alloc(), plan(8, 2, 16))?;
-    let rows = [
-        ("a worker enters", Ask::Enter(1), Reply::Entered),
-        (
-            "it finds cell 0",
-            Ask::Look(1, 0),
-            Reply::Cell { cell: cell(0) },
-        ),
-    ];
-    serves(&rt, &mut shard, &rows);
-    assert!(rt; shard.is_inside(1) && !shard.is_inside(0), "who is inside");
-    assert!(rt;
-        shard.holds(1, 0) && !shard.holds(1, 1) && !shard.holds(0, 0),
-        "who holds"
-    );
-    serves(
-        &rt,
-        &mut shard,
-        &[("it leaves", Ask::Leave(1), Reply::Left)],
-    );
-    assert!(rt;
-        !shard.is_inside(1) && !shard.holds(1, 0),
-        "after the Leave"
-    );
-    assert!(rt; !shard.is_full(&call_of(Ask::Reclaim)), "there is room");
-    assert_eq!(rt; shard.plan().number, SHARD);
+fn tests_for_callers(rt: HostRuntime) -> Result<(), AllocError> {
+    let mut shard = serves_new(&rt, rt.alloc(), plan(8, 2, 16), &HOLDS_CELL_0)?;
+    let inside = [true, false, true, false, false];
+    same(&rt, "who is inside and holds", &standings(&shard), &inside);
+    serves(&rt, &mut shard, &LEAVES);
+    same(&rt, "after the Leave", &standings(&shard), &[false; 5]);
+    holds(&rt, "there is room", !shard.is_full(&call_of(Ask::Reclaim)));
+    same(&rt, "its number", &shard.plan().number, &SHARD);
     Ok(())
 }
 
@@ -416,7 +446,12 @@ fn tests_for_callers(rt: HostRuntime) -> Result<(), Fail> {
 fn fault_text(rt: HostRuntime) -> Result<(), Fail> {
     let fault = JournalFull { shard: 7 };
     let text = format!(in rt.alloc(); "{fault}")?;
-    assert_eq!(rt; text.as_str(), "fault 50 JournalFull shard 7");
-    assert_eq!(rt; fault.number(), 50);
+    same(
+        &rt,
+        "its text",
+        &text.as_str(),
+        &"fault 50 JournalFull shard 7",
+    );
+    same(&rt, "its number", &fault.number(), &50);
     Ok(())
 }

@@ -3,11 +3,12 @@
 ghost use Rattle.std.specs.Prelude.{◌≤◌};
 ghost use Rattle.semantics.specs.PlanLimits.{IsPlan};
 
+use crate::asserting::{holds, same};
 use ebpf_decode::{MapDef, MapKind};
 use one_thread_map::OneThreadShard;
 use semantics::{Call, Caller, CellRef, Key, Reply, ShardPlan, Value};
+use std::alloc::{AllocError, Global};
 use std::process::Abort;
-use std::test::Fail;
 
 const ANY: u64 = 0;
 
@@ -144,19 +145,43 @@ fn call_of(ask: Ask) -> Call {
     }
 }
 
+/// Makes a call that its caller may make and for which there is room. Its reply is foretold.
+fn make(
+    rt: &impl Abort,
+    shard: &mut OneThreadShard,
+    name: &str,
+    ask: Ask,
+) -> Result<Reply, AllocError> {
+    let who = caller_of(ask);
+    let call = call_of(ask);
+    holds(rt, name, shard.meets(&who, &call));
+    holds(rt, name, !shard.is_full(&call));
+    let foretold = shard.reply(&who, &call);
+    let reply = shard.step(who, &call)?;
+    same(rt, name, &foretold, &reply);
+    Ok(reply)
+}
+
 /// Makes the calls of the rows in turn.
-fn serves(rt: &impl Abort, shard: &mut OneThreadShard, rows: &[Row]) -> Result<(), Fail> {
+fn serves(rt: &impl Abort, shard: &mut OneThreadShard, rows: &[Row]) -> Result<(), AllocError> {
     for (name, ask, want) in rows {
-        let who = caller_of(*ask);
-        let call = call_of(*ask);
-        assert!(rt; shard.meets(&who, &call), "{name}");
-        assert!(rt; !shard.is_full(&call), "{name}");
-        let foretold = shard.reply(&who, &call);
-        let reply = shard.step(who, &call)?;
-        assert_eq!(rt; reply, *want, "{name}");
-        assert_eq!(rt; foretold, *want, "{name}");
+        same(rt, name, &make(rt, shard, name, *ask)?, want);
     }
     Ok(())
+}
+
+/// Makes the calls of the rows in turn, on a shard in which nothing has happened.
+fn serves_new(
+    rt: &impl Abort,
+    alloc: Global,
+    plan: ShardPlan,
+    rows: &[Row],
+) -> Result<OneThreadShard, AllocError>
+    requires { IsPlan plan }
+{
+    let mut shard = OneThreadShard::open(alloc, plan)?;
+    serves(rt, &mut shard, rows)?;
+    Ok(shard)
 }
 
 #[rattlefmt::skip]
@@ -229,57 +254,57 @@ const ARRAY_OF_TWO: [Row; 15] = [
     ("and adds",                             Ask::Load(0, 1, 0, 8),  Reply::Word { value: 0x01010102_abcd0200 }),
 ];
 
-#[test]
-fn hash_map_of_one_entry(rt: HostRuntime) -> Result<(), Fail> {
-    let mut shard = OneThreadShard::open(rt.alloc(), plan(MapKind::Hash, 1, 64))?;
-    serves(&rt, &mut shard, &ONE_ENTRY)?;
-    let mut shard = OneThreadShard::open(rt.alloc(), plan(MapKind::Hash, 1, 64))?;
-    serves(&rt, &mut shard, &NO_FREE_CELL)
+/// The same, where nothing more is asked of the shard.
+fn serves_all(
+    rt: &impl Abort,
+    alloc: Global,
+    plan: ShardPlan,
+    rows: &[Row],
+) -> Result<(), AllocError>
+    requires { IsPlan plan }
+{
+    let _shard = serves_new(rt, alloc, plan, rows)?;
+    Ok(())
 }
 
 #[test]
-fn held_cell_survives(rt: HostRuntime) -> Result<(), Fail> {
-    let mut shard = OneThreadShard::open(rt.alloc(), plan(MapKind::Hash, 1, 64))?;
-    serves(&rt, &mut shard, &HELD_CELL)
+fn hash_map_of_one_entry(rt: HostRuntime) -> Result<(), AllocError> {
+    serves_all(&rt, rt.alloc(), plan(MapKind::Hash, 1, 64), &ONE_ENTRY)?;
+    serves_all(&rt, rt.alloc(), plan(MapKind::Hash, 1, 64), &NO_FREE_CELL)
 }
 
 #[test]
-fn lru_map_of_two_entries(rt: HostRuntime) -> Result<(), Fail> {
-    let mut shard = OneThreadShard::open(rt.alloc(), plan(MapKind::LruHash, 2, 64))?;
-    serves(&rt, &mut shard, &TWO_USED)
+fn held_cell_survives(rt: HostRuntime) -> Result<(), AllocError> {
+    serves_all(&rt, rt.alloc(), plan(MapKind::Hash, 1, 64), &HELD_CELL)
 }
 
 #[test]
-fn array_of_two_entries(rt: HostRuntime) -> Result<(), Fail> {
-    let mut shard = OneThreadShard::open(rt.alloc(), plan(MapKind::Array, 2, 64))?;
-    serves(&rt, &mut shard, &ARRAY_OF_TWO)
+fn lru_map_of_two_entries(rt: HostRuntime) -> Result<(), AllocError> {
+    serves_all(&rt, rt.alloc(), plan(MapKind::LruHash, 2, 64), &TWO_USED)
 }
+
+#[test]
+fn array_of_two_entries(rt: HostRuntime) -> Result<(), AllocError> {
+    serves_all(&rt, rt.alloc(), plan(MapKind::Array, 2, 64), &ARRAY_OF_TWO)
+}
+
+const A_RUN_ENTERS: [Row; 1] = [("a worker enters", Ask::Enter(0), Reply::Entered)];
+
+const PAST_THE_END: [Row; 14] = [("an index out of range", Ask::Look(0, 2), Reply::Null); 14];
+
+const THE_RUN_LEAVES: [Row; 1] = [("the run leaves", Ask::Leave(0), Reply::Left)];
 
 /// With one run inside and 15 entries, a journal of 16 has room for that run's Leave alone.
 #[test]
-fn journal_of_16_entries(rt: HostRuntime) -> Result<(), Fail> {
-    let mut shard = OneThreadShard::open(rt.alloc(), plan(MapKind::Array, 2, 16))?;
-    serves(
-        &rt,
-        &mut shard,
-        &[("a worker enters", Ask::Enter(0), Reply::Entered)],
-    )?;
-    for _ in 0..14 {
-        serves(
-            &rt,
-            &mut shard,
-            &[("an index out of range", Ask::Look(0, 2), Reply::Null)],
-        )?;
-    }
-    assert_eq!(rt; shard.journal().len(), 15);
-    assert!(rt; shard.is_full(&call_of(Ask::Look(0, 2))), "a Lookup");
-    assert!(rt; shard.is_full(&call_of(Ask::Enter(1))), "another run");
-    serves(
-        &rt,
-        &mut shard,
-        &[("the run leaves", Ask::Leave(0), Reply::Left)],
-    )?;
-    assert!(rt; shard.is_full(&call_of(Ask::Reclaim)), "a Reclaim");
+fn journal_of_16_entries(rt: HostRuntime) -> Result<(), AllocError> {
+    let plan = plan(MapKind::Array, 2, 16);
+    let mut shard = serves_new(&rt, rt.alloc(), plan, &A_RUN_ENTERS)?;
+    serves(&rt, &mut shard, &PAST_THE_END)?;
+    same(&rt, "how many entries", &shard.journal().len(), &15);
+    holds(&rt, "a Lookup", shard.is_full(&call_of(Ask::Look(0, 2))));
+    holds(&rt, "another run", shard.is_full(&call_of(Ask::Enter(1))));
+    serves(&rt, &mut shard, &THE_RUN_LEAVES)?;
+    holds(&rt, "a Reclaim", shard.is_full(&call_of(Ask::Reclaim)));
     Ok(())
 }
 
@@ -301,27 +326,26 @@ const NOT_SERVED: [(&str, Ask); 14] = [
     ("an operation of another instruction",    Ask::Change(0, 1, 0xe0, 1, 0)),
 ];
 
-#[test]
-fn calls_that_are_not_served(rt: HostRuntime) -> Result<(), Fail> {
-    let mut shard = OneThreadShard::open(rt.alloc(), plan(MapKind::Array, 2, 64))?;
-    let rows = [
-        ("an earlier run enters", Ask::Enter(1), Reply::Entered),
-        (
-            "it finds cell 0",
-            Ask::Look(1, 0),
-            Reply::Cell { cell: cell(0) },
-        ),
-        ("it leaves", Ask::Leave(1), Reply::Left),
-        ("a run enters", Ask::Enter(0), Reply::Entered),
-        (
-            "it finds cell 1",
-            Ask::Look(0, 1),
-            Reply::Cell { cell: cell(1) },
-        ),
-    ];
-    serves(&rt, &mut shard, &rows)?;
-    for (name, ask) in NOT_SERVED {
-        assert!(rt; !shard.meets(&caller_of(ask), &call_of(ask)), "{name}");
+/// What happened before.
+#[rattlefmt::skip]
+const TWO_RUNS: [Row; 5] = [
+    ("an earlier run enters", Ask::Enter(1),   Reply::Entered),
+    ("it finds cell 0",       Ask::Look(1, 0), Reply::Cell { cell: CellRef { shard: 0, id: 0 } }),
+    ("it leaves",             Ask::Leave(1),   Reply::Left),
+    ("a run enters",          Ask::Enter(0),   Reply::Entered),
+    ("it finds cell 1",       Ask::Look(0, 1), Reply::Cell { cell: CellRef { shard: 0, id: 1 } }),
+];
+
+/// No caller of the rows may make its call.
+fn serves_none(rt: &impl Abort, shard: &OneThreadShard, rows: &[(&str, Ask)]) {
+    for (name, ask) in rows {
+        holds(rt, name, !shard.meets(&caller_of(*ask), &call_of(*ask)));
     }
+}
+
+#[test]
+fn calls_that_are_not_served(rt: HostRuntime) -> Result<(), AllocError> {
+    let shard = serves_new(&rt, rt.alloc(), plan(MapKind::Array, 2, 64), &TWO_RUNS)?;
+    serves_none(&rt, &shard, &NOT_SERVED);
     Ok(())
 }

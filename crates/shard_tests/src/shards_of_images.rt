@@ -1,26 +1,31 @@
 //! Rows that open shards.
 
+use crate::asserting::{holds, same};
 use ebpf_decode::{Image, Insn, MapDef, MapKind, Version};
-use shard_core::{Call, Caller, CellRef, JournalFull, Key, Options, Reply, Shard};
+use shard_core::{Call, Caller, CellRef, JournalFull, Key, Options, Reply, Shard, ShardPlan};
 use shards::{OpenFault, Shards};
 use std::alloc::Global;
 use std::process::Abort;
 use std::test::Fail;
 
-/// An image of two arrays.
-fn two_maps(alloc: Global) -> Result<Image, Fail> {
+/// An image with these maps.
+fn image_of(alloc: Global, version: Version, definitions: &[MapDef]) -> Result<Image, Fail> {
     let mut maps = Vec::new(alloc);
-    for max_entries in [3, 4096] {
-        maps.push(MapDef {
-            kind: MapKind::Array,
-            key_size: 4,
-            value_size: 8,
-            max_entries,
-        })?;
-    }
+    maps.extend_from_slice(definitions)?;
     let mut code = Vec::new(alloc);
     code.push(Insn::Exit)?;
-    Ok(Image::of(Version::V1, maps, code)?)
+    Ok(Image::of(version, maps, code)?)
+}
+
+/// Two arrays.
+#[rattlefmt::skip]
+const TWO_MAPS: [MapDef; 2] = [
+    MapDef { kind: MapKind::Array, key_size: 4, value_size: 8, max_entries: 3 },
+    MapDef { kind: MapKind::Array, key_size: 4, value_size: 8, max_entries: 4096 },
+];
+
+fn two_maps(alloc: Global) -> Result<Image, Fail> {
+    image_of(alloc, Version::V1, &TWO_MAPS)
 }
 
 #[rattlefmt::skip]
@@ -38,6 +43,32 @@ const OPTIONS: [(&str, u32, u32, u32, Option<OpenFault>); 11] = [
     ("a journal of 65,536",       2, 1, 65_536,    None),
 ];
 
+/// The shards of an image, with journals of 16 entries.
+fn opened(alloc: Global, image: &Image, workers: u32, shards: u32) -> Result<Shards, OpenFault> {
+    let options = Options {
+        workers,
+        shards,
+        journal: 16,
+    };
+    Shards::open(alloc, image, options)
+}
+
+/// How many shards an image has with so many to a map; None where they are refused.
+fn count_of(alloc: Global, image: &Image, shards: u32) -> Option<usize> {
+    match opened(alloc, image, 1, shards) {
+        Ok(all) => Some(all.count()),
+        Err(_) => None,
+    }
+}
+
+/// Why no shards are opened; None where they are.
+fn refusal(alloc: Global, image: &Image, options: Options) -> Option<OpenFault> {
+    match Shards::open(alloc, image, options) {
+        Ok(_) => None,
+        Err(fault) => Some(fault),
+    }
+}
+
 #[test]
 fn options_that_are_served(rt: HostRuntime) -> Result<(), Fail> {
     let image = two_maps(rt.alloc())?;
@@ -47,151 +78,167 @@ fn options_that_are_served(rt: HostRuntime) -> Result<(), Fail> {
             shards,
             journal,
         };
-        let opened = Shards::open(rt.alloc(), &image, options);
-        assert_eq!(rt; opened.is_ok(), want.is_none(), "{name}");
-        assert_eq!(rt; opened.err(), want, "{name}");
+        same(&rt, name, &refusal(rt.alloc(), &image, options), &want);
     }
     Ok(())
 }
 
 const WORKER: Caller = Caller::Worker { number: 1 };
 
-fn look(shard: u32, index: u32) -> Call {
-    Call::Lookup {
-        shard,
-        key: Key::of(&index.to_le_bytes()).unwrap_or(Key::empty()),
-    }
+/// Enters a shard, or looks an index up there.
+#[derive(Clone, Copy)]
+enum Ask {
+    Enter,
+    Look(u32),
 }
 
-fn cell(shard: u32, id: u64) -> Reply {
-    Reply::Cell {
-        cell: CellRef { shard, id },
+/// A call of a shard, its reply, and how many entries the journals of both shards have then.
+type Row = (&'static str, u32, Ask, Reply, [usize; 2]);
+
+#[rattlefmt::skip]
+const OF_TWO_MAPS: [Row; 6] = [
+    ("a worker enters the first",   0, Ask::Enter,      Reply::Entered,                                      [1, 0]),
+    ("the first's last index",      0, Ask::Look(2),    Reply::Cell { cell: CellRef { shard: 0, id: 2 } },    [2, 0]),
+    ("no index past the first's end", 0, Ask::Look(3),    Reply::Null,                                         [3, 0]),
+    ("the worker enters the other", 1, Ask::Enter,      Reply::Entered,                                      [3, 1]),
+    ("the other's last index",      1, Ask::Look(4095), Reply::Cell { cell: CellRef { shard: 1, id: 4095 } }, [3, 2]),
+    ("no index past the other's end", 1, Ask::Look(4096), Reply::Null,                                         [3, 3]),
+];
+
+fn call_of(shard: u32, ask: Ask) -> Call {
+    match ask {
+        Ask::Enter => Call::Enter { shard },
+        Ask::Look(index) => Call::Lookup {
+            shard,
+            key: Key::of(&index.to_le_bytes()).unwrap_or(Key::empty()),
+        },
     }
 }
 
 /// Makes a call of worker 1, which may make it.
-fn make(rt: &impl Abort, shard: &mut Shard, call: &Call) -> Result<Reply, JournalFull> {
-    assert!(rt; shard.meets(&WORKER, call));
+fn make(rt: &impl Abort, shard: &mut Shard, name: &str, call: &Call) -> Result<Reply, JournalFull> {
+    holds(rt, name, shard.meets(&WORKER, call));
     shard.apply(WORKER, call)
+}
+
+/// How many entries the shard's journal has.
+fn length_of(rt: &impl Abort, shards: &mut Shards, number: u32) -> usize {
+    holds(
+        rt,
+        "there is such a shard",
+        (number as usize) < shards.count(),
+    );
+    shards.shard(number).journal().len()
+}
+
+/// Makes the call of each row, and compares.
+fn serves(rt: &impl Abort, mut shards: Shards, rows: &[Row]) {
+    for (name, number, ask, want, lengths) in rows {
+        holds(rt, name, (*number as usize) < shards.count());
+        let call = call_of(*number, *ask);
+        let reply = make(rt, shards.shard(*number), name, &call);
+        same(rt, name, &reply, &Ok(*want));
+        let found = [length_of(rt, &mut shards, 0), length_of(rt, &mut shards, 1)];
+        same(rt, name, &found, lengths);
+    }
 }
 
 /// The shard of each map has the map's entries, its own number and its own journal.
 #[test]
 fn one_shard_for_each_map(rt: HostRuntime) -> Result<(), Fail> {
-    let image = two_maps(rt.alloc())?;
-    let options = Options {
-        workers: 2,
-        shards: 1,
-        journal: 16,
-    };
-    let mut shards = Shards::open(rt.alloc(), &image, options)?;
-    assert_eq!(rt; shards.count(), 2);
-    if shards.count() == 2 {
-        let first = shards.shard(0);
-        assert_eq!(rt;
-            make(&rt, first, &Call::Enter { shard: 0 }),
-            Ok(Reply::Entered)
-        );
-        assert_eq!(rt; make(&rt, first, &look(0, 2)), Ok(cell(0, 2)));
-        assert_eq!(rt; make(&rt, first, &look(0, 3)), Ok(Reply::Null));
-        let second = shards.shard(1);
-        assert_eq!(rt; second.journal().len(), 0);
-        assert_eq!(rt;
-            make(&rt, second, &Call::Enter { shard: 1 }),
-            Ok(Reply::Entered)
-        );
-        assert_eq!(rt; make(&rt, second, &look(1, 4095)), Ok(cell(1, 4095)));
-        assert_eq!(rt; make(&rt, second, &look(1, 4096)), Ok(Reply::Null));
-        assert_eq!(rt; shards.shard(0).journal().len(), 3);
-    }
+    let shards = opened(rt.alloc(), &two_maps(rt.alloc())?, 2, 1)?;
+    same(&rt, "how many shards", &shards.count(), &2);
+    serves(&rt, shards, &OF_TWO_MAPS);
     Ok(())
 }
 
 /// An array, a hash map and an LRU map, whose values have 256 bytes.
+#[rattlefmt::skip]
+const THREE_KINDS: [MapDef; 3] = [
+    MapDef { kind: MapKind::Array,   key_size: 4, value_size: 256, max_entries: 16 },
+    MapDef { kind: MapKind::Hash,    key_size: 4, value_size: 256, max_entries: 16 },
+    MapDef { kind: MapKind::LruHash, key_size: 4, value_size: 256, max_entries: 16 },
+];
+
 fn three_kinds(alloc: Global) -> Result<Image, Fail> {
-    let mut maps = Vec::new(alloc);
-    for kind in [MapKind::Array, MapKind::Hash, MapKind::LruHash] {
-        maps.push(MapDef {
-            kind,
-            key_size: 4,
-            value_size: 256,
-            max_entries: 16,
-        })?;
-    }
-    let mut code = Vec::new(alloc);
-    code.push(Insn::Exit)?;
-    Ok(Image::of(Version::V2, maps, code)?)
+    image_of(alloc, Version::V2, &THREE_KINDS)
 }
 
 /// Shards to a map, and how many there are of three maps; none where the options are refused.
-const COUNTS: [(u32, Option<usize>); 8] = [
-    (1, Some(3)),
-    (2, Some(6)),
-    (4, Some(12)),
-    (8, Some(24)),
-    (0, None),
-    (3, None),
-    (6, None),
-    (16, None),
+const COUNTS: [(&str, u32, Option<usize>); 8] = [
+    ("one shard to a map", 1, Some(3)),
+    ("two", 2, Some(6)),
+    ("four", 4, Some(12)),
+    ("eight", 8, Some(24)),
+    ("none", 0, None),
+    ("three", 3, None),
+    ("six", 6, None),
+    ("sixteen", 16, None),
 ];
 
 #[test]
 fn shards_to_a_map(rt: HostRuntime) -> Result<(), Fail> {
     let image = three_kinds(rt.alloc())?;
-    for (shards, want) in COUNTS {
-        let options = Options {
-            workers: 1,
-            shards,
-            journal: 16,
-        };
-        let count = Shards::open(rt.alloc(), &image, options)
-            .ok()
-            .map(|all| all.count());
-        assert_eq!(rt; count, want);
+    for (name, shards, want) in COUNTS {
+        same(&rt, name, &count_of(rt.alloc(), &image, shards), &want);
     }
     Ok(())
 }
 
 /// A number, with its map's kind and its part of four.
-const PLACES: [(u32, MapKind, u32); 5] = [
-    (0, MapKind::Array, 0),
-    (3, MapKind::Array, 3),
-    (4, MapKind::Hash, 0),
-    (9, MapKind::LruHash, 1),
-    (11, MapKind::LruHash, 3),
+const PLACES: [(&str, u32, MapKind, u32); 5] = [
+    ("the array's first", 0, MapKind::Array, 0),
+    ("its last", 3, MapKind::Array, 3),
+    ("the hash map's first", 4, MapKind::Hash, 0),
+    ("the LRU map's second", 9, MapKind::LruHash, 1),
+    ("its last", 11, MapKind::LruHash, 3),
 ];
+
+/// The plan of a shard.
+fn plan_of(rt: &impl Abort, shards: &mut Shards, name: &str, number: u32) -> ShardPlan {
+    holds(rt, name, (number as usize) < shards.count());
+    *shards.shard(number).plan()
+}
 
 /// Shards stand map after map, part after part.
 #[test]
 fn places_of_shards(rt: HostRuntime) -> Result<(), Fail> {
-    let image = three_kinds(rt.alloc())?;
-    let options = Options {
-        workers: 1,
-        shards: 4,
-        journal: 16,
-    };
-    let mut shards = Shards::open(rt.alloc(), &image, options)?;
-    for (number, kind, part) in PLACES {
-        assert!(rt; (number as usize) < shards.count());
-        let plan = *shards.shard(number).plan();
-        assert_eq!(rt;
-            (plan.number, plan.definition.kind, plan.part),
-            (number, kind, part)
+    let mut shards = opened(rt.alloc(), &three_kinds(rt.alloc())?, 1, 4)?;
+    for (name, number, kind, part) in PLACES {
+        let plan = plan_of(&rt, &mut shards, name, number);
+        same(&rt, name, &plan.definition.kind, &kind);
+        same(
+            &rt,
+            name,
+            &[plan.number, plan.part, plan.parts],
+            &[number, part, 4],
         );
-        assert_eq!(rt; plan.parts, 4);
     }
+    Ok(())
+}
+
+/// Compares a fault's number and its text.
+fn prints(
+    rt: &impl Abort,
+    alloc: Global,
+    fault: OpenFault,
+    number: u8,
+    text: &str,
+) -> Result<(), Fail> {
+    same(rt, text, &fault.number(), &number);
+    let printed = format!(in alloc; "{fault}")?;
+    same(rt, text, &printed.as_str(), &text);
     Ok(())
 }
 
 #[test]
 fn fault_texts(rt: HostRuntime) -> Result<(), Fail> {
-    for (fault, number, text) in [
-        (OpenFault::BadOptions, 51, "fault 51 BadOptions"),
-        (OpenFault::Memory, 52, "fault 52 Memory"),
-    ] {
-        assert_eq!(rt; fault.number(), number);
-        let printed = format!(in rt.alloc(); "{fault}")?;
-        assert_eq!(rt; printed.as_str(), text);
-    }
-    Ok(())
+    prints(
+        &rt,
+        rt.alloc(),
+        OpenFault::BadOptions,
+        51,
+        "fault 51 BadOptions",
+    )?;
+    prints(&rt, rt.alloc(), OpenFault::Memory, 52, "fault 52 Memory")
 }

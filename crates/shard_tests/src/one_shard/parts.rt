@@ -3,13 +3,13 @@
 ghost use Rattle.std.specs.Prelude.{◌≡◌, ◌<◌, ◌%◌};
 ghost use Rattle.semantics.specs.PlanLimits.{IsPlan};
 
-use super::{ANY, Ask, SHARD, call_of, caller_of, cell, serves};
+use super::{ANY, Ask, SHARD, call_of, caller_of, cell, entries_of, serves_new};
+use crate::asserting::holds;
 use ebpf_decode::{MapDef, MapKind};
 use semantics::{Reply, ShardPlan};
 use shard_core::shard::Shard;
-use std::alloc::Global;
+use std::alloc::{AllocError, Global};
 use std::process::Abort;
-use std::test::Fail;
 
 /// One part of a map of sixteen entries.
 fn part_of(kind: MapKind, part: u32, parts: u32) -> ShardPlan
@@ -49,6 +49,14 @@ fn may(shard: &Shard, ask: Ask) -> bool {
     shard.meets(&caller_of(ask), &call_of(ask))
 }
 
+/// The same of a shard in which nothing has happened.
+fn may_at_first(alloc: Global, plan: ShardPlan, ask: Ask) -> Result<bool, AllocError>
+    requires { IsPlan plan }
+{
+    let shard = Shard::open(alloc, plan)?;
+    Ok(may(&shard, ask))
+}
+
 /// Parts, an index, its part, and its cell there: none past the end.
 #[rattlefmt::skip]
 const INDICES: [(u32, u32, u32, Option<u64>); 12] = [
@@ -58,34 +66,43 @@ const INDICES: [(u32, u32, u32, Option<u64>); 12] = [
     (8, 7, 7, Some(0)), (8, 8, 0, Some(1)), (8, 19, 3, None),
 ];
 
+/// Writes an index in its part, and looks it up. No other part of several may be asked.
+fn index_in_its_part(
+    rt: &impl Abort,
+    alloc: Global,
+    parts: u32,
+    index: u32,
+    part: u32,
+    id: Option<u64>,
+) -> Result<(), AllocError> {
+    let found = match id {
+        Some(id) => Reply::Cell { cell: cell(id) },
+        None => Reply::Null,
+    };
+    let code = if id.is_some() { 0 } else { -7 };
+    let rows = [
+        (
+            "an index is written",
+            Ask::Put(index, 1, ANY),
+            Reply::Answer { code },
+        ),
+        ("a worker enters", Ask::Enter(0), Reply::Entered),
+        ("the index", Ask::Look(0, index), found),
+    ];
+    let shard = serves_new(rt, alloc, plan_of_part(MapKind::Array, part, parts), &rows)?;
+    let next = index.wrapping_add(1);
+    let is_looked_up = may(&shard, Ask::Look(0, next));
+    holds(rt, "the next index", parts == 1 || !is_looked_up);
+    let is_written = may(&shard, Ask::Put(next, 1, ANY));
+    holds(rt, "by the controller", parts == 1 || !is_written);
+    Ok(())
+}
+
 /// An index that is its remainder's belongs to that part alone.
 #[test]
-fn indices_by_parts(rt: HostRuntime) -> Result<(), Fail> {
+fn indices_by_parts(rt: HostRuntime) -> Result<(), AllocError> {
     for (parts, index, part, id) in INDICES {
-        let found = match id {
-            Some(id) => Reply::Cell { cell: cell(id) },
-            None => Reply::Null,
-        };
-        let code = if id.is_some() { 0 } else { -7 };
-        let rows = [
-            (
-                "an index is written",
-                Ask::Put(index, 1, ANY),
-                Reply::Answer { code },
-            ),
-            ("a worker enters", Ask::Enter(0), Reply::Entered),
-            ("the index", Ask::Look(0, index), found),
-        ];
-        let mut shard = Shard::open(rt.alloc(), plan_of_part(MapKind::Array, part, parts))?;
-        serves(&rt, &mut shard, &rows);
-        assert!(rt;
-            parts == 1 || !may(&shard, Ask::Look(0, index.wrapping_add(1))),
-            "the next index"
-        );
-        assert!(rt;
-            parts == 1 || !may(&shard, Ask::Put(index.wrapping_add(1), 1, ANY)),
-            "by the controller"
-        );
+        index_in_its_part(&rt, rt.alloc(), parts, index, part, id)?;
     }
     Ok(())
 }
@@ -94,27 +111,15 @@ fn indices_by_parts(rt: HostRuntime) -> Result<(), Fail> {
 #[rattlefmt::skip]
 const KEYS: [(u32, u32); 8] = [(0, 5), (1, 4), (2, 7), (3, 6), (4, 1), (5, 0), (6, 3), (7, 2)];
 
-/// A key belongs to the part that is the remainder of its FNV-1a, and to no other.
-#[test]
-fn keys_by_parts(rt: HostRuntime) -> Result<(), Fail> {
-    for kind in [MapKind::Hash, MapKind::LruHash] {
-        for parts in [1, 2, 4, 8] {
-            for (index, remainder) in KEYS {
-                in_its_part(&rt, rt.alloc(), kind, parts, index, remainder)?;
-            }
-        }
-    }
-    Ok(())
-}
-
-fn in_its_part(
+/// Writes a key in its part, and looks it up. No other part of several may be asked.
+fn key_in_its_part(
     rt: &impl Abort,
     alloc: Global,
     kind: MapKind,
     parts: u32,
     index: u32,
     remainder: u32,
-) -> Result<(), Fail> {
+) -> Result<(), AllocError> {
     let rows = [
         ("a key", Ask::Put(index, 1, ANY), Reply::Answer { code: 0 }),
         ("a worker enters", Ask::Enter(0), Reply::Entered),
@@ -124,12 +129,22 @@ fn in_its_part(
             Reply::Cell { cell: cell(0) },
         ),
     ];
-    let mut shard = Shard::open(alloc, plan_of_part(kind, remainder, parts))?;
-    serves(rt, &mut shard, &rows);
-    let other = Shard::open(alloc, plan_of_part(kind, remainder.wrapping_add(1), parts))?;
-    assert!(rt;
-        parts == 1 || !may(&other, Ask::Put(index, 1, ANY)),
-        "in another part"
-    );
+    let _count = entries_of(rt, alloc, plan_of_part(kind, remainder, parts), &rows)?;
+    let next = plan_of_part(kind, remainder.wrapping_add(1), parts);
+    let is_written = may_at_first(alloc, next, Ask::Put(index, 1, ANY))?;
+    holds(rt, "in another part", parts == 1 || !is_written);
+    Ok(())
+}
+
+/// A key belongs to the part that is the remainder of its FNV-1a, and to no other.
+#[test]
+fn keys_by_parts(rt: HostRuntime) -> Result<(), AllocError> {
+    for kind in [MapKind::Hash, MapKind::LruHash] {
+        for parts in [1, 2, 4, 8] {
+            for (index, remainder) in KEYS {
+                key_in_its_part(&rt, rt.alloc(), kind, parts, index, remainder)?;
+            }
+        }
+    }
     Ok(())
 }

@@ -1,12 +1,11 @@
 //! Rows of LRU shards: which key goes for a new one, and which calls are uses.
 
-use super::{ANY, Ask, EXIST, NOEXIST, Row, SHARD, plan_of, serves};
+use super::{ANY, Ask, EXIST, NOEXIST, Row, SHARD, entries_of, plan_of};
+use crate::asserting::same;
 use ebpf_decode::MapKind;
 use semantics::{CellRef, Reply};
-use shard_core::shard::Shard;
-use std::alloc::Global;
+use std::alloc::{AllocError, Global};
 use std::process::Abort;
-use std::test::Fail;
 
 #[rattlefmt::skip]
 const A_LOOKUP_IS_A_USE: [Row; 8] = [
@@ -79,52 +78,55 @@ const A_DELETED_KEY_LEAVES_ROOM: [Row; 8] = [
     ("and no other",                      Ask::Reclaim,            Reply::Freed { count: 0 }),
 ];
 
-/// Makes the calls of the rows in turn, on a shard in which nothing has happened.
-fn serves_new(
+/// Makes the calls of the rows in turn, on a new LRU map, and says how many entries the journal then has.
+fn recent(
     rt: &impl Abort,
     alloc: Global,
     max_entries: u32,
     rows: &[Row],
-) -> Result<Shard, Fail> {
-    let mut shard = Shard::open(alloc, plan_of(MapKind::LruHash, 8, max_entries, 64))?;
-    serves(rt, &mut shard, rows);
-    Ok(shard)
+) -> Result<usize, AllocError> {
+    entries_of(
+        rt,
+        alloc,
+        plan_of(MapKind::LruHash, 8, max_entries, 64),
+        rows,
+    )
 }
 
 #[test]
-fn a_lookup_is_a_use(rt: HostRuntime) -> Result<(), Fail> {
-    let _shard = serves_new(&rt, rt.alloc(), 2, &A_LOOKUP_IS_A_USE)?;
+fn a_lookup_is_a_use(rt: HostRuntime) -> Result<(), AllocError> {
+    let _count = recent(&rt, rt.alloc(), 2, &A_LOOKUP_IS_A_USE)?;
     Ok(())
 }
 
 #[test]
-fn an_update_is_a_use(rt: HostRuntime) -> Result<(), Fail> {
-    let _shard = serves_new(&rt, rt.alloc(), 2, &AN_UPDATE_IS_A_USE)?;
+fn an_update_is_a_use(rt: HostRuntime) -> Result<(), AllocError> {
+    let _count = recent(&rt, rt.alloc(), 2, &AN_UPDATE_IS_A_USE)?;
     Ok(())
 }
 
 #[test]
-fn other_calls_are_no_uses(rt: HostRuntime) -> Result<(), Fail> {
-    let _shard = serves_new(&rt, rt.alloc(), 2, &OTHER_CALLS_ARE_NO_USES)?;
+fn other_calls_are_no_uses(rt: HostRuntime) -> Result<(), AllocError> {
+    let _count = recent(&rt, rt.alloc(), 2, &OTHER_CALLS_ARE_NO_USES)?;
     Ok(())
 }
 
 #[test]
-fn a_deleted_key_leaves_room(rt: HostRuntime) -> Result<(), Fail> {
-    let _shard = serves_new(&rt, rt.alloc(), 2, &A_DELETED_KEY_LEAVES_ROOM)?;
+fn a_deleted_key_leaves_room(rt: HostRuntime) -> Result<(), AllocError> {
+    let _count = recent(&rt, rt.alloc(), 2, &A_DELETED_KEY_LEAVES_ROOM)?;
     Ok(())
 }
 
 #[test]
-fn large_lru_map(rt: HostRuntime) -> Result<(), Fail> {
-    let _shard = serves_new(&rt, rt.alloc(), 131_072, &A_DELETED_KEY_LEAVES_ROOM)?;
+fn large_lru_map(rt: HostRuntime) -> Result<(), AllocError> {
+    let _count = recent(&rt, rt.alloc(), 131_072, &A_DELETED_KEY_LEAVES_ROOM)?;
     Ok(())
 }
 
 /// The journal has each call with its reply, and nothing of an eviction.
 #[test]
-fn no_cell_no_eviction(rt: HostRuntime) -> Result<(), Fail> {
-    let shard = serves_new(&rt, rt.alloc(), 1, &NO_CELL_NO_EVICTION)?;
-    assert_eq!(rt; shard.journal().len(), NO_CELL_NO_EVICTION.len());
+fn no_cell_no_eviction(rt: HostRuntime) -> Result<(), AllocError> {
+    let count = recent(&rt, rt.alloc(), 1, &NO_CELL_NO_EVICTION)?;
+    same(&rt, "how many entries", &count, &NO_CELL_NO_EVICTION.len());
     Ok(())
 }
