@@ -1,98 +1,68 @@
-//! Keys in and out, in a small index and in a large one.
+//! Lists of numbers in blocks beside plain ones. Tests of the public calls stand in `shard_tests`.
 
-ghost use Rattle.std.specs.Prelude.{◌≡◌, length};
+ghost use Rattle.std.specs.Prelude.{◌≡◌, ◌≤◌, IfOk};
 
-use crate::{ArrayShard, HashShard, KeyIndex};
-use map_cells::Cells;
+use crate::number_list::NumberList;
 use std::alloc::AllocError;
 
-mod number_lists;
-
-#[test]
-fn a_key_comes_and_goes(rt: HostRuntime) -> Result<(), AllocError> {
-    let mut index = KeyIndex::new(rt.alloc(), 5, 4)?;
-    assert!(rt; index.find(b"hello").is_none());
-    index.insert(b"hello", 3);
-    assert_eq!(rt; index.find(b"hello"), Some(3));
-    assert!(rt; index.find(b"hellp").is_none());
-    assert_eq!(rt; index.remove(b"hello"), Some(3));
-    assert!(rt; index.find(b"hello").is_none());
-    assert!(rt; index.remove(b"hello").is_none());
-    Ok(())
-}
-
-/// Whether the key is there, and is the key of its number.
-fn gives_back(index: &KeyIndex, key: &[u8]) -> bool
-    requires { length key.now ≡ index.now.size }
+/// Puts a number into both lists or takes one out of both, by what was drawn. Whether the numbers taken out are the same.
+fn step(
+    list: &mut NumberList,
+    plain: &mut Vec<u32>,
+    draw: usize,
+    number: u32,
+) -> Result<bool, AllocError>
+    requires same { list.old.numbers ≡ plain.old.items }
+    requires room { 3000 ≤ list.old.room }
+    ensures same { IfOk result (λ done. list.new.numbers ≡ plain.new.items) }
+    ensures room { 3000 ≤ list.new.room }
 {
-    match index.find(key) {
-        Some(number) => index.key(number) == key,
-        None => false,
+    let many = plain.len();
+    if many == 0 || (many < 3000 && draw % 3 > 0) {
+        let at = (draw / 4) % (many + 1);
+        plain.insert(at, number)?;
+        list.insert(at, number);
+        return Ok(true);
     }
+    let at = (draw / 4) % many;
+    Ok(list.remove(at) == plain.remove(at))
+}
+
+/// As many steps: they fill three blocks in part. Whether the two lists agree after each of them.
+fn agree(list: &mut NumberList, plain: &mut Vec<u32>) -> Result<bool, AllocError>
+    requires same { list.old.numbers ≡ plain.old.items }
+    requires room { 3000 ≤ list.old.room }
+    ensures same { IfOk result (λ done. list.new.numbers ≡ plain.new.items) }
+{
+    let mut state: u64 = 1;
+    let mut agree = true;
+    'steps: for number in 0..9000_u32 {
+        state = state
+            .wrapping_mul(6_364_136_223_846_793_005)
+            .wrapping_add(1_442_695_040_888_963_407);
+        agree &= step(list, plain, (state >> 33) as usize, number)?;
+        agree &= list.len() == plain.len();
+    }
+    Ok(agree)
+}
+
+/// Whether the lists have the same numbers.
+fn are_same(list: &NumberList, plain: &[u32]) -> bool
+    requires { list.now.numbers ≡ plain.now }
+{
+    let mut same = true;
+    'places: for at in 0..plain.len() {
+        same &= list.get(at) == plain[at];
+    }
+    same
 }
 
 #[test]
-fn a_large_index(rt: HostRuntime) -> Result<(), AllocError> {
-    let mut index = KeyIndex::new(rt.alloc(), 16, 131_072)?;
-    index.insert(&[7; 16], 131_071);
-    assert!(rt; gives_back(&index, &[7; 16]));
-    assert!(rt; !gives_back(&index, &[8; 16]));
-    assert_eq!(rt; index.find(&[7; 16]), Some(131_071));
-    assert!(rt; index.find(&[8; 16]).is_none());
-    Ok(())
-}
-
-#[test]
-fn a_key_of_a_hash_shard_has_its_cell(rt: HostRuntime) -> Result<(), AllocError> {
-    let mut shard = HashShard::new(rt.alloc(), 4, 131_072)?;
-    shard.insert(b"abcd", 1_000_000);
-    assert_eq!(rt; shard.find(b"abcd"), Some(1_000_000));
-    assert!(rt; shard.find(b"abce").is_none());
-    assert_eq!(rt; shard.remove(b"abcd"), Some(1_000_000));
-    assert!(rt; shard.find(b"abcd").is_none());
-    Ok(())
-}
-
-#[test]
-fn an_index_of_an_array_shard_has_its_cell(rt: HostRuntime) {
-    // 12 indices in 4 shards: index 9 is the third of its shard.
-    let shard = ArrayShard::new(12, 4);
-    assert_eq!(rt; shard.find(&[9, 0, 0, 0]), Some(2));
-    assert!(rt; shard.find(&[12, 0, 0, 0]).is_none());
-    assert!(rt; shard.find(&[9, 0, 0, 1]).is_none());
-}
-
-#[test]
-fn two_retired_cells_leave_none_for_a_new_key(rt: HostRuntime) -> Result<(), AllocError> {
-    let mut shard = HashShard::new(rt.alloc(), 1, 1)?;
-    let mut cells = Cells::new(rt.alloc(), 8, 2, 3)?;
-    shard.insert(b"A", cells.take(&[1; 8]));
-    assert_eq!(rt; shard.remove(b"A"), Some(0));
-    cells.retire(0, 0);
-    shard.insert(b"B", cells.take(&[2; 8]));
-    assert_eq!(rt; shard.remove(b"B"), Some(1));
-    cells.retire(1, 1);
-    // Both cells wait for their readers.
-    assert_eq!(rt; shard.len() + cells.waiting(), 2);
-    assert_eq!(rt; cells.free(2), 2);
-    shard.insert(b"C", cells.take(&[3; 8]));
-    assert_eq!(rt; shard.find(b"C"), Some(2));
-    Ok(())
-}
-
-#[test]
-fn a_held_cell_keeps_its_bytes_though_its_key_is_gone(rt: HostRuntime) -> Result<(), AllocError> {
-    let mut shard = HashShard::new(rt.alloc(), 1, 1)?;
-    let mut cells = Cells::new(rt.alloc(), 8, 2, 3)?;
-    shard.insert(b"A", cells.take(&[1; 8]));
-    assert_eq!(rt; shard.remove(b"A"), Some(0));
-    cells.retire(0, 0);
-    // A run is inside that entered before: the floor is 0.
-    assert_eq!(rt; cells.free(0), 0);
-    shard.insert(b"B", cells.take(&[2; 8]));
-    assert_eq!(rt; cells.load(0, 0, 8), 0x0101_0101_0101_0101);
-    assert_eq!(rt; cells.free(1), 1);
-    assert_eq!(rt; shard.find(b"B"), Some(1));
-    assert_eq!(rt; cells.load(1, 0, 8), 0x0202_0202_0202_0202);
+fn a_list_in_blocks_is_as_a_plain_one(rt: HostRuntime) -> Result<(), AllocError> {
+    let mut list = NumberList::new(rt.alloc(), 3000)?;
+    let mut plain = Vec::new(rt.alloc());
+    assert!(rt; agree(&mut list, &mut plain)?);
+    assert!(rt; plain.len() > 2048);
+    assert!(rt; are_same(&list, &plain));
     Ok(())
 }
