@@ -12,6 +12,3 @@ mod search;
 pub use array::ArrayShard;
 pub use hash::HashShard;
 pub use index::KeyIndex;
-
-#[cfg(test)]
-mod tests;
