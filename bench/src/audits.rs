@@ -1,4 +1,4 @@
-//! Times the reading and the audit of a journal, by the program of crates/bench_audit.
+//! Times the reading and the audit of a journal, by the program of crates/bench_parts.
 
 use std::process::Command;
 
@@ -7,7 +7,7 @@ const TIMES: usize = 3;
 
 /// The rows of the program: rounds, microseconds of reading, microseconds of the audit.
 fn rows(program: &str) -> Vec<[f64; 3]> {
-    let output = Command::new(program).arg("measure").output().expect("the program starts");
+    let output = Command::new(program).arg("audit").output().expect("the program starts");
     let text = String::from_utf8(output.stdout).expect("it prints text");
     let row = |line: &str| {
         let words: Vec<&str> = line.split(' ').collect();
@@ -19,7 +19,7 @@ fn rows(program: &str) -> Vec<[f64; 3]> {
 
 /// Prints the table, where `bench/run` built the program.
 pub fn print() {
-    let Ok(program) = std::env::var("BENCH_AUDIT") else { return };
+    let Ok(program) = std::env::var("BENCH_PARTS") else { return };
     let mut least = rows(&program);
     for _ in 1..TIMES {
         for (row, other) in least.iter_mut().zip(rows(&program)) {

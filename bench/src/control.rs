@@ -1,4 +1,4 @@
-//! Times commands of the controller, by the program of crates/bench_control.
+//! Times commands of the controller, by the program of crates/bench_parts.
 
 use std::process::Command;
 
@@ -7,14 +7,14 @@ const TIMES: usize = 5;
 
 /// The numbers of each line that the program prints.
 fn rows(program: &str) -> Vec<Vec<u64>> {
-    let output = Command::new(program).arg("measure").output().expect("the program starts");
+    let output = Command::new(program).arg("control").output().expect("the program starts");
     let text = String::from_utf8(output.stdout).expect("it prints text");
     text.lines().map(|line| line.split(' ').map(|word| word.parse().expect("a number")).collect()).collect()
 }
 
 /// Prints the table, where `bench/run` built the program.
 pub fn print() {
-    let Ok(program) = std::env::var("BENCH_CONTROL") else { return };
+    let Ok(program) = std::env::var("BENCH_PARTS") else { return };
     let mut best = rows(&program);
     for _ in 1..TIMES {
         for (least, row) in best.iter_mut().zip(rows(&program)) {

@@ -1,4 +1,4 @@
-//! Times look-ups and updates of keyed shards, by the program of crates/bench_maps, beside std's `HashMap` (and for the order of uses a
+//! Times look-ups and updates of keyed shards, by the program of crates/bench_parts, beside std's `HashMap` (and for the order of uses a
 //! plain list), in turns.
 
 use std::collections::HashMap;
@@ -6,7 +6,7 @@ use std::hint::black_box;
 use std::process::Command;
 use std::time::Instant;
 
-/// How many look-ups are timed at a time, as crates/bench_maps has it, and how often.
+/// How many look-ups are timed at a time, as crates/bench_parts has it, and how often.
 const LOOKUPS: usize = 2_000_000;
 const TIMES: usize = 3;
 
@@ -16,7 +16,7 @@ const ROWS: [&str; 4] = ["found", "absent", "use", "update"];
 
 type Key = [u8; 16];
 
-/// The keys of crates/bench_maps.
+/// The keys of crates/bench_parts.
 fn key(number: u64, kind: u64) -> Key {
     let x = number.wrapping_mul(0xbf58_476d_1ce4_e5b9);
     let second = x.wrapping_mul(0x94d0_49bb_1331_11eb) ^ kind;
@@ -148,7 +148,7 @@ fn through_std(count: u32) -> [f64; 4] {
 
 /// The rows that the program prints, in nanoseconds.
 fn through_shards(program: &str) -> HashMap<String, f64> {
-    let output = Command::new(program).arg("measure").output().expect("the program starts");
+    let output = Command::new(program).arg("maps").output().expect("the program starts");
     let text = String::from_utf8(output.stdout).expect("it prints text");
     let mut rows = HashMap::new();
     for line in text.lines() {
@@ -162,7 +162,7 @@ fn through_shards(program: &str) -> HashMap<String, f64> {
 
 /// Prints the table, where `bench/run` built the program.
 pub fn print() {
-    let Ok(program) = std::env::var("BENCH_MAPS") else { return };
+    let Ok(program) = std::env::var("BENCH_PARTS") else { return };
     let mut shards: HashMap<String, f64> = HashMap::new();
     let mut plain: HashMap<String, f64> = HashMap::new();
     let least = |rows: &mut HashMap<String, f64>, name: String, time: f64| {

@@ -1,4 +1,4 @@
-//! Times a job that goes from one thread to another: through a receive queue, by the program of crates/bench_queues, and through
+//! Times a job that goes from one thread to another: through a receive queue, by the program of crates/bench_parts, and through
 //! std's bounded channel, in turns.
 
 use std::process::Command;
@@ -6,7 +6,7 @@ use std::sync::mpsc::sync_channel;
 use std::thread;
 use std::time::Instant;
 
-/// How many jobs go through at a time, as crates/bench_queues has it, and how often.
+/// How many jobs go through at a time, as crates/bench_parts has it, and how often.
 const JOBS: u64 = 2_000_000;
 const TIMES: usize = 10;
 
@@ -15,7 +15,7 @@ const CAPACITY: usize = 64;
 
 /// Nanoseconds a job, as the program prints them.
 fn through_queue(program: &str) -> f64 {
-    let output = Command::new(program).arg("measure").output().expect("the program starts");
+    let output = Command::new(program).arg("queues").output().expect("the program starts");
     let text = String::from_utf8(output.stdout).expect("it prints text");
     text.trim().parse().expect("it prints a number")
 }
@@ -35,7 +35,7 @@ fn through_channel() -> f64 {
 
 /// Prints the table, where `bench/run` built the program.
 pub fn print() {
-    let Ok(program) = std::env::var("BENCH_QUEUES") else { return };
+    let Ok(program) = std::env::var("BENCH_PARTS") else { return };
     let (mut queue, mut channel) = (f64::INFINITY, f64::INFINITY);
     for _ in 0..TIMES {
         queue = queue.min(through_queue(&program));

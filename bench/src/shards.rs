@@ -1,4 +1,4 @@
-//! Times calls of one shard on one thread, by the program of crates/bench_shards, beside plain Rust with the same maps and a journal of
+//! Times calls of one shard on one thread, by the program of crates/bench_parts, beside plain Rust with the same maps and a journal of
 //! rows as large, in turns.
 
 use std::collections::HashMap;
@@ -6,11 +6,11 @@ use std::hint::black_box;
 use std::process::Command;
 use std::time::Instant;
 
-/// How many look-ups are timed at a time, as crates/bench_shards has it, and how often.
+/// How many look-ups are timed at a time, as crates/bench_parts has it, and how often.
 const LOOKUPS: u32 = 16_384;
 const TIMES: usize = 5;
 
-/// How often a plain shard is made in a turn, as crates/bench_shards does.
+/// How often a plain shard is made in a turn, as crates/bench_parts does.
 const MADE: usize = 100;
 
 /// An entry of the journal: 40 bytes, of which the key's stand beside, as in the shards' journals.
@@ -88,7 +88,7 @@ fn plain(is_hash: bool, count: u32, adds: bool) -> f64 {
 
 /// The rows that the program prints, in nanoseconds.
 fn proved(program: &str) -> HashMap<String, f64> {
-    let output = Command::new(program).arg("measure").output().expect("the program starts");
+    let output = Command::new(program).arg("shards").output().expect("the program starts");
     let text = String::from_utf8(output.stdout).expect("it prints text");
     let mut rows = HashMap::new();
     for line in text.lines() {
@@ -102,7 +102,7 @@ fn proved(program: &str) -> HashMap<String, f64> {
 
 /// Prints the table, where `bench/run` built the program.
 pub fn print() {
-    let Ok(program) = std::env::var("BENCH_SHARDS") else { return };
+    let Ok(program) = std::env::var("BENCH_PARTS") else { return };
     let mut times: HashMap<String, f64> = HashMap::new();
     let mut least = |name: String, time: f64| {
         let best = times.entry(name).or_insert(f64::INFINITY);

@@ -1,4 +1,4 @@
-//! Times the shipped program on one worker and one thread, by the program of crates/bench_steer.
+//! Times the shipped program on one worker and one thread, by the program of crates/bench_parts.
 
 use std::collections::HashMap;
 use std::process::Command;
@@ -6,7 +6,7 @@ use std::process::Command;
 /// How often the program is run.
 const TIMES: usize = 5;
 
-/// What a row measures, as crates/bench_steer names it, and how many calls on the maps its frames make.
+/// What a row measures, as crates/bench_parts names it, and how many calls on the maps its frames make.
 const ROWS: [(&str, &str, u32); 8] = [
     ("passed-no-flow", "passed, no flow", 4),
     ("passed-no-service", "passed, no service", 7),
@@ -20,7 +20,7 @@ const ROWS: [(&str, &str, u32); 8] = [
 
 /// The rows that the program prints: nanoseconds of a frame, and of making it.
 fn rows(program: &str) -> Vec<(String, [f64; 2])> {
-    let output = Command::new(program).arg("measure").output().expect("the program starts");
+    let output = Command::new(program).arg("steer").output().expect("the program starts");
     let text = String::from_utf8(output.stdout).expect("it prints text");
     let row = |line: &str| {
         let mut words = line.split(' ');
@@ -33,7 +33,7 @@ fn rows(program: &str) -> Vec<(String, [f64; 2])> {
 
 /// Prints the table, where `bench/run` built the program.
 pub fn print() {
-    let Ok(program) = std::env::var("BENCH_STEER") else { return };
+    let Ok(program) = std::env::var("BENCH_PARTS") else { return };
     let mut least: HashMap<String, [f64; 2]> = HashMap::new();
     for _ in 0..TIMES {
         for (name, times) in rows(&program) {

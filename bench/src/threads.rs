@@ -1,4 +1,4 @@
-//! Times calls of shards that threads share, by the program of crates/bench_threads, beside plain Rust with the same map and a journal of
+//! Times calls of shards that threads share, by the program of crates/bench_parts, beside plain Rust with the same map and a journal of
 //! rows as large behind `std::sync::Mutex`, in turns.
 
 use std::collections::HashMap;
@@ -8,7 +8,7 @@ use std::sync::Mutex;
 use std::thread;
 use std::time::Instant;
 
-/// How many threads there are, how many keys a map has, and how many lookups a thread makes, as crates/bench_threads has it.
+/// How many threads there are, how many keys a map has, and how many lookups a thread makes, as crates/bench_parts has it.
 const THREADS: usize = 4;
 const KEYS: u32 = 64;
 const LOOKUPS: u32 = 100_000;
@@ -129,7 +129,7 @@ fn plain(alone: &mut Shard, shared: &[Shared; THREADS]) -> [(&'static str, f64);
 
 /// The rows that the program prints, in nanoseconds.
 fn proved(program: &str) -> Vec<(String, f64)> {
-    let output = Command::new(program).arg("measure").envs(KEPT_PAGES).output().expect("the program starts");
+    let output = Command::new(program).arg("threads").envs(KEPT_PAGES).output().expect("the program starts");
     let text = String::from_utf8(output.stdout).expect("it prints text");
     let row = |line: &str| {
         let (name, tenths) = line.split_once(' ').expect("a name and a number");
@@ -146,7 +146,7 @@ fn least(times: &mut HashMap<String, f64>, name: &str, time: f64) {
 
 /// Prints the table, where `bench/run` built the program.
 pub fn print() {
-    let Ok(program) = std::env::var("BENCH_THREADS") else { return };
+    let Ok(program) = std::env::var("BENCH_PARTS") else { return };
     let (mut ours, mut peers) = (HashMap::new(), HashMap::new());
     let mut alone = Shard::new();
     let shared: [Shared; THREADS] = std::array::from_fn(|_| Shared(Mutex::new(Shard::new())));

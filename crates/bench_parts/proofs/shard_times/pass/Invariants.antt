@@ -1,0 +1,5 @@
+use Rattle.bench_parts.specs.AtWork.{IsAtWork}
+use Rattle.bench_parts.proofs.shard_times.pass.Given as goal
+
+abbrev pub invariant-keys : goal.invariant-keys
+invariant-keys l = IsAtWork l.shard

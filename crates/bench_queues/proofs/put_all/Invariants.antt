@@ -1,5 +1,0 @@
-use Rattle.rx_queues.specs.Passes.{IsPutPassOf}
-use Rattle.bench_queues.proofs.put_all.Given as goal
-
-abbrev pub invariant-puts : goal.invariant-puts
-invariant-puts g l = IsPutPassOf l.queues l.pass

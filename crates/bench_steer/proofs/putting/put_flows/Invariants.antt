@@ -1,5 +1,0 @@
-use Rattle.shard_port.specs.PlainPorts.{IsSamePort}
-use Rattle.bench_steer.proofs.putting.put_flows.Given as goal
-
-abbrev pub invariant-frames : goal.invariant-frames
-invariant-frames l = IsSamePort l.fn.port l.port

@@ -1,5 +1,0 @@
-use Rattle.shard_port.specs.PlainPorts.{IsSamePort}
-use Rattle.bench_steer.proofs.putting.put_slots.Given as goal
-
-abbrev pub invariant-slots : goal.invariant-slots
-invariant-slots l = IsSamePort l.fn.port l.port

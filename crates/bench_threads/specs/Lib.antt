@@ -1,3 +1,0 @@
--- The definitions that the contracts of this program cite.
-pub mod Measured
-pub mod Alone
