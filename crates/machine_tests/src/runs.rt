@@ -5,18 +5,19 @@ ghost use Rattle.std.specs.Prelude.{◌<◌};
 mod addresses;
 mod arithmetic;
 mod asking;
+mod listing;
 mod memory;
 mod nothing;
 mod programs;
 mod scripted;
 
+use crate::asserting::{same, same_fact};
 use ebpf_decode::Insn;
 use isa::Register::{R0, R1, R2, R3, R4, R5, R10};
 use isa::{AluOp, Register, Size, Source, Test, Width};
+use listing::{EXIT, add, alu, call, checked, copy, jump_if, load, mov, store};
 use machine::{Exit, Moment, Stop};
-use programs::{
-    EXIT, MOMENT, accepted, add, alu, call, checked, copy, jump_if, load, mov, ran, store,
-};
+use programs::{MOMENT, accepted, ran};
 use semantics::Verdict;
 use std::alloc::Global;
 use std::process::Abort;
@@ -41,13 +42,13 @@ fn ends(
 {
     let verified = accepted(alloc, &[], head, tail)?;
     let ran = ran(alloc, &verified, moment, bytes)?;
-    assert_eq!(rt; ran.exit, want, "{name}");
-    assert_eq!(rt; ran.frame.bytes(), bytes, "{name}");
+    same(rt, name, &ran.exit, &want);
+    same_fact(rt, name, "the frame", &ran.frame.bytes(), &bytes);
     Ok(())
 }
 
 #[rattlefmt::skip]
-const HEADS: [(&str, &[Insn], Exit); 6] = [
+static HEADS: [(&str, &[Insn], Exit); 6] = [
     ("a verdict alone",                 &[Insn::Alu { width: Width::Bits64, op: AluOp::Mov, dst: Register::R0, source: Source::Imm(2) }], Exit { verdict: Verdict::Pass, steps: 2 }),
     ("a number above 32 bits",          &[Insn::Lddw { dst: Register::R0, value: 0x1_0000_0001 }],                                        Exit { verdict: Verdict::Drop, steps: 2 }),
     ("helper 5 is the time",            &[Insn::CallHelper { helper: 5 }],                                                                Exit { verdict: Verdict::Tx,   steps: 2 }),
@@ -59,7 +60,7 @@ const HEADS: [(&str, &[Insn], Exit); 6] = [
 /// The low 32 bits of R0 are the verdict, and a wide instruction is one step.
 #[test]
 fn one_instruction_and_an_exit(rt: HostRuntime) -> Result<(), Fail> {
-    for (name, head, want) in HEADS {
+    for &(name, head, want) in &HEADS {
         ends(
             &rt,
             rt.alloc(),
@@ -78,7 +79,7 @@ fn one_instruction_and_an_exit(rt: HostRuntime) -> Result<(), Fail> {
 fn the_longest_run(rt: HostRuntime) -> Result<(), Fail> {
     let mut code = Vec::new(rt.alloc());
     for _ in 0..4095 {
-        code.push(mov(R0, 1))?;
+        code.push(mov!(R0, 1))?;
     }
     let want = exit(Verdict::Drop, 4096);
     ends(
@@ -94,7 +95,7 @@ fn the_longest_run(rt: HostRuntime) -> Result<(), Fail> {
 }
 
 #[rattlefmt::skip]
-const LAST_BYTES: [(&str, u8, Verdict); 5] = [
+static LAST_BYTES: [(&str, u8, Verdict); 5] = [
     ("1 drops",      1,    Verdict::Drop),
     ("2 passes",     2,    Verdict::Pass),
     ("3 sends",      3,    Verdict::Tx),
@@ -105,12 +106,11 @@ const LAST_BYTES: [(&str, u8, Verdict); 5] = [
 /// Byte 13 is the verdict, where the packet has 14 bytes.
 #[test]
 fn a_byte_that_a_test_covers(rt: HostRuntime) -> Result<(), Fail> {
-    let head = checked(14, 1);
-    let tail = [load(Size::U8, R0, R2, 13), EXIT];
-    for (name, last, verdict) in LAST_BYTES {
+    let head = checked!(14, 1);
+    let tail = [load!(Size::U8, R0, R2, 13), EXIT];
+    for &(name, last, verdict) in &LAST_BYTES {
         let want = exit(verdict, 8);
-        let mut bytes = [0; 15];
-        bytes[13] = last;
+        let bytes = [0, 0, 0, 0, 0, 0, 0, 0, 0, 0, 0, 0, 0, last, 0];
         ends(
             &rt,
             rt.alloc(),
@@ -127,7 +127,7 @@ fn a_byte_that_a_test_covers(rt: HostRuntime) -> Result<(), Fail> {
 }
 
 #[rattlefmt::skip]
-const STRICT_ROWS: [(&str, &[u8], Exit); 2] = [
+static STRICT_ROWS: [(&str, &[u8], Exit); 2] = [
     ("14 bytes", &[0, 0, 0, 0, 0, 0, 0, 0, 0, 0, 0, 0, 0, 0],    Exit { verdict: Verdict::Pass, steps: 7 }),
     ("15 bytes", &[0, 0, 0, 0, 0, 0, 0, 0, 0, 0, 0, 0, 0, 0, 1], Exit { verdict: Verdict::Drop, steps: 8 }),
 ];
@@ -135,17 +135,23 @@ const STRICT_ROWS: [(&str, &[u8], Exit); 2] = [
 /// Byte 14 is the verdict, where the packet has more than 14 bytes.
 #[test]
 fn a_byte_that_a_strict_test_covers(rt: HostRuntime) -> Result<(), Fail> {
-    let mut head = checked(14, 1);
-    head[5] = jump_if(Test::Ge, R4, Source::Reg(R3), 1);
-    let tail = [load(Size::U8, R0, R2, 14), EXIT];
-    for (name, bytes, want) in STRICT_ROWS {
+    let head = [
+        load!(Size::U32, R2, R1, 0),
+        load!(Size::U32, R3, R1, 4),
+        copy!(R4, R2),
+        add!(R4, 14),
+        mov!(R0, 2),
+        jump_if!(Test::Ge, R4, Source::Reg(R3), 1),
+    ];
+    let tail = [load!(Size::U8, R0, R2, 14), EXIT];
+    for &(name, bytes, want) in &STRICT_ROWS {
         ends(&rt, rt.alloc(), &MOMENT, &head, &tail, bytes, want, name)?;
     }
     Ok(())
 }
 
 #[rattlefmt::skip]
-const PLACES: [(&str, u8, Exit); 2] = [
+static PLACES: [(&str, u8, Exit); 2] = [
     ("byte 3",       3,  Exit { verdict: Verdict::Drop, steps: 13 }),
     ("past the end", 14, Exit { verdict: Verdict::Pass, steps: 12 }),
 ];
@@ -153,17 +159,17 @@ const PLACES: [(&str, u8, Exit); 2] = [
 /// Byte 13 tells where the byte is that is the verdict.
 #[test]
 fn a_place_that_the_packet_tells(rt: HostRuntime) -> Result<(), Fail> {
-    let head = checked(14, 6);
+    let head = checked!(14, 6);
     let tail = [
-        load(Size::U8, R5, R2, 13),
-        alu(AluOp::Add, R2, Source::Reg(R5)),
-        copy(R4, R2),
-        add(R4, 1),
-        jump_if(Test::Gt, R4, Source::Reg(R3), 1),
-        load(Size::U8, R0, R2, 0),
+        load!(Size::U8, R5, R2, 13),
+        alu!(AluOp::Add, R2, Source::Reg(R5)),
+        copy!(R4, R2),
+        add!(R4, 1),
+        jump_if!(Test::Gt, R4, Source::Reg(R3), 1),
+        load!(Size::U8, R0, R2, 0),
         EXIT,
     ];
-    for (name, place, want) in PLACES {
+    for &(name, place, want) in &PLACES {
         let mut bytes = [0; 14];
         bytes[3] = 1;
         bytes[13] = place;
@@ -173,7 +179,7 @@ fn a_place_that_the_packet_tells(rt: HostRuntime) -> Result<(), Fail> {
 }
 
 #[rattlefmt::skip]
-const MOMENTS: [(&str, i32, Verdict); 2] = [
+static MOMENTS: [(&str, i32, Verdict); 2] = [
     ("the worker's number is 3",                8, Verdict::Tx),
     ("the low 32 bits of the time are 1",       5, Verdict::Drop),
 ];
@@ -185,8 +191,8 @@ fn each_run_has_its_moment(rt: HostRuntime) -> Result<(), Fail> {
         now_ns: 0xffff_ffff_0000_0001,
         worker: 3,
     };
-    for (name, helper, verdict) in MOMENTS {
-        let head = [call(helper)];
+    for &(name, helper, verdict) in &MOMENTS {
+        let head = [call!(helper)];
         let want = exit(verdict, 2);
         ends(
             &rt,
@@ -205,9 +211,9 @@ fn each_run_has_its_moment(rt: HostRuntime) -> Result<(), Fail> {
 #[test]
 fn a_spilled_context(rt: HostRuntime) -> Result<(), Fail> {
     let head = [
-        store(Size::U64, R10, -8, R1),
-        load(Size::U64, R2, R10, -8),
-        load(Size::U32, R0, R2, 12),
+        store!(Size::U64, R10, -8, R1),
+        load!(Size::U64, R2, R10, -8),
+        load!(Size::U32, R0, R2, 12),
     ];
     let want = exit(Verdict::Drop, 4);
     ends(
@@ -225,9 +231,9 @@ fn a_spilled_context(rt: HostRuntime) -> Result<(), Fail> {
 #[test]
 fn a_spilled_packet_pointer(rt: HostRuntime) -> Result<(), Fail> {
     let tail = [
-        store(Size::U64, R10, -8, R2),
-        load(Size::U64, R5, R10, -8),
-        load(Size::U8, R0, R5, 13),
+        store!(Size::U64, R10, -8, R2),
+        load!(Size::U64, R5, R10, -8),
+        load!(Size::U8, R0, R5, 13),
         EXIT,
     ];
     let mut bytes = [0; 14];
@@ -237,7 +243,7 @@ fn a_spilled_packet_pointer(rt: HostRuntime) -> Result<(), Fail> {
         &rt,
         rt.alloc(),
         &MOMENT,
-        &checked(14, 3),
+        &checked!(14, 3),
         &tail,
         &bytes,
         want,
@@ -246,7 +252,7 @@ fn a_spilled_packet_pointer(rt: HostRuntime) -> Result<(), Fail> {
 }
 
 #[rattlefmt::skip]
-const JUMPS: [(&str, i32, Insn, Exit); 4] = [
+static JUMPS: [(&str, i32, Insn, Exit); 4] = [
     ("ja goes past what it skips",   1, Insn::Ja { distance: 1 },   Exit { verdict: Verdict::Drop, steps: 5 }),
     ("so does the jump of 32 bits",  1, Insn::Ja32 { distance: 1 }, Exit { verdict: Verdict::Drop, steps: 5 }),
     ("a jump comes behind it",       2, Insn::Ja { distance: 1 },   Exit { verdict: Verdict::Tx, steps: 4 }),
@@ -255,9 +261,9 @@ const JUMPS: [(&str, i32, Insn, Exit); 4] = [
 
 #[test]
 fn jumps_over_slots(rt: HostRuntime) -> Result<(), Fail> {
-    for (name, number, jump, want) in JUMPS {
-        let head = [mov(R0, number), jump_if(Test::Eq, R0, Source::Imm(2), 2)];
-        let tail = [mov(R0, 1), jump, mov(R0, 3), EXIT];
+    for &(name, number, jump, want) in &JUMPS {
+        let head = [mov!(R0, number), jump_if!(Test::Eq, R0, Source::Imm(2), 2)];
+        let tail = [mov!(R0, 1), jump, mov!(R0, 3), EXIT];
         ends(&rt, rt.alloc(), &MOMENT, &head, &tail, &[0; 14], want, name)?;
     }
     Ok(())
@@ -266,8 +272,13 @@ fn jumps_over_slots(rt: HostRuntime) -> Result<(), Fail> {
 #[test]
 fn stops_are_printed(rt: HostRuntime) -> Result<(), Fail> {
     let stop = Stop::JournalFull { shard: 7 };
-    assert_eq!(rt; stop.number(), 60);
+    same(&rt, "its number", &stop.number(), &60);
     let text = format!(in rt.alloc(); "{stop}")?;
-    assert_eq!(rt; text.as_str(), "fault 60 JournalFull shard 7");
+    same(
+        &rt,
+        "its text",
+        &text.as_str(),
+        &"fault 60 JournalFull shard 7",
+    );
     Ok(())
 }

@@ -1,9 +1,14 @@
+//! Images and their bytes: every kind of slot both ways, and every fault of bytes.
+
+use crate::asserting::{holds, prints, same, same_at, same_fact};
+use crate::programs::image_of;
 use ebpf_decode::*;
 use isa::{
     AluOp, AtomicOp, ByteOrder, Extension, Register, ShortExtension, Size, Source, SwapWidth, Test,
     Width,
 };
 use std::alloc::{AllocError, Global};
+use std::process::Abort;
 use std::test::Fail;
 
 const HEAD: [u8; 8] = [0x58, 0x4c, 0x42, 0x50, 1, 0, 0, 0];
@@ -16,37 +21,83 @@ fn number_of(alloc: Global, bytes: &[u8]) -> u8 {
     }
 }
 
-/// An image without maps, of these slots.
-fn with_head(alloc: Global, slots: &[u8]) -> Result<Vec<u8>, AllocError> {
+/// The bytes of an image: its head, and two parts behind it.
+fn bytes_of(
+    alloc: Global,
+    head: &[u8],
+    first: &[u8],
+    second: &[u8],
+) -> Result<Vec<u8>, AllocError> {
     let mut bytes = Vec::new(alloc);
-    bytes.extend_from_slice(&HEAD)?;
-    bytes.extend_from_slice(slots)?;
+    bytes.extend_from_slice(head)?;
+    bytes.extend_from_slice(first)?;
+    bytes.extend_from_slice(second)?;
     Ok(bytes)
 }
 
-/// An image of one slot.
-fn one_slot(alloc: Global, slot: [u8; 8]) -> Result<Vec<u8>, AllocError> {
-    with_head(alloc, &slot)
+/// Such bytes have the fault of this number, or are an image where it is 0.
+fn has_fault(
+    rt: &impl Abort,
+    alloc: Global,
+    name: &str,
+    head: &[u8],
+    first: &[u8],
+    second: &[u8],
+    want: u8,
+) -> Result<(), Fail> {
+    let bytes = bytes_of(alloc, head, first, second)?;
+    same(rt, name, &number_of(alloc, &bytes), &want);
+    Ok(())
 }
 
-/// An image of two slots.
-fn two_slots(alloc: Global, first: [u8; 8], second: [u8; 8]) -> Result<Vec<u8>, AllocError> {
-    let mut bytes = with_head(alloc, &first)?;
-    bytes.extend_from_slice(&second)?;
-    Ok(bytes)
+/// An image is encoded so.
+fn is_encoded(
+    rt: &impl Abort,
+    alloc: Global,
+    name: &str,
+    image: &Image,
+    want: &[u8],
+) -> Result<(), Fail> {
+    let bytes = encode(alloc, image)?;
+    same_fact(rt, name, "encoded", &bytes.as_slice(), &want);
+    Ok(())
 }
 
-/// A head and one map, without a program.
-fn one_map(alloc: Global, version: u8, map: [u8; 16]) -> Result<Vec<u8>, AllocError> {
-    let mut bytes = Vec::new(alloc);
-    bytes.extend_from_slice(&[0x58, 0x4c, 0x42, 0x50, version, 1, 0, 0])?;
-    bytes.extend_from_slice(&map)?;
-    Ok(bytes)
+/// Bytes are decoded to this program, in so many slots and without maps, which is encoded to the same bytes.
+fn is_decoded(
+    rt: &impl Abort,
+    alloc: Global,
+    name: &str,
+    bytes: &[u8],
+    version: Version,
+    code: &[Insn],
+    slots: usize,
+) -> Result<(), Fail> {
+    let image = decode(alloc, bytes)?;
+    same_fact(rt, name, "decoded", &image.code(), &code);
+    same_fact(rt, name, "the version", &image.version(), &version);
+    same_fact(rt, name, "slots", &image.slots(), &slots);
+    is_encoded(rt, alloc, name, &image, bytes)
+}
+
+/// A program without maps is encoded so, and these bytes are decoded to it again.
+fn goes_both_ways(
+    rt: &impl Abort,
+    alloc: Global,
+    name: &str,
+    version: Version,
+    code: &[Insn],
+    slots: usize,
+    bytes: &[u8],
+) -> Result<(), Fail> {
+    let image = image_of(alloc, version, &[], code)?;
+    is_encoded(rt, alloc, name, &image, bytes)?;
+    is_decoded(rt, alloc, name, bytes, version, image.code(), slots)
 }
 
 // By the high and the low four bits of an opcode in a slot of zeros (byte swaps: of width 16): 0 where there is an instruction.
 #[rattlefmt::skip]
-const OPCODES: [[u8; 16]; 16] = [
+static OPCODES: [[u8; 16]; 16] = [
     [15, 15, 15, 15,  0,  0,  0,  0, 15, 15, 15, 15,  0, 15, 15,  0],
     [15, 15, 15, 15,  0,  0,  0,  0, 19, 15, 15, 15,  0,  0,  0,  0],
     [16, 15, 15, 15,  0,  0,  0,  0, 16, 15, 15, 15,  0,  0,  0,  0],
@@ -65,15 +116,22 @@ const OPCODES: [[u8; 16]; 16] = [
     [15, 15, 15, 15, 15, 15, 15, 15, 15, 15, 15, 15, 15, 15, 15, 15],
 ];
 
+/// An image of one slot, of zeros but for this opcode, has the fault of this number.
+fn has_opcode_fault(rt: &impl Abort, alloc: Global, opcode: u8, want: u8) -> Result<(), Fail> {
+    let swaps = opcode == 0xd4 || opcode == 0xdc || opcode == 0xd7;
+    let width = if swaps { 16 } else { 0 };
+    let bytes = bytes_of(alloc, &HEAD, &[opcode, 0, 0, 0, width, 0, 0, 0], &[])?;
+    let found = number_of(alloc, &bytes);
+    same_at(rt, "opcode", u64::from(opcode), &found, &want);
+    Ok(())
+}
+
 #[test]
 fn opcodes(rt: HostRuntime) -> Result<(), Fail> {
     let mut opcode = 0u8;
-    for row in OPCODES {
-        for want in row {
-            let swaps = opcode == 0xd4 || opcode == 0xdc || opcode == 0xd7;
-            let width = if swaps { 16 } else { 0 };
-            let bytes = one_slot(rt.alloc(), [opcode, 0, 0, 0, width, 0, 0, 0])?;
-            assert_eq!(rt; number_of(rt.alloc(), &bytes), want, "opcode {opcode}");
+    for row in &OPCODES {
+        for &want in row {
+            has_opcode_fault(&rt, rt.alloc(), opcode, want)?;
             opcode = opcode.wrapping_add(1);
         }
     }
@@ -81,7 +139,7 @@ fn opcodes(rt: HostRuntime) -> Result<(), Fail> {
 }
 
 #[rattlefmt::skip]
-const SLOTS: [(&str, [u8; 8], u8); 41] = [
+static SLOTS: [(&str, [u8; 8], u8); 41] = [
     ("div with offset 2 is unknown",            [0x37, 0x00, 0x02, 0x00, 0x01, 0x00, 0x00, 0x00], 15),
     ("register 11 is none",                     [0xb7, 0x0b, 0x00, 0x00, 0x00, 0x00, 0x00, 0x00], 17),
     ("X form with an immediate",                [0xbf, 0x01, 0x00, 0x00, 0x05, 0x00, 0x00, 0x00], 18),
@@ -127,15 +185,14 @@ const SLOTS: [(&str, [u8; 8], u8); 41] = [
 
 #[test]
 fn faults_of_one_slot(rt: HostRuntime) -> Result<(), Fail> {
-    for (name, slot, want) in SLOTS {
-        let bytes = one_slot(rt.alloc(), slot)?;
-        assert_eq!(rt; number_of(rt.alloc(), &bytes), want, "{name}");
+    for &(name, slot, want) in &SLOTS {
+        has_fault(&rt, rt.alloc(), name, &HEAD, &slot, &[], want)?;
     }
     Ok(())
 }
 
 #[rattlefmt::skip]
-const WIDE: [(&str, [u8; 8], [u8; 8], u8); 6] = [
+static WIDE: [(&str, [u8; 8], [u8; 8], u8); 6] = [
     ("number of 64 bits",                           [0x18, 0x01, 0x00, 0x00, 0x02, 0x00, 0x00, 0x00],
         [0x00, 0x00, 0x00, 0x00, 0x01, 0x00, 0x00, 0x00], 0),
     ("map",                                         [0x18, 0x11, 0x00, 0x00, 0x00, 0x00, 0x00, 0x00],
@@ -152,15 +209,14 @@ const WIDE: [(&str, [u8; 8], [u8; 8], u8); 6] = [
 
 #[test]
 fn wide_instructions(rt: HostRuntime) -> Result<(), Fail> {
-    for (name, first, second, want) in WIDE {
-        let bytes = two_slots(rt.alloc(), first, second)?;
-        assert_eq!(rt; number_of(rt.alloc(), &bytes), want, "{name}");
+    for &(name, first, second, want) in &WIDE {
+        has_fault(&rt, rt.alloc(), name, &HEAD, &first, &second, want)?;
     }
     Ok(())
 }
 
 #[rattlefmt::skip]
-const INSTRUCTIONS: [(&str, Insn, [u8; 8]); 19] = [
+static INSTRUCTIONS: [(&str, Insn, [u8; 8]); 19] = [
     ("add K, negative",
         Insn::Alu { width: Width::Bits64, op: AluOp::Add, dst: Register::R1, source: Source::Imm(-5) },
         [0x07, 0x01, 0x00, 0x00, 0xfb, 0xff, 0xff, 0xff]),
@@ -222,41 +278,53 @@ const INSTRUCTIONS: [(&str, Insn, [u8; 8]); 19] = [
 
 #[test]
 fn instructions_and_their_slots(rt: HostRuntime) -> Result<(), Fail> {
-    for (name, insn, slot) in INSTRUCTIONS {
-        let bytes = one_slot(rt.alloc(), slot)?;
-        let image = decode(rt.alloc(), &bytes)?;
-        assert_eq!(rt; image.code(), [insn].as_slice(), "{name}");
-        let again = encode(rt.alloc(), &image)?;
-        assert_eq!(rt; again.as_slice(), bytes.as_slice(), "{name}");
+    for &(name, insn, slot) in &INSTRUCTIONS {
+        let mut bytes = [0; 16];
+        bytes[..8].copy_from_slice(&HEAD);
+        bytes[8..].copy_from_slice(&slot);
+        is_decoded(&rt, rt.alloc(), name, &bytes, Version::V1, &[insn], 1)?;
     }
     Ok(())
 }
 
-#[test]
-fn wide_instructions_and_their_slots(rt: HostRuntime) -> Result<(), Fail> {
-    let mut code = Vec::new(rt.alloc());
-    code.push(Insn::Lddw {
+const WIDE_CODE: [Insn; 2] = [
+    Insn::Lddw {
         dst: Register::R1,
         value: 0x8877_6655_4433_2211,
-    })?;
-    code.push(Insn::Ldmap {
+    },
+    Insn::Ldmap {
         dst: Register::R2,
         map: -1,
-    })?;
-    let image = Image::of(Version::V1, Vec::new(rt.alloc()), code)?;
-    let bytes = encode(rt.alloc(), &image)?;
-    let want: [u8; 40] = [
-        0x58, 0x4c, 0x42, 0x50, 1, 0, 0, 0, 0x18, 0x01, 0, 0, 0x11, 0x22, 0x33, 0x44, 0, 0, 0, 0,
-        0x55, 0x66, 0x77, 0x88, 0x18, 0x12, 0, 0, 0xff, 0xff, 0xff, 0xff, 0, 0, 0, 0, 0, 0, 0, 0,
-    ];
-    assert_eq!(rt; bytes.as_slice(), want.as_slice());
-    let again = decode(rt.alloc(), &bytes)?;
-    assert_eq!(rt; again.code(), image.code());
-    Ok(())
-}
+    },
+];
 
 #[rattlefmt::skip]
-const MAPS: [(&str, [u8; 16], u8); 17] = [
+static WIDE_BYTES: [u8; 40] = [
+    0x58, 0x4c, 0x42, 0x50, 1, 0, 0, 0,
+    0x18, 0x01, 0, 0, 0x11, 0x22, 0x33, 0x44, 0, 0, 0, 0, 0x55, 0x66, 0x77, 0x88,
+    0x18, 0x12, 0, 0, 0xff, 0xff, 0xff, 0xff, 0, 0, 0, 0, 0, 0, 0, 0,
+];
+
+#[test]
+fn wide_instructions_and_their_slots(rt: HostRuntime) -> Result<(), Fail> {
+    goes_both_ways(
+        &rt,
+        rt.alloc(),
+        "a number and a map",
+        Version::V1,
+        &WIDE_CODE,
+        4,
+        &WIDE_BYTES,
+    )
+}
+
+// Heads of images with one map, and without a program.
+const ONE_MAP: [u8; 8] = [0x58, 0x4c, 0x42, 0x50, 1, 1, 0, 0];
+
+const ONE_WIDER_MAP: [u8; 8] = [0x58, 0x4c, 0x42, 0x50, 2, 1, 0, 0];
+
+#[rattlefmt::skip]
+static MAPS: [(&str, [u8; 16], u8); 17] = [
     ("array",                          [0x02, 0x00, 0x00, 0x00, 0x04, 0x00, 0x00, 0x00, 0x08, 0x00, 0x00, 0x00, 0x01, 0x00, 0x00, 0x00], 12),
     ("largest array",                  [0x02, 0x00, 0x00, 0x00, 0x04, 0x00, 0x00, 0x00, 0x40, 0x00, 0x00, 0x00, 0x00, 0x00, 0x02, 0x00], 12),
     ("hash",                           [0x01, 0x00, 0x00, 0x00, 0x04, 0x00, 0x00, 0x00, 0x08, 0x00, 0x00, 0x00, 0x01, 0x00, 0x00, 0x00], 12),
@@ -278,32 +346,30 @@ const MAPS: [(&str, [u8; 16], u8); 17] = [
 
 // In version 2.
 #[rattlefmt::skip]
-const WIDER_MAPS: [(&str, [u8; 16], u8); 7] = [
-    ("array",                          [0x02, 0x00, 0x00, 0x00, 0x04, 0x00, 0x00, 0x00, 0x08, 0x00, 0x00, 0x00, 0x01, 0x00, 0x00, 0x00], 12),
-    ("value of 72 bytes",              [0x02, 0x00, 0x00, 0x00, 0x04, 0x00, 0x00, 0x00, 0x48, 0x00, 0x00, 0x00, 0x01, 0x00, 0x00, 0x00], 12),
-    ("value of 256 bytes",             [0x02, 0x00, 0x00, 0x00, 0x04, 0x00, 0x00, 0x00, 0x00, 0x01, 0x00, 0x00, 0x01, 0x00, 0x00, 0x00], 12),
-    ("hash of 256 bytes",              [0x01, 0x00, 0x00, 0x00, 0x20, 0x00, 0x00, 0x00, 0x00, 0x01, 0x00, 0x00, 0x01, 0x00, 0x00, 0x00], 12),
-    ("value of 264 bytes",             [0x02, 0x00, 0x00, 0x00, 0x04, 0x00, 0x00, 0x00, 0x08, 0x01, 0x00, 0x00, 0x01, 0x00, 0x00, 0x00], 11),
-    ("value of 68 bytes",              [0x02, 0x00, 0x00, 0x00, 0x04, 0x00, 0x00, 0x00, 0x44, 0x00, 0x00, 0x00, 0x01, 0x00, 0x00, 0x00], 11),
-    ("type 3 is none",                 [0x03, 0x00, 0x00, 0x00, 0x04, 0x00, 0x00, 0x00, 0x08, 0x00, 0x00, 0x00, 0x01, 0x00, 0x00, 0x00], 11),
+static WIDER_MAPS: [(&str, [u8; 16], u8); 7] = [
+    ("array in version 2",                          [0x02, 0x00, 0x00, 0x00, 0x04, 0x00, 0x00, 0x00, 0x08, 0x00, 0x00, 0x00, 0x01, 0x00, 0x00, 0x00], 12),
+    ("value of 72 bytes in version 2",              [0x02, 0x00, 0x00, 0x00, 0x04, 0x00, 0x00, 0x00, 0x48, 0x00, 0x00, 0x00, 0x01, 0x00, 0x00, 0x00], 12),
+    ("value of 256 bytes in version 2",             [0x02, 0x00, 0x00, 0x00, 0x04, 0x00, 0x00, 0x00, 0x00, 0x01, 0x00, 0x00, 0x01, 0x00, 0x00, 0x00], 12),
+    ("hash of 256 bytes in version 2",              [0x01, 0x00, 0x00, 0x00, 0x20, 0x00, 0x00, 0x00, 0x00, 0x01, 0x00, 0x00, 0x01, 0x00, 0x00, 0x00], 12),
+    ("value of 264 bytes in version 2",             [0x02, 0x00, 0x00, 0x00, 0x04, 0x00, 0x00, 0x00, 0x08, 0x01, 0x00, 0x00, 0x01, 0x00, 0x00, 0x00], 11),
+    ("value of 68 bytes in version 2",              [0x02, 0x00, 0x00, 0x00, 0x04, 0x00, 0x00, 0x00, 0x44, 0x00, 0x00, 0x00, 0x01, 0x00, 0x00, 0x00], 11),
+    ("type 3 is none in version 2",                 [0x03, 0x00, 0x00, 0x00, 0x04, 0x00, 0x00, 0x00, 0x08, 0x00, 0x00, 0x00, 0x01, 0x00, 0x00, 0x00], 11),
 ];
 
 #[test]
 fn maps(rt: HostRuntime) -> Result<(), Fail> {
-    for (name, map, want) in MAPS {
-        let bytes = one_map(rt.alloc(), 1, map)?;
-        assert_eq!(rt; number_of(rt.alloc(), &bytes), want, "{name}");
+    for &(name, map, want) in &MAPS {
+        has_fault(&rt, rt.alloc(), name, &ONE_MAP, &map, &[], want)?;
     }
-    for (name, map, want) in WIDER_MAPS {
-        let bytes = one_map(rt.alloc(), 2, map)?;
-        assert_eq!(rt; number_of(rt.alloc(), &bytes), want, "{name} in version 2");
+    for &(name, map, want) in &WIDER_MAPS {
+        has_fault(&rt, rt.alloc(), name, &ONE_WIDER_MAP, &map, &[], want)?;
     }
     Ok(())
 }
 
 // A wide slot and the slot after it, in an image of this version.
 #[rattlefmt::skip]
-const ADDRESSES: [(&str, u8, [u8; 8], [u8; 8], u8); 12] = [
+static ADDRESSES: [(&str, u8, [u8; 8], [u8; 8], u8); 12] = [
     ("an address in version 2",            2, [0x18, 0x21, 0, 0, 0, 0, 0, 0],    [0, 0, 0, 0, 8, 0, 0, 0],             0),
     ("the largest offset",                 2, [0x18, 0x21, 0, 0, 0, 0, 0, 0],    [0, 0, 0, 0, 0xff, 0xff, 0xff, 0xff], 0),
     ("a map below 0",                      2, [0x18, 0x21, 0, 0, 255, 255, 255, 255], [0, 0, 0, 0, 0, 0, 0, 0],        0),
@@ -318,32 +384,31 @@ const ADDRESSES: [(&str, u8, [u8; 8], [u8; 8], u8); 12] = [
     ("a map with an offset in version 2",  2, [0x18, 0x11, 0, 0, 0, 0, 0, 0],    [0, 0, 0, 0, 8, 0, 0, 0],             18),
 ];
 
+#[rattlefmt::skip]
+static ADDRESS_BYTES: [u8; 24] = [
+    0x58, 0x4c, 0x42, 0x50, 2, 0, 0, 0,
+    0x18, 0x21, 0, 0, 0, 0, 0, 0, 0, 0, 0, 0, 8, 0, 0, 0,
+];
+
 #[test]
 fn addresses_in_values(rt: HostRuntime) -> Result<(), Fail> {
-    for (name, version, first, second, want) in ADDRESSES {
-        let mut bytes = Vec::new(rt.alloc());
-        bytes.extend_from_slice(&[0x58, 0x4c, 0x42, 0x50, version, 0, 0, 0])?;
-        bytes.extend_from_slice(&first)?;
-        bytes.extend_from_slice(&second)?;
-        assert_eq!(rt; number_of(rt.alloc(), &bytes), want, "{name}");
+    for &(name, version, first, second, want) in &ADDRESSES {
+        let head = [0x58, 0x4c, 0x42, 0x50, version, 0, 0, 0];
+        has_fault(&rt, rt.alloc(), name, &head, &first, &second, want)?;
     }
-    let mut code = Vec::new(rt.alloc());
-    code.push(ADDRESS)?;
-    let image = Image::of(Version::V2, Vec::new(rt.alloc()), code)?;
-    let bytes = encode(rt.alloc(), &image)?;
-    let want: [u8; 24] = [
-        0x58, 0x4c, 0x42, 0x50, 2, 0, 0, 0, 0x18, 0x21, 0, 0, 0, 0, 0, 0, 0, 0, 0, 0, 8, 0, 0, 0,
-    ];
-    assert_eq!(rt; bytes.as_slice(), want.as_slice());
-    let again = decode(rt.alloc(), &bytes)?;
-    assert_eq!(rt; again.version(), Version::V2);
-    assert_eq!(rt; again.code(), image.code());
-    assert_eq!(rt; again.slots(), 2);
-    Ok(())
+    goes_both_ways(
+        &rt,
+        rt.alloc(),
+        "the address of a value",
+        Version::V2,
+        &[ADDRESS],
+        2,
+        &ADDRESS_BYTES,
+    )
 }
 
 #[rattlefmt::skip]
-const HEADS: [(&str, [u8; 8], u8); 10] = [
+static HEADS: [(&str, [u8; 8], u8); 10] = [
     ("head alone",           [0x58, 0x4c, 0x42, 0x50, 1, 0, 0, 0],    12),
     ("another magic",        [0x59, 0x4c, 0x42, 0x50, 1, 0, 0, 0],    10),
     ("another second byte",  [0x58, 0x4d, 0x42, 0x50, 1, 0, 0, 0],    10),
@@ -358,19 +423,16 @@ const HEADS: [(&str, [u8; 8], u8); 10] = [
 
 #[test]
 fn heads(rt: HostRuntime) {
-    for (name, head, want) in HEADS {
-        assert_eq!(rt; number_of(rt.alloc(), &head), want, "{name}");
+    for &(name, head, want) in &HEADS {
+        same(&rt, name, &number_of(rt.alloc(), &head), &want);
     }
-    assert_eq!(rt;
-        number_of(rt.alloc(), &HEAD[..7]),
-        10,
-        "without its last byte"
-    );
+    let cut = number_of(rt.alloc(), &HEAD[..7]);
+    same(&rt, "without its last byte", &cut, &10);
 }
 
 // Reads the packet's fourteenth byte and adds it to an array's first value.
 #[rattlefmt::skip]
-const FIRST_RUN: [u8; 168] = [
+static FIRST_RUN: [u8; 168] = [
     0x58, 0x4c, 0x42, 0x50, 0x01, 0x01, 0x00, 0x00,
     0x02, 0x00, 0x00, 0x00, 0x04, 0x00, 0x00, 0x00,
     0x08, 0x00, 0x00, 0x00, 0x01, 0x00, 0x00, 0x00,
@@ -412,56 +474,38 @@ fn want_at(length: usize) -> u8 {
 #[test]
 fn beginnings(rt: HostRuntime) {
     for length in 0..FIRST_RUN.len() + 1 {
-        let want = want_at(length);
-        assert_eq!(rt;
-            number_of(rt.alloc(), &FIRST_RUN[..length]),
-            want,
-            "{length} bytes"
-        );
+        let found = number_of(rt.alloc(), &FIRST_RUN[..length]);
+        same_at(&rt, "bytes up to", length as u64, &found, &want_at(length));
     }
     let cut = decode(rt.alloc(), &FIRST_RUN[..112]);
-    assert!(rt; matches!(cut, Err(DecodeFault::WideCut { slot: 10 })));
+    let is_cut = matches!(cut, Err(DecodeFault::WideCut { slot: 10 }));
+    holds(&rt, "slot 10 is cut", is_cut);
 }
 
 #[test]
 fn first_run(rt: HostRuntime) -> Result<(), Fail> {
     let image = decode(rt.alloc(), &FIRST_RUN)?;
-    assert_eq!(rt; image.code().len(), 17);
-    let map = MapDef {
-        kind: MapKind::Array,
-        key_size: 4,
-        value_size: 8,
-        max_entries: 1,
-    };
-    assert_eq!(rt; image.maps(), [map].as_slice());
-    let bytes = encode(rt.alloc(), &image)?;
-    assert_eq!(rt; bytes.as_slice(), FIRST_RUN.as_slice());
-    Ok(())
+    same(&rt, "instructions", &image.code().len(), &17);
+    same(&rt, "maps", &image.maps(), &[ARRAY].as_slice());
+    is_encoded(&rt, rt.alloc(), "the first run", &image, &FIRST_RUN)
 }
 
-/// An image of so many moves and an exit.
-fn moves(alloc: Global, count: u32) -> Result<Vec<u8>, AllocError> {
-    let mut bytes = with_head(alloc, &[])?;
+/// An image of so many moves and an exit has the fault of this number, or none where it is 0.
+fn has_length_fault(rt: &impl Abort, alloc: Global, count: u32, want: u8) -> Result<(), Fail> {
+    let mut bytes = bytes_of(alloc, &HEAD, &[], &[])?;
     for _ in 0..count {
         bytes.extend_from_slice(&[0xb7, 0, 0, 0, 1, 0, 0, 0])?;
     }
     bytes.extend_from_slice(&[0x95, 0, 0, 0, 0, 0, 0, 0])?;
-    Ok(bytes)
+    let found = number_of(alloc, &bytes);
+    same_at(rt, "moves", u64::from(count), &found, &want);
+    Ok(())
 }
 
 #[test]
 fn lengths(rt: HostRuntime) -> Result<(), Fail> {
-    assert_eq!(rt;
-        number_of(rt.alloc(), &moves(rt.alloc(), 4095)?),
-        0,
-        "4096 slots"
-    );
-    assert_eq!(rt;
-        number_of(rt.alloc(), &moves(rt.alloc(), 4096)?),
-        14,
-        "4097 slots"
-    );
-    Ok(())
+    has_length_fault(&rt, rt.alloc(), 4095, 0)?;
+    has_length_fault(&rt, rt.alloc(), 4096, 14)
 }
 
 /// The fault of an image of these parts, or 0.
@@ -520,7 +564,7 @@ const ADDRESS: Insn = Insn::Ldval {
 };
 
 #[rattlefmt::skip]
-const PARTS: [(&str, Version, u32, MapDef, u32, Insn, u8); 12] = [
+static PARTS: [(&str, Version, u32, MapDef, u32, Insn, u8); 12] = [
     ("sixteen maps",                     Version::V1, 16, ARRAY, 1,    Insn::Exit, 0),
     ("seventeen maps",                   Version::V1, 17, ARRAY, 1,    Insn::Exit, 10),
     ("a hash",                           Version::V1, 1,  HASH,  1,    Insn::Exit, 0),
@@ -537,15 +581,15 @@ const PARTS: [(&str, Version, u32, MapDef, u32, Insn, u8); 12] = [
 
 #[test]
 fn images_of_parts(rt: HostRuntime) -> Result<(), Fail> {
-    for (name, version, maps, map, code, insn, want) in PARTS {
+    for &(name, version, maps, map, code, insn, want) in &PARTS {
         let number = part_fault(rt.alloc(), version, maps, map, code, insn)?;
-        assert_eq!(rt; number, want, "{name}");
+        same(&rt, name, &number, &want);
     }
     Ok(())
 }
 
 #[rattlefmt::skip]
-const TEXTS: [(DecodeFault, &str); 11] = [
+static TEXTS: [(DecodeFault, &str); 11] = [
     (DecodeFault::BadHead,                   "fault 10 BadHead"),
     (DecodeFault::BadMap { map: 0 },         "fault 11 BadMap map 0"),
     (DecodeFault::Empty,                     "fault 12 Empty"),
@@ -561,9 +605,8 @@ const TEXTS: [(DecodeFault, &str); 11] = [
 
 #[test]
 fn texts(rt: HostRuntime) -> Result<(), Fail> {
-    for (fault, want) in TEXTS {
-        let text = format!(in rt.alloc(); "{fault}")?;
-        assert_eq!(rt; text.as_str(), want);
+    for &(fault, want) in &TEXTS {
+        prints(&rt, rt.alloc(), &fault, want)?;
     }
     Ok(())
 }
@@ -572,7 +615,7 @@ fn texts(rt: HostRuntime) -> Result<(), Fail> {
 #[test]
 fn refused_memory_is_20(rt: HostRuntime) {
     let number = number_of(rt.alloc(), &FIRST_RUN);
-    assert!(rt; number == 0 || number == 20);
+    holds(&rt, "an image or 20", number == 0 || number == 20);
 }
 
 #[test]

@@ -1,8 +1,11 @@
 //! Programs that are accepted, and programs with their first reject, worked out by hand.
 
-use ebpf_decode::{Image, Insn, MapDef, MapKind, Version};
+use crate::asserting::{prints, same, same_fact};
+use crate::programs::{image_of, repeated};
+use ebpf_decode::{Insn, MapDef, MapKind, Version};
 use isa::{AluOp, AtomicOp, Register, Size, Source, Test, Width};
 use std::alloc::Global;
+use std::process::Abort;
 use std::test::Fail;
 use verifier::*;
 
@@ -404,7 +407,7 @@ const THROUGH_KEPT: Insn = Insn::Ldx {
 };
 
 #[rattlefmt::skip]
-const ACCEPTED: [(&str, &[Insn], bool); 16] = [
+static ACCEPTED: [(&str, &[Insn], bool); 16] = [
     ("a verdict alone",                           &[PASS, EXIT], true),
     ("the byte that a test covers",               &[START, END, PLACE, ADD_14, PASS, JGT_1, BYTE_13, EXIT], true),
     ("one byte more by a strict test",            &[START, END, PLACE, ADD_14, PASS, JGE_1, BYTE_14, EXIT], true),
@@ -424,7 +427,7 @@ const ACCEPTED: [(&str, &[Insn], bool); 16] = [
 ];
 
 #[rattlefmt::skip]
-const REFUSED: [(&str, &[Insn], Reject); 28] = [
+static REFUSED: [(&str, &[Insn], Reject); 28] = [
     ("no verdict",                          &[EXIT], Reject::UnsetRegister { slot: 0, register: 0 }),
     ("a packet byte without a test",        &[START, BYTE_0, EXIT], Reject::PacketBounds { slot: 1 }),
     ("past what the test covers",           &[START, END, PLACE, ADD_14, PASS, JGT_1, BYTE_14, EXIT], Reject::PacketBounds { slot: 6 }),
@@ -455,104 +458,85 @@ const REFUSED: [(&str, &[Insn], Reject); 28] = [
     ("an update of unset bytes",            &[KEY, KEY_AT, KEY_DOWN, VALUE_AT, VALUE_DOWN, FLAGS, MAP, UPDATE, PASS, EXIT], Reject::StackUnset { slot: 8 }),
 ];
 
-/// An image of this program with one map.
-fn image_of(alloc: Global, code: &[Insn]) -> Result<Image, Fail> {
-    image_over(alloc, &MAPS, code)
-}
-
-/// An image of this program with these maps.
-fn image_over(alloc: Global, maps: &[MapDef], code: &[Insn]) -> Result<Image, Fail> {
-    let mut all_maps = Vec::new(alloc);
-    all_maps.extend_from_slice(maps)?;
-    let mut all = Vec::new(alloc);
-    all.extend_from_slice(code)?;
-    Ok(Image::of(Version::V1, all_maps, all)?)
-}
-
-#[test]
-fn accepted(rt: HostRuntime) -> Result<(), Fail> {
-    for (name, code, reads) in ACCEPTED {
-        match verify(rt.alloc(), image_of(rt.alloc(), code)?) {
-            Ok(verified) => {
-                assert_eq!(rt; verified.is_reader(), reads, "{name}");
-                assert_eq!(rt; verified.image().code().len(), code.len(), "{name}");
-            }
-            Err(reject) => assert!(rt; false, "{name}: {reject}"),
+/// The verifier accepts a program over these maps and says whether it only reads, or answers its first reject.
+pub(crate) fn is_judged(
+    rt: &impl Abort,
+    alloc: Global,
+    name: &str,
+    version: Version,
+    maps: &[MapDef],
+    code: &[Insn],
+    wanted: Result<bool, Reject>,
+) -> Result<(), Fail> {
+    match verify(alloc, image_of(alloc, version, maps, code)?) {
+        Ok(verified) => {
+            same(rt, name, &Ok(verified.is_reader()), &wanted);
+            let length = verified.image().code().len();
+            same_fact(rt, name, "its length", &length, &code.len());
         }
+        Err(reject) => same(rt, name, &Err(reject), &wanted),
     }
     Ok(())
 }
 
-/// Maps of every kind are accepted; keys have the map's size.
 #[test]
-fn maps_of_every_kind(rt: HostRuntime) -> Result<(), Fail> {
-    const COUNTED: [Insn; 18] = [
-        KEY,
-        CHANGED_VALUE,
-        KEY_AT,
-        KEY_DOWN,
-        VALUE_AT,
-        VALUE_DOWN,
-        FLAGS,
-        MAP,
-        UPDATE,
-        KEY_AT,
-        KEY_DOWN,
-        MAP,
-        LOOKUP,
-        JEQ_NULL_3,
-        ONE,
-        FETCH_ADD,
-        COUNT,
-        EXIT,
-    ];
-    #[rattlefmt::skip]
-    const ROWS: [(&str, MapKind, u32, Option<Reject>); 5] = [
-        ("an array",             MapKind::Array,   4, None),
-        ("a hash map",           MapKind::Hash,    4, None),
-        ("an LRU map",           MapKind::LruHash, 4, None),
-        ("a key of 5 bytes",     MapKind::Hash,    5, Some(Reject::StackBounds { slot: 9 })),
-        ("a key of 1 byte",      MapKind::LruHash, 1, None),
-    ];
-    for (name, kind, key_size, wanted) in ROWS {
-        let maps = [MapDef {
-            kind,
-            key_size,
-            value_size: 8,
-            max_entries: 8,
-        }];
-        let reject = match verify(rt.alloc(), image_over(rt.alloc(), &maps, &COUNTED)?) {
-            Ok(_) => None,
-            Err(reject) => Some(reject),
-        };
-        assert_eq!(rt; reject, wanted, "{name}");
+fn accepted(rt: HostRuntime) -> Result<(), Fail> {
+    for &(name, code, reads) in &ACCEPTED {
+        is_judged(&rt, rt.alloc(), name, Version::V1, &MAPS, code, Ok(reads))?;
     }
     Ok(())
 }
 
 #[test]
 fn refused(rt: HostRuntime) -> Result<(), Fail> {
-    for (name, code, wanted) in REFUSED {
-        match verify(rt.alloc(), image_of(rt.alloc(), code)?) {
-            Ok(_) => assert!(rt; false, "{name} is accepted"),
-            Err(reject) => assert_eq!(rt; reject, wanted, "{name}"),
-        }
+    for &(name, code, wanted) in &REFUSED {
+        is_judged(&rt, rt.alloc(), name, Version::V1, &MAPS, code, Err(wanted))?;
+    }
+    Ok(())
+}
+
+#[rattlefmt::skip]
+const COUNTED: [Insn; 18] = [
+    KEY, CHANGED_VALUE, KEY_AT, KEY_DOWN, VALUE_AT, VALUE_DOWN, FLAGS, MAP, UPDATE,
+    KEY_AT, KEY_DOWN, MAP, LOOKUP, JEQ_NULL_3, ONE, FETCH_ADD, COUNT, EXIT,
+];
+
+/// What an update and an atomic count are judged by the kind of their map and the size of its keys.
+#[rattlefmt::skip]
+static KINDS: [(&str, MapKind, u32, Result<bool, Reject>); 5] = [
+    ("an array",             MapKind::Array,   4, Ok(false)),
+    ("a hash map",           MapKind::Hash,    4, Ok(false)),
+    ("an LRU map",           MapKind::LruHash, 4, Ok(false)),
+    ("a key of 5 bytes",     MapKind::Hash,    5, Err(Reject::StackBounds { slot: 9 })),
+    ("a key of 1 byte",      MapKind::LruHash, 1, Ok(false)),
+];
+
+/// Maps of every kind are accepted; keys have the map's size.
+#[test]
+fn maps_of_every_kind(rt: HostRuntime) -> Result<(), Fail> {
+    for &(name, kind, key_size, wanted) in &KINDS {
+        let maps = [MapDef {
+            kind,
+            key_size,
+            value_size: 8,
+            max_entries: 8,
+        }];
+        is_judged(&rt, rt.alloc(), name, Version::V1, &maps, &COUNTED, wanted)?;
     }
     Ok(())
 }
 
 #[test]
 fn no_map_in_the_list(rt: HostRuntime) -> Result<(), Fail> {
-    let mut code = Vec::new(rt.alloc());
-    code.extend_from_slice(&[MAP, PASS, EXIT])?;
-    match verify(
+    is_judged(
+        &rt,
         rt.alloc(),
-        Image::of(Version::V1, Vec::new(rt.alloc()), code)?,
-    ) {
-        Ok(_) => assert!(rt; false, "a map that is none is accepted"),
-        Err(reject) => assert_eq!(rt; reject, Reject::UnknownMap { slot: 0 }, "no map 0"),
-    }
-    Ok(())
+        "no map 0",
+        Version::V1,
+        &[],
+        &[MAP, PASS, EXIT],
+        Err(Reject::UnknownMap { slot: 0 }),
+    )
 }
 
 /// What a flat instruction is, of those in the rows below.
@@ -572,73 +556,87 @@ fn sort(op: &Op) -> &'static str {
     }
 }
 
+/// The program is accepted, and the instruction at this slot becomes one of this sort.
+fn resolves_to(
+    rt: &impl Abort,
+    alloc: Global,
+    name: &str,
+    code: &[Insn],
+    slot: usize,
+    wanted: &str,
+) -> Result<(), Fail> {
+    match verify(alloc, image_of(alloc, Version::V1, &MAPS, code)?) {
+        Ok(verified) => {
+            let found = verified.op(slot).map_or("none", sort);
+            same(rt, name, &Ok(found), &Ok::<&str, Reject>(wanted));
+        }
+        Err(reject) => same(rt, name, &Err(reject), &Ok::<&str, Reject>(wanted)),
+    }
+    Ok(())
+}
+
+#[rattlefmt::skip]
+static RESOLVED: [(&str, &[Insn], usize, &str); 8] = [
+    ("a spill goes to the stack",            &[SPILL, FILL, FIELD_12, EXIT], 0, "to the stack"),
+    ("a fill comes from there",              &[SPILL, FILL, FIELD_12, EXIT], 1, "from the stack"),
+    ("a field of the filled context",        &[SPILL, FILL, FIELD_12, EXIT], 2, "from the context"),
+    ("an exit touches nothing",              &[SPILL, FILL, FIELD_12, EXIT], 3, "exit"),
+    ("nothing past the end",                 &[SPILL, FILL, FIELD_12, EXIT], 4, "none"),
+    ("nothing inside a wide instruction",    &[NUMBER, EXIT], 1, "hole"),
+    ("a byte of the packet",                 &[START, END, PLACE, ADD_14, PASS, JGT_1, BYTE_13, EXIT], 6, "from the packet"),
+    ("a value of a map, behind a wide one",  &[KEY, KEY_AT, KEY_DOWN, MAP, LOOKUP, JEQ_NULL, VALUE, PASS, EXIT], 7, "from a value"),
+];
+
 #[test]
 fn resolved_instructions(rt: HostRuntime) -> Result<(), Fail> {
-    #[rattlefmt::skip]
-    const ROWS: [(&str, &[Insn], usize, &str); 8] = [
-        ("a spill goes to the stack",            &[SPILL, FILL, FIELD_12, EXIT], 0, "to the stack"),
-        ("a fill comes from there",              &[SPILL, FILL, FIELD_12, EXIT], 1, "from the stack"),
-        ("a field of the filled context",        &[SPILL, FILL, FIELD_12, EXIT], 2, "from the context"),
-        ("an exit touches nothing",              &[SPILL, FILL, FIELD_12, EXIT], 3, "exit"),
-        ("nothing past the end",                 &[SPILL, FILL, FIELD_12, EXIT], 4, "none"),
-        ("nothing inside a wide instruction",    &[NUMBER, EXIT], 1, "hole"),
-        ("a byte of the packet",                 &[START, END, PLACE, ADD_14, PASS, JGT_1, BYTE_13, EXIT], 6, "from the packet"),
-        ("a value of a map, behind a wide one",  &[KEY, KEY_AT, KEY_DOWN, MAP, LOOKUP, JEQ_NULL, VALUE, PASS, EXIT], 7, "from a value"),
-    ];
-    for (name, code, slot, wanted) in ROWS {
-        match verify(rt.alloc(), image_of(rt.alloc(), code)?) {
-            Ok(verified) => {
-                assert_eq!(rt; verified.op(slot).map_or("none", sort), wanted, "{name}");
-            }
-            Err(reject) => assert!(rt; false, "{name}: {reject}"),
-        }
+    for &(name, code, slot, wanted) in &RESOLVED {
+        resolves_to(&rt, rt.alloc(), name, code, slot, wanted)?;
     }
     Ok(())
 }
 
 #[test]
 fn the_longest_program(rt: HostRuntime) -> Result<(), Fail> {
-    let mut code = Vec::new(rt.alloc());
-    for _ in 0..4095 {
-        code.push(PASS)?;
-    }
-    code.push(EXIT)?;
-    let longest = verify(
+    let code = repeated(rt.alloc(), PASS, 4095)?;
+    is_judged(
+        &rt,
         rt.alloc(),
-        Image::of(Version::V1, Vec::new(rt.alloc()), code)?,
-    );
-    assert!(rt; matches!(longest, Ok(_)), "4096 slots are accepted");
-    Ok(())
+        "4096 slots",
+        Version::V1,
+        &[],
+        &code,
+        Ok(true),
+    )
 }
+
+#[rattlefmt::skip]
+static TEXTS: [(Reject, &str); 20] = [
+    (Reject::JumpBackward { slot: 1 },               "fault 30 JumpBackward slot 1"),
+    (Reject::JumpOutside { slot: 5 },                "fault 31 JumpOutside slot 5"),
+    (Reject::JumpIntoWide { slot: 0 },               "fault 32 JumpIntoWide slot 0"),
+    (Reject::FallsOff { slot: 4095 },                "fault 33 FallsOff slot 4095"),
+    (Reject::Unreachable { slot: 2 },                "fault 34 Unreachable slot 2"),
+    (Reject::UnsetRegister { slot: 0, register: 0 }, "fault 35 UnsetRegister slot 0 register 0"),
+    (Reject::WrongKind { slot: 3, register: 10 },    "fault 36 WrongKind slot 3 register 10"),
+    (Reject::PacketBounds { slot: 6 },               "fault 37 PacketBounds slot 6"),
+    (Reject::StackBounds { slot: 7 },                "fault 38 StackBounds slot 7"),
+    (Reject::StackUnset { slot: 8 },                 "fault 39 StackUnset slot 8"),
+    (Reject::ValueBounds { slot: 9 },                "fault 40 ValueBounds slot 9"),
+    (Reject::Misaligned { slot: 10 },                "fault 41 Misaligned slot 10"),
+    (Reject::ContextAccess { slot: 11 },             "fault 42 ContextAccess slot 11"),
+    (Reject::ReadOnlyFp { slot: 12 },                "fault 43 ReadOnlyFp slot 12"),
+    (Reject::UnknownHelper { slot: 13 },             "fault 44 UnknownHelper slot 13"),
+    (Reject::BadArgument { slot: 14, register: 2 },  "fault 45 BadArgument slot 14 register 2"),
+    (Reject::PointerLeak { slot: 15 },               "fault 46 PointerLeak slot 15"),
+    (Reject::UnknownMap { slot: 16 },                "fault 47 UnknownMap slot 16"),
+    (Reject::Memory,                                 "fault 48 Memory"),
+    (Reject::NotArrayMap { slot: 17 },               "fault 49 NotArrayMap slot 17"),
+];
 
 #[test]
 fn printed_rejects(rt: HostRuntime) -> Result<(), Fail> {
-    #[rattlefmt::skip]
-    const TEXTS: [(Reject, &str); 20] = [
-        (Reject::JumpBackward { slot: 1 },               "fault 30 JumpBackward slot 1"),
-        (Reject::JumpOutside { slot: 5 },                "fault 31 JumpOutside slot 5"),
-        (Reject::JumpIntoWide { slot: 0 },               "fault 32 JumpIntoWide slot 0"),
-        (Reject::FallsOff { slot: 4095 },                "fault 33 FallsOff slot 4095"),
-        (Reject::Unreachable { slot: 2 },                "fault 34 Unreachable slot 2"),
-        (Reject::UnsetRegister { slot: 0, register: 0 }, "fault 35 UnsetRegister slot 0 register 0"),
-        (Reject::WrongKind { slot: 3, register: 10 },    "fault 36 WrongKind slot 3 register 10"),
-        (Reject::PacketBounds { slot: 6 },               "fault 37 PacketBounds slot 6"),
-        (Reject::StackBounds { slot: 7 },                "fault 38 StackBounds slot 7"),
-        (Reject::StackUnset { slot: 8 },                 "fault 39 StackUnset slot 8"),
-        (Reject::ValueBounds { slot: 9 },                "fault 40 ValueBounds slot 9"),
-        (Reject::Misaligned { slot: 10 },                "fault 41 Misaligned slot 10"),
-        (Reject::ContextAccess { slot: 11 },             "fault 42 ContextAccess slot 11"),
-        (Reject::ReadOnlyFp { slot: 12 },                "fault 43 ReadOnlyFp slot 12"),
-        (Reject::UnknownHelper { slot: 13 },             "fault 44 UnknownHelper slot 13"),
-        (Reject::BadArgument { slot: 14, register: 2 },  "fault 45 BadArgument slot 14 register 2"),
-        (Reject::PointerLeak { slot: 15 },               "fault 46 PointerLeak slot 15"),
-        (Reject::UnknownMap { slot: 16 },                "fault 47 UnknownMap slot 16"),
-        (Reject::Memory,                                 "fault 48 Memory"),
-        (Reject::NotArrayMap { slot: 17 },               "fault 49 NotArrayMap slot 17"),
-    ];
-    for (reject, wanted) in TEXTS {
-        let text = format!(in rt.alloc(); "{reject}")?;
-        assert_eq!(rt; text.as_str(), wanted, "{wanted}");
+    for &(reject, wanted) in &TEXTS {
+        prints(&rt, rt.alloc(), &reject, wanted)?;
     }
     Ok(())
 }

@@ -2,6 +2,8 @@
 #![tactic(auto)]
 
 #[cfg(test)]
+mod asserting;
+#[cfg(test)]
 mod images;
 #[cfg(test)]
 mod interval_rows;
@@ -15,5 +17,9 @@ mod map_values;
 mod operation_rows;
 #[cfg(test)]
 mod program_structure;
+#[cfg(test)]
+mod programs;
+#[cfg(test)]
+mod rows;
 #[cfg(test)]
 mod straight_code;

@@ -1,11 +1,14 @@
 //! Programs and their first faults, worked out by hand.
 
-use ebpf_decode::{Image, Insn, Version, decode};
+use crate::asserting::{prints, same, same_at, same_fact};
+use crate::programs::{image_of, repeated};
+use ebpf_decode::{Insn, Version, decode};
 use image_shape::{
     ShapeFault, check_shape, edges_go_up, falls_through, one_answer, runs_follow_edges,
 };
 use isa::{AluOp, Register, Source, Test, Width};
-use std::alloc::{AllocError, Global};
+use std::alloc::Global;
+use std::process::Abort;
 use std::test::Fail;
 
 const MOV: Insn = Insn::Alu {
@@ -80,7 +83,7 @@ const JEQ_2: Insn = Insn::JumpIf {
 };
 
 #[rattlefmt::skip]
-const ACCEPTED: [(&str, &[Insn]); 10] = [
+static ACCEPTED: [(&str, &[Insn]); 10] = [
     ("exit alone",                                    &[EXIT]),
     ("moves and exit",                                &[MOV, MOV, EXIT]),
     ("a jump to the next slot",                       &[JA, EXIT]),
@@ -94,7 +97,7 @@ const ACCEPTED: [(&str, &[Insn]); 10] = [
 ];
 
 #[rattlefmt::skip]
-const REFUSED: [(&str, &[Insn], ShapeFault); 22] = [
+static REFUSED: [(&str, &[Insn], ShapeFault); 22] = [
     ("a jump to itself",                              &[MOV, JA_BACK, EXIT],          ShapeFault::JumpBackward { slot: 1 }),
     ("slots of wide instructions count",              &[LDDW, JA_BACK, EXIT],         ShapeFault::JumpBackward { slot: 2 }),
     ("the lowest distance",                           &[JA32_BACK, EXIT],             ShapeFault::JumpBackward { slot: 0 }),
@@ -119,34 +122,38 @@ const REFUSED: [(&str, &[Insn], ShapeFault); 22] = [
     ("a wide one that is jumped over",                &[JA_2, LDDW, EXIT],            ShapeFault::Unreachable { slot: 1 }),
 ];
 
-/// An image of this program without maps.
-fn image_of(alloc: Global, code: &[Insn]) -> Result<Image, Fail> {
-    let mut all = Vec::new(alloc);
-    all.extend_from_slice(code)?;
-    Ok(Image::of(Version::V1, Vec::new(alloc), all)?)
+/// A program without maps has this first fault of structure, or none.
+fn has_shape(
+    rt: &impl Abort,
+    alloc: Global,
+    name: &str,
+    code: &[Insn],
+    want: Result<(), ShapeFault>,
+) -> Result<(), Fail> {
+    let image = image_of(alloc, Version::V1, &[], code)?;
+    same(rt, name, &check_shape(&image), &want);
+    Ok(())
 }
 
 #[test]
 fn accepted(rt: HostRuntime) -> Result<(), Fail> {
-    for (name, code) in ACCEPTED {
-        let image = image_of(rt.alloc(), code)?;
-        assert_eq!(rt; check_shape(&image), Ok(()), "{name}");
+    for &(name, code) in &ACCEPTED {
+        has_shape(&rt, rt.alloc(), name, code, Ok(()))?;
     }
     Ok(())
 }
 
 #[test]
 fn refused(rt: HostRuntime) -> Result<(), Fail> {
-    for (name, code, want) in REFUSED {
-        let image = image_of(rt.alloc(), code)?;
-        assert_eq!(rt; check_shape(&image), Err(want), "{name}");
+    for &(name, code, want) in &REFUSED {
+        has_shape(&rt, rt.alloc(), name, code, Err(want))?;
     }
     Ok(())
 }
 
 // Reads the packet's fourteenth byte and adds it to an array's first value.
 #[rattlefmt::skip]
-const FIRST_RUN: [u8; 168] = [
+static FIRST_RUN: [u8; 168] = [
     0x58, 0x4c, 0x42, 0x50, 0x01, 0x01, 0x00, 0x00,
     0x02, 0x00, 0x00, 0x00, 0x04, 0x00, 0x00, 0x00,
     0x08, 0x00, 0x00, 0x00, 0x01, 0x00, 0x00, 0x00,
@@ -183,38 +190,34 @@ fn want_at(slots: u32) -> Result<(), ShapeFault> {
     }
 }
 
+/// The bytes of a beginning of FIRST_RUN have the structure that is wanted of so many slots.
+fn begins_so(rt: &impl Abort, alloc: Global, bytes: &[u8], slots: u32) -> Result<(), Fail> {
+    let image = decode(alloc, bytes)?;
+    let found = check_shape(&image);
+    same_at(rt, "slots up to", u64::from(slots), &found, &want_at(slots));
+    Ok(())
+}
+
 // Eleven slots end within a wide instruction, and are no image.
 #[test]
 fn beginnings(rt: HostRuntime) -> Result<(), Fail> {
     for slots in 1u32..19 {
         if slots != 11 {
             let bytes = &FIRST_RUN[..24 + 8 * slots as usize];
-            let image = decode(rt.alloc(), bytes)?;
-            assert_eq!(rt; check_shape(&image), want_at(slots), "{slots} slots");
+            begins_so(&rt, rt.alloc(), bytes, slots)?;
         }
     }
     Ok(())
 }
 
-/// A program of so many moves and an exit.
-fn moves(alloc: Global, count: u32) -> Result<Image, Fail> {
-    let mut code = Vec::new(alloc);
-    for _ in 0..count {
-        code.push(MOV)?;
-    }
-    code.push(EXIT)?;
-    Ok(Image::of(Version::V1, Vec::new(alloc), code)?)
-}
-
 #[test]
 fn longest_program(rt: HostRuntime) -> Result<(), Fail> {
-    let image = moves(rt.alloc(), 4095)?;
-    assert_eq!(rt; check_shape(&image), Ok(()));
-    Ok(())
+    let code = repeated(rt.alloc(), MOV, 4095)?;
+    has_shape(&rt, rt.alloc(), "4096 slots", &code, Ok(()))
 }
 
 #[rattlefmt::skip]
-const TEXTS: [(ShapeFault, u8, &str); 5] = [
+static TEXTS: [(ShapeFault, u8, &str); 5] = [
     (ShapeFault::JumpBackward { slot: 1 },   30, "fault 30 JumpBackward slot 1"),
     (ShapeFault::JumpOutside { slot: 5 },    31, "fault 31 JumpOutside slot 5"),
     (ShapeFault::JumpIntoWide { slot: 0 },   32, "fault 32 JumpIntoWide slot 0"),
@@ -224,16 +227,15 @@ const TEXTS: [(ShapeFault, u8, &str); 5] = [
 
 #[test]
 fn texts(rt: HostRuntime) -> Result<(), Fail> {
-    for (fault, number, want) in TEXTS {
-        assert_eq!(rt; fault.number(), number);
-        let text = format!(in rt.alloc(); "{fault}")?;
-        assert_eq!(rt; text.as_str(), want);
+    for &(fault, number, want) in &TEXTS {
+        same(&rt, want, &fault.number(), &number);
+        prints(&rt, rt.alloc(), &fault, want)?;
     }
     Ok(())
 }
 
 #[rattlefmt::skip]
-const EDGES: [(&str, Insn, Option<i32>, bool); 6] = [
+static EDGES: [(&str, Insn, Option<i32>, bool); 6] = [
     ("a move goes on",                    MOV,       None,              true),
     ("a wide instruction goes on",        LDDW,      None,              true),
     ("exit ends",                         EXIT,      None,              false),
@@ -244,9 +246,9 @@ const EDGES: [(&str, Insn, Option<i32>, bool); 6] = [
 
 #[test]
 fn edges_of_an_instruction(rt: HostRuntime) {
-    for (name, insn, distance, falls) in EDGES {
-        assert_eq!(rt; insn.jump_distance(), distance, "{name}");
-        assert_eq!(rt; falls_through(insn), falls, "{name}");
+    for &(name, insn, distance, falls) in &EDGES {
+        same_fact(&rt, name, "its distance", &insn.jump_distance(), &distance);
+        same_fact(&rt, name, "goes on", &falls_through(insn), &falls);
     }
 }
 

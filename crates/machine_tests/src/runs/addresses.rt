@@ -1,11 +1,11 @@
 //! Addresses in values that a program of version 2 names itself, worked out by hand.
 
-use super::asking::{REPLIES, asks_by, ended};
-use super::programs::{EXIT, accepted_in, alu, checked, load, mov, put, store};
+use super::asking::{REPLIES, asks_of_arrays, ended};
+use super::listing::{EXIT, add, alu, copy, jump_if, load, mov, put, store};
 use super::scripted::{Asked, Replies};
-use ebpf_decode::{Insn, MapDef, MapKind, Version};
-use isa::Register::{R0, R2, R5, R6, R10};
-use isa::{AluOp, Size, Source};
+use ebpf_decode::{Insn, MapDef, MapKind};
+use isa::Register::{R0, R1, R2, R3, R4, R5, R6, R10};
+use isa::{AluOp, Size, Source, Test};
 use machine::Stop;
 use semantics::Verdict;
 use std::test::Fail;
@@ -19,7 +19,7 @@ const WIDE: [MapDef; 2] = [MapDef {
 }; 2];
 
 #[rattlefmt::skip]
-const PLACES: [(&str, u32, i16, u64); 5] = [
+static PLACES: [(&str, u32, i16, u64); 5] = [
     ("the first byte",              0,   0,   0),
     ("by both offsets",             8,   3,  11),
     ("the last byte",             255,   0, 255),
@@ -30,14 +30,13 @@ const PLACES: [(&str, u32, i16, u64); 5] = [
 /// The address is the cell that the lookup found, and the offset.
 #[test]
 fn stores_at_an_address(rt: HostRuntime) -> Result<(), Fail> {
-    for (name, offset, distance, place) in PLACES {
+    for &(name, offset, distance, place) in &PLACES {
         let head = [Insn::Ldval {
             dst: R6,
             map: 0,
             offset,
         }];
-        let tail = [put(Size::U8, R6, distance, 5), mov(R0, 3), EXIT];
-        let verified = accepted_in(rt.alloc(), Version::V2, &WIDE, &head, &tail)?;
+        let tail = [put!(Size::U8, R6, distance, 5), mov!(R0, 3), EXIT];
         let asked = Asked::Store {
             handle: 1,
             offset: place,
@@ -45,37 +44,47 @@ fn stores_at_an_address(rt: HostRuntime) -> Result<(), Fail> {
             value: 5,
         };
         let want = ended(Verdict::Tx, 4);
-        asks_by(
+        asks_of_arrays(
             &rt,
             rt.alloc(),
-            &verified,
+            &WIDE,
             REPLIES,
+            &head,
+            &tail,
             want,
             asked,
-            &[0xaa; 20],
             name,
         )?;
     }
     Ok(())
 }
 
-/// A byte of the packet says how far on: the address keeps its cell.
-#[test]
-fn stores_as_far_as_the_packet_says(rt: HostRuntime) -> Result<(), Fail> {
-    let mut head = [Insn::Ldval {
+/// The address of a value in R6, and a packet of at least 14 bytes.
+const ADDRESS_AND_PACKET: [Insn; 7] = [
+    Insn::Ldval {
         dst: R6,
         map: 0,
         offset: 0,
-    }; 7];
-    head[1..].copy_from_slice(&checked(14, 4));
-    let tail = [
-        load(Size::U8, R5, R2, 13),
-        alu(AluOp::Add, R6, Source::Reg(R5)),
-        put(Size::U8, R6, 0, 3),
-        mov(R0, 3),
-        EXIT,
-    ];
-    let verified = accepted_in(rt.alloc(), Version::V2, &WIDE, &head, &tail)?;
+    },
+    load!(Size::U32, R2, R1, 0),
+    load!(Size::U32, R3, R1, 4),
+    copy!(R4, R2),
+    add!(R4, 14),
+    mov!(R0, 2),
+    jump_if!(Test::Gt, R4, Source::Reg(R3), 4),
+];
+
+const AS_FAR_AS_IT_SAYS: [Insn; 5] = [
+    load!(Size::U8, R5, R2, 13),
+    alu!(AluOp::Add, R6, Source::Reg(R5)),
+    put!(Size::U8, R6, 0, 3),
+    mov!(R0, 3),
+    EXIT,
+];
+
+/// A byte of the packet says how far on: the address keeps its cell.
+#[test]
+fn stores_as_far_as_the_packet_says(rt: HostRuntime) -> Result<(), Fail> {
     let asked = Asked::Store {
         handle: 1,
         offset: 0xaa,
@@ -83,14 +92,15 @@ fn stores_as_far_as_the_packet_says(rt: HostRuntime) -> Result<(), Fail> {
         value: 3,
     };
     let want = ended(Verdict::Tx, 12);
-    asks_by(
+    asks_of_arrays(
         &rt,
         rt.alloc(),
-        &verified,
+        &WIDE,
         REPLIES,
+        &ADDRESS_AND_PACKET,
+        &AS_FAR_AS_IT_SAYS,
         want,
         asked,
-        &[0xaa; 20],
         "byte 13",
     )
 }
@@ -104,11 +114,10 @@ fn a_spilled_address(rt: HostRuntime) -> Result<(), Fail> {
             map: 0,
             offset: 24,
         },
-        store(Size::U64, R10, -8, R6),
-        load(Size::U64, R5, R10, -8),
+        store!(Size::U64, R10, -8, R6),
+        load!(Size::U64, R5, R10, -8),
     ];
-    let tail = [put(Size::U32, R5, 4, 9), mov(R0, 1), EXIT];
-    let verified = accepted_in(rt.alloc(), Version::V2, &WIDE, &head, &tail)?;
+    let tail = [put!(Size::U32, R5, 4, 9), mov!(R0, 1), EXIT];
     let asked = Asked::Store {
         handle: 1,
         offset: 28,
@@ -116,20 +125,21 @@ fn a_spilled_address(rt: HostRuntime) -> Result<(), Fail> {
         value: 9,
     };
     let want = ended(Verdict::Drop, 6);
-    asks_by(
+    asks_of_arrays(
         &rt,
         rt.alloc(),
-        &verified,
+        &WIDE,
         REPLIES,
+        &head,
+        &tail,
         want,
         asked,
-        &[0xaa; 20],
         "28 bytes in",
     )
 }
 
 #[rattlefmt::skip]
-const REFUSALS: [(&str, i32, u32, u32); 2] = [
+static REFUSALS: [(&str, i32, u32, u32); 2] = [
     ("the port has no room",       0, 0, 0),
     ("the second map is refused",  1, 9, 1),
 ];
@@ -137,30 +147,30 @@ const REFUSALS: [(&str, i32, u32, u32); 2] = [
 /// A refused lookup stops the run, and names the first shard of the map.
 #[test]
 fn refused_addresses(rt: HostRuntime) -> Result<(), Fail> {
-    for (name, map, before_refusal, shard) in REFUSALS {
+    for &(name, map, before_refusal, shard) in &REFUSALS {
         let head = [
-            put(Size::U8, R10, -1, 1),
+            put!(Size::U8, R10, -1, 1),
             Insn::Ldval {
                 dst: R6,
                 map,
                 offset: 0,
             },
         ];
-        let tail = [put(Size::U8, R6, 0, 5), mov(R0, 3), EXIT];
-        let verified = accepted_in(rt.alloc(), Version::V2, &WIDE, &head, &tail)?;
+        let tail = [put!(Size::U8, R6, 0, 5), mov!(R0, 3), EXIT];
         let replies = Replies {
             before_refusal,
             ..REPLIES
         };
         let want = Err(Stop::JournalFull { shard });
-        asks_by(
+        asks_of_arrays(
             &rt,
             rt.alloc(),
-            &verified,
+            &WIDE,
             replies,
+            &head,
+            &tail,
             want,
             Asked::Nothing,
-            &[0xaa; 20],
             name,
         )?;
     }

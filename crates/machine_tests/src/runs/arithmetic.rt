@@ -1,6 +1,8 @@
 //! Each row of the arithmetic, as an instruction of a program that stores what it gives on the packet.
 
-use super::programs::{EXIT, MOMENT, accepted, begins_with, checked, lddw, mov, ran, store};
+use super::listing::{EXIT, checked, lddw, mov, store};
+use super::programs::{MOMENT, accepted, begins_with, ran};
+use crate::asserting::same;
 use ebpf_decode::Insn;
 use isa::Register::{R0, R2, R5, R6};
 use isa::{AluOp, ByteOrder, Extension, ShortExtension, Size, Source, SwapWidth, Test, Width};
@@ -29,25 +31,25 @@ fn gives(
     name: &str,
 ) -> Result<(), Fail> {
     let tail = [
-        lddw(R5, a),
-        lddw(R6, b),
+        lddw!(R5, a),
+        lddw!(R6, b),
         insn,
-        store(Size::U64, R2, 0, R5),
+        store!(Size::U64, R2, 0, R5),
         EXIT,
     ];
-    let verified = accepted(alloc, &[], &checked(14, 6), &tail)?;
+    let verified = accepted(alloc, &[], &checked!(14, 6), &tail)?;
     let ran = ran(alloc, &verified, &MOMENT, &[0; 14])?;
     let exit = Exit {
         verdict: Verdict::Pass,
         steps: 11,
     };
-    assert_eq!(rt; ran.exit, exit, "{name}");
+    same(rt, name, &ran.exit, &exit);
     begins_with(rt, &ran.frame, want, name);
     Ok(())
 }
 
 #[rattlefmt::skip]
-const WIDE_ROWS: [(&str, AluOp, u64, u64, u64); 34] = [
+static WIDE_ROWS: [(&str, AluOp, u64, u64, u64); 34] = [
     ("add wraps",                          AluOp::Add,  MINUS_ONE,          2,                  1),
     ("sub wraps",                          AluOp::Sub,  0,                  1,                  MINUS_ONE),
     ("mul wraps",                          AluOp::Mul,  0x100000001,        0x100000000,        0x100000000),
@@ -86,7 +88,7 @@ const WIDE_ROWS: [(&str, AluOp, u64, u64, u64); 34] = [
 
 #[test]
 fn arithmetic_on_64_bits(rt: HostRuntime) -> Result<(), Fail> {
-    for (name, op, a, b, want) in WIDE_ROWS {
+    for &(name, op, a, b, want) in &WIDE_ROWS {
         let insn = Insn::Alu {
             width: Width::Bits64,
             op,
@@ -99,7 +101,7 @@ fn arithmetic_on_64_bits(rt: HostRuntime) -> Result<(), Fail> {
 }
 
 #[rattlefmt::skip]
-const HALF_ROWS: [(&str, AluOp, u64, u64, u64); 24] = [
+static HALF_ROWS: [(&str, AluOp, u64, u64, u64); 24] = [
     ("add wraps at 32 bits",                 AluOp::Add,  0xffffffff,         1,                  0),
     ("add reads low halves",                 AluOp::Add,  0xaaaaaaaa00000001, 0xbbbbbbbb00000002, 3),
     ("sub wraps at 32 bits",                 AluOp::Sub,  0,                  1,                  0xffffffff),
@@ -128,7 +130,7 @@ const HALF_ROWS: [(&str, AluOp, u64, u64, u64); 24] = [
 
 #[test]
 fn arithmetic_on_32_bits(rt: HostRuntime) -> Result<(), Fail> {
-    for (name, op, a, b, want) in HALF_ROWS {
+    for &(name, op, a, b, want) in &HALF_ROWS {
         let insn = Insn::Alu {
             width: Width::Bits32,
             op,
@@ -141,7 +143,7 @@ fn arithmetic_on_32_bits(rt: HostRuntime) -> Result<(), Fail> {
 }
 
 #[rattlefmt::skip]
-const IMMEDIATES: [(&str, Width, AluOp, u64, i32, u64); 7] = [
+static IMMEDIATES: [(&str, Width, AluOp, u64, i32, u64); 7] = [
     ("-1 on 64 bits",                   Width::Bits64, AluOp::Mov,  0,        -1, MINUS_ONE),
     ("-1 on 32 bits",                   Width::Bits32, AluOp::Mov,  0,        -1, 0xffffffff),
     ("the sign counts on 64 bits",      Width::Bits64, AluOp::Add,  NUMBER,   -1, 0x1122334455667787),
@@ -153,7 +155,7 @@ const IMMEDIATES: [(&str, Width, AluOp, u64, i32, u64); 7] = [
 
 #[test]
 fn immediates(rt: HostRuntime) -> Result<(), Fail> {
-    for (name, width, op, a, immediate, want) in IMMEDIATES {
+    for &(name, width, op, a, immediate, want) in &IMMEDIATES {
         let insn = Insn::Alu {
             width,
             op,
@@ -166,7 +168,7 @@ fn immediates(rt: HostRuntime) -> Result<(), Fail> {
 }
 
 #[rattlefmt::skip]
-const NEGATIONS: [(&str, u64, u64, u64); 5] = [
+static NEGATIONS: [(&str, u64, u64, u64); 5] = [
     ("zero",                     0,                  0,                  0),
     ("one",                      1,                  MINUS_ONE,          0xffffffff),
     ("the least of 64 bits",     LEAST64,            LEAST64,            0),
@@ -176,7 +178,7 @@ const NEGATIONS: [(&str, u64, u64, u64); 5] = [
 
 #[test]
 fn negation(rt: HostRuntime) -> Result<(), Fail> {
-    for (name, a, want, want_half) in NEGATIONS {
+    for &(name, a, want, want_half) in &NEGATIONS {
         let wide = Insn::Neg {
             width: Width::Bits64,
             dst: R5,
@@ -192,7 +194,7 @@ fn negation(rt: HostRuntime) -> Result<(), Fail> {
 }
 
 #[rattlefmt::skip]
-const EXTENSIONS: [(&str, Extension, u64, u64); 7] = [
+static EXTENSIONS: [(&str, Extension, u64, u64); 7] = [
     ("80 read as 8 bits is negative",     Extension::I8,  0x80,               0xffffffffffffff80),
     ("7f read as 8 bits is not",          Extension::I8,  0xff7f,             0x7f),
     ("8000 read as 16 bits is negative",  Extension::I16, 0x8000,             0xffffffffffff8000),
@@ -203,7 +205,7 @@ const EXTENSIONS: [(&str, Extension, u64, u64); 7] = [
 ];
 
 #[rattlefmt::skip]
-const SHORT_EXTENSIONS: [(&str, ShortExtension, u64, u64); 4] = [
+static SHORT_EXTENSIONS: [(&str, ShortExtension, u64, u64); 4] = [
     ("80 is extended to 32 bits alone",    ShortExtension::Short8,  0x80,       0xffffff80),
     ("7f stays",                           ShortExtension::Short8,  0xff7f,     0x7f),
     ("8000 is extended to 32 bits alone",  ShortExtension::Short16, 0x8000,     0xffff8000),
@@ -212,7 +214,7 @@ const SHORT_EXTENSIONS: [(&str, ShortExtension, u64, u64); 4] = [
 
 #[test]
 fn sign_extension(rt: HostRuntime) -> Result<(), Fail> {
-    for (name, extension, b, want) in EXTENSIONS {
+    for &(name, extension, b, want) in &EXTENSIONS {
         let insn = Insn::Movsx {
             extension,
             dst: R5,
@@ -220,7 +222,7 @@ fn sign_extension(rt: HostRuntime) -> Result<(), Fail> {
         };
         gives(&rt, rt.alloc(), insn, NUMBER, b, want, name)?;
     }
-    for (name, extension, b, want) in SHORT_EXTENSIONS {
+    for &(name, extension, b, want) in &SHORT_EXTENSIONS {
         let insn = Insn::Movsx32 {
             extension,
             dst: R5,
@@ -232,7 +234,7 @@ fn sign_extension(rt: HostRuntime) -> Result<(), Fail> {
 }
 
 #[rattlefmt::skip]
-const SWAPS: [(&str, ByteOrder, SwapWidth, u64); 9] = [
+static SWAPS: [(&str, ByteOrder, SwapWidth, u64); 9] = [
     ("swap16",             ByteOrder::Swapped,  SwapWidth::Swap16, 0x8877),
     ("swap32",             ByteOrder::Swapped,  SwapWidth::Swap32, 0x88776655),
     ("swap64",             ByteOrder::Swapped,  SwapWidth::Swap64, 0x8877665544332211),
@@ -246,7 +248,7 @@ const SWAPS: [(&str, ByteOrder, SwapWidth, u64); 9] = [
 
 #[test]
 fn byte_swaps(rt: HostRuntime) -> Result<(), Fail> {
-    for (name, order, swap_width, want) in SWAPS {
+    for &(name, order, swap_width, want) in &SWAPS {
         let insn = Insn::End {
             order,
             swap_width,
@@ -258,7 +260,7 @@ fn byte_swaps(rt: HostRuntime) -> Result<(), Fail> {
 }
 
 #[rattlefmt::skip]
-const TESTS: [(&str, Test, u64, u64, bool, bool); 23] = [
+static TESTS: [(&str, Test, u64, u64, bool, bool); 23] = [
     ("eq of equals",                       Test::Eq,  5,                  5,           true,  true),
     ("eq looks at low halves on 32 bits",  Test::Eq,  0x100000005,        5,           false, true),
     ("ne of equals",                       Test::Ne,  5,                  5,           false, false),
@@ -302,18 +304,18 @@ fn branches(
         source: Source::Reg(R6),
         distance: 1,
     };
-    let head = [lddw(R5, a), lddw(R6, b), mov(R0, 2), jump];
-    let verified = accepted(alloc, &[], &head, &[mov(R0, 1), EXIT])?;
+    let head = [lddw!(R5, a), lddw!(R6, b), mov!(R0, 2), jump];
+    let verified = accepted(alloc, &[], &head, &[mov!(R0, 1), EXIT])?;
     let exit = ran(alloc, &verified, &MOMENT, &[0; 14])?.exit;
     let verdict = if taken { Verdict::Pass } else { Verdict::Drop };
     let steps = if taken { 5 } else { 6 };
-    assert_eq!(rt; exit, Exit { verdict, steps }, "{name}");
+    same(rt, name, &exit, &Exit { verdict, steps });
     Ok(())
 }
 
 #[test]
 fn tests_of_jumps(rt: HostRuntime) -> Result<(), Fail> {
-    for (name, test, a, b, taken, taken_half) in TESTS {
+    for &(name, test, a, b, taken, taken_half) in &TESTS {
         branches(&rt, rt.alloc(), Width::Bits64, test, a, b, taken, name)?;
         branches(&rt, rt.alloc(), Width::Bits32, test, a, b, taken_half, name)?;
     }

@@ -1,10 +1,10 @@
 //! What a run asks of a map by each instruction, and what it makes of the reply, worked out by hand.
 
-use super::programs::{
-    EXIT, MOMENT, accepted, add, call, checked, copy, jump_if, lddw, load, look_up, mov, put, store,
-};
+use super::listing::{EXIT, add, call, checked, copy, jump_if, lddw, load, mov, put, store};
+use super::programs::{MOMENT, accepted, accepted_in};
 use super::scripted::{Asked, Replies, ScriptedPort};
-use ebpf_decode::{Insn, MapDef, MapKind};
+use crate::asserting::{same, same_fact};
+use ebpf_decode::{Insn, MapDef, MapKind, Version};
 use isa::Register::{R0, R1, R2, R3, R4, R5, R6, R10};
 use isa::{AluOp, AtomicOp, Size, Source, Test, Width};
 use machine::{Exit, Stop, run};
@@ -45,8 +45,25 @@ fn asks(
     asks_by(rt, alloc, &verified, replies, want, asked, bytes, name)
 }
 
+/// The same of a program of version 2 over arrays, which leaves the frame as it was.
+pub(super) fn asks_of_arrays(
+    rt: &impl Abort,
+    alloc: Global,
+    arrays: &[MapDef],
+    replies: Replies,
+    head: &[Insn],
+    tail: &[Insn],
+    want: Result<Exit, Stop>,
+    asked: Asked,
+    name: &str,
+) -> Result<(), Fail> {
+    let verified = accepted_in(alloc, Version::V2, arrays, head, tail)?;
+    let bytes = [0xaa; 20];
+    asks_by(rt, alloc, &verified, replies, want, asked, &bytes, name)
+}
+
 /// The same of an accepted program.
-pub(super) fn asks_by(
+fn asks_by(
     rt: &impl Abort,
     alloc: Global,
     verified: &Verified,
@@ -59,26 +76,23 @@ pub(super) fn asks_by(
     let mut port = ScriptedPort::over(verified.image(), replies);
     let mut frame = Frame::of(alloc, &[0xaa; 20])?;
     let ended = run(verified, &mut frame, &MOMENT, &mut port);
-    assert_eq!(rt; ended, want, "{name}");
-    assert_eq!(rt; port.asked(), asked, "{name}");
-    assert_eq!(rt; frame.bytes(), bytes, "{name}");
+    same(rt, name, &ended, &want);
+    same_fact(rt, name, "what was asked", &port.asked(), &asked);
+    same_fact(rt, name, "the frame", &frame.bytes(), &bytes);
     Ok(())
 }
 
 /// The value of key 7 in R6, where it is found.
-fn found() -> [Insn; 8] {
-    let [a, b, c, d, e] = look_up(7);
-    [
-        a,
-        b,
-        c,
-        d,
-        e,
-        jump_if(Test::Ne, R0, Source::Imm(0), 1),
-        EXIT,
-        copy(R6, R0),
-    ]
-}
+const FOUND: [Insn; 8] = [
+    put!(Size::U32, R10, -4, 7),
+    copy!(R2, R10),
+    add!(R2, -4),
+    Insn::Ldmap { dst: R1, map: 0 },
+    call!(1),
+    jump_if!(Test::Ne, R0, Source::Imm(0), 1),
+    EXIT,
+    copy!(R6, R0),
+];
 
 pub(super) fn ended(verdict: Verdict, steps: u64) -> Result<Exit, Stop> {
     Ok(Exit { verdict, steps })
@@ -87,7 +101,7 @@ pub(super) fn ended(verdict: Verdict, steps: u64) -> Result<Exit, Stop> {
 const NUMBER: u64 = 0x1122_3344_5566_7788;
 
 #[rattlefmt::skip]
-const STORES: [(&str, Size, i16, u64, u64); 4] = [
+static STORES: [(&str, Size, i16, u64, u64); 4] = [
     ("a byte",      Size::U8,   3, 1, 0x88),
     ("two bytes",   Size::U16,  6, 2, 0x7788),
     ("four bytes",  Size::U32, 12, 4, 0x5566_7788),
@@ -97,11 +111,11 @@ const STORES: [(&str, Size, i16, u64, u64); 4] = [
 /// A store asks for the low bytes of the register.
 #[test]
 fn stores_of_a_register(rt: HostRuntime) -> Result<(), Fail> {
-    for (name, size, offset, bytes, value) in STORES {
+    for &(name, size, offset, bytes, value) in &STORES {
         let tail = [
-            lddw(R5, NUMBER),
-            store(size, R6, offset, R5),
-            mov(R0, 3),
+            lddw!(R5, NUMBER),
+            store!(size, R6, offset, R5),
+            mov!(R0, 3),
             EXIT,
         ];
         let asked = Asked::Store {
@@ -114,7 +128,7 @@ fn stores_of_a_register(rt: HostRuntime) -> Result<(), Fail> {
             &rt,
             rt.alloc(),
             REPLIES,
-            &found(),
+            &FOUND,
             &tail,
             ended(Verdict::Tx, 11),
             asked,
@@ -126,7 +140,7 @@ fn stores_of_a_register(rt: HostRuntime) -> Result<(), Fail> {
 }
 
 #[rattlefmt::skip]
-const PUTS: [(&str, Size, i32, u64, u64); 4] = [
+static PUTS: [(&str, Size, i32, u64, u64); 4] = [
     ("a byte of -1",      Size::U8,  -1, 1, 0xff),
     ("two bytes of -2",   Size::U16, -2, 2, 0xfffe),
     ("four bytes of -2",  Size::U32, -2, 4, 0xffff_fffe),
@@ -136,8 +150,8 @@ const PUTS: [(&str, Size, i32, u64, u64); 4] = [
 /// An immediate is sign-extended first.
 #[test]
 fn stores_of_an_immediate(rt: HostRuntime) -> Result<(), Fail> {
-    for (name, size, immediate, bytes, value) in PUTS {
-        let tail = [put(size, R6, 8, immediate), mov(R0, 3), EXIT];
+    for &(name, size, immediate, bytes, value) in &PUTS {
+        let tail = [put!(size, R6, 8, immediate), mov!(R0, 3), EXIT];
         let asked = Asked::Store {
             handle: 1,
             offset: 8,
@@ -148,7 +162,7 @@ fn stores_of_an_immediate(rt: HostRuntime) -> Result<(), Fail> {
             &rt,
             rt.alloc(),
             REPLIES,
-            &found(),
+            &FOUND,
             &tail,
             ended(Verdict::Tx, 10),
             asked,
@@ -160,7 +174,7 @@ fn stores_of_an_immediate(rt: HostRuntime) -> Result<(), Fail> {
 }
 
 #[rattlefmt::skip]
-const ATOMICS: [(&str, AtomicOp, u64, Verdict); 10] = [
+static ATOMICS: [(&str, AtomicOp, u64, Verdict); 10] = [
     ("add",                  AtomicOp::AtomicAdd,       0, Verdict::Pass),
     ("or",                   AtomicOp::AtomicOr,        0, Verdict::Pass),
     ("and",                  AtomicOp::AtomicAnd,       0, Verdict::Pass),
@@ -177,7 +191,7 @@ const ATOMICS: [(&str, AtomicOp, u64, Verdict); 10] = [
 /// leaves its source.
 #[test]
 fn atomic_operations(rt: HostRuntime) -> Result<(), Fail> {
-    for (name, op, expected, verdict) in ATOMICS {
+    for &(name, op, expected, verdict) in &ATOMICS {
         for (width, bytes) in [(Width::Bits32, 4), (Width::Bits64, 8)] {
             let atomic = Insn::AtomicUpdate {
                 width,
@@ -186,7 +200,7 @@ fn atomic_operations(rt: HostRuntime) -> Result<(), Fail> {
                 src: R5,
                 offset: 8,
             };
-            let tail = [mov(R0, 9), mov(R5, 2), atomic, copy(R0, R5), EXIT];
+            let tail = [mov!(R0, 9), mov!(R5, 2), atomic, copy!(R0, R5), EXIT];
             let asked = Asked::Atomic {
                 handle: 1,
                 offset: 8,
@@ -199,7 +213,7 @@ fn atomic_operations(rt: HostRuntime) -> Result<(), Fail> {
                 &rt,
                 rt.alloc(),
                 REPLIES,
-                &found(),
+                &FOUND,
                 &tail,
                 ended(verdict, 12),
                 asked,
@@ -223,8 +237,8 @@ fn short_atomic_operations(rt: HostRuntime) -> Result<(), Fail> {
         offset: 0,
     };
     let tail = [
-        lddw(R5, NUMBER),
-        lddw(R0, 0x9988_7766_5544_3322),
+        lddw!(R5, NUMBER),
+        lddw!(R0, 0x9988_7766_5544_3322),
         atomic,
         EXIT,
     ];
@@ -240,7 +254,7 @@ fn short_atomic_operations(rt: HostRuntime) -> Result<(), Fail> {
         &rt,
         rt.alloc(),
         REPLIES,
-        &found(),
+        &FOUND,
         &tail,
         ended(Verdict::Tx, 11),
         asked,
@@ -253,16 +267,16 @@ fn short_atomic_operations(rt: HostRuntime) -> Result<(), Fail> {
 #[test]
 fn a_spilled_value(rt: HostRuntime) -> Result<(), Fail> {
     let tail = [
-        add(R6, 8),
-        store(Size::U64, R10, -16, R6),
+        add!(R6, 8),
+        store!(Size::U64, R10, -16, R6),
         Insn::Ldx {
             size: Size::U64,
             dst: R4,
             src: R10,
             offset: -16,
         },
-        put(Size::U32, R4, 4, 5),
-        mov(R0, 1),
+        put!(Size::U32, R4, 4, 5),
+        mov!(R0, 1),
         EXIT,
     ];
     let asked = Asked::Store {
@@ -275,7 +289,7 @@ fn a_spilled_value(rt: HostRuntime) -> Result<(), Fail> {
         &rt,
         rt.alloc(),
         REPLIES,
-        &found(),
+        &FOUND,
         &tail,
         ended(Verdict::Drop, 13),
         asked,
@@ -285,7 +299,7 @@ fn a_spilled_value(rt: HostRuntime) -> Result<(), Fail> {
 }
 
 #[rattlefmt::skip]
-const DELETIONS_BY_SPILLED: [(&str, [Insn; 8]); 2] = [
+static DELETIONS_BY_SPILLED: [(&str, [Insn; 8]); 2] = [
     ("a spilled map", [
         Insn::Ldmap { dst: R1, map: 0 },
         Insn::Stx { size: Size::U64, dst: R10, src: R1, offset: -32 },
@@ -311,7 +325,7 @@ const DELETIONS_BY_SPILLED: [(&str, [Insn; 8]); 2] = [
 /// A map and a place of the stack are what they were when they come back.
 #[test]
 fn spilled_arguments(rt: HostRuntime) -> Result<(), Fail> {
-    for (name, head) in DELETIONS_BY_SPILLED {
+    for &(name, head) in &DELETIONS_BY_SPILLED {
         let asked = Asked::Delete {
             map: 0,
             key: key(&[7, 0, 0, 0]),
@@ -335,17 +349,17 @@ fn spilled_arguments(rt: HostRuntime) -> Result<(), Fail> {
 #[test]
 fn a_spilled_packet_end(rt: HostRuntime) -> Result<(), Fail> {
     let head = [
-        load(Size::U32, R2, R1, 0),
-        load(Size::U32, R3, R1, 4),
-        store(Size::U64, R10, -8, R3),
-        mov(R3, 0),
-        load(Size::U64, R3, R10, -8),
-        copy(R4, R2),
-        add(R4, 20),
-        mov(R0, 2),
-        jump_if(Test::Gt, R4, Source::Reg(R3), 2),
+        load!(Size::U32, R2, R1, 0),
+        load!(Size::U32, R3, R1, 4),
+        store!(Size::U64, R10, -8, R3),
+        mov!(R3, 0),
+        load!(Size::U64, R3, R10, -8),
+        copy!(R4, R2),
+        add!(R4, 20),
+        mov!(R0, 2),
+        jump_if!(Test::Gt, R4, Source::Reg(R3), 2),
     ];
-    let tail = [put(Size::U8, R2, 19, 9), mov(R0, 3), EXIT];
+    let tail = [put!(Size::U8, R2, 19, 9), mov!(R0, 3), EXIT];
     let mut bytes = [0xaa; 20];
     bytes[19] = 9;
     asks(
@@ -376,22 +390,20 @@ fn value(bytes: &[u8]) -> Value {
 }
 
 /// The key at -4 and the value at -24 of the stack, map 0 in R1 and the flags in R4: the arguments of updates and deletions.
-fn arguments() -> [Insn; 9] {
-    [
-        put(Size::U32, R10, -4, 0x0403_0201),
-        put(Size::U64, R10, -24, 5),
-        put(Size::U64, R10, -16, -1),
-        copy(R2, R10),
-        add(R2, -4),
-        copy(R3, R10),
-        add(R3, -24),
-        mov(R4, 1),
-        Insn::Ldmap { dst: R1, map: 0 },
-    ]
-}
+const ARGUMENTS: [Insn; 9] = [
+    put!(Size::U32, R10, -4, 0x0403_0201),
+    put!(Size::U64, R10, -24, 5),
+    put!(Size::U64, R10, -16, -1),
+    copy!(R2, R10),
+    add!(R2, -4),
+    copy!(R3, R10),
+    add!(R3, -24),
+    mov!(R4, 1),
+    Insn::Ldmap { dst: R1, map: 0 },
+];
 
 #[rattlefmt::skip]
-const ANSWERS: [(&str, i32, Verdict); 3] = [
+static ANSWERS: [(&str, i32, Verdict); 3] = [
     ("2",                        2,  Verdict::Pass),
     ("3",                        3,  Verdict::Tx),
     ("-17, of 64 bits",        -17,  Verdict::Aborted),
@@ -402,7 +414,7 @@ fn updates(rt: HostRuntime) -> Result<(), Fail> {
     let value = value(&[
         5, 0, 0, 0, 0, 0, 0, 0, 255, 255, 255, 255, 255, 255, 255, 255,
     ]);
-    for (name, answer, verdict) in ANSWERS {
+    for &(name, answer, verdict) in &ANSWERS {
         let replies = Replies { answer, ..REPLIES };
         let asked = Asked::Update {
             map: 0,
@@ -414,8 +426,8 @@ fn updates(rt: HostRuntime) -> Result<(), Fail> {
             &rt,
             rt.alloc(),
             replies,
-            &arguments(),
-            &[call(2), EXIT],
+            &ARGUMENTS,
+            &[call!(2), EXIT],
             ended(verdict, 11),
             asked,
             &[0xaa; 20],
@@ -427,7 +439,7 @@ fn updates(rt: HostRuntime) -> Result<(), Fail> {
 
 #[test]
 fn deletions(rt: HostRuntime) -> Result<(), Fail> {
-    for (name, answer, verdict) in ANSWERS {
+    for &(name, answer, verdict) in &ANSWERS {
         let replies = Replies { answer, ..REPLIES };
         let asked = Asked::Delete {
             map: 0,
@@ -437,8 +449,8 @@ fn deletions(rt: HostRuntime) -> Result<(), Fail> {
             &rt,
             rt.alloc(),
             replies,
-            &arguments(),
-            &[call(3), EXIT],
+            &ARGUMENTS,
+            &[call!(3), EXIT],
             ended(verdict, 11),
             asked,
             &[0xaa; 20],
@@ -451,11 +463,18 @@ fn deletions(rt: HostRuntime) -> Result<(), Fail> {
 /// The packet's start moves 4 forward, so that 16 bytes are left, of which the first is written.
 #[test]
 fn a_moved_start(rt: HostRuntime) -> Result<(), Fail> {
-    let head = [copy(R6, R1), mov(R2, 4), call(44), copy(R1, R6)];
-    let mut tail = [EXIT; 9];
-    tail[..6].copy_from_slice(&checked(16, 1));
-    tail[6] = put(Size::U8, R2, 0, 7);
-    tail[7] = mov(R0, 3);
+    let head = [copy!(R6, R1), mov!(R2, 4), call!(44), copy!(R1, R6)];
+    let tail = [
+        load!(Size::U32, R2, R1, 0),
+        load!(Size::U32, R3, R1, 4),
+        copy!(R4, R2),
+        add!(R4, 16),
+        mov!(R0, 2),
+        jump_if!(Test::Gt, R4, Source::Reg(R3), 1),
+        put!(Size::U8, R2, 0, 7),
+        mov!(R0, 3),
+        EXIT,
+    ];
     let mut bytes = [0xaa; 16];
     bytes[0] = 7;
     asks(
@@ -472,7 +491,7 @@ fn a_moved_start(rt: HostRuntime) -> Result<(), Fail> {
 }
 
 #[rattlefmt::skip]
-const STAYS: [(&str, i32); 2] = [
+static STAYS: [(&str, i32); 2] = [
     ("13 bytes would be left",  7),
     ("more than the headroom", -257),
 ];
@@ -480,9 +499,9 @@ const STAYS: [(&str, i32); 2] = [
 /// Where it cannot move, R0 is -22, and the packet as it was.
 #[test]
 fn a_start_that_stays(rt: HostRuntime) -> Result<(), Fail> {
-    for (name, distance) in STAYS {
-        let tail = [add(R0, 25), EXIT];
-        let head = [mov(R2, distance), call(44)];
+    for &(name, distance) in &STAYS {
+        let tail = [add!(R0, 25), EXIT];
+        let head = [mov!(R2, distance), call!(44)];
         asks(
             &rt,
             rt.alloc(),
@@ -501,13 +520,23 @@ fn a_start_that_stays(rt: HostRuntime) -> Result<(), Fail> {
 /// The second call is refused: the packet is as the run had made it by then.
 #[test]
 fn a_refusal_in_the_middle(rt: HostRuntime) -> Result<(), Fail> {
-    let head = checked(20, 1);
-    let mut tail = [EXIT; 14];
-    tail[0] = Insn::Ja { distance: 1 };
-    tail[2] = put(Size::U8, R2, 0, 1);
-    tail[3..11].copy_from_slice(&found());
-    tail[11] = put(Size::U64, R6, 0, 6);
-    tail[12] = mov(R0, 3);
+    let head = checked!(20, 1);
+    let tail = [
+        Insn::Ja { distance: 1 },
+        EXIT,
+        put!(Size::U8, R2, 0, 1),
+        put!(Size::U32, R10, -4, 7),
+        copy!(R2, R10),
+        add!(R2, -4),
+        Insn::Ldmap { dst: R1, map: 0 },
+        call!(1),
+        jump_if!(Test::Ne, R0, Source::Imm(0), 1),
+        EXIT,
+        copy!(R6, R0),
+        put!(Size::U64, R6, 0, 6),
+        mov!(R0, 3),
+        EXIT,
+    ];
     let replies = Replies {
         before_refusal: 1,
         ..REPLIES

@@ -2,7 +2,9 @@
 
 ghost use Rattle.std.specs.Prelude.{◌≤◌, length};
 
-use super::programs::{EXIT, MOMENT, accepted, checked, lddw, load, mov, put, ran, store};
+use super::listing::{EXIT, checked, lddw, load, mov, put, store};
+use super::programs::{MOMENT, accepted, ran};
+use crate::asserting::{same, same_fact};
 use ebpf_decode::Insn;
 use isa::Register::{R0, R1, R2, R5, R10};
 use isa::{Extension, Register, Size};
@@ -33,14 +35,15 @@ fn passes(
         verdict: Verdict::Pass,
         steps,
     };
-    assert_eq!(rt; ran.exit, exit, "{name}");
-    assert!(rt; ran.frame.len() == bytes.len(), "{name}");
-    assert_eq!(rt; &ran.frame.bytes()[..want.len()], want, "{name}");
+    same(rt, name, &ran.exit, &exit);
+    same_fact(rt, name, "the length", &ran.frame.len(), &bytes.len());
+    let begins = &ran.frame.bytes()[..want.len()];
+    same_fact(rt, name, "the frame", &begins, &want);
     Ok(())
 }
 
 #[rattlefmt::skip]
-const STORES: [(&str, Size, i16, [u8; 16]); 5] = [
+static STORES: [(&str, Size, i16, [u8; 16]); 5] = [
     ("a byte",               Size::U8,  0, [0x88, 0xaa, 0xaa, 0xaa, 0xaa, 0xaa, 0xaa, 0xaa, 0xaa, 0xaa, 0xaa, 0xaa, 0xaa, 0xaa, 0xaa, 0xaa]),
     ("two bytes",            Size::U16, 3, [0xaa, 0xaa, 0xaa, 0x88, 0x77, 0xaa, 0xaa, 0xaa, 0xaa, 0xaa, 0xaa, 0xaa, 0xaa, 0xaa, 0xaa, 0xaa]),
     ("four bytes",           Size::U32, 5, [0xaa, 0xaa, 0xaa, 0xaa, 0xaa, 0x88, 0x77, 0x66, 0x55, 0xaa, 0xaa, 0xaa, 0xaa, 0xaa, 0xaa, 0xaa]),
@@ -51,16 +54,16 @@ const STORES: [(&str, Size, i16, [u8; 16]); 5] = [
 /// The low bytes of a register, the lowest first; the bytes beside them stay.
 #[test]
 fn stores_of_a_register(rt: HostRuntime) -> Result<(), Fail> {
-    for (name, size, offset, want) in STORES {
-        let tail = [lddw(R5, NUMBER), store(size, R2, offset, R5), EXIT];
-        let head = checked(16, 3);
+    for &(name, size, offset, want) in &STORES {
+        let tail = [lddw!(R5, NUMBER), store!(size, R2, offset, R5), EXIT];
+        let head = checked!(16, 3);
         passes(&rt, rt.alloc(), &head, &tail, &[0xaa; 16], 9, &want, name)?;
     }
     Ok(())
 }
 
 #[rattlefmt::skip]
-const IMMEDIATES: [(&str, Size, i32, u64); 6] = [
+static IMMEDIATES: [(&str, Size, i32, u64); 6] = [
     ("a byte of -2",             Size::U8,  -2,         0xaaaa_aaaa_aaaa_aafe),
     ("two bytes of -2",          Size::U16, -2,         0xaaaa_aaaa_aaaa_fffe),
     ("four bytes of -2",         Size::U32, -2,         0xaaaa_aaaa_ffff_fffe),
@@ -71,9 +74,9 @@ const IMMEDIATES: [(&str, Size, i32, u64); 6] = [
 
 #[test]
 fn stores_of_an_immediate(rt: HostRuntime) -> Result<(), Fail> {
-    for (name, size, immediate, want) in IMMEDIATES {
-        let tail = [put(size, R2, 0, immediate), EXIT];
-        let head = checked(16, 1);
+    for &(name, size, immediate, want) in &IMMEDIATES {
+        let tail = [put!(size, R2, 0, immediate), EXIT];
+        let head = checked!(16, 1);
         let bytes = want.to_le_bytes();
         passes(&rt, rt.alloc(), &head, &tail, &[0xaa; 16], 8, &bytes, name)?;
     }
@@ -85,7 +88,7 @@ const BYTES: [u8; 16] = [
 ];
 
 #[rattlefmt::skip]
-const LOADS: [(&str, Insn, u64); 11] = [
+static LOADS: [(&str, Insn, u64); 11] = [
     ("a byte",                      Insn::Ldx { size: Size::U8, dst: Register::R5, src: Register::R2, offset: 8 },             0x80),
     ("two bytes",                   Insn::Ldx { size: Size::U16, dst: Register::R5, src: Register::R2, offset: 8 },            0x8180),
     ("four bytes",                  Insn::Ldx { size: Size::U32, dst: Register::R5, src: Register::R2, offset: 8 },            0xf37f8180),
@@ -101,9 +104,9 @@ const LOADS: [(&str, Insn, u64); 11] = [
 
 #[test]
 fn loads_from_the_packet(rt: HostRuntime) -> Result<(), Fail> {
-    for (name, insn, want) in LOADS {
-        let tail = [insn, store(Size::U64, R2, 0, R5), EXIT];
-        let head = checked(16, 2);
+    for &(name, insn, want) in &LOADS {
+        let tail = [insn, store!(Size::U64, R2, 0, R5), EXIT];
+        let head = checked!(16, 2);
         let bytes = want.to_le_bytes();
         passes(&rt, rt.alloc(), &head, &tail, &BYTES, 9, &bytes, name)?;
     }
@@ -111,7 +114,7 @@ fn loads_from_the_packet(rt: HostRuntime) -> Result<(), Fail> {
 }
 
 #[rattlefmt::skip]
-const STACK_LOADS: [(&str, i16, Insn, u64); 9] = [
+static STACK_LOADS: [(&str, i16, Insn, u64); 9] = [
     ("a byte",                      -8,   Insn::Ldx { size: Size::U8, dst: Register::R5, src: Register::R10, offset: -8 },             0x80),
     ("the byte above it",           -8,   Insn::Ldx { size: Size::U8, dst: Register::R5, src: Register::R10, offset: -7 },             0x81),
     ("two bytes",                   -8,   Insn::Ldx { size: Size::U16, dst: Register::R5, src: Register::R10, offset: -6 },            0xf37f),
@@ -125,15 +128,15 @@ const STACK_LOADS: [(&str, i16, Insn, u64); 9] = [
 
 #[test]
 fn loads_from_the_stack(rt: HostRuntime) -> Result<(), Fail> {
-    for (name, place, insn, want) in STACK_LOADS {
+    for &(name, place, insn, want) in &STACK_LOADS {
         let tail = [
-            lddw(R5, 0x80000000f37f8180),
-            store(Size::U64, R10, place, R5),
+            lddw!(R5, 0x80000000f37f8180),
+            store!(Size::U64, R10, place, R5),
             insn,
-            store(Size::U64, R2, 0, R5),
+            store!(Size::U64, R2, 0, R5),
             EXIT,
         ];
-        let head = checked(14, 5);
+        let head = checked!(14, 5);
         let bytes = want.to_le_bytes();
         passes(&rt, rt.alloc(), &head, &tail, &[0; 14], 11, &bytes, name)?;
     }
@@ -144,13 +147,13 @@ fn loads_from_the_stack(rt: HostRuntime) -> Result<(), Fail> {
 #[test]
 fn a_word_of_two_halves(rt: HostRuntime) -> Result<(), Fail> {
     let tail = [
-        put(Size::U32, R10, -16, 1),
-        put(Size::U32, R10, -12, -2),
-        load(Size::U64, R5, R10, -16),
-        store(Size::U64, R2, 0, R5),
+        put!(Size::U32, R10, -16, 1),
+        put!(Size::U32, R10, -12, -2),
+        load!(Size::U64, R5, R10, -16),
+        store!(Size::U64, R2, 0, R5),
         EXIT,
     ];
-    let head = checked(14, 4);
+    let head = checked!(14, 4);
     let bytes = 0xfffffffe00000001u64.to_le_bytes();
     passes(
         &rt,
@@ -168,10 +171,10 @@ fn a_word_of_two_halves(rt: HostRuntime) -> Result<(), Fail> {
 #[test]
 fn a_number_over_a_spilled_pointer(rt: HostRuntime) -> Result<(), Fail> {
     let head = [
-        mov(R0, 0),
-        store(Size::U64, R10, -8, R1),
-        put(Size::U64, R10, -8, 2),
-        load(Size::U64, R0, R10, -8),
+        mov!(R0, 0),
+        store!(Size::U64, R10, -8, R1),
+        put!(Size::U64, R10, -8, 2),
+        load!(Size::U64, R0, R10, -8),
     ];
     passes(
         &rt,

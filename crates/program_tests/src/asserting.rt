@@ -1,0 +1,50 @@
+//! What ends a test: comparisons that are proved once for the whole crate.
+
+use std::alloc::Global;
+use std::fmt::{Debug, Display};
+use std::process::Abort;
+use std::test::Fail;
+
+/// Ends the test where a value is not the wanted one; the message names the row.
+pub(crate) fn same<T: PartialEq + Debug>(rt: &impl Abort, name: &str, found: &T, wanted: &T) {
+    assert_eq!(rt; *found, *wanted, "{name}");
+}
+
+/// The same of one of several facts of a row, which the message names too.
+pub(crate) fn same_fact<T: PartialEq + Debug>(
+    rt: &impl Abort,
+    name: &str,
+    fact: &str,
+    found: &T,
+    wanted: &T,
+) {
+    assert_eq!(rt; *found, *wanted, "{name}, {fact}");
+}
+
+/// The same of one of many numbers, which the message names.
+pub(crate) fn same_at<T: PartialEq + Debug>(
+    rt: &impl Abort,
+    what: &str,
+    at: u64,
+    found: &T,
+    wanted: &T,
+) {
+    assert_eq!(rt; *found, *wanted, "{what} {at}");
+}
+
+/// Ends the test where a fact does not hold; the message names it.
+pub(crate) fn holds(rt: &impl Abort, name: &str, is_so: bool) {
+    assert!(rt; is_so, "{name}");
+}
+
+/// Ends the test where a value is not printed so.
+pub(crate) fn prints<T: Display>(
+    rt: &impl Abort,
+    alloc: Global,
+    value: &T,
+    wanted: &str,
+) -> Result<(), Fail> {
+    let text = format!(in alloc; "{value}")?;
+    assert_eq!(rt; text.as_str(), wanted);
+    Ok(())
+}
