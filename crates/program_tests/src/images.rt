@@ -276,13 +276,22 @@ static INSTRUCTIONS: [(&str, Insn, [u8; 8]); 19] = [
         [0x95, 0x00, 0x00, 0x00, 0x00, 0x00, 0x00, 0x00]),
 ];
 
+/// An image of this slot alone is decoded to the instruction, and encoded again.
+fn is_slot_of(
+    rt: &impl Abort,
+    alloc: Global,
+    name: &str,
+    insn: Insn,
+    slot: &[u8],
+) -> Result<(), Fail> {
+    let bytes = bytes_of(alloc, &HEAD, slot, &[])?;
+    is_decoded(rt, alloc, name, &bytes, Version::V1, &[insn], 1)
+}
+
 #[test]
 fn instructions_and_their_slots(rt: HostRuntime) -> Result<(), Fail> {
     for &(name, insn, slot) in &INSTRUCTIONS {
-        let mut bytes = [0; 16];
-        bytes[..8].copy_from_slice(&HEAD);
-        bytes[8..].copy_from_slice(&slot);
-        is_decoded(&rt, rt.alloc(), name, &bytes, Version::V1, &[insn], 1)?;
+        is_slot_of(&rt, rt.alloc(), name, insn, &slot)?;
     }
     Ok(())
 }
