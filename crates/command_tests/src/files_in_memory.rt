@@ -2,12 +2,13 @@
 
 ghost use Rattle.std.specs.Prelude.{◌≡◌, ◌-◌, ◌<◌, ◌^◌};
 
+use crate::asserting::{holds, same_bytes};
 use folders::{Folder, FolderFault, MemoryFolder};
-use std::alloc::Global;
-use std::test::Fail;
+use std::alloc::{AllocError, Global};
+use std::process::Abort;
 
 /// So many bytes, of which each is its place modulo 251.
-fn counted(alloc: Global, count: usize) -> Result<Vec<u8>, Fail> {
+fn counted(alloc: Global, count: usize) -> Result<Vec<u8>, AllocError> {
     let mut bytes = Vec::new(alloc);
     for place in 0..count {
         bytes.push((place % 251) as u8)?;
@@ -15,42 +16,57 @@ fn counted(alloc: Global, count: usize) -> Result<Vec<u8>, Fail> {
     Ok(bytes)
 }
 
-/// How many bytes a file has, how many are asked for, and how many are given.
-const FRONTS: [(usize, usize, usize); 9] = [
-    (0, 0, 0),
-    (0, 5, 0),
-    (5, 0, 0),
-    (5, 4, 4),
-    (5, 5, 5),
-    (5, 6, 5),
-    (4097, 4096, 4096),
-    (65_537, 65_536, 65_536),
-    (65_537, 100_000, 65_537),
+/// What a row shows, how many bytes a file has, how many are asked for, and how many are given.
+#[rattlefmt::skip]
+const FRONTS: [(&str, usize, usize, usize); 9] = [
+    ("nothing of nothing", 0, 0, 0),
+    ("five of nothing", 0, 5, 0),
+    ("nothing of five", 5, 0, 0),
+    ("four of five", 5, 4, 4),
+    ("five of five", 5, 5, 5),
+    ("six of five", 5, 6, 5),
+    ("4096 of 4097", 4097, 4096, 4096),
+    ("65,536 of 65,537", 65_537, 65_536, 65_536),
+    ("100,000 of 65,537", 65_537, 100_000, 65_537),
 ];
 
-#[test]
-fn memory_gives_fronts(rt: HostRuntime) -> Result<(), Fail> {
-    let alloc = rt.alloc();
-    for (count, most, given) in FRONTS {
-        let bytes = counted(alloc, count)?;
-        let mut folder = MemoryFolder::new(alloc);
-        folder.write(alloc, "file", &bytes)?;
-        let front = folder.read_front(alloc, "file", most)?;
-        assert_eq!(rt; front.length, count as u64, "length of {count}");
-        assert!(rt; front.bytes == counted(alloc, given)?, "front of {count}");
-        assert_eq!(rt; front.is_whole(), given == count, "all of {count}");
-    }
-    Ok(())
+/// Holds the front of a file of so many bytes against its first ones.
+fn compare_front<R: Abort>(
+    rt: &R,
+    alloc: Global,
+    name: &str,
+    count: usize,
+    most: usize,
+    given: usize,
+) {
+    let bytes = counted(alloc, count).expect(rt, "bytes");
+    let mut folder = MemoryFolder::new(alloc);
+    folder
+        .write(alloc, "file", &bytes)
+        .expect(rt, "a file in memory");
+    let front = folder.read_front(alloc, "file", most).expect(rt, "a front");
+    let wanted = counted(alloc, given).expect(rt, "bytes");
+    holds(rt, "length", name, front.length == count as u64);
+    same_bytes(rt, "front", name, &front.bytes, &wanted);
+    holds(rt, "all", name, front.is_whole() == (given == count));
 }
 
 #[test]
-fn memory_has_no_other_file(rt: HostRuntime) -> Result<(), Fail> {
+fn memory_gives_fronts(rt: HostRuntime) {
+    for row in &FRONTS {
+        compare_front(&rt, rt.alloc(), row.0, row.1, row.2, row.3);
+    }
+}
+
+#[test]
+fn memory_has_no_other_file(rt: HostRuntime) {
     let alloc = rt.alloc();
+    let name = "a file that is not there";
     let mut folder = MemoryFolder::new(alloc);
     let found = folder.read_front(alloc, "file", 4).map(|_| ());
-    assert_eq!(rt; found, Err(FolderFault::Device));
-    assert_eq!(rt; folder.failures(), 1);
-    let complaint = folder.complaint(alloc, "file")?;
-    assert!(rt; complaint.as_str() == "cannot open file: there is no such file");
-    Ok(())
+    holds(&rt, "the fault", name, found == Err(FolderFault::Device));
+    holds(&rt, "one failure", name, folder.failures() == 1);
+    let complaint = folder.complaint(alloc, "file").expect(&rt, "a text");
+    let wanted = b"cannot open file: there is no such file";
+    same_bytes(&rt, "complaint", name, complaint.as_bytes(), wanted);
 }

@@ -1,12 +1,18 @@
 //! Texts and images, both ways.
 
-use super::first_path::{IMAGE, TEXT};
-use super::{file, folder_of, serve_line};
-use folders::{Folder, MemoryFolder};
-use std::test::Fail;
+use super::first_path::{IMAGE, TEXT, over_image};
+use super::{NOTHING, Wanted, compare_digits, left_by, put, writes_nothing};
+use folders::MemoryFolder;
+use std::alloc::Global;
+use std::process::Abort;
+use std::sync::Wait;
+use std::thread::Threads;
+
+/// What a row shows, the text's bytes, and what is told.
+type Row = (&'static str, &'static [u8], &'static str);
 
 #[rattlefmt::skip]
-const ROWS: [(&str, &[u8], &str); 12] = [
+const ROWS: [Row; 12] = [
     ("a leading zero",            b"version 1\nmov r0, 02\nexit\n",               "fault 21 BadLine line 2\n"),
     ("register 11",               b"version 1\nmov r11, 1\nexit\n",               "fault 21 BadLine line 2\n"),
     ("minus zero",                b"version 1\nmov r0, -0\nexit\n",               "fault 21 BadLine line 2\n"),
@@ -21,50 +27,51 @@ const ROWS: [(&str, &[u8], &str); 12] = [
     ("not UTF-8 before bad line", b"version 1\nbad\nmov r0, 2\n\xe2\x82\n",       "fault 21 BadLine line 4\n"),
 ];
 
+/// Holds what is told of a text against what is to be told; no file is written.
+fn compare_refused<R: Abort + Threads + Wait + Sync>(rt: &R, alloc: Global, row: &Row) {
+    let (name, text, err) = *row;
+    let folder = put(rt, alloc, MemoryFolder::new(alloc), "text", text);
+    let line = "xlb asm text made";
+    writes_nothing(rt, alloc, name, folder, line, err, "made");
+}
+
 #[test]
-fn refuses_texts(rt: HostRuntime) -> Result<(), Fail> {
-    let alloc = rt.alloc();
-    for (name, text, err) in ROWS {
-        let mut folder = MemoryFolder::new(alloc);
-        folder.write(alloc, "text", text)?;
-        let mut found = serve_line(&rt, alloc, folder, "xlb asm text made")?;
-        assert!(rt; found.err.bytes() == err.as_bytes(), "error of {name}");
-        assert!(rt; found.out.bytes().is_empty(), "output of {name}");
-        assert_eq!(rt; found.status, 1, "status of {name}");
-        assert!(rt; found.folder.failures() == 0, "device of {name}");
-        assert!(rt;
-            file(alloc, &mut found.folder, "made").is_err(),
-            "file of {name}"
-        );
+fn refuses_texts(rt: HostRuntime) {
+    for row in &ROWS {
+        compare_refused(&rt, rt.alloc(), row);
     }
-    Ok(())
 }
 
 #[test]
-fn assembles_the_first_text(rt: HostRuntime) -> Result<(), Fail> {
+fn assembles_the_first_text(rt: HostRuntime) {
     let alloc = rt.alloc();
-    let mut folder = MemoryFolder::new(alloc);
-    folder.write(alloc, "text", TEXT.as_bytes())?;
-    let mut found = serve_line(&rt, alloc, folder, "xlb asm text made")?;
-    assert_eq!(rt; found.status, 0);
-    assert!(rt; found.out.bytes().is_empty());
-    assert!(rt; found.err.bytes().is_empty());
-    assert!(rt; found.folder.failures() == 0);
-    let made = file(alloc, &mut found.folder, "made")?;
-    assert!(rt; made == hex::decode(alloc, IMAGE)?);
-    Ok(())
-}
-
-#[test]
-fn prints_without_judging(rt: HostRuntime) -> Result<(), Fail> {
-    let alloc = rt.alloc();
-    let folder = folder_of(
+    let folder = put(
+        &rt,
         alloc,
-        ("image", "584c4250010000009500000000000000"),
-        ("b", ""),
-    )?;
-    let found = serve_line(&rt, alloc, folder, "xlb disasm image")?;
-    assert_eq!(rt; found.status, 0);
-    assert!(rt; found.out.bytes() == b"version 1\nexit\n".as_slice());
-    Ok(())
+        MemoryFolder::new(alloc),
+        "text",
+        TEXT.as_bytes(),
+    );
+    let line = "xlb asm text made";
+    let folder = left_by(&rt, alloc, "the first text", folder, line, NOTHING);
+    compare_digits(&rt, alloc, "the first text", folder, "made", IMAGE);
+}
+
+#[test]
+fn prints_without_judging(rt: HostRuntime) {
+    let image = "584c4250010000009500000000000000";
+    let wanted = Wanted {
+        status: 0,
+        out: "version 1\nexit\n",
+        err: "",
+    };
+    over_image(
+        &rt,
+        rt.alloc(),
+        "exit alone",
+        image,
+        "",
+        "xlb disasm image",
+        wanted,
+    );
 }

@@ -1,11 +1,11 @@
 //! Files of journals, written by hand, and what an audit says of them.
 
-use super::{Given, file, serve_line};
-use folders::{Folder, MemoryFolder};
+use super::first_path::IMAGE;
+use super::{LEGAL, Wanted, compare, over_text, put, put_digits, refused};
+use folders::MemoryFolder;
 use std::alloc::Global;
 use std::process::Abort;
 use std::sync::Wait;
-use std::test::Fail;
 use std::thread::Threads;
 
 /// What a row shows, the image's map, the header's numbers, the entries, and what is told: nothing where they are legal.
@@ -86,69 +86,61 @@ const NUMBERS: [Row; 14] = [
     ("the first shard's goes before", "array 4 8 2", "1 2 16", "0 w0 enter ok\n0 w0 enter ok\n1 w0 leave ok\n", "0 place 1"),
 ];
 
-/// An audit of a file, of the map of an image whose program may not run.
-fn audited<R: Abort + Threads + Wait + Sync>(
+/// Holds what an audit says of a file, of the map of an image whose program may not run, against what it is to say.
+fn compare_audit<R: Abort + Threads + Wait + Sync>(
     rt: &R,
     alloc: Global,
+    name: &str,
     map: &str,
     journals: &[u8],
-) -> Result<Given, Fail> {
-    let text = format!(in alloc; "version 1\nmap {map}\nexit\n")?;
-    let mut folder = MemoryFolder::new(alloc);
-    folder.write(alloc, "text", text.as_bytes())?;
-    let mut made = serve_line(rt, alloc, folder, "xlb asm text image")?;
-    assert!(rt; made.folder.failures() == 0, "image of {map}");
-    let image = file(alloc, &mut made.folder, "image")?;
-    let mut folder = MemoryFolder::new(alloc);
-    folder.write(alloc, "image", &image)?;
-    folder.write(alloc, "journals", journals)?;
-    serve_line(rt, alloc, folder, "xlb audit image journals")
+    wanted: Wanted<'_>,
+) {
+    let text = format!(in alloc; "version 1\nmap {map}\nexit\n").expect(rt, "a text");
+    let line = "xlb audit image journals";
+    over_text(rt, alloc, name, &text, ("journals", journals), line, wanted);
 }
 
 /// Holds what an audit says of a row's file against the row.
-fn compare<R: Abort + Threads + Wait + Sync>(rt: &R, alloc: Global, row: Row) -> Result<(), Fail> {
-    let (name, map, header, entries, told) = row;
-    let text = format!(in alloc; "XLBJ 1 {header}\n{entries}")?;
-    let found = audited(rt, alloc, map, text.as_bytes())?;
-    let want = format!(in alloc; "fault 53 Illegal shard {told}\n")?;
-    let (status, out, err) = if told.is_empty() {
-        (0, "legal\n", "")
+fn compare_row<R: Abort + Threads + Wait + Sync>(rt: &R, alloc: Global, row: &Row) {
+    let (name, map, header, entries, told) = *row;
+    let text = format!(in alloc; "XLBJ 1 {header}\n{entries}").expect(rt, "a file");
+    let err = format!(in alloc; "fault 53 Illegal shard {told}\n").expect(rt, "a line");
+    let wanted = if told.is_empty() {
+        LEGAL
     } else {
-        (1, "", want.as_str())
+        refused(&err)
     };
-    assert!(rt; found.err.bytes() == err.as_bytes(), "error of {name}");
-    assert!(rt; found.out.bytes() == out.as_bytes(), "output of {name}");
-    assert_eq!(rt; found.status, status, "status of {name}");
-    Ok(())
+    compare_audit(rt, alloc, name, map, text.as_bytes(), wanted);
+}
+
+/// Each row's audit.
+fn compare_rows<R: Abort + Threads + Wait + Sync>(rt: &R, alloc: Global, rows: &[Row]) {
+    for row in rows {
+        compare_row(rt, alloc, row);
+    }
 }
 
 #[test]
-fn audits_runs(rt: HostRuntime) -> Result<(), Fail> {
-    for row in RUNS {
-        compare(&rt, rt.alloc(), row)?;
-    }
-    Ok(())
+fn audits_runs(rt: HostRuntime) {
+    compare_rows(&rt, rt.alloc(), &RUNS);
 }
 
 #[test]
-fn audits_cells(rt: HostRuntime) -> Result<(), Fail> {
-    for row in CELLS {
-        compare(&rt, rt.alloc(), row)?;
-    }
-    Ok(())
+fn audits_cells(rt: HostRuntime) {
+    compare_rows(&rt, rt.alloc(), &CELLS);
 }
 
 #[test]
-fn audits_numbers(rt: HostRuntime) -> Result<(), Fail> {
-    for row in NUMBERS {
-        compare(&rt, rt.alloc(), row)?;
-    }
-    Ok(())
+fn audits_numbers(rt: HostRuntime) {
+    compare_rows(&rt, rt.alloc(), &NUMBERS);
 }
+
+/// What a row shows, a file's bytes, and what is told.
+type Unread = (&'static str, &'static [u8], &'static str);
 
 /// Files that are none of journals.
 #[rattlefmt::skip]
-const NO_FILES: [(&str, &[u8], &str); 6] = [
+const NO_FILES: [Unread; 6] = [
     ("an empty file",        b"",                                     "fault 55 BadJournalFile line 1\n"),
     ("nine workers",         b"XLBJ 1 9 1 16\n",                      "fault 55 BadJournalFile line 1\n"),
     ("an unended line",      b"XLBJ 1 1 1 16\n0 w0 enter ok",         "fault 55 BadJournalFile line 2\n"),
@@ -157,15 +149,17 @@ const NO_FILES: [(&str, &[u8], &str); 6] = [
     ("bad before illegal",   b"XLBJ 1 1 1 16\n0 w0 leave ok\n0\n",    "fault 55 BadJournalFile line 3\n"),
 ];
 
-#[test]
-fn refuses_files(rt: HostRuntime) -> Result<(), Fail> {
-    for (name, bytes, err) in NO_FILES {
-        let found = audited(&rt, rt.alloc(), "hash 4 8 2", bytes)?;
-        assert!(rt; found.err.bytes() == err.as_bytes(), "error of {name}");
-        assert!(rt; found.out.bytes().is_empty(), "output of {name}");
-        assert_eq!(rt; found.status, 1, "status of {name}");
+/// Each row's file, audited.
+fn refuse_each<R: Abort + Threads + Wait + Sync>(rt: &R, alloc: Global, rows: &[Unread]) {
+    for row in rows {
+        let (name, bytes, err) = *row;
+        compare_audit(rt, alloc, name, "hash 4 8 2", bytes, refused(err));
     }
-    Ok(())
+}
+
+#[test]
+fn refuses_files(rt: HostRuntime) {
+    refuse_each(&rt, rt.alloc(), &NO_FILES);
 }
 
 /// Command lines over a folder that has journals and no image.
@@ -184,17 +178,16 @@ const NOT_THERE: [(&str, &str); 3] = [
     ),
 ];
 
+/// Holds what is told of a command line over the first image and empty journals against what is to be told.
+fn compare_line<R: Abort + Threads + Wait + Sync>(rt: &R, alloc: Global, line: &str, err: &str) {
+    let folder = put_digits(rt, alloc, MemoryFolder::new(alloc), "image", IMAGE);
+    let folder = put(rt, alloc, folder, "journals", b"XLBJ 1 1 1 16\n");
+    compare(rt, alloc, line, folder, line, refused(err));
+}
+
 #[test]
-fn files_that_are_not_there(rt: HostRuntime) -> Result<(), Fail> {
-    let alloc = rt.alloc();
-    for (line, err) in NOT_THERE {
-        let mut folder = MemoryFolder::new(alloc);
-        let image = hex::decode(alloc, super::first_path::IMAGE)?;
-        folder.write(alloc, "image", &image)?;
-        folder.write(alloc, "journals", b"XLBJ 1 1 1 16\n")?;
-        let found = serve_line(&rt, alloc, folder, line)?;
-        assert!(rt; found.err.bytes() == err.as_bytes(), "{line}");
-        assert_eq!(rt; found.status, 1, "{line}");
+fn files_that_are_not_there(rt: HostRuntime) {
+    for row in &NOT_THERE {
+        compare_line(&rt, rt.alloc(), row.0, row.1);
     }
-    Ok(())
 }

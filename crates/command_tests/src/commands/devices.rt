@@ -3,11 +3,14 @@
 ghost use Rattle.std.specs.Prelude.{None};
 
 use super::first_path::IMAGE;
-use super::folder_of;
+use super::put_digits;
+use crate::asserting::{holds, same_bytes, same_status};
 use command_line::Settings;
-use folders::{Folder, FolderFault, Front};
+use folders::{Folder, FolderFault, Front, MemoryFolder};
 use std::alloc::{AllocError, Global};
-use std::test::Fail;
+use std::process::Abort;
+use std::sync::Wait;
+use std::thread::Threads;
 use wire::{Failed, MemorySink, Sink};
 use xlb_commands::{NoProgress, serve};
 
@@ -81,9 +84,9 @@ impl Folder for FullFolder {
 }
 
 #[test]
-fn tells_a_broken_output(rt: HostRuntime) -> Result<(), Fail> {
+fn tells_a_broken_output(rt: HostRuntime) {
     let alloc = rt.alloc();
-    let mut folder = folder_of(alloc, ("image", IMAGE), ("b", ""))?;
+    let mut folder = put_digits(&rt, alloc, MemoryFolder::new(alloc), "image", IMAGE);
     let mut out = BrokenSink { failures: 0 };
     let mut err = MemorySink::new(alloc);
     let settings = Settings::Check {
@@ -99,16 +102,21 @@ fn tells_a_broken_output(rt: HostRuntime) -> Result<(), Fail> {
         &mut out,
         &mut err,
     );
-    assert_eq!(rt; status, 1);
-    assert!(rt; err.bytes() == b"fault 7 Device\n".as_slice());
-    assert!(rt; out.failures() == 1);
-    Ok(())
+    same_status(&rt, "a broken output", status, 1);
+    same_bytes(
+        &rt,
+        "error",
+        "a broken output",
+        err.bytes(),
+        b"fault 7 Device\n",
+    );
+    holds(&rt, "one failure", "a broken output", out.failures() == 1);
 }
 
 #[test]
-fn survives_a_broken_error_stream(rt: HostRuntime) -> Result<(), Fail> {
+fn survives_a_broken_error_stream(rt: HostRuntime) {
     let alloc = rt.alloc();
-    let mut folder = folder_of(alloc, ("image", IMAGE), ("b", ""))?;
+    let mut folder = put_digits(&rt, alloc, MemoryFolder::new(alloc), "image", IMAGE);
     let mut out = MemorySink::new(alloc);
     let mut err = BrokenSink { failures: 0 };
     let settings = Settings::Check {
@@ -124,9 +132,8 @@ fn survives_a_broken_error_stream(rt: HostRuntime) -> Result<(), Fail> {
         &mut out,
         &mut err,
     );
-    assert_eq!(rt; status, 1);
-    assert!(rt; out.bytes().is_empty());
-    Ok(())
+    same_status(&rt, "a broken error stream", status, 1);
+    same_bytes(&rt, "output", "a broken error stream", out.bytes(), b"");
 }
 
 const FULL: [(FolderFault, &str); 2] = [
@@ -137,34 +144,41 @@ const FULL: [(FolderFault, &str); 2] = [
     (FolderFault::Memory, "fault 8 Memory\n"),
 ];
 
+/// Holds what is told of a full folder against what is to be told.
+fn compare_full<R: Abort + Threads + Wait + Sync>(
+    rt: &R,
+    alloc: Global,
+    fault: FolderFault,
+    want: &str,
+) {
+    let mut folder = FullFolder {
+        failures: 0,
+        fault,
+        text: "version 1\nexit\n",
+    };
+    let mut out = MemorySink::new(alloc);
+    let mut err = MemorySink::new(alloc);
+    let settings = Settings::Asm {
+        text: "text",
+        out: "made",
+        source: false,
+    };
+    let status = serve(
+        rt,
+        alloc,
+        &settings,
+        &mut folder,
+        &NoProgress,
+        &mut out,
+        &mut err,
+    );
+    same_status(rt, want, status, 1);
+    same_bytes(rt, "error", want, err.bytes(), want.as_bytes());
+}
+
 #[test]
-fn tells_a_full_folder(rt: HostRuntime) -> Result<(), Fail> {
-    let alloc = rt.alloc();
-    for (fault, want) in FULL {
-        let text = "version 1\nexit\n";
-        let mut folder = FullFolder {
-            failures: 0,
-            fault,
-            text,
-        };
-        let mut out = MemorySink::new(alloc);
-        let mut err = MemorySink::new(alloc);
-        let settings = Settings::Asm {
-            text: "text",
-            out: "made",
-            source: false,
-        };
-        let status = serve(
-            &rt,
-            alloc,
-            &settings,
-            &mut folder,
-            &NoProgress,
-            &mut out,
-            &mut err,
-        );
-        assert_eq!(rt; status, 1, "{want}");
-        assert!(rt; err.bytes() == want.as_bytes(), "{want}");
+fn tells_a_full_folder(rt: HostRuntime) {
+    for row in &FULL {
+        compare_full(&rt, rt.alloc(), row.0, row.1);
     }
-    Ok(())
 }

@@ -1,10 +1,11 @@
 //! Checks that tell why.
 
-use super::serve_line;
-use disasm::assemble;
-use ebpf_decode::encode;
-use folders::{Folder, MemoryFolder};
-use std::test::Fail;
+use super::{Wanted, compare_begins, with_image};
+use folders::MemoryFolder;
+use std::alloc::Global;
+use std::process::Abort;
+use std::sync::Wait;
+use std::thread::Threads;
 
 /// A program, the status, and what the output and the error stream begin with.
 type Row = (&'static str, u8, &'static str, &'static str);
@@ -17,24 +18,17 @@ const ROWS: [Row; 3] = [
     ("version 1\nmov r0, 2\nexit\n", 0, "accepted slots 2 maps 0 reader yes\n  slot 0: mov r0, 2\n    known: r1 context; r10 stack r10-0;\n  slot 1: exit\n", ""),
 ];
 
+/// Holds why a row's program is refused, or accepted, against the row.
+fn compare_row<R: Abort + Threads + Wait + Sync>(rt: &R, alloc: Global, row: &Row) {
+    let (text, status, out, err) = *row;
+    let folder = with_image(rt, alloc, text, MemoryFolder::new(alloc), text);
+    let wanted = Wanted { status, out, err };
+    compare_begins(rt, alloc, text, folder, "xlb check --explain image", wanted);
+}
+
 #[test]
-fn tells_why(rt: HostRuntime) -> Result<(), Fail> {
-    let alloc = rt.alloc();
-    for (text, status, out, err) in ROWS {
-        let mut folder = MemoryFolder::new(alloc);
-        folder.write(alloc, "image", &encode(alloc, &assemble(alloc, text)?)?)?;
-        let found = serve_line(&rt, alloc, folder, "xlb check --explain image")?;
-        assert_eq!(rt; found.status, status, "{text}");
-        assert!(rt;
-            found.out.bytes().starts_with(out.as_bytes()),
-            "output of {text}"
-        );
-        assert!(rt;
-            found.err.bytes().starts_with(err.as_bytes()),
-            "error of {text}"
-        );
-        assert!(rt; found.out.bytes().is_empty() == out.is_empty(), "{text}");
-        assert!(rt; found.err.bytes().is_empty() == err.is_empty(), "{text}");
+fn tells_why(rt: HostRuntime) {
+    for row in &ROWS {
+        compare_row(&rt, rt.alloc(), row);
     }
-    Ok(())
 }

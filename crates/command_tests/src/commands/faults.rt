@@ -1,6 +1,7 @@
 //! The faults that commands print, and their explanations.
 
-use super::serve_line;
+use super::{Wanted, compare};
+use crate::asserting::holds;
 use audit::AuditFault;
 use conntrack::SteerFault;
 use control::ControlFault;
@@ -13,8 +14,9 @@ use machine::Stop;
 use replay::ReplayFault;
 use shards::OpenFault;
 use source_form::{Problem, SourceFault};
-use std::alloc::{AllocError, Global};
-use std::test::Fail;
+use std::alloc::Global;
+use std::fmt::Display;
+use std::process::Abort;
 use verifier::Reject;
 use wire::{CaptureFault, FrameFault};
 use xlb_commands::{Fault, fault_line};
@@ -103,62 +105,85 @@ fn number_in(text: &str) -> u32 {
     }
 }
 
+/// Holds that the name in a fault's line is the one that its number is explained under.
+fn compare_name<R: Abort>(rt: &R, alloc: Global, fault: Fault) {
+    let line = fault_line(alloc, fault).expect(rt, "a line");
+    let text = format!(in alloc; "{line} ").expect(rt, "a line");
+    let number = number_in(&text);
+    let name = Explanation::of(number).map(|row| row.name).unwrap_or("");
+    let wanted = format!(in alloc; "fault {number} {name} ").expect(rt, "a line");
+    let is_so = text.as_str().starts_with(wanted.as_str());
+    holds(rt, "name", &line, is_so);
+}
+
 #[test]
-fn faults_are_explained_under_their_names(rt: HostRuntime) -> Result<(), Fail> {
-    for fault in FAULTS {
-        let line = fault_line(rt.alloc(), fault)?;
-        let text = format!(in rt.alloc(); "{line} ")?;
-        let number = number_in(text.as_str());
-        let name = Explanation::of(number).map(|row| row.name).unwrap_or("");
-        let want = format!(in rt.alloc(); "fault {number} {name} ")?;
-        assert!(rt; text.as_str().starts_with(want.as_str()), "{text}");
+fn faults_are_explained_under_their_names(rt: HostRuntime) {
+    for fault in &FAULTS {
+        compare_name(&rt, rt.alloc(), *fault);
     }
-    Ok(())
+}
+
+/// The text of a fault of one crate.
+fn text_of<R: Abort, T: Display>(rt: &R, alloc: Global, fault: &T) -> String {
+    format!(in alloc; "{fault}").expect(rt, "a text")
 }
 
 /// The text that the fault's own crate gives it.
-fn own_text(alloc: Global, fault: Fault) -> Result<String, AllocError> {
+fn own_text<R: Abort>(rt: &R, alloc: Global, fault: Fault) -> String {
     match fault {
-        Fault::Folder(fault) => format!(in alloc; "{fault}"),
-        Fault::Decode(fault) => format!(in alloc; "{fault}"),
-        Fault::Text(fault) => format!(in alloc; "{fault}"),
-        Fault::Source(fault) => format!(in alloc; "{fault}"),
-        Fault::Program(fault) => format!(in alloc; "{fault}"),
-        Fault::Frame(fault) => format!(in alloc; "{fault}"),
-        Fault::Options(fault) => format!(in alloc; "{fault}"),
-        Fault::Run(fault) => format!(in alloc; "{fault}"),
-        Fault::Journals(fault) => format!(in alloc; "{fault}"),
-        Fault::Audit(fault) => format!(in alloc; "{fault}"),
-        Fault::Steering(fault) => format!(in alloc; "{fault}"),
-        Fault::Script(fault) => format!(in alloc; "{fault}"),
-        Fault::Capture(fault) => format!(in alloc; "{fault}"),
-        Fault::Replay(fault) => format!(in alloc; "{fault}"),
-        Fault::Output => String::from_str(alloc, "fault 7 Device"),
-        Fault::Memory => String::from_str(alloc, "fault 8 Memory"),
+        Fault::Folder(fault) => text_of(rt, alloc, &fault),
+        Fault::Decode(fault) => text_of(rt, alloc, &fault),
+        Fault::Text(fault) => text_of(rt, alloc, &fault),
+        Fault::Source(fault) => text_of(rt, alloc, &fault),
+        Fault::Program(fault) => text_of(rt, alloc, &fault),
+        Fault::Frame(fault) => text_of(rt, alloc, &fault),
+        Fault::Options(fault) => text_of(rt, alloc, &fault),
+        Fault::Run(fault) => text_of(rt, alloc, &fault),
+        Fault::Journals(fault) => text_of(rt, alloc, &fault),
+        Fault::Audit(fault) => text_of(rt, alloc, &fault),
+        Fault::Steering(fault) => text_of(rt, alloc, &fault),
+        Fault::Script(fault) => text_of(rt, alloc, &fault),
+        Fault::Capture(fault) => text_of(rt, alloc, &fault),
+        Fault::Replay(fault) => text_of(rt, alloc, &fault),
+        Fault::Output => text_of(rt, alloc, &"fault 7 Device"),
+        Fault::Memory => text_of(rt, alloc, &"fault 8 Memory"),
     }
 }
 
-#[test]
-fn lines_are_the_texts_of_the_crates(rt: HostRuntime) -> Result<(), Fail> {
-    for fault in FAULTS {
-        let line = fault_line(rt.alloc(), fault)?;
-        let text = own_text(rt.alloc(), fault)?;
-        assert_eq!(rt; line.as_str(), text.as_str());
-    }
-    Ok(())
+/// Holds a fault's line against the text that its own crate gives it.
+fn compare_text<R: Abort>(rt: &R, alloc: Global, fault: Fault) {
+    let line = fault_line(alloc, fault).expect(rt, "a line");
+    let text = own_text(rt, alloc, fault);
+    assert_eq!(rt; line.as_str(), text.as_str());
 }
 
 #[test]
-fn explains_a_fault(rt: HostRuntime) -> Result<(), Fail> {
-    let alloc = rt.alloc();
-    let found = serve_line(&rt, alloc, MemoryFolder::new(alloc), "xlb explain 33")?;
-    let want = "fault 33 FallsOff
+fn lines_are_the_texts_of_the_crates(rt: HostRuntime) {
+    for fault in &FAULTS {
+        compare_text(&rt, rt.alloc(), *fault);
+    }
+}
+
+const EXPLAINED: &str = "fault 33 FallsOff
 The last instruction goes on past the end.
 Usual causes: The program does not end with `exit`.
 For example: `mov r0, 2` as the whole program.
 ";
-    assert!(rt; found.out.bytes() == want.as_bytes());
-    assert!(rt; found.err.bytes().is_empty());
-    assert_eq!(rt; found.status, 0);
-    Ok(())
+
+#[test]
+fn explains_a_fault(rt: HostRuntime) {
+    let alloc = rt.alloc();
+    let wanted = Wanted {
+        status: 0,
+        out: EXPLAINED,
+        err: "",
+    };
+    compare(
+        &rt,
+        alloc,
+        "fault 33",
+        MemoryFolder::new(alloc),
+        "xlb explain 33",
+        wanted,
+    );
 }

@@ -1,7 +1,11 @@
 //! The first image, from its bytes to a verdict.
 
-use super::{folder_of, serve_line};
-use std::test::Fail;
+use super::{Wanted, compare, put_digits};
+use folders::MemoryFolder;
+use std::alloc::Global;
+use std::process::Abort;
+use std::sync::Wait;
+use std::thread::Threads;
 
 /// The image that checks 14 bytes, reads byte 13, looks element 0 up and exits with the sum.
 pub const IMAGE: &str =
@@ -44,15 +48,31 @@ const ROWS: [Row; 19] = [
     ("no text to assemble",       "", "xlb asm nosuch made", 1, "", "fault 7 Device\n  cannot open nosuch: there is no such file\n"),
 ];
 
-#[test]
-fn first_path(rt: HostRuntime) -> Result<(), Fail> {
-    let alloc = rt.alloc();
-    for (name, frame, line, status, out, err) in ROWS {
-        let folder = folder_of(alloc, ("image", IMAGE), ("frame", frame))?;
-        let found = serve_line(&rt, alloc, folder, line)?;
-        assert!(rt; found.out.bytes() == out.as_bytes(), "output of {name}");
-        assert!(rt; found.err.bytes() == err.as_bytes(), "error of {name}");
-        assert_eq!(rt; found.status, status, "status of {name}");
+/// Holds what a command gives over an image and a frame against what it is to give.
+pub fn over_image<R: Abort + Threads + Wait + Sync>(
+    rt: &R,
+    alloc: Global,
+    name: &str,
+    image: &str,
+    frame: &str,
+    line: &str,
+    wanted: Wanted<'_>,
+) {
+    let folder = put_digits(rt, alloc, MemoryFolder::new(alloc), "image", image);
+    let folder = put_digits(rt, alloc, folder, "frame", frame);
+    compare(rt, alloc, name, folder, line, wanted);
+}
+
+/// Each row over the first image.
+fn compare_rows<R: Abort + Threads + Wait + Sync>(rt: &R, alloc: Global, rows: &[Row]) {
+    for row in rows {
+        let (name, frame, line, status, out, err) = *row;
+        let wanted = Wanted { status, out, err };
+        over_image(rt, alloc, name, IMAGE, frame, line, wanted);
     }
-    Ok(())
+}
+
+#[test]
+fn first_path(rt: HostRuntime) {
+    compare_rows(&rt, rt.alloc(), &ROWS);
 }

@@ -1,10 +1,17 @@
 //! Images that are refused for their bytes.
 
-use super::{folder_of, serve_line};
-use std::test::Fail;
+use super::first_path::over_image;
+use super::refused;
+use std::alloc::Global;
+use std::process::Abort;
+use std::sync::Wait;
+use std::thread::Threads;
+
+/// What a row shows, the image's digits, and what is told.
+type Row = (&'static str, &'static str, &'static str);
 
 #[rattlefmt::skip]
-const ROWS: [(&str, &str, &str); 19] = [
+const ROWS: [Row; 19] = [
     ("no bytes",                    "",                                                                       "fault 10 BadHead\n"),
     ("a cut head",                  "584c4250010000",                                                         "fault 10 BadHead\n"),
     ("another magic",               "584c425101000000b7000000020000009500000000000000",                       "fault 10 BadHead\n"),
@@ -26,15 +33,15 @@ const ROWS: [(&str, &str, &str); 19] = [
     ("eleven slots of it",          "584c4250010100000200000004000000080000000100000061120000000000006113040000000000bf24000000000000070400000e000000b7000000020000002d340b000000000071260d0000000000620afcff00000000bfa200000000000007020000fcffffff1811000000000000", "fault 19 WideCut slot 10\n"),
 ];
 
-#[test]
-fn refuses_images(rt: HostRuntime) -> Result<(), Fail> {
-    let alloc = rt.alloc();
-    for (name, image, err) in ROWS {
-        let folder = folder_of(alloc, ("image", image), ("frame", ""))?;
-        let found = serve_line(&rt, alloc, folder, "xlb check image")?;
-        assert!(rt; found.err.bytes() == err.as_bytes(), "error of {name}");
-        assert!(rt; found.out.bytes().is_empty(), "output of {name}");
-        assert_eq!(rt; found.status, 1, "status of {name}");
+/// Each row's image, checked.
+fn compare_rows<R: Abort + Threads + Wait + Sync>(rt: &R, alloc: Global, rows: &[Row]) {
+    for row in rows {
+        let (name, image, err) = *row;
+        over_image(rt, alloc, name, image, "", "xlb check image", refused(err));
     }
-    Ok(())
+}
+
+#[test]
+fn refuses_images(rt: HostRuntime) {
+    compare_rows(&rt, rt.alloc(), &ROWS);
 }

@@ -1,8 +1,10 @@
 //! Programs judged, each from its text.
 
-use super::{file, serve_line};
-use folders::{Folder, MemoryFolder};
-use std::test::Fail;
+use super::{Wanted, ZEROS, over_text};
+use std::alloc::Global;
+use std::process::Abort;
+use std::sync::Wait;
+use std::thread::Threads;
 
 /// What a row shows, the text, the status, and what is printed on the output and on the error stream.
 type Row = (&'static str, &'static str, u8, &'static str, &'static str);
@@ -43,22 +45,24 @@ const ROWS: [Row; 32] = [
     ("no such map", "version 1\nldmap r1, 0\nmov r0, 2\nexit\n", 1, "", "fault 47 UnknownMap slot 0\n"),
 ];
 
-#[test]
-fn judges_programs(rt: HostRuntime) -> Result<(), Fail> {
-    let alloc = rt.alloc();
-    for (name, text, status, out, err) in ROWS {
-        let mut folder = MemoryFolder::new(alloc);
-        folder.write(alloc, "text", text.as_bytes())?;
-        let mut made = serve_line(&rt, alloc, folder, "xlb asm text image")?;
-        assert_eq!(rt; made.status, 0, "assembling {name}");
-        assert!(rt; made.folder.failures() == 0, "device of {name}");
-        let image = file(alloc, &mut made.folder, "image")?;
-        let mut folder = MemoryFolder::new(alloc);
-        folder.write(alloc, "image", &image)?;
-        let found = serve_line(&rt, alloc, folder, "xlb check image")?;
-        assert!(rt; found.out.bytes() == out.as_bytes(), "output of {name}");
-        assert!(rt; found.err.bytes() == err.as_bytes(), "error of {name}");
-        assert_eq!(rt; found.status, status, "status of {name}");
+/// Each row's program, checked.
+fn compare_rows<R: Abort + Threads + Wait + Sync>(rt: &R, alloc: Global, rows: &[Row]) {
+    for row in rows {
+        let (name, text, status, out, err) = *row;
+        let wanted = Wanted { status, out, err };
+        over_text(
+            rt,
+            alloc,
+            name,
+            text,
+            ("frame", ZEROS),
+            "xlb check image",
+            wanted,
+        );
     }
-    Ok(())
+}
+
+#[test]
+fn judges_programs(rt: HostRuntime) {
+    compare_rows(&rt, rt.alloc(), &ROWS);
 }

@@ -1,13 +1,10 @@
 //! Replays: what they print, and the files that they leave.
 
-use super::{Given, file, serve_line};
-use disasm::assemble;
-use ebpf_decode::encode;
-use folders::{Folder, MemoryFolder};
+use super::{Wanted, compare_file, done, lacks, left_by, put, with_image};
+use folders::MemoryFolder;
 use std::alloc::Global;
 use std::process::Abort;
 use std::sync::Wait;
-use std::test::Fail;
 use std::thread::Threads;
 
 /// Sets the value of key 7 to 2, adds 1 to it, and answers it.
@@ -128,65 +125,78 @@ const STEERED: [(Input, Output); 8] = [
 ];
 
 /// The bytes of hexadecimal digits in parts.
-fn bytes_of(alloc: Global, parts: &[&str]) -> Result<Vec<u8>, Fail> {
+fn bytes_of<R: Abort>(rt: &R, alloc: Global, parts: &[&str]) -> Vec<u8> {
     let mut digits = String::new(alloc);
     for part in parts {
-        digits.push_str(part)?;
+        digits.push_str(part).expect(rt, "digits");
     }
-    Ok(hex::decode(alloc, digits.as_str())?)
+    hex::decode(alloc, &digits).expect(rt, "hexadecimal digits")
 }
 
-/// A replay of a row, which writes its journals too.
-fn replayed<R: Threads + Wait + Sync>(rt: &R, alloc: Global, input: Input) -> Result<Given, Fail> {
-    let (_, text, script, capture, words) = input;
-    let mut folder = MemoryFolder::new(alloc);
-    if !text.is_empty() {
-        let image = encode(alloc, &assemble(alloc, text)?)?;
-        folder.write(alloc, "image", &image)?;
+/// The files of a replay.
+fn files_of<R: Abort + Threads + Wait + Sync>(rt: &R, alloc: Global, input: &Input) -> MemoryFolder
+    ensures { result.failures ≡ 0 }
+{
+    let (name, text, script, capture, _) = *input;
+    let folder = put(
+        rt,
+        alloc,
+        MemoryFolder::new(alloc),
+        "script",
+        script.as_bytes(),
+    );
+    let capture = bytes_of(rt, alloc, &capture);
+    let folder = put(rt, alloc, folder, "capture", &capture);
+    if text.is_empty() {
+        folder
+    } else {
+        with_image(rt, alloc, name, folder, text)
     }
-    folder.write(alloc, "script", script.as_bytes())?;
-    folder.write(alloc, "capture", &bytes_of(alloc, &capture)?)?;
-    let line = format!(in alloc; "xlb replay capture sent {words} --journals journals")?;
-    serve_line(rt, alloc, folder, line.as_str())
+}
+
+/// The line of a replay, which writes its journals too.
+fn line_of(rt: &impl Abort, alloc: Global, input: &Input) -> String {
+    let words = input.4;
+    format!(in alloc; "xlb replay capture sent {words} --journals journals").expect(rt, "a line")
 }
 
 /// Holds what a replay gives against a row.
-fn compare<R: Abort + Threads + Wait + Sync>(
-    rt: &R,
-    alloc: Global,
-    row: (Input, Output),
-) -> Result<(), Fail> {
-    let (input, (status, report, fault, sent)) = row;
-    let name = input.0;
-    let mut found = replayed(rt, alloc, input)?;
-    assert_eq!(rt; found.status, status, "status of {name}");
-    assert!(rt; found.out.bytes() == report.as_bytes(), "report of {name}");
-    assert!(rt; found.err.bytes() == fault.as_bytes(), "fault of {name}");
-    assert!(rt; found.folder.failures() == 0, "device of {name}");
-    match file(alloc, &mut found.folder, "sent") {
-        Ok(bytes) => {
-            assert!(rt; !sent[0].is_empty(), "a file of {name}");
-            assert!(rt; bytes == bytes_of(alloc, &sent)?, "frames sent of {name}");
-        }
-        Err(_) => assert!(rt; sent[0].is_empty(), "no file of {name}"),
+fn compare_row<R: Abort + Threads + Wait + Sync>(rt: &R, alloc: Global, row: &(Input, Output)) {
+    let (input, (status, out, err, sent)) = *row;
+    let wanted = Wanted { status, out, err };
+    let folder = files_of(rt, alloc, &input);
+    let line = line_of(rt, alloc, &input);
+    let folder = left_by(rt, alloc, input.0, folder, &line, wanted);
+    compare_sent(rt, alloc, input.0, folder, &sent);
+}
+
+/// Holds the frames that a replay sent against the wanted ones; none: there is no such file.
+fn compare_sent<R: Abort>(rt: &R, alloc: Global, name: &str, folder: MemoryFolder, sent: &[&str])
+    requires { folder.failures ≡ 0 }
+{
+    let wanted = bytes_of(rt, alloc, sent);
+    if wanted.is_empty() {
+        lacks(rt, alloc, name, folder, "sent");
+    } else {
+        compare_file(rt, alloc, name, folder, "sent", &wanted);
     }
-    Ok(())
+}
+
+/// Each row's replay.
+fn compare_rows<R: Abort + Threads + Wait + Sync>(rt: &R, alloc: Global, rows: &[(Input, Output)]) {
+    for row in rows {
+        compare_row(rt, alloc, row);
+    }
 }
 
 #[test]
-fn replays_captures(rt: HostRuntime) -> Result<(), Fail> {
-    for row in ROWS {
-        compare(&rt, rt.alloc(), row)?;
-    }
-    Ok(())
+fn replays_captures(rt: HostRuntime) {
+    compare_rows(&rt, rt.alloc(), &ROWS);
 }
 
 #[test]
-fn steers_captures(rt: HostRuntime) -> Result<(), Fail> {
-    for row in STEERED {
-        compare(&rt, rt.alloc(), row)?;
-    }
-    Ok(())
+fn steers_captures(rt: HostRuntime) {
+    compare_rows(&rt, rt.alloc(), &STEERED);
 }
 
 /// The journals of four replays.
@@ -202,19 +212,22 @@ const JOURNALS: [(Input, &str); 4] = [
      "XLBJ 1 1 1 16\n0 c update cb00710100501100 0100000000000000 0 answer 0\n0 w0 enter ok\n0 w0 lookup cb00710100501100 cell 0\n0 w0 load 0 0 8 word 1\n0 w0 leave ok\n0 r reclaim freed 0\n1 r reclaim freed 0\n2 c update 00000000 0100000000000000 0 answer 0\n2 c update 01000000 0100000000000000 0 answer 0\n2 c update 02000000 0100000000000000 0 answer 0\n2 c update 03000000 0100000000000000 0 answer 0\n2 c update 04000000 0100000000000000 0 answer 0\n2 c update 05000000 0100000000000000 0 answer 0\n2 c update 06000000 0100000000000000 0 answer 0\n2 w0 enter ok\n2 w0 lookup 00000000 cell 0\n2 w0 load 0 0 4 word 1\n2 w0 leave ok\n3 c update 00000000 c000020101000000 0 answer 0\n3 w0 enter ok\n3 w0 lookup 00000000 cell 0\n3 w0 load 0 0 8 word 4311875776\n3 w0 leave ok\n4 c update 00000000 0a00000902000000000a02000000000b0100000000000000 0 answer 0\n4 w0 enter ok\n4 w0 lookup 00000000 cell 0\n4 w0 load 0 16 8 word 1\n4 w0 load 0 0 8 word 8740929546\n4 w0 load 0 8 8 word 792633534417340928\n4 w0 leave ok\n5 w0 enter ok\n5 w0 lookup 03000000 cell 3\n5 w0 atomic 3 0 8 0 1 0 word 0\n5 w0 leave ok\n"),
 ];
 
+/// Holds the journals of a replay that succeeds against the wanted ones.
+fn compare_journals<R: Abort + Threads + Wait + Sync>(
+    rt: &R,
+    alloc: Global,
+    input: &Input,
+    wanted: &str,
+) {
+    let folder = files_of(rt, alloc, input);
+    let line = line_of(rt, alloc, input);
+    let folder = done(rt, alloc, input.0, folder, &line);
+    compare_file(rt, alloc, input.0, folder, "journals", wanted.as_bytes());
+}
+
 #[test]
-fn writes_journals(rt: HostRuntime) -> Result<(), Fail> {
-    let alloc = rt.alloc();
-    for (input, want) in JOURNALS {
-        let name = input.0;
-        let mut found = replayed(&rt, alloc, input)?;
-        assert_eq!(rt; found.status, 0, "status of {name}");
-        assert!(rt; found.folder.failures() == 0, "device of {name}");
-        let journals = file(alloc, &mut found.folder, "journals")?;
-        assert!(rt;
-            journals.as_slice() == want.as_bytes(),
-            "journals of {name}"
-        );
+fn writes_journals(rt: HostRuntime) {
+    for row in &JOURNALS {
+        compare_journals(&rt, rt.alloc(), &row.0, row.1);
     }
-    Ok(())
 }

@@ -1,11 +1,9 @@
 //! Journals of runs, as `--journals` writes them.
 
-use super::{file, serve_line};
-use folders::{Folder, MemoryFolder};
+use super::{LEGAL, ZEROS, assembled, compare, compare_file, done};
 use std::alloc::Global;
 use std::process::Abort;
 use std::sync::Wait;
-use std::test::Fail;
 use std::thread::Threads;
 
 /// Adds 1 to the value of key 7, which it sets to 2 before, and answers it.
@@ -53,42 +51,24 @@ const ROWS: [(&str, &str, &str); 2] = [
     ("no call",          NO_CALLS,        "XLBJ 1 8 1 65536\n"),
 ];
 
-/// The journals that a run of a program writes, and what their audit prints.
-fn journals_of<R: Abort + Threads + Wait + Sync>(
+/// Holds the journals that a run of a program writes against the wanted ones, which an audit finds legal.
+fn compare_journals<R: Abort + Threads + Wait + Sync>(
     rt: &R,
     alloc: Global,
     name: &str,
     text: &str,
-    want: &str,
-) -> Result<(), Fail> {
-    let mut folder = MemoryFolder::new(alloc);
-    folder.write(alloc, "text", text.as_bytes())?;
-    folder.write(alloc, "frame", &[0; 14])?;
-    let made = serve_line(rt, alloc, folder, "xlb asm text image")?;
-    assert!(rt; made.folder.failures() == 0);
+    wanted: &str,
+) {
+    let folder = assembled(rt, alloc, name, text, ("frame", ZEROS));
     let line = "xlb run image frame --worker 2 --journals j";
-    let mut ran = serve_line(rt, alloc, made.folder, line)?;
-    assert_eq!(rt; ran.status, 0, "status of {name}");
-    assert!(rt; ran.folder.failures() == 0);
-    let journals = file(alloc, &mut ran.folder, "j")?;
-    assert!(rt;
-        journals.as_slice() == want.as_bytes(),
-        "journals of {name}"
-    );
-    assert!(rt; ran.folder.failures() == 0);
-    let found = serve_line(rt, alloc, ran.folder, "xlb audit image j")?;
-    assert!(rt;
-        found.out.bytes() == b"legal\n".as_slice(),
-        "audit of {name}"
-    );
-    Ok(())
+    let folder = done(rt, alloc, name, folder, line);
+    let folder = compare_file(rt, alloc, name, folder, "j", wanted.as_bytes());
+    compare(rt, alloc, name, folder, "xlb audit image j", LEGAL);
 }
 
 #[test]
-fn runs_write_their_journals(rt: HostRuntime) -> Result<(), Fail> {
-    let alloc = rt.alloc();
-    for (name, text, want) in ROWS {
-        journals_of(&rt, alloc, name, text, want)?;
+fn runs_write_their_journals(rt: HostRuntime) {
+    for row in &ROWS {
+        compare_journals(&rt, rt.alloc(), row.0, row.1, row.2);
     }
-    Ok(())
 }

@@ -1,11 +1,12 @@
 //! Programs run, each from its text.
 
-use super::{Given, file, serve_line};
-use folders::{Folder, MemoryFolder};
+use super::first_path::IMAGE;
+use super::{Wanted, ZEROS, compare, over_text, put, put_digits, refused, serve_line};
+use crate::asserting::same_bytes;
+use folders::MemoryFolder;
 use std::alloc::{AllocError, Global};
 use std::process::Abort;
 use std::sync::Wait;
-use std::test::Fail;
 use std::thread::Threads;
 
 /// What a row shows, the text, the frame, the command line, and what is printed.
@@ -49,47 +50,28 @@ const ROWS: [Row; 28] = [
     ("past the headroom the packet stays", "version 1\nmov r2, -257\ncall 44\nmov r0, 3\nexit\n", "aaaaaaaaaaaaaaaaaaaaaaaaaaaa", "xlb run image frame", "verdict tx\ninstructions 4\nframe aaaaaaaaaaaaaaaaaaaaaaaaaaaa\n"),
 ];
 
-/// The image of a text.
-fn image_of<R: Abort + Threads + Wait + Sync>(
-    rt: &R,
-    alloc: Global,
-    name: &str,
-    text: &str,
-) -> Result<Vec<u8>, Fail> {
-    let mut folder = MemoryFolder::new(alloc);
-    folder.write(alloc, "text", text.as_bytes())?;
-    let mut made = serve_line(rt, alloc, folder, "xlb asm text image")?;
-    assert_eq!(rt; made.status, 0, "assembling {name}");
-    assert!(rt; made.folder.failures() == 0, "device of {name}");
-    Ok(file(alloc, &mut made.folder, "image")?)
+/// A row's program, run over its frame.
+fn compare_row<R: Abort + Threads + Wait + Sync>(rt: &R, alloc: Global, row: &Row) {
+    let (name, text, digits, line, out) = *row;
+    let frame = hex::decode(alloc, digits).expect(rt, "a frame");
+    let wanted = Wanted {
+        status: 0,
+        out,
+        err: "",
+    };
+    over_text(rt, alloc, name, text, ("frame", &frame), line, wanted);
 }
 
-/// A command line over an image and a frame.
-fn given<R: Threads + Wait + Sync>(
-    rt: &R,
-    alloc: Global,
-    image: &[u8],
-    frame: &[u8],
-    line: &str,
-) -> Result<Given, Fail> {
-    let mut folder = MemoryFolder::new(alloc);
-    folder.write(alloc, "image", image)?;
-    folder.write(alloc, "frame", frame)?;
-    serve_line(rt, alloc, folder, line)
+/// Each row's program, run.
+fn compare_rows<R: Abort + Threads + Wait + Sync>(rt: &R, alloc: Global, rows: &[Row]) {
+    for row in rows {
+        compare_row(rt, alloc, row);
+    }
 }
 
 #[test]
-fn runs_programs(rt: HostRuntime) -> Result<(), Fail> {
-    let alloc = rt.alloc();
-    for (name, text, frame, line, want) in ROWS {
-        let image = image_of(&rt, alloc, name, text)?;
-        let frame = hex::decode(alloc, frame)?;
-        let found = given(&rt, alloc, &image, &frame, line)?;
-        assert!(rt; found.err.bytes().is_empty(), "error of {name}");
-        assert!(rt; found.out.bytes() == want.as_bytes(), "output of {name}");
-        assert_eq!(rt; found.status, 0, "status of {name}");
-    }
-    Ok(())
+fn runs_programs(rt: HostRuntime) {
+    compare_rows(&rt, rt.alloc(), &ROWS);
 }
 
 /// So many times `mov r0, 1`, and the end.
@@ -103,51 +85,73 @@ fn long_text(alloc: Global, count: u32) -> Result<String, AllocError> {
 }
 
 #[test]
-fn runs_4096_instructions(rt: HostRuntime) -> Result<(), Fail> {
-    let alloc = rt.alloc();
-    let text = long_text(alloc, 4095)?;
-    let mut folder = MemoryFolder::new(alloc);
-    folder.write(alloc, "text", text.as_bytes())?;
-    let mut made = serve_line(&rt, alloc, folder, "xlb asm text image")?;
-    assert!(rt; made.folder.failures() == 0);
-    let image = file(alloc, &mut made.folder, "image")?;
-    let mut folder = MemoryFolder::new(alloc);
-    folder.write(alloc, "image", &image)?;
-    folder.write(alloc, "frame", &[0; 14])?;
-    let found = serve_line(&rt, alloc, folder, "xlb run image frame")?;
-    let want = "verdict drop\ninstructions 4096\nframe 0000000000000000000000000000\n";
-    assert!(rt; found.out.bytes() == want.as_bytes());
-    Ok(())
-}
-
-#[test]
-fn refuses_4097_instructions(rt: HostRuntime) -> Result<(), Fail> {
-    let alloc = rt.alloc();
-    let text = long_text(alloc, 4096)?;
-    let mut folder = MemoryFolder::new(alloc);
-    folder.write(alloc, "text", text.as_bytes())?;
-    let found = serve_line(&rt, alloc, folder, "xlb asm text image")?;
-    assert!(rt;
-        found.err.bytes()
-            == b"fault 22 Image decode 14\n  line 4098: an image has at most 4096 slots\n".as_slice()
+fn runs_4096_instructions(rt: HostRuntime) {
+    let text = long_text(rt.alloc(), 4095).expect(&rt, "a text");
+    let wanted = Wanted {
+        status: 0,
+        out: "verdict drop\ninstructions 4096\nframe 0000000000000000000000000000\n",
+        err: "",
+    };
+    let line = "xlb run image frame";
+    over_text(
+        &rt,
+        rt.alloc(),
+        "4096 slots",
+        &text,
+        ("frame", ZEROS),
+        line,
+        wanted,
     );
-    Ok(())
 }
 
-/// How many bytes a frame has, and what is said of it.
-const SIZES: [(usize, &str); 2] = [(2048, ""), (2049, "fault 6 FrameTooLong\n")];
+#[test]
+fn refuses_4097_instructions(rt: HostRuntime) {
+    let alloc = rt.alloc();
+    let text = long_text(alloc, 4096).expect(&rt, "a text");
+    let folder = put(
+        &rt,
+        alloc,
+        MemoryFolder::new(alloc),
+        "text",
+        text.as_bytes(),
+    );
+    let wanted = refused(
+        "fault 22 Image decode 14\n  line 4098: an image has at most 4096 slots\n",
+    );
+    compare(
+        &rt,
+        alloc,
+        "4097 slots",
+        folder,
+        "xlb asm text image",
+        wanted,
+    );
+}
+
+/// What a row shows, how many bytes a frame has, and what is told.
+const SIZES: [(&str, usize, &str); 2] = [
+    ("2048 bytes", 2048, ""),
+    ("2049 bytes", 2049, "fault 6 FrameTooLong\n"),
+];
+
+/// Holds what is told of a run over so many bytes against what is to be told.
+fn compare_size<R: Abort + Threads + Wait + Sync>(
+    rt: &R,
+    alloc: Global,
+    name: &str,
+    size: usize,
+    err: &str,
+) {
+    let folder = put_digits(rt, alloc, MemoryFolder::new(alloc), "image", IMAGE);
+    let frame: Vec<u8> = vec![in alloc; 0; size].expect(rt, "a frame");
+    let folder = put(rt, alloc, folder, "frame", &frame);
+    let found = serve_line(rt, alloc, folder, "xlb run image frame");
+    same_bytes(rt, "error", name, found.err.bytes(), err.as_bytes());
+}
 
 #[test]
-fn takes_2048_bytes(rt: HostRuntime) -> Result<(), Fail> {
-    let alloc = rt.alloc();
-    for (size, err) in SIZES {
-        let image = hex::decode(alloc, super::first_path::IMAGE)?;
-        let frame: Vec<u8> = vec![in alloc; 0; size]?;
-        let mut folder = MemoryFolder::new(alloc);
-        folder.write(alloc, "image", &image)?;
-        folder.write(alloc, "frame", &frame)?;
-        let found = serve_line(&rt, alloc, folder, "xlb run image frame")?;
-        assert!(rt; found.err.bytes() == err.as_bytes(), "{size} bytes");
+fn takes_2048_bytes(rt: HostRuntime) {
+    for row in &SIZES {
+        compare_size(&rt, rt.alloc(), row.0, row.1, row.2);
     }
-    Ok(())
 }

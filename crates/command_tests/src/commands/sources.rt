@@ -1,8 +1,14 @@
 //! Texts in the source form.
 
-use super::{file, serve_line};
-use folders::{Folder, MemoryFolder};
-use std::test::Fail;
+use super::first_path::IMAGE;
+use super::{
+    Wanted, compare, compare_begins, compare_digits, done, put, put_digits, put_printed, refused,
+};
+use folders::MemoryFolder;
+use std::alloc::Global;
+use std::process::Abort;
+use std::sync::Wait;
+use std::thread::Threads;
 
 /// A source, and the exact text that it means.
 const MEANINGS: [(&str, &str); 2] = [
@@ -16,52 +22,59 @@ const MEANINGS: [(&str, &str); 2] = [
     ),
 ];
 
-#[test]
-fn assembles_sources(rt: HostRuntime) -> Result<(), Fail> {
-    let alloc = rt.alloc();
-    for (source, text) in MEANINGS {
-        let mut folder = MemoryFolder::new(alloc);
-        folder.write(alloc, "source", source.as_bytes())?;
-        let made = serve_line(&rt, alloc, folder, "xlb asm --source source image")?;
-        assert_eq!(rt; made.status, 0, "{source}");
-        assert!(rt; made.folder.failures() == 0);
-        let shown = serve_line(&rt, alloc, made.folder, "xlb disasm image")?;
-        assert!(rt; shown.out.bytes() == text.as_bytes(), "{source}");
-    }
-    Ok(())
-}
-
-#[test]
-fn shown_sources_are_read_again(rt: HostRuntime) -> Result<(), Fail> {
-    let alloc = rt.alloc();
-    let image = hex::decode(alloc, super::first_path::IMAGE)?;
-    let mut folder = MemoryFolder::new(alloc);
-    folder.write(alloc, "image", &image)?;
-    let shown = serve_line(&rt, alloc, folder, "xlb disasm --source image")?;
-    assert_eq!(rt; shown.status, 0);
-    let mut folder = MemoryFolder::new(alloc);
-    folder.write(alloc, "source", shown.out.bytes())?;
-    let mut made = serve_line(&rt, alloc, folder, "xlb asm --source source again")?;
-    assert_eq!(rt; made.status, 0);
-    assert!(rt; made.folder.failures() == 0);
-    let again = file(alloc, &mut made.folder, "again")?;
-    assert!(rt; again == image);
-    Ok(())
-}
-
-#[test]
-fn refuses_a_bad_source(rt: HostRuntime) -> Result<(), Fail> {
-    let alloc = rt.alloc();
-    let mut folder = MemoryFolder::new(alloc);
-    folder.write(alloc, "source", b"version 1\n\nja nowhere\nexit\n")?;
-    let found = serve_line(&rt, alloc, folder, "xlb asm --source source image")?;
-    assert_eq!(rt; found.status, 1);
-    assert!(rt;
-        found
-            .err
-            .bytes()
-            .starts_with(b"fault 21 BadLine line 3\n  ")
+/// Holds the text of an image, which is assembled from a source, against the exact text.
+fn compare_meaning<R: Abort + Threads + Wait + Sync>(
+    rt: &R,
+    alloc: Global,
+    source: &str,
+    text: &str,
+) {
+    let folder = put(
+        rt,
+        alloc,
+        MemoryFolder::new(alloc),
+        "source",
+        source.as_bytes(),
     );
-    assert!(rt; found.out.bytes().is_empty());
-    Ok(())
+    let folder = done(rt, alloc, source, folder, "xlb asm --source source image");
+    let wanted = Wanted {
+        status: 0,
+        out: text,
+        err: "",
+    };
+    compare(rt, alloc, source, folder, "xlb disasm image", wanted);
+}
+
+#[test]
+fn assembles_sources(rt: HostRuntime) {
+    for row in &MEANINGS {
+        compare_meaning(&rt, rt.alloc(), row.0, row.1);
+    }
+}
+
+#[test]
+fn shown_sources_are_read_again(rt: HostRuntime) {
+    let alloc = rt.alloc();
+    let name = "the first image";
+    let folder = put_digits(&rt, alloc, MemoryFolder::new(alloc), "image", IMAGE);
+    let folder = put_printed(
+        &rt,
+        alloc,
+        name,
+        folder,
+        "xlb disasm --source image",
+        "source",
+    );
+    let folder = done(&rt, alloc, name, folder, "xlb asm --source source again");
+    compare_digits(&rt, alloc, name, folder, "again", IMAGE);
+}
+
+#[test]
+fn refuses_a_bad_source(rt: HostRuntime) {
+    let alloc = rt.alloc();
+    let source = b"version 1\n\nja nowhere\nexit\n";
+    let folder = put(&rt, alloc, MemoryFolder::new(alloc), "source", source);
+    let wanted = refused("fault 21 BadLine line 3\n  ");
+    let line = "xlb asm --source source image";
+    compare_begins(&rt, alloc, "a bad source", folder, line, wanted);
 }

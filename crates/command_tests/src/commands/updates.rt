@@ -1,11 +1,9 @@
 //! Runs after updates of their maps.
 
-use super::{Given, file, serve_line};
-use folders::{Folder, MemoryFolder};
+use super::{Wanted, ZEROS, assembled, compare_begins, compare_file, done, over_text};
 use std::alloc::{AllocError, Global};
 use std::process::Abort;
 use std::sync::Wait;
-use std::test::Fail;
 use std::thread::Threads;
 
 /// Looks key 7 of a hash map up, and answers its value; 0 where it is absent.
@@ -41,42 +39,37 @@ const ROWS: [Row; 10] = [
     ("a misfit before it",     " --update 2 00 00 --worker 8",                                      2, "", "error: update 1: the image has no map 2\n"),
 ];
 
-/// The files of a run.
-fn folder_of<R: Abort + Threads + Wait + Sync>(
-    rt: &R,
-    alloc: Global,
-) -> Result<MemoryFolder, Fail> {
-    let mut folder = MemoryFolder::new(alloc);
-    folder.write(alloc, "text", ANSWERS_KEY_7.as_bytes())?;
-    folder.write(alloc, "frame", &[0; 14])?;
-    let made = serve_line(rt, alloc, folder, "xlb asm text image")?;
-    assert_eq!(rt; made.status, 0);
-    Ok(made.folder)
+/// A row's run.
+fn compare_row<R: Abort + Threads + Wait + Sync>(rt: &R, alloc: Global, row: &Row) {
+    let (name, words, status, out, err) = *row;
+    let line = format!(in alloc; "xlb run image frame{words}").expect(rt, "a line");
+    let wanted = Wanted { status, out, err };
+    over_text(
+        rt,
+        alloc,
+        name,
+        ANSWERS_KEY_7,
+        ("frame", ZEROS),
+        &line,
+        wanted,
+    );
 }
 
-/// A run with these words behind its files.
-fn run_with<R: Abort + Threads + Wait + Sync>(
-    rt: &R,
-    alloc: Global,
-    words: &str,
-) -> Result<Given, Fail> {
-    let folder = folder_of(rt, alloc)?;
-    assert!(rt; folder.failures() == 0);
-    let line = format!(in alloc; "xlb run image frame{words}")?;
-    serve_line(rt, alloc, folder, line.as_str())
+/// Each row's run.
+fn compare_rows<R: Abort + Threads + Wait + Sync>(rt: &R, alloc: Global, rows: &[Row]) {
+    for row in rows {
+        compare_row(rt, alloc, row);
+    }
 }
 
 #[test]
-fn updates_come_before_a_run(rt: HostRuntime) -> Result<(), Fail> {
-    let alloc = rt.alloc();
-    for (name, words, status, out, err) in ROWS {
-        let found = run_with(&rt, alloc, words)?;
-        assert!(&rt; found.err.bytes() == err.as_bytes(), "error of {name}");
-        assert!(&rt; found.out.bytes() == out.as_bytes(), "output of {name}");
-        assert_eq!(&rt; found.status, status, "status of {name}");
-    }
-    Ok(())
+fn updates_come_before_a_run(rt: HostRuntime) {
+    compare_rows(&rt, rt.alloc(), &ROWS);
 }
+
+/// A run with updates of two maps, which writes its journals.
+const JOURNALED: &str =
+    "xlb run image frame --update 1 01000000 FF00000000000000 --journals j --update 0 07000000 0300000000000000";
 
 const JOURNALS: &str = "XLBJ 1 8 1 65536
 0 c update 07000000 0300000000000000 0 answer 0
@@ -88,33 +81,32 @@ const JOURNALS: &str = "XLBJ 1 8 1 65536
 ";
 
 #[test]
-fn journals_have_the_updates_first(rt: HostRuntime) -> Result<(), Fail> {
+fn journals_have_the_updates_first(rt: HostRuntime) {
     let alloc = rt.alloc();
-    let words =
-        " --update 1 01000000 FF00000000000000 --journals j --update 0 07000000 0300000000000000";
-    let mut ran = run_with(&rt, alloc, words)?;
-    assert!(&rt; ran.folder.failures() == 0);
-    let journals = file(alloc, &mut ran.folder, "j")?;
-    assert!(&rt; journals.as_slice() == JOURNALS.as_bytes());
-    Ok(())
+    let folder = assembled(&rt, alloc, "updates", ANSWERS_KEY_7, ("frame", ZEROS));
+    let folder = done(&rt, alloc, "updates", folder, JOURNALED);
+    compare_file(&rt, alloc, "updates", folder, "j", JOURNALS.as_bytes());
 }
 
-/// So many updates of key 7, the last of which sets 3.
+/// A run after so many updates of key 7, the last of which sets 3.
 fn many(alloc: Global, count: u32) -> Result<String, AllocError> {
-    let mut words = String::new(alloc);
+    let mut line = String::from_str(alloc, "xlb run image frame")?;
     for _ in 1..count {
-        words.push_str(" --update 0 07000000 0100000000000000")?;
+        line.push_str(" --update 0 07000000 0100000000000000")?;
     }
-    words.push_str(" --update 0 07000000 0300000000000000")?;
-    Ok(words)
+    line.push_str(" --update 0 07000000 0300000000000000")?;
+    Ok(line)
 }
 
 #[test]
-fn a_hundred_updates_are_made(rt: HostRuntime) -> Result<(), Fail> {
+fn a_hundred_updates_are_made(rt: HostRuntime) {
     let alloc = rt.alloc();
-    let words = many(alloc, 100)?;
-    let found = run_with(&rt, alloc, words.as_str())?;
-    assert_eq!(&rt; found.status, 0);
-    assert!(&rt; found.out.bytes().starts_with(b"verdict tx\n"));
-    Ok(())
+    let line = many(alloc, 100).expect(&rt, "a line");
+    let folder = assembled(&rt, alloc, "updates", ANSWERS_KEY_7, ("frame", ZEROS));
+    let wanted = Wanted {
+        status: 0,
+        out: "verdict tx\n",
+        err: "",
+    };
+    compare_begins(&rt, alloc, "a hundred updates", folder, &line, wanted);
 }
