@@ -1,6 +1,6 @@
 //! Assertions of rows, which name what differs and the row.
 
-ghost use Rattle.std.specs.Prelude.{◌≡◌};
+ghost use Rattle.std.specs.Prelude.{◌≡◌, true};
 
 use std::process::Abort;
 

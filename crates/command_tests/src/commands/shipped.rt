@@ -1,5 +1,7 @@
 //! The image of the shipped program.
 
+ghost use Rattle.std.specs.Prelude.{◌≡◌};
+
 use super::{LEGAL, NOTHING, compare, done, left_by, put, put_digits, succeeded, writes_nothing};
 use crate::asserting::holds;
 use folders::MemoryFolder;
