@@ -8,6 +8,7 @@ ghost use Rattle.map_port.specs.Served.{IsReadable};
 ghost use Rattle.shard_port.specs.PortView.{ServesMaps};
 ghost use Rattle.pass_tests.specs.ExampleMaps.{array_of, hash_of, example_maps};
 
+use crate::asserting::{holds, same};
 use ebpf_decode::{Image, Insn, MapDef, MapKind, Version};
 use isa::AtomicOp;
 use map_port::MapPort;
@@ -216,7 +217,7 @@ fn answers<P: MapPort>(rt: &impl Abort, port: &mut P, rows: &[Row]) -> Option<Jo
 {
     for (name, ask, want) in rows {
         match answer(port, *ask) {
-            Ok(got) => assert_eq!(rt; got, *want, "{name}"),
+            Ok(got) => same(rt, name, &got, want),
             Err(full) => return Some(full),
         }
     }
@@ -242,54 +243,104 @@ fn run(
     refused
 }
 
-/// The entries of a journal, each as what was asked and what was replied.
-fn says(rt: &impl Abort, shards: &mut Shards, number: u32, want: &[(Call, Reply)]) {
-    assert!(rt; (number as usize) < shards.count());
+fn options_of(journal: u32) -> Options
+    ensures { result.workers ≡ 2 }
+{
+    Options {
+        workers: 2,
+        shards: 1,
+        journal,
+    }
+}
+
+/// A call that a shard's journal has.
+#[derive(Clone, Copy)]
+enum Made {
+    Enter,
+    Leave,
+    /// An index.
+    Look(u32),
+    /// The first eight bytes of a cell.
+    Load(u64),
+}
+
+/// How many entries that are the same, their call, and its reply.
+type Entered = (u32, Made, Reply);
+
+/// A name, a shard, and the entries that its journal is to have.
+type Says = (&'static str, u32, &'static [Entered]);
+
+fn call_of(shard: u32, made: Made) -> Call {
+    match made {
+        Made::Enter => Call::Enter { shard },
+        Made::Leave => Call::Leave { shard },
+        Made::Look(index) => Call::Lookup {
+            shard,
+            key: key_of(index),
+        },
+        Made::Load(id) => Call::Load {
+            cell: CellRef { shard, id },
+            offset: 0,
+            size: 8,
+        },
+    }
+}
+
+/// An entry of worker 1.
+fn entry_of(shard: u32, made: Made, reply: Reply) -> Entry {
+    Entry {
+        who: Caller::Worker { number: 1 },
+        call: call_of(shard, made),
+        reply,
+    }
+}
+
+/// An entry of a shard's journal; None past its end.
+fn entry_at(shards: &mut Shards, number: u32, place: usize) -> Option<Entry> {
+    if number as usize >= shards.count() {
+        return None;
+    }
     let journal = shards.shard(number).journal();
-    assert_eq!(rt; journal.len(), want.len(), "shard {number}");
-    for (place, (call, reply)) in want.iter().enumerate() {
-        assert!(rt; place < journal.len());
-        let entry = journal.entry(place);
-        let wanted = Entry {
-            who: Caller::Worker { number: 1 },
-            call: *call,
-            reply: *reply,
-        };
-        assert_eq!(rt; entry, wanted, "shard {number}");
+    if place < journal.len() {
+        Some(journal.entry(place))
+    } else {
+        None
     }
 }
 
-const OPTIONS: Options = Options {
-    workers: 2,
-    shards: 1,
-    journal: 64,
-};
-
-const SMALL: Options = Options {
-    workers: 2,
-    shards: 1,
-    journal: 16,
-};
-
-fn lookup(shard: u32, index: u32) -> Call {
-    Call::Lookup {
-        shard,
-        key: key_of(index),
+/// Compares all entries of a shard's journal, each as what was asked and what was replied.
+fn says(rt: &impl Abort, shards: &mut Shards, name: &str, number: u32, want: &[Entered]) {
+    holds(rt, name, (number as usize) < shards.count());
+    let mut place: usize = 0;
+    for (times, made, reply) in want {
+        for _ in 0..*times {
+            let wanted = entry_of(number, *made, *reply);
+            same(rt, name, &entry_at(shards, number, place), &Some(wanted));
+            place = place.saturating_add(1);
+        }
     }
+    same(rt, name, &entry_at(shards, number, place), &None);
 }
 
-fn found(shard: u32, id: u64) -> Reply {
-    Reply::Cell {
-        cell: CellRef { shard, id },
+/// One run of worker 1 on new shards: compares what it is refused, and the entries that it leaves.
+fn session(
+    rt: &impl Abort,
+    alloc: Global,
+    journal: u32,
+    rows: &[Row],
+    refused: Option<JournalFull>,
+    entries: &[Says],
+) -> Result<(), Fail> {
+    let image = example_image(alloc)?;
+    let options = options_of(journal);
+    let mut shards = Shards::open(alloc, &image, options)?;
+    opened_serve();
+    let found = run(rt, &image, options, &mut shards, rows);
+    same(rt, "what is refused", &found, &refused);
+    for (name, number, want) in entries {
+        says(rt, &mut shards, name, *number, want);
     }
-}
-
-fn load_of(shard: u32, id: u64) -> Call {
-    Call::Load {
-        cell: CellRef { shard, id },
-        offset: 0,
-        size: 8,
-    }
+    Ok(())
 }
 
 #[rattlefmt::skip]
@@ -299,24 +350,25 @@ const ONE_SHARD: [Row; 3] = [
     ("index 1 is none of one",       Ask::Look(0, 1), Got::Handle(0)),
 ];
 
+#[rattlefmt::skip]
+const ONE_SHARD_ENTERED: [Entered; 6] = [
+    (1, Made::Enter,   Reply::Entered),
+    (1, Made::Look(0), Reply::Cell { cell: CellRef { shard: 0, id: 0 } }),
+    (1, Made::Look(0), Reply::Cell { cell: CellRef { shard: 0, id: 0 } }),
+    (1, Made::Load(0), Reply::Word { value: 0 }),
+    (1, Made::Look(1), Reply::Null),
+    (1, Made::Leave,   Reply::Left),
+];
+
+const ONE_SHARD_SAYS: [Says; 2] = [
+    ("the first shard", 0, &ONE_SHARD_ENTERED),
+    ("the second shard", 1, &[]),
+];
+
 /// A run that calls one of two shards enters it once, before its first call, and leaves it at the end.
 #[test]
 fn one_session_in_one_shard(rt: HostRuntime) -> Result<(), Fail> {
-    let image = example_image(rt.alloc())?;
-    let mut shards = Shards::open(rt.alloc(), &image, OPTIONS)?;
-    opened_serve();
-    assert_eq!(rt; run(&rt, &image, OPTIONS, &mut shards, &ONE_SHARD), None);
-    let want = [
-        (Call::Enter { shard: 0 }, Reply::Entered),
-        (lookup(0, 0), found(0, 0)),
-        (lookup(0, 0), found(0, 0)),
-        (load_of(0, 0), Reply::Word { value: 0 }),
-        (lookup(0, 1), Reply::Null),
-        (Call::Leave { shard: 0 }, Reply::Left),
-    ];
-    says(&rt, &mut shards, 0, &want);
-    says(&rt, &mut shards, 1, &[]);
-    Ok(())
+    session(&rt, rt.alloc(), 64, &ONE_SHARD, None, &ONE_SHARD_SAYS)
 }
 
 #[rattlefmt::skip]
@@ -327,44 +379,57 @@ const TWO_SHARDS: [Row; 4] = [
     ("index 3 is none of three",           Ask::Look(1, 3), Got::Handle(0)),
 ];
 
+#[rattlefmt::skip]
+const FIRST_ENTERED: [Entered; 3] = [
+    (1, Made::Enter,   Reply::Entered),
+    (1, Made::Look(0), Reply::Cell { cell: CellRef { shard: 0, id: 0 } }),
+    (1, Made::Leave,   Reply::Left),
+];
+
+#[rattlefmt::skip]
+const SECOND_ENTERED: [Entered; 5] = [
+    (1, Made::Enter,   Reply::Entered),
+    (1, Made::Look(2), Reply::Cell { cell: CellRef { shard: 1, id: 2 } }),
+    (1, Made::Look(0), Reply::Cell { cell: CellRef { shard: 1, id: 0 } }),
+    (1, Made::Look(3), Reply::Null),
+    (1, Made::Leave,   Reply::Left),
+];
+
+const TWO_SHARDS_SAY: [Says; 2] = [
+    ("the first shard", 0, &FIRST_ENTERED),
+    ("the second shard", 1, &SECOND_ENTERED),
+];
+
 #[test]
 fn one_session_in_each_shard(rt: HostRuntime) -> Result<(), Fail> {
-    let image = example_image(rt.alloc())?;
-    let mut shards = Shards::open(rt.alloc(), &image, OPTIONS)?;
-    opened_serve();
-    assert_eq!(rt; run(&rt, &image, OPTIONS, &mut shards, &TWO_SHARDS), None);
-    let first = [
-        (Call::Enter { shard: 0 }, Reply::Entered),
-        (lookup(0, 0), found(0, 0)),
-        (Call::Leave { shard: 0 }, Reply::Left),
-    ];
-    let second = [
-        (Call::Enter { shard: 1 }, Reply::Entered),
-        (lookup(1, 2), found(1, 2)),
-        (lookup(1, 0), found(1, 0)),
-        (lookup(1, 3), Reply::Null),
-        (Call::Leave { shard: 1 }, Reply::Left),
-    ];
-    says(&rt, &mut shards, 0, &first);
-    says(&rt, &mut shards, 1, &second);
-    Ok(())
+    session(&rt, rt.alloc(), 64, &TWO_SHARDS, None, &TWO_SHARDS_SAY)
 }
+
+const FIFTEEN_LOOKUPS: [Row; 15] = [("a lookup", Ask::Look(1, 0), Got::Handle(0x1_0000_0001)); 15];
+
+#[rattlefmt::skip]
+const SIXTEEN_ENTERED: [Entered; 3] = [
+    (1,  Made::Enter,   Reply::Entered),
+    (14, Made::Look(0), Reply::Cell { cell: CellRef { shard: 1, id: 0 } }),
+    (1,  Made::Leave,   Reply::Left),
+];
+
+const SIXTEEN_SAY: [Says; 1] = [("the second shard", 1, &SIXTEEN_ENTERED)];
+
+const SECOND_IS_FULL: JournalFull = JournalFull { shard: 1 };
 
 /// With one run inside, the sixteenth entry is its Leave's: the fifteenth call is refused with the shard's number.
 #[test]
 fn last_entry_is_the_leave(rt: HostRuntime) -> Result<(), Fail> {
-    let image = example_image(rt.alloc())?;
-    let mut shards = Shards::open(rt.alloc(), &image, SMALL)?;
-    opened_serve();
-    let rows: [Row; 15] = [("a lookup", Ask::Look(1, 0), Got::Handle(0x1_0000_0001)); 15];
-    let refused = run(&rt, &image, SMALL, &mut shards, &rows);
-    assert_eq!(rt; refused, Some(JournalFull { shard: 1 }));
-    assert_eq!(rt; refused.map(|full| full.number()), Some(50));
-    let mut want = [(lookup(1, 0), found(1, 0)); 16];
-    want[0] = (Call::Enter { shard: 1 }, Reply::Entered);
-    want[15] = (Call::Leave { shard: 1 }, Reply::Left);
-    says(&rt, &mut shards, 1, &want);
-    Ok(())
+    same(&rt, "the fault's number", &SECOND_IS_FULL.number(), &50);
+    session(
+        &rt,
+        rt.alloc(),
+        16,
+        &FIFTEEN_LOOKUPS,
+        Some(SECOND_IS_FULL),
+        &SIXTEEN_SAY,
+    )
 }
 
 #[rattlefmt::skip]
@@ -389,11 +454,7 @@ const ANSWERS: [Row; 16] = [
 
 #[test]
 fn answers_of_an_array(rt: HostRuntime) -> Result<(), Fail> {
-    let image = example_image(rt.alloc())?;
-    let mut shards = Shards::open(rt.alloc(), &image, OPTIONS)?;
-    opened_serve();
-    assert_eq!(rt; run(&rt, &image, OPTIONS, &mut shards, &ANSWERS), None);
-    Ok(())
+    session(&rt, rt.alloc(), 64, &ANSWERS, None, &[])
 }
 
 #[rattlefmt::skip]
@@ -418,11 +479,7 @@ const KEYS: [Row; 16] = [
 
 #[test]
 fn answers_of_a_hash_map(rt: HostRuntime) -> Result<(), Fail> {
-    let image = example_image(rt.alloc())?;
-    let mut shards = Shards::open(rt.alloc(), &image, OPTIONS)?;
-    opened_serve();
-    assert_eq!(rt; run(&rt, &image, OPTIONS, &mut shards, &KEYS), None);
-    Ok(())
+    session(&rt, rt.alloc(), 64, &KEYS, None, &[])
 }
 
 /// One run of worker 1 that looks one index of the first map up.
@@ -444,22 +501,35 @@ fn look_once(
     result
 }
 
+#[rattlefmt::skip]
+const TWO_SESSIONS: [Entered; 6] = [
+    (1, Made::Enter,   Reply::Entered),
+    (1, Made::Look(0), Reply::Cell { cell: CellRef { shard: 0, id: 0 } }),
+    (1, Made::Leave,   Reply::Left),
+    (1, Made::Enter,   Reply::Entered),
+    (1, Made::Look(1), Reply::Null),
+    (1, Made::Leave,   Reply::Left),
+];
+
 /// A second run has a session of its own.
 #[test]
 fn one_session_for_each_run(rt: HostRuntime) -> Result<(), Fail> {
     let image = example_image(rt.alloc())?;
-    let mut shards = Shards::open(rt.alloc(), &image, OPTIONS)?;
+    let options = options_of(64);
+    let mut shards = Shards::open(rt.alloc(), &image, options)?;
     opened_serve();
-    assert_eq!(rt; look_once(&image, OPTIONS, &mut shards, 0), Ok(1));
-    assert_eq!(rt; look_once(&image, OPTIONS, &mut shards, 1), Ok(0));
-    let want = [
-        (Call::Enter { shard: 0 }, Reply::Entered),
-        (lookup(0, 0), found(0, 0)),
-        (Call::Leave { shard: 0 }, Reply::Left),
-        (Call::Enter { shard: 0 }, Reply::Entered),
-        (lookup(0, 1), Reply::Null),
-        (Call::Leave { shard: 0 }, Reply::Left),
-    ];
-    says(&rt, &mut shards, 0, &want);
+    same(
+        &rt,
+        "index 0",
+        &look_once(&image, options, &mut shards, 0),
+        &Ok(1),
+    );
+    same(
+        &rt,
+        "index 1",
+        &look_once(&image, options, &mut shards, 1),
+        &Ok(0),
+    );
+    says(&rt, &mut shards, "the first shard", 0, &TWO_SESSIONS);
     Ok(())
 }

@@ -7,11 +7,12 @@ mod two_workers;
 ghost use Rattle.std.specs.Prelude.{IfOk};
 ghost use Rattle.shared_shards.specs.NewShards.{IsNamed};
 
+use crate::asserting::{holds, same};
 use ebpf_decode::{Image, Insn, MapDef, MapKind, Version};
 use journals::Journals;
 use semantics::{Call, Caller, CellRef, Key, Options, Reply};
 use shared_shards::{Naming, Opened, Pass, PassFault, Shards};
-use std::alloc::Global;
+use std::alloc::{AllocError, Global};
 use std::marker::Brand;
 use std::process::Abort;
 use std::sync::Wait;
@@ -113,34 +114,72 @@ fn length_of(journals: &Journals, number: usize) -> usize {
     }
 }
 
-fn in_turn<B: Naming, R: Abort + Wait>(rt: &R, alloc: Global, opened: Opened) -> Result<(), Fail>
+/// New shards, and the passes of both workers.
+fn two_passes<B: Naming>(
+    alloc: Global,
+    opened: Opened,
+) -> Result<(Shards<B>, Pass<B>, Pass<B>), Fail>
     requires { IsNamed B.count B.table B.plan opened }
 {
     let (shards, mut dealer) = opened.share::<B>(alloc)?;
-    let mut first = dealer.pass(alloc, Caller::Worker { number: 0 })?;
-    let mut second = dealer.pass(alloc, Caller::Worker { number: 1 })?;
-    assert!(rt; 1 < shards.count());
-    for (name, is_first, step, want, inside) in IN_TURN {
-        let (got, is_inside) = if is_first {
-            let got = attempt(rt, &shards, &mut first, step);
-            (got, first.is_inside(1))
-        } else {
-            let got = attempt(rt, &shards, &mut second, step);
-            (got, second.is_inside(1))
-        };
-        assert_eq!(rt; got, want, "{name}");
-        assert_eq!(rt; is_inside, inside, "{name}");
-    }
+    let first = dealer.pass(alloc, Caller::Worker { number: 0 })?;
+    let second = dealer.pass(alloc, Caller::Worker { number: 1 })?;
+    Ok((shards, first, second))
+}
+
+/// New shards, and the pass of the first worker.
+fn one_pass<B: Naming>(alloc: Global, opened: Opened) -> Result<(Shards<B>, Pass<B>), Fail>
+    requires { IsNamed B.count B.table B.plan opened }
+{
+    let (shards, mut dealer) = opened.share::<B>(alloc)?;
+    let pass = dealer.pass(alloc, Caller::Worker { number: 0 })?;
+    Ok((shards, pass))
+}
+
+/// The journals when the shards are closed.
+fn closed<B: Naming>(
+    rt: &impl Wait,
+    alloc: Global,
+    shards: Shards<B>,
+    first: Pass<B>,
+    second: Pass<B>,
+) -> Result<Journals, AllocError> {
     let mut passes = Vec::with_capacity(alloc, 2)?;
-    passes.push(first)?;
-    passes.push(second)?;
-    let journals = shards.close(rt, passes);
-    assert_eq!(rt;
-        (0..journals.count())
-            .map(|number| length_of(&journals, number))
-            .eq([0, 8]),
-        true
-    );
+    passes.push_reserved(first);
+    passes.push_reserved(second);
+    Ok(shards.close(rt, passes))
+}
+
+/// Makes a call, and compares what it replies and whether its caller is inside afterwards.
+fn turn<B: Naming, R: Abort + Wait>(
+    rt: &R,
+    shards: &Shards<B>,
+    pass: &mut Pass<B>,
+    name: &str,
+    step: Step,
+    want: Option<Reply>,
+    inside: bool,
+) {
+    holds(rt, name, 1 < shards.count());
+    same(rt, name, &attempt(rt, shards, pass, step), &want);
+    same(rt, name, &pass.is_inside(1), &inside);
+}
+
+fn in_turn<B: Naming, R: Abort + Wait>(rt: &R, alloc: Global, opened: Opened) -> Result<(), Fail>
+    requires { IsNamed B.count B.table B.plan opened }
+{
+    let (shards, mut first, mut second) = two_passes::<B>(alloc, opened)?;
+    for (name, is_first, step, want, inside) in IN_TURN {
+        if is_first {
+            turn(rt, &shards, &mut first, name, step, want, inside);
+        } else {
+            turn(rt, &shards, &mut second, name, step, want, inside);
+        }
+    }
+    let journals = closed(rt, alloc, shards, first, second)?;
+    same(rt, "how many journals", &journals.count(), &2);
+    same(rt, "the first one's entries", &length_of(&journals, 0), &0);
+    same(rt, "the second one's entries", &length_of(&journals, 1), &8);
     Ok(())
 }
 
@@ -166,7 +205,7 @@ fn dealt<B: Naming, R: Abort + Wait>(rt: &R, alloc: Global, opened: Opened) -> R
 {
     let (_shards, mut dealer) = opened.share::<B>(alloc)?;
     for (name, who, want) in DEALT {
-        assert_eq!(rt; dealer.pass(alloc, who).err(), want, "{name}");
+        same(rt, name, &dealer.pass(alloc, who).err(), &want);
     }
     Ok(())
 }
@@ -199,16 +238,18 @@ fn by_two_threads<B: Naming + Send + Sync, R: Threads + Abort + Wait + Sync>(
 ) -> Result<(), Fail>
     requires { IsNamed B.count B.table B.plan opened }
 {
-    let (shards, mut dealer) = opened.share::<B>(alloc)?;
-    let first = dealer.pass(alloc, Caller::Worker { number: 0 })?;
-    let second = dealer.pass(alloc, Caller::Worker { number: 1 })?;
+    let (shards, first, second) = two_passes::<B>(alloc, opened)?;
     let (one, two) = join(
         rt,
         || runs(rt, &shards, first),
         || runs(rt, &shards, second),
     );
-    assert_eq!(rt; one, 300);
-    assert_eq!(rt; two, 300);
+    same(
+        rt,
+        "calls of both that were served",
+        &[one, two],
+        &[300, 300],
+    );
     Ok(())
 }
 
@@ -222,11 +263,10 @@ fn two_threads_on_one_shard(rt: HostRuntime) -> Result<(), Fail> {
 fn held<B: Naming, R: Abort + Wait>(rt: &R, alloc: Global, opened: Opened) -> Result<(), Fail>
     requires { IsNamed B.count B.table B.plan opened }
 {
-    let (shards, mut dealer) = opened.share::<B>(alloc)?;
-    let mut pass = dealer.pass(alloc, Caller::Worker { number: 0 })?;
-    assert!(rt; 1 < shards.count());
+    let (shards, mut pass) = one_pass::<B>(alloc, opened)?;
+    holds(rt, "there are two shards", 1 < shards.count());
     let got = shards.hold(rt, 0, || attempt(rt, &shards, &mut pass, Step::Enter));
-    assert_eq!(rt; got, Some(Reply::Entered));
+    same(rt, "the call on the other", &got, &Some(Reply::Entered));
     Ok(())
 }
 
@@ -259,38 +299,49 @@ fn run_of<B: Naming, R: Abort + Wait>(
     served
 }
 
+/// A run's name, how many Lookups it makes, and how many of its calls are served.
+type Run = (&'static str, u32, u32);
+
 /// Makes runs with so many Lookups, one after another in a journal of 16, and compares how many of their calls are served.
 fn filled<B: Naming, R: Abort + Wait>(
     rt: &R,
     alloc: Global,
     opened: Opened,
-    runs: &[(u32, u32)],
+    runs: &[Run],
 ) -> Result<(), Fail>
     requires { IsNamed B.count B.table B.plan opened }
 {
-    let (shards, mut dealer) = opened.share::<B>(alloc)?;
-    let mut pass = dealer.pass(alloc, Caller::Worker { number: 0 })?;
-    for (lookups, want) in runs {
-        assert_eq!(rt; run_of(rt, &shards, &mut pass, *lookups), *want);
+    let (shards, mut pass) = one_pass::<B>(alloc, opened)?;
+    for (name, lookups, want) in runs {
+        same(rt, name, &run_of(rt, &shards, &mut pass, *lookups), want);
     }
     Ok(())
 }
 
+/// Makes the runs on new shards.
+fn fills<R: Abort + Wait>(rt: &R, alloc: Global, runs: &[Run]) -> Result<(), Fail> {
+    let opened = opened(alloc, 16)?;
+    filled::<Brand, R>(rt, alloc, opened, runs)
+}
+
+const ONE_LONG_RUN: [Run; 1] = [("15 lookups", 15, 16)];
+
+const AFTER_14: [Run; 2] = [("14 entries", 12, 14), ("two more", 0, 2)];
+
+const AFTER_15: [Run; 2] = [("15 entries", 13, 15), ("no more", 0, 0)];
+
 /// Of 15 Lookups after an Enter 14 are served, and then the Leave.
 #[test]
 fn a_run_keeps_room_for_its_leave(rt: HostRuntime) -> Result<(), Fail> {
-    let opened = opened(rt.alloc(), 16)?;
-    filled::<Brand, HostRuntime>(&rt, rt.alloc(), opened, &[(15, 16)])
+    fills(&rt, rt.alloc(), &ONE_LONG_RUN)
 }
 
 #[test]
 fn an_enter_after_14_entries_is_served(rt: HostRuntime) -> Result<(), Fail> {
-    let opened = opened(rt.alloc(), 16)?;
-    filled::<Brand, HostRuntime>(&rt, rt.alloc(), opened, &[(12, 14), (0, 2)])
+    fills(&rt, rt.alloc(), &AFTER_14)
 }
 
 #[test]
 fn an_enter_after_15_entries_is_refused(rt: HostRuntime) -> Result<(), Fail> {
-    let opened = opened(rt.alloc(), 16)?;
-    filled::<Brand, HostRuntime>(&rt, rt.alloc(), opened, &[(13, 15), (0, 0)])
+    fills(&rt, rt.alloc(), &AFTER_15)
 }

@@ -6,16 +6,18 @@ ghost use Rattle.pass_tests.specs.ExampleMaps.{example_maps};
 ghost use Rattle.shard_port.specs.PassPorts.{is_worker_below};
 
 use super::{
-    ANSWERS, Ask, Got, KEYS, ONE_SHARD, Row, TWO_SHARDS, answers, example_image, found, key_of,
-    load_of, lookup,
+    ANSWERS, Entered, FIFTEEN_LOOKUPS, KEYS, Made, ONE_SHARD, ONE_SHARD_SAYS, Row, SECOND_IS_FULL,
+    SIXTEEN_SAY, Says, TWO_SHARDS, TWO_SHARDS_SAY, answers, entry_of, example_image, key_of,
+    options_of,
 };
+use crate::asserting::{holds, same};
 use gates::{NoGate, Tally};
 use journals::Journals;
 use map_port::MapPort;
-use semantics::{Call, Caller, Entry, JournalFull, Options, Reply};
+use semantics::{Caller, CellRef, Entry, JournalFull, Reply};
 use shard_port::port::ShardPort;
 use shared_shards::{Naming, Opened, Pass, Shards};
-use std::alloc::Global;
+use std::alloc::{AllocError, Global};
 use std::marker::Brand;
 use std::process::Abort;
 use std::sync::Wait;
@@ -25,13 +27,8 @@ fn opened(alloc: Global, journal: u32) -> Result<Opened, Fail>
     ensures maps { IfOk result (λ opened. opened.maps ≡ example_maps) }
     ensures workers { IfOk result (λ opened. opened.options.workers ≡ 2) }
 {
-    let options = Options {
-        workers: 2,
-        shards: 1,
-        journal,
-    };
     let image = example_image(alloc)?;
-    Ok(Opened::open(alloc, &image, options)?)
+    Ok(Opened::open(alloc, &image, options_of(journal))?)
 }
 
 /// A tally of worker 1, which tells nobody.
@@ -55,109 +52,112 @@ fn run<B: Naming, R: Abort + Wait>(
     refused
 }
 
-/// The entries of a shard's journal, each as what worker 1 asked and what it was replied.
-fn says(rt: &impl Abort, journals: &Journals, number: usize, want: &[(Call, Reply)]) {
-    assert!(rt; number < journals.count());
-    let journal = journals.journal(number);
-    assert_eq!(rt; journal.len(), want.len(), "shard {number}");
-    for (place, (call, reply)) in want.iter().enumerate() {
-        assert!(rt; place < journal.len());
-        let wanted = Entry {
-            who: Caller::Worker { number: 1 },
-            call: *call,
-            reply: *reply,
-        };
-        assert_eq!(rt; journal.entry(place), wanted, "shard {number}");
+/// An entry of a shard's journal; None past its end.
+fn entry_at(journals: &Journals, number: u32, place: usize) -> Option<Entry> {
+    if number as usize >= journals.count() {
+        return None;
+    }
+    let journal = journals.journal(number as usize);
+    if place < journal.len() {
+        Some(journal.entry(place))
+    } else {
+        None
     }
 }
 
-/// One run of worker 1 with these rows, and the journals when it has ended.
+/// Compares all entries of the journals, each as what worker 1 asked and what it was replied.
+fn say(rt: &impl Abort, journals: &Journals, entries: &[Says]) {
+    for (name, number, want) in entries {
+        holds(rt, name, (*number as usize) < journals.count());
+        let mut place: usize = 0;
+        for (times, made, reply) in *want {
+            for _ in 0..*times {
+                let wanted = entry_of(*number, *made, *reply);
+                same(rt, name, &entry_at(journals, *number, place), &Some(wanted));
+                place = place.saturating_add(1);
+            }
+        }
+        same(rt, name, &entry_at(journals, *number, place), &None);
+    }
+}
+
+/// The journals when the shards are closed.
+fn closed<B: Naming>(
+    rt: &impl Wait,
+    alloc: Global,
+    shards: Shards<B>,
+    pass: Pass<B>,
+) -> Result<Journals, AllocError> {
+    let mut passes = Vec::with_capacity(alloc, 1)?;
+    passes.push_reserved(pass);
+    Ok(shards.close(rt, passes))
+}
+
+/// One run of worker 1 with these rows: compares what it is refused, and gives the journals when it has ended.
 fn session<B: Naming, R: Abort + Wait>(
     rt: &R,
     alloc: Global,
     opened: Opened,
     rows: &[Row],
-) -> Result<(Option<JournalFull>, Journals), Fail>
+    refused: Option<JournalFull>,
+) -> Result<Journals, Fail>
     requires named { IsNamed B.count B.table B.plan opened }
     requires maps { opened.maps ≡ example_maps }
     requires workers { opened.options.workers ≡ 2 }
 {
     let (shards, mut dealer) = opened.share::<B>(alloc)?;
     let mut pass = dealer.pass(alloc, Caller::Worker { number: 1 })?;
-    let mut passes = Vec::with_capacity(alloc, 1)?;
-    let refused = run(rt, &shards, &mut pass, rows);
-    passes.push(pass)?;
-    Ok((refused, shards.close(rt, passes)))
+    let found = run(rt, &shards, &mut pass, rows);
+    same(rt, "what is refused", &found, &refused);
+    Ok(closed(rt, alloc, shards, pass)?)
+}
+
+/// One run of worker 1 on new shards: compares what it is refused, and the entries that it leaves.
+fn one_run<R: Abort + Wait>(
+    rt: &R,
+    alloc: Global,
+    journal: u32,
+    rows: &[Row],
+    refused: Option<JournalFull>,
+    entries: &[Says],
+) -> Result<(), Fail> {
+    let opened = opened(alloc, journal)?;
+    let journals = session::<Brand, R>(rt, alloc, opened, rows, refused)?;
+    say(rt, &journals, entries);
+    Ok(())
 }
 
 #[test]
 fn one_session_in_one_shard(rt: HostRuntime) -> Result<(), Fail> {
-    let opened = opened(rt.alloc(), 64)?;
-    let (refused, journals) = session::<Brand, HostRuntime>(&rt, rt.alloc(), opened, &ONE_SHARD)?;
-    assert_eq!(rt; refused, None);
-    let want = [
-        (Call::Enter { shard: 0 }, Reply::Entered),
-        (lookup(0, 0), found(0, 0)),
-        (lookup(0, 0), found(0, 0)),
-        (load_of(0, 0), Reply::Word { value: 0 }),
-        (lookup(0, 1), Reply::Null),
-        (Call::Leave { shard: 0 }, Reply::Left),
-    ];
-    says(&rt, &journals, 0, &want);
-    says(&rt, &journals, 1, &[]);
-    Ok(())
+    one_run(&rt, rt.alloc(), 64, &ONE_SHARD, None, &ONE_SHARD_SAYS)
 }
 
 #[test]
 fn one_session_in_each_shard(rt: HostRuntime) -> Result<(), Fail> {
-    let opened = opened(rt.alloc(), 64)?;
-    let (refused, journals) = session::<Brand, HostRuntime>(&rt, rt.alloc(), opened, &TWO_SHARDS)?;
-    assert_eq!(rt; refused, None);
-    let first = [
-        (Call::Enter { shard: 0 }, Reply::Entered),
-        (lookup(0, 0), found(0, 0)),
-        (Call::Leave { shard: 0 }, Reply::Left),
-    ];
-    let second = [
-        (Call::Enter { shard: 1 }, Reply::Entered),
-        (lookup(1, 2), found(1, 2)),
-        (lookup(1, 0), found(1, 0)),
-        (lookup(1, 3), Reply::Null),
-        (Call::Leave { shard: 1 }, Reply::Left),
-    ];
-    says(&rt, &journals, 0, &first);
-    says(&rt, &journals, 1, &second);
-    Ok(())
+    one_run(&rt, rt.alloc(), 64, &TWO_SHARDS, None, &TWO_SHARDS_SAY)
 }
 
 /// With one run inside, the sixteenth entry is its Leave's: the fifteenth call is refused with the shard's number.
 #[test]
 fn last_entry_is_the_leave(rt: HostRuntime) -> Result<(), Fail> {
-    let opened = opened(rt.alloc(), 16)?;
-    let rows: [Row; 15] = [("a lookup", Ask::Look(1, 0), Got::Handle(0x1_0000_0001)); 15];
-    let (refused, journals) = session::<Brand, HostRuntime>(&rt, rt.alloc(), opened, &rows)?;
-    assert_eq!(rt; refused, Some(JournalFull { shard: 1 }));
-    let mut want = [(lookup(1, 0), found(1, 0)); 16];
-    want[0] = (Call::Enter { shard: 1 }, Reply::Entered);
-    want[15] = (Call::Leave { shard: 1 }, Reply::Left);
-    says(&rt, &journals, 1, &want);
-    Ok(())
+    one_run(
+        &rt,
+        rt.alloc(),
+        16,
+        &FIFTEEN_LOOKUPS,
+        Some(SECOND_IS_FULL),
+        &SIXTEEN_SAY,
+    )
 }
 
 #[test]
 fn answers_of_an_array(rt: HostRuntime) -> Result<(), Fail> {
-    let opened = opened(rt.alloc(), 64)?;
-    let (refused, _journals) = session::<Brand, HostRuntime>(&rt, rt.alloc(), opened, &ANSWERS)?;
-    assert_eq!(rt; refused, None);
-    Ok(())
+    one_run(&rt, rt.alloc(), 64, &ANSWERS, None, &[])
 }
 
 #[test]
 fn answers_of_a_hash_map(rt: HostRuntime) -> Result<(), Fail> {
-    let opened = opened(rt.alloc(), 64)?;
-    let (refused, _journals) = session::<Brand, HostRuntime>(&rt, rt.alloc(), opened, &KEYS)?;
-    assert_eq!(rt; refused, None);
-    Ok(())
+    one_run(&rt, rt.alloc(), 64, &KEYS, None, &[])
 }
 
 /// One run that looks index 0 of the first map up.
@@ -176,62 +176,83 @@ fn look_once<B: Naming, R: Abort + Wait>(
     result
 }
 
-/// Six runs of one lookup each, one after the other: what the last one was told, and the journals.
-fn six<B: Naming, R: Abort + Wait>(
+/// Three runs of one lookup each, one after the other: what the last one is told.
+fn look_three_times<B: Naming, R: Abort + Wait>(
     rt: &R,
-    alloc: Global,
-    opened: Opened,
-) -> Result<(Result<u64, JournalFull>, Journals), Fail>
+    shards: &Shards<B>,
+    pass: &mut Pass<B>,
+) -> Result<u64, JournalFull>
+    requires maps { shards.now.maps ≡ example_maps }
+    requires worker { IsTrue (is_worker_below shards.now.options.workers pass.old.who) }
+    ensures who { pass.new.who ≡ pass.old.who }
+{
+    let _ = look_once(rt, shards, pass);
+    let _ = look_once(rt, shards, pass);
+    look_once(rt, shards, pass)
+}
+
+/// Six runs of one lookup each, one after the other: compares what the last one is told, and gives the journals.
+fn six<B: Naming, R: Abort + Wait>(rt: &R, alloc: Global, opened: Opened) -> Result<Journals, Fail>
     requires named { IsNamed B.count B.table B.plan opened }
     requires maps { opened.maps ≡ example_maps }
     requires workers { opened.options.workers ≡ 2 }
 {
     let (shards, mut dealer) = opened.share::<B>(alloc)?;
     let mut pass = dealer.pass(alloc, Caller::Worker { number: 1 })?;
-    let mut passes = Vec::with_capacity(alloc, 1)?;
-    let _ = look_once(rt, &shards, &mut pass);
-    let _ = look_once(rt, &shards, &mut pass);
-    let _ = look_once(rt, &shards, &mut pass);
-    let _ = look_once(rt, &shards, &mut pass);
-    let _ = look_once(rt, &shards, &mut pass);
-    let last = look_once(rt, &shards, &mut pass);
-    passes.push(pass)?;
-    Ok((last, shards.close(rt, passes)))
+    let _ = look_three_times(rt, &shards, &mut pass);
+    let last = look_three_times(rt, &shards, &mut pass);
+    same(rt, "the last run", &last, &Err(JournalFull { shard: 0 }));
+    Ok(closed(rt, alloc, shards, pass)?)
 }
 
-const SESSION: [(Call, Reply); 2] = [
-    (Call::Enter { shard: 0 }, Reply::Entered),
-    (Call::Leave { shard: 0 }, Reply::Left),
+/// Six runs on new shards, and what the first shard's journal says then.
+fn six_runs<R: Abort + Wait>(
+    rt: &R,
+    alloc: Global,
+    journal: u32,
+    entries: &[Says],
+) -> Result<(), Fail> {
+    let opened = opened(alloc, journal)?;
+    let journals = six::<Brand, R>(rt, alloc, opened)?;
+    say(rt, &journals, entries);
+    Ok(())
+}
+
+const FOUND: Reply = Reply::Cell {
+    cell: CellRef { shard: 0, id: 0 },
+};
+
+#[rattlefmt::skip]
+const FIVE_RUNS: [Entered; 15] = [
+    (1, Made::Enter, Reply::Entered), (1, Made::Look(0), FOUND), (1, Made::Leave, Reply::Left),
+    (1, Made::Enter, Reply::Entered), (1, Made::Look(0), FOUND), (1, Made::Leave, Reply::Left),
+    (1, Made::Enter, Reply::Entered), (1, Made::Look(0), FOUND), (1, Made::Leave, Reply::Left),
+    (1, Made::Enter, Reply::Entered), (1, Made::Look(0), FOUND), (1, Made::Leave, Reply::Left),
+    (1, Made::Enter, Reply::Entered), (1, Made::Look(0), FOUND), (1, Made::Leave, Reply::Left),
 ];
+
+#[rattlefmt::skip]
+const FIVE_RUNS_AND_ONE_WITHOUT_CALLS: [Entered; 17] = [
+    (1, Made::Enter, Reply::Entered), (1, Made::Look(0), FOUND), (1, Made::Leave, Reply::Left),
+    (1, Made::Enter, Reply::Entered), (1, Made::Look(0), FOUND), (1, Made::Leave, Reply::Left),
+    (1, Made::Enter, Reply::Entered), (1, Made::Look(0), FOUND), (1, Made::Leave, Reply::Left),
+    (1, Made::Enter, Reply::Entered), (1, Made::Look(0), FOUND), (1, Made::Leave, Reply::Left),
+    (1, Made::Enter, Reply::Entered), (1, Made::Look(0), FOUND), (1, Made::Leave, Reply::Left),
+    (1, Made::Enter, Reply::Entered),                            (1, Made::Leave, Reply::Left),
+];
+
+const FIVE_SAY: [Says; 1] = [("the first shard", 0, &FIVE_RUNS)];
+
+const SIX_SAY: [Says; 1] = [("the first shard", 0, &FIVE_RUNS_AND_ONE_WITHOUT_CALLS)];
 
 /// Each run has a session of its own. A sixth finds no room for its Enter in a journal of 16, and leaves nothing there.
 #[test]
 fn sessions_up_to_a_refused_enter(rt: HostRuntime) -> Result<(), Fail> {
-    let opened = opened(rt.alloc(), 16)?;
-    let (last, journals) = six::<Brand, HostRuntime>(&rt, rt.alloc(), opened)?;
-    assert_eq!(rt; last, Err(JournalFull { shard: 0 }));
-    let mut want = [(lookup(0, 0), found(0, 0)); 15];
-    'runs: for run in 0..5 {
-        want[3 * run] = SESSION[0];
-        want[3 * run + 2] = SESSION[1];
-    }
-    says(&rt, &journals, 0, &want);
-    Ok(())
+    six_runs(&rt, rt.alloc(), 16, &FIVE_SAY)
 }
 
 /// In a journal of 17 it has room for the Enter but not for the call: the Enter stands, and its Leave.
 #[test]
 fn sessions_up_to_a_refused_call(rt: HostRuntime) -> Result<(), Fail> {
-    let opened = opened(rt.alloc(), 17)?;
-    let (last, journals) = six::<Brand, HostRuntime>(&rt, rt.alloc(), opened)?;
-    assert_eq!(rt; last, Err(JournalFull { shard: 0 }));
-    let mut want = [(lookup(0, 0), found(0, 0)); 17];
-    'runs: for run in 0..5 {
-        want[3 * run] = SESSION[0];
-        want[3 * run + 2] = SESSION[1];
-    }
-    want[15] = SESSION[0];
-    want[16] = SESSION[1];
-    says(&rt, &journals, 0, &want);
-    Ok(())
+    six_runs(&rt, rt.alloc(), 17, &SIX_SAY)
 }

@@ -2,8 +2,9 @@
 
 ghost use Rattle.shared_shards.specs.NewShards.{IsNamed};
 
-use super::{Step, attempt, opened};
-use semantics::{Call, Caller, Reply};
+use super::{Step, attempt, opened, two_passes};
+use crate::asserting::{holds, same};
+use semantics::{Call, Reply};
 use shared_shards::{Naming, Opened, Pass, Shards};
 use std::alloc::Global;
 use std::marker::Brand;
@@ -66,7 +67,7 @@ fn hold_first<B: Naming, R: Abort + Wait>(
     pass: Pass<B>,
     signals: &Signals,
 ) -> (Option<Reply>, bool) {
-    assert!(rt; 0 < shards.count());
+    holds(rt, "there is a shard", 0 < shards.count());
     wait_for(rt, &signals.ready);
     shards.hold(rt, 0, || meanwhile(rt, shards, pass, signals))
 }
@@ -79,7 +80,7 @@ fn call_of_the_held<B: Naming, R: Abort + Wait>(
     signals: &Signals,
 ) -> Option<Reply> {
     let call = Call::Enter { shard: 0 };
-    assert!(rt; 0 < shards.count());
+    holds(rt, "there is a shard", 0 < shards.count());
     let may_enter = shards.may_call(rt, &mut pass, &call);
     signals.ready.store(true, Ordering::SeqCst);
     wait_for(rt, &signals.held);
@@ -100,10 +101,8 @@ fn held<B: Naming + Send + Sync, R: Threads + Abort + Wait + Sync>(
 ) -> Result<(), Fail>
     requires { IsNamed B.count B.table B.plan opened }
 {
-    let (shards, mut dealer) = opened.share::<B>(alloc)?;
-    let first = dealer.pass(alloc, Caller::Worker { number: 0 })?;
-    let second = dealer.pass(alloc, Caller::Worker { number: 1 })?;
-    assert!(rt; 1 < shards.count());
+    let (shards, first, second) = two_passes::<B>(alloc, opened)?;
+    holds(rt, "there are two shards", 1 < shards.count());
     let signals = Signals {
         ready: AtomicBool::new(false),
         held: AtomicBool::new(false),
@@ -116,9 +115,19 @@ fn held<B: Naming + Send + Sync, R: Threads + Abort + Wait + Sync>(
         || call_of_the_held(rt, &shards, second, &signals),
     );
     let (got, answered) = one;
-    assert_eq!(rt; got, Some(Reply::Entered));
-    assert_eq!(rt; answered, false);
-    assert_eq!(rt; other, Some(Reply::Entered));
+    same(
+        rt,
+        "the call on the other shard",
+        &got,
+        &Some(Reply::Entered),
+    );
+    same(rt, "whether the held one was answered", &answered, &false);
+    same(
+        rt,
+        "the call on the held one",
+        &other,
+        &Some(Reply::Entered),
+    );
     Ok(())
 }
 

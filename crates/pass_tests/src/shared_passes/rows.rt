@@ -5,6 +5,7 @@ mod by_threads;
 ghost use Rattle.shared_shards.specs.NewShards.{IsNamed};
 
 use super::length_of;
+use crate::asserting::{holds, same};
 use ebpf_decode::{Image, Insn, MapDef, MapKind, Version};
 use semantics::{Call, Caller, CellRef, Key, Options, Reply, Value};
 use shared_shards::{Naming, Opened, Pass, Shards};
@@ -122,6 +123,15 @@ type Row = (&'static str, usize, Asked, Option<Reply>, bool, bool);
 
 const FIRST: CellRef = CellRef { shard: 0, id: 0 };
 
+/// Makes the call of a row by one of the passes, and compares.
+fn makes<B: Naming, R: Abort + Wait>(rt: &R, shards: &Shards<B>, pass: &mut Pass<B>, row: &Row) {
+    let (name, _, asked, want, inside, holds_first) = row;
+    holds(rt, name, 0 < shards.count());
+    same(rt, name, &attempt(rt, shards, pass, *asked), want);
+    same(rt, name, &pass.is_inside(0), inside);
+    same(rt, name, &pass.holds(&FIRST), holds_first);
+}
+
 /// Makes the calls of all rows in turn, and says how many entries the journal then has.
 fn made<B: Naming, R: Abort + Wait>(
     rt: &R,
@@ -136,16 +146,27 @@ fn made<B: Naming, R: Abort + Wait>(
     for who in CALLERS {
         passes.push(dealer.pass(alloc, who)?)?;
     }
-    assert!(rt; 0 < shards.count());
-    for (name, place, asked, want, inside, holds) in rows {
-        assert!(rt; *place < passes.len());
-        let got = attempt(rt, &shards, &mut passes[*place], *asked);
-        assert_eq!(rt; got, *want, "{name}");
-        assert_eq!(rt; passes[*place].is_inside(0), *inside, "{name}");
-        assert_eq!(rt; passes[*place].holds(&FIRST), *holds, "{name}");
+    for row in rows {
+        holds(rt, row.0, row.1 < passes.len());
+        makes(rt, &shards, &mut passes[row.1], row);
     }
     let journals = shards.close(rt, passes);
     Ok(length_of(&journals, 0))
+}
+
+/// Makes the calls of all rows in turn on a new shard, whose journal then has so many entries.
+fn leaves<R: Abort + Wait>(
+    rt: &R,
+    alloc: Global,
+    kind: MapKind,
+    max_entries: u32,
+    rows: &[Row],
+    entries: usize,
+) -> Result<(), Fail> {
+    let opened = opened(alloc, kind, max_entries)?;
+    let found = made::<Brand, R>(rt, alloc, opened, rows)?;
+    same(rt, "how many entries", &found, &entries);
+    Ok(())
 }
 
 #[rattlefmt::skip]
@@ -168,10 +189,7 @@ const TWO_WORKERS: [Row; 13] = [
 /// The calls of the first seven rows make five entries, those after them three.
 #[test]
 fn a_worker_holds_what_it_found_until_it_leaves(rt: HostRuntime) -> Result<(), Fail> {
-    let opened = opened(rt.alloc(), MapKind::Array, 2)?;
-    let entries = made::<Brand, HostRuntime>(&rt, rt.alloc(), opened, &TWO_WORKERS)?;
-    assert_eq!(&rt; entries, 8);
-    Ok(())
+    leaves(&rt, rt.alloc(), MapKind::Array, 2, &TWO_WORKERS, 8)
 }
 
 #[rattlefmt::skip]
@@ -189,10 +207,7 @@ const HELD_AND_DELETED: [Row; 9] = [
 
 #[test]
 fn a_held_cell_outlives_its_key(rt: HostRuntime) -> Result<(), Fail> {
-    let opened = opened(rt.alloc(), MapKind::Hash, 1)?;
-    let entries = made::<Brand, HostRuntime>(&rt, rt.alloc(), opened, &HELD_AND_DELETED)?;
-    assert_eq!(&rt; entries, 9);
-    Ok(())
+    leaves(&rt, rt.alloc(), MapKind::Hash, 1, &HELD_AND_DELETED, 9)
 }
 
 #[rattlefmt::skip]
@@ -206,8 +221,5 @@ const OF_AN_ARRAY: [Row; 5] = [
 
 #[test]
 fn updates_and_deletes_of_an_array(rt: HostRuntime) -> Result<(), Fail> {
-    let opened = opened(rt.alloc(), MapKind::Array, 2)?;
-    let entries = made::<Brand, HostRuntime>(&rt, rt.alloc(), opened, &OF_AN_ARRAY)?;
-    assert_eq!(&rt; entries, 5);
-    Ok(())
+    leaves(&rt, rt.alloc(), MapKind::Array, 2, &OF_AN_ARRAY, 5)
 }

@@ -8,6 +8,7 @@ ghost use Rattle.shared_shards.specs.NewShards.{IsNamed};
 ghost use Rattle.shared_shards.specs.Passes.{own_at, view_at};
 ghost use Rattle.pass_tests.specs.TwoWorkers.{one_element, for_two, its_plan, HasLoaded, AreDone, AreTheFour};
 
+use crate::asserting::{holds, same};
 use crate::shared_passes::length_of;
 use ebpf_decode::{Image, Insn, MapDef, MapKind, Version};
 use journal::CellRange;
@@ -152,9 +153,10 @@ fn row<B: Naming, R: Abort + Wait>(rt: &R, alloc: Global, opened: Opened) -> Res
         Ok(word) => {
             let passes = all_four(alloc, controller, reclaimer, first, second)?;
             let journals = closed(rt, shards, passes);
-            assert_eq!(rt; (word, length_of(&journals, 0)), (0, 5));
+            same(rt, "the number that was loaded", &word, &0);
+            same(rt, "how many entries", &length_of(&journals, 0), &5);
         }
-        Err(_full) => assert!(rt; false),
+        Err(_full) => holds(rt, "there is room", false),
     }
     Ok(())
 }

@@ -5,6 +5,7 @@ mod one_key;
 ghost use Rattle.shared_shards.specs.NewShards.{IsNamed};
 
 use super::{Asked, CONTROLLER, FIRST, HELD_AND_DELETED, RECLAIMER, Row, W0, attempt, opened};
+use crate::asserting::{holds, same};
 use crate::shared_passes::length_of;
 use ebpf_decode::MapKind;
 use journals::Journals;
@@ -74,7 +75,7 @@ fn in_turn<B: Naming, R: Abort + Wait>(
     made: &AtomicU64,
 ) -> Ended<B> {
     let mut had = NOTHING;
-    assert!(rt; 0 < shards.count());
+    holds(rt, "there is a shard", 0 < shards.count());
     for (turn, (name, place, asked, want, inside, holds)) in rows.iter().enumerate() {
         if *place == mine {
             wait_for(rt, made, turn as u64);
@@ -114,6 +115,20 @@ fn closed<B: Naming>(
     Ok((shards.close(rt, passes), had))
 }
 
+/// A new shard, and the passes of a worker, the controller and the reclaimer.
+fn three_passes<B: Naming>(
+    alloc: Global,
+    opened: Opened,
+) -> Result<(Shards<B>, Pass<B>, Pass<B>, Pass<B>), Fail>
+    requires { IsNamed B.count B.table B.plan opened }
+{
+    let (shards, mut dealer) = opened.share::<B>(alloc)?;
+    let worker = dealer.pass(alloc, Caller::Worker { number: 0 })?;
+    let controller = dealer.pass(alloc, Caller::Controller)?;
+    let reclaimer = dealer.pass(alloc, Caller::Reclaimer)?;
+    Ok((shards, worker, controller, reclaimer))
+}
+
 /// Makes the calls of all rows in turn, by three threads.
 fn by_turns<B: Naming + Send + Sync, R: Threads + Abort + Wait + Sync>(
     rt: &R,
@@ -123,10 +138,7 @@ fn by_turns<B: Naming + Send + Sync, R: Threads + Abort + Wait + Sync>(
 ) -> Result<(), Fail>
     requires { IsNamed B.count B.table B.plan opened }
 {
-    let (shards, mut dealer) = opened.share::<B>(alloc)?;
-    let worker = dealer.pass(alloc, Caller::Worker { number: 0 })?;
-    let controller = dealer.pass(alloc, Caller::Controller)?;
-    let reclaimer = dealer.pass(alloc, Caller::Reclaimer)?;
+    let (shards, worker, controller, reclaimer) = three_passes::<B>(alloc, opened)?;
     let made = AtomicU64::new(0);
     let (one, (two, three)) = join(
         rt,
@@ -140,16 +152,30 @@ fn by_turns<B: Naming + Send + Sync, R: Threads + Abort + Wait + Sync>(
         },
     );
     let (journals, had) = closed(rt, alloc, shards, one, two, three)?;
-    assert_eq!(rt; had.wrong, None);
-    assert_eq!(rt; had.replies, rows.len());
-    assert_eq!(rt; length_of(&journals, 0), rows.len());
+    same(rt, "a call with another reply", &had.wrong, &None);
+    same(rt, "how many replies", &had.replies, &rows.len());
+    same(
+        rt,
+        "how many entries",
+        &length_of(&journals, 0),
+        &rows.len(),
+    );
     Ok(())
+}
+
+/// The same on a new hash shard of one key.
+fn on_a_new_shard<R: Threads + Abort + Wait + Sync>(
+    rt: &R,
+    alloc: Global,
+    rows: &[Row],
+) -> Result<(), Fail> {
+    let opened = opened(alloc, MapKind::Hash, 1)?;
+    by_turns::<Brand, R>(rt, alloc, opened, rows)
 }
 
 #[test]
 fn a_held_cell_outlives_its_key_by_threads(rt: HostRuntime) -> Result<(), Fail> {
-    let opened = opened(rt.alloc(), MapKind::Hash, 1)?;
-    by_turns::<Brand, HostRuntime>(&rt, rt.alloc(), opened, &HELD_AND_DELETED)
+    on_a_new_shard(&rt, rt.alloc(), &HELD_AND_DELETED)
 }
 
 const THIRD: CellRef = CellRef { shard: 0, id: 2 };
@@ -173,8 +199,7 @@ const ALL_CELLS_RETIRED: [Row; 12] = [
 
 #[test]
 fn retired_cells_are_freed_by_threads(rt: HostRuntime) -> Result<(), Fail> {
-    let opened = opened(rt.alloc(), MapKind::Hash, 1)?;
-    by_turns::<Brand, HostRuntime>(&rt, rt.alloc(), opened, &ALL_CELLS_RETIRED)
+    on_a_new_shard(&rt, rt.alloc(), &ALL_CELLS_RETIRED)
 }
 
 /// How many runs the worker makes, and how often the controller sets and deletes the key.
@@ -312,10 +337,15 @@ fn afterwards<B: Naming, R: Abort + Wait>(
     let got = attempt(rt, shards, &mut reclaimer.pass, Asked::Reclaim);
     reclaimer.had.note("the last Reclaim", got, got.is_some());
     let is_set = set(rt, shards, &mut controller.pass, &mut controller.had);
-    assert!(rt; is_set);
+    holds(rt, "the last Update", is_set);
     let before = worker.had.replies;
     visit(rt, shards, &mut worker.pass, &mut worker.had);
-    assert_eq!(rt; worker.had.replies, before.saturating_add(6));
+    same(
+        rt,
+        "replies of the last run",
+        &worker.had.replies,
+        &before.saturating_add(6),
+    );
 }
 
 /// What the three do at the same time: each is replied what it may be, and the journal has their calls, each with the reply that one thread would give.
@@ -326,10 +356,7 @@ fn freely<B: Naming + Send + Sync, R: Threads + Abort + Wait + Sync>(
 ) -> Result<(), Fail>
     requires { IsNamed B.count B.table B.plan opened }
 {
-    let (shards, mut dealer) = opened.share::<B>(alloc)?;
-    let worker = dealer.pass(alloc, Caller::Worker { number: 0 })?;
-    let controller = dealer.pass(alloc, Caller::Controller)?;
-    let reclaimer = dealer.pass(alloc, Caller::Reclaimer)?;
+    let (shards, worker, controller, reclaimer) = three_passes::<B>(alloc, opened)?;
     let begun = AtomicU64::new(0);
     let (mut one, (mut two, mut three)) = join(
         rt,
@@ -344,9 +371,19 @@ fn freely<B: Naming + Send + Sync, R: Threads + Abort + Wait + Sync>(
     );
     afterwards(rt, &shards, &mut one, &mut two, &mut three);
     let (journals, had) = closed(rt, alloc, shards, one, two, three)?;
-    assert_eq!(rt; had.wrong, None);
-    assert_eq!(rt; length_of(&journals, 0), had.replies);
-    assert_eq!(rt; first_other(&journals), None);
+    same(rt, "a call with another reply", &had.wrong, &None);
+    same(
+        rt,
+        "how many entries",
+        &length_of(&journals, 0),
+        &had.replies,
+    );
+    same(
+        rt,
+        "an entry that one thread would not make",
+        &first_other(&journals),
+        &None,
+    );
     Ok(())
 }
 

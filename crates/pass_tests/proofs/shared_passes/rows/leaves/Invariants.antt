@@ -1,6 +1,6 @@
 use Rattle.std.proofs.Common.{length}
 use Rattle.shared_shards.proofs.shared.Names.{table_names, plan_names}
-use Rattle.pass_tests.proofs.shared_passes.rows.updates_and_deletes_of_an_array.Given as goal
+use Rattle.pass_tests.proofs.shared_passes.rows.leaves.Given as goal
 
 abbrev pub ghosts-made : goal.ghosts-made
 ghosts-made g a = record { count = length a.opened.shards; table = table_names a.opened; plan = plan_names a.opened }

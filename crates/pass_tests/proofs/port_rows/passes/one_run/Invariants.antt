@@ -1,6 +1,6 @@
 use Rattle.std.proofs.Common.{length}
 use Rattle.shared_shards.proofs.shared.Names.{table_names, plan_names}
-use Rattle.pass_tests.proofs.port_rows.passes.one_session_in_one_shard.Given as goal
+use Rattle.pass_tests.proofs.port_rows.passes.one_run.Given as goal
 
 abbrev pub ghosts-session : goal.ghosts-session
 ghosts-session g a = record { count = length a.opened.shards; table = table_names a.opened; plan = plan_names a.opened }

@@ -1,6 +1,6 @@
 use Rattle.std.proofs.Common.{length}
 use Rattle.shared_shards.proofs.shared.Names.{table_names, plan_names}
-use Rattle.pass_tests.proofs.shared_passes.an_enter_after_14_entries_is_served.Given as goal
+use Rattle.pass_tests.proofs.shared_passes.fills.Given as goal
 
 abbrev pub ghosts-filled : goal.ghosts-filled
 ghosts-filled g a = record { count = length a.opened.shards; table = table_names a.opened; plan = plan_names a.opened }

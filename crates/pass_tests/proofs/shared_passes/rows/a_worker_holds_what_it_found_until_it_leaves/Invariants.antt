@@ -1,6 +1,0 @@
-use Rattle.std.proofs.Common.{length}
-use Rattle.shared_shards.proofs.shared.Names.{table_names, plan_names}
-use Rattle.pass_tests.proofs.shared_passes.rows.a_worker_holds_what_it_found_until_it_leaves.Given as goal
-
-abbrev pub ghosts-made : goal.ghosts-made
-ghosts-made g a = record { count = length a.opened.shards; table = table_names a.opened; plan = plan_names a.opened }
