@@ -12,8 +12,6 @@
 pub mod replays;
 pub mod running;
 pub mod sharing;
-#[cfg(test)]
-mod tests;
 
 ghost use Rattle.semantics.specs.Safety.{IsSafeImage};
 ghost use Rattle.verifier.specs.Readers.{IsReader};

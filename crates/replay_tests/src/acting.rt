@@ -4,6 +4,7 @@ ghost use Rattle.std.specs.Prelude.{◌≡◌, ◌≤◌, [], IfOk};
 ghost use Rattle.rx_queues.specs.Passes.{HasQueue, IsTakePassOf, jobs_taken};
 ghost use Rattle.shared_shards.specs.NewShards.{IsNamed};
 
+use crate::asserting::{holds, same};
 use actors::{Applied, Commander, Reclaiming, commands_until_end, rounds_until_end};
 use conntrack::{maps, table_size};
 use control::{ControlFault, parse_script};
@@ -12,7 +13,7 @@ use gates::{Gate, NoGate};
 use journals::Journals;
 use rx_queues::{Job, OpenFault, Queues, TakePass};
 use semantics::{Caller, Options};
-use shared_shards::{Naming, Opened};
+use shared_shards::{Naming, Opened, Pass, Shards};
 use std::alloc::Global;
 use std::cell::Cell;
 use std::marker::Brand;
@@ -42,26 +43,43 @@ fn nothing_told() -> Told {
 }
 
 /// The six maps of steering, for a lookup table of seven slots.
-fn opened(alloc: Global, shards: u32, journal: u32) -> Result<Opened, Fail> {
+fn opened(alloc: Global, row: &Row<'_>) -> Result<Opened, Fail> {
     let mut code = Vec::new(alloc);
     code.push(Insn::Exit)?;
     let image = Image::of(Version::V1, maps(alloc, 7)?, code)?;
     let options = Options {
         workers: 1,
-        shards,
-        journal,
+        shards: row.shards,
+        journal: row.journal,
     };
     Ok(Opened::open(alloc, &image, options)?)
 }
 
-/// What a script does: the number of each command's fault (0: none), how many answers were told, and how many entries each shard's journal has.
+/// A script over new shards, or so many rounds of the reclaimer: the number of each command's fault (0: none), how many answers were told, and how many
+/// entries each shard's journal has.
 #[derive(Clone, Copy)]
 struct Row<'a> {
+    name: &'a str,
+    shards: u32,
+    journal: u32,
     text: &'a str,
+    rounds: usize,
     faults: &'a [u8],
     told: u64,
     lengths: &'a [usize],
 }
+
+/// One shard for each map, with room for 16 entries.
+const SMALL: Row<'static> = Row {
+    name: "",
+    shards: 1,
+    journal: 16,
+    text: "",
+    rounds: 0,
+    faults: &[],
+    told: 0,
+    lengths: &[],
+};
 
 fn faults_are(noted: &[Applied], want: &[u8]) -> bool {
     noted
@@ -95,12 +113,28 @@ fn refused_by_a_full_map(noted: &[Applied]) -> bool {
     })
 }
 
+/// Closes the shards, and compares how many entries each journal has.
+fn close<B: Naming, R: Abort + Wait>(
+    rt: &R,
+    alloc: Global,
+    shards: Shards<B>,
+    pass: Pass<B>,
+    row: &Row<'_>,
+) -> Result<(), Fail> {
+    let mut passes = Vec::with_capacity(alloc, 1)?;
+    passes.push(pass)?;
+    let journals = shards.close(rt, passes);
+    let are_so = lengths_are(&journals, row.lengths);
+    holds(rt, row.name, "the lengths of the journals", are_so);
+    Ok(())
+}
+
 /// Applies the row's script, and compares.
 fn applied<B: Naming, R: Abort + Wait>(
     rt: &R,
     alloc: Global,
     opened: Opened,
-    row: Row<'_>,
+    row: &Row<'_>,
 ) -> Result<(), Fail>
     requires { IsNamed B.count B.table B.plan opened }
 {
@@ -109,7 +143,7 @@ fn applied<B: Naming, R: Abort + Wait>(
     let (shards, mut dealer) = opened.share::<B>(alloc)?;
     let pass = dealer.pass(alloc, Caller::Controller)?;
     let size = table_size(shards.maps());
-    assert!(rt; size.is_some());
+    holds(rt, row.name, "the size of the table", size.is_some());
     let Some(size) = size else {
         return Ok(());
     };
@@ -120,94 +154,88 @@ fn applied<B: Naming, R: Abort + Wait>(
         }
     }
     let (pass, noted) = commander.finish();
-    assert!(rt; faults_are(&noted, row.faults));
-    assert!(rt; refused_by_a_full_map(&noted));
-    assert_eq!(rt; gate.times.get(), row.told);
-    assert_eq!(rt; gate.last.get(), row.told);
-    let mut passes = Vec::with_capacity(alloc, 1)?;
-    passes.push(pass)?;
-    let journals = shards.close(rt, passes);
-    assert!(rt; lengths_are(&journals, row.lengths));
+    holds(rt, row.name, "the faults", faults_are(&noted, row.faults));
+    holds(
+        rt,
+        row.name,
+        "the answer of a full map",
+        refused_by_a_full_map(&noted),
+    );
+    let told = (gate.times.get(), gate.last.get());
+    same(rt, row.name, "what was told", &told, &(row.told, row.told));
+    close(rt, alloc, shards, pass, row)
+}
+
+/// The same over new shards.
+fn applied_to_new<R: Abort + Wait>(rt: &R, alloc: Global, row: &Row<'_>) -> Result<(), Fail> {
+    let opened = opened(alloc, row)?;
+    applied::<Brand, R>(rt, alloc, opened, row)
+}
+
+/// Slots 0, 2, 4 and 6 are one shard's, the odd ones the other's. A refused command asks nothing, and is not told of; later ones go on. In the last row
+/// the third table meets a full journal at its third slot: the record and two slots stand, and every later command is refused.
+#[rattlefmt::skip]
+const SCRIPTS: [Row<'static>; 4] = [
+    Row {
+        name: "up and down", text: "0 up 0 192.0.2.1\n0 down 0\n",
+        faults: &[0, 0], told: 16, lengths: &[0, 0, 14, 2, 0, 0], ..SMALL
+    },
+    Row {
+        name: "up and down over two shards", shards: 2, journal: 64, text: "0 up 1 192.0.2.1\n7 down 1\n",
+        faults: &[0, 0], told: 16, lengths: &[0, 0, 0, 0, 8, 6, 0, 2, 0, 0, 0, 0], ..SMALL
+    },
+    Row {
+        name: "refused commands",
+        text: "0 down 3\n0 up 7 10.0.0.1\n0 gateway 10.0.0.9 02:00:00:00:00:0a 02:00:00:00:00:0b\n0 up 0 10.0.0.1\n0 up 0 10.0.0.1\n9 vip 203.0.113.1 80 udp\n",
+        faults: &[91, 91, 0, 0, 92, 0], told: 10, lengths: &[1, 0, 7, 1, 1, 0], ..SMALL
+    },
+    Row {
+        name: "a full journal", text: "0 up 0 192.0.2.1\n0 down 0\n0 up 0 192.0.2.1\n0 down 0\n0 vip 203.0.113.1 80 udp\n",
+        faults: &[0, 0, 94, 94, 94], told: 19, lengths: &[0, 0, 16, 3, 0, 0], ..SMALL
+    },
+];
+
+#[test]
+fn scripts_are_applied(rt: HostRuntime) -> Result<(), Fail> {
+    for row in &SCRIPTS {
+        applied_to_new(&rt, rt.alloc(), row)?;
+    }
     Ok(())
 }
 
-#[test]
-fn up_and_down(rt: HostRuntime) -> Result<(), Fail> {
-    let row = Row {
-        text: "0 up 0 192.0.2.1\n0 down 0\n",
-        faults: &[0, 0],
-        told: 16,
-        lengths: &[0, 0, 14, 2, 0, 0],
-    };
-    let opened = opened(rt.alloc(), 1, 16)?;
-    applied::<Brand, HostRuntime>(&rt, rt.alloc(), opened, row)
-}
-
-/// Slots 0, 2, 4 and 6 are one shard's, the odd ones the other's.
-#[test]
-fn up_and_down_over_two_shards(rt: HostRuntime) -> Result<(), Fail> {
-    let row = Row {
-        text: "0 up 1 192.0.2.1\n7 down 1\n",
-        faults: &[0, 0],
-        told: 16,
-        lengths: &[0, 0, 0, 0, 8, 6, 0, 2, 0, 0, 0, 0],
-    };
-    let opened = opened(rt.alloc(), 2, 64)?;
-    applied::<Brand, HostRuntime>(&rt, rt.alloc(), opened, row)
-}
-
-/// A refused command asks nothing, and is not told of; later ones go on.
-#[test]
-fn refused_commands_ask_nothing(rt: HostRuntime) -> Result<(), Fail> {
-    let row = Row {
-        text: "0 down 3\n0 up 7 10.0.0.1\n0 gateway 10.0.0.9 02:00:00:00:00:0a 02:00:00:00:00:0b\n0 up 0 10.0.0.1\n0 up 0 10.0.0.1\n9 vip 203.0.113.1 80 udp\n",
-        faults: &[91, 91, 0, 0, 92, 0],
-        told: 10,
-        lengths: &[1, 0, 7, 1, 1, 0],
-    };
-    let opened = opened(rt.alloc(), 1, 16)?;
-    applied::<Brand, HostRuntime>(&rt, rt.alloc(), opened, row)
-}
-
-/// The third table meets a full journal at its third slot: the record and two slots stand, and every later command is refused.
-#[test]
-fn a_full_journal_stops_the_controller(rt: HostRuntime) -> Result<(), Fail> {
-    let row = Row {
-        text: "0 up 0 192.0.2.1\n0 down 0\n0 up 0 192.0.2.1\n0 down 0\n0 vip 203.0.113.1 80 udp\n",
-        faults: &[0, 0, 94, 94, 94],
-        told: 19,
-        lengths: &[0, 0, 16, 3, 0, 0],
-    };
-    let opened = opened(rt.alloc(), 1, 16)?;
-    applied::<Brand, HostRuntime>(&rt, rt.alloc(), opened, row)
+/// A service at each of so many ports.
+fn services(alloc: Global, count: u32) -> Result<String, Fail> {
+    let mut text = String::new(alloc);
+    for port in 0..count {
+        text.push_str(&format!(in alloc; "0 vip 203.0.113.1 {port} udp\n")?)?;
+    }
+    Ok(text)
 }
 
 /// The map of services has 64 entries: the 65th service is refused with its answer, which stands in the journal.
 #[test]
 fn the_65th_service(rt: HostRuntime) -> Result<(), Fail> {
-    let mut text = String::new(rt.alloc());
-    for port in 0..65u32 {
-        text.push_str(&format!(in rt.alloc(); "0 vip 203.0.113.1 {port} udp\n")?)?;
-    }
+    let text = services(rt.alloc(), 65)?;
     let mut faults = [0; 65];
     faults[64] = 93;
     let row = Row {
+        name: "the 65th service",
+        journal: 66,
         text: &text,
         faults: &faults,
         told: 65,
         lengths: &[65, 0, 0, 0, 0, 0],
+        ..SMALL
     };
-    let opened = opened(rt.alloc(), 1, 66)?;
-    applied::<Brand, HostRuntime>(&rt, rt.alloc(), opened, row)
+    applied_to_new(&rt, rt.alloc(), &row)
 }
 
-/// Makes so many rounds, and compares how many Reclaims were told, and how many entries each shard's journal has.
+/// Makes the row's rounds, and compares how many Reclaims were told, and how many entries each shard's journal has.
 fn reclaimed<B: Naming, R: Abort + Wait>(
     rt: &R,
     alloc: Global,
     opened: Opened,
-    rounds: u32,
-    row: Row<'_>,
+    row: &Row<'_>,
 ) -> Result<(), Fail>
     requires { IsNamed B.count B.table B.plan opened }
 {
@@ -215,40 +243,33 @@ fn reclaimed<B: Naming, R: Abort + Wait>(
     let (shards, mut dealer) = opened.share::<B>(alloc)?;
     let pass = dealer.pass(alloc, Caller::Reclaimer)?;
     let mut reclaiming = Reclaiming::over(rt, &shards, pass, &gate);
-    for _ in 0..rounds {
+    for _ in 0..row.rounds {
         reclaiming.round();
     }
-    assert_eq!(rt; gate.times.get(), row.told);
-    let mut passes = Vec::with_capacity(alloc, 1)?;
-    passes.push(reclaiming.finish())?;
-    let journals = shards.close(rt, passes);
-    assert!(rt; lengths_are(&journals, row.lengths));
-    Ok(())
+    let pass = reclaiming.finish();
+    same(rt, row.name, "what was told", &gate.times.get(), &row.told);
+    close(rt, alloc, shards, pass, row)
+}
+
+/// The same over new shards.
+fn reclaimed_in_new<R: Abort + Wait>(rt: &R, alloc: Global, row: &Row<'_>) -> Result<(), Fail> {
+    let opened = opened(alloc, row)?;
+    reclaimed::<Brand, R>(rt, alloc, opened, row)
 }
 
 /// A hash and an LRU map are asked, once in each shard; the arrays are not.
-#[test]
-fn three_rounds_over_two_shards(rt: HostRuntime) -> Result<(), Fail> {
-    let row = Row {
-        text: "",
-        faults: &[],
-        told: 12,
-        lengths: &[3, 3, 3, 3, 0, 0, 0, 0, 0, 0, 0, 0],
-    };
-    let opened = opened(rt.alloc(), 2, 16)?;
-    reclaimed::<Brand, HostRuntime>(&rt, rt.alloc(), opened, 3, row)
-}
+#[rattlefmt::skip]
+const ROUNDS: [Row<'static>; 2] = [
+    Row { name: "three rounds over two shards", shards: 2, rounds: 3, told: 12, lengths: &[3, 3, 3, 3, 0, 0, 0, 0, 0, 0, 0, 0], ..SMALL },
+    Row { name: "rounds over full journals", rounds: 20, told: 32, lengths: &[16, 16, 0, 0, 0, 0], ..SMALL },
+];
 
 #[test]
-fn rounds_pass_over_full_journals(rt: HostRuntime) -> Result<(), Fail> {
-    let row = Row {
-        text: "",
-        faults: &[],
-        told: 32,
-        lengths: &[16, 16, 0, 0, 0, 0],
-    };
-    let opened = opened(rt.alloc(), 1, 16)?;
-    reclaimed::<Brand, HostRuntime>(&rt, rt.alloc(), opened, 20, row)
+fn rounds_reclaim(rt: HostRuntime) -> Result<(), Fail> {
+    for row in &ROUNDS {
+        reclaimed_in_new(&rt, rt.alloc(), row)?;
+    }
+    Ok(())
 }
 
 /// Queues of one worker, with so many jobs in one of the others' and then the end; and the right to take from the queue at this place.
@@ -281,7 +302,7 @@ fn commanded<B: Naming, R: Abort + Wait>(
     rt: &R,
     alloc: Global,
     opened: Opened,
-    row: Row<'_>,
+    row: &Row<'_>,
 ) -> Result<(), Fail>
     requires { IsNamed B.count B.table B.plan opened }
 {
@@ -289,7 +310,7 @@ fn commanded<B: Naming, R: Abort + Wait>(
     let (shards, mut dealer) = opened.share::<B>(alloc)?;
     let pass = dealer.pass(alloc, Caller::Controller)?;
     let size = table_size(shards.maps());
-    assert!(rt; size.is_some());
+    holds(rt, row.name, "the size of the table", size.is_some());
     let Some(size) = size else {
         return Ok(());
     };
@@ -297,57 +318,54 @@ fn commanded<B: Naming, R: Abort + Wait>(
     let (queues, take) = filled(rt, alloc, Caller::Controller, 1, count)?;
     let commander = Commander::over(alloc, rt, &shards, pass, &NoGate, script.commands(), size);
     let ended = commands_until_end(rt, alloc, &queues, take, commander);
-    assert!(rt; !ended.is_refused);
-    assert!(rt; faults_are(&ended.noted, row.faults));
-    let mut passes = Vec::with_capacity(alloc, 1)?;
-    passes.push(ended.pass)?;
-    let journals = shards.close(rt, passes);
-    assert!(rt; lengths_are(&journals, row.lengths));
-    Ok(())
+    let are_so = !ended.is_refused && faults_are(&ended.noted, row.faults);
+    holds(
+        rt,
+        row.name,
+        "the faults, with memory for each note",
+        are_so,
+    );
+    close(rt, alloc, shards, ended.pass, row)
 }
 
 #[test]
 fn commands_until_their_end(rt: HostRuntime) -> Result<(), Fail> {
     let row = Row {
+        name: "commands until their end",
         text: "0 vip 203.0.113.1 80 udp\n0 up 0 192.0.2.1\n1 down 9\n1 down 0\n",
         faults: &[0, 0, 91, 0],
-        told: 0,
         lengths: &[1, 0, 14, 2, 0, 0],
+        ..SMALL
     };
-    let opened = opened(rt.alloc(), 1, 16)?;
-    commanded::<Brand, HostRuntime>(&rt, rt.alloc(), opened, row)
+    let opened = opened(rt.alloc(), &row)?;
+    commanded::<Brand, HostRuntime>(&rt, rt.alloc(), opened, &row)
 }
 
-/// Asks the reclaimer for so many rounds, lets it make them to the end, and compares.
+/// Asks the reclaimer for the row's rounds, lets it make them to the end, and compares.
 fn asked<B: Naming, R: Abort + Wait>(
     rt: &R,
     alloc: Global,
     opened: Opened,
-    rounds: usize,
-    row: Row<'_>,
+    row: &Row<'_>,
 ) -> Result<(), Fail>
     requires { IsNamed B.count B.table B.plan opened }
 {
     let (shards, mut dealer) = opened.share::<B>(alloc)?;
     let pass = dealer.pass(alloc, Caller::Reclaimer)?;
-    let (queues, take) = filled(rt, alloc, Caller::Reclaimer, 2, rounds)?;
+    let (queues, take) = filled(rt, alloc, Caller::Reclaimer, 2, row.rounds)?;
     let reclaiming = Reclaiming::over(rt, &shards, pass, &NoGate);
     let ended = rounds_until_end(rt, &queues, take, reclaiming);
-    let mut passes = Vec::with_capacity(alloc, 1)?;
-    passes.push(ended.pass)?;
-    let journals = shards.close(rt, passes);
-    assert!(rt; lengths_are(&journals, row.lengths));
-    Ok(())
+    close(rt, alloc, shards, ended.pass, row)
 }
 
 #[test]
 fn rounds_until_their_end(rt: HostRuntime) -> Result<(), Fail> {
     let row = Row {
-        text: "",
-        faults: &[],
-        told: 0,
+        name: "rounds until their end",
+        rounds: 4,
         lengths: &[4, 4, 0, 0, 0, 0],
+        ..SMALL
     };
-    let opened = opened(rt.alloc(), 1, 16)?;
-    asked::<Brand, HostRuntime>(&rt, rt.alloc(), opened, 4, row)
+    let opened = opened(rt.alloc(), &row)?;
+    asked::<Brand, HostRuntime>(&rt, rt.alloc(), opened, &row)
 }

@@ -1,9 +1,15 @@
-//! Tests of the public calls of `actors`, `single_run` and `replay`.
+//! Tests of the public calls of `actors`, `single_run`, `replay`, `steer` and `guarantees`.
 #![tactic(auto)]
 
 #[cfg(test)]
 mod acting;
 #[cfg(test)]
+mod asserting;
+#[cfg(test)]
+mod guaranteed;
+#[cfg(test)]
 mod replays;
 #[cfg(test)]
 mod single_runs;
+#[cfg(test)]
+mod steering;

@@ -5,6 +5,7 @@ mod shipped_program;
 
 ghost use Rattle.std.specs.Prelude.{◌≡◌, ◌≤◌, ◌<◌, ◌^◌, length};
 
+use crate::asserting::{holds, same, same_bytes};
 use control::parse_script;
 use disasm::assemble;
 use journal_files::write_journals;
@@ -101,19 +102,35 @@ mov r0, 3
 exit
 ";
 
-/// Scripts, how many commands are refused, and the first entry of the list of backends.
-#[rattlefmt::skip]
-const SCRIPTS: [(&str, &str, usize, &str); 4] = [
-    ("a service and its backend",    SERVICE,                                  0, "3 c update 00000000 c000020101000000 0 answer 0\n"),
-    ("no such backend",              "0 down 3\n",                             1, ""),
-    ("the backend is up",            "0 up 0 10.0.0.1\n0 up 0 10.0.0.1\n",     1, "3 c update 00000000 0a00000101000000 0 answer 0\n"),
-    ("after the last frame",         "9 up 0 10.0.0.1\n",                      0, "3 c update 00000000 0a00000101000000 0 answer 0\n"),
-];
+/// What is captured.
+#[derive(Clone, Copy)]
+enum Frames {
+    /// One frame of so many zeros.
+    Zeros(usize),
+    /// So many rounds of a segment of each flow, whose ports begin with this one.
+    Rounds { first: u16, flows: u16, rounds: u32 },
+}
 
-const SERVICE: &str = "0 gateway 10.0.0.9 02:00:00:00:00:0a 02:00:00:00:00:0b
-0 vip 203.0.113.1 80 udp
-0 up 0 192.0.2.1
-";
+/// A replay, and what it counts.
+#[derive(Clone, Copy)]
+struct Row<'a> {
+    name: &'a str,
+    program: &'a str,
+    script: &'a str,
+    frames: Frames,
+    workers: u32,
+    journal: u32,
+    counts: Counts,
+}
+
+const NONE: Counts = Counts {
+    short: 0,
+    stopped: 0,
+    aborted: 0,
+    drop: 0,
+    pass: 0,
+    tx: 0,
+};
 
 /// The accepted image of a text.
 fn program(alloc: Global, text: &str) -> Result<Verified, Fail> {
@@ -121,7 +138,7 @@ fn program(alloc: Global, text: &str) -> Result<Verified, Fail> {
 }
 
 /// A TCP segment without data from this port of 198.51.100.7 to port 80 of 203.0.113.1.
-fn segment(source_port: u16) -> [u8; 54] {
+pub(crate) fn segment(source_port: u16) -> [u8; 54] {
     let [high, low] = source_port.to_be_bytes();
     [
         2, 0, 0, 0, 0, 1, 2, 0, 0, 0, 0, 2, 8, 0, 0x45, 0, 0, 40, 0, 1, 0, 0, 64, 6, 0, 0, 198, 51,
@@ -131,7 +148,7 @@ fn segment(source_port: u16) -> [u8; 54] {
 }
 
 /// A record of these bytes, one microsecond after the one before it.
-fn one_record(alloc: Global, number: u32, bytes: &[u8]) -> Result<Sent, Fail> {
+pub(crate) fn one_record(alloc: Global, number: u32, bytes: &[u8]) -> Result<Sent, Fail> {
     let bytes = if bytes.len() <= 2048 { bytes } else { &[] };
     Ok(Sent {
         seconds: 7,
@@ -140,11 +157,17 @@ fn one_record(alloc: Global, number: u32, bytes: &[u8]) -> Result<Sent, Fail> {
     })
 }
 
+/// These records as a file.
+pub(crate) fn capture_file(alloc: Global, records: &[Sent]) -> Result<MemorySink, Fail> {
+    let mut file = MemorySink::new(alloc);
+    write_capture(&mut file, records)?;
+    Ok(file)
+}
+
 /// The capture of these records.
-fn capture(alloc: Global, records: &[Sent]) -> Result<Capture, Fail> {
-    let mut sink = MemorySink::new(alloc);
-    write_capture(&mut sink, records)?;
-    let bytes = sink.bytes();
+pub(crate) fn capture(alloc: Global, records: &[Sent]) -> Result<Capture, Fail> {
+    let file = capture_file(alloc, records)?;
+    let bytes = file.bytes();
     let bytes = if bytes.len() <= 1_000_000 { bytes } else { &[] };
     Ok(read_capture(alloc, &mut MemorySource::new(bytes))?)
 }
@@ -162,99 +185,103 @@ fn rounds(alloc: Global, first: u16, flows: u16, rounds: u32) -> Result<Capture,
 }
 
 /// The capture of one frame of so many zeros.
-fn zeros(alloc: Global, bytes: &[u8]) -> Result<Capture, Fail> {
+fn zeros(alloc: Global, count: usize) -> Result<Capture, Fail> {
     let mut records = Vec::new(alloc);
-    records.push(one_record(alloc, 1, bytes)?)?;
+    records.push(one_record(alloc, 1, &[0; 14][..count.min(14)])?)?;
     capture(alloc, &records)
 }
 
-/// What is left of a replay that was done: what it counted, SENT as a file, and the journals as a file.
-#[derive(Drop)]
-struct Files {
-    counts: Counts,
-    sent: MemorySink,
-    journals: MemorySink,
+fn captured(alloc: Global, frames: Frames) -> Result<Capture, Fail> {
+    match frames {
+        Frames::Zeros(count) => zeros(alloc, count),
+        Frames::Rounds {
+            first,
+            flows,
+            rounds: count,
+        } => rounds(alloc, first, flows, count),
+    }
 }
 
-fn written(alloc: Global, outcome: &Outcome) -> Result<Files, Fail> {
-    let mut sent = MemorySink::new(alloc);
-    write_capture(&mut sent, &outcome.sent)?;
-    let mut journals = MemorySink::new(alloc);
-    write_journals(alloc, &mut journals, &outcome.journals)?;
-    Ok(Files {
-        counts: outcome.counts,
-        sent,
-        journals,
-    })
-}
-
-/// A program's replay.
-fn replayed<R: Threads + Abort + Wait + Sync>(
-    rt: &R,
-    alloc: Global,
-    text: &str,
-    capture: &Capture,
-    workers: u32,
-    journal: u32,
-) -> Result<Outcome, Fail> {
-    gated(rt, alloc, text, capture, workers, journal, &NoGate)
-}
-
-/// A program's replay whose actors tell this gate.
+/// The replay of an accepted program over one shard for each map, whose actors tell this gate.
 fn gated<R: Threads + Abort + Wait + Sync, G: Gate + Sync>(
     rt: &R,
     alloc: Global,
-    text: &str,
+    verified: &Verified,
     capture: &Capture,
+    script: &str,
     workers: u32,
     journal: u32,
     gate: &G,
 ) -> Result<Outcome, Fail> {
-    let verified = program(alloc, text)?;
-    let script = parse_script(alloc, b"")?;
+    let script = parse_script(alloc, script.as_bytes())?;
     let options = Options {
         workers,
         shards: 1,
         journal,
     };
-    Ok(replay(rt, alloc, &verified, capture, &script, options, gate)?)
+    Ok(replay(rt, alloc, verified, capture, &script, options, gate)?)
 }
 
-/// A replay of one frame with a script: how many commands were refused, and the lines of the backends' journal.
-fn scripted<R: Threads + Abort + Wait + Sync>(
+/// The replay of a row's program on a capture.
+fn replayed_on<R: Threads + Abort + Wait + Sync, G: Gate + Sync>(
     rt: &R,
     alloc: Global,
-    text: &str,
-) -> Result<(usize, MemorySink), Fail> {
-    let verified = program(alloc, SENDS_ALL)?;
-    let capture = zeros(alloc, &[0; 14])?;
-    let script = parse_script(alloc, text.as_bytes())?;
-    let options = Options {
-        workers: 2,
-        shards: 1,
-        journal: 64,
-    };
-    let outcome = replay(rt, alloc, &verified, &capture, &script, options, &NoGate)?;
-    let refused = outcome.refused.len();
-    let files = written(alloc, &outcome)?;
-    Ok((refused, files.journals))
+    row: &Row<'_>,
+    capture: &Capture,
+    gate: &G,
+) -> Result<Outcome, Fail> {
+    let verified = program(alloc, row.program)?;
+    gated(
+        rt,
+        alloc,
+        &verified,
+        capture,
+        row.script,
+        row.workers,
+        row.journal,
+        gate,
+    )
 }
 
-/// Whether the text has this part.
-fn has_line(text: &[u8], part: &[u8]) -> bool {
-    if part.is_empty() {
-        return true;
-    }
-    text.windows(part.len()).any(|window| window == part)
+/// Makes a row's replay, and compares what it counted.
+fn replayed<R: Threads + Abort + Wait + Sync, G: Gate + Sync>(
+    rt: &R,
+    alloc: Global,
+    row: &Row<'_>,
+    gate: &G,
+) -> Result<Outcome, Fail> {
+    let capture = captured(alloc, row.frames)?;
+    let outcome = replayed_on(rt, alloc, row, &capture, gate)?;
+    same(rt, row.name, "the counts", &outcome.counts, &row.counts);
+    Ok(outcome)
 }
 
-const NONE: Counts = Counts {
-    short: 0,
-    stopped: 0,
-    aborted: 0,
-    drop: 0,
-    pass: 0,
-    tx: 0,
+/// SENT as a file.
+fn sent_file(alloc: Global, outcome: &Outcome) -> Result<MemorySink, Fail> {
+    capture_file(alloc, &outcome.sent)
+}
+
+/// The journals as a file.
+fn journals_file(alloc: Global, outcome: &Outcome) -> Result<MemorySink, Fail> {
+    let mut file = MemorySink::new(alloc);
+    write_journals(alloc, &mut file, &outcome.journals)?;
+    Ok(file)
+}
+
+/// Whether the text has this part, which has a letter at least.
+fn has_part(text: &[u8], part: &str) -> bool {
+    let part = part.as_bytes();
+    !part.is_empty() && text.windows(part.len()).any(|window| window == part)
+}
+
+const ONE_FRAME: Row<'static> = Row {
+    name: "one frame",
+    program: COUNTS_TO_THREE,
+    script: "",
+    frames: Frames::Zeros(14),
+    workers: 1,
+    journal: 16,
+    counts: Counts { tx: 1, ..NONE },
 };
 
 const ONE_RUN: &str = "XLBJ 1 1 1 16
@@ -269,55 +296,151 @@ const ONE_RUN: &str = "XLBJ 1 1 1 16
 
 #[test]
 fn one_frame_is_sent(rt: HostRuntime) -> Result<(), Fail> {
-    let alloc = rt.alloc();
-    let capture = zeros(alloc, &[0; 14])?;
-    let outcome = replayed(&rt, alloc, COUNTS_TO_THREE, &capture, 1, 16)?;
-    let files = written(alloc, &outcome)?;
-    assert_eq!(&rt; files.counts, Counts { tx: 1, ..NONE });
-    assert_eq!(&rt; files.sent.bytes().len(), 54);
-    assert_eq!(&rt; files.journals.bytes(), ONE_RUN.as_bytes());
+    let outcome = replayed(&rt, rt.alloc(), &ONE_FRAME, &NoGate)?;
+    let sent = sent_file(rt.alloc(), &outcome)?;
+    same(
+        &rt,
+        "one frame",
+        "the length of what is sent",
+        &sent.bytes().len(),
+        &54,
+    );
+    let journals = journals_file(rt.alloc(), &outcome)?;
+    same_bytes(
+        &rt,
+        "one frame",
+        "the journals",
+        journals.bytes(),
+        ONE_RUN.as_bytes(),
+    );
     Ok(())
 }
 
-#[test]
-fn forty_flows_by_1_2_4_and_8_workers(rt: HostRuntime) -> Result<(), Fail> {
-    let alloc = rt.alloc();
-    let capture = rounds(alloc, 40192, 40, 5)?;
-    let first = replayed(&rt, alloc, ANSWERS_THE_PORT, &capture, 1, 65536)?;
-    let first = written(alloc, &first)?;
-    let want = Counts {
+/// Forty flows of five frames each.
+const FORTY_FLOWS: Row<'static> = Row {
+    name: "forty flows",
+    program: ANSWERS_THE_PORT,
+    script: "",
+    frames: Frames::Rounds {
+        first: 40192,
+        flows: 40,
+        rounds: 5,
+    },
+    workers: 1,
+    journal: 65536,
+    counts: Counts {
         aborted: 185,
         drop: 5,
         pass: 5,
         tx: 5,
         ..NONE
+    },
+};
+
+/// Replays the flows by so many workers, and compares what they send.
+fn forty_flows_send<R: Threads + Abort + Wait + Sync>(
+    rt: &R,
+    alloc: Global,
+    workers: u32,
+    wanted: &[u8],
+) -> Result<(), Fail> {
+    let row = Row {
+        workers,
+        ..FORTY_FLOWS
     };
-    assert_eq!(&rt; first.counts, want);
-    for workers in [2, 4, 8] {
-        let other = replayed(&rt, alloc, ANSWERS_THE_PORT, &capture, workers, 65536)?;
-        let other = written(alloc, &other)?;
-        assert_eq!(&rt; other.counts, want);
-        assert_eq!(&rt; other.sent.bytes(), first.sent.bytes());
-    }
+    let outcome = replayed(rt, alloc, &row, &NoGate)?;
+    let sent = sent_file(alloc, &outcome)?;
+    same_bytes(rt, row.name, "what is sent", sent.bytes(), wanted);
     Ok(())
 }
 
 #[test]
+fn forty_flows_by_1_2_4_and_8_workers(rt: HostRuntime) -> Result<(), Fail> {
+    let outcome = replayed(&rt, rt.alloc(), &FORTY_FLOWS, &NoGate)?;
+    let first = sent_file(rt.alloc(), &outcome)?;
+    for workers in [2, 4, 8] {
+        forty_flows_send(&rt, rt.alloc(), workers, first.bytes())?;
+    }
+    Ok(())
+}
+
+const SHORT: Row<'static> = Row {
+    name: "a record of 13 bytes",
+    program: READS_BYTE_13,
+    script: "",
+    frames: Frames::Zeros(13),
+    workers: 1,
+    journal: 16,
+    counts: Counts { short: 1, ..NONE },
+};
+
+#[test]
 fn a_record_of_13_bytes_is_short(rt: HostRuntime) -> Result<(), Fail> {
-    let alloc = rt.alloc();
-    let capture = zeros(alloc, &[0; 13])?;
-    let outcome = replayed(&rt, alloc, READS_BYTE_13, &capture, 1, 16)?;
-    assert_eq!(&rt; outcome.counts, Counts { short: 1, ..NONE });
+    let _ = replayed(&rt, rt.alloc(), &SHORT, &NoGate)?;
+    Ok(())
+}
+
+const SERVICE: &str = "0 gateway 10.0.0.9 02:00:00:00:00:0a 02:00:00:00:00:0b
+0 vip 203.0.113.1 80 udp
+0 up 0 192.0.2.1
+";
+
+/// Scripts, how many commands are refused, and the first entry of the list of backends, if it has one.
+#[rattlefmt::skip]
+const SCRIPTS: [(&str, &str, usize, Option<&str>); 4] = [
+    ("a service and its backend",    SERVICE,                                  0, Some("3 c update 00000000 c000020101000000 0 answer 0\n")),
+    ("no such backend",              "0 down 3\n",                             1, None),
+    ("the backend is up",            "0 up 0 10.0.0.1\n0 up 0 10.0.0.1\n",     1, Some("3 c update 00000000 0a00000101000000 0 answer 0\n")),
+    ("after the last frame",         "9 up 0 10.0.0.1\n",                      0, Some("3 c update 00000000 0a00000101000000 0 answer 0\n")),
+];
+
+/// Whether the journals have this entry, or, where there is none, none of the controller on the list of backends.
+fn has_entry(journals: &[u8], entry: Option<&str>) -> bool {
+    match entry {
+        Some(entry) => has_part(journals, entry),
+        None => !has_part(journals, "3 c "),
+    }
+}
+
+/// Replays one frame, which is sent, by two workers with a script, and compares.
+fn scripted<R: Threads + Abort + Wait + Sync>(
+    rt: &R,
+    alloc: Global,
+    name: &str,
+    script: &str,
+    refused: usize,
+    entry: Option<&str>,
+) -> Result<(), Fail> {
+    let row = Row {
+        name,
+        program: SENDS_ALL,
+        script,
+        workers: 2,
+        journal: 64,
+        ..ONE_FRAME
+    };
+    let outcome = replayed(rt, alloc, &row, &NoGate)?;
+    same(
+        rt,
+        name,
+        "the number of refused commands",
+        &outcome.refused.len(),
+        &refused,
+    );
+    let journals = journals_file(alloc, &outcome)?;
+    holds(
+        rt,
+        name,
+        "the entry of the backends",
+        has_entry(journals.bytes(), entry),
+    );
     Ok(())
 }
 
 #[test]
 fn scripts_are_applied(rt: HostRuntime) -> Result<(), Fail> {
-    let alloc = rt.alloc();
-    for (name, script, want, line) in SCRIPTS {
-        let (refused, journals) = scripted(&rt, alloc, script)?;
-        assert_eq!(&rt; refused, want, "{name}");
-        assert!(&rt; has_line(journals.bytes(), line.as_bytes()), "{name}");
+    for (name, script, refused, entry) in SCRIPTS {
+        scripted(&rt, rt.alloc(), name, script, refused, entry)?;
     }
     Ok(())
 }

@@ -2,9 +2,11 @@
 
 ghost use Rattle.std.specs.Prelude.{◌≡◌, ◌≤◌, ◌<◌, length};
 
+use crate::asserting::{same, same_bytes};
 use disasm::assemble;
 use journal_files::write_journals;
-use machine::{Moment, Stop};
+use journals::Journals;
+use machine::{Exit, Moment, Stop};
 use map_updates::{MapUpdate, misfit_of};
 use semantics::{Key, Options, Value, Verdict};
 use shards::OpenFault;
@@ -110,7 +112,23 @@ mov r0, 1
 exit
 ";
 
-const THREE: &str = "XLBJ 1 3 1 16
+/// Looks key 7 of a hash map up, and answers its value; 0 where it is absent.
+const ANSWERS_KEY_7: &str = "version 1
+map array 4 8 2
+map hash 4 8 2
+stw [r10-4], 7
+mov r2, r10
+add r2, -4
+ldmap r1, 1
+call 1
+jeq r0, 0, +2
+ldxdw r0, [r0+0]
+exit
+mov r0, 0
+exit
+";
+
+const COUNTED: &str = "XLBJ 1 3 1 16
 0 w2 enter ok
 0 w2 update 07000000 0200000000000000 0 answer 0
 0 w2 lookup 07000000 cell 0
@@ -146,180 +164,6 @@ const FULL: &str = "XLBJ 1 1 1 16
 0 w0 leave ok
 ";
 
-/// An accepted program.
-fn program(alloc: Global, text: &str) -> Result<Verified, Fail> {
-    let image = assemble(alloc, text)?;
-    Ok(verify(alloc, image)?)
-}
-
-/// Options of one shard for each map, with room for 16 entries.
-fn small(workers: u32) -> Options
-    ensures { result.journal ≡ 16 }
-{
-    Options {
-        workers,
-        shards: 1,
-        journal: 16,
-    }
-}
-
-/// What a run on 14 zeros came to, with its journals as a file, and the frame's first byte.
-#[derive(Drop)]
-struct Seen {
-    verdict: Option<Verdict>,
-    steps: u64,
-    stopped_at: Option<u32>,
-    first_byte: u8,
-    journals: MemorySink,
-}
-
-/// What a run came to, as a row compares it.
-fn seen_of(alloc: Global, single: SingleRun, first_byte: u8) -> Result<Seen, Fail> {
-    let mut journals = MemorySink::new(alloc);
-    write_journals(alloc, &mut journals, &single.journals)?;
-    match single.ended {
-        Ok(exit) => Ok(Seen {
-            verdict: Some(exit.verdict),
-            steps: exit.steps,
-            stopped_at: None,
-            first_byte,
-            journals,
-        }),
-        Err(Stop::JournalFull { shard }) => Ok(Seen {
-            verdict: None,
-            steps: 0,
-            stopped_at: Some(shard),
-            first_byte,
-            journals,
-        }),
-    }
-}
-
-/// The run of a program on 14 zeros, as this worker, after updates that its maps take.
-fn run_on_zeros<R: Abort>(
-    rt: &R,
-    alloc: Global,
-    text: &str,
-    worker: u8,
-    options: Options,
-    updates: &[MapUpdate],
-) -> Result<Seen, Fail> {
-    let verified = program(alloc, text)?;
-    let mut frame = Frame::of(alloc, &[0; 14])?;
-    let moment = Moment { now_ns: 7, worker };
-    let single = match after(rt, alloc, &verified, &mut frame, &moment, options, updates) {
-        Ok(single) => single,
-        Err(_) => return Err(Fail::from("no run")),
-    };
-    let first_byte = frame.bytes().first().copied().unwrap_or(0);
-    seen_of(alloc, single, first_byte)
-}
-
-/// The run of a program after updates, which the image's maps have to take.
-fn after<R: Abort>(
-    rt: &R,
-    alloc: Global,
-    verified: &Verified,
-    frame: &mut Frame,
-    moment: &Moment,
-    options: Options,
-    updates: &[MapUpdate],
-) -> Result<SingleRun, RunFault>
-    requires { frame.old.headroom ≡ 256 }
-{
-    let maps = verified.image().maps();
-    assert!(rt;
-        updates
-            .iter()
-            .all(|update| misfit_of(maps, update).is_none())
-    );
-    run_alone(alloc, verified, frame, moment, options, updates)
-}
-
-/// An update.
-fn update(map: u32, key: &[u8], value: &[u8]) -> MapUpdate {
-    MapUpdate {
-        map,
-        key: Key::of(key).unwrap_or(Key::empty()),
-        value: Value::of(value).unwrap_or(Value::empty()),
-    }
-}
-
-#[test]
-fn journals_have_the_run_alone(rt: HostRuntime) -> Result<(), Fail> {
-    let alloc = rt.alloc();
-    let three = run_on_zeros(&rt, alloc, COUNTS_TO_THREE, 2, small(3), &[])?;
-    assert_eq!(&rt; three.verdict, Some(Verdict::Tx));
-    assert_eq!(&rt; three.steps, 18);
-    assert_eq!(&rt; three.journals.bytes(), THREE.as_bytes());
-    let second = run_on_zeros(&rt, alloc, READS_THE_SECOND, 0, small(1), &[])?;
-    assert_eq!(&rt; second.verdict, Some(Verdict::Pass));
-    assert_eq!(&rt; second.journals.bytes(), THE_SECOND.as_bytes());
-    Ok(())
-}
-
-#[test]
-fn a_full_journal_stops_the_run(rt: HostRuntime) -> Result<(), Fail> {
-    let alloc = rt.alloc();
-    let full = run_on_zeros(&rt, alloc, LOADS_OFTEN, 0, small(1), &[])?;
-    assert_eq!(&rt; full.stopped_at, Some(0));
-    assert_eq!(&rt; full.first_byte, 9);
-    assert_eq!(&rt; full.journals.bytes(), FULL.as_bytes());
-    Ok(())
-}
-
-#[test]
-fn a_large_map_is_opened(rt: HostRuntime) -> Result<(), Fail> {
-    let alloc = rt.alloc();
-    let options = Options {
-        workers: 8,
-        shards: 8,
-        journal: 1_048_576,
-    };
-    let large = run_on_zeros(&rt, alloc, A_LARGE_MAP, 7, options, &[])?;
-    assert_eq!(&rt; large.verdict, Some(Verdict::Drop));
-    Ok(())
-}
-
-/// Options that are refused, what is wrong with them, and the worker of the run.
-#[rattlefmt::skip]
-const REFUSED: [(&str, Options, u8); 4] = [
-    ("one element in two parts", Options { workers: 1, shards: 2, journal: 16 }, 0),
-    ("a journal of 15",          Options { workers: 1, shards: 1, journal: 15 }, 0),
-    ("nine workers",             Options { workers: 9, shards: 1, journal: 16 }, 0),
-    ("no worker 2 of two",       Options { workers: 2, shards: 1, journal: 16 }, 2),
-];
-
-#[test]
-fn options_are_refused(rt: HostRuntime) -> Result<(), Fail> {
-    let alloc = rt.alloc();
-    let verified = program(alloc, READS_THE_SECOND)?;
-    for (name, options, worker) in REFUSED {
-        let mut frame = Frame::of(alloc, &[0; 14])?;
-        let moment = Moment { now_ns: 7, worker };
-        let result = after(&rt, alloc, &verified, &mut frame, &moment, options, &[]);
-        let refused = matches!(result, Err(RunFault::Open(OpenFault::BadOptions)));
-        assert!(&rt; refused, "{name}");
-    }
-    Ok(())
-}
-
-/// Looks key 7 of a hash map up, and answers its value; 0 where it is absent.
-const ANSWERS_KEY_7: &str = "version 1
-map array 4 8 2
-map hash 4 8 2
-stw [r10-4], 7
-mov r2, r10
-add r2, -4
-ldmap r1, 1
-call 1
-jeq r0, 0, +2
-ldxdw r0, [r0+0]
-exit
-mov r0, 0
-exit
-";
-
 const SET_BEFORE: &str = "XLBJ 1 2 1 16
 0 c update 01000000 ff00000000000000 0 answer 0
 1 c update 09000000 0100000000000000 0 answer 0
@@ -337,114 +181,281 @@ const NOT_SET: &str = "XLBJ 1 2 1 16
 1 w1 leave ok
 ";
 
-#[test]
-fn updates_come_before_the_run(rt: HostRuntime) -> Result<(), Fail> {
-    let alloc = rt.alloc();
-    let updates = [
-        update(1, &[9, 0, 0, 0], &[1, 0, 0, 0, 0, 0, 0, 0]),
-        update(1, &[7, 0, 0, 0], &[1, 0, 0, 0, 0, 0, 0, 0]),
-        update(0, &[1, 0, 0, 0], &[255, 0, 0, 0, 0, 0, 0, 0]),
-        update(1, &[7, 0, 0, 0], &[3, 0, 0, 0, 0, 0, 0, 0]),
-    ];
-    let set = run_on_zeros(&rt, alloc, ANSWERS_KEY_7, 1, small(2), &updates)?;
-    assert_eq!(&rt; set.verdict, Some(Verdict::Tx));
-    assert!(&rt; set.journals.bytes() == SET_BEFORE.as_bytes());
-    let unset = run_on_zeros(&rt, alloc, ANSWERS_KEY_7, 1, small(2), &[])?;
-    assert_eq!(&rt; unset.verdict, Some(Verdict::Aborted));
-    assert!(&rt; unset.journals.bytes() == NOT_SET.as_bytes());
-    Ok(())
+/// What a map is set to before a run: the map, the first byte of the key and that of the value. All their other bytes are zeros.
+type Update = (u32, u8, u8);
+
+/// What becomes of a run: its end, or why there is none.
+type End = Result<Result<Exit, Stop>, RunFault>;
+
+/// A run on 14 zeros, what becomes of it, and what it leaves.
+#[derive(Clone, Copy)]
+struct Row {
+    name: &'static str,
+    program: &'static str,
+    options: Options,
+    worker: u8,
+    updates: &'static [Update],
+    end: End,
+    /// The frame's first byte.
+    first_byte: u8,
+    /// The journals as a file, where the row says what that is.
+    journals: Option<&'static str>,
 }
 
-/// Updates that are refused, and why.
+/// One shard for each map, with room for 16 entries.
+const SMALL: Options = Options {
+    workers: 1,
+    shards: 1,
+    journal: 16,
+};
+
+const LARGE: Options = Options {
+    workers: 8,
+    shards: 8,
+    journal: 1_048_576,
+};
+
+const PASSES: End = Ok(Ok(Exit {
+    verdict: Verdict::Pass,
+    steps: 8,
+}));
+
+const STOPS: End = Ok(Err(Stop::JournalFull { shard: 1 }));
+
+const BAD_OPTIONS: End = Err(RunFault::Open(OpenFault::BadOptions));
+
+/// A run of one worker that leaves the frame as it was.
+const RUN: Row = Row {
+    name: "",
+    program: ANSWERS_KEY_7,
+    options: SMALL,
+    worker: 0,
+    updates: &[],
+    end: PASSES,
+    first_byte: 0,
+    journals: None,
+};
+
 #[rattlefmt::skip]
-const REFUSED_UPDATES: [(&str, [(u32, u8); 3], RunFault); 3] = [
-    ("no index 2 of an array of two", [(0, 0), (0, 2), (0, 3)], RunFault::Refused { place: 1, answer: -7 }),
-    ("a third key of a map of two",   [(1, 1), (1, 2), (1, 3)], RunFault::Refused { place: 2, answer: -7 }),
-    ("the first one",                 [(0, 9), (1, 2), (1, 2)], RunFault::Refused { place: 0, answer: -7 }),
+const RUNS: [Row; 6] = [
+    Row {
+        name: "a count", program: COUNTS_TO_THREE, options: Options { workers: 3, ..SMALL }, worker: 2,
+        end: Ok(Ok(Exit { verdict: Verdict::Tx, steps: 18 })), journals: Some(COUNTED), ..RUN
+    },
+    Row {
+        name: "the second of two maps", program: READS_THE_SECOND,
+        end: Ok(Ok(Exit { verdict: Verdict::Pass, steps: 9 })), journals: Some(THE_SECOND), ..RUN
+    },
+    Row {
+        name: "a full journal", program: LOADS_OFTEN,
+        end: Ok(Err(Stop::JournalFull { shard: 0 })), first_byte: 9, journals: Some(FULL), ..RUN
+    },
+    Row {
+        name: "a large map", program: A_LARGE_MAP, options: LARGE, worker: 7,
+        end: Ok(Ok(Exit { verdict: Verdict::Drop, steps: 18 })), ..RUN
+    },
+    Row {
+        name: "updates before the run", options: Options { workers: 2, ..SMALL }, worker: 1, updates: &[(1, 9, 1), (1, 7, 1), (0, 1, 255), (1, 7, 3)],
+        end: Ok(Ok(Exit { verdict: Verdict::Tx, steps: 8 })), journals: Some(SET_BEFORE), ..RUN
+    },
+    Row {
+        name: "no update before it", options: Options { workers: 2, ..SMALL }, worker: 1,
+        end: Ok(Ok(Exit { verdict: Verdict::Aborted, steps: 8 })), journals: Some(NOT_SET), ..RUN
+    },
 ];
 
-#[test]
-fn a_refused_update_ends_it(rt: HostRuntime) -> Result<(), Fail> {
-    let alloc = rt.alloc();
-    let verified = program(alloc, ANSWERS_KEY_7)?;
-    let moment = Moment {
-        now_ns: 0,
-        worker: 0,
-    };
-    for (name, keys, want) in REFUSED_UPDATES {
-        let updates = keys.map(|(map, key)| update(map, &[key, 0, 0, 0], &[0; 8]));
-        let mut frame = Frame::of(alloc, &[0; 14])?;
-        let result = after(
-            &rt,
-            alloc,
-            &verified,
-            &mut frame,
-            &moment,
-            small(1),
-            &updates,
-        );
-        assert_eq!(&rt; result.err(), Some(want), "{name}");
-    }
-    Ok(())
-}
+/// Options that are refused, or the first update of which a map has no place.
+#[rattlefmt::skip]
+const REFUSED: [Row; 7] = [
+    Row { name: "one element in two parts", program: READS_THE_SECOND, options: Options { shards: 2, ..SMALL }, end: BAD_OPTIONS, ..RUN },
+    Row { name: "a journal of 15", program: READS_THE_SECOND, options: Options { journal: 15, ..SMALL }, end: BAD_OPTIONS, ..RUN },
+    Row { name: "nine workers", program: READS_THE_SECOND, options: Options { workers: 9, ..SMALL }, end: BAD_OPTIONS, ..RUN },
+    Row { name: "no worker 2 of two", program: READS_THE_SECOND, options: Options { workers: 2, ..SMALL }, worker: 2, end: BAD_OPTIONS, ..RUN },
+    Row {
+        name: "no index 2 of an array of two", updates: &[(0, 0, 0), (0, 2, 0), (0, 3, 0)],
+        end: Err(RunFault::Refused { place: 1, answer: -7 }), ..RUN
+    },
+    Row {
+        name: "a third key of a map of two", updates: &[(1, 1, 0), (1, 2, 0), (1, 3, 0)],
+        end: Err(RunFault::Refused { place: 2, answer: -7 }), ..RUN
+    },
+    Row {
+        name: "the first update", updates: &[(0, 9, 0), (1, 2, 0), (1, 2, 0)],
+        end: Err(RunFault::Refused { place: 0, answer: -7 }), ..RUN
+    },
+];
+
+const TWO: Update = (1, 7, 2);
 
 /// Updates of key 7, and what becomes of a run after them with journals of 16 entries, of which it needs four: after 12 it ends, after 13 its
 /// Load has no room, after 15 its Enter, and the 17th update has none.
 #[rattlefmt::skip]
-const MANY: [(usize, Option<Verdict>, Option<u32>, Option<RunFault>); 5] = [
-    (12, Some(Verdict::Pass), None,    None),
-    (13, None,                Some(1), None),
-    (15, None,                Some(1), None),
-    (16, None,                Some(1), None),
-    (17, None,                None,    Some(RunFault::Full { place: 16 })),
+const MANY: [Row; 5] = [
+    Row { name: "12 updates", updates: &[TWO; 12], end: PASSES, ..RUN },
+    Row { name: "13 updates", updates: &[TWO; 13], end: STOPS, ..RUN },
+    Row { name: "15 updates", updates: &[TWO; 15], end: STOPS, ..RUN },
+    Row { name: "16 updates", updates: &[TWO; 16], end: STOPS, ..RUN },
+    Row { name: "17 updates", updates: &[TWO; 17], end: Err(RunFault::Full { place: 16 }), ..RUN },
 ];
+
+fn update_of(update: Update) -> MapUpdate {
+    let (map, key, value) = update;
+    MapUpdate {
+        map,
+        key: Key::of(&[key, 0, 0, 0]).unwrap_or(Key::empty()),
+        value: Value::of(&[value, 0, 0, 0, 0, 0, 0, 0]).unwrap_or(Value::empty()),
+    }
+}
+
+fn updates_of(alloc: Global, updates: &[Update]) -> Result<Vec<MapUpdate>, Fail> {
+    let mut all = Vec::new(alloc);
+    for update in updates {
+        all.push(update_of(*update))?;
+    }
+    Ok(all)
+}
+
+/// An accepted program.
+fn program(alloc: Global, text: &str) -> Result<Verified, Fail> {
+    let image = assemble(alloc, text)?;
+    Ok(verify(alloc, image)?)
+}
+
+/// The run of a row after updates, which the image's maps have to take.
+fn run_after<R: Abort>(
+    rt: &R,
+    alloc: Global,
+    verified: &Verified,
+    frame: &mut Frame,
+    row: &Row,
+    updates: &[MapUpdate],
+) -> Result<SingleRun, RunFault>
+    requires { frame.old.headroom ≡ 256 }
+{
+    let maps = verified.image().maps();
+    assert!(rt;
+        updates
+            .iter()
+            .all(|update| misfit_of(maps, update).is_none())
+    );
+    let moment = Moment {
+        now_ns: 7,
+        worker: row.worker,
+    };
+    run_alone(alloc, verified, frame, &moment, row.options, updates)
+}
+
+/// Compares the file of a run's journals.
+fn leaves<R: Abort>(rt: &R, alloc: Global, row: &Row, journals: &Journals) -> Result<(), Fail> {
+    let Some(wanted) = row.journals else {
+        return Ok(());
+    };
+    let mut file = MemorySink::new(alloc);
+    write_journals(alloc, &mut file, journals)?;
+    same_bytes(
+        rt,
+        row.name,
+        "the journals",
+        file.bytes(),
+        wanted.as_bytes(),
+    );
+    Ok(())
+}
+
+/// Compares what became of a run.
+fn ends_so<R: Abort>(
+    rt: &R,
+    alloc: Global,
+    row: &Row,
+    run: Result<SingleRun, RunFault>,
+) -> Result<(), Fail> {
+    match run {
+        Ok(single) => {
+            same(rt, row.name, "the end", &Ok(single.ended), &row.end);
+            leaves(rt, alloc, row, &single.journals)
+        }
+        Err(fault) => {
+            same(rt, row.name, "the end", &Err(fault), &row.end);
+            Ok(())
+        }
+    }
+}
+
+/// Runs an accepted program after its updates, and compares.
+fn runs_so<R: Abort>(
+    rt: &R,
+    alloc: Global,
+    row: &Row,
+    verified: &Verified,
+    updates: &[MapUpdate],
+) -> Result<(), Fail> {
+    let mut frame = Frame::of(alloc, &[0; 14])?;
+    let run = run_after(rt, alloc, verified, &mut frame, row, updates);
+    let first_byte = frame.bytes().first().copied();
+    same(
+        rt,
+        row.name,
+        "the first byte",
+        &first_byte,
+        &Some(row.first_byte),
+    );
+    ends_so(rt, alloc, row, run)
+}
+
+/// The same of a program's text.
+fn comes_to<R: Abort>(rt: &R, alloc: Global, row: &Row) -> Result<(), Fail> {
+    let verified = program(alloc, row.program)?;
+    let updates = updates_of(alloc, row.updates)?;
+    runs_so(rt, alloc, row, &verified, &updates)
+}
+
+fn all_come_to<R: Abort>(rt: &R, alloc: Global, rows: &[Row]) -> Result<(), Fail> {
+    for row in rows {
+        comes_to(rt, alloc, row)?;
+    }
+    Ok(())
+}
+
+#[test]
+fn journals_have_the_run_alone(rt: HostRuntime) -> Result<(), Fail> {
+    all_come_to(&rt, rt.alloc(), &RUNS)
+}
+
+#[test]
+fn options_and_updates_are_refused(rt: HostRuntime) -> Result<(), Fail> {
+    all_come_to(&rt, rt.alloc(), &REFUSED)
+}
 
 #[test]
 fn many_updates_fill_a_journal(rt: HostRuntime) -> Result<(), Fail> {
-    let alloc = rt.alloc();
-    let verified = program(alloc, ANSWERS_KEY_7)?;
-    let moment = Moment {
-        now_ns: 0,
-        worker: 0,
-    };
-    for (count, verdict, stopped_at, fault) in MANY {
-        let one = update(1, &[7, 0, 0, 0], &[2, 0, 0, 0, 0, 0, 0, 0]);
-        let updates = vec![in alloc; one; count]?;
-        let mut frame = Frame::of(alloc, &[0; 14])?;
-        match after(
-            &rt,
-            alloc,
-            &verified,
-            &mut frame,
-            &moment,
-            small(1),
-            &updates,
-        ) {
-            Ok(single) => {
-                let seen = seen_of(alloc, single, 0)?;
-                assert_eq!(&rt; seen.verdict, verdict, "{count}");
-                assert_eq!(&rt; seen.stopped_at, stopped_at, "{count}");
-                assert!(&rt; fault.is_none());
-            }
-            Err(found) => assert_eq!(&rt; Some(found), fault, "{count}"),
-        }
-    }
+    all_come_to(&rt, rt.alloc(), &MANY)
+}
+
+#[rattlefmt::skip]
+const FAULTS: [(RunFault, u8, &str); 3] = [
+    (RunFault::Open(OpenFault::Memory),              52, "fault 52 Memory"),
+    (RunFault::Refused { place: 3, answer: -12 },    93, "fault 93 Refused answer -12"),
+    (RunFault::Full { place: 3 },                    94, "fault 94 JournalFull"),
+];
+
+/// Compares a fault's number and its text.
+fn tells<R: Abort>(
+    rt: &R,
+    alloc: Global,
+    fault: RunFault,
+    number: u8,
+    text: &str,
+) -> Result<(), Fail> {
+    same(rt, text, "the number", &fault.number(), &number);
+    let printed = format!(in alloc; "{fault}")?;
+    same(rt, text, "the text", &printed.as_str(), &text);
     Ok(())
 }
 
 #[test]
 fn fault_texts(rt: HostRuntime) -> Result<(), Fail> {
-    let alloc = rt.alloc();
-    #[rattlefmt::skip]
-    let rows = [
-        (RunFault::Open(OpenFault::Memory),              52, "fault 52 Memory"),
-        (RunFault::Refused { place: 3, answer: -12 },    93, "fault 93 Refused answer -12"),
-        (RunFault::Full { place: 3 },                    94, "fault 94 JournalFull"),
-    ];
-    for (fault, number, text) in rows {
-        assert_eq!(&rt; fault.number(), number);
-        let printed = format!(in alloc; "{fault}")?;
-        assert_eq!(&rt; printed.as_str(), text);
+    for (fault, number, text) in FAULTS {
+        tells(&rt, rt.alloc(), fault, number, text)?;
     }
     Ok(())
 }

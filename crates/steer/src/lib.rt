@@ -4,7 +4,5 @@
 mod blocks;
 mod image;
 pub mod laws;
-#[cfg(test)]
-mod tests;
 
 pub use image::shipped;

@@ -1,12 +1,12 @@
 //! Rows of which a gate fixes the schedule, or counts the replies.
 
 use super::{
-    ANSWERS_THE_PORT, COUNTS_TO_THREE, NONE, READS_ONE, SENDS_ALL, gated, has_line, program,
-    replayed, rounds, segment, written, zeros,
+    COUNTS_TO_THREE, Frames, NONE, READS_ONE, Row, SENDS_ALL, has_part, journals_file, replayed,
 };
-use control::parse_script;
-use replay::{Counts, Gate, replay};
-use semantics::{Caller, Options};
+use crate::asserting::{holds, same};
+use actors::Applied;
+use replay::{Counts, Gate, NoGate, Outcome};
+use semantics::Caller;
 use std::alloc::Global;
 use std::hint::spin_loop;
 use std::process::Abort;
@@ -36,6 +36,14 @@ impl Meeting {
             met: AtomicU64::new(0),
             late: AtomicU64::new(0),
         }
+    }
+
+    /// How many workers have had a reply, and how many were held up to the limit.
+    fn counts(&self) -> [u64; 2] {
+        [
+            self.met.load(Ordering::SeqCst),
+            self.late.load(Ordering::SeqCst),
+        ]
     }
 
     fn meet(&self, worker: u8) {
@@ -113,23 +121,57 @@ impl Gate for Told {
     }
 }
 
-/// A replay of READS_ONE by one worker, what it counts, what the gate is told, and the last lines of the one journal.
-#[derive(Clone, Copy)]
-struct Full<'a> {
-    name: &'a str,
-    frames: u32,
-    journal: u32,
-    want: Counts,
-    told: u64,
-    entries: usize,
-    last: &'a str,
+/// A replay of READS_ONE by one worker.
+const READS: Row<'static> = Row {
+    name: "",
+    program: READS_ONE,
+    script: "",
+    frames: Frames::Rounds {
+        first: 40000,
+        flows: 1,
+        rounds: 1,
+    },
+    workers: 1,
+    journal: 65536,
+    counts: NONE,
+};
+
+/// What the gate is told of worker 0, the controller and the reclaimer, and how many replies come out of order.
+fn told_so<R: Threads + Abort + Wait + Sync>(
+    rt: &R,
+    alloc: Global,
+    row: &Row<'_>,
+    told: [u64; 4],
+) -> Result<Outcome, Fail> {
+    let gate = Told::new();
+    let outcome = replayed(rt, alloc, row, &gate)?;
+    same(rt, row.name, "what was told", &gate.counts(), &told);
+    Ok(outcome)
 }
 
+/// A replay, what the gate is told of worker 0, how many entries the one journal has, and its last lines.
+type Full = (Row<'static>, u64, usize, &'static str);
+
 #[rattlefmt::skip]
-const FULL: [Full<'static>; 3] = [
-    Full { name: "room for all",        frames: 3, journal: 16, want: Counts { pass: 3, ..NONE },             told: 6, entries: 12, last: "0 w0 load 0 0 8 word 0\n0 w0 leave ok\n" },
-    Full { name: "full for an Enter",   frames: 5, journal: 16, want: Counts { pass: 4, stopped: 1, ..NONE }, told: 8, entries: 16, last: "0 w0 load 0 0 8 word 0\n0 w0 leave ok\n" },
-    Full { name: "full for the Lookup", frames: 6, journal: 18, want: Counts { pass: 4, stopped: 2, ..NONE }, told: 8, entries: 18, last: "0 w0 leave ok\n0 w0 enter ok\n0 w0 leave ok\n" },
+const FULL: [Full; 3] = [
+    (
+        Row { name: "room for all", frames: Frames::Rounds { first: 40000, flows: 1, rounds: 3 }, journal: 16, counts: Counts { pass: 3, ..NONE }, ..READS },
+        6, 12, "0 w0 load 0 0 8 word 0\n0 w0 leave ok\n",
+    ),
+    (
+        Row {
+            name: "full for an Enter", frames: Frames::Rounds { first: 40000, flows: 1, rounds: 5 }, journal: 16,
+            counts: Counts { pass: 4, stopped: 1, ..NONE }, ..READS
+        },
+        8, 16, "0 w0 load 0 0 8 word 0\n0 w0 leave ok\n",
+    ),
+    (
+        Row {
+            name: "full for the Lookup", frames: Frames::Rounds { first: 40000, flows: 1, rounds: 6 }, journal: 18,
+            counts: Counts { pass: 4, stopped: 2, ..NONE }, ..READS
+        },
+        8, 18, "0 w0 leave ok\n0 w0 enter ok\n0 w0 leave ok\n",
+    ),
 ];
 
 /// How many lines of the text are entries, and whether it ends so.
@@ -138,144 +180,202 @@ fn ends_so(text: &[u8], last: &str) -> (usize, bool) {
     (lines.saturating_sub(1), text.ends_with(last.as_bytes()))
 }
 
+/// Makes the replay, and compares what the gate was told and the journal.
+fn fills<R: Threads + Abort + Wait + Sync>(rt: &R, alloc: Global, full: &Full) -> Result<(), Fail> {
+    let (row, told, entries, last) = full;
+    let outcome = told_so(rt, alloc, row, [*told, 0, 0, 0])?;
+    let journals = journals_file(alloc, &outcome)?;
+    let end = ends_so(journals.bytes(), last);
+    same(
+        rt,
+        row.name,
+        "the number of entries, and the end",
+        &end,
+        &(*entries, true),
+    );
+    Ok(())
+}
+
 #[test]
 fn journals_that_are_full(rt: HostRuntime) -> Result<(), Fail> {
-    let alloc = rt.alloc();
-    for row in FULL {
-        let gate = Told::new();
-        let capture = rounds(alloc, 40000, 1, row.frames)?;
-        let outcome = gated(&rt, alloc, READS_ONE, &capture, 1, row.journal, &gate)?;
-        let files = written(alloc, &outcome)?;
-        assert_eq!(&rt; files.counts, row.want, "{}", row.name);
-        assert_eq!(&rt; gate.counts(), [row.told, 0, 0, 0], "{}", row.name);
-        assert_eq!(&rt;
-            ends_so(files.journals.bytes(), row.last),
-            (row.entries, true),
-            "{}",
-            row.name
-        );
+    for full in &FULL {
+        fills(&rt, rt.alloc(), full)?;
     }
     Ok(())
 }
 
-/// So many workers run a frame of each of as many flows, whose ports begin with this one; the gate is not to hold one up to its limit.
-fn they_meet<R: Threads + Abort + Wait + Sync>(
-    rt: &R,
-    alloc: Global,
-    workers: u16,
-    first: u16,
-    gate: &Meeting,
-) -> Result<(), Fail> {
-    let capture = rounds(alloc, first, workers, 1)?;
-    let outcome = gated(
+/// A replay with a gate that holds the workers below a number until so many have had a reply, or up to its limit: how many have had one at the end, and
+/// how many were held up to the limit.
+#[derive(Clone, Copy)]
+struct Held {
+    row: Row<'static>,
+    held: u8,
+    wanted: u64,
+    limit: u32,
+    counts: [u64; 2],
+}
+
+/// Of two workers, worker 0's first reply is held until worker 1 has one; of eight, each worker's first reply until all eight have one. In the last row the
+/// worker's first reply is held up to the limit, while the dispatcher finds its queue of 64 jobs full.
+#[rattlefmt::skip]
+const HELD: [Held; 3] = [
+    Held {
+        row: Row {
+            name: "two workers", frames: Frames::Rounds { first: 40000, flows: 2, rounds: 1 }, workers: 2, counts: Counts { pass: 2, ..NONE }, ..READS
+        },
+        held: 1, wanted: 2, limit: 400_000_000, counts: [2, 0],
+    },
+    Held {
+        row: Row {
+            name: "eight workers", frames: Frames::Rounds { first: 40192, flows: 8, rounds: 1 }, workers: 8, counts: Counts { pass: 8, ..NONE }, ..READS
+        },
+        held: 8, wanted: 8, limit: 400_000_000, counts: [8, 0],
+    },
+    Held {
+        row: Row { name: "a held worker", frames: Frames::Rounds { first: 40000, flows: 1, rounds: 100 }, counts: Counts { pass: 100, ..NONE }, ..READS },
+        held: 1, wanted: 2, limit: 1_000_000, counts: [1, 1],
+    },
+];
+
+/// Makes the replay, and compares how many workers met, and how many were late.
+fn meet<R: Threads + Abort + Wait + Sync>(rt: &R, alloc: Global, held: &Held) -> Result<(), Fail> {
+    let gate = Meeting::new(held.held, held.wanted, held.limit);
+    let _ = replayed(rt, alloc, &held.row, &gate)?;
+    same(
         rt,
-        alloc,
-        READS_ONE,
-        &capture,
-        u32::from(workers),
-        65536,
-        gate,
-    )?;
-    let want = Counts {
-        pass: u64::from(workers),
-        ..NONE
-    };
-    assert_eq!(rt; outcome.counts, want);
-    assert_eq!(rt; gate.met.load(Ordering::SeqCst), u64::from(workers));
-    assert_eq!(rt; gate.late.load(Ordering::SeqCst), 0);
+        held.row.name,
+        "who met and who was late",
+        &gate.counts(),
+        &held.counts,
+    );
     Ok(())
 }
 
-/// Worker 0's first reply is held until worker 1 has one.
 #[test]
-fn two_workers_meet(rt: HostRuntime) -> Result<(), Fail> {
-    they_meet(&rt, rt.alloc(), 2, 40000, &Meeting::new(1, 2, 400_000_000))
-}
-
-/// Each worker's first reply is held until all eight have one.
-#[test]
-fn eight_workers_meet(rt: HostRuntime) -> Result<(), Fail> {
-    they_meet(&rt, rt.alloc(), 8, 40192, &Meeting::new(8, 8, 400_000_000))
-}
-
-/// The worker's first reply is held up to the limit, while the dispatcher finds its queue of 64 jobs full.
-#[test]
-fn a_held_worker_runs_all_frames(rt: HostRuntime) -> Result<(), Fail> {
-    let alloc = rt.alloc();
-    let gate = Meeting::new(1, 2, 1_000_000);
-    let capture = rounds(alloc, 40000, 1, 100)?;
-    let outcome = gated(&rt, alloc, READS_ONE, &capture, 1, 65536, &gate)?;
-    assert_eq!(&rt; outcome.counts, Counts { pass: 100, ..NONE });
-    assert_eq!(&rt; gate.late.load(Ordering::SeqCst), 1);
+fn workers_meet_or_are_held(rt: HostRuntime) -> Result<(), Fail> {
+    for held in &HELD {
+        meet(&rt, rt.alloc(), held)?;
+    }
     Ok(())
 }
+
+const ONE_PASSES: Row<'static> = Row {
+    workers: 2,
+    journal: 16,
+    counts: Counts { pass: 1, ..NONE },
+    ..READS
+};
 
 /// Of two workers, which one runs a flow by its port.
-const SPREAD: [(u16, &str, &str); 2] = [
-    (40000, "0 w0 enter ok\n", "0 w1 enter ok\n"),
-    (40001, "0 w1 enter ok\n", "0 w0 enter ok\n"),
+#[rattlefmt::skip]
+const SPREAD: [(Row<'static>, &str, &str); 2] = [
+    (Row { name: "port 40000", ..ONE_PASSES }, "0 w0 enter ok\n", "0 w1 enter ok\n"),
+    (
+        Row { name: "port 40001", frames: Frames::Rounds { first: 40001, flows: 1, rounds: 1 }, ..ONE_PASSES },
+        "0 w1 enter ok\n", "0 w0 enter ok\n",
+    ),
 ];
+
+/// Makes the replay, and compares which worker entered.
+fn enters<R: Threads + Abort + Wait + Sync>(
+    rt: &R,
+    alloc: Global,
+    row: &Row<'_>,
+    runs: &str,
+    rests: &str,
+) -> Result<(), Fail> {
+    let outcome = replayed(rt, alloc, row, &NoGate)?;
+    let journals = journals_file(alloc, &outcome)?;
+    holds(
+        rt,
+        row.name,
+        "the worker that runs",
+        has_part(journals.bytes(), runs),
+    );
+    holds(
+        rt,
+        row.name,
+        "the worker that rests",
+        !has_part(journals.bytes(), rests),
+    );
+    Ok(())
+}
 
 #[test]
 fn flows_have_their_worker(rt: HostRuntime) -> Result<(), Fail> {
-    let alloc = rt.alloc();
-    for (port, runs, rests) in SPREAD {
-        let capture = zeros(alloc, &segment(port))?;
-        let outcome = replayed(&rt, alloc, READS_ONE, &capture, 2, 16)?;
-        let files = written(alloc, &outcome)?;
-        assert_eq!(&rt; files.counts, Counts { pass: 1, ..NONE }, "{port}");
-        assert!(&rt; has_line(files.journals.bytes(), runs.as_bytes()), "{port}");
-        assert!(&rt;
-            !has_line(files.journals.bytes(), rests.as_bytes()),
-            "{port}"
-        );
+    for (row, runs, rests) in &SPREAD {
+        enters(&rt, rt.alloc(), row, runs, rests)?;
     }
     Ok(())
 }
 
 /// A worker's replies are counted on from run to run, each of an update, a lookup, an atomic operation and a load; and the reclaimer's.
+const COUNTED: Row<'static> = Row {
+    name: "a hundred counts",
+    program: COUNTS_TO_THREE,
+    frames: Frames::Rounds {
+        first: 40000,
+        flows: 1,
+        rounds: 100,
+    },
+    counts: Counts { tx: 100, ..NONE },
+    ..READS
+};
+
 #[test]
 fn replies_are_counted_over_all_runs(rt: HostRuntime) -> Result<(), Fail> {
-    let alloc = rt.alloc();
-    let gate = Told::new();
-    let capture = rounds(alloc, 40000, 1, 100)?;
-    let outcome = gated(&rt, alloc, COUNTS_TO_THREE, &capture, 1, 65536, &gate)?;
-    assert_eq!(&rt; outcome.counts, Counts { tx: 100, ..NONE });
-    assert_eq!(&rt; gate.counts(), [400, 0, 2, 0]);
+    let _ = told_so(&rt, rt.alloc(), &COUNTED, [400, 0, 2, 0])?;
     Ok(())
 }
 
 /// The fourth table meets a full journal after three of its slots. The updates made stand, and each later command is refused.
-const DOWN_MEETS_A_FULL_JOURNAL: &str = "0 up 0 192.0.2.1
+const A_FULL_JOURNAL: Row<'static> = Row {
+    name: "a down that meets a full journal",
+    program: SENDS_ALL,
+    script: "0 up 0 192.0.2.1
 1 down 0
 1 up 0 192.0.2.1
 2 down 0
 3 vip 203.0.113.1 80 udp
-";
+",
+    frames: Frames::Rounds {
+        first: 40000,
+        flows: 1,
+        rounds: 3,
+    },
+    journal: 24,
+    counts: Counts { tx: 3, ..NONE },
+    ..READS
+};
+
+/// The last entry of the table, and the first of the backends.
+const FOURTH: &str =
+    "2 c update 02000000 0000000000000000 0 answer 0\n3 c update 00000000 c000020101000000 0 answer 0\n";
+
+/// Whether these are commands 3 and 4, each for a full journal.
+fn are_the_last_two(refused: &[Applied]) -> bool {
+    refused
+        .iter()
+        .map(|one| (one.command, one.fault.map(|fault| fault.number())))
+        .eq([(3, Some(94)), (4, Some(94))])
+}
 
 #[test]
 fn a_down_meets_a_full_journal(rt: HostRuntime) -> Result<(), Fail> {
-    let alloc = rt.alloc();
-    let gate = Told::new();
-    let verified = program(alloc, SENDS_ALL)?;
-    let capture = rounds(alloc, 40000, 1, 3)?;
-    let script = parse_script(alloc, DOWN_MEETS_A_FULL_JOURNAL.as_bytes())?;
-    let options = Options {
-        workers: 1,
-        shards: 1,
-        journal: 24,
-    };
-    let outcome = replay(&rt, alloc, &verified, &capture, &script, options, &gate)?;
-    let refused = outcome
-        .refused
-        .iter()
-        .map(|one| (one.command, one.fault.map(|fault| fault.number())));
-    assert!(&rt; refused.eq([(3, Some(94)), (4, Some(94))]));
-    let files = written(alloc, &outcome)?;
-    assert_eq!(&rt; files.counts, Counts { tx: 3, ..NONE });
-    assert_eq!(&rt; gate.counts(), [0, 28, 2, 0]);
-    let fourth =
-        "2 c update 02000000 0000000000000000 0 answer 0\n3 c update 00000000 c000020101000000 0 answer 0\n";
-    assert!(&rt; has_line(files.journals.bytes(), fourth.as_bytes()));
+    let name = A_FULL_JOURNAL.name;
+    let outcome = told_so(&rt, rt.alloc(), &A_FULL_JOURNAL, [0, 28, 2, 0])?;
+    holds(
+        &rt,
+        name,
+        "the refused commands",
+        are_the_last_two(&outcome.refused),
+    );
+    let journals = journals_file(rt.alloc(), &outcome)?;
+    holds(
+        &rt,
+        name,
+        "the fourth table",
+        has_part(journals.bytes(), FOURTH),
+    );
     Ok(())
 }

@@ -1,9 +1,9 @@
 //! The shipped program, replayed while a gate fixes between which frames the controller changes the backends.
 
-use super::{Files, NONE, capture, one_record, segment, written};
-use control::parse_script;
-use replay::{Counts, Gate, Outcome, replay};
-use semantics::{Caller, Options};
+use super::{NONE, capture, gated, journals_file, one_record, segment};
+use crate::asserting::same;
+use replay::{Counts, Gate, Outcome};
+use semantics::Caller;
 use std::alloc::Global;
 use std::hint::spin_loop;
 use std::process::Abort;
@@ -12,7 +12,7 @@ use std::sync::atomic::{AtomicU64, Ordering};
 use std::test::Fail;
 use std::thread::Threads;
 use steer::shipped;
-use verifier::verify;
+use verifier::{Verified, verify};
 use wire::{Capture, Sent};
 
 /// The actor whose reply of this number is held until worker 0, worker 1 and the controller have had so many.
@@ -197,68 +197,93 @@ fn segments(alloc: Global, ports: &[u16]) -> Result<Capture, Fail> {
 }
 
 /// How often the journals have an update of a flow: the key of one begins with both addresses.
-fn notes_of(files: &Files) -> usize {
+fn notes_of(journals: &[u8]) -> usize {
     let part = b" update c6336407cb007101".as_slice();
-    files
-        .journals
-        .bytes()
+    journals
         .windows(24)
         .filter(|window| *window == part)
         .count()
 }
 
-/// The replay of a row under a gate. No command is refused.
+/// The replay of a row under a gate.
 fn steered<R: Threads + Abort + Wait + Sync>(
     rt: &R,
     alloc: Global,
-    row: Row,
+    row: &Row,
+    verified: &Verified,
     gate: &Order,
 ) -> Result<Outcome, Fail> {
-    let verified = verify(alloc, shipped(alloc, 7)?)?;
-    let text = format!(in alloc; "{}{AT_FIRST}{LATER}", row.service)?;
-    let script = parse_script(alloc, text.as_str().as_bytes())?;
+    let script = format!(in alloc; "{}{AT_FIRST}{LATER}", row.service)?;
     let capture = segments(alloc, row.frames)?;
-    let options = Options {
-        workers: row.workers,
-        shards: 1,
-        journal: 1024,
-    };
-    Ok(replay(rt, alloc, &verified, &capture, &script, options, gate)?)
+    gated(
+        rt,
+        alloc,
+        verified,
+        &capture,
+        &script,
+        row.workers,
+        1024,
+        gate,
+    )
 }
 
-/// Compares what was sent, and what the files of the replay have.
-fn compare<R: Abort>(rt: &R, alloc: Global, row: Row, outcome: &Outcome) -> Result<(), Fail> {
-    let name = row.name;
-    assert_eq!(rt; first_wrong(&outcome.sent, row.sent), None, "{name}");
-    let want = Counts {
+/// Compares what was sent, what was counted, and what the journals have. No command is refused.
+fn compare<R: Abort>(rt: &R, alloc: Global, row: &Row, outcome: &Outcome) -> Result<(), Fail> {
+    same(
+        rt,
+        row.name,
+        "the refused commands",
+        &outcome.refused.len(),
+        &0,
+    );
+    same(
+        rt,
+        row.name,
+        "the first wrong frame",
+        &first_wrong(&outcome.sent, row.sent),
+        &None,
+    );
+    let counts = Counts {
         tx: row.sent.len() as u64,
         drop: row.frames.len().saturating_sub(row.sent.len()) as u64,
         ..NONE
     };
-    let files = written(alloc, outcome)?;
-    assert_eq!(rt; files.counts, want, "{name}");
-    assert_eq!(rt; notes_of(&files), row.notes, "{name}");
+    same(rt, row.name, "the counts", &outcome.counts, &counts);
+    let journals = journals_file(alloc, outcome)?;
+    same(
+        rt,
+        row.name,
+        "the notes",
+        &notes_of(journals.bytes()),
+        &row.notes,
+    );
     Ok(())
 }
 
-/// Replays a row. No command is refused, and nobody is held up to the limit.
-fn replayed<R: Threads + Abort + Wait + Sync>(
+/// Replays a row, and compares. Nobody is held up to the limit.
+fn is_steered<R: Threads + Abort + Wait + Sync>(
     rt: &R,
     alloc: Global,
-    row: Row,
-) -> Result<Outcome, Fail> {
+    row: &Row,
+    verified: &Verified,
+) -> Result<(), Fail> {
     let gate = Order::new(row.holds);
-    let outcome = steered(rt, alloc, row, &gate)?;
-    assert_eq!(rt; outcome.refused.len(), 0);
-    assert_eq!(rt; gate.late.load(Ordering::SeqCst), 0);
-    Ok(outcome)
+    let outcome = steered(rt, alloc, row, verified, &gate)?;
+    same(
+        rt,
+        row.name,
+        "who was late",
+        &gate.late.load(Ordering::SeqCst),
+        &0,
+    );
+    compare(rt, alloc, row, &outcome)
 }
 
 #[test]
 fn backends_change_between_frames(rt: HostRuntime) -> Result<(), Fail> {
-    for row in ROWS {
-        let outcome = replayed(&rt, rt.alloc(), row)?;
-        compare(&rt, rt.alloc(), row, &outcome)?;
+    let verified = verify(rt.alloc(), shipped(rt.alloc(), 7)?)?;
+    for row in &ROWS {
+        is_steered(&rt, rt.alloc(), row, &verified)?;
     }
     Ok(())
 }

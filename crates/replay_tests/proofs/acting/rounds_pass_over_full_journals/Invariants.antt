@@ -1,6 +1,0 @@
-use Rattle.std.proofs.Common.{length}
-use Rattle.shared_shards.proofs.shared.Names.{table_names, plan_names}
-use Rattle.replay_tests.proofs.acting.rounds_pass_over_full_journals.Given as goal
-
-abbrev pub ghosts-reclaimed : goal.ghosts-reclaimed
-ghosts-reclaimed g a = record { count = length a.opened.shards; table = table_names a.opened; plan = plan_names a.opened }

@@ -1,6 +1,0 @@
-use Rattle.std.proofs.Common.{length}
-use Rattle.shared_shards.proofs.shared.Names.{table_names, plan_names}
-use Rattle.replay_tests.proofs.acting.the_65th_service.Given as goal
-
-abbrev pub ghosts-applied : goal.ghosts-applied
-ghosts-applied g a = record { count = length a.opened.shards; table = table_names a.opened; plan = plan_names a.opened }

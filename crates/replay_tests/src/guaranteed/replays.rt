@@ -1,0 +1,110 @@
+//! Replays of a program that only reads.
+
+ghost use Rattle.std.specs.Prelude.{◌≡◌, []};
+
+use super::programs::{ARRAY, EXIT, Program, accepted, look_up, mov};
+use crate::asserting::{same, same_bytes};
+use crate::replays::{capture, capture_file, one_record, segment};
+use control::parse_script;
+use ebpf_decode::Version;
+use gates::NoGate;
+use guarantees::replays::reader_replay;
+use isa::Register::R0;
+use replay::Outcome;
+use semantics::Options;
+use std::alloc::Global;
+use std::process::Abort;
+use std::sync::Wait;
+use std::test::Fail;
+use std::thread::Threads;
+use verifier::Verified;
+use wire::{Capture, Sent};
+
+/// So many records of 40 flows in turn.
+fn records(alloc: Global, count: u32) -> Result<Vec<Sent>, Fail> {
+    let mut records = Vec::new(alloc);
+    for number in 0..count {
+        let bytes = segment(40000 + (number % 40) as u16);
+        records.push(one_record(alloc, number, &bytes)?)?;
+    }
+    Ok(records)
+}
+
+/// A program that looks a key up, and sends each frame as it is.
+fn sending(alloc: Global) -> Result<Verified, Fail> {
+    accepted(
+        alloc,
+        &Program {
+            version: Version::V1,
+            maps: &ARRAY,
+            head: &look_up(0),
+            tail: &[mov(R0, 3), EXIT],
+        },
+    )
+}
+
+/// The program's replay by so many workers.
+fn replayed<R: Threads + Abort + Wait + Sync>(
+    rt: &R,
+    alloc: Global,
+    verified: &Verified,
+    capture: &Capture,
+    workers: u32,
+) -> Result<Outcome, Fail> {
+    let script = parse_script(alloc, b"")?;
+    assert!(rt; verified.is_reader() && script.commands().is_empty());
+    let options = Options {
+        workers,
+        shards: 1,
+        journal: 4096,
+    };
+    Ok(reader_replay(rt, alloc, verified, capture, &script, options, &NoGate)?)
+}
+
+/// The program sends all of a capture of these records.
+fn sends<R: Threads + Abort + Wait + Sync>(
+    rt: &R,
+    alloc: Global,
+    name: &str,
+    verified: &Verified,
+    records: &[Sent],
+    workers: u32,
+) -> Result<(), Fail> {
+    let capture = capture(alloc, records)?;
+    let outcome = replayed(rt, alloc, verified, &capture, workers)?;
+    same(rt, name, "the stopped runs", &outcome.counts.stopped, &0);
+    let sent = capture_file(alloc, &outcome.sent)?;
+    let file = capture_file(alloc, records)?;
+    same_bytes(rt, name, "what is sent", sent.bytes(), file.bytes());
+    Ok(())
+}
+
+/// The same of so many records.
+fn sends_all<R: Threads + Abort + Wait + Sync>(
+    rt: &R,
+    alloc: Global,
+    name: &str,
+    count: u32,
+    workers: u32,
+) -> Result<(), Fail> {
+    let verified = sending(alloc)?;
+    let records = records(alloc, count)?;
+    sends(rt, alloc, name, &verified, &records, workers)
+}
+
+/// How many frames are replayed, and by how many workers.
+const REPLAYS: [(&str, u32, u32); 5] = [
+    ("no frame", 0, 1),
+    ("one frame", 1, 1),
+    ("1000 frames by one worker", 1000, 1),
+    ("1000 frames by three workers", 1000, 3),
+    ("1000 frames by eight workers", 1000, 8),
+];
+
+#[test]
+fn what_is_sent_is_the_same_by_any_number_of_workers(rt: HostRuntime) -> Result<(), Fail> {
+    for (name, count, workers) in REPLAYS {
+        sends_all(&rt, rt.alloc(), name, count, workers)?;
+    }
+    Ok(())
+}

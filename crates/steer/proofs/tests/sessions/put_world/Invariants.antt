@@ -1,6 +1,0 @@
-use Rattle.shard_port.specs.PlainPorts.{IsSamePort}
-use Rattle.steer.proofs.tests.sessions.put_world.Given as goal
-
--- the port is the one that it was
-abbrev pub invariant-places : goal.invariant-places
-invariant-places l = IsSamePort l.fn.port l.port
