@@ -1,9 +1,6 @@
 //! Runs of the shipped program on one frame, over maps that hold what the rows say.
 
 ghost use Rattle.std.specs.Prelude.{◌≡◌};
-ghost use Rattle.semantics.specs.ShardPlan.{AreOptions};
-ghost use Rattle.shard_port.specs.PortView.{ServesMaps};
-ghost use Rattle.steer.specs.SessionOptions.{session_options};
 
 use super::sessions::{Record, options, records_session, run_session};
 use crate::asserting::{holds, same, same_bytes};
@@ -134,12 +131,11 @@ fn steers(rt: &impl Abort, alloc: Global, verified: &Verified, row: &Row) -> Res
     let mut frame = Frame::of(alloc, &bytes)?;
     let found = steered(rt, alloc, verified, row, &mut frame)?;
     same(rt, name, "the verdict", &found, verdict);
-    let left: &[u8] = if *verdict == Verdict::Tx {
-        &SENT
+    if *verdict == Verdict::Tx {
+        same_bytes(rt, name, "the sent frame", frame.bytes(), &SENT);
     } else {
-        &bytes
-    };
-    same_bytes(rt, name, "the frame", frame.bytes(), left);
+        same_bytes(rt, name, "the frame", frame.bytes(), &bytes);
+    }
     Ok(())
 }
 
