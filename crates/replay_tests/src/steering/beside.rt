@@ -4,7 +4,7 @@
 ghost use Rattle.std.specs.Prelude.{◌≡◌, ◌<◌, length};
 ghost use Rattle.semantics.specs.ShardPlan.{AreOptions};
 ghost use Rattle.shard_port.specs.PortView.{ServesMaps};
-ghost use Rattle.steer.specs.SessionOptions.{session_options};
+ghost use Rattle.replay_tests.specs.SessionOptions.{session_options};
 
 use super::asked::AllAsked;
 use super::cases::{Case, Difference};

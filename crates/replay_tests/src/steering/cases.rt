@@ -3,7 +3,7 @@
 ghost use Rattle.std.specs.Prelude.{◌≡◌};
 ghost use Rattle.semantics.specs.ShardPlan.{AreOptions};
 ghost use Rattle.shard_port.specs.PortView.{ServesMaps};
-ghost use Rattle.steer.specs.SessionOptions.{session_options};
+ghost use Rattle.replay_tests.specs.SessionOptions.{session_options};
 
 use super::asked::AllAsked;
 use super::endings::Ending;
