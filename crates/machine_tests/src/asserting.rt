@@ -23,8 +23,3 @@ pub(crate) fn same_fact<T: PartialEq + Debug>(
 pub(crate) fn same_byte(rt: &impl Abort, name: &str, place: usize, found: u8, wanted: u8) {
     assert_eq!(rt; found, wanted, "{name}, byte {place}");
 }
-
-/// Ends the test where a fact does not hold; the message names it.
-pub(crate) fn holds(rt: &impl Abort, name: &str, is_so: bool) {
-    assert!(rt; is_so, "{name}");
-}

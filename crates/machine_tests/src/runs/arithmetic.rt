@@ -1,7 +1,7 @@
 //! Each row of the arithmetic, as an instruction of a program that stores what it gives on the packet.
 
 use super::listing::{EXIT, checked, lddw, mov, store};
-use super::programs::{MOMENT, accepted, begins_with, ran};
+use super::programs::{MOMENT, accepted, has_number, ran};
 use crate::asserting::same;
 use ebpf_decode::Insn;
 use isa::Register::{R0, R2, R5, R6};
@@ -44,7 +44,7 @@ fn gives(
         steps: 11,
     };
     same(rt, name, &ran.exit, &exit);
-    begins_with(rt, &ran.frame, want, name);
+    has_number(rt, &ran.frame, want, name);
     Ok(())
 }
 

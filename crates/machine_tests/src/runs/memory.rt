@@ -1,7 +1,5 @@
 //! Loads and stores of each size, on the packet and on the stack.
 
-ghost use Rattle.std.specs.Prelude.{◌≤◌, length};
-
 use super::listing::{EXIT, checked, lddw, load, mov, put, store};
 use super::programs::{MOMENT, accepted, ran};
 use crate::asserting::{same, same_fact};
@@ -16,6 +14,13 @@ use std::test::Fail;
 
 const NUMBER: u64 = 0x1122334455667788;
 
+/// There are so many bytes, of which the first are these.
+fn begins_with(rt: &impl Abort, name: &str, bytes: &[u8], length: usize, want: &[u8]) {
+    same_fact(rt, name, "the length", &bytes.len(), &length);
+    let begins = bytes.get(..want.len());
+    same_fact(rt, name, "the first bytes", &begins, &Some(want));
+}
+
 /// A run passes after so many instructions, and the frame, as long as before, begins with these bytes.
 fn passes(
     rt: &impl Abort,
@@ -26,9 +31,7 @@ fn passes(
     steps: u64,
     want: &[u8],
     name: &str,
-) -> Result<(), Fail>
-    requires { length want.now ≤ length bytes.now }
-{
+) -> Result<(), Fail> {
     let verified = accepted(alloc, &[], head, tail)?;
     let ran = ran(alloc, &verified, &MOMENT, bytes)?;
     let exit = Exit {
@@ -36,9 +39,7 @@ fn passes(
         steps,
     };
     same(rt, name, &ran.exit, &exit);
-    same_fact(rt, name, "the length", &ran.frame.len(), &bytes.len());
-    let begins = &ran.frame.bytes()[..want.len()];
-    same_fact(rt, name, "the frame", &begins, &want);
+    begins_with(rt, name, ran.frame.bytes(), bytes.len(), want);
     Ok(())
 }
 

@@ -3,7 +3,7 @@
 ghost use Rattle.std.specs.Prelude.{◌<◌, IfOk};
 
 use super::nothing::NothingPort;
-use crate::asserting::{holds, same_fact};
+use crate::asserting::same_fact;
 use ebpf_decode::{Image, Insn, MapDef, MapKind, Version};
 use machine::{Exit, Moment, run};
 use std::alloc::Global;
@@ -44,12 +44,29 @@ pub(super) fn accepted_in(
     head: &[Insn],
     tail: &[Insn],
 ) -> Result<Verified, Fail> {
-    let mut all_maps = Vec::new(alloc);
-    all_maps.extend_from_slice(maps)?;
+    let code = code_of(alloc, head, tail)?;
+    let image = image_of(alloc, version, maps, code)?;
+    Ok(verify(alloc, image)?)
+}
+
+/// A program in two parts.
+fn code_of(alloc: Global, head: &[Insn], tail: &[Insn]) -> Result<Vec<Insn>, Fail> {
     let mut code = Vec::new(alloc);
     code.extend_from_slice(head)?;
     code.extend_from_slice(tail)?;
-    Ok(verify(alloc, Image::of(version, all_maps, code)?)?)
+    Ok(code)
+}
+
+/// An image of these maps and this program.
+fn image_of(
+    alloc: Global,
+    version: Version,
+    maps: &[MapDef],
+    code: Vec<Insn>,
+) -> Result<Image, Fail> {
+    let mut all_maps = Vec::new(alloc);
+    all_maps.extend_from_slice(maps)?;
+    Ok(Image::of(version, all_maps, code)?)
 }
 
 /// How a run ended, and the frame that it left.
@@ -74,11 +91,9 @@ pub(super) fn ran(
     Ok(Outcome { exit, frame })
 }
 
-/// The number is in the frame's first eight bytes, the lowest first.
-pub(super) fn begins_with(rt: &impl Abort, frame: &Frame, number: u64, name: &str) {
-    let bytes = number.to_le_bytes();
-    match frame.bytes().get(..8) {
-        Some(begins) => same_fact(rt, name, "the number", &begins, &bytes.as_slice()),
-        None => holds(rt, name, false),
-    }
+/// The frame has 14 bytes: the number, the lowest byte first, and zeros.
+pub(super) fn has_number(rt: &impl Abort, frame: &Frame, number: u64, name: &str) {
+    let [a, b, c, d, e, f, g, h] = number.to_le_bytes();
+    let bytes = [a, b, c, d, e, f, g, h, 0, 0, 0, 0, 0, 0];
+    same_fact(rt, name, "the frame", &frame.bytes(), &bytes.as_slice());
 }
