@@ -1,12 +1,15 @@
 //! Rows of capture files: whole, cut at each byte, and over devices that fail.
 
-ghost use Rattle.std.specs.Prelude.{◌≤◌, ◌^◌, length, None};
+ghost use Rattle.std.specs.Prelude.{◌≤◌, ◌^◌, length};
 
+use crate::asserting::{holds, prints, same, same_at, same_bytes};
+use crate::slow_devices::{SlowSink, SlowSource};
 use std::alloc::Global;
+use std::process::Abort;
 use std::test::Fail;
 use wire::{
-    Capture, CaptureFault, Failed, MemorySink, MemorySource, Sent, Sink, Source, StreamSink,
-    StreamSource, read_capture, write_capture,
+    Capture, CaptureFault, MemorySink, MemorySource, Sent, Sink, Source, StreamSink, StreamSource,
+    read_capture, write_capture,
 };
 
 /// A capture of one frame of 42 bytes, at second 1 and microsecond 2.
@@ -25,6 +28,20 @@ fn read(alloc: Global, bytes: &[u8]) -> Result<Capture, CaptureFault>
     read_capture(alloc, &mut MemorySource::new(bytes))
 }
 
+/// What is wrong with a file, if anything is.
+fn fault_of(alloc: Global, bytes: &[u8]) -> Option<CaptureFault>
+    requires { length bytes.now ≤ 2 ^ 40 }
+{
+    read(alloc, bytes).err()
+}
+
+/// How many records a file has.
+fn count_of(alloc: Global, bytes: &[u8]) -> Result<usize, CaptureFault>
+    requires { length bytes.now ≤ 2 ^ 40 }
+{
+    Ok(read(alloc, bytes)?.records.len())
+}
+
 #[test]
 fn beginnings(rt: HostRuntime) {
     for size in 0..=CAPTURE.len() {
@@ -34,24 +51,40 @@ fn beginnings(rt: HostRuntime) {
             25..=39 => Some(CaptureFault::CutHead { record: 1 }),
             _ => Some(CaptureFault::CutFrame { record: 1 }),
         };
-        let got = read(rt.alloc(), &CAPTURE[..size]).err();
-        assert_eq!(rt; got, want, "{size} bytes");
+        let got = fault_of(rt.alloc(), &CAPTURE[..size]);
+        same_at(&rt, "a file of so many bytes:", size as u64, &got, &want);
     }
+}
+
+/// Compares a record with the one of the capture.
+fn is_the_record(rt: &impl Abort, sent: &Sent) {
+    same(rt, "seconds", &sent.seconds, &1);
+    same(rt, "microseconds", &sent.micros, &2);
+    same_bytes(rt, "the frame", &sent.bytes, &CAPTURE[40..]);
+}
+
+/// Compares the file of these records with the capture.
+fn makes_the_capture(rt: &impl Abort, alloc: Global, records: &[Sent]) -> Result<(), Fail> {
+    let mut sink = MemorySink::new(alloc);
+    write_capture(&mut sink, records)?;
+    same_bytes(rt, "what is written", sink.bytes(), &CAPTURE);
+    Ok(())
 }
 
 #[test]
 fn one_frame(rt: HostRuntime) -> Result<(), Fail> {
     let capture = read(rt.alloc(), &CAPTURE)?;
-    assert_eq!(rt; capture.records.len(), 1);
-    let sent = &capture.records[0];
-    assert_eq!(rt; sent.seconds, 1);
-    assert_eq!(rt; sent.micros, 2);
-    assert_eq!(rt; sent.bytes.as_slice(), &CAPTURE[40..]);
-    let mut sink = MemorySink::new(rt.alloc());
-    write_capture(&mut sink, &capture.records)?;
-    assert_eq!(rt; sink.bytes(), CAPTURE.as_slice());
-    let empty = read(rt.alloc(), &CAPTURE[..24])?;
-    assert_eq!(rt; empty.records.len(), 0, "a header alone");
+    same(&rt, "one record", &capture.records.len(), &1);
+    for sent in &capture.records {
+        is_the_record(&rt, sent);
+    }
+    makes_the_capture(&rt, rt.alloc(), &capture.records)?;
+    same(
+        &rt,
+        "a header alone",
+        &count_of(rt.alloc(), &CAPTURE[..24])?,
+        &0,
+    );
     Ok(())
 }
 
@@ -73,197 +106,120 @@ const CHANGES: [(&str, usize, u8, Option<CaptureFault>); 13] = [
     ("2090 bytes are kept",      33, 0x08, Some(CaptureFault::FrameTooLong { record: 1 })),
 ];
 
+/// The capture with one byte changed. Ends the test where it has no such byte.
+fn with_byte(rt: &impl Abort, at: usize, byte: u8) -> [u8; 82] {
+    let mut bytes = CAPTURE;
+    holds(rt, "the capture has this byte", at < bytes.len());
+    bytes[at] = byte;
+    bytes
+}
+
 #[test]
 fn changed_bytes(rt: HostRuntime) {
     for (name, at, byte, want) in CHANGES {
-        let mut bytes = CAPTURE;
-        if at < bytes.len() {
-            bytes[at] = byte;
-        }
-        let got = read(rt.alloc(), &bytes).err();
-        assert_eq!(rt; got, want, "{name}");
+        let got = fault_of(rt.alloc(), &with_byte(&rt, at, byte));
+        same(&rt, name, &got, &want);
     }
 }
 
 #[test]
-fn third_record_cut(rt: HostRuntime) -> Result<(), Fail> {
-    let mut bytes = Vec::from_slice(rt.alloc(), &CAPTURE)?;
-    bytes.extend_from_slice(&CAPTURE[24..])?;
-    bytes.extend_from_slice(&CAPTURE[24..81])?;
-    assert!(rt; bytes.len() == 197);
-    let got = read(rt.alloc(), &bytes).err();
-    assert_eq!(rt; got, Some(CaptureFault::CutFrame { record: 3 }));
-    Ok(())
+fn third_record_cut(rt: HostRuntime) {
+    let mut bytes = [0; 197];
+    bytes[..82].copy_from_slice(&CAPTURE);
+    bytes[82..140].copy_from_slice(&CAPTURE[24..]);
+    bytes[140..].copy_from_slice(&CAPTURE[24..81]);
+    let got = fault_of(rt.alloc(), &bytes);
+    let want = Some(CaptureFault::CutFrame { record: 3 });
+    same(&rt, "the third record is cut", &got, &want);
 }
 
-/// A source that gives one byte at a time, and fails at one of its calls.
-#[derive(Drop)]
-struct SlowSource<'a> {
-    rest: &'a [u8],
-    calls: u64,
-    fails_at: u64,
-    failures: u64,
-    ghost bounded: { length rest.now ≤ 2 ^ 40 },
-}
-
-impl Source for SlowSource<'_> {
-    ghost left = { λ _. None };
-
-    ghost most_left = { λ source. length source.rest.now };
-
-    ghost failure_count = { λ source. source.failures };
-
-    fn read(&mut self, buffer: &mut [u8]) -> Result<usize, Failed> {
-        self.calls = self.calls.wrapping_add(1);
-        if self.calls == self.fails_at {
-            self.failures += 1;
-            return Err(Failed);
-        }
-        match self.rest {
-            [first, rest @ ..] => {
-                if buffer.is_empty() {
-                    return Ok(0);
-                }
-                buffer[0] = *first;
-                self.rest = rest;
-                Ok(1)
-            }
-            [] => Ok(0),
-        }
-    }
-
-    fn failures(&self) -> u64 {
-        self.failures
-    }
+/// How many records come from a source that fails at one of its calls, and how many calls have failed.
+fn read_slowly(alloc: Global, fails_at: u64) -> (Result<usize, CaptureFault>, u64) {
+    let mut source = SlowSource::new(&CAPTURE, fails_at);
+    let count = match read_capture(alloc, &mut source) {
+        Ok(capture) => Ok(capture.records.len()),
+        Err(fault) => Err(fault),
+    };
+    (count, source.failures())
 }
 
 #[test]
-fn failing_source(rt: HostRuntime) -> Result<(), Fail> {
+fn failing_source(rt: HostRuntime) {
     for fails_at in 1..90 {
-        let mut source = SlowSource {
-            rest: &CAPTURE,
-            calls: 0,
-            fails_at,
-            failures: 0,
-        };
-        let got = read_capture(rt.alloc(), &mut source);
-        if fails_at <= 83 {
-            assert_eq!(rt; got.err(), Some(CaptureFault::Device), "call {fails_at}");
-            assert_eq!(rt; source.failures(), 1);
+        let want = if fails_at <= 83 {
+            (Err(CaptureFault::Device), 1)
         } else {
-            assert_eq!(rt; got?.records.len(), 1, "byte by byte");
-            assert_eq!(rt; source.failures(), 0);
-        }
+            (Ok(1), 0)
+        };
+        let got = read_slowly(rt.alloc(), fails_at);
+        same_at(&rt, "byte by byte, failing at call", fails_at, &got, &want);
     }
-    Ok(())
 }
 
-/// A sink that takes one byte at a time, and fails at one of its calls.
-#[derive(Drop)]
-struct SlowSink {
-    bytes: Vec<u8>,
-    calls: u64,
-    fails_at: u64,
-    failures: u64,
-}
-
-impl Sink for SlowSink {
-    ghost held = { λ _. None };
-
-    ghost failure_count = { λ sink. sink.failures };
-
-    fn write(&mut self, bytes: &[u8]) -> Result<usize, Failed> {
-        self.calls = self.calls.wrapping_add(1);
-        match bytes {
-            [first, ..] => {
-                if self.calls == self.fails_at || self.bytes.push(*first).is_err() {
-                    self.failures += 1;
-                    return Err(Failed);
-                }
-                Ok(1)
-            }
-            [] => Ok(0),
-        }
-    }
-
-    fn failures(&self) -> u64 {
-        self.failures
-    }
+/// Writes records to a sink that takes so many bytes one by one and then fails, and compares what it has then.
+fn write_slowly(rt: &impl Abort, alloc: Global, records: &[Sent], taken: u8) {
+    let mut sink = SlowSink::new(alloc, u64::from(taken) + 1);
+    let got = write_capture(&mut sink, records);
+    let (want, front, failures) = if taken < 82 {
+        (Err(CaptureFault::Device), &CAPTURE[..taken as usize], 1)
+    } else {
+        (Ok(()), CAPTURE.as_slice(), 0)
+    };
+    same_at(rt, "failing after byte", u64::from(taken), &got, &want);
+    same_bytes(rt, "a front of the file", sink.bytes(), front);
+    same_at(
+        rt,
+        "failures after byte",
+        u64::from(taken),
+        &sink.failures(),
+        &failures,
+    );
 }
 
 #[test]
 fn failing_sink(rt: HostRuntime) -> Result<(), Fail> {
     let capture = read(rt.alloc(), &CAPTURE)?;
-    for fails_at in 1..85 {
-        let mut sink = SlowSink {
-            bytes: Vec::new(rt.alloc()),
-            calls: 0,
-            fails_at,
-            failures: 0,
-        };
-        let got = write_capture(&mut sink, &capture.records);
-        let taken = if fails_at <= 82 {
-            fails_at as usize - 1
-        } else {
-            82
-        };
-        let want = if fails_at <= 82 {
-            Err(CaptureFault::Device)
-        } else {
-            Ok(())
-        };
-        assert_eq!(rt; got, want, "call {fails_at}");
-        assert!(rt; taken <= 82);
-        assert_eq!(rt;
-            sink.bytes.as_slice(),
-            &CAPTURE[..taken],
-            "a front of the file"
-        );
-        assert_eq!(rt; sink.failures() == 1, fails_at <= 82);
+    for taken in 0..84 {
+        write_slowly(&rt, rt.alloc(), &capture.records, taken);
     }
     Ok(())
+}
+
+/// Writes records to a stream, and answers how many calls have failed.
+fn write_stream(alloc: Global, records: &[Sent]) -> Result<u64, CaptureFault> {
+    let mut sink = StreamSink::new(Vec::new(alloc));
+    write_capture(&mut sink, records)?;
+    Ok(sink.failures())
 }
 
 #[test]
 fn streams(rt: HostRuntime) -> Result<(), Fail> {
     let mut source = StreamSource::new(CAPTURE.as_slice());
     let capture = read_capture(rt.alloc(), &mut source)?;
-    assert_eq!(rt; capture.records.len(), 1);
-    assert_eq!(rt; source.failures(), 0);
-    let mut sink = StreamSink::new(Vec::new(rt.alloc()));
-    write_capture(&mut sink, &capture.records)?;
-    assert_eq!(rt; sink.failures(), 0);
+    same(&rt, "one record", &capture.records.len(), &1);
+    same(&rt, "failures of the source", &source.failures(), &0);
+    let failures = write_stream(rt.alloc(), &capture.records)?;
+    same(&rt, "failures of the sink", &failures, &0);
     Ok(())
 }
 
+#[rattlefmt::skip]
+const FAULTS: [(CaptureFault, u8, &str); 8] = [
+    (CaptureFault::BadMagic,                  1, "fault 1 BadMagic"),
+    (CaptureFault::BadVersion,                2, "fault 2 BadVersion"),
+    (CaptureFault::BadLink,                   3, "fault 3 BadLink"),
+    (CaptureFault::CutHead { record: 0 },     4, "fault 4 CutHead record 0"),
+    (CaptureFault::CutFrame { record: 3 },    5, "fault 5 CutFrame record 3"),
+    (CaptureFault::FrameTooLong { record: 1 }, 6, "fault 6 FrameTooLong record 1"),
+    (CaptureFault::Device,                    7, "fault 7 Device"),
+    (CaptureFault::Memory,                    8, "fault 8 Memory"),
+];
+
 #[test]
 fn capture_fault_texts(rt: HostRuntime) -> Result<(), Fail> {
-    let rows = [
-        (CaptureFault::BadMagic, 1, "fault 1 BadMagic"),
-        (CaptureFault::BadVersion, 2, "fault 2 BadVersion"),
-        (CaptureFault::BadLink, 3, "fault 3 BadLink"),
-        (
-            CaptureFault::CutHead { record: 0 },
-            4,
-            "fault 4 CutHead record 0",
-        ),
-        (
-            CaptureFault::CutFrame { record: 3 },
-            5,
-            "fault 5 CutFrame record 3",
-        ),
-        (
-            CaptureFault::FrameTooLong { record: 1 },
-            6,
-            "fault 6 FrameTooLong record 1",
-        ),
-        (CaptureFault::Device, 7, "fault 7 Device"),
-        (CaptureFault::Memory, 8, "fault 8 Memory"),
-    ];
-    for (fault, number, text) in rows {
-        assert_eq!(rt; fault.number(), number);
-        let printed = format!(in rt.alloc(); "{fault}")?;
-        assert_eq!(rt; printed.as_str(), text);
+    for (fault, number, text) in FAULTS {
+        same(&rt, text, &fault.number(), &number);
+        prints(&rt, rt.alloc(), &fault, text)?;
     }
     Ok(())
 }

@@ -2,6 +2,7 @@
 
 ghost use Rattle.std.specs.Prelude.{◌≡◌, ◌<◌, ◌≤◌};
 
+use crate::asserting::{holds_at, same};
 use rx_queues::{Job, Queues, TakePass};
 use std::alloc::Global;
 use std::process::Abort;
@@ -104,16 +105,23 @@ fn one_record(alloc: Global, number: u32, bytes: &[u8]) -> Result<Sent, Fail> {
 }
 
 /// So many records of 40 flows in turn, each hundredth one of 13 bytes only.
-fn capture(alloc: Global, count: u32) -> Result<Capture, Fail> {
+fn records(alloc: Global, count: u32) -> Result<Vec<Sent>, Fail> {
     let mut records = Vec::new(alloc);
     for number in 0..count {
-        if number % 100 == 99 {
-            records.push(one_record(alloc, number, &[0; 13])?)?;
+        let bytes = segment(40000 + (number % 40) as u16);
+        let bytes = if number % 100 == 99 {
+            &[0; 13]
         } else {
-            let bytes = segment(40000 + (number % 40) as u16);
-            records.push(one_record(alloc, number, &bytes)?)?;
-        }
+            bytes.as_slice()
+        };
+        records.push(one_record(alloc, number, bytes)?)?;
     }
+    Ok(records)
+}
+
+/// A capture of these records.
+fn capture(alloc: Global, count: u32) -> Result<Capture, Fail> {
+    let records = records(alloc, count)?;
     let mut sink = MemorySink::new(alloc);
     write_capture(&mut sink, &records)?;
     let bytes = sink.bytes();
@@ -173,16 +181,19 @@ fn run_beside<R: Abort + Threads + Wait + Sync>(
         takes,
         states,
     )?;
-    let workers = row.workers;
-    assert!(rt; runs_are(&ended.workers, row.runs), "{workers} workers");
-    assert_eq!(rt; ended.controller, Heard { next: 5, rounds: 0 });
-    assert_eq!(rt;
-        ended.reclaimer,
-        Heard {
-            next: 0,
-            rounds: row.rounds
-        }
+    let runs = runs_are(&ended.workers, row.runs);
+    holds_at(rt, "runs, by number of workers:", row.workers as u64, runs);
+    same(
+        rt,
+        "controller",
+        &ended.controller,
+        &Heard { next: 5, rounds: 0 },
     );
+    let rounds = Heard {
+        next: 0,
+        rounds: row.rounds,
+    };
+    same(rt, "reclaimer", &ended.reclaimer, &rounds);
     Ok(())
 }
 

@@ -1,63 +1,63 @@
 //! Rows from the standards and from frames worked out by hand.
 
+use crate::asserting::{holds, prints, same, same_at, same_bytes};
+use crate::datagrams::{UDP_FRAME, part, with_byte};
+use std::alloc::Global;
+use std::process::Abort;
 use std::test::Fail;
 use wire::{Frame, FrameFault, MemorySink, Sink, Transport, flow_of, fnv1a64, ones_sum};
-
-/// A UDP datagram of no payload from 198.51.100.7:40000 to 203.0.113.1:80.
-const UDP_FRAME: [u8; 42] = [
-    0x02, 0x00, 0x00, 0x00, 0x00, 0x01, 0x02, 0x00, 0x00, 0x00, 0x00, 0x02, 0x08, 0x00, 0x45, 0x00,
-    0x00, 0x1c, 0x00, 0x01, 0x00, 0x00, 0x40, 0x11, 0x14, 0x94, 0xc6, 0x33, 0x64, 0x07, 0xcb, 0x00,
-    0x71, 0x01, 0x9c, 0x40, 0x00, 0x50, 0x00, 0x08, 0x00, 0x00,
-];
 
 const UDP_KEY: [u8; 16] = [
     0xc6, 0x33, 0x64, 0x07, 0xcb, 0x00, 0x71, 0x01, 0x9c, 0x40, 0x00, 0x50, 0x11, 0x00, 0x00, 0x00,
 ];
 
+#[rattlefmt::skip]
+const HASHES: [(&str, &[u8], u64); 3] = [
+    ("no bytes",  b"",       0xcbf29ce484222325),
+    ("one byte",  b"a",      0xaf63dc4c8601ec8c),
+    ("six bytes", b"foobar", 0x85944171f73967e8),
+];
+
 #[test]
 fn fnv_vectors(rt: HostRuntime) {
-    assert_eq!(rt; fnv1a64(b""), 0xcbf29ce484222325, "no bytes");
-    assert_eq!(rt; fnv1a64(b"a"), 0xaf63dc4c8601ec8c, "one byte");
-    assert_eq!(rt; fnv1a64(b"foobar"), 0x85944171f73967e8, "six bytes");
+    for (name, bytes, want) in HASHES {
+        same(&rt, name, &fnv1a64(bytes), &want);
+    }
 }
+
+#[rattlefmt::skip]
+const SUMS: [(&str, &[u8], u16); 5] = [
+    ("no bytes",                    b"",                                               0),
+    ("RFC 1071, section 3",         &[0x00, 0x01, 0xf2, 0x03, 0xf4, 0xf5, 0xf6, 0xf7], 0xddf2),
+    ("an odd byte is a high byte",  &[0x12],                                           0x1200),
+    ("the carry comes back in",     &[0xff, 0xff, 0x00, 0x01],                         1),
+    ("an outer header", &[0x45, 0x00, 0x00, 0x30, 0x00, 0x00, 0x40, 0x00, 0x40, 0x04, 0x6e, 0xc0, 0x0a, 0x00, 0x00, 0x09, 0xc0, 0x00, 0x02, 0x01], 0xffff),
+];
 
 #[test]
 fn ones_sums(rt: HostRuntime) {
-    assert_eq!(rt; ones_sum(b""), 0, "no bytes");
-    let worked = [0x00, 0x01, 0xf2, 0x03, 0xf4, 0xf5, 0xf6, 0xf7];
-    assert_eq!(rt; ones_sum(&worked), 0xddf2, "RFC 1071, section 3");
-    assert_eq!(rt; ones_sum(&[0x12]), 0x1200, "an odd byte is a high byte");
-    assert_eq!(rt;
-        ones_sum(&[0xff, 0xff, 0x00, 0x01]),
-        1,
-        "the carry comes back in"
-    );
-    assert_eq!(rt;
-        ones_sum(&UDP_FRAME[14..34]),
-        0xffff,
-        "a header with its checksum"
-    );
+    for (name, bytes, want) in SUMS {
+        same(&rt, name, &ones_sum(bytes), &want);
+    }
+    let sum = ones_sum(&UDP_FRAME[14..34]);
+    same(&rt, "a header with its checksum", &sum, &0xffff);
     let mut header = UDP_FRAME;
     header[24] = 0;
     header[25] = 0;
-    assert_eq!(rt; !ones_sum(&header[14..34]), 0x1494, "a header's checksum");
-    let outer = [
-        0x45, 0x00, 0x00, 0x30, 0x00, 0x00, 0x40, 0x00, 0x40, 0x04, 0x6e, 0xc0, 0x0a, 0x00, 0x00,
-        0x09, 0xc0, 0x00, 0x02, 0x01,
-    ];
-    assert_eq!(rt; ones_sum(&outer), 0xffff, "an outer header");
+    let checksum = !ones_sum(&header[14..34]);
+    same(&rt, "a header's checksum", &checksum, &0x1494);
 }
 
 #[test]
 fn udp_flow(rt: HostRuntime) -> Result<(), Fail> {
     let key = flow_of(&UDP_FRAME).ok_or("no flow")?;
-    assert_eq!(rt; key.bytes().as_slice(), UDP_KEY.as_slice());
-    assert_eq!(rt; key.source.0, [198, 51, 100, 7]);
-    assert_eq!(rt; key.destination.0, [203, 0, 113, 1]);
-    assert_eq!(rt; key.source_port, 40000);
-    assert_eq!(rt; key.destination_port, 80);
-    assert_eq!(rt; key.transport, Transport::Udp);
-    assert_eq!(rt; key.transport.number(), 17);
+    same_bytes(&rt, "key", &key.bytes(), &UDP_KEY);
+    same(&rt, "source", &key.source.0, &[198, 51, 100, 7]);
+    same(&rt, "destination", &key.destination.0, &[203, 0, 113, 1]);
+    same(&rt, "source port", &key.source_port, &40000);
+    same(&rt, "destination port", &key.destination_port, &80);
+    same(&rt, "transport", &key.transport, &Transport::Udp);
+    same(&rt, "number", &key.transport.number(), &17);
     Ok(())
 }
 
@@ -82,53 +82,71 @@ const CHANGES: [(&str, usize, u8, bool); 16] = [
     ("a TTL of 0",                    22, 0x00, true),
 ];
 
+/// Whether a datagram padded to the least Ethernet frame, with this low byte of its total length, has a flow.
+fn has_flow_padded(total: u8) -> bool {
+    let mut padded = [0; 60];
+    padded[..42].copy_from_slice(&UDP_FRAME);
+    padded[17] = total;
+    flow_of(&padded).is_some()
+}
+
 #[test]
 fn flow_forms(rt: HostRuntime) {
     for (name, at, byte, has_flow) in CHANGES {
-        let mut frame = UDP_FRAME;
-        if at < frame.len() {
-            frame[at] = byte;
-        }
-        assert_eq!(rt; flow_of(&frame).is_some(), has_flow, "{name}");
+        let frame = with_byte(&rt, at, byte);
+        same(&rt, name, &flow_of(&frame).is_some(), &has_flow);
     }
-    assert!(rt;
+    holds(
+        &rt,
+        "without its last byte",
         flow_of(&UDP_FRAME[..41]).is_none(),
-        "without its last byte"
     );
-    assert!(rt; flow_of(&[]).is_none(), "no bytes");
-    let mut padded = [0; 60];
-    padded[..42].copy_from_slice(&UDP_FRAME);
-    assert!(rt;
-        flow_of(&padded).is_some(),
-        "padded to the least Ethernet frame"
+    holds(&rt, "no bytes", flow_of(&[]).is_none());
+    holds(
+        &rt,
+        "padded to the least Ethernet frame",
+        has_flow_padded(0x1c),
     );
-    padded[17] = 0x2e;
-    assert!(rt; flow_of(&padded).is_some(), "a datagram to the frame's end");
-    padded[17] = 0x2f;
-    assert!(rt;
-        flow_of(&padded).is_none(),
-        "a datagram past the frame's end"
+    holds(&rt, "a datagram to the frame's end", has_flow_padded(0x2e));
+    holds(
+        &rt,
+        "a datagram past the frame's end",
+        !has_flow_padded(0x2f),
     );
+}
+
+const FRAME_SIZES: [(usize, Option<FrameFault>); 5] = [
+    (0, Some(FrameFault::ShortFrame)),
+    (13, Some(FrameFault::ShortFrame)),
+    (14, None),
+    (2048, None),
+    (2049, Some(FrameFault::FrameTooLong)),
+];
+
+/// Makes a frame of so many bytes, and compares it, or why there is none.
+fn is_made(
+    rt: &impl Abort,
+    alloc: Global,
+    size: usize,
+    want: Option<FrameFault>,
+) -> Result<(), Fail> {
+    let bytes = vec![in alloc; 7; size]?;
+    match Frame::of(alloc, &bytes) {
+        Ok(frame) => {
+            same_at(rt, "size", size as u64, &None, &want);
+            same(rt, "length", &frame.len(), &size);
+            same_bytes(rt, "bytes", frame.bytes(), &bytes);
+            same(rt, "room", &frame.room(), &256);
+        }
+        Err(fault) => same_at(rt, "size", size as u64, &Some(fault), &want),
+    }
+    Ok(())
 }
 
 #[test]
 fn frame_sizes(rt: HostRuntime) -> Result<(), Fail> {
-    let rows = [
-        (0, Some(FrameFault::ShortFrame)),
-        (13, Some(FrameFault::ShortFrame)),
-        (14, None),
-        (2048, None),
-        (2049, Some(FrameFault::FrameTooLong)),
-    ];
-    for (size, fault) in rows {
-        let bytes = vec![in rt.alloc(); 7; size]?;
-        let frame = Frame::of(rt.alloc(), &bytes);
-        assert_eq!(rt; frame.as_ref().err().copied(), fault, "{size} bytes");
-        if let Ok(frame) = frame {
-            assert_eq!(rt; frame.len(), size);
-            assert_eq!(rt; frame.bytes(), bytes.as_slice());
-            assert_eq!(rt; frame.room(), 256);
-        }
+    for (size, fault) in FRAME_SIZES {
+        is_made(&rt, rt.alloc(), size, fault)?;
     }
     Ok(())
 }
@@ -137,50 +155,52 @@ fn frame_sizes(rt: HostRuntime) -> Result<(), Fail> {
 fn moving_heads(rt: HostRuntime) -> Result<(), Fail> {
     let mut frame = Frame::of(rt.alloc(), &UDP_FRAME)?;
     frame.grow_front(20);
-    assert_eq!(rt; frame.room(), 236);
-    assert_eq!(rt; frame.len(), 62);
-    assert_eq!(rt; &frame.bytes()[..20], [0; 20].as_slice());
-    assert_eq!(rt; &frame.bytes()[20..], UDP_FRAME.as_slice());
+    same(&rt, "room after 20 bytes", &frame.room(), &236);
+    same(&rt, "length with 20 bytes", &frame.len(), &62);
+    same_bytes(&rt, "20 bytes are zero", part(&frame, 0, 20), &[0; 20]);
+    same_bytes(&rt, "the datagram", part(&frame, 20, 62), &UDP_FRAME);
     frame.set(19, 9);
     frame.write(0, &[1, 2, 3]);
-    assert_eq!(rt; &frame.bytes()[..4], [1, 2, 3, 0].as_slice());
-    assert_eq!(rt; frame.bytes()[19], 9);
+    same_bytes(&rt, "what is written", part(&frame, 0, 4), &[1, 2, 3, 0]);
+    same_bytes(&rt, "what is set", part(&frame, 19, 20), &[9]);
     frame.shrink_front(48);
-    assert_eq!(rt; frame.room(), 284);
-    assert_eq!(rt; frame.bytes(), &UDP_FRAME[28..]);
+    same(&rt, "room before 14 bytes", &frame.room(), &284);
+    same_bytes(&rt, "14 bytes", frame.bytes(), &UDP_FRAME[28..]);
     frame.grow_front(284);
-    assert_eq!(rt; frame.room(), 0);
-    assert_eq!(rt;
-        frame.bytes()[..284].iter().all(|byte| *byte == 0),
-        true,
-        "opened bytes are zero"
+    same(&rt, "no room", &frame.room(), &0);
+    same_bytes(
+        &rt,
+        "opened bytes are zero",
+        part(&frame, 0, 284),
+        &[0; 284],
     );
-    assert_eq!(rt; &frame.bytes()[284..], &UDP_FRAME[28..]);
+    let rest = part(&frame, 284, frame.len());
+    same_bytes(&rt, "14 bytes behind them", rest, &UDP_FRAME[28..]);
     Ok(())
 }
 
+#[rattlefmt::skip]
+const FAULTS: [(FrameFault, u8, &str); 3] = [
+    (FrameFault::FrameTooLong, 6, "fault 6 FrameTooLong"),
+    (FrameFault::Memory,       8, "fault 8 Memory"),
+    (FrameFault::ShortFrame,   9, "fault 9 ShortFrame"),
+];
+
 #[test]
 fn fault_texts(rt: HostRuntime) -> Result<(), Fail> {
-    let rows = [
-        (FrameFault::FrameTooLong, 6, "fault 6 FrameTooLong"),
-        (FrameFault::Memory, 8, "fault 8 Memory"),
-        (FrameFault::ShortFrame, 9, "fault 9 ShortFrame"),
-    ];
-    for (fault, number, text) in rows {
-        assert_eq!(rt; fault.number(), number);
-        let printed = format!(in rt.alloc(); "{fault}")?;
-        assert_eq!(rt; printed.as_str(), text);
+    for (fault, number, text) in FAULTS {
+        same(&rt, text, &fault.number(), &number);
+        prints(&rt, rt.alloc(), &fault, text)?;
     }
     Ok(())
 }
 
 #[test]
-fn memory_sink(rt: HostRuntime) -> Result<(), Fail> {
+fn memory_sink(rt: HostRuntime) {
     let mut sink = MemorySink::new(rt.alloc());
-    assert_eq!(rt; sink.write(b"ab")?, 2);
-    assert_eq!(rt; sink.write(b"")?, 0);
-    assert_eq!(rt; sink.write(b"c")?, 1);
-    assert_eq!(rt; sink.bytes(), b"abc".as_slice());
-    assert_eq!(rt; sink.failures(), 0);
-    Ok(())
+    same(&rt, "two bytes", &sink.write(b"ab"), &Ok(2));
+    same(&rt, "no byte", &sink.write(b""), &Ok(0));
+    same(&rt, "one byte", &sink.write(b"c"), &Ok(1));
+    same_bytes(&rt, "three bytes", sink.bytes(), b"abc");
+    same(&rt, "failures", &sink.failures(), &0);
 }

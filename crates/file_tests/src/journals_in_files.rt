@@ -1,15 +1,15 @@
 //! Files written by hand: whole ones, each line's neighbours, and devices that fail.
 
-ghost use Rattle.std.specs.Prelude.{◌≤◌, ◌^◌, length, None};
-
+use crate::asserting::{holds, holds_at, prints, same, same_at, same_bytes};
+use crate::slow_devices::{SlowSink, SlowSource};
 use ebpf_decode::{Image, Insn, MapDef, MapKind, Version};
 use journal_files::{FileFault, read_journals, write_journals};
-use journals::Journals;
+use journals::{Journals, ShardJournal};
 use semantics::{Call, Caller, CellRef, Entry, Key, Reply, Value};
 use std::alloc::Global;
 use std::process::Abort;
 use std::test::Fail;
-use wire::{Failed, MemorySink, MemorySource, Sink, Source};
+use wire::{MemorySink, MemorySource, Sink, Source};
 
 /// A worker updates a key, looks it up, adds to its value and reads it.
 const ADDED: &str = "XLBJ 1 1 1 16
@@ -55,6 +55,11 @@ fn read(alloc: Global, rooms: &[u32], bytes: &[u8]) -> Result<Result<Journals, F
     let image = image(alloc, rooms)?;
     let bytes = if bytes.len() <= 1000 { bytes } else { &[] };
     Ok(read_journals(alloc, &mut MemorySource::new(bytes), &image))
+}
+
+/// What is wrong with a file, if anything is.
+fn fault_of(alloc: Global, rooms: &[u32], bytes: &[u8]) -> Result<Option<FileFault>, Fail> {
+    Ok(read(alloc, rooms, bytes)?.err())
 }
 
 fn key(bytes: &[u8]) -> Key {
@@ -161,25 +166,41 @@ fn deleted() -> [Line; 8] {
     ]
 }
 
+/// Compares a journal with what its file says, line by line.
+fn are_lines(rt: &impl Abort, journal: &ShardJournal, wanted: &[Line]) {
+    same(rt, "entries", &journal.len(), &wanted.len());
+    for (place, (who, call, reply)) in wanted.iter().enumerate() {
+        let entry = Entry {
+            who: *who,
+            call: *call,
+            reply: *reply,
+        };
+        let is_there = place < journal.len() && journal.entry(place) == entry;
+        holds_at(rt, "entry", place as u64, is_there);
+    }
+}
+
+/// Compares the file that is written of journals.
+fn makes_the_file(
+    rt: &impl Abort,
+    alloc: Global,
+    journals: &Journals,
+    text: &str,
+) -> Result<(), Fail> {
+    let mut sink = MemorySink::new(alloc);
+    write_journals(alloc, &mut sink, journals)?;
+    same_bytes(rt, "what is written", sink.bytes(), text.as_bytes());
+    Ok(())
+}
+
 /// Holds what is read of a file against what it says, and what is written then against the file.
 fn compare(rt: &impl Abort, alloc: Global, text: &str, wanted: &[Line]) -> Result<(), Fail> {
     let journals = read(alloc, &[1], text.as_bytes())??;
-    assert_eq!(rt; journals.count(), 1);
-    assert_eq!(rt; journals.options().workers, 1);
-    assert_eq!(rt; journals.options().journal, 16);
-    let journal = journals.journal(0);
-    assert_eq!(rt; journal.len(), wanted.len());
-    for place in 0..wanted.len() {
-        let (who, call, reply) = wanted[place];
-        assert!(rt;
-            journal.entry(place) == (Entry { who, call, reply }),
-            "entry {place}"
-        );
-    }
-    let mut sink = MemorySink::new(alloc);
-    write_journals(alloc, &mut sink, &journals)?;
-    assert_eq!(rt; sink.bytes(), text.as_bytes());
-    Ok(())
+    holds(rt, "one journal", journals.count() == 1);
+    same(rt, "workers", &journals.options().workers, &1);
+    same(rt, "size of journals", &journals.options().journal, &16);
+    are_lines(rt, journals.journal(0), wanted);
+    makes_the_file(rt, alloc, &journals, text)
 }
 
 #[test]
@@ -269,182 +290,108 @@ const FILES: [(&str, &[u32], &str, Option<usize>); 72] = [
     ("the third line",             &[1], "XLBJ 1 1 1 16\n0 w0 enter ok\n0 w0 leave\n",     Some(3)),
 ];
 
+/// The fault of a first bad line, if there is one.
+fn at_line(bad: Option<usize>) -> Option<FileFault> {
+    match bad {
+        Some(line) => Some(FileFault::BadJournalFile { line }),
+        None => None,
+    }
+}
+
 #[test]
 fn files_and_their_bad_lines(rt: HostRuntime) -> Result<(), Fail> {
     for (name, rooms, text, bad) in FILES {
-        let got = read(rt.alloc(), rooms, text.as_bytes())?.err();
-        let want = match bad {
-            Some(line) => Some(FileFault::BadJournalFile { line }),
-            None => None,
-        };
-        assert_eq!(rt; got, want, "{name}");
+        let got = fault_of(rt.alloc(), rooms, text.as_bytes())?;
+        same(&rt, name, &got, &at_line(bad));
     }
     Ok(())
 }
+
+#[rattlefmt::skip]
+const NO_TEXTS: [(&str, &[u8], usize); 3] = [
+    ("in the first line", &[0xff, 10],                                 1),
+    ("in the third line", b"XLBJ 1 1 1 16\n0 w0 enter ok\n\xff\n", 3),
+    ("after a bad line",  b"XLBJ 1 1 1 16\nbad\n\xff\n",           3),
+];
 
 #[test]
 fn bytes_that_are_no_text(rt: HostRuntime) -> Result<(), Fail> {
-    let rows: [(&str, &[u8], usize); 3] = [
-        ("in the first line", &[0xff, 10], 1),
-        (
-            "in the third line",
-            b"XLBJ 1 1 1 16\n0 w0 enter ok\n\xff\n",
-            3,
-        ),
-        ("after a bad line", b"XLBJ 1 1 1 16\nbad\n\xff\n", 3),
-    ];
-    for (name, bytes, line) in rows {
-        let got = read(rt.alloc(), &[1], bytes)?.err();
-        assert_eq!(rt; got, Some(FileFault::BadJournalFile { line }), "{name}");
+    for (name, bytes, line) in NO_TEXTS {
+        let got = fault_of(rt.alloc(), &[1], bytes)?;
+        same(&rt, name, &got, &at_line(Some(line)));
     }
     Ok(())
 }
 
-/// A source that gives one byte at a time, and fails at one of its calls.
-#[derive(Drop)]
-struct SlowSource<'a> {
-    rest: &'a [u8],
-    calls: u64,
-    fails_at: u64,
-    failures: u64,
-    ghost bounded: { length rest.now ≤ 2 ^ 40 },
-}
+/// A file of one entry.
+const ENTERED: &[u8] = b"XLBJ 1 1 1 16\n0 w0 enter ok\n";
 
-impl Source for SlowSource<'_> {
-    ghost left = { λ _. None };
-
-    ghost most_left = { λ source. length source.rest.now };
-
-    ghost failure_count = { λ source. source.failures };
-
-    fn read(&mut self, buffer: &mut [u8]) -> Result<usize, Failed> {
-        self.calls = self.calls.wrapping_add(1);
-        if self.calls == self.fails_at {
-            self.failures += 1;
-            return Err(Failed);
-        }
-        match self.rest {
-            [first, rest @ ..] => {
-                if buffer.is_empty() {
-                    return Ok(0);
-                }
-                buffer[0] = *first;
-                self.rest = rest;
-                Ok(1)
-            }
-            [] => Ok(0),
-        }
-    }
-
-    fn failures(&self) -> u64 {
-        self.failures
-    }
+/// How many journals come from a source of this file that fails at one of its calls, and how many calls have failed.
+fn read_slowly(alloc: Global, image: &Image, fails_at: u64) -> (Result<usize, FileFault>, u64) {
+    let mut source = SlowSource::new(ENTERED, fails_at);
+    let count = match read_journals(alloc, &mut source, image) {
+        Ok(journals) => Ok(journals.count()),
+        Err(fault) => Err(fault),
+    };
+    (count, source.failures())
 }
 
 #[test]
 fn failing_source(rt: HostRuntime) -> Result<(), Fail> {
     let image = image(rt.alloc(), &[1])?;
-    let bytes = b"XLBJ 1 1 1 16\n0 w0 enter ok\n";
     for fails_at in 1..31 {
-        let mut source = SlowSource {
-            rest: bytes,
-            calls: 0,
-            fails_at,
-            failures: 0,
-        };
-        let got = read_journals(rt.alloc(), &mut source, &image);
-        if fails_at <= 29 {
-            assert_eq!(rt; got.err(), Some(FileFault::Device), "call {fails_at}");
-            assert_eq!(rt; source.failures(), 1);
+        let want = if fails_at <= 29 {
+            (Err(FileFault::Device), 1)
         } else {
-            assert_eq!(rt; got?.count(), 1, "byte by byte");
-            assert_eq!(rt; source.failures(), 0);
-        }
+            (Ok(1), 0)
+        };
+        let got = read_slowly(rt.alloc(), &image, fails_at);
+        same_at(&rt, "byte by byte, failing at call", fails_at, &got, &want);
     }
     Ok(())
 }
 
-/// A sink that takes one byte at a time, and fails at one of its calls.
-#[derive(Drop)]
-struct SlowSink {
-    bytes: Vec<u8>,
-    calls: u64,
-    fails_at: u64,
-    failures: u64,
-}
-
-impl Sink for SlowSink {
-    ghost held = { λ _. None };
-
-    ghost failure_count = { λ sink. sink.failures };
-
-    fn write(&mut self, bytes: &[u8]) -> Result<usize, Failed> {
-        self.calls = self.calls.wrapping_add(1);
-        match bytes {
-            [first, ..] => {
-                if self.calls == self.fails_at || self.bytes.push(*first).is_err() {
-                    self.failures += 1;
-                    return Err(Failed);
-                }
-                Ok(1)
-            }
-            [] => Ok(0),
-        }
-    }
-
-    fn failures(&self) -> u64 {
-        self.failures
-    }
+/// Writes journals to a sink that takes so many bytes one by one and then fails, and compares what it has then.
+fn write_slowly(rt: &impl Abort, alloc: Global, journals: &Journals, taken: u8) {
+    let mut sink = SlowSink::new(alloc, u64::from(taken) + 1);
+    let got = write_journals(alloc, &mut sink, journals);
+    let (want, front, failures) = if taken < 28 {
+        (Err(FileFault::Device), &ENTERED[..taken as usize], 1)
+    } else {
+        (Ok(()), ENTERED, 0)
+    };
+    same_at(rt, "failing after byte", u64::from(taken), &got, &want);
+    same_bytes(rt, "a front of the file", sink.bytes(), front);
+    same_at(
+        rt,
+        "failures after byte",
+        u64::from(taken),
+        &sink.failures(),
+        &failures,
+    );
 }
 
 #[test]
 fn failing_sink(rt: HostRuntime) -> Result<(), Fail> {
-    let bytes = b"XLBJ 1 1 1 16\n0 w0 enter ok\n";
-    let journals = read(rt.alloc(), &[1], bytes)??;
-    for fails_at in 1..31 {
-        let mut sink = SlowSink {
-            bytes: Vec::new(rt.alloc()),
-            calls: 0,
-            fails_at,
-            failures: 0,
-        };
-        let got = write_journals(rt.alloc(), &mut sink, &journals);
-        let taken = if fails_at <= 28 {
-            fails_at as usize - 1
-        } else {
-            28
-        };
-        let want = if fails_at <= 28 {
-            Err(FileFault::Device)
-        } else {
-            Ok(())
-        };
-        assert_eq!(rt; got, want, "call {fails_at}");
-        assert_eq!(rt;
-            sink.bytes.as_slice(),
-            &bytes[..taken],
-            "a front of the file"
-        );
-        assert_eq!(rt; sink.failures() == 1, fails_at <= 28);
+    let journals = read(rt.alloc(), &[1], ENTERED)??;
+    for taken in 0..30 {
+        write_slowly(&rt, rt.alloc(), &journals, taken);
     }
     Ok(())
 }
 
+#[rattlefmt::skip]
+const FAULTS: [(FileFault, u8, &str); 3] = [
+    (FileFault::Device,                     7,  "fault 7 Device"),
+    (FileFault::Memory,                     52, "fault 52 Memory"),
+    (FileFault::BadJournalFile { line: 3 }, 55, "fault 55 BadJournalFile line 3"),
+];
+
 #[test]
 fn file_fault_texts(rt: HostRuntime) -> Result<(), Fail> {
-    let rows = [
-        (FileFault::Device, 7, "fault 7 Device"),
-        (FileFault::Memory, 52, "fault 52 Memory"),
-        (
-            FileFault::BadJournalFile { line: 3 },
-            55,
-            "fault 55 BadJournalFile line 3",
-        ),
-    ];
-    for (fault, number, text) in rows {
-        assert_eq!(rt; fault.number(), number);
-        let printed = format!(in rt.alloc(); "{fault}")?;
-        assert_eq!(rt; printed.as_str(), text);
+    for (fault, number, text) in FAULTS {
+        same(&rt, text, &fault.number(), &number);
+        prints(&rt, rt.alloc(), &fault, text)?;
     }
     Ok(())
 }

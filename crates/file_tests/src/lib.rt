@@ -2,11 +2,15 @@
 #![tactic(auto)]
 
 #[cfg(test)]
+mod asserting;
+#[cfg(test)]
 mod captures;
 #[cfg(test)]
 mod commands;
 #[cfg(test)]
 mod crews;
+#[cfg(test)]
+mod datagrams;
 #[cfg(test)]
 mod frame_rows;
 #[cfg(test)]
@@ -15,6 +19,8 @@ mod journals_in_files;
 mod lookup_tables;
 #[cfg(test)]
 mod receive_queues;
+#[cfg(test)]
+mod slow_devices;
 #[cfg(test)]
 mod steered_frames;
 #[cfg(test)]

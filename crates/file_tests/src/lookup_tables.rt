@@ -2,8 +2,10 @@
 
 ghost use Rattle.std.specs.Prelude.{◌<◌, ℕ, All, IsTrue};
 
+use crate::asserting::{holds, holds_at, prints, same, same_at};
 use maglev::{Backend, Ring, RingFault};
 use std::alloc::{AllocError, Global};
+use std::process::Abort;
 use std::test::Fail;
 use std::time::Instant;
 use wire::Ipv4Address;
@@ -82,19 +84,35 @@ fn fit(given: &[Given], size: u32) -> bool
     given.iter().all(|backend| backend.1 < size && 0 < backend.2 && backend.2 < size)
 }
 
+/// Compares the owners of a ring's slots, from the first slot on.
+fn are_owners(rt: &impl Abort, name: &str, ring: &Ring, want: &[u32]) {
+    let mut slot = 0;
+    for number in want {
+        holds(rt, name, slot < ring.size());
+        same_at(rt, name, u64::from(slot), &ring.owner(slot), number);
+        slot += 1;
+    }
+}
+
+/// Compares the owners of the seven slots that backends take by turns.
+fn take_turns(
+    rt: &impl Abort,
+    alloc: Global,
+    name: &str,
+    given: &[Given],
+    want: &[u32],
+) -> Result<(), RingFault> {
+    holds(rt, name, fit(given, 7));
+    let ring = Ring::turns(alloc, given, 7)?;
+    same(rt, name, &ring.size(), &7);
+    are_owners(rt, name, &ring, want);
+    Ok(())
+}
+
 #[test]
 fn owners_by_turns(rt: HostRuntime) -> Result<(), Fail> {
     for (name, given, want) in TURNS {
-        assert!(rt; fit(given, 7), "{name}");
-        let ring = Ring::turns(rt.alloc(), given, 7)?;
-        assert_eq!(rt; ring.size(), 7, "{name}");
-        for slot in 0u32..7 {
-            assert_eq!(rt;
-                ring.owner(slot),
-                want[slot as usize],
-                "{name}, slot {slot}"
-            );
-        }
+        take_turns(&rt, rt.alloc(), name, given, &want)?;
     }
     Ok(())
 }
@@ -103,44 +121,60 @@ fn owners_by_turns(rt: HostRuntime) -> Result<(), Fail> {
 fn owners_by_addresses(rt: HostRuntime) -> Result<(), Fail> {
     for (name, size, want) in BUILT {
         let ring = Ring::build(rt.alloc(), &THREE, size)?;
-        assert_eq!(rt; ring.size(), size, "{name}");
-        let mut slot = 0;
-        for number in want {
-            assert!(rt; slot < ring.size(), "{name}");
-            assert_eq!(rt; ring.owner(slot), *number, "{name}, slot {slot}");
-            slot += 1;
-        }
+        same(&rt, name, &ring.size(), &size);
+        are_owners(&rt, name, &ring, want);
     }
     Ok(())
+}
+
+/// Why these turns make no ring.
+fn refused_turns(
+    rt: &impl Abort,
+    alloc: Global,
+    name: &str,
+    given: &[Given],
+    size: u32,
+) -> Option<RingFault> {
+    holds(rt, name, fit(given, size));
+    Ring::turns(alloc, given, size).err()
+}
+
+/// Why these backends make no ring.
+fn refused_build(alloc: Global, backends: &[Backend], size: u32) -> Option<RingFault> {
+    Ring::build(alloc, backends, size).err()
 }
 
 #[test]
 fn refusals_in_their_order(rt: HostRuntime) {
     for (name, given, size, want) in REFUSED_TURNS {
-        assert!(rt; fit(given, size), "{name}");
-        assert_eq!(rt;
-            Ring::turns(rt.alloc(), given, size).err(),
-            Some(want),
-            "{name}"
-        );
+        let found = refused_turns(&rt, rt.alloc(), name, given, size);
+        same(&rt, name, &found, &Some(want));
     }
     for (name, backends, size, want) in REFUSED_BUILDS {
-        assert_eq!(rt;
-            Ring::build(rt.alloc(), backends, size).err(),
-            Some(want),
-            "{name}"
+        same(
+            &rt,
+            name,
+            &refused_build(rt.alloc(), backends, size),
+            &Some(want),
         );
     }
 }
 
+/// Why so many backends make no ring of 4093 slots.
+fn refused_count(alloc: Global, count: u32) -> Result<Option<RingFault>, AllocError> {
+    let backends = hundreds(alloc, count)?;
+    Ok(refused_build(alloc, &backends, 4093))
+}
+
 #[test]
 fn more_than_256_backends(rt: HostRuntime) -> Result<(), Fail> {
-    let most = hundreds(rt.alloc(), 256)?;
-    assert!(rt; Ring::build(rt.alloc(), &most, 4093).is_ok());
-    let more = hundreds(rt.alloc(), 257)?;
-    assert_eq!(rt;
-        Ring::build(rt.alloc(), &more, 4093).err(),
-        Some(RingFault::TooMany)
+    same(&rt, "256 backends", &refused_count(rt.alloc(), 256)?, &None);
+    let fault = Some(RingFault::TooMany);
+    same(
+        &rt,
+        "257 backends",
+        &refused_count(rt.alloc(), 257)?,
+        &fault,
     );
     Ok(())
 }
@@ -148,11 +182,23 @@ fn more_than_256_backends(rt: HostRuntime) -> Result<(), Fail> {
 #[test]
 fn texts_and_numbers_of_faults(rt: HostRuntime) -> Result<(), Fail> {
     for (fault, number, text) in FAULTS {
-        assert_eq!(rt; fault.number(), number, "{text}");
-        let printed = format!(in rt.alloc(); "{fault}")?;
-        assert_eq!(rt; printed.as_str(), text);
+        same(&rt, text, &fault.number(), &number);
+        prints(&rt, rt.alloc(), &fault, text)?;
     }
     Ok(())
+}
+
+/// Compares each backend's share of the slots.
+fn shares_are(rt: &impl Abort, ring: &Ring, backends: &[Backend], least: u32, most: u32) {
+    for backend in backends {
+        let share = share_of(ring, backend.number);
+        holds_at(
+            rt,
+            "share of one backend:",
+            u64::from(share),
+            least <= share && share <= most,
+        );
+    }
 }
 
 #[test]
@@ -163,13 +209,7 @@ fn shares_and_time_of_large_rings(rt: HostRuntime) -> Result<(), Fail> {
         let ring = Ring::build(rt.alloc(), &backends, 65537)?;
         let time = start.elapsed(&rt)?.as_micros();
         println!(rt; "{count} backends on 65537 slots: {time} microseconds")?;
-        for backend in &backends {
-            let share = share_of(&ring, backend.number);
-            assert!(rt;
-                least <= share && share <= most,
-                "{share} slots of {count} backends"
-            );
-        }
+        shares_are(&rt, &ring, &backends, least, most);
     }
     Ok(())
 }

@@ -3,6 +3,7 @@
 ghost use Rattle.std.specs.Prelude.{◌≡◌, ◌<◌, ◌+◌, length, IfSome};
 ghost use Rattle.rx_queues.specs.Passes.{HasQueue, workers_of, queue_of, IsPutPassOf, IsTakePassOf, TakeAtTheirPlaces};
 
+use crate::asserting::{same, same_at};
 use rx_queues::{Caller, Job, OpenFault, PutPass, Queues, TakePass, spread};
 use std::alloc::Global;
 use std::sync::Wait;
@@ -44,19 +45,26 @@ fn flows_spread_over_workers(rt: HostRuntime) {
     for (name, source_port, destination_port, transport, workers, want) in SPREADS {
         let key = flow(source_port, destination_port, transport);
         prove!(workers > 0);
-        assert_eq!(rt; spread(Some(&key), workers), want, "{name}");
+        same(&rt, name, &spread(Some(&key), workers), &want);
     }
-    assert_eq!(rt; spread(None, 8), 0, "no flow");
+    same(&rt, "no flow", &spread(None, 8), &0);
+}
+
+const WORKERS: [(usize, u8); 4] = [(0, 51), (1, 0), (8, 0), (9, 51)];
+
+/// The number of the refusal to open queues, or 0.
+fn refusal_of(alloc: Global, workers: usize) -> u8 {
+    match Queues::open(alloc, workers) {
+        Ok(_) => 0,
+        Err(fault) => fault.number(),
+    }
 }
 
 #[test]
 fn one_to_eight_workers_have_queues(rt: HostRuntime) {
-    for (workers, want) in [(0, 51), (1, 0), (8, 0), (9, 51)] {
-        let fault = match Queues::open(rt.alloc(), workers) {
-            Ok(_) => 0,
-            Err(fault) => fault.number(),
-        };
-        assert_eq!(rt; fault, want, "{workers} workers");
+    for (workers, want) in WORKERS {
+        let found = refusal_of(rt.alloc(), workers);
+        same_at(&rt, "queues of workers:", workers as u64, &found, &want);
     }
 }
 
@@ -158,7 +166,7 @@ fn a_thousand_frames_go_through_each_queue(rt: HostRuntime) -> Result<(), OpenFa
         let place = takes.len();
         let (back, came) = pass_through(&rt, &queues, caller_at(8, place), put, take, 1000);
         put = back;
-        assert_eq!(&rt; came, 1000, "queue {place}");
+        same_at(&rt, "frames through queue", place as u64, &came, &1000);
     }
     Ok(())
 }
@@ -208,14 +216,22 @@ fn a_full_queue_gives_the_job_back(rt: HostRuntime) -> Result<(), OpenFault> {
     let (queues, mut put, mut takes) = Queues::open(rt.alloc(), 2)?;
     'queues: while let Some(mut take) = last_of(&queues, &mut takes) {
         let who = caller_at(2, takes.len());
-        assert_eq!(&rt; put_commands(&rt, &queues, who, &mut put, 100), 64);
-        assert_eq!(&rt; take_commands(&rt, &queues, &mut take, 0, 1), 1);
-        assert_eq!(&rt; queues.put(&rt, who, Job::Note, &mut put), Ok(()));
-        assert_eq!(&rt; queues.put(&rt, who, Job::End, &mut put), Err(Job::End));
-        assert_eq!(&rt; take_commands(&rt, &queues, &mut take, 1, 100), 63);
-        assert_eq!(&rt; queues.take(&rt, &mut take), None);
-        assert_eq!(&rt; put_commands(&rt, &queues, who, &mut put, 1), 1);
-        assert_eq!(&rt; queues.take(&rt, &mut take), Some(Job::Command(0)));
+        let count = put_commands(&rt, &queues, who, &mut put, 100);
+        same(&rt, "commands put in all", &count, &64);
+        let count = take_commands(&rt, &queues, &mut take, 0, 1);
+        same(&rt, "first command taken", &count, &1);
+        let answer = queues.put(&rt, who, Job::Note, &mut put);
+        same(&rt, "in the place that is free", &answer, &Ok(()));
+        let answer = queues.put(&rt, who, Job::End, &mut put);
+        same(&rt, "in no free place", &answer, &Err(Job::End));
+        let count = take_commands(&rt, &queues, &mut take, 1, 100);
+        same(&rt, "other commands taken", &count, &63);
+        let taken = queues.take(&rt, &mut take);
+        same(&rt, "nothing is left", &taken, &None);
+        let count = put_commands(&rt, &queues, who, &mut put, 1);
+        same(&rt, "one more put", &count, &1);
+        let taken = queues.take(&rt, &mut take);
+        same(&rt, "one more taken", &taken, &Some(Job::Command(0)));
     }
     Ok(())
 }

@@ -1,20 +1,16 @@
 //! What no clause says: rows worked out elsewhere, and that maps are made with memory.
 
+use crate::asserting::{same, same_at, same_bytes, same_fact};
+use crate::datagrams::{UDP_FRAME, with_byte};
 use conntrack::{
     Assigned, BackendRecord, Choice, FlowRecord, Records, RingRecord, Service, SteerFault,
     TunnelRecord, VipRecord, choose, maps, steer, table_size,
 };
-use wire::{Frame, Ipv4Address, MacAddress, Transport, flow_of};
+use std::alloc::Global;
+use std::process::Abort;
+use wire::{Frame, FrameFault, Ipv4Address, MacAddress, Transport, flow_of};
 
-// A UDP datagram from 198.51.100.7 to 203.0.113.1, port 80.
-#[rattlefmt::skip]
-const UDP: [u8; 42] = [
-    0x02, 0, 0, 0, 0, 0x01, 0x02, 0, 0, 0, 0, 0x02, 0x08, 0x00,
-    0x45, 0, 0, 0x1c, 0, 0x01, 0, 0, 0x40, 0x11, 0x14, 0x94, 198, 51, 100, 7, 203, 0, 113, 1,
-    0x9c, 0x40, 0, 0x50, 0, 0x08, 0, 0,
-];
-
-// The same behind 10.0.0.9, to 192.0.2.1.
+// The datagram behind 10.0.0.9, to 192.0.2.1.
 #[rattlefmt::skip]
 const SENT: [u8; 62] = [
     0x02, 0, 0, 0, 0, 0x0b, 0x02, 0, 0, 0, 0, 0x0a, 0x08, 0x00,
@@ -30,21 +26,49 @@ const TUNNEL: TunnelRecord = TunnelRecord {
     is_ready: true,
 };
 
-fn backend(number: u8, is_up: bool) -> Option<Assigned> {
-    let address = Ipv4Address([192, 0, 2, 1 + number % 8]);
-    let record = Some(BackendRecord { address, is_up });
-    let number = u32::from(number);
-    Some(Assigned { number, record })
-}
+/// The address of backend 0.
+const FIRST: Ipv4Address = Ipv4Address([192, 0, 2, 1]);
 
-fn sent_to(number: u8, updates_flows: bool) -> Choice {
-    let address = Ipv4Address([192, 0, 2, 1 + number % 8]);
-    Choice::Tx {
-        number: u32::from(number),
-        address,
-        updates_flows,
-    }
-}
+/// The address of backend 1.
+const SECOND: Ipv4Address = Ipv4Address([192, 0, 2, 2]);
+
+#[rattlefmt::skip]
+const FIRST_UP: Option<Assigned> = Some(Assigned { number: 0, record: Some(BackendRecord { address: FIRST, is_up: true }) });
+
+#[rattlefmt::skip]
+const FIRST_DOWN: Option<Assigned> = Some(Assigned { number: 0, record: Some(BackendRecord { address: FIRST, is_up: false }) });
+
+#[rattlefmt::skip]
+const SECOND_UP: Option<Assigned> = Some(Assigned { number: 1, record: Some(BackendRecord { address: SECOND, is_up: true }) });
+
+#[rattlefmt::skip]
+const SECOND_DOWN: Option<Assigned> = Some(Assigned { number: 1, record: Some(BackendRecord { address: SECOND, is_up: false }) });
+
+const NO_RECORD: Option<Assigned> = Some(Assigned {
+    number: 5,
+    record: None,
+});
+
+/// The frame is sent to backend 0, which its flow gets.
+const TO_FIRST: Choice = Choice::Tx {
+    number: 0,
+    address: FIRST,
+    updates_flows: true,
+};
+
+/// The frame is sent to backend 0, and its flow is not noted.
+const TO_FIRST_ONCE: Choice = Choice::Tx {
+    number: 0,
+    address: FIRST,
+    updates_flows: false,
+};
+
+/// The frame is sent to backend 1, which its flow has.
+const TO_SECOND: Choice = Choice::Tx {
+    number: 1,
+    address: SECOND,
+    updates_flows: false,
+};
 
 const TRACKED: Option<VipRecord> = Some(VipRecord { is_notrack: false });
 
@@ -57,106 +81,154 @@ const NOT_READY: Option<TunnelRecord> = Some(TunnelRecord {
     ..TUNNEL
 });
 
+/// What a row shows; the service's record, the tunnel's, the backend that the flow has and the one of the slot; and the choice.
+type Case = (
+    &'static str,
+    Option<VipRecord>,
+    Option<TunnelRecord>,
+    Option<Assigned>,
+    Option<Assigned>,
+    Choice,
+);
+
+#[rattlefmt::skip]
+const CASES: [Case; 12] = [
+    ("no service",                       None,        READY,     None,        FIRST_UP,   Choice::Pass),
+    ("tunnel not set up",                TRACKED,     NOT_READY, SECOND_UP,   FIRST_UP,   Choice::Drop),
+    ("no tunnel",                        TRACKED,     None,      SECOND_UP,   FIRST_UP,   Choice::Drop),
+    ("noted and up",                     TRACKED,     READY,     SECOND_UP,   FIRST_UP,   TO_SECOND),
+    ("noted, but down",                  TRACKED,     READY,     SECOND_DOWN, FIRST_UP,   TO_FIRST),
+    ("noted, without a record",          TRACKED,     READY,     NO_RECORD,   FIRST_UP,   TO_FIRST),
+    ("nothing noted",                    TRACKED,     READY,     None,        FIRST_UP,   TO_FIRST),
+    ("owner of the slot down",           TRACKED,     READY,     None,        FIRST_DOWN, Choice::Drop),
+    ("owner of the slot without record", TRACKED,     READY,     None,        NO_RECORD,  Choice::Drop),
+    ("no owner",                         TRACKED,     READY,     None,        None,       Choice::Drop),
+    ("not tracked: what is noted does not count", NOT_TRACKED, READY,     SECOND_UP,   FIRST_UP,   TO_FIRST_ONCE),
+    ("not tracked, no owner",            NOT_TRACKED, READY,     SECOND_UP,   None,       Choice::Drop),
+];
+
+/// Compares the choice for a frame of these bytes.
+fn is_chosen(
+    rt: &impl Abort,
+    alloc: Global,
+    name: &str,
+    bytes: &[u8],
+    records: &Records,
+    want: Choice,
+) -> Result<(), FrameFault> {
+    let frame = Frame::of(alloc, bytes)?;
+    same(rt, name, &choose(&frame, records), &want);
+    Ok(())
+}
+
 #[test]
-fn the_first_case_that_applies_decides(rt: HostRuntime) -> Result<(), wire::FrameFault> {
-    let no_record = Some(Assigned {
-        number: 5,
-        record: None,
-    });
-    #[rattlefmt::skip]
-    let rows = [
-        ("no service",                       None,        READY,     None,            backend(0, true),  Choice::Pass),
-        ("tunnel not set up",                TRACKED,     NOT_READY, backend(1, true), backend(0, true), Choice::Drop),
-        ("no tunnel",                        TRACKED,     None,      backend(1, true), backend(0, true), Choice::Drop),
-        ("noted and up",                     TRACKED,     READY,     backend(1, true), backend(0, true), sent_to(1, false)),
-        ("noted, but down",                  TRACKED,     READY,     backend(1, false), backend(0, true), sent_to(0, true)),
-        ("noted, without a record",          TRACKED,     READY,     no_record,       backend(0, true),  sent_to(0, true)),
-        ("nothing noted",                    TRACKED,     READY,     None,            backend(0, true),  sent_to(0, true)),
-        ("owner of the slot down",           TRACKED,     READY,     None,            backend(0, false), Choice::Drop),
-        ("owner of the slot without record", TRACKED,     READY,     None,            no_record,         Choice::Drop),
-        ("no owner",                         TRACKED,     READY,     None,            None,              Choice::Drop),
-        ("not tracked: what is noted does not count", NOT_TRACKED, READY, backend(1, true), backend(0, true), sent_to(0, false)),
-        ("not tracked, no owner",            NOT_TRACKED, READY,     backend(1, true), None,             Choice::Drop),
-    ];
-    let frame = Frame::of(rt.alloc(), &UDP)?;
-    for (name, vip, tunnel, tracked, slot, want) in rows {
+fn the_first_case_that_applies_decides(rt: HostRuntime) -> Result<(), FrameFault> {
+    for (name, vip, tunnel, tracked, slot, want) in CASES {
         let records = Records {
             vip,
             tunnel,
             tracked,
             slot,
         };
-        assert_eq!(&rt; choose(&frame, &records), want, "{name}");
+        is_chosen(&rt, rt.alloc(), name, &UDP_FRAME, &records, want)?;
     }
     Ok(())
 }
 
-#[test]
-fn frames_that_cannot_be_steered(rt: HostRuntime) -> Result<(), wire::FrameFault> {
-    let records = Records {
+/// A service whose flows are tracked, a tunnel that is set up, and a flow that nothing is noted of.
+fn records(slot: Option<Assigned>) -> Records {
+    Records {
         vip: TRACKED,
         tunnel: READY,
         tracked: None,
-        slot: backend(0, true),
-    };
-    #[rattlefmt::skip]
-    let rows = [
-        ("as it is",            22, 0x40, sent_to(0, true)),
-        ("time to live 0",      22, 0,    Choice::Drop),
-        ("with options",        14, 0x46, Choice::Pass),
-        ("a fragment",          20, 0x20, Choice::Pass),
-        ("neither TCP nor UDP", 23, 1,    Choice::Pass),
-    ];
-    for (name, place, byte, want) in rows {
-        let mut bytes = UDP;
-        prove!(place < 42);
-        bytes[place] = byte;
-        let frame = Frame::of(rt.alloc(), &bytes)?;
-        assert_eq!(&rt; choose(&frame, &records), want, "{name}");
+        slot,
     }
-    for (total, want) in [(1480u16, sent_to(0, true)), (1481, Choice::Drop)] {
-        let mut bytes = [0; 1500];
-        bytes[..42].copy_from_slice(&UDP);
-        bytes[16] = (total / 256) as u8;
-        bytes[17] = (total % 256) as u8;
-        let frame = Frame::of(rt.alloc(), &bytes)?;
-        assert_eq!(&rt; choose(&frame, &records), want, "a packet of {total} bytes");
+}
+
+#[rattlefmt::skip]
+const CHANGES: [(&str, usize, u8, Choice); 5] = [
+    ("as it is",            22, 0x40, TO_FIRST),
+    ("time to live 0",      22, 0,    Choice::Drop),
+    ("with options",        14, 0x46, Choice::Pass),
+    ("a fragment",          20, 0x20, Choice::Pass),
+    ("neither TCP nor UDP", 23, 1,    Choice::Pass),
+];
+
+const TOTALS: [(&str, u16, Choice); 2] = [
+    ("a packet of 1480 bytes", 1480, TO_FIRST),
+    ("a packet of 1481 bytes", 1481, Choice::Drop),
+];
+
+/// The datagram's frame with this total length, and zeros behind it.
+fn with_total(total: u16) -> [u8; 1500] {
+    let mut bytes = [0; 1500];
+    bytes[..42].copy_from_slice(&UDP_FRAME);
+    bytes[16] = (total / 256) as u8;
+    bytes[17] = (total % 256) as u8;
+    bytes
+}
+
+#[test]
+fn frames_that_cannot_be_steered(rt: HostRuntime) -> Result<(), FrameFault> {
+    let records = records(FIRST_UP);
+    for (name, at, byte, want) in CHANGES {
+        is_chosen(
+            &rt,
+            rt.alloc(),
+            name,
+            &with_byte(&rt, at, byte),
+            &records,
+            want,
+        )?;
+    }
+    for (name, total, want) in TOTALS {
+        is_chosen(&rt, rt.alloc(), name, &with_total(total), &records, want)?;
     }
     Ok(())
 }
 
-#[test]
-fn the_chosen_backend_gets_the_frame(rt: HostRuntime) -> Result<(), wire::FrameFault> {
-    let records = Records {
-        vip: TRACKED,
-        tunnel: READY,
-        tracked: None,
-        slot: backend(0, true),
-    };
-    let mut frame = Frame::of(rt.alloc(), &UDP)?;
-    assert_eq!(&rt; steer(&mut frame, &records), sent_to(0, true));
-    assert_eq!(&rt; frame.bytes(), SENT.as_slice());
-    let down = Records {
-        slot: backend(0, false),
-        ..records
-    };
-    let mut frame = Frame::of(rt.alloc(), &UDP)?;
-    assert_eq!(&rt; steer(&mut frame, &down), Choice::Drop);
-    assert_eq!(&rt; frame.bytes(), UDP.as_slice());
+/// Compares what becomes of the datagram, and the choice.
+fn becomes(
+    rt: &impl Abort,
+    alloc: Global,
+    records: &Records,
+    choice: Choice,
+    want: &[u8],
+) -> Result<(), FrameFault> {
+    let mut frame = Frame::of(alloc, &UDP_FRAME)?;
+    same(rt, "choice", &steer(&mut frame, records), &choice);
+    same_bytes(rt, "frame", frame.bytes(), want);
     Ok(())
+}
+
+#[test]
+fn the_chosen_backend_gets_the_frame(rt: HostRuntime) -> Result<(), FrameFault> {
+    let up = records(FIRST_UP);
+    becomes(&rt, rt.alloc(), &up, TO_FIRST, &SENT)?;
+    let down = records(FIRST_DOWN);
+    becomes(&rt, rt.alloc(), &down, Choice::Drop, &UDP_FRAME)
+}
+
+/// A choice of backend 3, at 192.0.2.4.
+fn to_fourth(updates_flows: bool) -> Choice {
+    Choice::Tx {
+        number: 3,
+        address: Ipv4Address([192, 0, 2, 4]),
+        updates_flows,
+    }
 }
 
 #[test]
 fn the_flow_is_noted_where_its_owner_is_chosen(rt: HostRuntime) {
-    let Some(flow) = flow_of(&UDP) else {
+    let Some(flow) = flow_of(&UDP_FRAME) else {
         panic!(&rt; "the frame has a flow");
     };
     #[rattlefmt::skip]
     let key = [198, 51, 100, 7, 203, 0, 113, 1, 0x9c, 0x40, 0, 0x50, 0x11, 0, 0, 0];
     let noted = Some((key, [3, 0, 0, 0, 0, 0, 0, 0]));
-    assert_eq!(&rt; sent_to(3, true).flow_update(&flow), noted);
-    assert_eq!(&rt; sent_to(3, false).flow_update(&flow), None);
-    assert_eq!(&rt; Choice::Drop.flow_update(&flow), None);
+    same(&rt, "chosen", &to_fourth(true).flow_update(&flow), &noted);
+    same(&rt, "as noted", &to_fourth(false).flow_update(&flow), &None);
+    same(&rt, "dropped", &Choice::Drop.flow_update(&flow), &None);
 }
 
 #[test]
@@ -166,88 +238,165 @@ fn keys_and_records_stand_as_the_maps_have_them(rt: HostRuntime) {
         port: 80,
         transport: Transport::Udp,
     };
-    assert_eq!(&rt; service.key(), [0xcb, 0, 0x71, 1, 0, 0x50, 0x11, 0]);
-    assert_eq!(&rt;
-        flow_of(&UDP).map(|flow| Service::of_flow(&flow)),
-        Some(service)
+    same(
+        &rt,
+        "key of a service",
+        &service.key(),
+        &[0xcb, 0, 0x71, 1, 0, 0x50, 0x11, 0],
     );
-    assert_eq!(&rt;
-        VipRecord { is_notrack: true }.bytes(),
-        [1, 0, 0, 0, 0, 0, 0, 0]
-    );
-    assert_eq!(&rt; VipRecord { is_notrack: false }.bytes(), [0; 8]);
+    let found = flow_of(&UDP_FRAME).map(|flow| Service::of_flow(&flow));
+    same(&rt, "service of a flow", &found, &Some(service));
+    let vip = VipRecord { is_notrack: true };
+    same(&rt, "not tracked", &vip.bytes(), &[1, 0, 0, 0, 0, 0, 0, 0]);
+    let vip = VipRecord { is_notrack: false };
+    same(&rt, "tracked", &vip.bytes(), &[0; 8]);
     let up = BackendRecord {
         address: Ipv4Address([192, 0, 2, 1]),
         is_up: true,
     };
-    assert_eq!(&rt; up.bytes(), [0xc0, 0, 2, 1, 1, 0, 0, 0]);
-    assert_eq!(&rt;
-        RingRecord { owner: Some(0) }.bytes(),
-        [1, 0, 0, 0, 0, 0, 0, 0]
+    same(&rt, "a backend", &up.bytes(), &[0xc0, 0, 2, 1, 1, 0, 0, 0]);
+    let owned = RingRecord { owner: Some(0) };
+    same(
+        &rt,
+        "a slot of backend 0",
+        &owned.bytes(),
+        &[1, 0, 0, 0, 0, 0, 0, 0],
     );
-    assert_eq!(&rt;
-        RingRecord { owner: Some(258) }.bytes(),
-        [3, 1, 0, 0, 0, 0, 0, 0]
+    let owned = RingRecord { owner: Some(258) };
+    same(
+        &rt,
+        "a slot of backend 258",
+        &owned.bytes(),
+        &[3, 1, 0, 0, 0, 0, 0, 0],
     );
-    assert_eq!(&rt; FlowRecord { backend: 1 }.bytes(), [1, 0, 0, 0, 0, 0, 0, 0]);
+    let flow = FlowRecord { backend: 1 };
+    same(&rt, "a flow", &flow.bytes(), &[1, 0, 0, 0, 0, 0, 0, 0]);
     #[rattlefmt::skip]
     let tunnel = [10, 0, 0, 9, 2, 0, 0, 0, 0, 10, 2, 0, 0, 0, 0, 11, 1, 0, 0, 0, 0, 0, 0, 0];
-    assert_eq!(&rt; TUNNEL.bytes(), tunnel);
+    same(&rt, "the tunnel", &TUNNEL.bytes(), &tunnel);
 }
+
+/// Records with this flag are read back from their bytes.
+fn flags_are_read_back(rt: &impl Abort, name: &str, is_set: bool) {
+    let vip = VipRecord { is_notrack: is_set };
+    same_fact(rt, name, "service", &VipRecord::of(&vip.bytes()), &vip);
+    let backend = BackendRecord {
+        address: Ipv4Address([1, 2, 3, 4]),
+        is_up: is_set,
+    };
+    same_fact(
+        rt,
+        name,
+        "backend",
+        &BackendRecord::of(&backend.bytes()),
+        &backend,
+    );
+    let tunnel = TunnelRecord {
+        is_ready: is_set,
+        ..TUNNEL
+    };
+    same_fact(
+        rt,
+        name,
+        "tunnel",
+        &TunnelRecord::of(&tunnel.bytes()),
+        &tunnel,
+    );
+}
+
+/// Records with this backend's number are read back from their bytes.
+fn number_is_read_back(rt: &impl Abort, number: u32)
+    requires { number < 2 ^ 32 - 1 }
+{
+    let flow = FlowRecord { backend: number };
+    same_at(
+        rt,
+        "flow of",
+        u64::from(number),
+        &FlowRecord::of(&flow.bytes()),
+        &flow,
+    );
+    let slot = RingRecord {
+        owner: Some(number),
+    };
+    same_at(
+        rt,
+        "slot of",
+        u64::from(number),
+        &RingRecord::of(&slot.bytes()),
+        &slot,
+    );
+}
+
+const NUMBERS: [u32; 6] = [0, 1, 255, 256, 65536, u32::MAX - 1];
 
 #[test]
 fn records_are_read_back(rt: HostRuntime) {
-    for is_set in [false, true] {
-        let vip = VipRecord { is_notrack: is_set };
-        assert_eq!(&rt; VipRecord::of(&vip.bytes()), vip);
-        let backend = BackendRecord {
-            address: Ipv4Address([1, 2, 3, 4]),
-            is_up: is_set,
-        };
-        assert_eq!(&rt; BackendRecord::of(&backend.bytes()), backend);
-        let tunnel = TunnelRecord {
-            is_ready: is_set,
-            ..TUNNEL
-        };
-        assert_eq!(&rt; TunnelRecord::of(&tunnel.bytes()), tunnel);
-    }
-    for number in [0, 1, 255, 256, 65536, u32::MAX - 1] {
-        assert_eq!(&rt;
-            FlowRecord::of(&FlowRecord { backend: number }.bytes()),
-            FlowRecord { backend: number }
-        );
-        let slot = RingRecord {
-            owner: Some(number),
-        };
+    flags_are_read_back(&rt, "unset", false);
+    flags_are_read_back(&rt, "set", true);
+    for number in NUMBERS {
         prove!(number < u32::MAX);
-        assert_eq!(&rt; RingRecord::of(&slot.bytes()), slot);
+        number_is_read_back(&rt, number);
     }
-    assert_eq!(&rt; RingRecord::of(&[0; 8]), RingRecord { owner: None });
-    assert_eq!(&rt;
-        VipRecord::of(&[2, 0, 0, 0, 0, 0, 0, 0]),
-        VipRecord { is_notrack: false }
+    same(
+        &rt,
+        "no owner",
+        &RingRecord::of(&[0; 8]),
+        &RingRecord { owner: None },
     );
-    assert_eq!(&rt; BackendRecord::of(&[1, 2, 3, 4, 1, 1, 0, 0]).is_up, false);
+    let vip = VipRecord::of(&[2, 0, 0, 0, 0, 0, 0, 0]);
+    same(&rt, "another bit", &vip, &VipRecord { is_notrack: false });
+    let backend = BackendRecord::of(&[1, 2, 3, 4, 1, 1, 0, 0]);
+    same(&rt, "a bit behind the flag", &backend.is_up, &false);
+}
+
+const SIZES: [(u32, u32); 4] = [(7, 8), (251, 256), (4093, 4096), (65537, 65544)];
+
+const NO_SIZES: [u32; 7] = [0, 1, 6, 8, 252, 65536, 65538];
+
+/// The maps for a table of this size, whose ring has so many entries.
+fn are_six_maps(rt: &impl Abort, alloc: Global, size: u32, ring: u32) -> Result<(), SteerFault> {
+    let maps = maps(alloc, size)?;
+    let entries = maps.get(2).map(|map| map.max_entries);
+    same_at(rt, "maps for", u64::from(size), &maps.len(), &6);
+    same_at(rt, "entries for", u64::from(size), &entries, &Some(ring));
+    same_at(
+        rt,
+        "size of maps for",
+        u64::from(size),
+        &table_size(&maps),
+        &Some(size),
+    );
+    same_at(
+        rt,
+        "size of five maps for",
+        u64::from(size),
+        &table_size(&maps[..5]),
+        &None,
+    );
+    Ok(())
+}
+
+/// The number of the refusal to make maps, or 0.
+fn refusal_of(alloc: Global, size: u32) -> u8 {
+    match maps(alloc, size) {
+        Ok(_) => 0,
+        Err(fault) => fault.number(),
+    }
 }
 
 #[test]
 fn six_maps_for_each_size(rt: HostRuntime) -> Result<(), SteerFault> {
-    for (size, ring) in [(7, 8), (251, 256), (4093, 4096), (65537, 65544)] {
-        let maps = maps(rt.alloc(), size)?;
-        assert_eq!(&rt; maps.len(), 6);
-        assert_eq!(&rt;
-            maps.get(2).map(|map| map.max_entries),
-            Some(ring),
-            "size {size}"
-        );
-        assert_eq!(&rt; table_size(maps.as_slice()), Some(size));
-        assert_eq!(&rt; table_size(&maps.as_slice()[..5]), None);
+    for (size, ring) in SIZES {
+        are_six_maps(&rt, rt.alloc(), size, ring)?;
     }
-    for size in [0, 1, 6, 8, 252, 65536, 65538] {
-        assert_eq!(&rt;
-            maps(rt.alloc(), size).is_err_and(|fault| fault.number() == 73),
-            true,
-            "size {size}"
+    for size in NO_SIZES {
+        same_at(
+            &rt,
+            "no maps for",
+            u64::from(size),
+            &refusal_of(rt.alloc(), size),
+            &73,
         );
     }
     Ok(())

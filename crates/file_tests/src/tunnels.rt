@@ -1,16 +1,14 @@
 //! Rows worked out by hand from RFC 791 and RFC 2003.
 
+ghost use Rattle.std.specs.Prelude.{◌≤◌, IsOk, length};
+
+use crate::asserting::{holds, prints, same, same_at, same_bytes, same_fact};
+use crate::datagrams::{UDP_FRAME, part, with_byte};
 use ipip::{IpipFault, Tunnel, encapsulate};
 use std::alloc::{AllocError, Global};
+use std::process::Abort;
 use std::test::Fail;
-use wire::{Frame, Ipv4Address, MacAddress};
-
-/// A UDP datagram of no payload from 198.51.100.7:40000 to 203.0.113.1:80.
-const UDP_FRAME: [u8; 42] = [
-    0x02, 0x00, 0x00, 0x00, 0x00, 0x01, 0x02, 0x00, 0x00, 0x00, 0x00, 0x02, 0x08, 0x00, 0x45, 0x00,
-    0x00, 0x1c, 0x00, 0x01, 0x00, 0x00, 0x40, 0x11, 0x14, 0x94, 0xc6, 0x33, 0x64, 0x07, 0xcb, 0x00,
-    0x71, 0x01, 0x9c, 0x40, 0x00, 0x50, 0x00, 0x08, 0x00, 0x00,
-];
+use wire::{Frame, FrameFault, Ipv4Address, MacAddress};
 
 /// The headers of a packet of 28 bytes, type of service 0, from 10.0.0.9 to 192.0.2.1.
 const HEADERS: [u8; 34] = [
@@ -37,24 +35,19 @@ fn outcome(frame: &mut Frame) -> u8 {
     }
 }
 
-/// A part of the frame; nothing, where it is not in the frame.
-fn part(frame: &Frame, from: usize, to: usize) -> &[u8] {
-    let bytes = frame.bytes();
-    if from <= to && to <= bytes.len() {
-        &bytes[from..to]
-    } else {
-        &[]
-    }
-}
-
 #[test]
 fn headers_before_a_datagram(rt: HostRuntime) -> Result<(), Fail> {
     let mut frame = Frame::of(rt.alloc(), &UDP_FRAME)?;
-    assert_eq!(rt; encapsulate(&mut frame, tunnel()), Ok(()));
-    assert_eq!(rt; frame.len(), 62);
-    assert_eq!(rt; frame.room(), 236);
-    assert_eq!(rt; part(&frame, 0, 34), HEADERS.as_slice(), "both headers");
-    assert_eq!(rt; part(&frame, 34, 62), &UDP_FRAME[14..], "the old packet");
+    same(&rt, "no refusal", &outcome(&mut frame), &0);
+    same(&rt, "length", &frame.len(), &62);
+    same(&rt, "room", &frame.room(), &236);
+    same_bytes(&rt, "both headers", part(&frame, 0, 34), &HEADERS);
+    same_bytes(
+        &rt,
+        "the old packet",
+        part(&frame, 34, 62),
+        &UDP_FRAME[14..],
+    );
     Ok(())
 }
 
@@ -76,32 +69,41 @@ const CHANGES: [(&str, usize, u8, u8); 13] = [
     ("a total past the frame (high)",  16, 0x01, 83),
 ];
 
+/// Encapsulates a frame of these bytes, and compares the number of the refusal, or 0. A frame that is refused stays as it is.
+fn is_answered(
+    rt: &impl Abort,
+    alloc: Global,
+    name: &str,
+    bytes: &[u8],
+    want: u8,
+) -> Result<Frame, FrameFault>
+    ensures { IsOk result → 14 ≤ length bytes.now }
+{
+    let mut frame = Frame::of(alloc, bytes)?;
+    same(rt, name, &outcome(&mut frame), &want);
+    if want != 0 {
+        same_bytes(rt, name, frame.bytes(), bytes);
+        same_fact(rt, name, "room", &frame.room(), &256);
+    }
+    Ok(frame)
+}
+
 #[test]
 fn one_byte_changed(rt: HostRuntime) -> Result<(), Fail> {
-    for (name, index, byte, want) in CHANGES {
-        let mut bytes = UDP_FRAME;
-        assert!(rt; index < 42);
-        bytes[index] = byte;
-        let mut frame = Frame::of(rt.alloc(), &bytes)?;
-        assert_eq!(rt; outcome(&mut frame), want, "{name}");
-        if want != 0 {
-            assert_eq!(rt; frame.bytes(), bytes.as_slice(), "{name}");
-            assert_eq!(rt; frame.room(), 256, "{name}");
-        }
+    for (name, at, byte, want) in CHANGES {
+        is_answered(&rt, rt.alloc(), name, &with_byte(&rt, at, byte), want)?;
     }
     Ok(())
 }
 
 #[test]
 fn type_of_service_is_copied(rt: HostRuntime) -> Result<(), Fail> {
-    let mut bytes = UDP_FRAME;
-    bytes[15] = 0xb8;
-    let mut frame = Frame::of(rt.alloc(), &bytes)?;
-    assert_eq!(rt; outcome(&mut frame), 0);
+    let bytes = with_byte(&rt, 15, 0xb8);
+    let frame = is_answered(&rt, rt.alloc(), "a type of service", &bytes, 0)?;
     let head = [
         0x45, 0xb8, 0x00, 0x30, 0x00, 0x00, 0x40, 0x00, 0x40, 0x04, 0x6e, 0x08,
     ];
-    assert_eq!(rt; part(&frame, 14, 26), head.as_slice());
+    same_bytes(&rt, "the outer header", part(&frame, 14, 26), &head);
     Ok(())
 }
 
@@ -143,20 +145,28 @@ fn frame_bytes(
     Ok(bytes)
 }
 
+/// Compares a frame of these fields behind its outer header, or its refusal.
+fn is_behind_its_header(
+    rt: &impl Abort,
+    alloc: Global,
+    row: (&str, usize, u8, u16, u8, u8),
+) -> Result<(), Fail> {
+    let (name, size, version, total, time_to_live, want) = row;
+    let bytes = frame_bytes(alloc, size, version, total, time_to_live)?;
+    let frame = is_answered(rt, alloc, name, &bytes, want)?;
+    if want == 0 {
+        same_fact(rt, name, "length", &frame.len(), &size.wrapping_add(20));
+        let outer = total.wrapping_add(20).to_be_bytes();
+        same_bytes(rt, name, part(&frame, 16, 18), &outer);
+        holds(rt, name, frame.bytes().ends_with(&bytes[14..]));
+    }
+    Ok(())
+}
+
 #[test]
 fn sizes_and_order(rt: HostRuntime) -> Result<(), Fail> {
-    for (name, size, version, total, time_to_live, want) in SIZES {
-        let bytes = frame_bytes(rt.alloc(), size, version, total, time_to_live)?;
-        let mut frame = Frame::of(rt.alloc(), &bytes)?;
-        assert_eq!(rt; outcome(&mut frame), want, "{name}");
-        if want == 0 {
-            assert_eq!(rt; frame.len(), size + 20, "{name}");
-            let outer = total.wrapping_add(20).to_be_bytes();
-            assert_eq!(rt; part(&frame, 16, 18), outer.as_slice(), "{name}");
-            assert!(rt; frame.bytes().ends_with(&bytes[14..]), "{name}");
-        } else {
-            assert_eq!(rt; frame.bytes(), bytes.as_slice(), "{name}");
-        }
+    for row in SIZES {
+        is_behind_its_header(&rt, rt.alloc(), row)?;
     }
     Ok(())
 }
@@ -165,24 +175,21 @@ fn sizes_and_order(rt: HostRuntime) -> Result<(), Fail> {
 fn twelve_tunnels(rt: HostRuntime) -> Result<(), Fail> {
     let mut frame = Frame::of(rt.alloc(), &UDP_FRAME)?;
     for count in 1..=12 {
-        assert_eq!(rt; outcome(&mut frame), 0, "tunnel {count}");
+        same_at(&rt, "tunnel", count, &outcome(&mut frame), &0);
     }
-    assert_eq!(rt; frame.len(), 282);
-    assert_eq!(rt; frame.room(), 16);
-    assert_eq!(rt;
-        part(&frame, 16, 18),
-        [0x01, 0x0c].as_slice(),
-        "a total of 268"
-    );
-    assert_eq!(rt;
+    same(&rt, "length", &frame.len(), &282);
+    same(&rt, "room", &frame.room(), &16);
+    same_bytes(&rt, "a total of 268", part(&frame, 16, 18), &[0x01, 0x0c]);
+    same_bytes(
+        &rt,
+        "the first packet",
         part(&frame, 254, 282),
         &UDP_FRAME[14..],
-        "the first packet"
     );
     let kept = frame.bytes().to_vec(rt.alloc())?;
-    assert_eq!(rt; outcome(&mut frame), 82);
-    assert_eq!(rt; frame.bytes(), kept.as_slice(), "unchanged");
-    assert_eq!(rt; frame.room(), 16);
+    same(&rt, "a tunnel too many", &outcome(&mut frame), &82);
+    same_bytes(&rt, "unchanged", frame.bytes(), &kept);
+    same(&rt, "unchanged room", &frame.room(), &16);
     Ok(())
 }
 
@@ -191,23 +198,26 @@ fn length_before_headroom(rt: HostRuntime) -> Result<(), Fail> {
     let bytes = frame_bytes(rt.alloc(), 1495, 0x45, 1481, 64)?;
     let mut frame = Frame::of(rt.alloc(), &bytes)?;
     frame.grow_front(256);
-    assert!(rt; bytes.len() <= frame.len());
+    holds(&rt, "room for the bytes", bytes.len() <= frame.len());
     frame.write(0, &bytes);
-    assert_eq!(rt; outcome(&mut frame), 81);
-    assert_eq!(rt; frame.room(), 0);
+    same(&rt, "too long", &outcome(&mut frame), &81);
+    same(&rt, "no room", &frame.room(), &0);
     Ok(())
 }
 
+#[rattlefmt::skip]
+const FAULTS: [(IpipFault, u8, &str); 4] = [
+    (IpipFault::TtlZero,      80, "fault 80 TtlZero"),
+    (IpipFault::TooLong,      81, "fault 81 TooLong"),
+    (IpipFault::NoRoom,       82, "fault 82 NoRoom"),
+    (IpipFault::NotPlainIpv4, 83, "fault 83 NotPlainIpv4"),
+];
+
 #[test]
 fn fault_texts(rt: HostRuntime) -> Result<(), Fail> {
-    for (fault, number, text) in [
-        (IpipFault::TtlZero, 80, "fault 80 TtlZero"),
-        (IpipFault::TooLong, 81, "fault 81 TooLong"),
-        (IpipFault::NoRoom, 82, "fault 82 NoRoom"),
-        (IpipFault::NotPlainIpv4, 83, "fault 83 NotPlainIpv4"),
-    ] {
-        assert_eq!(rt; fault.number(), number);
-        assert_eq!(rt; format!(in rt.alloc(); "{fault}")?.as_str(), text);
+    for (fault, number, text) in FAULTS {
+        same(&rt, text, &fault.number(), &number);
+        prints(&rt, rt.alloc(), &fault, text)?;
     }
     Ok(())
 }
