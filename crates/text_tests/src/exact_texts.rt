@@ -1,8 +1,10 @@
 //! Worked texts, each kind of bad line, and every spelling in both directions.
 
+use crate::asserting::{prints, same, same_bytes, same_text};
 use disasm::{AsmFault, assemble, line, round_trip, text};
 use ebpf_decode::{DecodeFault, Insn, decode, encode};
 use std::alloc::{AllocError, Global};
+use std::process::Abort;
 use std::test::Fail;
 
 const HEAD: [u8; 8] = [0x58, 0x4c, 0x42, 0x50, 1, 0, 0, 0];
@@ -35,16 +37,56 @@ const FIRST_RUN: [u8; 168] = [
 const FIRST_RUN_TEXT: &str =
     "version 1\nmap array 4 8 1\nldxw r2, [r1+0]\nldxw r3, [r1+4]\nmov r4, r2\nadd r4, 14\nmov r0, 2\njgt r4, r3, +11\nldxb r6, [r2+13]\nstw [r10-4], 0\nmov r2, r10\nadd r2, -4\nldmap r1, 0\ncall 1\njeq r0, 0, +3\nldxdw r7, [r0+0]\nadd r6, r7\nmov r0, r6\nexit\n";
 
+/// The text of an image.
+fn text_of(alloc: Global, bytes: &[u8]) -> Result<String, Fail> {
+    let image = decode(alloc, bytes)?;
+    Ok(text(alloc, &image)?)
+}
+
+/// The image of a text.
+fn bytes_of(alloc: Global, given: &str) -> Result<Vec<u8>, Fail> {
+    let image = assemble(alloc, given)?;
+    Ok(encode(alloc, &image)?)
+}
+
+/// Compares the text of an image.
+fn is_text_of(
+    rt: &impl Abort,
+    alloc: Global,
+    name: &str,
+    bytes: &[u8],
+    want: &str,
+) -> Result<(), Fail> {
+    let printed = text_of(alloc, bytes)?;
+    same_text(rt, name, &printed, want);
+    Ok(())
+}
+
+/// Compares the image of a text.
+fn is_image_of(
+    rt: &impl Abort,
+    alloc: Global,
+    name: &str,
+    given: &str,
+    want: &[u8],
+) -> Result<(), Fail> {
+    let encoded = bytes_of(alloc, given)?;
+    same_bytes(rt, name, &encoded, want);
+    Ok(())
+}
+
+/// How many instructions an image has that went through its text.
+fn count_there_and_back(alloc: Global, bytes: &[u8]) -> Result<usize, Fail> {
+    let image = decode(alloc, bytes)?;
+    Ok(round_trip(alloc, &image)?.code().len())
+}
+
 #[test]
 fn first_run(rt: HostRuntime) -> Result<(), Fail> {
-    let alloc = rt.alloc();
-    let image = decode(alloc, &FIRST_RUN)?;
-    assert_eq!(rt; text(alloc, &image)?.as_str(), FIRST_RUN_TEXT);
-    let assembled = assemble(alloc, FIRST_RUN_TEXT)?;
-    let bytes = encode(alloc, &assembled)?;
-    assert_eq!(rt; bytes.as_slice(), FIRST_RUN.as_slice());
-    let again = round_trip(alloc, &image)?;
-    assert_eq!(rt; again.code().len(), 17);
+    is_text_of(&rt, rt.alloc(), "text", &FIRST_RUN, FIRST_RUN_TEXT)?;
+    is_image_of(&rt, rt.alloc(), "image", FIRST_RUN_TEXT, &FIRST_RUN)?;
+    let count = count_there_and_back(rt.alloc(), &FIRST_RUN)?;
+    same(&rt, "instructions", &count, &17);
     Ok(())
 }
 
@@ -191,52 +233,60 @@ const WIDE: [(&str, u64, u64); 4] = [
     ("ldmap r0, -1",                    0x18100000ffffffff, 0),
 ];
 
-/// An image without maps, of these slots.
-fn image_of(alloc: Global, slots: &[u8]) -> Result<Vec<u8>, AllocError> {
-    let mut bytes = Vec::new(alloc);
-    bytes.extend_from_slice(&HEAD)?;
-    bytes.extend_from_slice(slots)?;
-    Ok(bytes)
+/// An image without maps, of this slot.
+fn image_of(slot: u64) -> [u8; 16] {
+    let mut bytes = [0; 16];
+    bytes[..8].copy_from_slice(&HEAD);
+    bytes[8..].copy_from_slice(&slot.to_be_bytes());
+    bytes
 }
 
-/// Whether the text of the slots is the line, and the slots of the line are these.
-fn spells(alloc: Global, spelling: &str, slots: &[u8]) -> Result<bool, Fail> {
-    let bytes = image_of(alloc, slots)?;
-    let want = format!(in alloc; "version 1\n{spelling}\n")?;
-    let image = decode(alloc, &bytes)?;
-    let printed = text(alloc, &image)?;
-    let assembled = assemble(alloc, &want)?;
-    let encoded = encode(alloc, &assembled)?;
-    Ok(printed.as_str() == want.as_str() && encoded.as_slice() == bytes.as_slice())
+/// An image of this version without maps, of these slots.
+fn wide_image_of(version: u8, first: u64, second: u64) -> [u8; 24] {
+    let mut bytes = [0; 24];
+    bytes[..8].copy_from_slice(&HEAD);
+    bytes[4] = version;
+    bytes[8..16].copy_from_slice(&first.to_be_bytes());
+    bytes[16..].copy_from_slice(&second.to_be_bytes());
+    bytes
 }
 
-/// The first line that is spelled otherwise, or nothing.
-fn other(alloc: Global, rows: &[(&'static str, u64)]) -> Result<&'static str, Fail> {
+/// Holds the line of one instruction against its image, in both directions.
+fn is_spelled(
+    rt: &impl Abort,
+    alloc: Global,
+    name: &str,
+    version: u8,
+    spelling: &str,
+    bytes: &[u8],
+) -> Result<(), Fail> {
+    let given = format!(in alloc; "version {version}\n{spelling}\n")?;
+    is_text_of(rt, alloc, name, bytes, &given)?;
+    is_image_of(rt, alloc, name, &given, bytes)
+}
+
+/// Holds each line against its slot.
+fn are_spelled(rt: &impl Abort, alloc: Global, rows: &[(&'static str, u64)]) -> Result<(), Fail> {
     for (spelling, slot) in rows {
-        if !spells(alloc, spelling, &slot.to_be_bytes())? {
-            return Ok(spelling);
-        }
+        is_spelled(rt, alloc, spelling, 1, spelling, &image_of(*slot))?;
     }
-    Ok("")
+    Ok(())
 }
 
 #[test]
 fn every_spelling(rt: HostRuntime) -> Result<(), Fail> {
-    assert_eq!(rt; other(rt.alloc(), &ARITHMETIC)?, "");
-    assert_eq!(rt; other(rt.alloc(), &UNARY)?, "");
-    assert_eq!(rt; other(rt.alloc(), &JUMPS)?, "");
-    assert_eq!(rt; other(rt.alloc(), &MEMORY)?, "");
-    assert_eq!(rt; other(rt.alloc(), &ATOMICS)?, "");
-    Ok(())
+    are_spelled(&rt, rt.alloc(), &ARITHMETIC)?;
+    are_spelled(&rt, rt.alloc(), &UNARY)?;
+    are_spelled(&rt, rt.alloc(), &JUMPS)?;
+    are_spelled(&rt, rt.alloc(), &MEMORY)?;
+    are_spelled(&rt, rt.alloc(), &ATOMICS)
 }
 
 #[test]
 fn wide_spellings(rt: HostRuntime) -> Result<(), Fail> {
     for (spelling, first, second) in WIDE {
-        let mut slots = Vec::new(rt.alloc());
-        slots.extend_from_slice(&first.to_be_bytes())?;
-        slots.extend_from_slice(&second.to_be_bytes())?;
-        assert!(rt; spells(rt.alloc(), spelling, &slots)?, "{spelling}");
+        let bytes = wide_image_of(1, first, second);
+        is_spelled(&rt, rt.alloc(), spelling, 1, spelling, &bytes)?;
     }
     Ok(())
 }
@@ -244,7 +294,7 @@ fn wide_spellings(rt: HostRuntime) -> Result<(), Fail> {
 #[test]
 fn one_line(rt: HostRuntime) -> Result<(), Fail> {
     let printed = line(rt.alloc(), Insn::Ja32 { distance: -1 })?;
-    assert_eq!(rt; printed.as_str(), "ja32 -1");
+    same_text(&rt, "a jump back", &printed, "ja32 -1");
     Ok(())
 }
 
@@ -299,11 +349,16 @@ fn bad_line(alloc: Global, given: &str) -> usize {
     }
 }
 
+/// The bad line of a text with this line 2, or 0.
+fn bad_line_at(alloc: Global, spelling: &str) -> Result<usize, Fail> {
+    let given = format!(in alloc; "version 1\n{spelling}\nexit\n")?;
+    Ok(bad_line(alloc, &given))
+}
+
 #[test]
 fn bad_lines(rt: HostRuntime) -> Result<(), Fail> {
     for (name, spelling) in BAD_LINES {
-        let given = format!(in rt.alloc(); "version 1\n{spelling}\nexit\n")?;
-        assert_eq!(rt; bad_line(rt.alloc(), &given), 2, "{name}");
+        same(&rt, name, &bad_line_at(rt.alloc(), spelling)?, &2);
     }
     Ok(())
 }
@@ -332,11 +387,10 @@ const FIRST_BAD_LINES: [(&str, &str, usize); 19] = [
 ];
 
 #[test]
-fn first_bad_lines(rt: HostRuntime) -> Result<(), Fail> {
+fn first_bad_lines(rt: HostRuntime) {
     for (name, given, want) in FIRST_BAD_LINES {
-        assert_eq!(rt; bad_line(rt.alloc(), given), want, "{name}");
+        same(&rt, name, &bad_line(rt.alloc(), given), &want);
     }
-    Ok(())
 }
 
 // Texts of images that there are, and the bytes of which they are the text, one number of 64 bits a slot.
@@ -351,16 +405,8 @@ const VERSION_2: [(&str, &str, u64, u64); 4] = [
 #[test]
 fn version_2(rt: HostRuntime) -> Result<(), Fail> {
     for (name, spelling, first, second) in VERSION_2 {
-        let given = format!(in rt.alloc(); "version 2\n{spelling}\n")?;
-        let image = assemble(rt.alloc(), &given)?;
-        let mut want = Vec::new(rt.alloc());
-        want.extend_from_slice(&[0x58, 0x4c, 0x42, 0x50, 2, 0, 0, 0])?;
-        want.extend_from_slice(&first.to_be_bytes())?;
-        want.extend_from_slice(&second.to_be_bytes())?;
-        let bytes = encode(rt.alloc(), &image)?;
-        assert_eq!(rt; bytes.as_slice(), want.as_slice(), "{name}");
-        let again = text(rt.alloc(), &decode(rt.alloc(), &bytes)?)?;
-        assert_eq!(rt; again.as_str(), given.as_str(), "{name}");
+        let bytes = wide_image_of(2, first, second);
+        is_spelled(&rt, rt.alloc(), name, 2, spelling, &bytes)?;
     }
     Ok(())
 }
@@ -375,12 +421,16 @@ const MAPS: [&str; 5] = [
     "version 2\nmap lru 4 8 1\nexit\n",
 ];
 
+/// Compares a text with the one of its image.
+fn comes_back(rt: &impl Abort, alloc: Global, given: &str) -> Result<(), Fail> {
+    let bytes = bytes_of(alloc, given)?;
+    is_text_of(rt, alloc, given, &bytes, given)
+}
+
 #[test]
 fn maps_of_each_kind(rt: HostRuntime) -> Result<(), Fail> {
     for given in MAPS {
-        let image = assemble(rt.alloc(), given)?;
-        let again = decode(rt.alloc(), &encode(rt.alloc(), &image)?)?;
-        assert_eq!(rt; text(rt.alloc(), &again)?.as_str(), given);
+        comes_back(&rt, rt.alloc(), given)?;
     }
     Ok(())
 }
@@ -403,23 +453,38 @@ const FAULTY: [(&str, &str, &str, DecodeFault); 11] = [
     ("an address after a wide number",  "1", "lddw r1, 0x0000000000000000\nldval r1, 0, 8\n",     DecodeFault::NotInProfile { slot: 2 }),
 ];
 
+/// How many instructions the image of a text has.
+fn count_of(alloc: Global, given: &str) -> Result<usize, AsmFault> {
+    Ok(assemble(alloc, given)?.code().len())
+}
+
+/// The same of a text behind its version.
+fn count_of_version(
+    alloc: Global,
+    version: &str,
+    given: &str,
+) -> Result<Result<usize, AsmFault>, Fail> {
+    let given = format!(in alloc; "version {version}\n{given}")?;
+    Ok(count_of(alloc, &given))
+}
+
+/// The same of a text of sixteen maps and these lines.
+fn count_behind_maps(alloc: Global, lines: &str) -> Result<Result<usize, AsmFault>, Fail> {
+    let given = format!(in alloc; "version 1\n{SIXTEEN_MAPS}{lines}")?;
+    Ok(count_of(alloc, &given))
+}
+
 #[test]
 fn faulty_images(rt: HostRuntime) -> Result<(), Fail> {
     for (name, version, given, want) in FAULTY {
-        let given = format!(in rt.alloc(); "version {version}\n{given}")?;
-        assert_eq!(rt;
-            assemble(rt.alloc(), &given).err(),
-            Some(AsmFault::Image(want)),
-            "{name}"
-        );
+        let found = count_of_version(rt.alloc(), version, given)?;
+        same(&rt, name, &found, &Err(AsmFault::Image(want)));
     }
-    let sixteen = format!(in rt.alloc(); "version 1\n{SIXTEEN_MAPS}exit\n")?;
-    assert!(rt; assemble(rt.alloc(), &sixteen).is_ok());
-    let seventeen = format!(in rt.alloc(); "version 1\n{SIXTEEN_MAPS}map array 4 8 1\nexit\n")?;
-    assert_eq!(rt;
-        assemble(rt.alloc(), &seventeen).err(),
-        Some(AsmFault::Image(DecodeFault::BadHead))
-    );
+    let sixteen = count_behind_maps(rt.alloc(), "exit\n")?;
+    same(&rt, "sixteen maps", &sixteen, &Ok(1));
+    let seventeen = count_behind_maps(rt.alloc(), "map array 4 8 1\nexit\n")?;
+    let want = Err(AsmFault::Image(DecodeFault::BadHead));
+    same(&rt, "seventeen maps", &seventeen, &want);
     Ok(())
 }
 
@@ -433,16 +498,19 @@ fn long_text(alloc: Global, count: u32) -> Result<String, AllocError> {
     Ok(given)
 }
 
+/// How many instructions the image of so many lines and an `exit` has.
+fn count_of_long(alloc: Global, count: u32) -> Result<Result<usize, AsmFault>, AllocError> {
+    let given = long_text(alloc, count)?;
+    Ok(count_of(alloc, &given))
+}
+
 #[test]
 fn longest_program(rt: HostRuntime) -> Result<(), Fail> {
-    let longest = long_text(rt.alloc(), 4095)?;
-    let image = assemble(rt.alloc(), &longest)?;
-    assert_eq!(rt; image.code().len(), 4096);
-    let too_long = long_text(rt.alloc(), 4096)?;
-    assert_eq!(rt;
-        assemble(rt.alloc(), &too_long).err(),
-        Some(AsmFault::Image(DecodeFault::TooLong))
-    );
+    let longest = count_of_long(rt.alloc(), 4095)?;
+    same(&rt, "the longest", &longest, &Ok(4096));
+    let too_long = count_of_long(rt.alloc(), 4096)?;
+    let want = Err(AsmFault::Image(DecodeFault::TooLong));
+    same(&rt, "too long", &too_long, &want);
     Ok(())
 }
 
@@ -456,16 +524,15 @@ const FAULT_TEXTS: [(AsmFault, &str); 3] = [
 #[test]
 fn fault_texts(rt: HostRuntime) -> Result<(), Fail> {
     for (fault, want) in FAULT_TEXTS {
-        let printed = format!(in rt.alloc(); "{fault}")?;
-        assert_eq!(rt; printed.as_str(), want);
+        prints(&rt, rt.alloc(), &fault, want)?;
     }
     Ok(())
 }
 
 #[test]
 fn refused_memory_is_23(rt: HostRuntime) {
-    match assemble(rt.alloc(), FIRST_RUN_TEXT) {
-        Ok(image) => assert_eq!(rt; image.code().len(), 17),
-        Err(fault) => assert_eq!(rt; fault, AsmFault::Memory),
+    match count_of(rt.alloc(), FIRST_RUN_TEXT) {
+        Ok(count) => same(&rt, "instructions", &count, &17),
+        Err(fault) => same(&rt, "no memory", &fault, &AsmFault::Memory),
     }
 }

@@ -1,6 +1,9 @@
 //! Printed paragraphs, and numbers that no fault has.
 
+use crate::asserting::{same, same_bytes, same_text};
 use explanations::{Explanation, refusal_text};
+use std::alloc::Global;
+use std::process::Abort;
 use std::test::Fail;
 
 #[test]
@@ -14,16 +17,18 @@ The last instruction goes on past the end.
 Usual causes: The program does not end with `exit`.
 For example: `mov r0, 2` as the whole program.
 ";
-    assert_eq!(rt; text.as_str(), want);
+    same_text(&rt, "fault 33", &text, want);
     Ok(())
 }
 
+const NO_FAULTS: [u32; 8] = [0, 24, 57, 61, 96, 255, 256, 4294967295];
+
 #[test]
-fn numbers_that_are_none(rt: HostRuntime) -> Result<(), Fail> {
-    for number in [0, 24, 57, 61, 96, 255, 256, 4294967295] {
-        assert!(rt; Explanation::of(number).is_none(), "{number}");
+fn numbers_that_are_none(rt: HostRuntime) {
+    for number in NO_FAULTS {
+        let explained = Explanation::of(number).map(|row| row.number);
+        same(&rt, "no row", &explained, &None);
     }
-    Ok(())
 }
 
 /// A fault, notes, and the text.
@@ -49,22 +54,40 @@ const REFUSALS: [(&str, &str, &str); 7] = [
     ("two\nlines\n", "\n", "twolines\n  \n"),
 ];
 
-#[test]
-fn printed_refusals(rt: HostRuntime) -> Result<(), Fail> {
-    for (fault, notes, want) in REFUSALS {
-        let text = refusal_text(rt.alloc(), fault, notes)?;
-        assert!(rt; text.as_slice() == want.as_bytes(), "{want}");
-    }
+/// Compares the text of a refusal.
+fn is_printed(
+    rt: &impl Abort,
+    alloc: Global,
+    fault: &str,
+    notes: &str,
+    want: &str,
+) -> Result<(), Fail> {
+    let text = refusal_text(alloc, fault, notes)?;
+    same_bytes(rt, want, &text, want.as_bytes());
     Ok(())
 }
 
 #[test]
-fn printed_long_refusal(rt: HostRuntime) -> Result<(), Fail> {
-    let mut notes = String::new(rt.alloc());
-    for _ in 0..30_000 {
+fn printed_refusals(rt: HostRuntime) -> Result<(), Fail> {
+    for (fault, notes, want) in REFUSALS {
+        is_printed(&rt, rt.alloc(), fault, notes, want)?;
+    }
+    Ok(())
+}
+
+/// So many lines of two letters.
+fn long_notes(alloc: Global, count: u32) -> Result<String, Fail> {
+    let mut notes = String::new(alloc);
+    for _ in 0..count {
         notes.push_str("ab\n")?;
     }
-    let text = refusal_text(rt.alloc(), "fault", notes.as_str())?;
-    assert_eq!(rt; text.len(), 6 + 30_000 * 5);
+    Ok(notes)
+}
+
+#[test]
+fn printed_long_refusal(rt: HostRuntime) -> Result<(), Fail> {
+    let notes = long_notes(rt.alloc(), 30_000)?;
+    let text = refusal_text(rt.alloc(), "fault", &notes)?;
+    same(&rt, "length", &text.len(), &(6 + 30_000 * 5));
     Ok(())
 }

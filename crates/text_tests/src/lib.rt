@@ -2,6 +2,8 @@
 #![tactic(auto)]
 
 #[cfg(test)]
+mod asserting;
+#[cfg(test)]
 mod exact_texts;
 #[cfg(test)]
 mod explained_faults;

@@ -1,9 +1,11 @@
 //! Worked sources.
 
+use crate::asserting::{holds, same, same_text};
 use disasm::{assemble, text};
 use ebpf_decode::DecodeFault;
 use source_form::{Problem, SourceFault, assemble_source, exact_text, explain, source};
 use std::alloc::Global;
+use std::process::Abort;
 use std::test::Fail;
 
 const FIRST_RUN: &str =
@@ -17,13 +19,31 @@ const FIRST_RUN_SOURCE: &str =
 const EXAMPLE: &str =
     "# Answers byte 13 of the frame plus the number in element 0: 1 drops the frame, 2 passes it on, 3 sends it.\nversion 1\nmap array 4 8 1                # map 0: the number to add\n\n    ldxw r2, [r1+0]            # where the frame begins\n    ldxw r3, [r1+4]            # where it ends\n    mov  r4, r2\n    add  r4, 0xe\n    mov  r0, 2\n    jgt  r4, r3, out           # fewer than 14 bytes: pass\n\n    ldxb r6, [r2+0xd]          # byte 13\n    stw  [r10-4], 0            # the key 0\n    mov  r2, r10\n    add  r2, -4\n    ldmap r1, 0\n    call map_lookup_elem\n    jeq  r0, 0, out            # no such element\n\n    ldxdw r7, [r0+0]\n    add  r6, r7\n    mov  r0, r6\nout:\n    exit\n";
 
+/// Compares the exact text that a source means.
+fn is_meant(
+    rt: &impl Abort,
+    alloc: Global,
+    name: &str,
+    written: &str,
+    want: &str,
+) -> Result<(), Fail> {
+    let exact = exact_text(alloc, written)?;
+    same_text(rt, name, &exact, want);
+    Ok(())
+}
+
+/// The exact text of a source's image.
+fn text_of(alloc: Global, written: &str) -> Result<String, Fail> {
+    let image = assemble_source(alloc, written)?;
+    Ok(text(alloc, &image)?)
+}
+
 #[test]
 fn first_run(rt: HostRuntime) -> Result<(), Fail> {
-    let alloc = rt.alloc();
-    assert_eq!(rt; exact_text(alloc, EXAMPLE)?.as_str(), FIRST_RUN);
-    assert_eq!(rt; exact_text(alloc, FIRST_RUN_SOURCE)?.as_str(), FIRST_RUN);
-    let image = assemble_source(alloc, FIRST_RUN_SOURCE)?;
-    assert_eq!(rt; text(alloc, &image)?.as_str(), FIRST_RUN);
+    is_meant(&rt, rt.alloc(), "the example", EXAMPLE, FIRST_RUN)?;
+    is_meant(&rt, rt.alloc(), "the source", FIRST_RUN_SOURCE, FIRST_RUN)?;
+    let image = text_of(rt.alloc(), FIRST_RUN_SOURCE)?;
+    same_text(&rt, "the source's image", &image, FIRST_RUN);
     Ok(())
 }
 
@@ -59,15 +79,17 @@ const LINES: [(&str, &str); 27] = [
     ("map hash 4 8 16 # a map",   "map hash 4 8 16\n"),
 ];
 
+/// Compares the line of the exact text that a line of a source means.
+fn line_is_meant(rt: &impl Abort, alloc: Global, written: &str, want: &str) -> Result<(), Fail> {
+    let source = format!(in alloc; "version 1\n{written}")?;
+    let want = format!(in alloc; "version 1\n{want}")?;
+    is_meant(rt, alloc, written, &source, &want)
+}
+
 #[test]
 fn lines(rt: HostRuntime) -> Result<(), Fail> {
-    let alloc = rt.alloc();
-    for (written, exact) in &LINES {
-        let meant = exact_text(alloc, &format!(in alloc; "version 1\n{written}")?)?;
-        assert_eq!(rt;
-            meant.as_str(),
-            format!(in alloc; "version 1\n{exact}")?.as_str()
-        );
+    for (written, want) in LINES {
+        line_is_meant(&rt, rt.alloc(), written, want)?;
     }
     Ok(())
 }
@@ -87,9 +109,8 @@ const LABELS: [(&str, &str); 8] = [
 
 #[test]
 fn labels(rt: HostRuntime) -> Result<(), Fail> {
-    let alloc = rt.alloc();
-    for (written, exact) in &LABELS {
-        assert_eq!(rt; exact_text(alloc, *written)?.as_str(), *exact);
+    for (written, want) in LABELS {
+        is_meant(&rt, rt.alloc(), written, written, want)?;
     }
     Ok(())
 }
@@ -128,19 +149,31 @@ const BAD: [(&str, usize, Problem, &str); 29] = [
     ("", 1, Problem::NoSpelling, "  expected version 1 or version 2 on the first line, then map KIND KEY-BYTES VALUE-BYTES ENTRIES (hash, array or lru) before the instructions\n"),
 ];
 
+/// What is wrong with a source, if anything is.
+fn fault_of(alloc: Global, written: &str) -> Option<SourceFault> {
+    assemble_source(alloc, written).err()
+}
+
+/// Compares what is wrong with a source, and the words for it.
+fn is_refused(
+    rt: &impl Abort,
+    alloc: Global,
+    name: &str,
+    written: &str,
+    fault: SourceFault,
+    words: &str,
+) -> Result<(), Fail> {
+    same(rt, name, &fault_of(alloc, written), &Some(fault));
+    let told = explain(alloc, written, fault)?;
+    same_text(rt, name, &told, words);
+    Ok(())
+}
+
 #[test]
 fn bad_lines(rt: HostRuntime) -> Result<(), Fail> {
-    let alloc = rt.alloc();
-    for (written, line, problem, words) in &BAD {
-        let fault = SourceFault::BadLine {
-            line: *line,
-            problem: *problem,
-        };
-        match assemble_source(alloc, *written) {
-            Ok(_) => assert!(rt; false),
-            Err(told) => assert_eq!(rt; told, fault),
-        }
-        assert_eq!(rt; explain(alloc, *written, fault)?.as_str(), *words);
+    for (written, line, problem, words) in BAD {
+        let fault = SourceFault::BadLine { line, problem };
+        is_refused(&rt, rt.alloc(), written, written, fault, words)?;
     }
     Ok(())
 }
@@ -157,14 +190,9 @@ const NO_IMAGE: [(&str, DecodeFault, &str); 5] = [
 
 #[test]
 fn no_image(rt: HostRuntime) -> Result<(), Fail> {
-    let alloc = rt.alloc();
-    for (written, why, words) in &NO_IMAGE {
-        let fault = SourceFault::Image(*why);
-        match assemble_source(alloc, *written) {
-            Ok(_) => assert!(rt; false),
-            Err(told) => assert_eq!(rt; told, fault),
-        }
-        assert_eq!(rt; explain(alloc, *written, fault)?.as_str(), *words);
+    for (written, why, words) in NO_IMAGE {
+        let fault = SourceFault::Image(why);
+        is_refused(&rt, rt.alloc(), written, written, fault, words)?;
     }
     Ok(())
 }
@@ -182,38 +210,41 @@ fn long_source(alloc: Global, last: &str) -> Result<String, Fail> {
 
 #[test]
 fn too_long(rt: HostRuntime) -> Result<(), Fail> {
-    let alloc = rt.alloc();
-    let fits = long_source(alloc, "exit\n")?;
-    assert!(rt; assemble_source(alloc, &fits).is_ok());
-    let long = long_source(alloc, "lddw r1, 0\n")?;
+    let fits = long_source(rt.alloc(), "exit\n")?;
+    same(&rt, "4096 slots", &fault_of(rt.alloc(), &fits), &None);
+    let long = long_source(rt.alloc(), "lddw r1, 0\n")?;
     let fault = SourceFault::Image(DecodeFault::TooLong);
-    match assemble_source(alloc, &long) {
-        Ok(_) => assert!(rt; false),
-        Err(told) => assert_eq!(rt; told, fault),
-    }
     let words = "  line 2052: an image has at most 4096 slots\n";
-    assert_eq!(rt; explain(alloc, &long, fault)?.as_str(), words);
-    Ok(())
+    is_refused(&rt, rt.alloc(), "4097 slots", &long, fault, words)
 }
 
 // An instruction of each form, and jumps to all sides: to a label, into a wide instruction, and out of the program.
 const FORMS: &str =
     "version 2\nmap hash 4 8 16\nmap array 4 8 1\nmap lru 2 16 3\nadd r1, -5\nxor32 r2, r3\nneg r1\nneg32 r4\nmovsx8 r1, r2\nmovsx1632 r1, r2\nle16 r1\nswap64 r1\nja +3\nja32 -4\njeq r1, 5, +0\njsle32 r1, r2, -1\njgt r1, r2, +6\nja -100\nldxdw r1, [r2-8]\nldxsb r1, [r2+1]\nstw [r10-4], -7\nstxb [r10-4], r1\naaddw [r1+0], r2\nafxordw [r1+0], r2\nlddw r1, 0x00000000ffffffff\nja -2\nldmap r1, 2\nldval r1, 1, 8\ncall 44\nexit\n";
 
+/// What `source` prints of a text's image.
+fn source_of(alloc: Global, exact: &str) -> Result<String, Fail> {
+    let image = assemble(alloc, exact)?;
+    Ok(source(alloc, &image)?)
+}
+
 /// The text of the image of what `source` prints of a text's image.
 fn there_and_back(alloc: Global, exact: &str) -> Result<String, Fail> {
-    let image = assemble(alloc, exact)?;
-    let printed = source(alloc, &image)?;
-    let again = assemble_source(alloc, &printed)?;
-    Ok(text(alloc, &again)?)
+    let printed = source_of(alloc, exact)?;
+    text_of(alloc, &printed)
+}
+
+/// Compares a text with what comes of it there and back.
+fn comes_back(rt: &impl Abort, alloc: Global, name: &str, exact: &str) -> Result<(), Fail> {
+    let again = there_and_back(alloc, exact)?;
+    same_text(rt, name, &again, exact);
+    Ok(())
 }
 
 #[test]
 fn each_form_there_and_back(rt: HostRuntime) -> Result<(), Fail> {
-    let alloc = rt.alloc();
-    assert_eq!(rt; there_and_back(alloc, FORMS)?.as_str(), FORMS);
-    assert_eq!(rt; there_and_back(alloc, FIRST_RUN)?.as_str(), FIRST_RUN);
-    Ok(())
+    comes_back(&rt, rt.alloc(), "each form", FORMS)?;
+    comes_back(&rt, rt.alloc(), "the first run", FIRST_RUN)
 }
 
 const SMALL: &str =
@@ -224,9 +255,8 @@ const SMALL_SOURCE: &str =
 
 #[test]
 fn printed_source(rt: HostRuntime) -> Result<(), Fail> {
-    let alloc = rt.alloc();
-    let image = assemble(alloc, SMALL)?;
-    assert_eq!(rt; source(alloc, &image)?.as_str(), SMALL_SOURCE);
+    let printed = source_of(rt.alloc(), SMALL)?;
+    same_text(&rt, "a small source", &printed, SMALL_SOURCE);
     Ok(())
 }
 
@@ -241,12 +271,18 @@ fn largest(alloc: Global, first: &str, last: &str) -> Result<String, Fail> {
     Ok(out)
 }
 
+/// Whether this is the exact text that a source means, and comes back.
+fn is_exact(alloc: Global, written: &str, exact: &str) -> Result<(bool, bool), Fail> {
+    let is_meant = exact_text(alloc, written)?.as_str() == exact;
+    Ok((is_meant, there_and_back(alloc, exact)?.as_str() == exact))
+}
+
 #[test]
 fn a_large_source(rt: HostRuntime) -> Result<(), Fail> {
-    let alloc = rt.alloc();
-    let exact = largest(alloc, "ja +4094\n", "exit\n")?;
-    let written = largest(alloc, "ja end\n", "end:\nexit\n")?;
-    assert!(rt; exact_text(alloc, &written)?.as_str() == exact.as_str());
-    assert!(rt; there_and_back(alloc, &exact)?.as_str() == exact.as_str());
+    let exact = largest(rt.alloc(), "ja +4094\n", "exit\n")?;
+    let written = largest(rt.alloc(), "ja end\n", "end:\nexit\n")?;
+    let (is_meant, comes_back) = is_exact(rt.alloc(), &written, &exact)?;
+    holds(&rt, "the text that is meant", is_meant);
+    holds(&rt, "there and back", comes_back);
     Ok(())
 }

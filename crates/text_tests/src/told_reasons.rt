@@ -1,5 +1,6 @@
 //! Programs with what is told of them, worked out by hand from the rules.
 
+use crate::asserting::{holds, same_text};
 use disasm::assemble;
 use reasons::explain;
 use std::alloc::Global;
@@ -11,9 +12,7 @@ const LOOKUP: &str =
 
 /// What is told of the program of a text.
 fn told(alloc: Global, head: &str, code: &str) -> Result<String, Fail> {
-    let mut text = String::new(alloc);
-    text.push_str(head)?;
-    text.push_str(code)?;
+    let text = format!(in alloc; "{head}{code}")?;
     let image = assemble(alloc, &text)?;
     Ok(explain(alloc, &image)?)
 }
@@ -132,10 +131,22 @@ const PROGRAM: &str = "  slot 0: ldmap r6, 0
     known: r0 number 0..7; r6 map 0; r7 number 0..7; r10 stack r10-0; r10-16 spilled map 0; r10-8 bytes -------w;
 ";
 
+/// Holds the beginning of what is told of a program against its lines.
+fn check_row(
+    rt: &impl Abort,
+    alloc: Global,
+    head: &str,
+    code: &str,
+    want: &str,
+) -> Result<(), Fail> {
+    let text = told(alloc, head, code)?;
+    assert!(rt; text.starts_with(want), "{code}{text}");
+    Ok(())
+}
+
 fn check_rows(rt: &impl Abort, alloc: Global, rows: &[Row]) -> Result<(), Fail> {
     for (head, code, want) in rows {
-        let text = told(alloc, head, code)?;
-        assert!(rt; text.starts_with(*want), "{code}{text}");
+        check_row(rt, alloc, head, code, want)?;
     }
     Ok(())
 }
@@ -167,20 +178,25 @@ fn accepted_program(rt: HostRuntime) -> Result<(), Fail> {
         "version 1\nmap array 4 8 1\n",
         "ldmap r6, 0\nldxw r7, [r1+16]\nstb [r10-1], 7\nstxdw [r10-16], r6\ncall 8\nexit\n",
     )?;
-    assert_eq!(rt; text.as_str(), PROGRAM);
+    same_text(&rt, "a program that is accepted", &text, PROGRAM);
     Ok(())
 }
 
-#[test]
-fn largest_program(rt: HostRuntime) -> Result<(), Fail> {
-    let alloc = rt.alloc();
+/// 4095 moves and an `exit`.
+fn largest(alloc: Global) -> Result<String, Fail> {
     let mut code = String::new(alloc);
     for _ in 0..4095 {
         code.push_str("mov r0, 2\n")?;
     }
     code.push_str("exit\n")?;
-    let text = told(alloc, V1, &code)?;
+    Ok(code)
+}
+
+#[test]
+fn largest_program(rt: HostRuntime) -> Result<(), Fail> {
+    let code = largest(rt.alloc())?;
+    let text = told(rt.alloc(), V1, &code)?;
     let last = "  slot 4095: exit\n    known: r0 number 2; r1 context; r10 stack r10-0;\n";
-    assert!(rt; text.ends_with(last));
+    holds(&rt, "the last slot", text.ends_with(last));
     Ok(())
 }

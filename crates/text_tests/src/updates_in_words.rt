@@ -1,9 +1,11 @@
 //! Words that say updates, and maps that take them.
 
+use crate::asserting::{holds_of, same, same_text};
 use ebpf_decode::{MapDef, MapKind};
 use map_updates::{MapUpdate, Misfit, Mistake, first_misfit, misfit_of, update_of};
 use semantics::{Key, Value};
 use std::alloc::Global;
+use std::process::Abort;
 use std::test::Fail;
 
 /// What a row shows, the words, and the update's map, key and value.
@@ -29,9 +31,9 @@ fn words_say_updates(rt: HostRuntime) -> Result<(), Fail> {
     let alloc = rt.alloc();
     for (name, [map, key, value], place, key_bytes, value_bytes) in ROWS {
         let found = update_of(alloc, map, key, value)?;
-        assert_eq!(rt; found.map, place, "map of {name}");
-        assert!(rt; found.key.as_slice() == key_bytes, "key of {name}");
-        assert!(rt; found.value.as_slice() == value_bytes, "value of {name}");
+        holds_of(&rt, name, "map", found.map == place);
+        holds_of(&rt, name, "key", found.key.as_slice() == key_bytes);
+        holds_of(&rt, name, "value", found.value.as_slice() == value_bytes);
     }
     Ok(())
 }
@@ -50,13 +52,11 @@ const MISTAKEN: [(&str, [&str; 3], Mistake); 9] = [
 ];
 
 #[test]
-fn words_are_mistaken(rt: HostRuntime) -> Result<(), Fail> {
-    let alloc = rt.alloc();
+fn words_are_mistaken(rt: HostRuntime) {
     for (name, [map, key, value], want) in MISTAKEN {
-        let found = update_of(alloc, map, key, value);
-        assert!(rt; found == Err(want), "{name}");
+        let found = update_of(rt.alloc(), map, key, value).err();
+        same(&rt, name, &found, &Some(want));
     }
-    Ok(())
 }
 
 /// So many times two zeros.
@@ -69,20 +69,24 @@ fn zeros(alloc: Global, bytes: usize) -> Result<String, Fail> {
 }
 
 /// Bytes of a key and of a value, and what is said of them.
-const LENGTHS: [(usize, usize, Option<Mistake>); 3] = [
-    (32, 256, None),
-    (33, 0, Some(Mistake::Key)),
-    (0, 257, Some(Mistake::Value)),
+#[rattlefmt::skip]
+const LENGTHS: [(&str, usize, usize, Option<Mistake>); 3] = [
+    ("the longest",      32, 256, None),
+    ("a key too long",   33, 0,   Some(Mistake::Key)),
+    ("a value too long", 0,  257, Some(Mistake::Value)),
 ];
+
+/// What is said of zeros of these numbers of bytes.
+fn mistake_of(alloc: Global, key: usize, value: usize) -> Result<Option<Mistake>, Fail> {
+    let key = zeros(alloc, key)?;
+    let value = zeros(alloc, value)?;
+    Ok(update_of(alloc, "0", &key, &value).err())
+}
 
 #[test]
 fn keys_and_values_are_short(rt: HostRuntime) -> Result<(), Fail> {
-    let alloc = rt.alloc();
-    for (key, value, want) in LENGTHS {
-        let key = zeros(alloc, key)?;
-        let value = zeros(alloc, value)?;
-        let found = update_of(alloc, "0", key.as_str(), value.as_str());
-        assert!(rt; found.err() == want, "{want:?}");
+    for (name, key, value, want) in LENGTHS {
+        same(&rt, name, &mistake_of(rt.alloc(), key, value)?, &want);
     }
     Ok(())
 }
@@ -125,27 +129,35 @@ fn told(alloc: Global, misfit: Option<Misfit>) -> Result<String, Fail> {
     }
 }
 
-#[test]
-fn maps_take_updates(rt: HostRuntime) -> Result<(), Fail> {
-    let alloc = rt.alloc();
-    let maps = [map(MapKind::Array, 4, 8), map(MapKind::LruHash, 16, 64)];
-    for (place, key, value, want) in FITS {
-        let found = told(alloc, misfit_of(&maps, &update(place, key, value)))?;
-        assert!(rt; found.as_str() == want, "{want}");
-    }
+/// Compares the text of a misfit.
+fn is_told(rt: &impl Abort, alloc: Global, misfit: Option<Misfit>, want: &str) -> Result<(), Fail> {
+    let text = told(alloc, misfit)?;
+    same_text(rt, want, &text, want);
     Ok(())
 }
 
 #[test]
-fn the_first_misfit_is_told(rt: HostRuntime) -> Result<(), Fail> {
-    let maps = [map(MapKind::Array, 4, 8)];
-    let mut updates = Vec::new(rt.alloc());
-    for _ in 0..100 {
-        updates.push(update(0, 4, 8))?;
+fn maps_take_updates(rt: HostRuntime) -> Result<(), Fail> {
+    let maps = [map(MapKind::Array, 4, 8), map(MapKind::LruHash, 16, 64)];
+    for (place, key, value, want) in FITS {
+        let misfit = misfit_of(&maps, &update(place, key, value));
+        is_told(&rt, rt.alloc(), misfit, want)?;
     }
-    assert!(rt; first_misfit(&maps, &updates) == None);
-    updates.push(update(1, 4, 8))?;
-    updates.push(update(0, 0, 8))?;
-    assert!(rt; first_misfit(&maps, &updates) == Some((100, Misfit::NoMap { map: 1 })));
+    Ok(())
+}
+
+/// The first misfit of a hundred updates that fit and of these.
+fn first_behind(alloc: Global, last: &[MapUpdate]) -> Result<Option<(usize, Misfit)>, Fail> {
+    let mut updates = vec![in alloc; update(0, 4, 8); 100]?;
+    updates.extend_from_slice(last)?;
+    Ok(first_misfit(&[map(MapKind::Array, 4, 8)], &updates))
+}
+
+#[test]
+fn the_first_misfit_is_told(rt: HostRuntime) -> Result<(), Fail> {
+    same(&rt, "all fit", &first_behind(rt.alloc(), &[])?, &None);
+    let last = [update(1, 4, 8), update(0, 0, 8)];
+    let want = Some((100, Misfit::NoMap { map: 1 }));
+    same(&rt, "two misfits", &first_behind(rt.alloc(), &last)?, &want);
     Ok(())
 }

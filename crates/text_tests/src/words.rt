@@ -1,9 +1,11 @@
 //! Command lines.
 
+use crate::asserting::{holds_of, same_text};
 use command_line::{ReplayFiles, RunFiles, Settings, WordsFault, settings};
 use map_updates::MapUpdate;
 use semantics::Options;
 use std::alloc::{AllocError, Global};
+use std::process::Abort;
 use std::test::Fail;
 
 /// The settings' words and numbers in one line.
@@ -123,14 +125,18 @@ const READ: [(&str, &str); 28] = [
     ("xlb replay a b --image i --workers 4 --shards 8 --journal 16 --ring 7", "replay a b i - 4 8 16 7 -"),
 ];
 
+/// Compares the settings of a command line.
+fn is_read(rt: &impl Abort, alloc: Global, line: &str, want: &str) -> Result<(), Fail> {
+    let words: Vec<&str> = line.split(' ').collect(alloc)?;
+    let found = shown(alloc, settings(alloc, &words)?)?;
+    same_text(rt, line, &found, want);
+    Ok(())
+}
+
 #[test]
 fn reads_commands(rt: HostRuntime) -> Result<(), Fail> {
-    let alloc = rt.alloc();
     for (line, want) in READ {
-        let words: Vec<&str> = line.split(' ').collect(alloc)?;
-        let found = settings(alloc, words.as_slice())?;
-        let found = shown(alloc, found)?;
-        assert!(rt; found.as_str() == want, "{line}");
+        is_read(&rt, rt.alloc(), line, want)?;
     }
     Ok(())
 }
@@ -197,13 +203,24 @@ fn text_of(alloc: Global, fault: &WordsFault) -> Result<String, Fail> {
     Ok(format!(in alloc; "{fault}")?)
 }
 
+/// Compares the status of a fault, and what its text begins with.
+fn is_refused(
+    rt: &impl Abort,
+    alloc: Global,
+    line: &str,
+    status: u8,
+    text: &str,
+) -> Result<(), Fail> {
+    let (found, told) = told(alloc, line)?;
+    holds_of(rt, line, "status", found == status);
+    holds_of(rt, line, "text", told.starts_with(text));
+    Ok(())
+}
+
 #[test]
 fn refuses_wrong_words(rt: HostRuntime) -> Result<(), Fail> {
-    let alloc = rt.alloc();
     for (line, status, text) in REFUSED {
-        let found = told(alloc, line)?;
-        assert_eq!(rt; found.0, status, "status of {line}");
-        assert!(rt; found.1.as_str().starts_with(text), "text of {line}");
+        is_refused(&rt, rt.alloc(), line, status, text)?;
     }
     Ok(())
 }

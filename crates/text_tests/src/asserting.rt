@@ -1,0 +1,43 @@
+//! What ends a test: comparisons that are proved once for all tests. The message names the row, and what is compared.
+
+use std::alloc::Global;
+use std::fmt::{Debug, Display};
+use std::process::Abort;
+use std::test::Fail;
+
+/// Ends the test where a value is not the wanted one.
+pub(crate) fn same<T: PartialEq + Debug>(rt: &impl Abort, name: &str, found: &T, wanted: &T) {
+    assert_eq!(rt; *found, *wanted, "{name}");
+}
+
+/// The same of texts.
+pub(crate) fn same_text(rt: &impl Abort, name: &str, found: &str, wanted: &str) {
+    assert_eq!(rt; found, wanted, "{name}");
+}
+
+/// The same of bytes.
+pub(crate) fn same_bytes(rt: &impl Abort, name: &str, found: &[u8], wanted: &[u8]) {
+    assert_eq!(rt; found, wanted, "{name}");
+}
+
+/// Ends the test where something does not hold.
+pub(crate) fn holds(rt: &impl Abort, name: &str, is_so: bool) {
+    assert!(rt; is_so, "{name}");
+}
+
+/// The same of one of several facts of a row.
+pub(crate) fn holds_of(rt: &impl Abort, name: &str, fact: &str, is_so: bool) {
+    assert!(rt; is_so, "{name}: {fact}");
+}
+
+/// Ends the test where a value is not printed so.
+pub(crate) fn prints<T: Display>(
+    rt: &impl Abort,
+    alloc: Global,
+    value: &T,
+    wanted: &str,
+) -> Result<(), Fail> {
+    let printed = format!(in alloc; "{value}")?;
+    assert_eq!(rt; printed.as_str(), wanted);
+    Ok(())
+}
