@@ -3,7 +3,7 @@
 ghost use Rattle.std.specs.Prelude.{◌≡◌, IfOk};
 ghost use Rattle.conntrack.specs.SteeringMaps.{steering_maps};
 
-use crate::asserting::{holds, same, same_at, same_bytes, same_fact};
+use crate::asserting::{holds, holds_at, same, same_at, same_bytes, same_fact};
 use conntrack::maps;
 use control::{
     Command, ControlFault, Controller, MadeUpdate, Slot, UpdateList, parse_script, ring_updates,
@@ -13,15 +13,22 @@ use maglev::{Ring, RingFault};
 use std::alloc::Global;
 use std::process::Abort;
 
+/// The maps of a table of seven slots, in memory.
+fn maps_opened(alloc: Global, room: usize) -> Result<UpdateList, ControlFault>
+    ensures { IfOk result (λ list. list.maps ≡ steering_maps 7) }
+{
+    match maps(alloc, 7) {
+        Ok(maps) => Ok(UpdateList::open(alloc, maps, room)?),
+        Err(_) => Err(ControlFault::Memory),
+    }
+}
+
 /// A controller for a table of seven slots, and its maps in memory.
 fn opened(alloc: Global, room: usize) -> Result<(Controller, UpdateList), ControlFault>
     ensures { IfOk result (λ both. both.1.maps ≡ steering_maps both.0.size) }
 {
-    let controller = Controller::open(alloc, 7)?;
-    match maps(alloc, 7) {
-        Ok(maps) => Ok((controller, UpdateList::open(alloc, maps, room)?)),
-        Err(_) => Err(ControlFault::Memory),
-    }
+    let list = maps_opened(alloc, room)?;
+    Ok((Controller::open(alloc, 7)?, list))
 }
 
 /// The number of the fault, or 0.
@@ -80,37 +87,41 @@ fn scripts_are_read_exactly(rt: HostRuntime) -> Result<(), ControlFault> {
 }
 
 #[rattlefmt::skip]
-const BAD_LINES: [(&str, &[u8], usize); 32] = [
-    ("no line feed",              b"0 down 0", 1),
-    ("empty line",                b"\n", 1),
-    ("frames fall",               b"1 down 0\n0 down 0\n", 2),
-    ("unknown word",              b"0 stop 0\n", 1),
-    ("word in capitals",          b"0 Down 0\n", 1),
-    ("leading zero",              b"00 down 0\n", 1),
-    ("leading zero of a number",  b"0 down 01\n", 1),
-    ("plus",                      b"0 down +1\n", 1),
-    ("minus",                     b"0 down -1\n", 1),
-    ("frame of 2^32",             b"4294967296 down 0\n", 1),
-    ("number of 2^32",            b"0 down 4294967296\n", 1),
-    ("two spaces",                b"0  down 0\n", 1),
-    ("space at the end",          b"0 down 0 \n", 1),
-    ("space at the beginning",    b" 0 down 0\n", 1),
-    ("tab",                       b"0\tdown 0\n", 1),
-    ("carriage return",           b"0 down 0\r\n", 1),
-    ("no address",                b"0 up 0\n", 1),
-    ("part of 256",               b"0 up 0 192.0.2.256\n", 1),
-    ("three parts",               b"0 up 0 192.0.2\n", 1),
-    ("five parts",                b"0 up 0 192.0.2.1.1\n", 1),
-    ("leading zero of a part",    b"0 up 0 192.0.02.1\n", 1),
-    ("port of 65536",             b"0 vip 203.0.113.1 65536 udp\n", 1),
-    ("no transport",              b"0 vip 203.0.113.1 80\n", 1),
-    ("other transport",           b"0 vip 203.0.113.1 80 icmp\n", 1),
-    ("two spaces before notrack", b"0 vip 203.0.113.1 80 udp  notrack\n", 1),
-    ("other word than notrack",   b"0 vip 203.0.113.1 80 udp track\n", 1),
-    ("capital digit",             b"0 gateway 10.0.0.9 02:00:00:00:00:0A 02:00:00:00:00:0b\n", 1),
-    ("single digit",              b"0 gateway 10.0.0.9 02:00:00:00:00:a 02:00:00:00:00:0b\n", 1),
-    ("other mark",                b"0 gateway 10.0.0.9 02-00-00-00-00-0a 02:00:00:00:00:0b\n", 1),
-    ("third line",                b"0 down 0\n0 down 1\n0 down\n0 down 3\n", 3),
+const BAD_LINES: [(&str, &str, usize); 30] = [
+    ("no line feed",              "0 down 0", 1),
+    ("empty line",                "\n", 1),
+    ("frames fall",               "1 down 0\n0 down 0\n", 2),
+    ("unknown word",              "0 stop 0\n", 1),
+    ("word in capitals",          "0 Down 0\n", 1),
+    ("leading zero",              "00 down 0\n", 1),
+    ("leading zero of a number",  "0 down 01\n", 1),
+    ("plus",                      "0 down +1\n", 1),
+    ("minus",                     "0 down -1\n", 1),
+    ("frame of 2^32",             "4294967296 down 0\n", 1),
+    ("number of 2^32",            "0 down 4294967296\n", 1),
+    ("two spaces",                "0  down 0\n", 1),
+    ("space at the end",          "0 down 0 \n", 1),
+    ("space at the beginning",    " 0 down 0\n", 1),
+    ("tab",                       "0\tdown 0\n", 1),
+    ("carriage return",           "0 down 0\r\n", 1),
+    ("no address",                "0 up 0\n", 1),
+    ("part of 256",               "0 up 0 192.0.2.256\n", 1),
+    ("three parts",               "0 up 0 192.0.2\n", 1),
+    ("five parts",                "0 up 0 192.0.2.1.1\n", 1),
+    ("leading zero of a part",    "0 up 0 192.0.02.1\n", 1),
+    ("port of 65536",             "0 vip 203.0.113.1 65536 udp\n", 1),
+    ("no transport",              "0 vip 203.0.113.1 80\n", 1),
+    ("other transport",           "0 vip 203.0.113.1 80 icmp\n", 1),
+    ("two spaces before notrack", "0 vip 203.0.113.1 80 udp  notrack\n", 1),
+    ("other word than notrack",   "0 vip 203.0.113.1 80 udp track\n", 1),
+    ("capital digit",             "0 gateway 10.0.0.9 02:00:00:00:00:0A 02:00:00:00:00:0b\n", 1),
+    ("single digit",              "0 gateway 10.0.0.9 02:00:00:00:00:a 02:00:00:00:00:0b\n", 1),
+    ("other mark",                "0 gateway 10.0.0.9 02-00-00-00-00-0a 02:00:00:00:00:0b\n", 1),
+    ("third line",                "0 down 0\n0 down 1\n0 down\n0 down 3\n", 3),
+];
+
+#[rattlefmt::skip]
+const NO_TEXTS: [(&str, &[u8], usize); 2] = [
     ("no UTF-8 before bad line",  b"bad\n0 down 1\n0 \xffdown 2\n", 3),
     ("cut character",             b"0 down 0\n\xe2\x82", 2),
 ];
@@ -124,7 +135,11 @@ fn fault_of(alloc: Global, text: &[u8]) -> Option<ControlFault> {
 fn the_first_bad_line_is_told(rt: HostRuntime) {
     for (name, text, line) in BAD_LINES {
         let fault = Some(ControlFault::BadLine { line });
-        same(&rt, name, &fault_of(rt.alloc(), text), &fault);
+        same(&rt, name, &fault_of(rt.alloc(), text.as_bytes()), &fault);
+    }
+    for (name, bytes, line) in NO_TEXTS {
+        let fault = Some(ControlFault::BadLine { line });
+        same(&rt, name, &fault_of(rt.alloc(), bytes), &fault);
     }
 }
 
@@ -147,13 +162,20 @@ fn is_answered(
     Ok(list)
 }
 
+/// Compares an update that was asked.
+fn is_asked(rt: &impl Abort, place: u64, made: &MadeUpdate, row: Row) {
+    let (map, key, value) = row;
+    holds_at(rt, "map of update", place, made.map == map);
+    holds_at(rt, "key of update", place, made.key.as_slice() == key);
+    holds_at(rt, "value of update", place, made.value.as_slice() == value);
+}
+
 /// Compares the updates that were asked.
 fn are_asked(rt: &impl Abort, asked: &[MadeUpdate], rows: &[Row]) {
-    for (place, (made, (map, key, value))) in asked.iter().zip(rows).enumerate() {
-        let place = place as u64;
-        same_at(rt, "map of update", place, &made.map, map);
-        same_at(rt, "key of update", place, &made.key.as_slice(), key);
-        same_at(rt, "value of update", place, &made.value.as_slice(), value);
+    let mut place = 0u64;
+    for (made, row) in asked.iter().zip(rows) {
+        is_asked(rt, place, made, *row);
+        place = place.wrapping_add(1);
     }
 }
 

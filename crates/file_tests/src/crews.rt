@@ -2,7 +2,7 @@
 
 ghost use Rattle.std.specs.Prelude.{◌≡◌, ◌<◌, ◌≤◌};
 
-use crate::asserting::{holds_at, same};
+use crate::asserting::same;
 use rx_queues::{Job, Queues, TakePass};
 use std::alloc::Global;
 use std::process::Abort;
@@ -151,9 +151,13 @@ const ROWS: [Row; 5] = [
 /// After how many records each command comes. The first one was applied before.
 const STARTS: [u32; 5] = [0, 0, 64, 500, 4_000_000_000];
 
-fn runs_are(workers: &[Handled<u64>], want: &[u64]) -> bool {
-    workers.iter().all(|it| it.runs.len() as u64 == it.state)
-        && workers.iter().map(|it| it.state).eq(want.iter().copied())
+/// Compares how often each worker ran, by its runs and by what it counted.
+fn are_runs(rt: &impl Abort, workers: &[Handled<u64>], want: &[u64]) {
+    same(rt, "workers", &workers.len(), &want.len());
+    for (worker, runs) in workers.iter().zip(want) {
+        same(rt, "runs of a worker", &(worker.runs.len() as u64), runs);
+        same(rt, "what a worker counted", &worker.state, runs);
+    }
 }
 
 /// Runs the row with a controller and a reclaimer, and compares.
@@ -181,8 +185,7 @@ fn run_beside<R: Abort + Threads + Wait + Sync>(
         takes,
         states,
     )?;
-    let runs = runs_are(&ended.workers, row.runs);
-    holds_at(rt, "runs, by number of workers:", row.workers as u64, runs);
+    are_runs(rt, &ended.workers, row.runs);
     same(
         rt,
         "controller",

@@ -213,9 +213,12 @@ fn file_of_a_deletion(rt: HostRuntime) -> Result<(), Fail> {
     compare(&rt, rt.alloc(), DELETED, &deleted())
 }
 
-/// A file, and the first bad line if there is one. The maps have room for 1 key, and for 2.
+/// What a row shows, for how many keys each map has room, a file, and the first bad line if there is one.
+type FileRow = (&'static str, &'static [u32], &'static str, Option<usize>);
+
+/// Headers, the forms of lines, and shards.
 #[rattlefmt::skip]
-const FILES: [(&str, &[u32], &str, Option<usize>); 72] = [
+const FILES: [FileRow; 30] = [
     ("nothing",                    &[1], "",                                   Some(1)),
     ("a header",                   &[1], "XLBJ 1 1 1 16\n",                    None),
     ("no map",                     &[],  "XLBJ 1 8 8 1048576\n",               None),
@@ -246,6 +249,11 @@ const FILES: [(&str, &[u32], &str, Option<usize>); 72] = [
     ("the fifth shard",            &[2, 2], "XLBJ 1 1 2 16\n4 w0 enter ok\n",  Some(2)),
     ("shards in order",            &[2], "XLBJ 1 2 2 16\n0 w1 enter ok\n1 w1 enter ok\n1 w1 leave ok\n", None),
     ("shards out of order",        &[2], "XLBJ 1 2 2 16\n0 w1 enter ok\n1 w1 enter ok\n0 w1 leave ok\n", Some(4)),
+];
+
+/// Keys, values, numbers and replies.
+#[rattlefmt::skip]
+const WORDS: [FileRow; 27] = [
     ("a key",                      &[1], "XLBJ 1 1 1 16\n0 c delete 07000000 answer -2\n", None),
     ("a key of three bytes",       &[1], "XLBJ 1 1 1 16\n0 c delete 070000 answer 0\n",    Some(2)),
     ("a key of seven digits",      &[1], "XLBJ 1 1 1 16\n0 c delete 0700000 answer 0\n",   Some(2)),
@@ -273,6 +281,11 @@ const FILES: [(&str, &[u32], &str, Option<usize>); 72] = [
     ("an unknown verb",            &[1], "XLBJ 1 1 1 16\n0 w0 peek ok\n",                  Some(2)),
     ("freed cells",                &[1], "XLBJ 1 1 1 16\n0 r reclaim freed 3\n",           None),
     ("fewer than none",            &[1], "XLBJ 1 1 1 16\n0 r reclaim freed -1\n",          Some(2)),
+];
+
+/// Calls with other words, and other replies, than they have.
+#[rattlefmt::skip]
+const CALLS: [FileRow; 15] = [
     ("a leave",                     &[1], "XLBJ 1 1 1 16\n0 w0 leave ok\n", None),
     ("a leave with a number",       &[1], "XLBJ 1 1 1 16\n0 w0 leave 0 ok\n", Some(2)),
     ("a cell",                      &[1], "XLBJ 1 1 1 16\n0 w0 lookup 07000000 cell 0\n", None),
@@ -298,13 +311,20 @@ fn at_line(bad: Option<usize>) -> Option<FileFault> {
     }
 }
 
-#[test]
-fn files_and_their_bad_lines(rt: HostRuntime) -> Result<(), Fail> {
-    for (name, rooms, text, bad) in FILES {
-        let got = fault_of(rt.alloc(), rooms, text.as_bytes())?;
-        same(&rt, name, &got, &at_line(bad));
+/// Holds the fault of each file against its first bad line.
+fn have_bad_lines(rt: &impl Abort, alloc: Global, rows: &[FileRow]) -> Result<(), Fail> {
+    for (name, rooms, text, bad) in rows {
+        let got = fault_of(alloc, rooms, text.as_bytes())?;
+        same(rt, name, &got, &at_line(*bad));
     }
     Ok(())
+}
+
+#[test]
+fn files_and_their_bad_lines(rt: HostRuntime) -> Result<(), Fail> {
+    have_bad_lines(&rt, rt.alloc(), &FILES)?;
+    have_bad_lines(&rt, rt.alloc(), &WORDS)?;
+    have_bad_lines(&rt, rt.alloc(), &CALLS)
 }
 
 #[rattlefmt::skip]

@@ -188,16 +188,17 @@ fn texts_and_numbers_of_faults(rt: HostRuntime) -> Result<(), Fail> {
     Ok(())
 }
 
-/// Compares each backend's share of the slots.
-fn shares_are(rt: &impl Abort, ring: &Ring, backends: &[Backend], least: u32, most: u32) {
+/// Holds a backend's share of the slots against its bounds.
+fn has_share(rt: &impl Abort, ring: &Ring, number: u32, least: u32, most: u32) {
+    let share = share_of(ring, number);
+    holds_at(rt, "not too few slots:", u64::from(share), least <= share);
+    holds_at(rt, "not too many slots:", u64::from(share), share <= most);
+}
+
+/// The same of each backend.
+fn have_shares(rt: &impl Abort, ring: &Ring, backends: &[Backend], least: u32, most: u32) {
     for backend in backends {
-        let share = share_of(ring, backend.number);
-        holds_at(
-            rt,
-            "share of one backend:",
-            u64::from(share),
-            least <= share && share <= most,
-        );
+        has_share(rt, ring, backend.number, least, most);
     }
 }
 
@@ -209,7 +210,7 @@ fn shares_and_time_of_large_rings(rt: HostRuntime) -> Result<(), Fail> {
         let ring = Ring::build(rt.alloc(), &backends, 65537)?;
         let time = start.elapsed(&rt)?.as_micros();
         println!(rt; "{count} backends on 65537 slots: {time} microseconds")?;
-        shares_are(&rt, &ring, &backends, least, most);
+        have_shares(&rt, &ring, &backends, least, most);
     }
     Ok(())
 }

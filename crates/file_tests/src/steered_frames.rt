@@ -1,5 +1,7 @@
 //! What no clause says: rows worked out elsewhere, and that maps are made with memory.
 
+ghost use Rattle.std.specs.Prelude.{◌-◌, ◌<◌, ◌^◌};
+
 use crate::asserting::{same, same_at, same_bytes, same_fact};
 use crate::datagrams::{UDP_FRAME, with_byte};
 use conntrack::{
@@ -121,18 +123,23 @@ fn is_chosen(
     Ok(())
 }
 
-#[test]
-fn the_first_case_that_applies_decides(rt: HostRuntime) -> Result<(), FrameFault> {
-    for (name, vip, tunnel, tracked, slot, want) in CASES {
+/// Compares the choice of each case.
+fn are_decided(rt: &impl Abort, alloc: Global, cases: &[Case]) -> Result<(), FrameFault> {
+    for (name, vip, tunnel, tracked, slot, want) in cases {
         let records = Records {
-            vip,
-            tunnel,
-            tracked,
-            slot,
+            vip: *vip,
+            tunnel: *tunnel,
+            tracked: *tracked,
+            slot: *slot,
         };
-        is_chosen(&rt, rt.alloc(), name, &UDP_FRAME, &records, want)?;
+        is_chosen(rt, alloc, name, &UDP_FRAME, &records, *want)?;
     }
     Ok(())
+}
+
+#[test]
+fn the_first_case_that_applies_decides(rt: HostRuntime) -> Result<(), FrameFault> {
+    are_decided(&rt, rt.alloc(), &CASES)
 }
 
 /// A service whose flows are tracked, a tunnel that is set up, and a flow that nothing is noted of.

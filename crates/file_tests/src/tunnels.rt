@@ -171,6 +171,14 @@ fn sizes_and_order(rt: HostRuntime) -> Result<(), Fail> {
     Ok(())
 }
 
+/// Compares the number of a frame's refusal, and what it has then with what it had.
+fn is_refused(rt: &impl Abort, alloc: Global, frame: &mut Frame, want: u8) -> Result<(), Fail> {
+    let kept = frame.bytes().to_vec(alloc)?;
+    same(rt, "refusal", &outcome(frame), &want);
+    same_bytes(rt, "unchanged", frame.bytes(), &kept);
+    Ok(())
+}
+
 #[test]
 fn twelve_tunnels(rt: HostRuntime) -> Result<(), Fail> {
     let mut frame = Frame::of(rt.alloc(), &UDP_FRAME)?;
@@ -186,9 +194,7 @@ fn twelve_tunnels(rt: HostRuntime) -> Result<(), Fail> {
         part(&frame, 254, 282),
         &UDP_FRAME[14..],
     );
-    let kept = frame.bytes().to_vec(rt.alloc())?;
-    same(&rt, "a tunnel too many", &outcome(&mut frame), &82);
-    same_bytes(&rt, "unchanged", frame.bytes(), &kept);
+    is_refused(&rt, rt.alloc(), &mut frame, 82)?;
     same(&rt, "unchanged room", &frame.room(), &16);
     Ok(())
 }
