@@ -1,6 +1,6 @@
 //! What no clause says: rows worked out elsewhere, and that what takes memory succeeds where there is enough.
 
-ghost use Rattle.std.specs.Prelude.{◌≡◌, IfOk};
+ghost use Rattle.std.specs.Prelude.{◌≡◌, IfOk, length};
 ghost use Rattle.conntrack.specs.SteeringMaps.{steering_maps};
 
 use crate::asserting::{holds, holds_at, same, same_at, same_bytes, same_fact};
@@ -78,12 +78,21 @@ fn is_read_exactly(
     Ok(())
 }
 
-#[test]
-fn scripts_are_read_exactly(rt: HostRuntime) -> Result<(), ControlFault> {
-    for (name, text) in SCRIPTS {
-        is_read_exactly(&rt, rt.alloc(), name, text)?;
+/// The same of each script.
+fn are_read_exactly(
+    rt: &impl Abort,
+    alloc: Global,
+    rows: &[(&str, &str)],
+) -> Result<(), ControlFault> {
+    for (name, text) in rows {
+        is_read_exactly(rt, alloc, name, text)?;
     }
     Ok(())
+}
+
+#[test]
+fn scripts_are_read_exactly(rt: HostRuntime) -> Result<(), ControlFault> {
+    are_read_exactly(&rt, rt.alloc(), &SCRIPTS)
 }
 
 #[rattlefmt::skip]
@@ -131,15 +140,24 @@ fn fault_of(alloc: Global, text: &[u8]) -> Option<ControlFault> {
     parse_script(alloc, text).err()
 }
 
+/// Holds what is wrong with a script against its first bad line.
+fn is_bad_at(rt: &impl Abort, alloc: Global, name: &str, text: &[u8], line: usize) {
+    let fault = Some(ControlFault::BadLine { line });
+    same(rt, name, &fault_of(alloc, text), &fault);
+}
+
+/// The same of each script.
+fn are_bad(rt: &impl Abort, alloc: Global, rows: &[(&str, &str, usize)]) {
+    for (name, text, line) in rows {
+        is_bad_at(rt, alloc, name, text.as_bytes(), *line);
+    }
+}
+
 #[test]
 fn the_first_bad_line_is_told(rt: HostRuntime) {
-    for (name, text, line) in BAD_LINES {
-        let fault = Some(ControlFault::BadLine { line });
-        same(&rt, name, &fault_of(rt.alloc(), text.as_bytes()), &fault);
-    }
+    are_bad(&rt, rt.alloc(), &BAD_LINES);
     for (name, bytes, line) in NO_TEXTS {
-        let fault = Some(ControlFault::BadLine { line });
-        same(&rt, name, &fault_of(rt.alloc(), bytes), &fault);
+        is_bad_at(&rt, rt.alloc(), name, bytes, line);
     }
 }
 
@@ -271,24 +289,43 @@ fn the_65th_service_is_refused(rt: HostRuntime) -> Result<(), ControlFault> {
     Ok(())
 }
 
+const CHANGED: [Slot; 3] = [
+    Slot {
+        place: 0,
+        owner: Some(0),
+    },
+    Slot {
+        place: 2,
+        owner: Some(0),
+    },
+    Slot {
+        place: 6,
+        owner: Some(2),
+    },
+];
+
+/// Compares the slots that have other owners in the second ring.
+fn are_changed(
+    rt: &impl Abort,
+    alloc: Global,
+    name: &str,
+    first: &Ring,
+    second: &Ring,
+    want: &[Slot],
+) -> Result<(), RingFault>
+    requires { length first.now ≡ length second.now }
+{
+    let slots = ring_updates(alloc, first, second)?;
+    holds(rt, name, slots.as_slice() == want);
+    Ok(())
+}
+
 #[test]
 fn slots_that_change_hands(rt: HostRuntime) -> Result<(), RingFault> {
     let first = Ring::turns(rt.alloc(), &[(0, 3, 4), (1, 0, 2), (2, 3, 1)], 7)?;
     let second = Ring::turns(rt.alloc(), &[(0, 3, 4), (2, 3, 1)], 7)?;
-    let slots = ring_updates(rt.alloc(), &first, &second)?;
-    let owner = Some(0);
-    let want = [
-        Slot { place: 0, owner },
-        Slot { place: 2, owner },
-        Slot {
-            place: 6,
-            owner: Some(2),
-        },
-    ];
-    same(&rt, "slots", &slots.as_slice(), &want.as_slice());
-    let none = ring_updates(rt.alloc(), &first, &first)?;
-    same(&rt, "slots of the same ring", &none.len(), &0);
-    Ok(())
+    are_changed(&rt, rt.alloc(), "without one", &first, &second, &CHANGED)?;
+    are_changed(&rt, rt.alloc(), "the same ring", &first, &first, &[])
 }
 
 const NO_SIZES: [u32; 5] = [0, 1, 8, 252, 65536];

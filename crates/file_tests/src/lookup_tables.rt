@@ -94,6 +94,18 @@ fn are_owners(rt: &impl Abort, name: &str, ring: &Ring, want: &[u32]) {
     }
 }
 
+/// The ring that backends make by turns. Ends the test where an offset or a skip does not fit.
+fn turns(
+    rt: &impl Abort,
+    alloc: Global,
+    name: &str,
+    given: &[Given],
+    size: u32,
+) -> Result<Ring, RingFault> {
+    holds(rt, name, fit(given, size));
+    Ring::turns(alloc, given, size)
+}
+
 /// Compares the owners of the seven slots that backends take by turns.
 fn take_turns(
     rt: &impl Abort,
@@ -102,8 +114,7 @@ fn take_turns(
     given: &[Given],
     want: &[u32],
 ) -> Result<(), RingFault> {
-    holds(rt, name, fit(given, 7));
-    let ring = Ring::turns(alloc, given, 7)?;
+    let ring = turns(rt, alloc, name, given, 7)?;
     same(rt, name, &ring.size(), &7);
     are_owners(rt, name, &ring, want);
     Ok(())
@@ -127,18 +138,6 @@ fn owners_by_addresses(rt: HostRuntime) -> Result<(), Fail> {
     Ok(())
 }
 
-/// Why these turns make no ring.
-fn refused_turns(
-    rt: &impl Abort,
-    alloc: Global,
-    name: &str,
-    given: &[Given],
-    size: u32,
-) -> Option<RingFault> {
-    holds(rt, name, fit(given, size));
-    Ring::turns(alloc, given, size).err()
-}
-
 /// Why these backends make no ring.
 fn refused_build(alloc: Global, backends: &[Backend], size: u32) -> Option<RingFault> {
     Ring::build(alloc, backends, size).err()
@@ -147,7 +146,7 @@ fn refused_build(alloc: Global, backends: &[Backend], size: u32) -> Option<RingF
 #[test]
 fn refusals_in_their_order(rt: HostRuntime) {
     for (name, given, size, want) in REFUSED_TURNS {
-        let found = refused_turns(&rt, rt.alloc(), name, given, size);
+        let found = turns(&rt, rt.alloc(), name, given, size).err();
         same(&rt, name, &found, &Some(want));
     }
     for (name, backends, size, want) in REFUSED_BUILDS {

@@ -3,9 +3,10 @@
 ghost use Rattle.std.specs.Prelude.{◌≡◌, ◌<◌, ◌+◌, length, IfSome};
 ghost use Rattle.rx_queues.specs.Passes.{HasQueue, workers_of, queue_of, IsPutPassOf, IsTakePassOf, TakeAtTheirPlaces};
 
-use crate::asserting::{same, same_at};
+use crate::asserting::{holds, same, same_at};
 use rx_queues::{Caller, Job, OpenFault, PutPass, Queues, TakePass, spread};
 use std::alloc::Global;
+use std::process::Abort;
 use std::sync::Wait;
 use std::thread;
 use std::thread::Threads;
@@ -21,9 +22,12 @@ fn flow(source_port: u16, destination_port: u16, transport: Transport) -> FlowKe
     }
 }
 
+/// What a row shows, both ports, the protocol, how many workers there are, and the worker.
+type Row = (&'static str, u16, u16, Transport, usize, usize);
+
 // The workers stand as a separate program computed them from the hash of the sixteen bytes.
 #[rattlefmt::skip]
-const SPREADS: [(&str, u16, u16, Transport, usize, usize); 14] = [
+const SPREADS: [Row; 14] = [
     ("first of two flows over two workers",  40000, 80,  Transport::Tcp, 2, 0),
     ("second of two flows over two workers", 40001, 80,  Transport::Tcp, 2, 1),
     ("another destination port",             40000, 443, Transport::Tcp, 3, 1),
@@ -40,13 +44,18 @@ const SPREADS: [(&str, u16, u16, Transport, usize, usize); 14] = [
     ("eight flows, each another worker: 8",  40199, 80,  Transport::Tcp, 8, 4),
 ];
 
+/// Compares the worker of each row's flow.
+fn are_spread(rt: &impl Abort, rows: &[Row]) {
+    for (name, source_port, destination_port, transport, workers, want) in rows {
+        let key = flow(*source_port, *destination_port, *transport);
+        holds(rt, name, *workers > 0);
+        same(rt, name, &spread(Some(&key), *workers), want);
+    }
+}
+
 #[test]
 fn flows_spread_over_workers(rt: HostRuntime) {
-    for (name, source_port, destination_port, transport, workers, want) in SPREADS {
-        let key = flow(source_port, destination_port, transport);
-        prove!(workers > 0);
-        same(&rt, name, &spread(Some(&key), workers), &want);
-    }
+    are_spread(&rt, &SPREADS);
     same(&rt, "no flow", &spread(None, 8), &0);
 }
 
