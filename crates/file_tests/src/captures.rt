@@ -215,11 +215,16 @@ const FAULTS: [(CaptureFault, u8, &str); 8] = [
     (CaptureFault::Memory,                    8, "fault 8 Memory"),
 ];
 
-#[test]
-fn capture_fault_texts(rt: HostRuntime) -> Result<(), Fail> {
-    for (fault, number, text) in FAULTS {
-        same(&rt, text, &fault.number(), &number);
-        prints(&rt, rt.alloc(), &fault, text)?;
+/// Compares the number and the text of each fault.
+fn are_told(rt: &impl Abort, alloc: Global, rows: &[(CaptureFault, u8, &str)]) -> Result<(), Fail> {
+    for (fault, number, text) in rows {
+        same(rt, text, &fault.number(), number);
+        prints(rt, alloc, fault, text)?;
     }
     Ok(())
+}
+
+#[test]
+fn capture_fault_texts(rt: HostRuntime) -> Result<(), Fail> {
+    are_told(&rt, rt.alloc(), &FAULTS)
 }

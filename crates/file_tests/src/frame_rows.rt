@@ -186,13 +186,18 @@ const FAULTS: [(FrameFault, u8, &str); 3] = [
     (FrameFault::ShortFrame,   9, "fault 9 ShortFrame"),
 ];
 
-#[test]
-fn fault_texts(rt: HostRuntime) -> Result<(), Fail> {
-    for (fault, number, text) in FAULTS {
-        same(&rt, text, &fault.number(), &number);
-        prints(&rt, rt.alloc(), &fault, text)?;
+/// Compares the number and the text of each fault.
+fn are_told(rt: &impl Abort, alloc: Global, rows: &[(FrameFault, u8, &str)]) -> Result<(), Fail> {
+    for (fault, number, text) in rows {
+        same(rt, text, &fault.number(), number);
+        prints(rt, alloc, fault, text)?;
     }
     Ok(())
+}
+
+#[test]
+fn fault_texts(rt: HostRuntime) -> Result<(), Fail> {
+    are_told(&rt, rt.alloc(), &FAULTS)
 }
 
 #[test]

@@ -407,11 +407,16 @@ const FAULTS: [(FileFault, u8, &str); 3] = [
     (FileFault::BadJournalFile { line: 3 }, 55, "fault 55 BadJournalFile line 3"),
 ];
 
-#[test]
-fn file_fault_texts(rt: HostRuntime) -> Result<(), Fail> {
-    for (fault, number, text) in FAULTS {
-        same(&rt, text, &fault.number(), &number);
-        prints(&rt, rt.alloc(), &fault, text)?;
+/// Compares the number and the text of each fault.
+fn are_told(rt: &impl Abort, alloc: Global, rows: &[(FileFault, u8, &str)]) -> Result<(), Fail> {
+    for (fault, number, text) in rows {
+        same(rt, text, &fault.number(), number);
+        prints(rt, alloc, fault, text)?;
     }
     Ok(())
+}
+
+#[test]
+fn file_fault_texts(rt: HostRuntime) -> Result<(), Fail> {
+    are_told(&rt, rt.alloc(), &FAULTS)
 }

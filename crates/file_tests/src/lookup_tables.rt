@@ -143,20 +143,26 @@ fn refused_build(alloc: Global, backends: &[Backend], size: u32) -> Option<RingF
     Ring::build(alloc, backends, size).err()
 }
 
+/// Compares why the turns of each row make no ring.
+fn are_refused_turns(rt: &impl Abort, alloc: Global, rows: &[(&str, &[Given], u32, RingFault)]) {
+    for (name, given, size, want) in rows {
+        let found = turns(rt, alloc, name, given, *size).err();
+        same(rt, name, &found, &Some(*want));
+    }
+}
+
+/// Compares why the backends of each row make no ring.
+fn are_refused_builds(rt: &impl Abort, alloc: Global, rows: &[(&str, &[Backend], u32, RingFault)]) {
+    for (name, backends, size, want) in rows {
+        let found = refused_build(alloc, backends, *size);
+        same(rt, name, &found, &Some(*want));
+    }
+}
+
 #[test]
 fn refusals_in_their_order(rt: HostRuntime) {
-    for (name, given, size, want) in REFUSED_TURNS {
-        let found = turns(&rt, rt.alloc(), name, given, size).err();
-        same(&rt, name, &found, &Some(want));
-    }
-    for (name, backends, size, want) in REFUSED_BUILDS {
-        same(
-            &rt,
-            name,
-            &refused_build(rt.alloc(), backends, size),
-            &Some(want),
-        );
-    }
+    are_refused_turns(&rt, rt.alloc(), &REFUSED_TURNS);
+    are_refused_builds(&rt, rt.alloc(), &REFUSED_BUILDS);
 }
 
 /// Why so many backends make no ring of 4093 slots.
@@ -178,13 +184,18 @@ fn more_than_256_backends(rt: HostRuntime) -> Result<(), Fail> {
     Ok(())
 }
 
-#[test]
-fn texts_and_numbers_of_faults(rt: HostRuntime) -> Result<(), Fail> {
-    for (fault, number, text) in FAULTS {
-        same(&rt, text, &fault.number(), &number);
-        prints(&rt, rt.alloc(), &fault, text)?;
+/// Compares the number and the text of each fault.
+fn are_told(rt: &impl Abort, alloc: Global, rows: &[(RingFault, u8, &str)]) -> Result<(), Fail> {
+    for (fault, number, text) in rows {
+        same(rt, text, &fault.number(), number);
+        prints(rt, alloc, fault, text)?;
     }
     Ok(())
+}
+
+#[test]
+fn texts_and_numbers_of_faults(rt: HostRuntime) -> Result<(), Fail> {
+    are_told(&rt, rt.alloc(), &FAULTS)
 }
 
 /// Holds a backend's share of the slots against its bounds.
@@ -201,13 +212,19 @@ fn have_shares(rt: &impl Abort, ring: &Ring, backends: &[Backend], least: u32, m
     }
 }
 
+/// A ring of 65537 slots, and the microseconds in which it was built.
+fn timed(rt: &HostRuntime, backends: &[Backend]) -> Result<(Ring, u128), Fail> {
+    let start = Instant::now(rt)?;
+    let ring = Ring::build(rt.alloc(), backends, 65537)?;
+    let time = start.elapsed(rt)?.as_micros();
+    Ok((ring, time))
+}
+
 #[test]
 fn shares_and_time_of_large_rings(rt: HostRuntime) -> Result<(), Fail> {
     for (count, least, most) in SHARES {
         let backends = hundreds(rt.alloc(), count)?;
-        let start = Instant::now(&rt)?;
-        let ring = Ring::build(rt.alloc(), &backends, 65537)?;
-        let time = start.elapsed(&rt)?.as_micros();
+        let (ring, time) = timed(&rt, &backends)?;
         println!(rt; "{count} backends on 65537 slots: {time} microseconds")?;
         have_shares(&rt, &ring, &backends, least, most);
     }

@@ -142,15 +142,21 @@ fn the_first_case_that_applies_decides(rt: HostRuntime) -> Result<(), FrameFault
     are_decided(&rt, rt.alloc(), &CASES)
 }
 
-/// A service whose flows are tracked, a tunnel that is set up, and a flow that nothing is noted of.
-fn records(slot: Option<Assigned>) -> Records {
-    Records {
-        vip: TRACKED,
-        tunnel: READY,
-        tracked: None,
-        slot,
-    }
-}
+/// A service whose flows are tracked, a tunnel that is set up, a flow that nothing is noted of, and a backend that is up.
+const WITH_BACKEND_UP: Records = Records {
+    vip: TRACKED,
+    tunnel: READY,
+    tracked: None,
+    slot: FIRST_UP,
+};
+
+/// The same with a backend that is down.
+const WITH_BACKEND_DOWN: Records = Records {
+    vip: TRACKED,
+    tunnel: READY,
+    tracked: None,
+    slot: FIRST_DOWN,
+};
 
 #[rattlefmt::skip]
 const CHANGES: [(&str, usize, u8, Choice); 5] = [
@@ -177,7 +183,7 @@ fn with_total(total: u16) -> [u8; 1500] {
 
 #[test]
 fn frames_that_cannot_be_steered(rt: HostRuntime) -> Result<(), FrameFault> {
-    let records = records(FIRST_UP);
+    let records = WITH_BACKEND_UP;
     for (name, at, byte, want) in CHANGES {
         is_chosen(
             &rt,
@@ -210,20 +216,25 @@ fn becomes(
 
 #[test]
 fn the_chosen_backend_gets_the_frame(rt: HostRuntime) -> Result<(), FrameFault> {
-    let up = records(FIRST_UP);
+    let up = WITH_BACKEND_UP;
     becomes(&rt, rt.alloc(), &up, TO_FIRST, &SENT)?;
-    let down = records(FIRST_DOWN);
+    let down = WITH_BACKEND_DOWN;
     becomes(&rt, rt.alloc(), &down, Choice::Drop, &UDP_FRAME)
 }
 
-/// A choice of backend 3, at 192.0.2.4.
-fn to_fourth(updates_flows: bool) -> Choice {
-    Choice::Tx {
-        number: 3,
-        address: Ipv4Address([192, 0, 2, 4]),
-        updates_flows,
-    }
-}
+/// A choice of backend 3, at 192.0.2.4, which the flow gets.
+const TO_FOURTH: Choice = Choice::Tx {
+    number: 3,
+    address: Ipv4Address([192, 0, 2, 4]),
+    updates_flows: true,
+};
+
+/// The same, where the flow is not noted.
+const TO_FOURTH_ONCE: Choice = Choice::Tx {
+    number: 3,
+    address: Ipv4Address([192, 0, 2, 4]),
+    updates_flows: false,
+};
 
 #[test]
 fn the_flow_is_noted_where_its_owner_is_chosen(rt: HostRuntime) {
@@ -233,8 +244,8 @@ fn the_flow_is_noted_where_its_owner_is_chosen(rt: HostRuntime) {
     #[rattlefmt::skip]
     let key = [198, 51, 100, 7, 203, 0, 113, 1, 0x9c, 0x40, 0, 0x50, 0x11, 0, 0, 0];
     let noted = Some((key, [3, 0, 0, 0, 0, 0, 0, 0]));
-    same(&rt, "chosen", &to_fourth(true).flow_update(&flow), &noted);
-    same(&rt, "as noted", &to_fourth(false).flow_update(&flow), &None);
+    same(&rt, "chosen", &TO_FOURTH.flow_update(&flow), &noted);
+    same(&rt, "as noted", &TO_FOURTH_ONCE.flow_update(&flow), &None);
     same(&rt, "dropped", &Choice::Drop.flow_update(&flow), &None);
 }
 

@@ -18,18 +18,16 @@ const HEADERS: [u8; 34] = [
 ];
 
 /// The tunnel from 10.0.0.9 to 192.0.2.1.
-fn tunnel() -> Tunnel {
-    Tunnel {
-        source: Ipv4Address([10, 0, 0, 9]),
-        target: Ipv4Address([192, 0, 2, 1]),
-        source_mac: MacAddress([0x02, 0, 0, 0, 0, 0x09]),
-        destination_mac: MacAddress([0x02, 0, 0, 0, 0, 0x0a]),
-    }
-}
+const TUNNEL: Tunnel = Tunnel {
+    source: Ipv4Address([10, 0, 0, 9]),
+    target: Ipv4Address([192, 0, 2, 1]),
+    source_mac: MacAddress([0x02, 0, 0, 0, 0, 0x09]),
+    destination_mac: MacAddress([0x02, 0, 0, 0, 0, 0x0a]),
+};
 
 /// Encapsulates, and answers the number of the refusal, or 0.
 fn outcome(frame: &mut Frame) -> u8 {
-    match encapsulate(frame, tunnel()) {
+    match encapsulate(frame, TUNNEL) {
         Ok(()) => 0,
         Err(fault) => fault.number(),
     }
@@ -88,12 +86,21 @@ fn is_answered(
     Ok(frame)
 }
 
-#[test]
-fn one_byte_changed(rt: HostRuntime) -> Result<(), Fail> {
-    for (name, at, byte, want) in CHANGES {
-        is_answered(&rt, rt.alloc(), name, &with_byte(&rt, at, byte), want)?;
+/// The same of the datagram with each byte changed.
+fn are_answered(
+    rt: &impl Abort,
+    alloc: Global,
+    rows: &[(&str, usize, u8, u8)],
+) -> Result<(), Fail> {
+    for (name, at, byte, want) in rows {
+        is_answered(rt, alloc, name, &with_byte(rt, *at, *byte), *want)?;
     }
     Ok(())
+}
+
+#[test]
+fn one_byte_changed(rt: HostRuntime) -> Result<(), Fail> {
+    are_answered(&rt, rt.alloc(), &CHANGES)
 }
 
 #[test]
@@ -109,8 +116,10 @@ fn type_of_service_is_copied(rt: HostRuntime) -> Result<(), Fail> {
 
 /// How long a frame of zeros is, the fields that are set in it (type and version, total length, time to live), and the number
 /// of the refusal, or 0.
+type Row = (&'static str, usize, u8, u16, u8, u8);
+
 #[rattlefmt::skip]
-const SIZES: [(&str, usize, u8, u16, u8, u8); 9] = [
+const SIZES: [Row; 9] = [
     ("34 bytes, a bare header",            34, 0x45,   20, 64, 0),
     ("33 bytes",                           33, 0x45,   20, 64, 83),
     ("padding after the packet",           60, 0x45,   28, 64, 0),
@@ -146,11 +155,7 @@ fn frame_bytes(
 }
 
 /// Compares a frame of these fields behind its outer header, or its refusal.
-fn is_behind_its_header(
-    rt: &impl Abort,
-    alloc: Global,
-    row: (&str, usize, u8, u16, u8, u8),
-) -> Result<(), Fail> {
+fn is_behind_its_header(rt: &impl Abort, alloc: Global, row: Row) -> Result<(), Fail> {
     let (name, size, version, total, time_to_live, want) = row;
     let bytes = frame_bytes(alloc, size, version, total, time_to_live)?;
     let frame = is_answered(rt, alloc, name, &bytes, want)?;
@@ -163,12 +168,17 @@ fn is_behind_its_header(
     Ok(())
 }
 
-#[test]
-fn sizes_and_order(rt: HostRuntime) -> Result<(), Fail> {
-    for row in SIZES {
-        is_behind_its_header(&rt, rt.alloc(), row)?;
+/// The same of each row.
+fn are_behind_their_headers(rt: &impl Abort, alloc: Global, rows: &[Row]) -> Result<(), Fail> {
+    for row in rows {
+        is_behind_its_header(rt, alloc, *row)?;
     }
     Ok(())
+}
+
+#[test]
+fn sizes_and_order(rt: HostRuntime) -> Result<(), Fail> {
+    are_behind_their_headers(&rt, rt.alloc(), &SIZES)
 }
 
 /// Compares the number of a frame's refusal, and what it has then with what it had.
@@ -219,11 +229,16 @@ const FAULTS: [(IpipFault, u8, &str); 4] = [
     (IpipFault::NotPlainIpv4, 83, "fault 83 NotPlainIpv4"),
 ];
 
-#[test]
-fn fault_texts(rt: HostRuntime) -> Result<(), Fail> {
-    for (fault, number, text) in FAULTS {
-        same(&rt, text, &fault.number(), &number);
-        prints(&rt, rt.alloc(), &fault, text)?;
+/// Compares the number and the text of each fault.
+fn are_told(rt: &impl Abort, alloc: Global, rows: &[(IpipFault, u8, &str)]) -> Result<(), Fail> {
+    for (fault, number, text) in rows {
+        same(rt, text, &fault.number(), number);
+        prints(rt, alloc, fault, text)?;
     }
     Ok(())
+}
+
+#[test]
+fn fault_texts(rt: HostRuntime) -> Result<(), Fail> {
+    are_told(&rt, rt.alloc(), &FAULTS)
 }
