@@ -355,12 +355,17 @@ fn bad_line_at(alloc: Global, spelling: &str) -> Result<usize, Fail> {
     Ok(bad_line(alloc, &given))
 }
 
-#[test]
-fn bad_lines(rt: HostRuntime) -> Result<(), Fail> {
-    for (name, spelling) in BAD_LINES {
-        same(&rt, name, &bad_line_at(rt.alloc(), spelling)?, &2);
+/// Each of these lines is bad as line 2 of a text.
+fn are_bad(rt: &impl Abort, alloc: Global, rows: &[(&str, &str)]) -> Result<(), Fail> {
+    for (name, spelling) in rows {
+        same(rt, name, &bad_line_at(alloc, spelling)?, &2);
     }
     Ok(())
+}
+
+#[test]
+fn bad_lines(rt: HostRuntime) -> Result<(), Fail> {
+    are_bad(&rt, rt.alloc(), &BAD_LINES)
 }
 
 #[rattlefmt::skip]
@@ -386,11 +391,16 @@ const FIRST_BAD_LINES: [(&str, &str, usize); 19] = [
     ("a bad line goes before the want of lines",    "version 1\nno\n",                             2),
 ];
 
+/// Compares the first bad line of each text.
+fn are_bad_at(rt: &impl Abort, alloc: Global, rows: &[(&str, &str, usize)]) {
+    for (name, given, want) in rows {
+        same(rt, name, &bad_line(alloc, given), want);
+    }
+}
+
 #[test]
 fn first_bad_lines(rt: HostRuntime) {
-    for (name, given, want) in FIRST_BAD_LINES {
-        same(&rt, name, &bad_line(rt.alloc(), given), &want);
-    }
+    are_bad_at(&rt, rt.alloc(), &FIRST_BAD_LINES);
 }
 
 // Texts of images that there are, and the bytes of which they are the text, one number of 64 bits a slot.
@@ -474,12 +484,22 @@ fn count_behind_maps(alloc: Global, lines: &str) -> Result<Result<usize, AsmFaul
     Ok(count_of(alloc, &given))
 }
 
+/// Compares why each text makes no image.
+fn are_faulty(
+    rt: &impl Abort,
+    alloc: Global,
+    rows: &[(&str, &str, &str, DecodeFault)],
+) -> Result<(), Fail> {
+    for (name, version, given, want) in rows {
+        let found = count_of_version(alloc, version, given)?;
+        same(rt, name, &found, &Err(AsmFault::Image(*want)));
+    }
+    Ok(())
+}
+
 #[test]
 fn faulty_images(rt: HostRuntime) -> Result<(), Fail> {
-    for (name, version, given, want) in FAULTY {
-        let found = count_of_version(rt.alloc(), version, given)?;
-        same(&rt, name, &found, &Err(AsmFault::Image(want)));
-    }
+    are_faulty(&rt, rt.alloc(), &FAULTY)?;
     let sixteen = count_behind_maps(rt.alloc(), "exit\n")?;
     same(&rt, "sixteen maps", &sixteen, &Ok(1));
     let seventeen = count_behind_maps(rt.alloc(), "map array 4 8 1\nexit\n")?;

@@ -86,12 +86,17 @@ fn line_is_meant(rt: &impl Abort, alloc: Global, written: &str, want: &str) -> R
     is_meant(rt, alloc, written, &source, &want)
 }
 
-#[test]
-fn lines(rt: HostRuntime) -> Result<(), Fail> {
-    for (written, want) in LINES {
-        line_is_meant(&rt, rt.alloc(), written, want)?;
+/// The same of each line.
+fn lines_are_meant(rt: &impl Abort, alloc: Global, rows: &[(&str, &str)]) -> Result<(), Fail> {
+    for (written, want) in rows {
+        line_is_meant(rt, alloc, written, want)?;
     }
     Ok(())
+}
+
+#[test]
+fn lines(rt: HostRuntime) -> Result<(), Fail> {
+    lines_are_meant(&rt, rt.alloc(), &LINES)
 }
 
 // The slots: a heading has none, a wide instruction two.
@@ -169,13 +174,25 @@ fn is_refused(
     Ok(())
 }
 
-#[test]
-fn bad_lines(rt: HostRuntime) -> Result<(), Fail> {
-    for (written, line, problem, words) in BAD {
-        let fault = SourceFault::BadLine { line, problem };
-        is_refused(&rt, rt.alloc(), written, written, fault, words)?;
+/// The same of each source with a bad line.
+fn are_refused(
+    rt: &impl Abort,
+    alloc: Global,
+    rows: &[(&str, usize, Problem, &str)],
+) -> Result<(), Fail> {
+    for (written, line, problem, words) in rows {
+        let fault = SourceFault::BadLine {
+            line: *line,
+            problem: *problem,
+        };
+        is_refused(rt, alloc, written, written, fault, words)?;
     }
     Ok(())
+}
+
+#[test]
+fn bad_lines(rt: HostRuntime) -> Result<(), Fail> {
+    are_refused(&rt, rt.alloc(), &BAD)
 }
 
 // A source that no image comes of though each line is right, why, and the words for it.

@@ -26,16 +26,20 @@ const ROWS: [Row; 5] = [
     ("no bytes",             ["1", "", ""],                 1,          &[],           &[]),
 ];
 
-#[test]
-fn words_say_updates(rt: HostRuntime) -> Result<(), Fail> {
-    let alloc = rt.alloc();
-    for (name, [map, key, value], place, key_bytes, value_bytes) in ROWS {
+/// Compares the update that the words of each row say.
+fn are_said(rt: &impl Abort, alloc: Global, rows: &[Row]) -> Result<(), Fail> {
+    for (name, [map, key, value], place, key_bytes, value_bytes) in rows {
         let found = update_of(alloc, map, key, value)?;
-        holds_of(&rt, name, "map", found.map == place);
-        holds_of(&rt, name, "key", found.key.as_slice() == key_bytes);
-        holds_of(&rt, name, "value", found.value.as_slice() == value_bytes);
+        holds_of(rt, name, "map", found.map == *place);
+        holds_of(rt, name, "key", found.key.as_slice() == *key_bytes);
+        holds_of(rt, name, "value", found.value.as_slice() == *value_bytes);
     }
     Ok(())
+}
+
+#[test]
+fn words_say_updates(rt: HostRuntime) -> Result<(), Fail> {
+    are_said(&rt, rt.alloc(), &ROWS)
 }
 
 #[rattlefmt::skip]
@@ -51,12 +55,17 @@ const MISTAKEN: [(&str, [&str; 3], Mistake); 9] = [
     ("a space in a value",         ["0", "00", "0 00"],        Mistake::Value),
 ];
 
+/// Compares what is wrong with the words of each row.
+fn are_mistaken(rt: &impl Abort, alloc: Global, rows: &[(&str, [&str; 3], Mistake)]) {
+    for (name, [map, key, value], want) in rows {
+        let found = update_of(alloc, map, key, value).err();
+        same(rt, name, &found, &Some(*want));
+    }
+}
+
 #[test]
 fn words_are_mistaken(rt: HostRuntime) {
-    for (name, [map, key, value], want) in MISTAKEN {
-        let found = update_of(rt.alloc(), map, key, value).err();
-        same(&rt, name, &found, &Some(want));
-    }
+    are_mistaken(&rt, rt.alloc(), &MISTAKEN);
 }
 
 /// So many times two zeros.

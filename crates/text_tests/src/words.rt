@@ -133,12 +133,17 @@ fn is_read(rt: &impl Abort, alloc: Global, line: &str, want: &str) -> Result<(),
     Ok(())
 }
 
-#[test]
-fn reads_commands(rt: HostRuntime) -> Result<(), Fail> {
-    for (line, want) in READ {
-        is_read(&rt, rt.alloc(), line, want)?;
+/// The same of each line.
+fn are_read(rt: &impl Abort, alloc: Global, rows: &[(&str, &str)]) -> Result<(), Fail> {
+    for (line, want) in rows {
+        is_read(rt, alloc, line, want)?;
     }
     Ok(())
+}
+
+#[test]
+fn reads_commands(rt: HostRuntime) -> Result<(), Fail> {
+    are_read(&rt, rt.alloc(), &READ)
 }
 
 /// A command line, the status, and what its text begins with.
@@ -217,10 +222,15 @@ fn is_refused(
     Ok(())
 }
 
-#[test]
-fn refuses_wrong_words(rt: HostRuntime) -> Result<(), Fail> {
-    for (line, status, text) in REFUSED {
-        is_refused(&rt, rt.alloc(), line, status, text)?;
+/// The same of each line.
+fn are_refused(rt: &impl Abort, alloc: Global, rows: &[(&str, u8, &str)]) -> Result<(), Fail> {
+    for (line, status, text) in rows {
+        is_refused(rt, alloc, line, *status, text)?;
     }
     Ok(())
+}
+
+#[test]
+fn refuses_wrong_words(rt: HostRuntime) -> Result<(), Fail> {
+    are_refused(&rt, rt.alloc(), &REFUSED)
 }
