@@ -15,6 +15,9 @@ use Rattle.ebpf_decode.specs.declared.insn.Insn.{Insn}
 use Rattle.ebpf_decode.specs.declared.insn.Insn.TheVariants.{Alu, Neg, Movsx, Movsx32, End, JumpIf, Ldx, Ldxs, St, Stx, AtomicUpdate, CallHelper, Exit}
 use Rattle.ebpf_decode.specs.declared.map.MapDef.{MapDef}
 use Rattle.disasm.specs.AssemblyText.{line_of}
+use Rattle.semantics.specs.Linux.{helper_of}
+use Rattle.semantics.specs.declared.linux.Helper.{Helper}
+use Rattle.semantics.specs.declared.linux.Helper.TheVariants.{MapLookupElem, MapUpdateElem, MapDeleteElem, XdpAdjustHead}
 use Rattle.abstract_state.specs.declared.kind.Kind.{Kind}
 use Rattle.abstract_state.specs.declared.kind.Kind.TheVariants.{Stack, Map}
 use Rattle.abstract_state.specs.declared.state.State.{State}
@@ -48,15 +51,13 @@ one_register first = first ∷ None ∷ None ∷ None ∷ []
 abbrev pub two_registers : Register → Option Register → List (Option Register)
 two_registers first second = Some first ∷ second ∷ None ∷ None ∷ []
 
--- by a helper's number: a map and a key, these with a value and flags, or the context and a number
-abbrev pub called_registers : ℤ → List (Option Register)
-called_registers (pos number) =
-    if number == 1 then two_registers R1 (Some R2)
-    else (if number == 2 then Some R1 ∷ Some R2 ∷ Some R3 ∷ Some R4 ∷ []
-    else (if number == 3 then two_registers R1 (Some R2)
-    else (if number == 44 then two_registers R1 (Some R2)
-    else one_register None)))
-called_registers (negsuc below) = one_register None
+-- by the helper: a map and a key, these with a value and flags, or the context and a number
+abbrev pub called_registers : Option Helper → List (Option Register)
+called_registers (Some MapLookupElem) = two_registers R1 (Some R2)
+called_registers (Some MapUpdateElem) = Some R1 ∷ Some R2 ∷ Some R3 ∷ Some R4 ∷ []
+called_registers (Some MapDeleteElem) = two_registers R1 (Some R2)
+called_registers (Some XdpAdjustHead) = two_registers R1 (Some R2)
+called_registers helper = one_register None
 
 -- a move does not read what it overwrites
 abbrev pub computing_registers : AluOp → Register → Option Register → List (Option Register)
@@ -81,7 +82,7 @@ used_registers (Ldxs extension dst src offset) = one_register (Some src)
 used_registers (St size dst offset immediate) = one_register (Some dst)
 used_registers (Stx size dst src offset) = two_registers dst (Some src)
 used_registers (AtomicUpdate width op dst src offset) = atomic_registers op dst src
-used_registers (CallHelper helper) = called_registers helper
+used_registers (CallHelper number) = called_registers (helper_of number)
 used_registers Exit = one_register (Some R0)
 used_registers insn = one_register None
 
@@ -137,27 +138,25 @@ called_map maps (Map map) = slice_get maps map
 called_map maps other = None
 
 -- for a key, and for a value
-abbrev pub sizes_of : ℤ → MapDef → ℕ × ℕ
-sizes_of (pos number) definition =
-    if number == 1 then (definition.key_size, 0)
-    else (if number == 2 then (definition.key_size, definition.value_size)
-    else (if number == 3 then (definition.key_size, 0)
-    else (0, 0)))
-sizes_of (negsuc below) definition = (0, 0)
+abbrev pub sizes_of : Option Helper → MapDef → ℕ × ℕ
+sizes_of (Some MapLookupElem) definition = (definition.key_size, 0)
+sizes_of (Some MapUpdateElem) definition = (definition.key_size, definition.value_size)
+sizes_of (Some MapDeleteElem) definition = (definition.key_size, 0)
+sizes_of helper definition = (0, 0)
 
-abbrev pub sizes_read : ℤ → Option MapDef → ℕ × ℕ
+abbrev pub sizes_read : Option Helper → Option MapDef → ℕ × ℕ
 sizes_read helper (Some definition) = sizes_of helper definition
 sizes_read helper None = (0, 0)
 
 abbrev pub sized_text : State → ℕ × ℕ → List ℕ
 sized_text state sizes = argument_text state (kind_of state R2) sizes.0 ++ argument_text state (kind_of state R3) sizes.1
 
-abbrev pub arguments_text : List MapDef → State → ℤ → List ℕ
+abbrev pub arguments_text : List MapDef → State → Option Helper → List ℕ
 arguments_text maps state helper = sized_text state (sizes_read helper (called_map maps (kind_of state R1)))
 
 -- the words that an instruction touches
 abbrev pub touched_text : List MapDef → State → Insn → List ℕ
-touched_text maps state (CallHelper helper) = arguments_text maps state helper
+touched_text maps state (CallHelper number) = arguments_text maps state (helper_of number)
 touched_text maps state insn = stack_word_text state (access_of state insn)
 
 -- ---- both

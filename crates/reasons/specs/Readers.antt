@@ -1,7 +1,12 @@
 -- Why a program is no reader: which instructions do more than read.
-use Rattle.std.specs.Prelude.{◌≡◌, ◌↔◌, ℕ, ◌==◌, ℤ, pos, negsuc, List, [], ◌++◌, Option, Some, None, IsTrue, codes, if◌then◌else◌}
+use Rattle.std.specs.Prelude.{◌≡◌, ◌↔◌, ℕ, ℤ, List, [], ◌++◌, Option, Some, None, IsTrue, codes}
 use Rattle.ebpf_decode.specs.declared.insn.Insn.{Insn}
 use Rattle.ebpf_decode.specs.declared.insn.Insn.TheVariants.{Ldx, St, Stx, AtomicUpdate, CallHelper}
+use Rattle.semantics.specs.Linux.{helper_of, field_at}
+use Rattle.semantics.specs.declared.linux.ContextField.{ContextField}
+use Rattle.semantics.specs.declared.linux.ContextField.TheVariants.{RxQueueIndex}
+use Rattle.semantics.specs.declared.linux.Helper.{Helper}
+use Rattle.semantics.specs.declared.linux.Helper.TheVariants.{MapUpdateElem, MapDeleteElem, GetSmpProcessorId}
 use Rattle.abstract_state.specs.declared.kind.Kind.{Kind}
 use Rattle.abstract_state.specs.declared.kind.Kind.TheVariants.{Ctx, Value}
 use Rattle.abstract_state.specs.declared.state.State.{State}
@@ -10,29 +15,27 @@ use Rattle.verifier.specs.Readers.{only_reads}
 use Rattle.reasons.specs.declared.reader.Reason.{Reason}
 use Rattle.reasons.specs.declared.reader.Reason.TheVariants.{ChangesMap, AsksWorker, StoresValue, ReadsQueue}
 
-abbrev pub reason_called : ℤ → Option Reason
-reason_called (pos number) =
-    if number == 2 then Some ChangesMap
-    else (if number == 3 then Some ChangesMap
-    else (if number == 8 then Some AsksWorker
-    else None))
-reason_called (negsuc below) = None
+abbrev pub reason_called : Option Helper → Option Reason
+reason_called (Some MapUpdateElem) = Some ChangesMap
+reason_called (Some MapDeleteElem) = Some ChangesMap
+reason_called (Some GetSmpProcessorId) = Some AsksWorker
+reason_called helper = None
 
 abbrev pub reason_stored : Kind → Option Reason
 reason_stored (Value map id off) = Some StoresValue
 reason_stored other = None
 
-abbrev pub queue_read : ℤ → Option Reason
-queue_read (pos place) = if place == 16 then Some ReadsQueue else None
-queue_read (negsuc below) = None
+abbrev pub reason_read : Option ContextField → Option Reason
+reason_read (Some RxQueueIndex) = Some ReadsQueue
+reason_read field = None
 
 abbrev pub reason_loaded : Kind → ℤ → Option Reason
-reason_loaded Ctx offset = queue_read offset
+reason_loaded Ctx offset = reason_read (field_at offset)
 reason_loaded other offset = None
 
 -- what the instruction does more than to read, in this state
 abbrev pub reason_of : State → Insn → Option Reason
-reason_of state (CallHelper helper) = reason_called helper
+reason_of state (CallHelper number) = reason_called (helper_of number)
 reason_of state (St size dst offset immediate) = reason_stored (kind_of state dst)
 reason_of state (Stx size dst src offset) = reason_stored (kind_of state dst)
 reason_of state (AtomicUpdate width op dst src offset) = reason_stored (kind_of state dst)

@@ -13,6 +13,7 @@ use abstract_state::{Kind, StackWord, State};
 use disasm::line;
 use ebpf_decode::{Insn, MapDef};
 use isa::{AluOp, AtomicOp, Register, Source};
+use semantics::Helper;
 use std::alloc::{AllocError, Global};
 
 /// The registers that an instruction reads, at most four.
@@ -74,15 +75,15 @@ fn source_register(source: Source) -> Option<Register>
 }
 
 /// The registers that a helper reads.
-fn called_registers(helper: i32) -> Used
+fn called_registers(helper: Option<Helper>) -> Used
     ensures { result ≡ called_registers helper }
 {
     let [r1, r2, r3, r4] = [Register::R1, Register::R2, Register::R3, Register::R4];
     match helper {
-        1 => [Some(r1), Some(r2), None, None],
-        2 => [Some(r1), Some(r2), Some(r3), Some(r4)],
-        3 => [Some(r1), Some(r2), None, None],
-        44 => [Some(r1), Some(r2), None, None],
+        Some(Helper::MapLookupElem) => [Some(r1), Some(r2), None, None],
+        Some(Helper::MapUpdateElem) => [Some(r1), Some(r2), Some(r3), Some(r4)],
+        Some(Helper::MapDeleteElem) => [Some(r1), Some(r2), None, None],
+        Some(Helper::XdpAdjustHead) => [Some(r1), Some(r2), None, None],
         _ => [None; 4],
     }
 }
@@ -106,7 +107,7 @@ fn used_registers(insn: Insn) -> Used
         Insn::Stx { dst, src, .. } => [Some(dst), Some(src), None, None],
         Insn::AtomicUpdate { op: AtomicOp::CompareExchange, dst, src, .. } => [Some(dst), Some(src), Some(Register::R0), None],
         Insn::AtomicUpdate { dst, src, .. } => [Some(dst), Some(src), None, None],
-        Insn::CallHelper { helper } => called_registers(helper),
+        Insn::CallHelper { helper } => called_registers(Helper::of(helper)),
         Insn::Exit => [Some(Register::R0), None, None, None],
         _ => [None; 4],
     }
@@ -280,13 +281,14 @@ fn called_map(maps: &[MapDef], kind: Kind) -> Option<MapDef>
 }
 
 /// How many bytes of the stack a helper reads for a key and for a value.
-fn sizes_read(helper: i32, definition: Option<MapDef>) -> (u32, u32)
+#[rattlefmt::skip]
+fn sizes_read(helper: Option<Helper>, definition: Option<MapDef>) -> (u32, u32)
     ensures { result ≡ sizes_read helper definition }
 {
     match (definition, helper) {
-        (Some(definition), 1) => (definition.key_size, 0),
-        (Some(definition), 2) => (definition.key_size, definition.value_size),
-        (Some(definition), 3) => (definition.key_size, 0),
+        (Some(definition), Some(Helper::MapLookupElem)) => (definition.key_size, 0),
+        (Some(definition), Some(Helper::MapUpdateElem)) => (definition.key_size, definition.value_size),
+        (Some(definition), Some(Helper::MapDeleteElem)) => (definition.key_size, 0),
         _ => (0, 0),
     }
 }
@@ -297,7 +299,7 @@ fn put_arguments(
     out: &mut String,
     maps: &[MapDef],
     state: &State,
-    helper: i32,
+    helper: Option<Helper>,
 ) -> Result<(), AllocError>
     ensures { OnOk result (string_bytes out.new ≡ string_bytes out.old ++ arguments_text maps.now state.now helper) }
 {
@@ -317,7 +319,7 @@ fn put_stack_words(
     ensures { OnOk result (string_bytes out.new ≡ string_bytes out.old ++ touched_text maps.now state.now insn) }
 {
     match insn {
-        Insn::CallHelper { helper } => put_arguments(alloc, out, maps, state, helper),
+        Insn::CallHelper { helper } => put_arguments(alloc, out, maps, state, Helper::of(helper)),
         _ => put_stack_word(alloc, out, state, access_of(state, insn)),
     }
 }

@@ -1,10 +1,12 @@
 //! Why a program is no reader: which instructions do more than read.
 
 ghost use Rattle.std.specs.Prelude.{◌≡◌, ◌++◌, string_bytes, OnOk};
-ghost use Rattle.reasons.specs.Readers.{reason_called, reason_stored, reason_loaded, reason_of, words_of_reason, line_of_words, reason_line, HasReasons};
+ghost use Rattle.reasons.specs.Readers.{reason_called, reason_stored, reason_read, reason_loaded, reason_of, HasReasons};
+ghost use Rattle.reasons.specs.Readers.{words_of_reason, line_of_words, reason_line};
 
 use abstract_state::{Kind, State};
 use ebpf_decode::Insn;
+use semantics::{ContextField, Helper};
 use std::alloc::{AllocError, Global};
 
 /// What an instruction does that a reader's don't.
@@ -20,13 +22,13 @@ pub enum Reason {
     ReadsQueue,
 }
 
-fn reason_called(helper: i32) -> Option<Reason>
+fn reason_called(helper: Option<Helper>) -> Option<Reason>
     ensures { result ≡ reason_called helper }
 {
     match helper {
-        2 => Some(Reason::ChangesMap),
-        3 => Some(Reason::ChangesMap),
-        8 => Some(Reason::AsksWorker),
+        Some(Helper::MapUpdateElem) => Some(Reason::ChangesMap),
+        Some(Helper::MapDeleteElem) => Some(Reason::ChangesMap),
+        Some(Helper::GetSmpProcessorId) => Some(Reason::AsksWorker),
         _ => None,
     }
 }
@@ -40,11 +42,20 @@ fn reason_stored(kind: Kind) -> Option<Reason>
     }
 }
 
+fn reason_read(field: Option<ContextField>) -> Option<Reason>
+    ensures { result ≡ reason_read field }
+{
+    match field {
+        Some(ContextField::RxQueueIndex) => Some(Reason::ReadsQueue),
+        _ => None,
+    }
+}
+
 fn reason_loaded(kind: Kind, offset: i16) -> Option<Reason>
     ensures { result ≡ reason_loaded kind offset }
 {
-    match (kind, offset) {
-        (Kind::Ctx, 16) => Some(Reason::ReadsQueue),
+    match kind {
+        Kind::Ctx => reason_read(ContextField::of(offset)),
         _ => None,
     }
 }
@@ -55,7 +66,7 @@ impl Reason {
         ensures { result ≡ reason_of state.now insn }
     {
         match insn {
-            Insn::CallHelper { helper } => reason_called(helper),
+            Insn::CallHelper { helper } => reason_called(Helper::of(helper)),
             Insn::St { dst, .. } => reason_stored(state.kind(dst)),
             Insn::Stx { dst, .. } => reason_stored(state.kind(dst)),
             Insn::AtomicUpdate { dst, .. } => reason_stored(state.kind(dst)),
