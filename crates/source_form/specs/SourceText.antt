@@ -7,6 +7,10 @@ use Rattle.std.specs.Fmt.{decimal}
 use Rattle.std.specs.Char.{digit_value}
 use Rattle.std.specs.Str.Parse.{digits_value}
 use Rattle.disasm.specs.AssemblyText.{with_sign, hex_digits}
+use Rattle.semantics.specs.Linux.{helper_number}
+use Rattle.semantics.specs.declared.linux.Helper.{Helper}
+use Rattle.semantics.specs.declared.linux.Helper.TheVariants.{MapLookupElem, MapUpdateElem, MapDeleteElem}
+use Rattle.semantics.specs.declared.linux.Helper.TheVariants.{KtimeGetNs, GetSmpProcessorId, XdpAdjustHead}
 use Rattle.source_form.specs.declared.fault.Problem.{Problem}
 use Rattle.source_form.specs.declared.fault.Problem.TheVariants.{LabelTwice, NoLabelName, UnknownLabel, UnknownHelper, NoNumber}
 use Rattle.source_form.specs.declared.words.Form.{Form}
@@ -161,25 +165,26 @@ is_number_byte b = b == 43 || (b == 45 || (nat_lt 47 b && nat_lt b 58))
 abbrev pub begins_number : List ℕ → Bool
 begins_number operand = is_number_byte (slice_index_or operand 0 0)
 
--- a helper's number (Linux), its name with or without bpf_
+-- a helper's name stands with or without bpf_
 abbrev pub plain_name : List ℕ → List ℕ
 plain_name name = if begins name (codes "bpf_") then drop 4 name else name
 
-abbrev pub helper_number : List ℕ → Option (List ℕ)
-helper_number name =
-    if bytes_eq name (codes "map_lookup_elem") then Some (codes "1")
-    else (if bytes_eq name (codes "map_update_elem") then Some (codes "2")
-    else (if bytes_eq name (codes "map_delete_elem") then Some (codes "3")
-    else (if bytes_eq name (codes "ktime_get_ns") then Some (codes "5")
-    else (if bytes_eq name (codes "get_smp_processor_id") then Some (codes "8")
-    else (if bytes_eq name (codes "xdp_adjust_head") then Some (codes "44") else None)))))
+abbrev pub helper_named : List ℕ → Option Helper
+helper_named name =
+    if bytes_eq name (codes "map_lookup_elem") then Some MapLookupElem
+    else (if bytes_eq name (codes "map_update_elem") then Some MapUpdateElem
+    else (if bytes_eq name (codes "map_delete_elem") then Some MapDeleteElem
+    else (if bytes_eq name (codes "ktime_get_ns") then Some KtimeGetNs
+    else (if bytes_eq name (codes "get_smp_processor_id") then Some GetSmpProcessorId
+    else (if bytes_eq name (codes "xdp_adjust_head") then Some XdpAdjustHead else None)))))
 
-abbrev pub helper_told : Option (List ℕ) → Result (List ℕ) Problem
-helper_told (Some number) = Ok number
+-- it means the helper's number
+abbrev pub helper_told : Option Helper → Result (List ℕ) Problem
+helper_told (Some helper) = Ok (decimal (helper_number helper))
 helper_told None = Err UnknownHelper
 
 abbrev pub helper_meaning : List ℕ → Result (List ℕ) Problem
-helper_meaning operand = if begins_number operand then number_meaning operand else helper_told (helper_number (plain_name operand))
+helper_meaning operand = if begins_number operand then number_meaning operand else helper_told (helper_named (plain_name operand))
 
 -- the distance from the jump's line to the label's
 abbrev pub target_told : List (List ℕ) → ℕ → Option ℕ → Result (List ℕ) Problem

@@ -2,8 +2,9 @@
 
 ghost use Rattle.std.specs.Prelude.{◌≡◌, ◌≤◌, IfOk, IfErr, Ok, map, length, string_bytes, List, ℕ, []};
 ghost use Rattle.std.specs.Str.{trim};
-ghost use Rattle.std.specs.Option.{option_map};
-ghost use Rattle.source_form.specs.SourceText.{parts_at, helper_number, helper_told, helper_meaning, plain_name, last_meaning};
+ghost use Rattle.std.specs.Fmt.{decimal};
+ghost use Rattle.semantics.specs.Linux.{helper_number};
+ghost use Rattle.source_form.specs.SourceText.{parts_at, helper_named, helper_told, helper_meaning, plain_name, last_meaning};
 ghost use Rattle.source_form.specs.SourceText.{operands_meaning, instruction_meaning};
 ghost use Rattle.source_form.specs.Told.{IsToldBy};
 
@@ -11,6 +12,7 @@ use crate::fault::{LineFault, Problem};
 use crate::labels::target_text;
 use crate::numbers::{number_text, wide_text};
 use crate::words::{Form, begins_number, form_of};
+use semantics::Helper;
 use std::alloc::{AllocError, Global};
 
 /// The name without `bpf_` in front.
@@ -23,30 +25,38 @@ fn plain_name(name: &str) -> &str
     }
 }
 
-/// The number of a helper's name.
-pub(crate) fn helper_number(name: &str) -> Option<&'static str>
-    ensures { option_map (λ number. number.now) result ≡ helper_number name.now }
+/// The helper that has a name.
+fn helper_named(name: &str) -> Option<Helper>
+    ensures { result ≡ helper_named name.now }
 {
     if name == "map_lookup_elem" {
-        return Some("1");
+        return Some(Helper::MapLookupElem);
     }
     if name == "map_update_elem" {
-        return Some("2");
+        return Some(Helper::MapUpdateElem);
     }
     if name == "map_delete_elem" {
-        return Some("3");
+        return Some(Helper::MapDeleteElem);
     }
     if name == "ktime_get_ns" {
-        return Some("5");
+        return Some(Helper::KtimeGetNs);
     }
     if name == "get_smp_processor_id" {
-        return Some("8");
+        return Some(Helper::GetSmpProcessorId);
     }
     if name == "xdp_adjust_head" {
-        Some("44")
+        Some(Helper::XdpAdjustHead)
     } else {
         None
     }
+}
+
+/// A helper's number in decimal.
+fn helper_decimal(alloc: Global, helper: Helper) -> Result<String, AllocError>
+    ensures { IfOk result (λ text. string_bytes text ≡ decimal (helper_number helper)) }
+{
+    let number = helper.number();
+    format!(in alloc; "{number}")
 }
 
 /// The number of the helper that is called.
@@ -57,8 +67,8 @@ fn helper_text(alloc: Global, operand: &str) -> Result<String, LineFault>
     if begins_number(operand) {
         return number_text(alloc, operand);
     }
-    match helper_number(plain_name(operand)) {
-        Some(number) => Ok(String::from_str(alloc, number)?),
+    match helper_named(plain_name(operand)) {
+        Some(helper) => Ok(helper_decimal(alloc, helper)?),
         None => Err(LineFault::Bad(Problem::UnknownHelper)),
     }
 }
