@@ -1,7 +1,5 @@
 -- An unsigned interval stands for the numbers from its low to its high end; one whose low end is above its high end stands for none.
 use Rattle.std.specs.Prelude.{ℕ, ◌-◌, ◌^◌, ◌≤◌, Bool, ◌==◌, ◌&&◌, nat_le, min, max}
-use Rattle.isa.specs.declared.operation.Size.{Size}
-use Rattle.isa.specs.declared.operation.Size.TheVariants.{U8, U16, U32, U64}
 use Rattle.abstract_scalar.specs.declared.interval.Interval.{Interval}
 
 -- the interval stands for this number, among others
@@ -30,9 +28,3 @@ full_of bits = interval_of 0 (2 ^ bits - 1)
 -- the least interval with all numbers of both
 abbrev pub hull_of : Interval → Interval → Interval
 hull_of i j = interval_of (min i.low j.low) (max i.high j.high)
-
-abbrev pub size_bits : Size → ℕ
-size_bits U8 = 8
-size_bits U16 = 16
-size_bits U32 = 32
-size_bits U64 = 64

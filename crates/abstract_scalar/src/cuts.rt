@@ -5,7 +5,7 @@ ghost use Rattle.abstract_scalar.specs.Intervals.{Covers};
 ghost use Rattle.abstract_scalar.specs.Cuts.{kept_between, kept_from, cut_of, refine_of};
 
 use crate::interval::Interval;
-use isa::{Test, Width};
+use isa::{Size, Test, Width};
 
 /// The numbers of the interval for which the test against the number `c` is taken, or for which it isn't. The unsigned orders
 /// cut on both edges, equality on the edge where the numbers are equal; the other tests cut nothing. A comparison of low halves
@@ -17,7 +17,7 @@ pub fn refine(width: Width, test: Test, interval: Interval, c: u64, taken: bool)
     match width {
         Width::Bits64 => cut(test, taken, interval, c),
         Width::Bits32 => {
-            if interval.high < 0x1_0000_0000 {
+            if interval.high <= Size::U32.most() {
                 cut(test, taken, interval, c % 0x1_0000_0000)
             } else {
                 interval

@@ -13,7 +13,8 @@ pub struct Interval {
 
 impl Interval {
     ghost use Rattle.isa.specs.Words.{width_bits};
-    ghost use Rattle.abstract_scalar.specs.Intervals.{interval_of, constant_of, full_of, hull_of, is_single, covers, Covers, size_bits};
+    ghost use Rattle.isa.specs.InstructionCodes.{size_bits};
+    ghost use Rattle.abstract_scalar.specs.Intervals.{interval_of, constant_of, full_of, hull_of, is_single, covers, Covers};
 
     /// One number.
     pub fn constant(n: u64) -> Interval
@@ -33,22 +34,14 @@ impl Interval {
     pub fn full(width: Width) -> Interval
         ensures { result ≡ full_of (width_bits width) }
     {
-        match width {
-            Width::Bits32 => Interval::up_to(0xffffffff),
-            Width::Bits64 => Interval::up_to(u64::MAX),
-        }
+        Interval::loaded(width.size())
     }
 
     /// Every number that a zero-extending load of the size gives.
     pub fn loaded(size: Size) -> Interval
         ensures { result ≡ full_of (size_bits size) }
     {
-        match size {
-            Size::U8 => Interval::up_to(0xff),
-            Size::U16 => Interval::up_to(0xffff),
-            Size::U32 => Interval::up_to(0xffffffff),
-            Size::U64 => Interval::up_to(u64::MAX),
-        }
+        Interval::up_to(size.most())
     }
 
     /// The least interval with all numbers of both.

@@ -43,15 +43,11 @@ pub fn row(width: Width, operation: AluOp, i: Interval, j: Interval) -> Interval
 fn fitting(width: Width, low: u64, high: u64) -> Interval
     ensures { result ≡ within (width_bits width) low high }
 {
-    match width {
-        Width::Bits32 => {
-            if low < 0x1_0000_0000 && high < 0x1_0000_0000 {
-                Interval { low, high }
-            } else {
-                Interval::full(width)
-            }
-        }
-        Width::Bits64 => Interval { low, high },
+    let full = Interval::full(width);
+    if low <= full.high && high <= full.high {
+        Interval { low, high }
+    } else {
+        full
     }
 }
 

@@ -7,7 +7,7 @@ ghost use Rattle.abstract_scalar.specs.Transfer.{operand_interval, transfer_of, 
 
 use crate::interval::Interval;
 use crate::rows::{result_of, row};
-use isa::{AluOp, ByteOrder, Extension, ShortExtension, SwapWidth, Width};
+use isa::{AluOp, ByteOrder, Extension, ShortExtension, Size, SwapWidth, Width};
 
 /// The interval of what the operation leaves in the destination, from those of the destination (`first`) and the source
 /// (`second`). Two single numbers give the exact result.
@@ -37,7 +37,7 @@ fn operand(width: Width, interval: Interval) -> Interval
         Width::Bits32 => {
             if interval.is_constant() {
                 Interval::constant(interval.low % 0x1_0000_0000)
-            } else if interval.high < 0x1_0000_0000 {
+            } else if interval.high <= Size::U32.most() {
                 interval
             } else {
                 Interval::full(Width::Bits32)
@@ -94,8 +94,8 @@ pub fn swap(order: ByteOrder, width: SwapWidth, interval: Interval) -> Interval
         return Interval::constant(isa::swap(order, width, interval.low));
     }
     match width {
-        SwapWidth::Swap16 => Interval::up_to(0xffff),
-        SwapWidth::Swap32 => Interval::full(Width::Bits32),
-        SwapWidth::Swap64 => Interval::full(Width::Bits64),
+        SwapWidth::Swap16 => Interval::loaded(Size::U16),
+        SwapWidth::Swap32 => Interval::loaded(Size::U32),
+        SwapWidth::Swap64 => Interval::loaded(Size::U64),
     }
 }

@@ -25,7 +25,8 @@ use Rattle.semantics.specs.History.{is_atomic_size, is_expected}
 use Rattle.semantics.specs.Arithmetic.{number_of_value}
 use Rattle.semantics.specs.Memory.{cell_ref}
 use Rattle.semantics.specs.RunTrace.{IsReplyTo}
-use Rattle.semantics.specs.Semantics.{at_next_slot, fetched_register, with_fetched, after_fetch, expected_number, word_value, stored_number, store_step, atomic_step, instruction_step}
+use Rattle.isa.specs.Atomic.{fetched_register}
+use Rattle.semantics.specs.Semantics.{at_next_slot, with_fetched, after_fetch, expected_number, word_value, stored_number, store_step, atomic_step, instruction_step}
 use Rattle.abstract_scalar.specs.Intervals.{full_of}
 use Rattle.abstract_state.specs.declared.kind.Kind.{Kind}
 use Rattle.abstract_state.specs.declared.kind.Kind.TheVariants.{Unset, Scalar, Ctx, Stack, Packet, PacketEnd, Map, ValueOrNull, Value}

@@ -17,13 +17,13 @@ use Rattle.semantics.specs.MachineState.{MachineState, register_value, with_regi
 use Rattle.semantics.specs.Program.{Program}
 use Rattle.semantics.specs.Step.{Outcome}
 use Rattle.semantics.specs.History.{is_load_size}
-use Rattle.isa.specs.InstructionCodes.{size_bytes}
+use Rattle.isa.specs.InstructionCodes.{size_bytes, size_bits}
 use Rattle.semantics.specs.declared.linux.ContextField.TheVariants.{Data, DataEnd, IngressIfindex, RxQueueIndex}
 use Rattle.semantics.specs.Memory.{field_outcome, context_word, context_field, spilled_or_number, stack_value, packet_value, cell_ref}
 use Rattle.semantics.specs.RunTrace.{IsReplyTo}
 use Rattle.semantics.specs.Semantics.{at_next_slot, word_value, load_cell_step, load_step, instruction_step, write_step}
 use Rattle.abstract_scalar.specs.declared.interval.Interval.{Interval}
-use Rattle.abstract_scalar.specs.Intervals.{interval_of, full_of, size_bits}
+use Rattle.abstract_scalar.specs.Intervals.{interval_of, full_of}
 use Rattle.abstract_state.specs.declared.kind.Kind.{Kind}
 use Rattle.abstract_state.specs.declared.kind.Kind.TheVariants.{Unset, Scalar, Ctx, Stack, Packet, PacketEnd, Map, ValueOrNull, Value}
 use Rattle.abstract_state.specs.declared.refusal.Refusal.TheVariants.{ContextAccess}

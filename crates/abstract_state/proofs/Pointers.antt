@@ -23,7 +23,7 @@ use Rattle.abstract_state.specs.declared.kind.Kind.{Kind}
 use Rattle.abstract_state.specs.declared.kind.Offsets.{Offsets}
 use Rattle.abstract_state.specs.declared.kind.Kind.TheVariants.{Unset, Scalar, Ctx, Stack, Packet, PacketEnd, Map, ValueOrNull, Value}
 use Rattle.abstract_state.specs.declared.refusal.Refusal.TheVariants.{WrongKind, PacketBounds, StackBounds, ValueBounds}
-use Rattle.abstract_state.specs.States.{Checked, ◌>>=◌, stack_bytes, value_size_of}
+use Rattle.abstract_state.specs.States.{Checked, ◌>>=◌, stack_size, value_size_of}
 use Rattle.abstract_state.specs.Places.{place_within, offsets_within}
 use Rattle.abstract_state.specs.Arithmetic.{distance_of, moves_pointers, moved_pointer, moved_value, moved_far, pointer_sum, is_movable, combined_pointer}
 use Rattle.abstract_state.specs.Abstraction.{Ids, Setting, KindCovers, IsNumberIn, IsStackPlace, IsPacketPlace, IsLiveCell}
@@ -68,8 +68,8 @@ stack_gives : (s : Setting) (slot : ℕ) (width : Width) (op : AluOp) (i : Inter
     IsStackPlace place u → Moves s slot width op i v → is_single i ≡ true →
     moved_pointer s.maps (Stack place) (distance_of op i.low) dst ≡ Ok kind → Gives s slot kind (combined_value width op u v)
 stack_gives s slot width op i u v place dst kind c m single e =
-    let p = ok_then (place_within (pos place +ℤ distance_of op i.low) stack_bytes StackBounds) (λ to. Ok (Stack to)) kind e
-    in let to = place_is (pos place +ℤ distance_of op i.low) stack_bytes StackBounds p.value p.is
+    let p = ok_then (place_within (pos place +ℤ distance_of op i.low) stack_size StackBounds) (λ to. Ok (Stack to)) kind e
+    in let to = place_is (pos place +ℤ distance_of op i.low) stack_size StackBounds p.value p.is
     in let n : m.number.number ≡ i.low = single_is i m.number.number single m.number.within
     in let made : combined_value width op u v ≡ Ok (StackPointer (c.at +ℤ distance_of op i.low)) =
     moved_by width op i.low u v (λ d. StackPointer (c.at +ℤ d)) m.moves (m.number.is ∙ ap Number n) (rw (c.is) refl)

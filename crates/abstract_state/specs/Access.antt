@@ -1,6 +1,7 @@
 -- Loads, stores and atomic operations on kinds (RFC 9669, section 5).
 use Rattle.std.specs.Prelude.{ℕ, ◌/◌, ◌%◌, ◌==◌, Bool, true, false, ℤ, pos, negsuc, List, Option, Some, None, Ok, Err, if◌then◌else◌}
 use Rattle.isa.specs.Words.{width_bits}
+use Rattle.isa.specs.Atomic.{fetched_register}
 use Rattle.isa.specs.declared.operation.Width.{Width}
 use Rattle.isa.specs.declared.operation.Size.{Size}
 use Rattle.isa.specs.declared.operation.Size.TheVariants.{U32}
@@ -12,7 +13,6 @@ use Rattle.isa.specs.declared.operation.Register.TheVariants.{R0}
 use Rattle.isa.specs.InstructionCodes.{extension_size, width_size, size_bytes}
 use Rattle.ebpf_decode.specs.declared.map.MapDef.{MapDef}
 use Rattle.semantics.specs.Linux.{field_at}
-use Rattle.semantics.specs.Semantics.{fetched_register}
 use Rattle.semantics.specs.declared.linux.ContextField.{ContextField}
 use Rattle.semantics.specs.declared.linux.ContextField.TheVariants.{Data, DataEnd, IngressIfindex, RxQueueIndex}
 use Rattle.abstract_scalar.specs.Intervals.{constant_of, interval_of, full_of}

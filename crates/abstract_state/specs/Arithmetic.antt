@@ -19,7 +19,7 @@ use Rattle.abstract_state.specs.declared.kind.Kind.TheVariants.{Scalar, Stack, P
 use Rattle.abstract_state.specs.declared.kind.Offsets.{Offsets}
 use Rattle.abstract_state.specs.declared.refusal.Refusal.TheVariants.{WrongKind, PacketBounds, StackBounds}
 use Rattle.abstract_state.specs.declared.state.State.{State}
-use Rattle.abstract_state.specs.States.{Checked, ◌>>=◌, kind_of, with_kind, stack_bytes}
+use Rattle.abstract_state.specs.States.{Checked, ◌>>=◌, kind_of, with_kind, stack_size}
 use Rattle.abstract_state.specs.Places.{place_within, offsets_within}
 
 -- an immediate is a single number, sign-extended to 64 bits
@@ -59,7 +59,7 @@ moves_pointers width op = false
 -- by a single number
 abbrev pub moved_pointer : List MapDef → Kind → ℤ → Register → Checked Kind
 moved_pointer maps (Stack place) distance dst =
-    place_within (pos place +ℤ distance) stack_bytes StackBounds >>= (λ to. Ok (Stack to))
+    place_within (pos place +ℤ distance) stack_size StackBounds >>= (λ to. Ok (Stack to))
 moved_pointer maps (Packet id off range) distance dst =
     place_within (pos off +ℤ distance) 65535 PacketBounds >>= (λ to. Ok (Packet id to range))
 moved_pointer maps (Value map id off) distance dst =

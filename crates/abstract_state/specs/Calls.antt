@@ -13,7 +13,7 @@ use Rattle.abstract_state.specs.declared.fact.Fact.TheVariants.{HeadMoved}
 use Rattle.abstract_state.specs.declared.refusal.Refusal.{Refusal}
 use Rattle.abstract_state.specs.declared.refusal.Refusal.TheVariants.{BadArgument, UnknownHelper, StackBounds, StackUnset}
 use Rattle.abstract_state.specs.declared.state.State.{State}
-use Rattle.abstract_state.specs.States.{Checked, ◌>>=◌, kind_of, stack_bytes, value_size_of, key_size_of}
+use Rattle.abstract_state.specs.States.{Checked, ◌>>=◌, kind_of, stack_size, value_size_of, key_size_of}
 use Rattle.abstract_state.specs.Words.{are_bytes_set}
 use Rattle.abstract_state.specs.Facts.{told}
 
@@ -47,7 +47,7 @@ context_argument other register = Err (BadArgument register)
 
 -- so many bytes of the stack lie inside it
 abbrev pub is_inside_stack : ℕ → ℕ → Bool
-is_inside_stack place count = nat_le (place + count) stack_bytes
+is_inside_stack place count = nat_le (place + count) stack_size
 
 abbrev pub when_all : Bool → Refusal → Checked (Unit {0})
 when_all holds why = if holds then Ok tt else Err why

@@ -1,6 +1,7 @@
 -- What flows out of an instruction: the first rule that it breaks, or what is known on each of its edges.
 use Rattle.std.specs.Prelude.{ℕ, true, false, ℤ, pos, negsuc, List, Option, Some, None, Ok, Err, slice_get}
 use Rattle.isa.specs.Words.{twos_complement}
+use Rattle.isa.specs.Atomic.{fetched_register}
 use Rattle.isa.specs.declared.operation.Width.{Width}
 use Rattle.isa.specs.declared.operation.AluOp.{AluOp}
 use Rattle.isa.specs.declared.operation.AluOp.TheVariants.{Mov}
@@ -18,7 +19,6 @@ use Rattle.ebpf_decode.specs.declared.insn.Insn.TheVariants.{AtomicUpdate, Lddw,
 use Rattle.ebpf_decode.specs.declared.map.MapDef.{MapDef}
 use Rattle.ebpf_decode.specs.declared.map.MapKind.{MapKind}
 use Rattle.ebpf_decode.specs.declared.map.MapKind.TheVariants.{Array}
-use Rattle.semantics.specs.Semantics.{fetched_register}
 use Rattle.abstract_scalar.specs.declared.interval.Interval.{Interval}
 use Rattle.abstract_scalar.specs.Intervals.{constant_of}
 use Rattle.abstract_scalar.specs.Transfer.{neg_of, movsx64_of, movsx32_of, swap_of}

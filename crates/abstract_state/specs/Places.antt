@@ -5,7 +5,7 @@ use Rattle.ebpf_decode.specs.declared.map.MapDef.{MapDef}
 use Rattle.abstract_state.specs.declared.kind.Offsets.{Offsets}
 use Rattle.abstract_state.specs.declared.refusal.Refusal.{Refusal}
 use Rattle.abstract_state.specs.declared.refusal.Refusal.TheVariants.{PacketBounds, StackBounds, ValueBounds, Misaligned}
-use Rattle.abstract_state.specs.States.{Checked, ◌>>=◌, stack_bytes, value_size_of}
+use Rattle.abstract_state.specs.States.{Checked, ◌>>=◌, stack_size, value_size_of}
 
 -- a place from 0 to a limit
 abbrev pub place_within : ℤ → ℕ → Refusal → Checked ℕ
@@ -22,7 +22,7 @@ aligned place count = if place % count == 0 then Ok place else Err Misaligned
 
 abbrev pub stack_access : ℕ → ℤ → ℕ → Checked ℕ
 stack_access place offset count =
-    range_within (pos place +ℤ offset) count stack_bytes StackBounds >>= (λ from. aligned from count)
+    range_within (pos place +ℤ offset) count stack_size StackBounds >>= (λ from. aligned from count)
 
 abbrev pub packet_access : ℕ → ℕ → ℤ → ℕ → Checked ℕ
 packet_access off range offset count = range_within (pos off +ℤ offset) count range PacketBounds

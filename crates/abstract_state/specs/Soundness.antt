@@ -2,10 +2,10 @@
 use Rattle.std.specs.List.{AllByRecursion}
 use Rattle.std.specs.Prelude.{◌≡◌, ◌⊎◌, ℕ, ◌+◌, ◌<◌, ◌^◌, ℤ, pos, ◌+ℤ◌, List, length, IsTrue, Ok}
 use Rattle.ebpf_decode.specs.declared.insn.Insn.{Insn}
-use Rattle.ebpf_decode.specs.declared.insn.Insn.TheVariants.{Ja, Ja32, JumpIf}
 use Rattle.ebpf_decode.specs.declared.map.MapDef.{MapDef}
 use Rattle.ebpf_decode.specs.declared.version.Version.{Version}
 use Rattle.ebpf_decode.specs.InstructionEncoding.{slot_count, FieldsFit}
+use Rattle.ebpf_decode.specs.Jumps.{distance_of_jump}
 use Rattle.semantics.specs.declared.call.Reply.{Reply}
 use Rattle.semantics.specs.MachineState.{MachineState, initial_state}
 use Rattle.semantics.specs.Program.{Program}
@@ -62,13 +62,6 @@ SplitsOn program held taken fallen before distance step = ⊥
 abbrev pub EndsRun : MachineState → Step → Type 0
 EndsRun before (Exits verdict last) = last.steps ≡ before.steps + 1
 EndsRun before step = ⊥
-
--- how far the instruction jumps
-abbrev pub distance_of_jump : Insn → ℤ
-distance_of_jump (Ja distance) = distance
-distance_of_jump (Ja32 distance) = distance
-distance_of_jump (JumpIf width test dst source distance) = distance
-distance_of_jump insn = pos 0
 
 -- the instruction's jump goes forward
 abbrev pub JumpsForward : Insn → Type 0

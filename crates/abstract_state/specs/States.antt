@@ -2,6 +2,7 @@
 use Rattle.std.specs.Prelude.{ℕ, Bool, true, false, List, [], ◌∷◌, Result, Ok, Err, replicate, slice_index_or, slice_set}
 use Rattle.isa.specs.declared.operation.Register.{Register}
 use Rattle.isa.specs.InstructionCodes.{register_number}
+pub use Rattle.semantics.specs.MachineState.{stack_size}
 pub use Rattle.semantics.specs.Program.{value_size_of, key_size_of}
 use Rattle.ebpf_decode.specs.declared.version.Version.{Version}
 use Rattle.abstract_state.specs.declared.kind.Kind.{Kind}
@@ -30,9 +31,6 @@ with_kind state register kind = record state { registers = slice_set state.regis
 
 -- ---- the stack
 
-abbrev pub stack_bytes : ℕ
-stack_bytes = 512
-
 abbrev pub word_of : State → ℕ → StackWord
 word_of state place = slice_index_or state.stack place (Spilled Unset)
 
@@ -50,7 +48,7 @@ all_bytes = replicate 8 true
 abbrev pub opening_state : Version → State
 opening_state version = record {
   version = version;
-  registers = Unset ∷ Ctx ∷ Unset ∷ Unset ∷ Unset ∷ Unset ∷ Unset ∷ Unset ∷ Unset ∷ Unset ∷ Stack stack_bytes ∷ [];
+  registers = Unset ∷ Ctx ∷ Unset ∷ Unset ∷ Unset ∷ Unset ∷ Unset ∷ Unset ∷ Unset ∷ Unset ∷ Stack stack_size ∷ [];
   stack = replicate 64 (Bytes no_bytes);
   start_range = 0;
 }

@@ -2,8 +2,8 @@
 use Rattle.std.specs.Prelude.{ℕ, zero, suc, ◌+◌, ◌/◌, ◌%◌, ◌&&◌, Bool, true, false, List, ◌++◌, take, drop, replicate, slice_index_or, Ok, Err, if◌then◌else◌}
 use Rattle.isa.specs.declared.operation.Size.{Size}
 use Rattle.isa.specs.declared.operation.Size.TheVariants.{U64}
-use Rattle.isa.specs.InstructionCodes.{size_bytes}
-use Rattle.abstract_scalar.specs.Intervals.{full_of, size_bits}
+use Rattle.isa.specs.InstructionCodes.{size_bytes, size_bits}
+use Rattle.abstract_scalar.specs.Intervals.{full_of}
 use Rattle.abstract_state.specs.declared.kind.Kind.{Kind}
 use Rattle.abstract_state.specs.declared.kind.Kind.TheVariants.{Scalar}
 use Rattle.abstract_state.specs.declared.kind.StackWord.{StackWord}

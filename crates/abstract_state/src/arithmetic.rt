@@ -10,7 +10,7 @@ ghost use Rattle.abstract_state.specs.Arithmetic.{moved_value, moved_far, pointe
 ghost use Rattle.abstract_state.specs.Arithmetic.{alu_kind, after_alu_of};
 
 use crate::kind::{Kind, Offsets};
-use crate::places::{STACK_BYTES, offsets_within, place_within};
+use crate::places::{STACK_SIZE, offsets_within, place_within};
 use crate::refusal::Refusal;
 use crate::site::{Operands, Site};
 use crate::state::State;
@@ -78,7 +78,7 @@ fn moved_pointer(
         Kind::Stack(place) => {
             let to = place_within(
                 i128::from(place) + distance,
-                STACK_BYTES,
+                u32::from(STACK_SIZE),
                 Refusal::StackBounds,
             )?;
             Ok(Kind::Stack(to as u16))

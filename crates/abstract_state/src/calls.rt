@@ -7,7 +7,7 @@ ghost use Rattle.abstract_state.specs.Calls.{key_arguments, update_arguments, he
 
 use crate::fact::Fact;
 use crate::kind::Kind;
-use crate::places::{STACK_BYTES, key_size, value_size};
+use crate::places::{STACK_SIZE, key_size, value_size};
 use crate::refusal::Refusal;
 use crate::site::Site;
 use crate::state::State;
@@ -70,7 +70,7 @@ fn context_argument(kind: Kind, register: Register) -> Result<(), Refusal>
 fn is_inside_stack(place: u16, count: u32) -> bool
     ensures { result ≡ is_inside_stack place count }
 {
-    u64::from(place) + u64::from(count) <= u64::from(STACK_BYTES)
+    u64::from(place) + u64::from(count) <= u64::from(STACK_SIZE)
 }
 
 impl State {

@@ -10,7 +10,7 @@ use crate::refusal::Refusal;
 use ebpf_decode::MapDef;
 
 /// How many bytes the stack has.
-pub(crate) const STACK_BYTES: u32 = 512;
+pub(crate) const STACK_SIZE: u16 = 512;
 
 /// A place from 0 to a limit.
 pub(crate) fn place_within(place: i128, limit: u32, why: Refusal) -> Result<u32, Refusal>
@@ -54,7 +54,7 @@ pub(crate) fn stack_access(place: u16, offset: i16, count: u32) -> Result<u32, R
     let from = range_within(
         i64::from(place) + i64::from(offset),
         count,
-        STACK_BYTES,
+        u32::from(STACK_SIZE),
         Refusal::StackBounds,
     )?;
     aligned(from, count)

@@ -4,6 +4,7 @@ ghost use Rattle.std.specs.Prelude.{◌≡◌};
 ghost use Rattle.abstract_state.specs.States.{kind_of, with_kind, opening_state};
 
 use crate::kind::{Kind, StackWord};
+use crate::places::STACK_SIZE;
 use ebpf_decode::Version;
 use isa::Register;
 
@@ -39,7 +40,7 @@ impl State {
                 unset,
                 unset,
                 unset,
-                Kind::Stack(512),
+                Kind::Stack(STACK_SIZE),
             ],
             stack: [StackWord::Bytes([false; 8]); 64],
             start_range: 0,

@@ -59,7 +59,7 @@ use isa::{
     AluOp, AtomicOp, ByteOrder, Extension, Register, ShortExtension, Size, Source, SwapWidth, Test,
     Width,
 };
-use semantics::{Helper, fetched_register};
+use semantics::Helper;
 
 /// R10 is read-only.
 fn writable(register: Register) -> Result<(), Refusal>
@@ -362,7 +362,7 @@ impl State {
                 atomic_access(site.maps, map, off, at.offset, width.size().bytes())?;
                 narrow_storable(self.kind(src))?;
                 expects(op, self.kind(Register::R0))?;
-                self.fetch(fetched_register(op, src), width);
+                self.fetch(op.fetched(src), width);
                 Ok(())
             }
             _ => Err(Refusal::WrongKind(at.register)),
@@ -382,7 +382,7 @@ impl State {
     ) -> Result<(), Refusal>
         ensures { kept result self.new ≡ atomic_flow site.entry.maps.now self.old width op dst src offset }
     {
-        fetch_writable(fetched_register(op, src))?;
+        fetch_writable(op.fetched(src))?;
         self.reads_atomic(op, dst, src)?;
         let at = self.address(dst, offset);
         self.atomic_at(site, width, op, at, src)

@@ -7,15 +7,13 @@ use Rattle.std.proofs.lemmas.List.{length-set}
 use Rattle.std.proofs.lemmas.Option.{slice_get_within}
 use Rattle.semantics.specs.declared.call.Caller.{Caller}
 use Rattle.semantics.specs.declared.call.Caller.TheVariants.{Worker}
-use Rattle.semantics.specs.declared.call.Call.{Call}
-use Rattle.semantics.specs.declared.call.Call.TheVariants.{Enter, Leave, Lookup, Load, Store, Atomic, Update, Delete, Reclaim}
-use Rattle.semantics.specs.declared.call.Reply.{Reply}
-use Rattle.semantics.specs.declared.call.Reply.TheVariants.{Entered, Left, Cell, Null, Word, Done, Answer, Freed}
+use Rattle.semantics.specs.declared.call.HeldChange.{HeldChange}
+use Rattle.semantics.specs.declared.call.HeldChange.TheVariants.{LetsGo, Finds, Stays}
 use Rattle.semantics.specs.declared.call.Entry.{Entry}
-use Rattle.semantics.specs.Reclamation.{is_worker, held_by, holds}
+use Rattle.semantics.specs.Reclamation.{is_worker, held_change, held_where, held_by, holds}
 use Rattle.audit.specs.declared.held_cells.Findings.{Findings}
 use Rattle.audit.specs.declared.held_cells.HeldCells.{HeldCells}
-use Rattle.audit.specs.HeldCells.{place_found, since_after, found_by, found_after, Tells, AreHeld}
+use Rattle.audit.specs.HeldCells.{place_found, since_after, found_after, Tells, AreHeld}
 
 not_later : (since place bound : ℕ) → place ≤ bound → since ≡ bound + 1 → nat_lt since place ≡ false
 not_later since place bound within is = grind (arith, nat_tests)
@@ -68,31 +66,17 @@ own_stays : (worker : ℕ) (entry : Entry) (history : List Entry) (old new : Fin
 own_stays worker entry history old new own keeps told since found =
     stays worker entry history old new (λ cell. rw own (keeps cell (holds worker cell history))) told since found
 
-looked_up : (worker : ℕ) (who : Caller) (shard : ℕ) (key : List ℕ) (reply : Reply) (history : List Entry) (old new : Findings) (place : ℕ) → is_worker worker who ≡ true → place ≡ length history + 1 → Tells worker history old
-    → new.since ≡ old.since → ((cell : ℕ) → place_found new cell ≡ found_by reply place cell (place_found old cell)) → Tells worker ((record { who = who; call = Lookup shard key; reply = reply }) ∷ history) new
-looked_up worker who shard key (Cell found) history old new place own at told since is =
-    finds worker (record { who = who; call = Lookup shard key; reply = Cell found }) history old new found.id own (λ cell before. refl) told since (λ cell. is cell ∙ ap (λ n. cond (found.id == cell) n (place_found old cell)) at)
-looked_up worker who shard key Entered history old new place own at told since is = own_stays worker (record { who = who; call = Lookup shard key; reply = Entered }) history old new own (λ cell before. refl) told since is
-looked_up worker who shard key Left history old new place own at told since is = own_stays worker (record { who = who; call = Lookup shard key; reply = Left }) history old new own (λ cell before. refl) told since is
-looked_up worker who shard key Null history old new place own at told since is = own_stays worker (record { who = who; call = Lookup shard key; reply = Null }) history old new own (λ cell before. refl) told since is
-looked_up worker who shard key (Word value) history old new place own at told since is = own_stays worker (record { who = who; call = Lookup shard key; reply = Word value }) history old new own (λ cell before. refl) told since is
-looked_up worker who shard key Done history old new place own at told since is = own_stays worker (record { who = who; call = Lookup shard key; reply = Done }) history old new own (λ cell before. refl) told since is
-looked_up worker who shard key (Answer code) history old new place own at told since is = own_stays worker (record { who = who; call = Lookup shard key; reply = Answer code }) history old new own (λ cell before. refl) told since is
-looked_up worker who shard key (Freed count) history old new place own at told since is = own_stays worker (record { who = who; call = Lookup shard key; reply = Freed count }) history old new own (λ cell before. refl) told since is
-
 -- one entry more of the worker
-own_noted : (worker : ℕ) (who : Caller) (call : Call) (reply : Reply) (history : List Entry) (old new : Findings) (place : ℕ) → is_worker worker who ≡ true → place ≡ length history + 1 → Tells worker history old
-    → new.since ≡ since_after call place old.since → ((cell : ℕ) → place_found new cell ≡ found_after call reply place cell (place_found old cell)) → Tells worker ((record { who = who; call = call; reply = reply }) ∷ history) new
-own_noted worker who (Enter shard) reply history old new place own at told since is = begins_anew worker (record { who = who; call = Enter shard; reply = reply }) history old new own (λ cell before. refl) told (since ∙ at) is
-own_noted worker who (Leave shard) reply history old new place own at told since is = begins_anew worker (record { who = who; call = Leave shard; reply = reply }) history old new own (λ cell before. refl) told (since ∙ at) is
-own_noted worker who (Lookup shard key) reply history old new place own at told since is = looked_up worker who shard key reply history old new place own at told since is
-own_noted worker who (Load cell offset size) reply history old new place own at told since is = own_stays worker (record { who = who; call = Load cell offset size; reply = reply }) history old new own (λ id before. refl) told since is
-own_noted worker who (Store cell offset size value) reply history old new place own at told since is = own_stays worker (record { who = who; call = Store cell offset size value; reply = reply }) history old new own (λ id before. refl) told since is
-own_noted worker who (Atomic cell offset size op value expected) reply history old new place own at told since is =
-    own_stays worker (record { who = who; call = Atomic cell offset size op value expected; reply = reply }) history old new own (λ id before. refl) told since is
-own_noted worker who (Update shard key value flags) reply history old new place own at told since is = own_stays worker (record { who = who; call = Update shard key value flags; reply = reply }) history old new own (λ cell before. refl) told since is
-own_noted worker who (Delete shard key) reply history old new place own at told since is = own_stays worker (record { who = who; call = Delete shard key; reply = reply }) history old new own (λ cell before. refl) told since is
-own_noted worker who (Reclaim shard) reply history old new place own at told since is = own_stays worker (record { who = who; call = Reclaim shard; reply = reply }) history old new own (λ cell before. refl) told since is
+own_noted : (worker : ℕ) (entry : Entry) (history : List Entry) (old new : Findings) (change : HeldChange) (place : ℕ) → is_worker worker entry.who ≡ true → held_change entry.call entry.reply ≡ change
+    → place ≡ length history + 1 → Tells worker history old → new.since ≡ since_after change place old.since
+    → ((cell : ℕ) → place_found new cell ≡ found_after change place cell (place_found old cell)) → Tells worker (entry ∷ history) new
+own_noted worker entry history old new LetsGo place own is at told since found =
+    begins_anew worker entry history old new own (λ cell before. ap (λ change. held_where change cell before) is) told (since ∙ at) found
+own_noted worker entry history old new (Finds id) place own is at told since found =
+    finds worker entry history old new id own (λ cell before. ap (λ change. held_where change cell before) is) told since
+    (λ cell. found cell ∙ ap (λ n. cond (id == cell) n (place_found old cell)) at)
+own_noted worker entry history old new Stays place own is at told since found =
+    own_stays worker entry history old new own (λ cell before. ap (λ change. held_where change cell before) is) told since found
 
 -- one of another caller
 other_noted : (worker : ℕ) (entry : Entry) (history : List Entry) (findings : Findings) → is_worker worker entry.who ≡ false → Tells worker history findings → Tells worker (entry ∷ history) findings
@@ -134,10 +118,11 @@ get_set (x ∷ xs) (suc at) put (suc i) found is = by (get_set xs at put i found
   by (inr other) = inr ((λ e. other.0 (omega (arith, e))), other.1)
 
 -- an entry of this worker
-pub noted : (held after : HeldCells) (entry : Entry) (history : List Entry) (number : ℕ) (old new : Findings) (place : ℕ) → entry.who ≡ Worker number → AreHeld held history → place ≡ length history + 1
+pub noted : (held after : HeldCells) (entry : Entry) (history : List Entry) (number : ℕ) (old new : Findings) (change : HeldChange) (place : ℕ) → entry.who ≡ Worker number
+    → change ≡ held_change entry.call entry.reply → AreHeld held history → place ≡ length history + 1
     → slice_get held.workers.items number ≡ Some old → after.workers.items ≡ slice_set held.workers.items number new
-    → new.since ≡ since_after entry.call place old.since → ((cell : ℕ) → place_found new cell ≡ found_after entry.call entry.reply place cell (place_found old cell)) → AreHeld after (entry ∷ history)
-noted held after entry history number old new place who are at old_is items since found = record {
+    → new.since ≡ since_after change place old.since → ((cell : ℕ) → place_found new cell ≡ found_after change place cell (place_found old cell)) → AreHeld after (entry ∷ history)
+noted held after entry history number old new change place who is_change are at old_is items since found = record {
   eight = ap length items ∙ length-set held.workers.items number new ∙ are.eight;
   each = (λ worker findings is. by worker findings (get_set held.workers.items number new worker findings (ap (λ (xs : List Findings). slice_get xs worker) (sym items) ∙ is)));
 }
@@ -153,7 +138,7 @@ noted held after entry history number old new place who are at old_is items sinc
 
     by : (worker : ℕ) (findings : Findings) → ((worker ≡ number) × (new ≡ findings)) ⊎ ((worker ≡ number → ⊥) × (slice_get held.workers.items worker ≡ Some findings)) → Tells worker (entry ∷ history) findings
     by worker findings (inl same) =
-        let here : Tells number (entry ∷ history) new = own_noted number entry.who entry.call entry.reply history old new place itself at (are.each number old old_is) since found in
+        let here : Tells number (entry ∷ history) new = own_noted number entry history old new change place itself (sym is_change) at (are.each number old old_is) since found in
         subst (λ (w : ℕ). Tells w (entry ∷ history) findings) (sym same.0) (subst (Tells number (entry ∷ history)) same.1 here)
     by worker findings (inr other) = other_noted worker entry history findings (other_worker worker other.0) (are.each worker findings other.1)
 

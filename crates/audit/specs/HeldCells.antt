@@ -1,9 +1,7 @@
 -- What is kept of a worker's entries to tell which cells it holds: places of the journal, counted from 1, and 0 for none.
 use Rattle.std.specs.Prelude.{◌≡◌, ℕ, ◌≤◌, ◌==◌, Bool, nat_lt, cond, List, length, Some, slice_get, slice_index_or}
-use Rattle.semantics.specs.declared.call.Call.{Call}
-use Rattle.semantics.specs.declared.call.Call.TheVariants.{Enter, Leave, Lookup}
-use Rattle.semantics.specs.declared.call.Reply.{Reply}
-use Rattle.semantics.specs.declared.call.Reply.TheVariants.{Cell}
+use Rattle.semantics.specs.declared.call.HeldChange.{HeldChange}
+use Rattle.semantics.specs.declared.call.HeldChange.TheVariants.{LetsGo, Finds}
 use Rattle.semantics.specs.declared.call.Entry.{Entry}
 use Rattle.semantics.specs.Reclamation.{holds}
 use Rattle.audit.specs.declared.held_cells.Findings.{Findings}
@@ -18,19 +16,14 @@ abbrev pub is_found : Findings → ℕ → Bool
 is_found findings cell = nat_lt findings.since (place_found findings cell)
 
 -- the place of the newest Enter or Leave, once there is one entry more
-abbrev pub since_after : Call → ℕ → ℕ → ℕ
-since_after (Enter shard) place before = place
-since_after (Leave shard) place before = place
-since_after call place before = before
+abbrev pub since_after : HeldChange → ℕ → ℕ → ℕ
+since_after LetsGo place before = place
+since_after change place before = before
 
 -- the place of the newest Lookup that found the cell, once there is one entry more
-abbrev pub found_by : Reply → ℕ → ℕ → ℕ → ℕ
-found_by (Cell found) place cell before = cond (found.id == cell) place before
-found_by reply place cell before = before
-
-abbrev pub found_after : Call → Reply → ℕ → ℕ → ℕ → ℕ
-found_after (Lookup shard key) reply place cell before = found_by reply place cell before
-found_after call reply place cell before = before
+abbrev pub found_after : HeldChange → ℕ → ℕ → ℕ → ℕ
+found_after (Finds id) place cell before = cond (id == cell) place before
+found_after change place cell before = before
 
 -- what is kept of this worker tells which cells it holds after this history
 pub record Tells (worker : ℕ) (history : List Entry) (findings : Findings) : Type 0 where

@@ -3,9 +3,9 @@
 ghost use Rattle.std.specs.Prelude.{◌≡◌, ◌+◌, ◌<◌, ◌==◌, ℕ, List, [], ◌∷◌, IfOk, OnOk, length, cond};
 ghost use Rattle.semantics.specs.declared.call.Entry.{Entry as Told};
 ghost use Rattle.semantics.specs.Reclamation.{holds};
-ghost use Rattle.audit.specs.HeldCells.{place_found, is_found, since_after, found_by, found_after, Tells, AreHeld};
+ghost use Rattle.audit.specs.HeldCells.{place_found, is_found, since_after, found_after, Tells, AreHeld};
 
-use semantics::{Call, Caller, Entry, Reply};
+use semantics::{Caller, Entry, HeldChange};
 use std::alloc::{AllocError, Global};
 
 /// How many workers there may be.
@@ -64,44 +64,18 @@ impl Findings {
         Ok(())
     }
 
-    /// An entry of the worker stands at this place.
-    fn note(&mut self, call: &Call, reply: &Reply, place: u64) -> Result<(), AllocError>
-        ensures since { OnOk result (self.new.since ≡ since_after call.now place self.old.since) }
-        ensures found { OnOk result ((cell : ℕ) → place_found self.new cell ≡ found_after call.now reply.now place cell (place_found self.old cell)) }
+    /// The worker's entry at this place makes this of the cells that it holds.
+    fn note(&mut self, change: HeldChange, place: u64) -> Result<(), AllocError>
+        ensures since { OnOk result (self.new.since ≡ since_after change place self.old.since) }
+        ensures found { OnOk result ((cell : ℕ) → place_found self.new cell ≡ found_after change place cell (place_found self.old cell)) }
     {
-        match call {
-            Call::Enter { .. } => {
+        match change {
+            HeldChange::LetsGo => {
                 self.since = place;
                 Ok(())
             }
-            Call::Leave { .. } => {
-                self.since = place;
-                Ok(())
-            }
-            Call::Lookup { .. } => self.note_reply(reply, place),
-            Call::Load { .. } => Ok(()),
-            Call::Store { .. } => Ok(()),
-            Call::Atomic { .. } => Ok(()),
-            Call::Update { .. } => Ok(()),
-            Call::Delete { .. } => Ok(()),
-            Call::Reclaim { .. } => Ok(()),
-        }
-    }
-
-    /// A Lookup at this place was answered so.
-    fn note_reply(&mut self, reply: &Reply, place: u64) -> Result<(), AllocError>
-        ensures since { self.new.since ≡ self.old.since }
-        ensures found { OnOk result ((cell : ℕ) → place_found self.new cell ≡ found_by reply.now place cell (place_found self.old cell)) }
-    {
-        match reply {
-            Reply::Cell { cell } => self.put(cell.id, place),
-            Reply::Entered => Ok(()),
-            Reply::Left => Ok(()),
-            Reply::Null => Ok(()),
-            Reply::Word { .. } => Ok(()),
-            Reply::Done => Ok(()),
-            Reply::Answer { .. } => Ok(()),
-            Reply::Freed { .. } => Ok(()),
+            HeldChange::Finds { id } => self.put(id, place),
+            HeldChange::Stays => Ok(()),
         }
     }
 }
@@ -142,7 +116,7 @@ impl HeldCells {
     {
         match &entry.who {
             Caller::Worker { number } => match self.workers.get_mut(usize::from(*number)) {
-                Some(findings) => findings.note(&entry.call, &entry.reply, place),
+                Some(findings) => findings.note(HeldChange::of(&entry.call, &entry.reply), place),
                 None => Ok(()),
             },
             Caller::Controller => Ok(()),

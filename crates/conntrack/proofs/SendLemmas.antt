@@ -1,9 +1,9 @@
 -- What the rule sends fits through the tunnel.
-use Rattle.std.proofs.Common.{◌≡◌, ◌≤◌, ◌<◌, ◌+◌, ℕ, Bool, true, false, List, length, Option, Some, None, sym, refl, arith}
+use Rattle.std.proofs.Common.{◌≡◌, ◌≤◌, ◌<◌, ℕ, Bool, true, false, List, Option, Some, None, sym, refl, arith}
 use Rattle.std.proofs.lemmas.Bool.Decides.{nat_tests}
 use Rattle.wire.specs.FlowForm.{HasFlow}
 use Rattle.wire.specs.declared.ethernet.Ipv4Address.{Ipv4Address}
-use Rattle.ipip.specs.PlainIpv4.{IsPlainIpv4, total_length, time_to_live}
+use Rattle.wire.specs.PlainIpv4.{IsPlainIpv4, total_length, time_to_live}
 use Rattle.ipip.specs.declared.fault.IpipFault.{IpipFault}
 use Rattle.ipip.specs.declared.fault.IpipFault.TheVariants.{TtlZero, TooLong, NoRoom, NotPlainIpv4}
 use Rattle.conntrack.specs.declared.records.VipRecord.{VipRecord}
@@ -17,17 +17,6 @@ sent_fits true records vip number address updates was = refl
 sent_fits false records None number address updates was = cc
 sent_fits false records (Some vip) number address updates was = cc
 
--- a frame with a flow holds a plain packet
-flow_is_plain : (frame : List ℕ) → HasFlow frame → IsPlainIpv4 frame
-flow_is_plain frame flow = record {
-  long = let long : 42 ≤ length frame = flow.long in omega arith;
-  ether_type_high = flow.ether_type_high;
-  ether_type_low = flow.ether_type_low;
-  version_and_header_length = flow.version_and_header_length;
-  total_at_least = let total : 28 ≤ total_length frame = flow.total_at_least in omega arith;
-  whole = flow.whole;
-}
-
 -- what a frame must be to be encapsulated
 pub record CanGo (frame : List ℕ) : Type 0 where
   pub plain : IsPlainIpv4 frame
@@ -36,7 +25,7 @@ pub record CanGo (frame : List ℕ) : Type 0 where
 
 fits_goes : (frame : List ℕ) → HasFlow frame → fits_tunnel frame ≡ true → CanGo frame
 fits_goes frame flow fits = record {
-  plain = flow_is_plain frame flow;
+  plain = flow.plain;
   alive = grind (arith, nat_tests);
   short = grind (arith, nat_tests);
 }

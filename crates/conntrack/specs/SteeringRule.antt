@@ -8,7 +8,7 @@ use Rattle.wire.specs.FrameView.{FrameView}
 use Rattle.wire.specs.FlowForm.{HasFlow, flow_bytes_of}
 use Rattle.semantics.specs.declared.verdict.Verdict.{Verdict}
 use Rattle.semantics.specs.declared.verdict.Verdict.TheVariants as V
-use Rattle.ipip.specs.PlainIpv4.{total_length, time_to_live}
+use Rattle.wire.specs.PlainIpv4.{total_length, time_to_live}
 use Rattle.ipip.specs.Encapsulation.{encapsulated_frame}
 use Rattle.wire.specs.declared.ethernet.Ipv4Address.{Ipv4Address}
 use Rattle.ipip.specs.declared.ends.Tunnel.{Tunnel}

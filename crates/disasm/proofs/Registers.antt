@@ -1,10 +1,10 @@
 -- Every register is found again by its text.
 use Rattle.std.proofs.Common.{◌≡◌, ℕ, List, ◌++◌, Some, refl, bytes_eq}
-use Rattle.std.specs.Prelude.{ℤ, pos, negsuc}
+use Rattle.std.specs.Prelude.{ℤ, pos, negsuc, reverse}
 use Rattle.std.specs.List.{find}
 use Rattle.isa.specs.declared.operation.Register.{Register}
 use Rattle.isa.specs.declared.operation.Register.TheVariants.{R0, R1, R2, R3, R4, R5, R6, R7, R8, R9, R10}
-use Rattle.disasm.specs.declared.reading.TheConstants.{REGISTERS}
+use Rattle.isa.specs.declared.operation.TheConstants.{REGISTERS}
 use Rattle.disasm.specs.AssemblyText.{register_text, with_sign}
 use Rattle.disasm.specs.LineReading.{begins_with_register}
 
@@ -21,7 +21,7 @@ register_again R8 = refl
 register_again R9 = refl
 register_again R10 = refl
 
-pub leading_again : (r : Register) (z : ℤ) (rest : List ℕ) → find (λ (q : Register). begins_with_register (register_text r ++ (with_sign z ++ rest)) q) REGISTERS ≡ Some r
+pub leading_again : (r : Register) (z : ℤ) (rest : List ℕ) → find (λ (q : Register). begins_with_register (register_text r ++ (with_sign z ++ rest)) q) (reverse REGISTERS) ≡ Some r
 leading_again R0 (pos n) rest = refl
 leading_again R0 (negsuc n) rest = refl
 leading_again R1 (pos n) rest = refl

@@ -19,6 +19,7 @@ use Rattle.isa.specs.declared.operation.AtomicOp.TheVariants.{AtomicAdd, AtomicO
 use Rattle.isa.specs.declared.operation.AtomicOp.TheVariants.{FetchXor, Exchange, CompareExchange}
 use Rattle.isa.specs.declared.operation.Size.{Size}
 use Rattle.isa.specs.declared.operation.Size.TheVariants.{U8, U16, U32, U64}
+use Rattle.isa.specs.InstructionCodes.{extension_size, width_size}
 use Rattle.disasm.specs.declared.head.Head.{Head}
 use Rattle.disasm.specs.declared.head.Head.TheVariants.{Alu, Neg, Movsx, Movsx32, End, Ja, Ja32, JumpIf, Ldx, Ldxs, St, Stx, Atomic}
 use Rattle.disasm.specs.declared.head.Head.TheVariants.{Lddw, Ldmap, Ldval, Call, Exit}
@@ -88,17 +89,6 @@ size_letters U16 = codes "h"
 size_letters U32 = codes "w"
 size_letters U64 = codes "dw"
 
--- how much a sign-extending load reads
-abbrev pub extension_letter : Extension → List ℕ
-extension_letter I8 = codes "b"
-extension_letter I16 = codes "h"
-extension_letter I32 = codes "w"
-
--- how much an atomic operation works on
-abbrev pub width_letters : Width → List ℕ
-width_letters Bits32 = codes "w"
-width_letters Bits64 = codes "dw"
-
 -- atomic operations (section 5.3)
 abbrev pub atomic_name : AtomicOp → List ℕ
 atomic_name AtomicAdd = codes "aadd"
@@ -141,10 +131,10 @@ head_suffix (End order swap_width) = swap_bits swap_width
 head_suffix Ja32 = codes "32"
 head_suffix (JumpIf width test) = width_suffix width
 head_suffix (Ldx size) = size_letters size
-head_suffix (Ldxs extension) = extension_letter extension
+head_suffix (Ldxs extension) = size_letters (extension_size extension)
 head_suffix (St size) = size_letters size
 head_suffix (Stx size) = size_letters size
-head_suffix (Atomic width op) = width_letters width
+head_suffix (Atomic width op) = size_letters (width_size width)
 head_suffix head = []
 
 unfoldable pub head_name : Head → List ℕ

@@ -4,7 +4,7 @@ ghost use Rattle.std.specs.Prelude.{◌≡◌, ◌++◌, string_bytes, OnOk, tru
 ghost use Rattle.std.specs.List.{find};
 ghost use Rattle.std.specs.Str.{bytes_eq};
 ghost use Rattle.disasm.specs.Names.{alu_name, width_suffix, extension_bits, short_bits, order_name, swap_bits, test_name, size_letters};
-ghost use Rattle.disasm.specs.Names.{extension_letter, width_letters, atomic_name, head_stem, head_suffix, head_name, Spells};
+ghost use Rattle.disasm.specs.Names.{atomic_name, head_stem, head_suffix, head_name, Spells};
 
 use isa::{AluOp, AtomicOp, ByteOrder, Extension, ShortExtension, Size, SwapWidth, Test, Width};
 use std::alloc::AllocError;
@@ -176,25 +176,6 @@ fn size_letters(of: Size) -> &'static str
     }
 }
 
-fn extension_letter(of: Extension) -> &'static str
-    ensures { result.now ≡ extension_letter of }
-{
-    match of {
-        Extension::I8 => "b",
-        Extension::I16 => "h",
-        Extension::I32 => "w",
-    }
-}
-
-fn width_letters(of: Width) -> &'static str
-    ensures { result.now ≡ width_letters of }
-{
-    match of {
-        Width::Bits32 => "w",
-        Width::Bits64 => "dw",
-    }
-}
-
 fn atomic_name(of: AtomicOp) -> &'static str
     ensures { result.now ≡ atomic_name of }
 {
@@ -248,8 +229,8 @@ impl Head {
             Head::End(_, swap_width) => swap_bits(swap_width),
             Head::Ja32 => "32",
             Head::Ldx(size) | Head::St(size) | Head::Stx(size) => size_letters(size),
-            Head::Ldxs(extension) => extension_letter(extension),
-            Head::Atomic(width, _) => width_letters(width),
+            Head::Ldxs(extension) => size_letters(extension.size()),
+            Head::Atomic(width, _) => size_letters(width.size()),
             Head::Ja | Head::Lddw | Head::Ldmap | Head::Ldval | Head::Call | Head::Exit => "",
         }
     }

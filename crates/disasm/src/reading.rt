@@ -1,6 +1,6 @@
 //! Lines read leniently: what is misspelled is read as anything. The caller prints the result again and compares.
 
-ghost use Rattle.std.specs.Prelude.{◌≡◌, ◌≢◌, ◌++◌, ◌<◌, ◌^◌, ℕ, ℤ, List, length, slice_index, FitsSigned, codes};
+ghost use Rattle.std.specs.Prelude.{◌≡◌, ◌≢◌, ◌++◌, ◌<◌, ◌^◌, ℕ, ℤ, List, length, reverse, slice_index, FitsSigned, codes};
 ghost use Rattle.std.specs.Int.{w16, w32, w64};
 ghost use Rattle.std.specs.Fmt.{decimal, signed_decimal};
 ghost use Rattle.std.specs.List.{find, starts_with};
@@ -12,23 +12,9 @@ ghost use Rattle.disasm.specs.LineReading.{OperandFits, OperandsFit, as_read, Ar
 ghost use Rattle.disasm.specs.LineReading.{short_in, word_in, count_in, offset_in, wide_in, source_in, insn_made};
 
 use crate::operand::{Operand, register_text};
+use isa::operation::REGISTERS;
 use isa::{Register, Source};
 use text_lines::{after, cut};
-
-/// The registers, such that none is a beginning of a later one.
-const REGISTERS: [Register; 11] = [
-    Register::R10,
-    Register::R0,
-    Register::R1,
-    Register::R2,
-    Register::R3,
-    Register::R4,
-    Register::R5,
-    Register::R6,
-    Register::R7,
-    Register::R8,
-    Register::R9,
-];
 
 fn register_of(text: &str) -> Register
     ensures { (r : RegisterName) → text.now ≡ register_text r → result ≡ r }
@@ -48,13 +34,15 @@ fn first_register(all: &[Register], text: &str) -> Option<Register>
 fn leading_register(text: &str) -> Register
     ensures { (r : RegisterName) (z : ℤ) (rest : List ℕ) → text.now ≡ register_text r ++ (with_sign z ++ rest) → result ≡ r }
 {
-    first_leading(&REGISTERS, text).unwrap_or(Register::R0)
+    last_leading(&REGISTERS, text).unwrap_or(Register::R0)
 }
 
-fn first_leading(all: &[Register], text: &str) -> Option<Register>
-    ensures { result ≡ find (λ r. begins_with_register text.now r) all.now }
+/// The last register with whose name the text begins: `r1` is a beginning of `r10`, which comes later.
+fn last_leading(all: &[Register], text: &str) -> Option<Register>
+    ensures { result ≡ find (λ r. begins_with_register text.now r) (reverse all.now) }
 {
     all.iter()
+        .rev()
         .copied()
         .find(|register| begins_with_register(text, *register))
 }

@@ -1,7 +1,7 @@
 -- What one slot is read as, or its first fault. Within a slot the lower fault comes first: the opcode and the fields that select
 -- are tested before the registers, and these before the unused fields.
-use Rattle.std.specs.Prelude.{ℕ, ◌+◌, ◌-◌, ◌*◌, ◌^◌, ◌/◌, ◌%◌, Option, Some, None, Result, Ok, Err, Bool, true, false, ℤ, pos, List, []}
-use Rattle.std.specs.Prelude.{◌∷◌, ◌++◌, ◌==◌, nat_le, ◌&&◌, ◌||◌, not, if◌then◌else◌}
+use Rattle.std.specs.Prelude.{ℕ, ◌+◌, ◌-◌, ◌*◌, ◌^◌, ◌/◌, ◌%◌, Option, Some, None, Result, Ok, Err, Bool, true, false, ℤ, pos, negsuc, List, []}
+use Rattle.std.specs.Prelude.{◌∷◌, ◌++◌, ◌==◌, nat_le, ◌&&◌, not, if◌then◌else◌}
 use Rattle.std.specs.List.{find}
 use Rattle.std.specs.Int.{w32, cast_unsigned}
 use Rattle.std.specs.Option.{ok_or}
@@ -9,7 +9,6 @@ use Rattle.std.specs.Ordering.{int_eq}
 use Rattle.isa.specs.declared.operation.Width.{Width}
 use Rattle.isa.specs.declared.operation.Width.TheVariants.{Bits32, Bits64}
 use Rattle.isa.specs.declared.operation.AluOp.{AluOp}
-use Rattle.isa.specs.declared.operation.AluOp.TheVariants.{Div, Mod}
 use Rattle.isa.specs.declared.operation.Extension.{Extension}
 use Rattle.isa.specs.declared.operation.ShortExtension.{ShortExtension}
 use Rattle.isa.specs.declared.operation.ByteOrder.{ByteOrder}
@@ -41,9 +40,9 @@ use Rattle.isa.specs.declared.operation.Mode.{Mode}
 use Rattle.isa.specs.declared.operation.Mode.TheVariants as modes
 use Rattle.isa.specs.Alu.{extension_bits, short_extension_bits}
 use Rattle.isa.specs.Swap.{swap_bits}
-use Rattle.isa.specs.InstructionCodes.{register_number, register_of, class_of_opcode, alu_code, alu_offset, alu_ops, end_code, extensions}
-use Rattle.isa.specs.InstructionCodes.{short_extensions, orders, swap_widths, test_code, tests, mode_of_opcode, size_code, sizes}
-use Rattle.isa.specs.InstructionCodes.{extension_size, width_size, widths, atomic_code, atomic_ops}
+use Rattle.isa.specs.InstructionCodes.{register_number, register_of, class_of_opcode, alu_op_of, end_code, extensions, short_extensions}
+use Rattle.isa.specs.InstructionCodes.{orders, swap_widths, test_of, mode_of_opcode, size_code, size_of_code, extension_size}
+use Rattle.isa.specs.InstructionCodes.{width_of_size_code, atomic_op_of}
 use Rattle.ebpf_decode.specs.InstructionEncoding.{slot, slot_of, wide_opcode, neg_opcode, movsx_opcode, order_opcode, ja_opcode}
 use Rattle.ebpf_decode.specs.InstructionEncoding.{ja32_opcode, call_opcode, exit_opcode}
 
@@ -74,15 +73,8 @@ mode_of s = mode_of_opcode s.opcode
 unfoldable pub register_at : ℕ → Result Register SlotFault
 register_at number = ok_or (register_of number) BadRegister
 
--- division and remainder, which are told from their signed forms by the offset
-abbrev pub is_division : ℕ → Bool
-is_division code = (code == alu_code Div) || (code == alu_code Mod)
-
-abbrev pub is_alu_op : AluOp → ℕ → ℤ → Bool
-is_alu_op op code offset = (alu_code op == code) && (not (is_division code) || int_eq (pos (alu_offset op)) offset)
-
 unfoldable pub alu_op_at : ℕ → ℤ → Result AluOp SlotFault
-alu_op_at code offset = ok_or (find (λ op. is_alu_op op code offset) alu_ops) UnknownOpcode
+alu_op_at code offset = ok_or (alu_op_of code offset) UnknownOpcode
 
 unfoldable pub extension_at : ℤ → Result Extension SlotFault
 extension_at offset = ok_or (find (λ e. int_eq (pos (extension_bits e)) offset) extensions) UnknownOpcode
@@ -97,22 +89,20 @@ unfoldable pub swap_width_at : ℤ → Result SwapWidth SlotFault
 swap_width_at immediate = ok_or (find (λ w. int_eq (pos (swap_bits w)) immediate) swap_widths) UnknownOpcode
 
 unfoldable pub test_at : ℕ → Result Test SlotFault
-test_at code = ok_or (find (λ t. test_code t == code) tests) UnknownOpcode
+test_at code = ok_or (test_of code) UnknownOpcode
 
 unfoldable pub size_at : ℕ → Result Size SlotFault
-size_at code = ok_or (find (λ z. size_code z == code) sizes) UnknownOpcode
+size_at code = ok_or (size_of_code code) UnknownOpcode
 
 unfoldable pub extension_size_at : ℕ → Result Extension SlotFault
 extension_size_at code = ok_or (find (λ e. size_code (extension_size e) == code) extensions) UnknownOpcode
 
 unfoldable pub width_at : ℕ → Result Width SlotFault
-width_at code = ok_or (find (λ w. size_code (width_size w) == code) widths) UnknownOpcode
-
-abbrev pub is_atomic_op : AtomicOp → ℤ → Bool
-is_atomic_op op immediate = int_eq (pos (atomic_code op)) immediate
+width_at code = ok_or (width_of_size_code code) UnknownOpcode
 
 unfoldable pub atomic_op_at : ℤ → Result AtomicOp SlotFault
-atomic_op_at immediate = ok_or (find (λ op. is_atomic_op op immediate) atomic_ops) UnknownOpcode
+atomic_op_at (pos code) = ok_or (atomic_op_of code) UnknownOpcode
+atomic_op_at (negsuc n) = Err UnknownOpcode
 
 unfoldable pub source_at : Slot → Result Source SlotFault
 source_at s =

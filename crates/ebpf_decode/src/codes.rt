@@ -3,10 +3,8 @@
 ghost use Rattle.std.specs.Prelude.{◌≡◌, ◌==◌, ◌<◌};
 ghost use Rattle.std.specs.List.{find};
 ghost use Rattle.ebpf_decode.specs.InstructionEncoding.{operation_opcode, memory_opcode, order_opcode};
-ghost use Rattle.ebpf_decode.specs.InstructionReading.{register_at, is_division, is_alu_op, alu_op_at, extension_at, short_extension_at};
-ghost use Rattle.ebpf_decode.specs.InstructionReading.{order_at, swap_width_at, test_at, size_at, extension_size_at, width_at};
-ghost use Rattle.ebpf_decode.specs.InstructionReading.{is_atomic_op, atomic_op_at};
-ghost use Rattle.isa.specs.InstructionCodes.{test_code};
+ghost use Rattle.ebpf_decode.specs.InstructionReading.{register_at, alu_op_at, extension_at, short_extension_at, order_at};
+ghost use Rattle.ebpf_decode.specs.InstructionReading.{swap_width_at, test_at, size_at, extension_size_at, width_at, atomic_op_at};
 
 use crate::fault::SlotFault;
 use isa::operation::{EXTENSIONS, ORDERS, SHORT_EXTENSIONS, SWAP_WIDTHS};
@@ -58,51 +56,12 @@ pub fn register_at(number: u8) -> Result<Register, SlotFault>
     Register::of(number).ok_or(SlotFault::BadRegister)
 }
 
-/// The arithmetic operation of this code and offset, or fault 15. The offset tells division and remainder from their signed
-/// forms, and no other operation.
+/// The arithmetic operation of this code and offset, or fault 15.
 #[tactic(auto, unfolding(crate::specs::InstructionReading::alu_op_at))]
 pub fn alu_op_at(code: u8, offset: i16) -> Result<AluOp, SlotFault>
     ensures { result ≡ alu_op_at code offset }
 {
-    match code {
-        0 => Ok(AluOp::Add),
-        1 => Ok(AluOp::Sub),
-        2 => Ok(AluOp::Mul),
-        3 => division_at(offset),
-        4 => Ok(AluOp::Or),
-        5 => Ok(AluOp::And),
-        6 => Ok(AluOp::Lsh),
-        7 => Ok(AluOp::Rsh),
-        9 => remainder_at(offset),
-        10 => Ok(AluOp::Xor),
-        11 => Ok(AluOp::Mov),
-        12 => Ok(AluOp::Arsh),
-        _ => Err(SlotFault::UnknownOpcode),
-    }
-}
-
-/// The division of this offset, or fault 15.
-#[tactic(auto, unfolding(crate::specs::InstructionReading::alu_op_at))]
-fn division_at(offset: i16) -> Result<AluOp, SlotFault>
-    ensures { result ≡ alu_op_at 3 offset }
-{
-    match offset {
-        0 => Ok(AluOp::Div),
-        1 => Ok(AluOp::Sdiv),
-        _ => Err(SlotFault::UnknownOpcode),
-    }
-}
-
-/// The remainder of this offset, or fault 15.
-#[tactic(auto, unfolding(crate::specs::InstructionReading::alu_op_at))]
-fn remainder_at(offset: i16) -> Result<AluOp, SlotFault>
-    ensures { result ≡ alu_op_at 9 offset }
-{
-    match offset {
-        0 => Ok(AluOp::Mod),
-        1 => Ok(AluOp::Smod),
-        _ => Err(SlotFault::UnknownOpcode),
-    }
+    AluOp::of(code, offset).ok_or(SlotFault::UnknownOpcode)
 }
 
 /// The extension of this offset, or fault 15.
@@ -158,20 +117,7 @@ pub fn swap_width_at(immediate: i32) -> Result<SwapWidth, SlotFault>
 pub fn test_at(code: u8) -> Result<Test, SlotFault>
     ensures { result ≡ test_at code }
 {
-    match code {
-        1 => Ok(Test::Eq),
-        2 => Ok(Test::Gt),
-        3 => Ok(Test::Ge),
-        4 => Ok(Test::Set),
-        5 => Ok(Test::Ne),
-        6 => Ok(Test::Sgt),
-        7 => Ok(Test::Sge),
-        10 => Ok(Test::Lt),
-        11 => Ok(Test::Le),
-        12 => Ok(Test::Slt),
-        13 => Ok(Test::Sle),
-        _ => Err(SlotFault::UnknownOpcode),
-    }
+    Test::of(code).ok_or(SlotFault::UnknownOpcode)
 }
 
 /// The size of this code. There is one for each code below 4.
@@ -179,13 +125,7 @@ pub fn test_at(code: u8) -> Result<Test, SlotFault>
 pub fn size_at(code: u8) -> Result<Size, SlotFault>
     ensures { result ≡ size_at code }
 {
-    match code {
-        0 => Ok(Size::U32),
-        1 => Ok(Size::U16),
-        2 => Ok(Size::U8),
-        3 => Ok(Size::U64),
-        _ => Err(SlotFault::UnknownOpcode),
-    }
+    Size::of(code).ok_or(SlotFault::UnknownOpcode)
 }
 
 /// The sign-extending load of this size's code, or fault 15.
@@ -205,29 +145,16 @@ pub fn extension_size_at(code: u8) -> Result<Extension, SlotFault>
 pub fn width_at(code: u8) -> Result<Width, SlotFault>
     ensures { result ≡ width_at code }
 {
-    match code {
-        0 => Ok(Width::Bits32),
-        3 => Ok(Width::Bits64),
-        _ => Err(SlotFault::UnknownOpcode),
-    }
+    Width::of_size_code(code).ok_or(SlotFault::UnknownOpcode)
 }
 
-/// The atomic operation of this immediate, or fault 15.
+/// The atomic operation of this immediate, or fault 15. A negative one is no operation's.
 #[tactic(auto, unfolding(crate::specs::InstructionReading::atomic_op_at))]
 pub fn atomic_op_at(immediate: i32) -> Result<AtomicOp, SlotFault>
     ensures { result ≡ atomic_op_at immediate }
 {
-    match immediate {
-        0x00 => Ok(AtomicOp::AtomicAdd),
-        0x40 => Ok(AtomicOp::AtomicOr),
-        0x50 => Ok(AtomicOp::AtomicAnd),
-        0xa0 => Ok(AtomicOp::AtomicXor),
-        0x01 => Ok(AtomicOp::FetchAdd),
-        0x41 => Ok(AtomicOp::FetchOr),
-        0x51 => Ok(AtomicOp::FetchAnd),
-        0xa1 => Ok(AtomicOp::FetchXor),
-        0xe1 => Ok(AtomicOp::Exchange),
-        0xf1 => Ok(AtomicOp::CompareExchange),
-        _ => Err(SlotFault::UnknownOpcode),
+    if immediate < 0 {
+        return Err(SlotFault::UnknownOpcode);
     }
+    AtomicOp::of(immediate as u64).ok_or(SlotFault::UnknownOpcode)
 }

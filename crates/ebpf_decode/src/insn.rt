@@ -2,7 +2,7 @@
 
 ghost use Rattle.std.specs.Prelude.{◌≡◌, ◌≤◌};
 ghost use Rattle.ebpf_decode.specs.InstructionEncoding.{FieldsFit, slot_count};
-ghost use Rattle.ebpf_decode.specs.Jumps.{jump_distance};
+ghost use Rattle.ebpf_decode.specs.Jumps.{jump_distance, jump_target};
 ghost use Rattle.ebpf_decode.specs.Versions.{is_in_version};
 
 use crate::version::Version;
@@ -156,6 +156,17 @@ impl Insn {
             Insn::Ja32 { distance } => Some(distance),
             Insn::JumpIf { distance, .. } => Some(i32::from(distance)),
             _ => None,
+        }
+    }
+
+    /// Where the instruction in this slot jumps: the slot after it, plus the distance; none of an instruction that is no jump.
+    /// It may be below 0, or past the last slot.
+    pub fn target(self, slot: u32) -> Option<i64>
+        ensures { result ≡ jump_target slot self }
+    {
+        match self.jump_distance() {
+            Some(distance) => Some(i64::from(slot) + 1 + i64::from(distance)),
+            None => None,
         }
     }
 

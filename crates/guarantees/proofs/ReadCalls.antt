@@ -1,14 +1,13 @@
 -- The calls of a program that only reads.
 use Rattle.std.proofs.Common.{◌≡◌, ℕ, zero, suc, ◌||◌, Bool, true, false, not, ℤ, pos, List, [], ◌∷◌, Option, Some, None, Ok, IsTrue, refl, sym, ◌∙◌, ap, subst, inl, inr, ◌⊎◌, arith}
-use Rattle.std.specs.Prelude.{if◌then◌else◌, negsuc, ◌==◌}
-use Rattle.std.specs.Ordering.{int_eq}
-use Rattle.std.proofs.lemmas.Bool.{eqb-true, false≢true}
+use Rattle.std.proofs.lemmas.Bool.{false≢true}
 use Rattle.isa.specs.Words.{twos_complement}
 use Rattle.isa.specs.declared.operation.Register.{Register}
 use Rattle.isa.specs.declared.operation.AtomicOp.{AtomicOp}
 use Rattle.isa.specs.declared.operation.Size.{Size}
 use Rattle.isa.specs.declared.operation.Source.TheVariants.{Reg}
 use Rattle.isa.specs.declared.operation.Width.{Width}
+use Rattle.isa.specs.Atomic.{fetched_register}
 use Rattle.ebpf_decode.specs.declared.insn.Insn.{Insn}
 use Rattle.ebpf_decode.specs.declared.insn.Insn.TheVariants.{St, Stx, AtomicUpdate, CallHelper}
 use Rattle.ebpf_decode.specs.declared.map.MapDef.{MapDef}
@@ -23,7 +22,7 @@ use Rattle.semantics.specs.RegisterValue as meaning
 use Rattle.semantics.specs.MachineState.{MachineState, register_value, initial_state}
 use Rattle.semantics.specs.Program.{Program}
 use Rattle.semantics.specs.RunTrace.{trace_from, trace_of}
-use Rattle.semantics.specs.Semantics.{fetched_register, next_step}
+use Rattle.semantics.specs.Semantics.{next_step}
 use Rattle.semantics.specs.ServedCalls.{Held}
 use Rattle.semantics.specs.Step.{Step, Continues, CallsMap, Exits, Traps}
 use Rattle.semantics.specs.System.{input_frame}
@@ -38,7 +37,7 @@ use Rattle.abstract_state.specs.Flow.{is_set, reads, reads_both, reads_atomic, r
 use Rattle.abstract_state.specs.Abstraction.{Setting, KindCovers, setting_of, Abstracts}
 use Rattle.abstract_state.proofs.shared.Checking.{ok_then, falls_made}
 use Rattle.abstract_state.proofs.shared.Opening.{opening_sound}
-use Rattle.verifier.specs.Readers.{is_value, only_reads, IsReader}
+use Rattle.verifier.specs.Readers.{is_value, is_worker_helper, only_reads, IsReader}
 use Rattle.verifier.specs.Dataflow.{Accepts}
 use Rattle.verifier.proofs.shared.PlaceLemmas.{parts_fit, IsSoundPlace, Here, here_of, continues_there, answered_there}
 use Rattle.verifier.proofs.shared.LocalLemmas.{begins_at_start}
@@ -100,52 +99,6 @@ changed_nowhere maps known width op (Value map id off) distance dst src after do
 
 -- ---- nor does it call a helper that changes keys
 
-worker_update : (t1 t2 t3 t5 t8 t44 : Bool) →
-    (if t1 then Some MapLookupElem else (if t2 then Some MapUpdateElem else (if t3 then Some MapDeleteElem else (if t5 then Some KtimeGetNs
-    else (if t8 then Some GetSmpProcessorId else (if t44 then Some XdpAdjustHead else None)))))) ≡ Some MapUpdateElem → t2 ≡ true
-worker_update true t2 t3 t5 t8 t44 e = cc
-worker_update false true t3 t5 t8 t44 e = refl
-worker_update false false true t5 t8 t44 e = cc
-worker_update false false false true t8 t44 e = cc
-worker_update false false false false true t44 e = cc
-worker_update false false false false false true e = cc
-worker_update false false false false false false e = cc
-
-worker_delete : (t1 t2 t3 t5 t8 t44 : Bool) →
-    (if t1 then Some MapLookupElem else (if t2 then Some MapUpdateElem else (if t3 then Some MapDeleteElem else (if t5 then Some KtimeGetNs
-    else (if t8 then Some GetSmpProcessorId else (if t44 then Some XdpAdjustHead else None)))))) ≡ Some MapDeleteElem → t3 ≡ true
-worker_delete true t2 t3 t5 t8 t44 e = cc
-worker_delete false true t3 t5 t8 t44 e = cc
-worker_delete false false true t5 t8 t44 e = refl
-worker_delete false false false true t8 t44 e = cc
-worker_delete false false false false true t44 e = cc
-worker_delete false false false false false true e = cc
-worker_delete false false false false false false e = cc
-
-update_at : (number : ℤ) → helper_of number ≡ Some MapUpdateElem → int_eq number (pos 2) ≡ true
-update_at (pos n) e =
-    let same : n ≡ 2 = eqb-true n 2 (worker_update (n == 1) (n == 2) (n == 3) (n == 5) (n == 8) (n == 44) e) in rw same refl
-update_at (negsuc below) e = cc
-
-delete_at : (number : ℤ) → helper_of number ≡ Some MapDeleteElem → int_eq number (pos 3) ≡ true
-delete_at (pos n) e =
-    let same : n ≡ 3 = eqb-true n 3 (worker_delete (n == 1) (n == 2) (n == 3) (n == 5) (n == 8) (n == 44) e) in rw same refl
-delete_at (negsuc below) e = cc
-
-first_of_three : (a b c : Bool) → not (a || b || c) ≡ true → a ≡ true → ⊥
-first_of_three true true true e is = false≢true e
-first_of_three true true false e is = false≢true e
-first_of_three true false true e is = false≢true e
-first_of_three true false false e is = false≢true e
-first_of_three false b c e is = false≢true is
-
-second_of_three : (a b c : Bool) → not (a || b || c) ≡ true → b ≡ true → ⊥
-second_of_three true true true e is = false≢true e
-second_of_three true true false e is = false≢true e
-second_of_three false true true e is = false≢true e
-second_of_three false true false e is = false≢true e
-second_of_three a false c e is = false≢true is
-
 changes_nothing : (maps : List MapDef) (state : MachineState) (known : State) (insn : Insn) (flow : Flow) → Abstracts maps all_held known state →
     IsTrue (only_reads known insn) → flow_of maps known state.slot insn ≡ Ok flow → ChangesNothing insn state
 changes_nothing maps state known (St size dst offset immediate) flow a only e = λ is.
@@ -167,8 +120,8 @@ changes_nothing maps state known (AtomicUpdate width op dst src offset) flow a o
     in changed_nowhere maps known width op (kind_of known dst) offset dst src made.0 set.0 set.1.0 second.1.1 only
     (cell_kind (setting_of maps all_held a.ids state) (kind_of known dst) (register_value state dst) (a.registers dst) is)
 changes_nothing maps state known (CallHelper number) flow a only e = (
-  λ is. first_of_three (int_eq number (pos 2)) (int_eq number (pos 3)) (int_eq number (pos 8)) only (update_at number is),
-  λ is. second_of_three (int_eq number (pos 2)) (int_eq number (pos 3)) (int_eq number (pos 8)) only (delete_at number is),
+  λ is. false≢true (subst (λ found. not (is_worker_helper found) ≡ true) is only),
+  λ is. false≢true (subst (λ found. not (is_worker_helper found) ≡ true) is only),
 )
 changes_nothing maps state known insn flow a only e = tt
 

@@ -1,8 +1,6 @@
 -- Runs of a program that only reads are the same on whichever worker.
 use Rattle.std.proofs.Common.{◌≡◌, ℕ, zero, suc, ◌==◌, ◌||◌, Bool, true, false, not, ℤ, pos, negsuc, List, [], ◌∷◌, Option, Some, None, Ok, IsTrue, refl, sym, ◌∙◌, ap, subst, inl, inr, arith}
-use Rattle.std.specs.Prelude.{if◌then◌else◌}
-use Rattle.std.specs.Ordering.{int_eq}
-use Rattle.std.proofs.lemmas.Bool.{eqb-true, false≢true}
+use Rattle.std.proofs.lemmas.Bool.{false≢true}
 use Rattle.isa.specs.declared.operation.Register.{Register}
 use Rattle.ebpf_decode.specs.declared.insn.Insn.{Insn}
 use Rattle.ebpf_decode.specs.declared.insn.Insn.TheVariants.{Ldx, CallHelper}
@@ -36,7 +34,7 @@ use Rattle.abstract_state.specs.Abstraction.{Setting, KindCovers, setting_of, Ab
 use Rattle.abstract_state.proofs.shared.Checking.{ok_then, falls_made}
 use Rattle.abstract_state.proofs.shared.Opening.{opening_sound}
 use Rattle.verifier.specs.Dataflow.{Accepts}
-use Rattle.verifier.specs.Readers.{is_queue_field, only_reads, IsReader}
+use Rattle.verifier.specs.Readers.{is_worker_helper, is_worker_field, is_queue_field, only_reads, IsReader}
 use Rattle.verifier.proofs.shared.PlaceLemmas.{PartsFit, parts_fit, IsSoundPlace, Here, here_of, continues_there, answered_there}
 use Rattle.verifier.proofs.shared.LocalLemmas.{begins_at_start}
 use Rattle.verifier.proofs.shared.SafetyLemmas.{some_slot}
@@ -44,44 +42,6 @@ use Rattle.guarantees.specs.SameRuns.{at_worker, trace_of_any, AreReplies, RunsT
 use Rattle.guarantees.proofs.SameSteps.{SameStep, AsksNoWorker, same_step}
 
 -- ---- what an accepted instruction that only reads asks for
-
-queue_place : (t0 t4 t12 t16 : Bool) →
-    (if t0 then Some Data else (if t4 then Some DataEnd else (if t12 then Some IngressIfindex else (if t16 then Some RxQueueIndex else None)))) ≡ Some RxQueueIndex → t16 ≡ true
-queue_place true t4 t12 t16 e = cc
-queue_place false true t12 t16 e = cc
-queue_place false false true t16 e = cc
-queue_place false false false true e = refl
-queue_place false false false false e = cc
-
-queue_at : (offset : ℤ) → field_at offset ≡ Some RxQueueIndex → int_eq offset (pos 16) ≡ true
-queue_at (pos n) e = let same : n ≡ 16 = eqb-true n 16 (queue_place (n == 0) (n == 4) (n == 12) (n == 16) e) in rw same refl
-queue_at (negsuc below) e = cc
-
-worker_place : (t1 t2 t3 t5 t8 t44 : Bool) →
-    (if t1 then Some MapLookupElem else (if t2 then Some MapUpdateElem else (if t3 then Some MapDeleteElem else (if t5 then Some KtimeGetNs
-    else (if t8 then Some GetSmpProcessorId else (if t44 then Some XdpAdjustHead else None)))))) ≡ Some GetSmpProcessorId → t8 ≡ true
-worker_place true t2 t3 t5 t8 t44 e = cc
-worker_place false true t3 t5 t8 t44 e = cc
-worker_place false false true t5 t8 t44 e = cc
-worker_place false false false true t8 t44 e = cc
-worker_place false false false false true t44 e = refl
-worker_place false false false false false true e = cc
-worker_place false false false false false false e = cc
-
-worker_at : (number : ℤ) → helper_of number ≡ Some GetSmpProcessorId → int_eq number (pos 8) ≡ true
-worker_at (pos n) e = let same : n ≡ 8 = eqb-true n 8 (worker_place (n == 1) (n == 2) (n == 3) (n == 5) (n == 8) (n == 44) e) in rw same refl
-worker_at (negsuc below) e = cc
-
-none_of_three : (a b c : Bool) → not (a || b || c) ≡ true → c ≡ true → ⊥
-none_of_three true true true e is = false≢true e
-none_of_three true false true e is = false≢true e
-none_of_three false true true e is = false≢true e
-none_of_three false false true e is = false≢true e
-none_of_three a b false e is = false≢true is
-
-not_both : (t : Bool) → not t ≡ true → t ≡ true → ⊥
-not_both true e is = false≢true e
-not_both false e is = false≢true is
 
 -- a register that holds the context is known to
 context_kind : (s : Setting) (kind : Kind) (register : Register) (value : RegisterValue) (done : Unit {0}) → is_set kind register ≡ Ok done → KindCovers s kind value → value ≡ ContextPointer → kind ≡ Ctx
@@ -106,10 +66,9 @@ asks_none maps state known (Ldx size dst src offset) flow a only e = λ is field
     in let first = ok_then (writable dst) (λ _. reads known src >>= (λ _. load_of maps known size dst src offset)) made.0 made.1.0
     in let second = ok_then (reads known src) (λ _. load_of maps known size dst src offset) made.0 first.1.1
     in let kind : kind_of known src ≡ Ctx = context_kind (setting_of maps all_held a.ids state) (kind_of known src) src (register_value state src) second.0 second.1.0 (a.registers src) is
-    in let no_queue : not (int_eq offset (pos 16)) ≡ true = subst (λ kind. not (is_queue_field kind offset) ≡ true) kind only
-    in not_both (int_eq offset (pos 16)) no_queue (queue_at offset field)
-asks_none maps state known (CallHelper number) flow a only e = λ is.
-    none_of_three (int_eq number (pos 2)) (int_eq number (pos 3)) (int_eq number (pos 8)) only (worker_at number is)
+    in let no_queue : not (is_worker_field (field_at offset)) ≡ true = subst (λ kind. not (is_queue_field kind offset) ≡ true) kind only
+    in false≢true (subst (λ found. not (is_worker_field found) ≡ true) field no_queue)
+asks_none maps state known (CallHelper number) flow a only e = λ is. false≢true (subst (λ found. not (is_worker_helper found) ≡ true) is only)
 asks_none maps state known insn flow a only e = tt
 
 -- ---- traces

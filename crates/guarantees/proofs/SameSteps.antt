@@ -14,6 +14,7 @@ use Rattle.isa.specs.declared.operation.Source.{Source}
 use Rattle.isa.specs.declared.operation.Source.TheVariants.{Imm, Reg}
 use Rattle.isa.specs.declared.operation.Register.{Register}
 use Rattle.isa.specs.declared.operation.Register.TheVariants.{R0, R1, R2, R3, R4, R5, R6, R7, R8, R9, R10}
+use Rattle.isa.specs.Atomic.{fetched_register}
 use Rattle.ebpf_decode.specs.declared.insn.Insn.{Insn}
 use Rattle.ebpf_decode.specs.declared.insn.Insn.TheVariants.{Alu, Neg, Movsx, Movsx32, End, Ja, Ja32, JumpIf, Ldx, Ldxs, St, Stx, AtomicUpdate, Lddw, Ldmap, Ldval, CallHelper, Exit}
 use Rattle.ebpf_decode.specs.declared.map.MapDef.{MapDef}
@@ -32,7 +33,7 @@ use Rattle.semantics.specs.Arithmetic.{source_value, changed_number, alu_outcome
 use Rattle.semantics.specs.Comparison.{jump_outcome}
 use Rattle.semantics.specs.Memory.{field_outcome, context_field, packet_range, packet_value, stack_value, cell_range, aligned_cell_range}
 use Rattle.semantics.specs.Helpers.{returned, found_value, answer_value, map_argument, map_at, bytes_argument, number_argument, context_argument, with_key, found_helper_step}
-use Rattle.semantics.specs.Semantics.{extended, write_step, written_register, jump_step, branch_step, load_step, load_signed_step, load_cell_step, store_step, stored_places, stored_number, fetched_register, with_fetched, after_fetch, expected_number, atomic_step, value_address_step, exit_step, instruction_step, at_next_slot}
+use Rattle.semantics.specs.Semantics.{extended, write_step, written_register, jump_step, branch_step, load_step, load_signed_step, load_cell_step, store_step, stored_places, stored_number, with_fetched, after_fetch, expected_number, atomic_step, value_address_step, exit_step, instruction_step, at_next_slot}
 use Rattle.abstract_state.specs.Soundness.{JumpsForward}
 use Rattle.guarantees.specs.SameRuns.{at_worker}
 

@@ -4,7 +4,7 @@ ghost use Rattle.std.specs.Prelude.{◌≡◌, ◌<◌, ◌≤◌, ◌↔◌, []
 ghost use Rattle.std.specs.List.{AllByRecursion};
 ghost use Rattle.verifier.specs.Readers.{IsReader};
 ghost use Rattle.machine.specs.Running.{program_of};
-ghost use Rattle.shards.specs.Opening.{are_served_options};
+ghost use Rattle.semantics.specs.ShardPlan.{are_served_options};
 ghost use Rattle.workers.specs.Accounts.{sent_frames};
 ghost use Rattle.replay.specs.declared.fault.ReplayFault.TheVariants.{BadOptions};
 ghost use Rattle.guarantees.specs.ReaderReplays.{IsCaptured, all_sent_at_opening};

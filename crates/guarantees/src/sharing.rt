@@ -1,7 +1,6 @@
 //! A run over shards that other threads call meanwhile, as events of the system of all workers.
 
-ghost use Rattle.std.specs.Prelude.{◌≡◌, ◌<◌, ◌^◌, ℕ, IsTrue, IfOk, IfErr};
-ghost use Rattle.semantics.specs.System.{IsInputFrame};
+ghost use Rattle.std.specs.Prelude.{◌≡◌, ◌<◌, ℕ, IsTrue, IfOk, IfErr};
 ghost use Rattle.shard_port.specs.PassPorts.{is_worker_below, worker_of};
 ghost use Rattle.shard_port.specs.PassSessions.{IsOutsideAt};
 ghost use Rattle.guarantees.specs.SystemRuns.{setting_of, RanInSystem, HasStoppedInSystem};
@@ -10,26 +9,11 @@ use crate::{runs_are_of_the_system, stopped_runs_are_of_the_system};
 use frame_runs::run_frame;
 use gates::Gate;
 use machine::{Exit, Moment, Stop};
+use semantics::facts::{frame_may_come_in, time_has_64_bits};
 use shared_shards::{Naming, Pass, Shards};
 use std::sync::Wait;
 use verifier::Verified;
 use wire::Frame;
-
-/// A frame with all its headroom free is one that may come in.
-fn frame_may_come_in(frame: &Frame)
-    requires { frame.now.headroom ≡ 256 }
-    ensures { IsInputFrame frame.now.bytes }
-{
-    let _ = frame.bytes();
-    let _ = frame.len();
-}
-
-/// A time in nanoseconds has 64 bits.
-fn time_has_64_bits(now_ns: u64)
-    ensures { now_ns < 2 ^ 64 }
-{
-    let _ = now_ns;
-}
 
 /// `run_frame`, said of the system: where the run ends, it is a list of its worker's events from idle to idle, and what they write is what
 /// the worker's own entries have more. So it is where a full journal stopped it (60), up to the call that was refused. Either way the next run

@@ -2,7 +2,7 @@
 //! Linux's (bpf-helpers(7)).
 
 ghost use Rattle.std.specs.Prelude.{◌≡◌};
-ghost use Rattle.isa.specs.Words.{twos_complement};
+ghost use Rattle.isa.specs.Words.{twos_complement, signed_value, low_half};
 
 use isa::Register;
 
@@ -18,8 +18,8 @@ pub const VALUE: Register = Register::R3;
 /// The flags of `map_update_elem`.
 pub const FLAGS: Register = Register::R4;
 
-/// How far `xdp_adjust_head` moves the frame's start: the low 32 bits, signed. Its R1 is the context.
-pub const DISTANCE: Register = Register::R2;
+/// How far `xdp_adjust_head` moves the frame's start: the low 32 bits, signed (`delta_of`). Its R1 is the context.
+pub const DELTA: Register = Register::R2;
 
 /// What a helper answers.
 pub const ANSWER: Register = Register::R0;
@@ -29,4 +29,25 @@ pub fn answer_word(code: i32) -> u64
     ensures { result ≡ twos_complement 64 code }
 {
     isa::sign_extend_immediate(code)
+}
+
+/// A time in nanoseconds as the word that R0 gets for `ktime_get_ns`.
+pub fn time_word(now_ns: u64) -> u64
+    ensures { result ≡ now_ns }
+{
+    now_ns
+}
+
+/// A worker's number as the word that R0 gets for `get_smp_processor_id`.
+pub fn worker_word(worker: u8) -> u64
+    ensures { result ≡ worker }
+{
+    u64::from(worker)
+}
+
+/// How far a word of `DELTA` moves a frame's start: its low 32 bits, signed.
+pub fn delta_of(word: u64) -> i32
+    ensures { result ≡ signed_value 32 (low_half word) }
+{
+    ((word % 0x1_0000_0000) as u32).cast_signed()
 }

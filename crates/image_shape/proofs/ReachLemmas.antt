@@ -1,15 +1,15 @@
 -- The pass that marks what is reached: edges go up, so all marks of a slot are made before it is looked at.
-use Rattle.std.proofs.Common.{◌≡◌, ◌≢◌, ℕ, ◌+◌, ◌<◌, ◌≤◌, Bool, true, false, ℤ, pos, ◌+ℤ◌, List, length, get_or, set, replicate, Some, None, sym, ap, subst, ◌∙◌, inl, inr, ⊎_elim, arith, lit<}
+use Rattle.std.proofs.Common.{◌≡◌, ◌≢◌, ℕ, ◌+◌, ◌<◌, ◌≤◌, Bool, true, false, ℤ, pos, negsuc, List, length, get_or, set, replicate, Some, None, refl, sym, ap, subst, ◌∙◌, inl, inr, ⊎_elim, arith, lit<}
 use Rattle.std.specs.Prelude.{IsTrue}
 use Rattle.std.proofs.lemmas.Bool.{cases_lt, cases_eq}
 use Rattle.std.proofs.lemmas.List.{get_or-set_same, get_or-set_other, length-replicate, length-set}
 use Rattle.ebpf_decode.specs.declared.insn.Insn.{Insn}
 use Rattle.ebpf_decode.specs.InstructionEncoding.{total_slots}
 use Rattle.semantics.specs.Program.{instruction_at}
-use Rattle.ebpf_decode.specs.Jumps.{jump_distance}
+use Rattle.ebpf_decode.specs.Jumps.{jump_target}
 use Rattle.image_shape.specs.Edges.{IsJump, IsEdge, is_begin, IsReachableSlot, reached_start, reached_along}
 use Rattle.image_shape.specs.Structure.{HasSoundEdges, HasShape, IsFirstUnreachable}
-use Rattle.image_shape.specs.Layouts.{IsMarked}
+use Rattle.image_shape.specs.Layouts.{GoesForward, IsMarked}
 use Rattle.image_shape.proofs.shared.SlotLemmas.{past_end}
 use Rattle.image_shape.proofs.shared.FaultLemmas.{IsTarget, edge_is_up}
 use Rattle.image_shape.proofs.LayoutLemmas.{unmarked}
@@ -119,9 +119,11 @@ one_marked slots before target room is only = record {
 }
 
 -- a jump has one target
-pub one_target : (slot : ℕ) (insn : Insn) (distance : ℤ) (target : ℕ) → jump_distance insn ≡ Some distance → pos target ≡ pos (slot + 1) +ℤ distance → (k : ℕ) → IsJump slot insn k → k ≡ target
-one_target slot insn distance target is at k jump =
-    let same : jump.0 ≡ distance = (let found : jump_distance insn ≡ Some jump.0 = jump.1 in cc) in
-    let there : pos k ≡ pos (slot + 1) +ℤ distance = rw (← same) jump.2 in
-    let both : pos k ≡ pos target = there ∙ sym at in
-    cc
+pub one_target : (slot : ℕ) (insn : Insn) (target : ℕ) → jump_target slot insn ≡ Some (pos target) → (k : ℕ) → IsJump slot insn k → k ≡ target
+one_target slot insn target is k jump = let found : jump_target slot insn ≡ Some (pos k) = jump in cc
+
+-- the target of a jump that goes forward, as a slot
+pub target_slot : (slot : ℕ) (insn : Insn) (target : ℤ) → GoesForward slot insn → ((k : ℕ) → IsJump slot insn k → k < 4096) → jump_target slot insn ≡ Some target →
+    (at : ℕ) × (target ≡ pos at) × (at < 4096)
+target_slot slot insn (pos at) up targets is = (at, refl, targets at is)
+target_slot slot insn (negsuc below) up targets is = absurd (up (negsuc below) is).le

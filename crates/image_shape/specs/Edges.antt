@@ -1,9 +1,9 @@
 -- The edges of a program: from an instruction to the slots at which a run may go on after it (RFC 9669, section 4.3).
-use Rattle.std.specs.Prelude.{◌≡◌, ℕ, ◌+◌, Bool, true, false, ℤ, pos, ◌+ℤ◌, ◌⊎◌, List, Some, IsTrue, is_some}
+use Rattle.std.specs.Prelude.{◌≡◌, ℕ, ◌+◌, Bool, true, false, pos, ◌⊎◌, List, Some, IsTrue, is_some}
 use Rattle.ebpf_decode.specs.declared.insn.Insn.{Insn}
 use Rattle.ebpf_decode.specs.declared.insn.Insn.TheVariants.{Ja, Ja32, Exit}
 use Rattle.ebpf_decode.specs.InstructionEncoding.{slot_count}
-use Rattle.ebpf_decode.specs.Jumps.{jump_distance}
+use Rattle.ebpf_decode.specs.Jumps.{jump_target}
 use Rattle.semantics.specs.Program.{instruction_at}
 
 -- a run may go on at the slot after the instruction
@@ -17,9 +17,9 @@ falls_through insn = true
 abbrev pub IsFall : ℕ → Insn → ℕ → Type 0
 IsFall slot insn target = IsTrue (falls_through insn) × (target ≡ slot + slot_count insn)
 
--- a run may jump to the target, of which the distance counts from the slot after the jump
+-- a run may jump to the target
 abbrev pub IsJump : ℕ → Insn → ℕ → Type 0
-IsJump slot insn target = (distance : ℤ) × (jump_distance insn ≡ Some distance) × (pos target ≡ pos (slot + 1) +ℤ distance)
+IsJump slot insn target = jump_target slot insn ≡ Some (pos target)
 
 -- from the instruction at this slot a run may go to the target: both edges of a conditional jump count
 abbrev pub IsEdge : ℕ → Insn → ℕ → Type 0

@@ -2,7 +2,7 @@
 use Rattle.std.specs.Prelude.{◌≡◌, ℕ, Bool, true, false, ℤ, pos, ◌≤ℤ◌, ◌⊎◌, List, Some, slice_index_or}
 use Rattle.ebpf_decode.specs.declared.insn.Insn.{Insn}
 use Rattle.ebpf_decode.specs.InstructionEncoding.{total_slots}
-use Rattle.ebpf_decode.specs.Jumps.{jump_distance}
+use Rattle.ebpf_decode.specs.Jumps.{jump_target}
 use Rattle.image_shape.specs.Edges.{is_begin}
 
 -- the marks are at the slots where instructions begin, and this is how many slots there are
@@ -10,9 +10,9 @@ pub record IsLayout (code : List Insn) (begins : List Bool) (total : ℕ) : Type
   pub marked : (slot : ℕ) → slice_index_or begins slot false ≡ is_begin code slot
   pub slots : total ≡ total_slots code
 
--- a jump's distance is not below 0
-abbrev pub GoesForward : Insn → Type 0
-GoesForward insn = (distance : ℤ) → jump_distance insn ≡ Some distance → pos 0 ≤ℤ distance
+-- the target of a jump is not below 0
+abbrev pub GoesForward : ℕ → Insn → Type 0
+GoesForward slot insn = (target : ℤ) → jump_target slot insn ≡ Some target → pos 0 ≤ℤ target
 
 -- these slots are marked too, and no others
 pub record IsMarked (slots : ℕ → Type 0) (before after : List Bool) : Type 0 where

@@ -6,18 +6,19 @@ use Rattle.ebpf_decode.specs.InstructionEncoding.{slot_count, total_slots}
 use Rattle.semantics.specs.Program.{instruction_at}
 use Rattle.image_shape.specs.declared.fault.ShapeFault.{ShapeFault}
 use Rattle.image_shape.specs.declared.fault.ShapeFault.TheVariants.{JumpBackward, JumpOutside, JumpIntoWide, FallsOff, Unreachable}
-use Rattle.ebpf_decode.specs.Jumps.{jump_distance}
+use Rattle.ebpf_decode.specs.Jumps.{jump_target}
 use Rattle.image_shape.specs.Edges.{falls_through, is_begin, IsReachableSlot}
 
 -- ---- one instruction, by where instructions begin in its program and how many slots the program has
 
--- the fault of a jump: backward, to a target past the last slot, or into a wide instruction
+-- the fault of a jump to this target: backward, past the last slot, or into a wide instruction
 abbrev pub jump_fault : (ℕ → Bool) → ℕ → ℕ → Option ℤ → Option ShapeFault
 jump_fault begins total slot None = None
-jump_fault begins total slot (Some (negsuc distance)) = Some (JumpBackward slot)
-jump_fault begins total slot (Some (pos distance)) =
-    if nat_le total (slot + 1 + distance) then Some (JumpOutside slot) else
-    (if begins (slot + 1 + distance) then None else Some (JumpIntoWide slot))
+jump_fault begins total slot (Some (negsuc below)) = Some (JumpBackward slot)
+jump_fault begins total slot (Some (pos target)) =
+    if nat_le target slot then Some (JumpBackward slot) else
+    (if nat_le total target then Some (JumpOutside slot) else
+    (if begins target then None else Some (JumpIntoWide slot)))
 
 -- the fault of an instruction that may go on at the next slot, where that is past the end
 abbrev pub fall_fault : ℕ → ℕ → Insn → Option ShapeFault
@@ -25,7 +26,7 @@ fall_fault total slot insn = if falls_through insn && nat_le total (slot + slot_
 
 -- the lowest fault of the instruction at this slot
 abbrev pub instruction_fault : (ℕ → Bool) → ℕ → ℕ → Insn → Option ShapeFault
-instruction_fault begins total slot insn = option_or (jump_fault begins total slot (jump_distance insn)) (fall_fault total slot insn)
+instruction_fault begins total slot insn = option_or (jump_fault begins total slot (jump_target slot insn)) (fall_fault total slot insn)
 
 -- ---- programs
 

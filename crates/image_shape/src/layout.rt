@@ -35,19 +35,17 @@ impl Layout {
         }
     }
 
-    /// The fault of a jump by this distance, from the slot after this one.
-    fn jump_fault(&self, slot: usize, distance: i32) -> Option<ShapeFault>
+    /// The fault of a jump from a slot to this target.
+    fn jump_fault(&self, slot: usize, target: i64) -> Option<ShapeFault>
         requires small { self.now.total ≤ 4096 }
         requires within { slot < self.now.total }
-        ensures { result ≡ jump_fault (λ k. slice_index_or self.now.begins k false) self.now.total slot (Some distance) }
+        ensures { result ≡ jump_fault (λ k. slice_index_or self.now.begins k false) self.now.total slot (Some target) }
     {
-        if distance < 0 {
-            return Some(ShapeFault::JumpBackward { slot: slot as u32 });
-        }
-        let target = slot + 1 + distance as usize;
-        if self.total <= target {
+        if target <= slot as i64 {
+            Some(ShapeFault::JumpBackward { slot: slot as u32 })
+        } else if self.total as i64 <= target {
             Some(ShapeFault::JumpOutside { slot: slot as u32 })
-        } else if self.begins[target] {
+        } else if self.begins[target as usize] {
             None
         } else {
             Some(ShapeFault::JumpIntoWide { slot: slot as u32 })
@@ -73,8 +71,8 @@ impl Layout {
         requires within { slot < self.now.total }
         ensures { result ≡ instruction_fault (λ k. slice_index_or self.now.begins k false) self.now.total slot insn }
     {
-        let jump = match insn.jump_distance() {
-            Some(distance) => self.jump_fault(slot, distance),
+        let jump = match insn.target(slot as u32) {
+            Some(target) => self.jump_fault(slot, target),
             None => None,
         };
         match jump {

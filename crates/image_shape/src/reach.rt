@@ -1,6 +1,6 @@
 //! Which instructions can be reached.
 
-ghost use Rattle.std.specs.Prelude.{◌≡◌, ℕ, ◌+◌, ◌≤◌, ◌<◌, pos, ◌+ℤ◌, ◌≤ℤ◌, IfOk, IfErr};
+ghost use Rattle.std.specs.Prelude.{◌≡◌, ℕ, ◌≤◌, ◌<◌, IfOk, IfErr};
 ghost use Rattle.ebpf_decode.specs.InstructionEncoding.{total_slots};
 ghost use Rattle.image_shape.specs.Edges.{IsFall, IsJump, IsEdge};
 ghost use Rattle.image_shape.specs.Structure.{HasShape, HasSoundEdges, IsFirstFault};
@@ -35,7 +35,7 @@ pub(crate) fn check_reach(code: &[Insn]) -> Result<(), ShapeFault>
 fn mark_edges(reached: &mut [bool; MAX_SLOTS], slot: usize, insn: Insn)
     requires within { slot < 4096 }
     requires targets { (target : ℕ) → IsEdge slot insn target → target < 4096 }
-    requires forward { GoesForward insn }
+    requires forward { GoesForward slot insn }
     ensures { IsMarked (IsEdge slot insn) reached.old reached.new }
 {
     mark_next(reached, slot, insn);
@@ -57,19 +57,10 @@ fn mark_next(reached: &mut [bool; MAX_SLOTS], slot: usize, insn: Insn)
 fn mark_target(reached: &mut [bool; MAX_SLOTS], slot: usize, insn: Insn)
     requires within { slot < 4096 }
     requires targets { (target : ℕ) → IsJump slot insn target → target < 4096 }
-    requires forward { GoesForward insn }
+    requires forward { GoesForward slot insn }
     ensures { IsMarked (IsJump slot insn) reached.old reached.new }
 {
-    if let Some(distance) = insn.jump_distance() {
-        reached[target_slot(slot, distance)] = true;
+    if let Some(target) = insn.target(slot as u32) {
+        reached[target as usize] = true;
     }
-}
-
-/// The slot at which a jump arrives, by the distance from the slot after it.
-fn target_slot(slot: usize, distance: i32) -> usize
-    requires within { slot < 4096 }
-    requires forward { pos 0 ≤ℤ distance }
-    ensures { pos result ≡ pos (slot + 1) +ℤ distance }
-{
-    slot + 1 + distance as usize
 }

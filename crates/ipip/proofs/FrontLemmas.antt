@@ -2,9 +2,9 @@
 use Rattle.std.proofs.Common.{◌≡◌, ℕ, ◌+◌, ◌-◌, ◌≤◌, List, [], ◌∷◌, ◌++◌, length, get_or, drop, replicate, refl, arith, ap, ◌∙◌, length-drop}
 use Rattle.std.specs.Prelude.{slice_range}
 use Rattle.wire.specs.FrameView.{FrameView, overwritten_at}
-use Rattle.wire.specs.FlowForm.{be_word_at}
+use Rattle.wire.specs.BigEndian.{be_word_at}
 use Rattle.ipip.specs.declared.ends.Tunnel.{Tunnel}
-use Rattle.ipip.specs.PlainIpv4.{IsPlainIpv4, type_of_service, total_length}
+use Rattle.wire.specs.PlainIpv4.{IsPlainIpv4, type_of_service, total_length}
 use Rattle.ipip.specs.Encapsulation.{outer_header, encapsulated_frame}
 use Rattle.ipip.proofs.HeaderLemmas.{outer_header-length, outer_header-version, outer_header-total}
 

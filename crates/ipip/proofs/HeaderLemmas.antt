@@ -1,7 +1,7 @@
 -- What the outer header has in its fields, and that its checksum verifies.
-use Rattle.std.proofs.Common.{◌≡◌, ℕ, ◌+◌, ◌*◌, ◌/◌, ◌%◌, List, [], ◌∷◌, ◌++◌, length, get_or, refl, arith}
+use Rattle.std.proofs.Common.{◌≡◌, ℕ, ◌+◌, ◌*◌, ◌/◌, ◌%◌, [], ◌∷◌, ◌++◌, length, get_or, refl, arith}
 use Rattle.std.proofs.lemmas.Grind.{common_steps}
-use Rattle.wire.specs.FlowForm.{be_word_at}
+use Rattle.wire.specs.BigEndian.{be_word_at}
 use Rattle.wire.specs.Checksum.{ones_sum_of, ComplementInPlace}
 use Rattle.ipip.specs.declared.ends.Tunnel.{Tunnel}
 use Rattle.ipip.specs.Encapsulation.{header_with, outer_header}

@@ -6,7 +6,7 @@ use Rattle.wire.specs.FrameView.{FrameView}
 use Rattle.wire.specs.FlowBytes.{be_bytes}
 use Rattle.wire.specs.EthernetBytes.{ethernet_bytes}
 use Rattle.wire.specs.Checksum.{ones_sum_of, ones_complement}
-use Rattle.ipip.specs.PlainIpv4.{type_of_service, total_length}
+use Rattle.wire.specs.PlainIpv4.{type_of_service, total_length}
 use Rattle.ipip.specs.declared.ends.Tunnel.{Tunnel}
 
 -- the outer header with this checksum: version 4 and five words of header, the type of service,

@@ -2,14 +2,13 @@
 
 ghost use Rattle.std.specs.Prelude.{◌≡◌, ◌+◌, ◌-◌, ◌<◌, ◌≤◌, ◌↔◌, length, drop, slice_range, OnOk, OnErr, IsErrOf};
 ghost use Rattle.wire.specs.Checksum.{ones_sum_of};
-ghost use Rattle.ipip.specs.PlainIpv4.{total_length, time_to_live, IsPlainIpv4};
+ghost use Rattle.wire.specs.PlainIpv4.{total_length, time_to_live, IsPlainIpv4};
 ghost use Rattle.ipip.specs.Encapsulation.{with_headers, encapsulated_frame};
 
 use crate::ends::Tunnel;
 use crate::fault::IpipFault;
 use crate::header::{ethernet_header, outer_header};
-use crate::packet::packet_of;
-use wire::Frame;
+use wire::{Frame, Ipv4Packet};
 
 /// The bytes of an IPv4 header without options.
 const HEADER: usize = 20;
@@ -59,7 +58,7 @@ pub fn encapsulate(frame: &mut Frame, tunnel: Tunnel) -> Result<(), IpipFault>
     ensures alive_again { OnOk result (time_to_live frame.new.bytes ≡ 64) }
     ensures longer { OnOk result (total_length frame.new.bytes ≡ total_length frame.old.bytes + 20) }
 {
-    let Some(packet) = packet_of(frame.bytes()) else {
+    let Some(packet) = Ipv4Packet::of(frame.bytes()) else {
         return Err(IpipFault::NotPlainIpv4);
     };
     if packet.time_to_live == 0 {

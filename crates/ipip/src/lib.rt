@@ -5,7 +5,6 @@ mod encapsulation;
 mod ends;
 mod fault;
 mod header;
-mod packet;
 
 pub use encapsulation::encapsulate;
 pub use ends::Tunnel;

@@ -1,13 +1,16 @@
 //! What an instruction may ask for: operations, tests, widths and registers, in RFC 9669's names, with the numbers by which
 //! sections 3 to 5 name them, each written once.
 
-ghost use Rattle.std.specs.Prelude.{◌≡◌, ◌<◌, ◌≤◌, ◌%◌};
+ghost use Rattle.std.specs.Prelude.{◌≡◌, ◌<◌, ◌≤◌, ◌-◌, ◌%◌, ◌^◌, pos, Option, if◌then◌else◌};
+ghost use Rattle.std.specs.Ordering.{int_eq};
 ghost use Rattle.isa.specs.Words.{width_bits};
 ghost use Rattle.isa.specs.Alu.{extension_bits, short_extension_bits};
 ghost use Rattle.isa.specs.Swap.{swap_bits};
 ghost use Rattle.isa.specs.InstructionCodes.{class_number, class_of_opcode, alu_class, jump_class, mode_number, mode_of_opcode};
-ghost use Rattle.isa.specs.InstructionCodes.{register_number, register_of, alu_code, alu_offset, order_width, order_bit, test_code};
-ghost use Rattle.isa.specs.InstructionCodes.{size_code, size_bytes, extension_size, width_size, atomic_code, atomic_op_of};
+ghost use Rattle.isa.specs.InstructionCodes.{register_number, register_of, alu_code, alu_offset, alu_op_of, order_width, order_bit};
+ghost use Rattle.isa.specs.InstructionCodes.{test_code, test_of, size_code, size_of_code, size_bytes, size_bits, extension_size};
+ghost use Rattle.isa.specs.InstructionCodes.{width_size, width_of_size_code, atomic_code, atomic_op_of};
+ghost use Rattle.isa.specs.Atomic.{fetched_register, compares_r0};
 
 /// The class of an instruction: the low three bits of its opcode (RFC 9669, section 3.3).
 #[derive(Clone, Copy, Debug, PartialEq, Eq)]
@@ -204,24 +207,6 @@ pub const REGISTERS: [Register; 11] = [
     Register::R10,
 ];
 
-/// Every arithmetic operation.
-pub const ALU_OPS: [AluOp; 14] = [
-    AluOp::Add,
-    AluOp::Sub,
-    AluOp::Mul,
-    AluOp::Div,
-    AluOp::Sdiv,
-    AluOp::Or,
-    AluOp::And,
-    AluOp::Lsh,
-    AluOp::Rsh,
-    AluOp::Mod,
-    AluOp::Smod,
-    AluOp::Xor,
-    AluOp::Mov,
-    AluOp::Arsh,
-];
-
 /// Every extension to 64 bits.
 pub const EXTENSIONS: [Extension; 3] = [Extension::I8, Extension::I16, Extension::I32];
 
@@ -233,41 +218,6 @@ pub const ORDERS: [ByteOrder; 3] = [ByteOrder::ToLittle, ByteOrder::ToBig, ByteO
 
 /// Every width of a byte swap.
 pub const SWAP_WIDTHS: [SwapWidth; 3] = [SwapWidth::Swap16, SwapWidth::Swap32, SwapWidth::Swap64];
-
-/// Every test of a conditional jump.
-pub const TESTS: [Test; 11] = [
-    Test::Eq,
-    Test::Gt,
-    Test::Ge,
-    Test::Set,
-    Test::Ne,
-    Test::Sgt,
-    Test::Sge,
-    Test::Lt,
-    Test::Le,
-    Test::Slt,
-    Test::Sle,
-];
-
-/// Every size, by its code.
-pub const SIZES: [Size; 4] = [Size::U32, Size::U16, Size::U8, Size::U64];
-
-/// Both widths.
-pub const WIDTHS: [Width; 2] = [Width::Bits32, Width::Bits64];
-
-/// Every atomic operation.
-pub const ATOMIC_OPS: [AtomicOp; 10] = [
-    AtomicOp::AtomicAdd,
-    AtomicOp::AtomicOr,
-    AtomicOp::AtomicAnd,
-    AtomicOp::AtomicXor,
-    AtomicOp::FetchAdd,
-    AtomicOp::FetchOr,
-    AtomicOp::FetchAnd,
-    AtomicOp::FetchXor,
-    AtomicOp::Exchange,
-    AtomicOp::CompareExchange,
-];
 
 impl Class {
     /// The class's number.
@@ -359,6 +309,17 @@ impl Width {
         }
     }
 
+    /// The width of an atomic operation whose size has this code; none of the sizes of 8 and 16 bits.
+    pub fn of_size_code(code: u8) -> Option<Width>
+        ensures { result ≡ width_of_size_code code }
+    {
+        match code {
+            0 => Some(Width::Bits32),
+            3 => Some(Width::Bits64),
+            _ => None,
+        }
+    }
+
     /// The class ALU or ALU64.
     pub fn alu_class(self) -> Class
         ensures { result ≡ alu_class self }
@@ -410,6 +371,39 @@ impl AluOp {
             AluOp::Sdiv | AluOp::Smod => 1,
             _ => 0,
         }
+    }
+
+    /// The operation of this code and offset, if it is one's. The offset tells division and remainder from their signed
+    /// forms, and no other operation.
+    pub fn of(code: u8, offset: i16) -> Option<AluOp>
+        ensures { result ≡ alu_op_of code offset }
+    {
+        match code {
+            0 => Some(AluOp::Add),
+            1 => Some(AluOp::Sub),
+            2 => Some(AluOp::Mul),
+            3 => signed_or_not(offset, AluOp::Div, AluOp::Sdiv),
+            4 => Some(AluOp::Or),
+            5 => Some(AluOp::And),
+            6 => Some(AluOp::Lsh),
+            7 => Some(AluOp::Rsh),
+            9 => signed_or_not(offset, AluOp::Mod, AluOp::Smod),
+            10 => Some(AluOp::Xor),
+            11 => Some(AluOp::Mov),
+            12 => Some(AluOp::Arsh),
+            _ => None,
+        }
+    }
+}
+
+/// The operation at the offset 0, or its signed form at 1.
+fn signed_or_not(offset: i16, unsigned: AluOp, signed: AluOp) -> Option<AluOp>
+    ensures { result ≡ (if int_eq (pos 0) offset then Some unsigned else if int_eq (pos 1) offset then Some signed else None) }
+{
+    match offset {
+        0 => Some(unsigned),
+        1 => Some(signed),
+        _ => None,
     }
 }
 
@@ -505,6 +499,26 @@ impl Test {
             Test::Sle => 13,
         }
     }
+
+    /// The test of this code, if it is one's.
+    pub fn of(code: u8) -> Option<Test>
+        ensures { result ≡ test_of code }
+    {
+        match code {
+            1 => Some(Test::Eq),
+            2 => Some(Test::Gt),
+            3 => Some(Test::Ge),
+            4 => Some(Test::Set),
+            5 => Some(Test::Ne),
+            6 => Some(Test::Sgt),
+            7 => Some(Test::Sge),
+            10 => Some(Test::Lt),
+            11 => Some(Test::Le),
+            12 => Some(Test::Slt),
+            13 => Some(Test::Sle),
+            _ => None,
+        }
+    }
 }
 
 impl Size {
@@ -521,6 +535,19 @@ impl Size {
         }
     }
 
+    /// The size of this code; none from 4 on.
+    pub fn of(code: u8) -> Option<Size>
+        ensures { result ≡ size_of_code code }
+    {
+        match code {
+            0 => Some(Size::U32),
+            1 => Some(Size::U16),
+            2 => Some(Size::U8),
+            3 => Some(Size::U64),
+            _ => None,
+        }
+    }
+
     /// How many bytes a load or a store of this size moves.
     pub fn bytes(self) -> u32
         ensures count { result ≡ size_bytes self }
@@ -532,6 +559,31 @@ impl Size {
             Size::U16 => 2,
             Size::U32 => 4,
             Size::U64 => 8,
+        }
+    }
+
+    /// How many bits these are.
+    pub fn bits(self) -> u32
+        ensures count { result ≡ size_bits self }
+        ensures most { result ≤ 64 }
+    {
+        match self {
+            Size::U8 => 8,
+            Size::U16 => 16,
+            Size::U32 => 32,
+            Size::U64 => 64,
+        }
+    }
+
+    /// The largest number of this size.
+    pub fn most(self) -> u64
+        ensures { result ≡ 2 ^ size_bits self - 1 }
+    {
+        match self {
+            Size::U8 => 0xff,
+            Size::U16 => 0xffff,
+            Size::U32 => 0xffff_ffff,
+            Size::U64 => u64::MAX,
         }
     }
 }
@@ -571,6 +623,28 @@ impl AtomicOp {
             0xe1 => Some(AtomicOp::Exchange),
             0xf1 => Some(AtomicOp::CompareExchange),
             _ => None,
+        }
+    }
+
+    /// The register that gets the old value (section 5.3): none without FETCH, and R0 for a compare-and-exchange.
+    pub fn fetched(self, src: Register) -> Option<Register>
+        ensures { result ≡ fetched_register self src }
+    {
+        match self {
+            AtomicOp::AtomicAdd | AtomicOp::AtomicOr | AtomicOp::AtomicAnd | AtomicOp::AtomicXor =>
+                None,
+            AtomicOp::CompareExchange => Some(Register::R0),
+            _ => Some(src),
+        }
+    }
+
+    /// Whether the operation compares the old value with R0.
+    pub fn compares(self) -> bool
+        ensures { result ≡ compares_r0 self }
+    {
+        match self {
+            AtomicOp::CompareExchange => true,
+            _ => false,
         }
     }
 }

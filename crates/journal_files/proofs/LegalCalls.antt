@@ -1,5 +1,5 @@
 -- A call that its caller may make is one that a file may have: its numbers, keys and values fit.
-use Rattle.std.proofs.Common.{◌≡◌, ℕ, ◌+◌, ◌^◌, ◌<◌, ◌≤◌, ◌==◌, Bool, true, false, ◌&&◌, ◌||◌, nat_lt, List, [], ◌∷◌, length, IsTrue, arith, lit<, refl}
+use Rattle.std.proofs.Common.{◌≡◌, ℕ, ◌+◌, ◌^◌, ◌<◌, ◌≤◌, ◌==◌, Bool, true, false, ◌&&◌, ◌||◌, nat_lt, List, [], ◌∷◌, length, IsTrue, arith, lit<, refl, sym, ◌∙◌}
 use Rattle.std.specs.Prelude.{is_some, if◌then◌else◌}
 use Rattle.std.specs.List.{AllByRecursion}
 use Rattle.std.proofs.Math.Nat.{pow-le-pow_right}
@@ -15,10 +15,11 @@ use Rattle.semantics.specs.declared.call.Entry.{Entry}
 use Rattle.semantics.specs.declared.plan.ShardPlan.{ShardPlan}
 use Rattle.semantics.specs.PlanLimits.{IsPlan}
 use Rattle.semantics.specs.Program.{part_of_key}
-use Rattle.semantics.specs.Reclamation.{is_worker, found_cell, held_by, holds}
+use Rattle.semantics.specs.Reclamation.{is_worker, held_by, holds}
 use Rattle.semantics.specs.History.{shard_of_call, is_holder, is_own_key, is_value, are_bytes, are_flags, is_load_size, is_atomic_size, is_in_cell}
 use Rattle.semantics.specs.History.{is_aligned, fits_size, meets_part}
 use Rattle.semantics.proofs.shared.ConditionLemmas.{first_true, second_true}
+use Rattle.semantics.proofs.shared.HoldingLemmas.{found_cell, held_by_lookup}
 use Rattle.journal_files.specs.EntryForm.{IsNumber, IsShard, IsKey, IsValue, CallerFits, CallFits, IsFinding, RepliesTo, HasSizesOf}
 use Rattle.journal_files.proofs.CellBytes.{are_by_index, bytes_tested}
 
@@ -139,7 +140,7 @@ held_by_fits : (call : Call) (reply : Reply) (cell : ℕ) (before : Bool) → Re
 unfolding RepliesTo
 held_by_fits (Enter shard) reply cell before fits was held = absurd cc
 held_by_fits (Leave shard) reply cell before fits was held = absurd cc
-held_by_fits (Lookup shard key) reply cell before fits was held = found_fits shard reply cell before fits was held
+held_by_fits (Lookup shard key) reply cell before fits was held = found_fits shard reply cell before fits was (sym (held_by_lookup shard key reply cell before) ∙ held)
 held_by_fits (Load at offset size) reply cell before fits was held = was held
 held_by_fits (Store at offset size value) reply cell before fits was held = was held
 held_by_fits (Atomic at offset size op value expected) reply cell before fits was held = was held

@@ -16,7 +16,7 @@ use crate::fault::FileFault;
 use crate::printing::{put_header, put_line};
 use crate::reading::{entry_read, header_read};
 use ebpf_decode::MapDef;
-use journals::{EntryList, Journals, ShardJournal, are_options};
+use journals::{EntryList, Journals, ShardJournal};
 use semantics::{Call, Entry, Options};
 use std::alloc::{AllocError, Global};
 use std::mem;
@@ -158,7 +158,7 @@ fn header_of<'a>(
             if again.as_slice() != line.as_bytes() {
                 return Ok(None);
             }
-            if !are_options(maps, &options) {
+            if !options.fit(maps) {
                 return Ok(None);
             }
             Ok(Some((options, rest)))

@@ -4,10 +4,8 @@
 mod all;
 mod call_row;
 mod entry_list;
-mod options;
 mod shard_journal;
 
 pub use all::Journals;
 pub use entry_list::EntryList;
-pub use options::are_options;
 pub use shard_journal::ShardJournal;

@@ -2,11 +2,11 @@
 
 ghost use Rattle.std.specs.Prelude.{◌≡◌, ◌≤◌, ◌<◌, ◌^◌, length, All};
 ghost use Rattle.ebpf_decode.specs.ImageContents.{IsEncodable};
-ghost use Rattle.semantics.specs.System.{IsInputFrame};
 ghost use Rattle.verifier.specs.Dataflow.{Accepts};
 ghost use Rattle.machine.specs.Meaning.{IsWhole};
 ghost use Rattle.machine.specs.Acting.{machine_at};
 
+use crate::words::STACK_SIZE;
 use semantics::facts::bytes_have_8_bits;
 use verifier::Verified;
 use wire::Frame;
@@ -27,15 +27,6 @@ pub(crate) fn frame_is_short(frame: &Frame)
     let _ = frame.len();
 }
 
-/// A frame with all its headroom free is one that may come in.
-pub(crate) fn frame_may_come_in(frame: &Frame)
-    requires { frame.now.headroom ≡ 256 }
-    ensures { IsInputFrame frame.now.bytes }
-{
-    let _ = frame.bytes();
-    let _ = frame.len();
-}
-
 /// Words have 64 bits.
 fn words_have_64_bits(words: &[u64])
     ensures { All (λ word. word < 2 ^ 64) words.now }
@@ -44,18 +35,16 @@ fn words_have_64_bits(words: &[u64])
 }
 
 /// Registers and stack have their lengths, and their parts their widths.
-pub(crate) fn machine_is_whole(slot: usize, steps: u32, registers: &[u64; 11], stack: &[u8; 512])
+pub(crate) fn machine_is_whole(
+    slot: usize,
+    steps: u32,
+    registers: &[u64; 11],
+    stack: &[u8; STACK_SIZE],
+)
     ensures { IsWhole (machine_at slot steps registers.now stack.now) }
 {
     let _ = slot;
     let _ = steps;
     words_have_64_bits(registers);
     bytes_have_8_bits(stack);
-}
-
-/// A time has 64 bits.
-pub(crate) fn time_has_64_bits(now_ns: u64)
-    ensures { now_ns < 2 ^ 64 }
-{
-    let _ = now_ns;
 }

@@ -4,18 +4,16 @@ use Rattle.isa.specs.InstructionCodes.{atomic_op_of}
 use Rattle.semantics.specs.declared.call.Caller.{Caller}
 use Rattle.semantics.specs.declared.call.CellRef.{CellRef}
 use Rattle.semantics.specs.declared.call.Call.{Call}
-use Rattle.semantics.specs.declared.call.Call.TheVariants.{Load, Store, Atomic}
+use Rattle.semantics.specs.Cells.{cell_of_call}
 use Rattle.semantics.specs.declared.call.Entry.{Entry}
 use Rattle.semantics.specs.declared.plan.ShardPlan.{ShardPlan}
 use Rattle.semantics.specs.History.{is_inside_worker, is_holder, is_atomic_size, is_in_cell, is_aligned, fits_size, is_expected}
 use Rattle.one_thread_map.specs.declared.conditions.Standing.{Standing}
 
--- the cell whose bytes the call reads or writes
-abbrev pub cell_of_call : Call → Option CellRef
-cell_of_call (Load cell offset size) = Some cell
-cell_of_call (Store cell offset size value) = Some cell
-cell_of_call (Atomic cell offset size op value expected) = Some cell
-cell_of_call call = None
+-- there is a worker, and the test holds of it
+abbrev pub is_worker_with : (ℕ → Bool) → Option ℕ → Bool
+is_worker_with test (Some worker) = test worker
+is_worker_with test None = false
 
 -- an atomic operation of this size may be made at this offset with these numbers
 abbrev pub is_atomic : ShardPlan → ℕ → ℕ → ℕ → ℕ → ℕ → Bool

@@ -4,7 +4,7 @@ ghost use Rattle.std.specs.Prelude.{◌≡◌, ◌<◌, ◌≤◌, ◌+◌, ◌*
 ghost use Rattle.ebpf_decode.specs.declared.map.MapKind.TheVariants.{Hash};
 ghost use Rattle.semantics.specs.Linux.{errno_code, success, update_flags_of};
 ghost use Rattle.semantics.specs.PlanLimits.{IsWithinLimits, IsIndexSize};
-ghost use Rattle.one_thread_map.specs.OneThread.{state_of, IsSized};
+ghost use Rattle.one_thread_map.specs.OneThread.{state_of, AsCounted, IsSized};
 ghost use Rattle.semantics.specs.History.{is_atomic_size};
 ghost use Rattle.semantics.specs.SequentialShard.{cell_of_key, number_in_cell, changed_by, has_free_cell, is_full_of_keys};
 ghost use Rattle.semantics.specs.SequentialShard.{present_key_answer, array_update_answer, new_key_answer, absent_key_answer};
@@ -60,20 +60,40 @@ pub fn changed_by(op: Option<AtomicOp>, size: u64, old: u64, value: u64, expecte
     }
 }
 
+/// How many keys a shard has, and how many of its retired cells wait for their readers.
+#[derive(Clone, Copy, Debug, PartialEq, Eq)]
+pub struct Counts {
+    pub present: usize,
+    pub waiting: usize,
+}
+
+impl Counts {
+    /// The counts of a shard in this state.
+    pub fn of(state: &ShardState) -> Self
+        ensures present { result.present ≡ length state.now.present.items }
+        ensures waiting { result.waiting ≡ length state.now.retired.items }
+    {
+        Counts {
+            present: state.present.len(),
+            waiting: state.retired.len(),
+        }
+    }
+}
+
 /// Whether a cell is free for a new key: each key has two, so that a retired one may wait for its readers.
-fn has_free_cell(plan: &ShardPlan, state: &ShardState) -> bool
+fn has_free_cell(plan: &ShardPlan, counts: Counts) -> bool
     requires { IsWithinLimits plan.now }
-    ensures { result ≡ has_free_cell plan.now (state_of state.now) }
+    ensures { AsCounted counts (λ state. result ≡ has_free_cell plan.now state) }
 {
-    state.present.len() as u128 + (state.retired.len() as u128) < 2 * u128::from(capacity(plan))
+    counts.present as u128 + (counts.waiting as u128) < 2 * u128::from(capacity(plan))
 }
 
 /// Whether the shard has as many keys as it may have.
-pub fn is_full_of_keys(plan: &ShardPlan, state: &ShardState) -> bool
+pub fn is_full_of_keys(plan: &ShardPlan, counts: Counts) -> bool
     requires { IsWithinLimits plan.now }
-    ensures { result ≡ is_full_of_keys plan.now (state_of state.now) }
+    ensures { AsCounted counts (λ state. result ≡ is_full_of_keys plan.now state) }
 {
-    capacity(plan) <= state.present.len() as u64
+    capacity(plan) <= counts.present as u64
 }
 
 /// What an Update of a key that is there answers: that it exists, where it may not.
@@ -98,13 +118,13 @@ pub fn array_update_answer(flags: UpdateFlags, cell: Option<u64>) -> i32
 }
 
 /// What an Update of a new key answers: a hash shard may be full of keys, and any may have no free cell.
-fn new_key_answer(plan: &ShardPlan, state: &ShardState) -> i32
+fn new_key_answer(plan: &ShardPlan, counts: Counts) -> i32
     requires { IsWithinLimits plan.now }
-    ensures { result ≡ new_key_answer plan.now (state_of state.now) }
+    ensures { AsCounted counts (λ state. result ≡ new_key_answer plan.now state) }
 {
-    if plan.definition.kind == MapKind::Hash && is_full_of_keys(plan, state) {
+    if plan.definition.kind == MapKind::Hash && is_full_of_keys(plan, counts) {
         Errno::TooBig.code()
-    } else if has_free_cell(plan, state) {
+    } else if has_free_cell(plan, counts) {
         0
     } else {
         Errno::NoMemory.code()
@@ -112,13 +132,13 @@ fn new_key_answer(plan: &ShardPlan, state: &ShardState) -> i32
 }
 
 /// What an Update of an absent key answers: that there is no entry, where it must be present, else as a new key.
-fn absent_key_answer(plan: &ShardPlan, state: &ShardState, flags: UpdateFlags) -> i32
+fn absent_key_answer(plan: &ShardPlan, counts: Counts, flags: UpdateFlags) -> i32
     requires { IsWithinLimits plan.now }
-    ensures { result ≡ absent_key_answer plan.now (state_of state.now) flags }
+    ensures { AsCounted counts (λ state. result ≡ absent_key_answer plan.now state flags) }
 {
     match flags {
-        UpdateFlags::Any => new_key_answer(plan, state),
-        UpdateFlags::NoExist => new_key_answer(plan, state),
+        UpdateFlags::Any => new_key_answer(plan, counts),
+        UpdateFlags::NoExist => new_key_answer(plan, counts),
         UpdateFlags::Exist => Errno::NoEntry.code(),
     }
 }
@@ -126,33 +146,33 @@ fn absent_key_answer(plan: &ShardPlan, state: &ShardState, flags: UpdateFlags) -
 /// What an Update of a map with keys answers.
 fn keyed_update_answer(
     plan: &ShardPlan,
-    state: &ShardState,
+    counts: Counts,
     flags: UpdateFlags,
     cell: Option<u64>,
 ) -> i32
     requires { IsWithinLimits plan.now }
-    ensures { result ≡ keyed_update_answer plan.now (state_of state.now) flags cell }
+    ensures { AsCounted counts (λ state. result ≡ keyed_update_answer plan.now state flags cell) }
 {
     match cell {
         Some(_) => present_key_answer(flags),
-        None => absent_key_answer(plan, state, flags),
+        None => absent_key_answer(plan, counts, flags),
     }
 }
 
-/// What an Update with known flags answers, as the map's kind has it.
-fn update_answer_of_kind(
+/// What an Update with known flags answers of a key that has this cell or none, as the map's kind has it.
+pub fn update_answer_of_kind(
     plan: &ShardPlan,
-    state: &ShardState,
+    counts: Counts,
     flags: UpdateFlags,
     cell: Option<u64>,
 ) -> i32
     requires { IsWithinLimits plan.now }
-    ensures { result ≡ update_answer_of_kind plan.now.definition.kind plan.now (state_of state.now) flags cell }
+    ensures { AsCounted counts (λ state. result ≡ update_answer_of_kind plan.now.definition.kind plan.now state flags cell) }
 {
     match plan.definition.kind {
         MapKind::Array => array_update_answer(flags, cell),
-        MapKind::Hash => keyed_update_answer(plan, state, flags, cell),
-        MapKind::LruHash => keyed_update_answer(plan, state, flags, cell),
+        MapKind::Hash => keyed_update_answer(plan, counts, flags, cell),
+        MapKind::LruHash => keyed_update_answer(plan, counts, flags, cell),
     }
 }
 
@@ -164,7 +184,12 @@ pub fn update_answer(plan: &ShardPlan, state: &ShardState, key: &Key, flags: u64
 {
     match UpdateFlags::of(flags) {
         None => Errno::Invalid.code(),
-        Some(flags) => update_answer_of_kind(plan, state, flags, cell_of_key(plan, state, key)),
+        Some(flags) => update_answer_of_kind(
+            plan,
+            Counts::of(state),
+            flags,
+            cell_of_key(plan, state, key),
+        ),
     }
 }
 

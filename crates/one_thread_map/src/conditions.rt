@@ -1,11 +1,11 @@
 //! Which calls a shard serves, and when its journal is full.
 
-ghost use Rattle.std.specs.Prelude.{◌≡◌, ◌<◌, ◌≤◌, ◌==◌, ◌+◌, ◌%◌, ◌^◌, ◌&&◌, Bool, List, IsTrue, length, reverse, nat_lt, is_some};
+ghost use Rattle.std.specs.Prelude.{◌≡◌, ◌<◌, ◌≤◌, ◌==◌, ◌+◌, ◌%◌, ◌^◌, ◌&&◌, ℕ, Bool, List, IfSome, IsTrue, length, reverse, nat_lt, is_some};
 ghost use Rattle.semantics.specs.declared.call.Entry.{Entry};
 ghost use Rattle.semantics.specs.declared.plan.ShardPlan.{ShardPlan};
-ghost use Rattle.one_thread_map.specs.Standings.{cell_of_call, is_atomic, IsStanding};
+ghost use Rattle.one_thread_map.specs.Standings.{is_worker_with, is_atomic, IsStanding};
 ghost use Rattle.semantics.specs.PlanLimits.{IsWithinLimits, IsIndexSize};
-ghost use Rattle.semantics.specs.Reclamation.{inside_count};
+ghost use Rattle.semantics.specs.Reclamation.{is_inside, holds, inside_count};
 ghost use Rattle.semantics.specs.Program.{shard_number_of_key, part_of_key, shard_of_key};
 ghost use Rattle.semantics.specs.History.{is_outside_worker, is_inside_worker, is_holder, may_change_keys, is_reclaimer, are_bytes};
 ghost use Rattle.semantics.specs.History.{is_own_key, is_value, are_flags, is_load_size, is_atomic_size, is_in_cell, is_aligned};
@@ -16,7 +16,7 @@ use crate::history::{holds, inside_count, is_inside};
 use ebpf_decode::MapKind;
 use isa::AtomicOp;
 use semantics::little_endian::number_of_bytes;
-use semantics::{Call, Caller, CellRef, Entry, Key, SectionChange, ShardPlan, Value};
+use semantics::{Call, Caller, Entry, Key, SectionChange, ShardPlan, Value};
 use wire::fnv1a64;
 
 /// What a shard knows of a caller before its call.
@@ -28,44 +28,20 @@ pub struct Standing {
     pub is_holder: bool,
 }
 
-/// Whether the caller is a worker of the plan that is inside.
-fn is_inside_worker(plan: &ShardPlan, journal: &[Entry], who: &Caller) -> bool
-    ensures { result ≡ is_inside_worker plan.now (reverse journal.now) who.now }
+/// The number of a caller that is a worker of the plan.
+pub fn worker_of(plan: &ShardPlan, who: &Caller) -> Option<u8>
+    ensures below { IfSome result (λ worker. worker < plan.now.workers) }
+    ensures inside { (history : List Entry) → is_inside_worker plan.now history who.now ≡ is_worker_with (λ worker. is_inside worker history) result }
+    ensures holder { (history : List Entry) (cell : ℕ) → is_holder plan.now history who.now cell ≡ is_worker_with (λ worker. holds worker cell history) result }
 {
     match who {
-        Caller::Worker { number } => u32::from(*number) < plan.workers
-            && is_inside(*number, journal),
-        Caller::Controller => false,
-        Caller::Reclaimer => false,
-    }
-}
-
-/// Whether the caller is a worker of the plan that holds the cell.
-fn is_holder(plan: &ShardPlan, journal: &[Entry], who: &Caller, cell: &CellRef) -> bool
-    ensures { result ≡ is_holder plan.now (reverse journal.now) who.now cell.now.id }
-{
-    match who {
-        Caller::Worker { number } => u32::from(*number) < plan.workers
-            && holds(*number, cell.id, journal),
-        Caller::Controller => false,
-        Caller::Reclaimer => false,
-    }
-}
-
-/// The cell whose bytes the call reads or writes.
-pub fn cell_of_call(call: &Call) -> Option<CellRef>
-    ensures { result ≡ cell_of_call call.now }
-{
-    match call {
-        Call::Load { cell, .. } => Some(*cell),
-        Call::Store { cell, .. } => Some(*cell),
-        Call::Atomic { cell, .. } => Some(*cell),
-        Call::Enter { .. } => None,
-        Call::Leave { .. } => None,
-        Call::Lookup { .. } => None,
-        Call::Update { .. } => None,
-        Call::Delete { .. } => None,
-        Call::Reclaim { .. } => None,
+        Caller::Worker { number } => if u32::from(*number) < plan.workers {
+            Some(*number)
+        } else {
+            None
+        },
+        Caller::Controller => None,
+        Caller::Reclaimer => None,
     }
 }
 
@@ -73,14 +49,18 @@ pub fn cell_of_call(call: &Call) -> Option<CellRef>
 fn standing_in(plan: &ShardPlan, journal: &[Entry], who: &Caller, call: &Call) -> Standing
     ensures { IsStanding plan.now (reverse journal.now) who.now call.now result }
 {
-    let is_inside = is_inside_worker(plan, journal, who);
-    let is_holder = match cell_of_call(call) {
-        Some(cell) => is_holder(plan, journal, who, &cell),
-        None => false,
-    };
-    Standing {
-        is_inside,
-        is_holder,
+    match worker_of(plan, who) {
+        Some(worker) => Standing {
+            is_inside: is_inside(worker, journal),
+            is_holder: match call.cell() {
+                Some(cell) => holds(worker, cell.id, journal),
+                None => false,
+            },
+        },
+        None => Standing {
+            is_inside: false,
+            is_holder: false,
+        },
     }
 }
 

@@ -5,11 +5,11 @@
 ghost use Rattle.std.specs.Prelude.{◌≡◌, ◌==◌, ◌+◌, ◌<◌, ◌^◌, ℕ, Bool, Option, List, reverse, length, unwrap_or, count_by, bytes_eq};
 ghost use Rattle.std.specs.Prelude.{vec_len, vec_capacity, ◌++◌, ◌∷◌, []};
 ghost use Rattle.std.specs.List.{list_all};
-ghost use Rattle.semantics.specs.Reclamation.{is_worker, entered_where, entered_by, entered_at, is_inside, found_cell, held_by, holds};
+ghost use Rattle.semantics.specs.Reclamation.{is_worker, entered_where, entered_by, entered_at, is_inside, held_change, held_where, held_by, holds};
 ghost use Rattle.semantics.specs.Reclamation.{worker_numbers, inside_count, began_after, is_reclaimable};
 ghost use Rattle.semantics.specs.LeastRecentlyUsed.{is_found, is_done, call_uses, uses, last_use};
 
-use semantics::{Call, Caller, Entry, Key, Reply, RetiredCell, SectionChange};
+use semantics::{Call, Caller, Entry, HeldChange, Key, Reply, RetiredCell, SectionChange};
 
 /// The numbers that workers may have.
 const WORKER_NUMBERS: [u8; 8] = [0, 1, 2, 3, 4, 5, 6, 7];
@@ -76,40 +76,14 @@ fn count_inside(workers: &[u8], journal: &[Entry]) -> usize
         .count()
 }
 
-/// Whether the reply is this cell.
-fn found_cell(reply: &Reply, cell: u64) -> bool
-    ensures { result ≡ found_cell reply.now cell }
-{
-    match reply {
-        Reply::Cell { cell: found } => found.id == cell,
-        Reply::Entered => false,
-        Reply::Left => false,
-        Reply::Null => false,
-        Reply::Word { .. } => false,
-        Reply::Done => false,
-        Reply::Answer { .. } => false,
-        Reply::Freed { .. } => false,
-    }
-}
-
 /// Where a worker's own entry decides whether it then holds the cell: the answer.
 pub fn held_by(call: &Call, reply: &Reply, cell: u64) -> Option<bool>
     ensures { (before : Bool) → unwrap_or result before ≡ held_by call.now reply.now cell before }
 {
-    match call {
-        Call::Enter { .. } => Some(false),
-        Call::Leave { .. } => Some(false),
-        Call::Lookup { .. } => if found_cell(reply, cell) {
-            Some(true)
-        } else {
-            None
-        },
-        Call::Load { .. } => None,
-        Call::Store { .. } => None,
-        Call::Atomic { .. } => None,
-        Call::Update { .. } => None,
-        Call::Delete { .. } => None,
-        Call::Reclaim { .. } => None,
+    match HeldChange::of(call, reply) {
+        HeldChange::LetsGo => Some(false),
+        HeldChange::Finds { id } => if id == cell { Some(true) } else { None },
+        HeldChange::Stays => None,
     }
 }
 
@@ -155,22 +129,6 @@ fn all_began_after(workers: &[u8], journal: &[Entry], since: u64) -> bool
         .all(|worker| began_after(since, entered_at(*worker, journal)))
 }
 
-/// Whether the reply is a cell.
-fn is_found(reply: &Reply) -> bool
-    ensures { result ≡ is_found reply.now }
-{
-    match reply {
-        Reply::Cell { .. } => true,
-        Reply::Entered => false,
-        Reply::Left => false,
-        Reply::Null => false,
-        Reply::Word { .. } => false,
-        Reply::Done => false,
-        Reply::Answer { .. } => false,
-        Reply::Freed { .. } => false,
-    }
-}
-
 /// Whether the reply is the answer 0.
 fn is_done(reply: &Reply) -> bool
     ensures { result ≡ is_done reply.now }
@@ -192,7 +150,7 @@ pub fn uses(key: &Key, entry: &Entry) -> bool
     ensures { result ≡ uses key.now entry.now }
 {
     match &entry.call {
-        Call::Lookup { key: asked, .. } => asked.is_same(key) && is_found(&entry.reply),
+        Call::Lookup { key: asked, .. } => asked.is_same(key) && entry.reply.cell().is_some(),
         Call::Update { key: asked, .. } => asked.is_same(key) && is_done(&entry.reply),
         Call::Enter { .. } => false,
         Call::Leave { .. } => false,

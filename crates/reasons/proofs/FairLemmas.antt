@@ -2,6 +2,7 @@
 use Rattle.std.proofs.Common.{◌≡◌, ℕ, ◌+◌, ◌%◌, ◌/◌, nat_le, ◌==◌, ◌&&◌, Bool, true, false, List, ℤ, pos, negsuc, ◌+ℤ◌, Option, Some, None, Ok, Err, refl, subst, if◌then◌else◌}
 use Rattle.std.specs.Prelude.{slice_get}
 use Rattle.isa.specs.Words.{twos_complement}
+use Rattle.isa.specs.Atomic.{fetched_register}
 use Rattle.isa.specs.declared.operation.Width.{Width}
 use Rattle.isa.specs.declared.operation.Width.TheVariants.{Bits32, Bits64}
 use Rattle.isa.specs.declared.operation.Size.{Size}
@@ -24,7 +25,6 @@ use Rattle.ebpf_decode.specs.declared.map.MapKind.{MapKind}
 use Rattle.ebpf_decode.specs.declared.map.MapKind.TheVariants.{Array}
 use Rattle.ebpf_decode.specs.declared.version.Version.{Version}
 use Rattle.ebpf_decode.specs.declared.version.Version.TheVariants.{V1, V2}
-use Rattle.semantics.specs.Semantics.{fetched_register}
 use Rattle.abstract_scalar.specs.declared.interval.Interval.{Interval}
 use Rattle.abstract_scalar.specs.Intervals.{is_single, constant_of, full_of}
 use Rattle.abstract_scalar.specs.Transfer.{transfer_of, neg_of, movsx64_of, movsx32_of, swap_of}
@@ -44,7 +44,7 @@ use Rattle.abstract_state.specs.declared.flow.Flow.TheVariants.{Ends, Falls, Jum
 use Rattle.abstract_state.specs.declared.refusal.Refusal.{Refusal}
 use Rattle.abstract_state.specs.declared.refusal.Refusal.TheVariants.{UnsetRegister, WrongKind, PacketBounds, StackBounds, StackUnset, ValueBounds, Misaligned, ContextAccess, UnknownHelper}
 use Rattle.abstract_state.specs.declared.state.State.{State}
-use Rattle.abstract_state.specs.States.{Checked, ◌>>=◌, kind_of, with_kind, word_of, stack_bytes, key_size_of, value_size_of}
+use Rattle.abstract_state.specs.States.{Checked, ◌>>=◌, kind_of, with_kind, word_of, stack_size, key_size_of, value_size_of}
 use Rattle.abstract_state.specs.Places.{place_within, range_within, aligned, stack_access, packet_access, offsets_within, value_range, value_access, atomic_access, at_offset}
 use Rattle.abstract_state.specs.Words.{loaded_number, are_bytes_set, narrow_loaded, spilled_loaded, word_loaded, narrow_storable, storable}
 use Rattle.abstract_state.specs.Arithmetic.{source_kind, blamed, number_kind, moved_kind, distance_of, moves_pointers, moved_pointer, moved_value, moved_far, pointer_sum, is_movable, combined_pointer, combined_kind, alu_kind, after_alu_of}
@@ -91,8 +91,8 @@ aligned_fair state place count = fair_if state (place % count == 0) (Ok place) (
 
 stack_fair : (state : State) (place : ℕ) (distance : ℤ) (count : ℕ) → Asks state (stack_access place distance count)
 stack_fair state place distance count =
-    fair_then state (λ _. Unit {0}) (range_within (pos place +ℤ distance) count stack_bytes StackBounds) (λ from. aligned from count)
-    (range_fair state (pos place +ℤ distance) count stack_bytes StackBounds tt) (λ from. aligned_fair state from count)
+    fair_then state (λ _. Unit {0}) (range_within (pos place +ℤ distance) count stack_size StackBounds) (λ from. aligned from count)
+    (range_fair state (pos place +ℤ distance) count stack_size StackBounds tt) (λ from. aligned_fair state from count)
 
 packet_fair : (state : State) (off range : ℕ) (distance : ℤ) (count : ℕ) → Asks state (packet_access off range distance count)
 packet_fair state off range distance count = range_fair state (pos off +ℤ distance) count range PacketBounds tt
@@ -165,8 +165,8 @@ moved_kind_fair state Bits64 other source = tt
 
 moved_pointer_fair : (state : State) (maps : List MapDef) (pointer : Kind) (distance : ℤ) (dst : Register) → Asks state (moved_pointer maps pointer distance dst)
 moved_pointer_fair state maps (Stack place) distance dst =
-    fair_then state (λ _. Unit {0}) (place_within (pos place +ℤ distance) stack_bytes StackBounds) (λ to. Ok (Stack to))
-    (place_fair state (pos place +ℤ distance) stack_bytes StackBounds tt) (λ to. tt)
+    fair_then state (λ _. Unit {0}) (place_within (pos place +ℤ distance) stack_size StackBounds) (λ to. Ok (Stack to))
+    (place_fair state (pos place +ℤ distance) stack_size StackBounds tt) (λ to. tt)
 moved_pointer_fair state maps (Packet id off range) distance dst =
     fair_then state (λ _. Unit {0}) (place_within (pos off +ℤ distance) 65535 PacketBounds) (λ to. Ok (Packet id to range))
     (place_fair state (pos off +ℤ distance) 65535 PacketBounds tt) (λ to. tt)

@@ -5,7 +5,7 @@ use Rattle.std.specs.List.{flat_map}
 use Rattle.isa.specs.declared.operation.AluOp.{AluOp}
 use Rattle.isa.specs.declared.operation.AluOp.TheVariants.{Mov}
 use Rattle.isa.specs.declared.operation.AtomicOp.{AtomicOp}
-use Rattle.isa.specs.declared.operation.AtomicOp.TheVariants.{CompareExchange}
+use Rattle.isa.specs.Atomic.{compares_r0}
 use Rattle.isa.specs.declared.operation.Register.{Register}
 use Rattle.isa.specs.declared.operation.Register.TheVariants.{R0, R1, R2, R3, R4}
 use Rattle.isa.specs.declared.operation.Source.{Source}
@@ -64,10 +64,9 @@ abbrev pub computing_registers : AluOp → Register → Option Register → List
 computing_registers Mov dst source = one_register source
 computing_registers op dst source = two_registers dst source
 
--- compare-and-exchange also reads R0
-abbrev pub atomic_registers : AtomicOp → Register → Register → List (Option Register)
-atomic_registers CompareExchange dst src = Some dst ∷ Some src ∷ Some R0 ∷ None ∷ []
-atomic_registers op dst src = two_registers dst (Some src)
+-- the register with which an atomic operation compares what it finds, if it does
+abbrev pub compared_register : AtomicOp → Option Register
+compared_register op = if compares_r0 op then Some R0 else None
 
 -- the registers that an instruction reads
 abbrev pub used_registers : Insn → List (Option Register)
@@ -81,7 +80,7 @@ used_registers (Ldx size dst src offset) = one_register (Some src)
 used_registers (Ldxs extension dst src offset) = one_register (Some src)
 used_registers (St size dst offset immediate) = one_register (Some dst)
 used_registers (Stx size dst src offset) = two_registers dst (Some src)
-used_registers (AtomicUpdate width op dst src offset) = atomic_registers op dst src
+used_registers (AtomicUpdate width op dst src offset) = Some dst ∷ Some src ∷ compared_register op ∷ None ∷ []
 used_registers (CallHelper number) = called_registers (helper_of number)
 used_registers Exit = one_register (Some R0)
 used_registers insn = one_register None

@@ -1,12 +1,10 @@
 -- Why a program is no reader: which instructions do more than read.
-use Rattle.std.specs.Prelude.{◌≡◌, ◌↔◌, ℕ, ℤ, List, [], ◌++◌, Option, Some, None, IsTrue, codes}
+use Rattle.std.specs.Prelude.{◌≡◌, ◌↔◌, ℕ, ℤ, List, [], ◌++◌, Option, Some, None, IsTrue, codes, if◌then◌else◌}
 use Rattle.ebpf_decode.specs.declared.insn.Insn.{Insn}
 use Rattle.ebpf_decode.specs.declared.insn.Insn.TheVariants.{Ldx, St, Stx, AtomicUpdate, CallHelper}
-use Rattle.semantics.specs.Linux.{helper_of, field_at}
+use Rattle.semantics.specs.Linux.{helper_of, changes_map, helper_asks_worker, field_at, field_asks_worker}
 use Rattle.semantics.specs.declared.linux.ContextField.{ContextField}
-use Rattle.semantics.specs.declared.linux.ContextField.TheVariants.{RxQueueIndex}
 use Rattle.semantics.specs.declared.linux.Helper.{Helper}
-use Rattle.semantics.specs.declared.linux.Helper.TheVariants.{MapUpdateElem, MapDeleteElem, GetSmpProcessorId}
 use Rattle.abstract_state.specs.declared.kind.Kind.{Kind}
 use Rattle.abstract_state.specs.declared.kind.Kind.TheVariants.{Ctx, Value}
 use Rattle.abstract_state.specs.declared.state.State.{State}
@@ -16,18 +14,17 @@ use Rattle.reasons.specs.declared.reader.Reason.{Reason}
 use Rattle.reasons.specs.declared.reader.Reason.TheVariants.{ChangesMap, AsksWorker, StoresValue, ReadsQueue}
 
 abbrev pub reason_called : Option Helper → Option Reason
-reason_called (Some MapUpdateElem) = Some ChangesMap
-reason_called (Some MapDeleteElem) = Some ChangesMap
-reason_called (Some GetSmpProcessorId) = Some AsksWorker
-reason_called helper = None
+reason_called (Some helper) =
+    if changes_map helper then Some ChangesMap else (if helper_asks_worker helper then Some AsksWorker else None)
+reason_called None = None
 
 abbrev pub reason_stored : Kind → Option Reason
 reason_stored (Value map id off) = Some StoresValue
 reason_stored other = None
 
 abbrev pub reason_read : Option ContextField → Option Reason
-reason_read (Some RxQueueIndex) = Some ReadsQueue
-reason_read field = None
+reason_read (Some field) = if field_asks_worker field then Some ReadsQueue else None
+reason_read None = None
 
 abbrev pub reason_loaded : Kind → ℤ → Option Reason
 reason_loaded Ctx offset = reason_read (field_at offset)

@@ -3,7 +3,8 @@
 ghost use Rattle.std.specs.Prelude.{◌≡◌, ◌++◌, ◌<◌, ◌≤◌, ◌+◌, ◌^◌, string_bytes, OnOk, IfSome};
 ghost use Rattle.std.specs.List.{flat_map};
 ghost use Rattle.abstract_state.specs.States.{word_of};
-ghost use Rattle.reasons.specs.Instructions.{slot_line, register_line, used_line, used_registers, called_registers, source_register};
+ghost use Rattle.reasons.specs.Instructions.{slot_line, register_line, used_line, used_registers, called_registers, compared_register};
+ghost use Rattle.reasons.specs.Instructions.{source_register};
 ghost use Rattle.reasons.specs.Instructions.{word_head, word_line, place_word, stack_word, stack_word_text, words_text, stack_range_text};
 ghost use Rattle.reasons.specs.Instructions.{called_map, sizes_read, argument_text, arguments_text, touched_text, used_text};
 
@@ -88,6 +89,17 @@ fn called_registers(helper: Option<Helper>) -> Used
     }
 }
 
+/// The register with which an atomic operation compares what it finds, if it does.
+fn compared_register(op: AtomicOp) -> Option<Register>
+    ensures { result ≡ compared_register op }
+{
+    if op.compares() {
+        Some(Register::R0)
+    } else {
+        None
+    }
+}
+
 /// The registers that an instruction reads.
 #[rattlefmt::skip]
 fn used_registers(insn: Insn) -> Used
@@ -105,8 +117,7 @@ fn used_registers(insn: Insn) -> Used
         Insn::Ldxs { src, .. } => [Some(src), None, None, None],
         Insn::St { dst, .. } => [Some(dst), None, None, None],
         Insn::Stx { dst, src, .. } => [Some(dst), Some(src), None, None],
-        Insn::AtomicUpdate { op: AtomicOp::CompareExchange, dst, src, .. } => [Some(dst), Some(src), Some(Register::R0), None],
-        Insn::AtomicUpdate { dst, src, .. } => [Some(dst), Some(src), None, None],
+        Insn::AtomicUpdate { op, dst, src, .. } => [Some(dst), Some(src), compared_register(op), None],
         Insn::CallHelper { helper } => called_registers(Helper::of(helper)),
         Insn::Exit => [Some(Register::R0), None, None, None],
         _ => [None; 4],

@@ -12,7 +12,7 @@ use crate::cause::Cause;
 use abstract_state::{Kind, Site, State, Way};
 use ebpf_decode::{Image, Insn, MapDef, Version};
 use isa::Register;
-use verifier::{Survey, distance_of_jump};
+use verifier::Survey;
 
 /// What the edges of an instruction bring of a register to a slot.
 #[derive(Clone, Copy)]
@@ -35,14 +35,13 @@ pub enum Back {
     Further(u32),
 }
 
-/// Whether a place is a slot.
-fn is_at(place: i64, target: u32) -> bool
+/// Whether a jump goes to a slot.
+fn is_at(place: Option<i64>, target: u32) -> bool
     ensures { result ≡ is_at place target }
 {
-    if place < 0 {
-        false
-    } else {
-        u64::from(target) == place as u64
+    match place {
+        Some(place) => i64::from(target) == place,
+        None => false,
     }
 }
 
@@ -50,8 +49,7 @@ fn is_at(place: i64, target: u32) -> bool
 fn is_target(slot: u32, insn: Insn, target: u32) -> bool
     ensures { result ≡ is_target slot insn target }
 {
-    let distance = i64::from(distance_of_jump(insn));
-    is_at(i64::from(slot) + 1 + distance, target)
+    is_at(insn.target(slot), target)
 }
 
 /// Whether the next instruction begins there.

@@ -26,10 +26,16 @@ fn reason_called(helper: Option<Helper>) -> Option<Reason>
     ensures { result ≡ reason_called helper }
 {
     match helper {
-        Some(Helper::MapUpdateElem) => Some(Reason::ChangesMap),
-        Some(Helper::MapDeleteElem) => Some(Reason::ChangesMap),
-        Some(Helper::GetSmpProcessorId) => Some(Reason::AsksWorker),
-        _ => None,
+        Some(helper) => {
+            if helper.changes_map() {
+                Some(Reason::ChangesMap)
+            } else if helper.asks_worker() {
+                Some(Reason::AsksWorker)
+            } else {
+                None
+            }
+        }
+        None => None,
     }
 }
 
@@ -46,8 +52,14 @@ fn reason_read(field: Option<ContextField>) -> Option<Reason>
     ensures { result ≡ reason_read field }
 {
     match field {
-        Some(ContextField::RxQueueIndex) => Some(Reason::ReadsQueue),
-        _ => None,
+        Some(field) => {
+            if field.asks_worker() {
+                Some(Reason::ReadsQueue)
+            } else {
+                None
+            }
+        }
+        None => None,
     }
 }
 

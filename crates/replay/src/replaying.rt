@@ -2,7 +2,7 @@
 
 ghost use Rattle.std.specs.Prelude.{◌≡◌, ◌⊎◌, ◌<◌, ◌≤◌, ◌↔◌, IfOk, IsErrOf, IsFalse};
 ghost use Rattle.machine.specs.Running.{program_of};
-ghost use Rattle.shards.specs.Opening.{are_served_options};
+ghost use Rattle.semantics.specs.ShardPlan.{are_served_options};
 ghost use Rattle.maglev.specs.RingSize.{IsRingSize};
 ghost use Rattle.actors.specs.Commands.{ServesScript};
 ghost use Rattle.shared_shards.specs.NewShards.{IsNamed};

@@ -24,7 +24,8 @@ use Rattle.semantics.specs.Helpers.{map_argument, map_at, bytes_argument, number
 use Rattle.semantics.specs.declared.linux.Helper.{Helper}
 use Rattle.semantics.specs.declared.linux.Helper.TheVariants.{MapLookupElem, MapUpdateElem, MapDeleteElem, KtimeGetNs, GetSmpProcessorId, XdpAdjustHead}
 use Rattle.semantics.specs.Linux.{helper_of}
-use Rattle.semantics.specs.Semantics.{first_key, value_address, value_address_step, word_value, stored_places, stored_number, with_fetched, expected_number, at_next_slot, jump_step, branch_step, written_register, write_step, load_cell_step, load_step, load_signed_step, store_step, after_fetch, fetched_register, atomic_step, exit_step, instruction_step, step_of, next_step}
+use Rattle.isa.specs.Atomic.{fetched_register}
+use Rattle.semantics.specs.Semantics.{first_key, value_address, value_address_step, word_value, stored_places, stored_number, with_fetched, expected_number, at_next_slot, jump_step, branch_step, written_register, write_step, load_cell_step, load_step, load_signed_step, store_step, after_fetch, atomic_step, exit_step, instruction_step, step_of, next_step}
 use Rattle.semantics.specs.declared.call.SectionChange.TheVariants.{Stays}
 use Rattle.semantics.specs.Sections.{section_change}
 

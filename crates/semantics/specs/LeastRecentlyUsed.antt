@@ -1,11 +1,12 @@
 -- When a key was last used, and which key a full LRU map evicts. The history's newest entry stands first.
-use Rattle.std.specs.Prelude.{ℕ, suc, ◌==◌, Bool, true, false, ◌&&◌, nat_le, ℤ, pos, negsuc, List, [], ◌∷◌, length, Option, find, if◌then◌else◌, bytes_eq}
+use Rattle.std.specs.Prelude.{ℕ, suc, ◌==◌, Bool, false, ◌&&◌, nat_le, ℤ, pos, negsuc, List, [], ◌∷◌, length, Option, is_some, find, if◌then◌else◌, bytes_eq}
 use Rattle.std.specs.List.{list_all}
 use Rattle.semantics.specs.declared.call.Call.{Call}
 use Rattle.semantics.specs.declared.call.Call.TheVariants.{Lookup, Update}
 use Rattle.semantics.specs.declared.call.Reply.{Reply}
-use Rattle.semantics.specs.declared.call.Reply.TheVariants.{Cell, Answer}
+use Rattle.semantics.specs.declared.call.Reply.TheVariants.{Answer}
 use Rattle.semantics.specs.declared.call.Entry.{Entry}
+use Rattle.semantics.specs.Cells.{cell_of_reply}
 pub use Rattle.semantics.specs.declared.plan.PresentKey.{PresentKey}
 
 abbrev pub is_zero : ℤ → Bool
@@ -13,8 +14,7 @@ is_zero (pos n) = n == 0
 is_zero (negsuc n) = false
 
 abbrev pub is_found : Reply → Bool
-is_found (Cell cell) = true
-is_found reply = false
+is_found reply = is_some (cell_of_reply reply)
 
 abbrev pub is_done : Reply → Bool
 is_done (Answer code) = is_zero code

@@ -15,6 +15,7 @@ pub mod Helpers
 pub mod Semantics
 pub mod RunTrace
 pub mod Sections
+pub mod Cells
 pub mod ShardPlan
 pub mod PlanLimits
 pub mod Reclamation

@@ -1,6 +1,6 @@
 -- Linux's numbers that programs and maps speak in: error numbers and update flags (bpf(2)), helpers, and the fields of the
 -- context, struct xdp_md.
-use Rattle.std.specs.Prelude.{ℕ, ◌==◌, ℤ, pos, negsuc, List, [], ◌∷◌, Option, None, find}
+use Rattle.std.specs.Prelude.{ℕ, ◌==◌, Bool, true, false, ℤ, pos, negsuc, List, [], ◌∷◌, Option, None, find}
 use Rattle.std.specs.Ordering.{int_eq}
 use Rattle.semantics.specs.declared.linux.Errno.{Errno}
 use Rattle.semantics.specs.declared.linux.Errno.TheVariants.{NoEntry, TooBig, NoMemory, Exists, Invalid}
@@ -62,6 +62,17 @@ abbrev pub helper_of : ℤ → Option Helper
 helper_of (pos number) = find (λ helper. number == helper_number helper) helpers
 helper_of (negsuc below) = None
 
+-- the helper changes a map
+abbrev pub changes_map : Helper → Bool
+changes_map MapUpdateElem = true
+changes_map MapDeleteElem = true
+changes_map helper = false
+
+-- what the helper answers depends on the worker that runs
+abbrev pub helper_asks_worker : Helper → Bool
+helper_asks_worker GetSmpProcessorId = true
+helper_asks_worker helper = false
+
 -- ---- fields of the context, each of four bytes
 
 abbrev pub field_offset : ContextField → ℕ
@@ -77,3 +88,8 @@ context_fields = Data ∷ DataEnd ∷ IngressIfindex ∷ RxQueueIndex ∷ []
 abbrev pub field_at : ℤ → Option ContextField
 field_at (pos offset) = find (λ field. offset == field_offset field) context_fields
 field_at (negsuc below) = None
+
+-- what the field holds depends on the worker that runs
+abbrev pub field_asks_worker : ContextField → Bool
+field_asks_worker RxQueueIndex = true
+field_asks_worker field = false

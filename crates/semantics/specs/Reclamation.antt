@@ -6,11 +6,14 @@ use Rattle.semantics.specs.declared.call.Caller.{Caller}
 use Rattle.semantics.specs.declared.call.Caller.TheVariants.{Worker}
 use Rattle.semantics.specs.declared.call.Call.{Call}
 use Rattle.semantics.specs.declared.call.Call.TheVariants.{Enter, Leave, Lookup}
+use Rattle.semantics.specs.declared.call.CellRef.{CellRef}
 use Rattle.semantics.specs.declared.call.Reply.{Reply}
-use Rattle.semantics.specs.declared.call.Reply.TheVariants.{Cell}
 use Rattle.semantics.specs.declared.call.SectionChange.{SectionChange}
-use Rattle.semantics.specs.declared.call.SectionChange.TheVariants.{Begins, Ends, Stays}
+use Rattle.semantics.specs.declared.call.SectionChange.TheVariants as section
+use Rattle.semantics.specs.declared.call.HeldChange.{HeldChange}
+use Rattle.semantics.specs.declared.call.HeldChange.TheVariants.{LetsGo, Finds, Stays}
 use Rattle.semantics.specs.Sections.{section_change}
+use Rattle.semantics.specs.Cells.{cell_of_reply}
 use Rattle.semantics.specs.declared.call.Entry.{Entry}
 pub use Rattle.semantics.specs.declared.plan.RetiredCell.{RetiredCell}
 
@@ -21,9 +24,9 @@ is_worker worker other = false
 
 -- the place of the worker's Enter that no Leave of its own follows, by its own newest Enter or Leave
 abbrev pub entered_where : SectionChange → ℕ → Option ℕ → Option ℕ
-entered_where Begins place before = Some place
-entered_where Ends place before = None
-entered_where Stays place before = before
+entered_where section.Begins place before = Some place
+entered_where section.Ends place before = None
+entered_where section.Stays place before = before
 
 abbrev pub entered_by : Call → ℕ → Option ℕ → Option ℕ
 entered_by call place before = entered_where (section_change call) place before
@@ -37,18 +40,30 @@ entered_at worker (entry ∷ older) =
 abbrev pub is_inside : ℕ → List Entry → Bool
 is_inside worker history = is_some (entered_at worker history)
 
-abbrev pub found_cell : Reply → ℕ → Bool
-found_cell (Cell cell) id = cell.id == id
-found_cell reply id = false
+-- what a Lookup that is answered so makes of the cells that its worker holds
+abbrev pub found_change : Reply → HeldChange
+found_change reply = found_of (cell_of_reply reply) where
+  found_of : Option CellRef → HeldChange
+  found_of (Some cell) = Finds cell.id
+  found_of None = Stays
 
--- the worker's own entry gives it the cell, lets all its cells go, or changes nothing
+-- what a call makes of them: an Enter and a Leave let all go, a Lookup may find one
+abbrev pub held_change : Call → Reply → HeldChange
+held_change (Enter shard) reply = LetsGo
+held_change (Leave shard) reply = LetsGo
+held_change (Lookup shard key) reply = found_change reply
+held_change call reply = Stays
+
+-- whether the worker then holds the cell, where it did before or not
+abbrev pub held_where : HeldChange → ℕ → Bool → Bool
+held_where LetsGo cell before = false
+held_where (Finds id) cell before = id == cell || before
+held_where Stays cell before = before
+
 abbrev pub held_by : Call → Reply → ℕ → Bool → Bool
-held_by (Enter shard) reply cell before = false
-held_by (Leave shard) reply cell before = false
-held_by (Lookup shard key) reply cell before = found_cell reply cell || before
-held_by call reply cell before = before
+held_by call reply cell before = held_where (held_change call reply) cell before
 
--- since its last Enter, which no Leave follows, the worker has a Lookup answered with the cell
+-- in a legal history: since its last Enter, which no Leave follows, the worker has a Lookup answered with the cell
 abbrev pub holds : ℕ → ℕ → List Entry → Bool
 holds worker cell [] = false
 holds worker cell (entry ∷ older) =

@@ -1,5 +1,6 @@
 -- What a shard is opened with: its place among the shards, its map, and the room of its journal.
-use Rattle.std.specs.Prelude.{ℕ, ◌/◌, ◌%◌, ◌≤◌, ◌≡◌, ◌⊎◌, List, Option, Some, None, All, slice_get}
+use Rattle.std.specs.Prelude.{ℕ, ◌/◌, ◌%◌, ◌≤◌, ◌≡◌, ◌==◌, ◌⊎◌, Bool, ◌&&◌, ◌||◌, nat_le, List, Option, Some, None, All, slice_get}
+use Rattle.std.specs.List.{list_all}
 use Rattle.ebpf_decode.specs.declared.map.MapDef.{MapDef}
 use Rattle.semantics.specs.declared.options.Options.{Options}
 pub use Rattle.semantics.specs.declared.plan.ShardPlan.{ShardPlan}
@@ -31,3 +32,18 @@ pub record AreOptions (maps : List MapDef) (options : Options) : Type 0 where
   pub in_equal_parts : All (λ (definition : MapDef). definition.max_entries % options.shards ≡ 0) maps
   pub least_journal : 16 ≤ options.journal
   pub greatest_journal : options.journal ≤ 1048576
+
+-- and the same as a test: how many shards each map may have
+abbrev pub is_shard_count : ℕ → Bool
+is_shard_count count = count == 1 || count == 2 || count == 4 || count == 8
+
+-- shards have equal parts of the map's entries
+abbrev pub are_equal_parts : List MapDef → ℕ → Bool
+are_equal_parts maps parts = list_all (λ (definition : MapDef). definition.max_entries % parts == 0) maps
+
+-- the options with which the shards of these maps are opened: 1 to 8 workers, journals of 16 to 1,048,576 entries, and 1, 2, 4 or 8 shards
+-- for each map that divide its entries
+abbrev pub are_served_options : List MapDef → Options → Bool
+are_served_options maps options =
+    nat_le 1 options.workers && nat_le options.workers 8 && nat_le 16 options.journal && nat_le options.journal 1048576 &&
+    is_shard_count options.shards && are_equal_parts maps options.shards

@@ -2,6 +2,8 @@
 
 ghost use Rattle.std.specs.Prelude.{◌≡◌};
 ghost use Rattle.semantics.specs.Sections.{section_change};
+ghost use Rattle.semantics.specs.Cells.{cell_of_call, cell_of_reply};
+ghost use Rattle.semantics.specs.Reclamation.{found_change, held_change};
 ghost use Rattle.semantics.specs.History.{shard_of_call};
 
 use crate::bytes::{Key, Value};
@@ -111,6 +113,23 @@ impl Call {
         }
     }
 
+    /// The cell whose bytes the call reads or writes.
+    pub fn cell(&self) -> Option<CellRef>
+        ensures { result ≡ cell_of_call self.now }
+    {
+        match self {
+            Call::Enter { .. } => None,
+            Call::Leave { .. } => None,
+            Call::Lookup { .. } => None,
+            Call::Load { cell, .. } => Some(*cell),
+            Call::Store { cell, .. } => Some(*cell),
+            Call::Atomic { cell, .. } => Some(*cell),
+            Call::Update { .. } => None,
+            Call::Delete { .. } => None,
+            Call::Reclaim { .. } => None,
+        }
+    }
+
     /// What the call does to its worker's section.
     pub fn section_change(&self) -> SectionChange
         ensures { result ≡ section_change self.now }
@@ -148,6 +167,64 @@ pub enum Reply {
     Answer { code: i32 },
     /// To Reclaim: how many cells it freed.
     Freed { count: u64 },
+}
+
+impl Reply {
+    /// The cell that a Lookup found.
+    pub fn cell(&self) -> Option<CellRef>
+        ensures { result ≡ cell_of_reply self.now }
+    {
+        match self {
+            Reply::Entered => None,
+            Reply::Left => None,
+            Reply::Cell { cell } => Some(*cell),
+            Reply::Null => None,
+            Reply::Word { .. } => None,
+            Reply::Done => None,
+            Reply::Answer { .. } => None,
+            Reply::Freed { .. } => None,
+        }
+    }
+}
+
+/// What a call that was served makes of the cells that its worker holds.
+#[derive(Clone, Copy, Debug, PartialEq, Eq)]
+pub enum HeldChange {
+    /// Enter and Leave: the worker holds none.
+    LetsGo,
+    /// A Lookup that found its key: the worker holds this cell too.
+    Finds { id: u64 },
+    /// Every other call.
+    Stays,
+}
+
+impl HeldChange {
+    /// What a call that is replied to so makes of them.
+    pub fn of(call: &Call, reply: &Reply) -> Self
+        ensures { result ≡ held_change call.now reply.now }
+    {
+        match call {
+            Call::Enter { .. } => HeldChange::LetsGo,
+            Call::Leave { .. } => HeldChange::LetsGo,
+            Call::Lookup { .. } => HeldChange::found(reply),
+            Call::Load { .. } => HeldChange::Stays,
+            Call::Store { .. } => HeldChange::Stays,
+            Call::Atomic { .. } => HeldChange::Stays,
+            Call::Update { .. } => HeldChange::Stays,
+            Call::Delete { .. } => HeldChange::Stays,
+            Call::Reclaim { .. } => HeldChange::Stays,
+        }
+    }
+
+    /// What a Lookup that is answered so makes of them.
+    pub fn found(reply: &Reply) -> Self
+        ensures { result ≡ found_change reply.now }
+    {
+        match reply.cell() {
+            Some(cell) => HeldChange::Finds { id: cell.id },
+            None => HeldChange::Stays,
+        }
+    }
 }
 
 /// One step of a shard: who called, what was asked, what was replied.

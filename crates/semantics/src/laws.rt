@@ -56,8 +56,8 @@ pub fn reached_histories_are_legal()
     ensures { ReachedHistoriesAreLegal }
 {}
 
-/// The events of the system can happen: runs over an array and over a hash map, a cell that is held while its key goes, and a
-/// run that a full journal ends, each with exactly the history that it is to have.
+/// Four lists of events, each of which can happen and leads to exactly the history that it is to have: a run over an array, one
+/// over a hash map, a cell that is held while its key goes, and a run that a full journal ends.
 pub fn events_happen()
     ensures array { RunOverAnArray }
     ensures hash_map { RunOverAHashMap }

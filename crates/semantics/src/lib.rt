@@ -1,7 +1,6 @@
 //! The written meaning of a run and of a map: what the verifier, the maps and the machine are held to.
 #![tactic(auto)]
 
-pub mod atomic;
 pub mod bytes;
 pub mod call;
 pub mod facts;
@@ -13,9 +12,8 @@ pub mod options;
 pub mod plan;
 pub mod verdict;
 
-pub use atomic::fetched_register;
 pub use bytes::{Key, Value};
-pub use call::{Call, Caller, CellRef, Entry, Reply, SectionChange};
+pub use call::{Call, Caller, CellRef, Entry, HeldChange, Reply, SectionChange};
 pub use full::JournalFull;
 pub use linux::{ContextField, Errno, Helper, UpdateFlags};
 pub use options::Options;

@@ -1,7 +1,8 @@
 //! Linux's numbers that programs and maps speak in: error numbers, update flags, helpers and fields of the context.
 
 ghost use Rattle.std.specs.Prelude.{◌≡◌, pos};
-ghost use Rattle.semantics.specs.Linux.{errno_code, errno_of, flags_number, update_flags_of, helper_number, helper_of, field_offset, field_at};
+ghost use Rattle.semantics.specs.Linux.{errno_code, errno_of, flags_number, update_flags_of, helper_number, helper_of, changes_map};
+ghost use Rattle.semantics.specs.Linux.{helper_asks_worker, field_offset, field_at, field_asks_worker};
 
 /// Why a map refuses a call: Linux's error numbers, which a helper answers negated (bpf(2)).
 #[derive(Clone, Copy, Debug, PartialEq, Eq)]
@@ -129,6 +130,34 @@ impl Helper {
             _ => None,
         }
     }
+
+    /// Whether it changes a map.
+    pub fn changes_map(self) -> bool
+        ensures { result ≡ changes_map self }
+    {
+        match self {
+            Helper::MapLookupElem => false,
+            Helper::MapUpdateElem => true,
+            Helper::MapDeleteElem => true,
+            Helper::KtimeGetNs => false,
+            Helper::GetSmpProcessorId => false,
+            Helper::XdpAdjustHead => false,
+        }
+    }
+
+    /// Whether its answer depends on the worker that runs.
+    pub fn asks_worker(self) -> bool
+        ensures { result ≡ helper_asks_worker self }
+    {
+        match self {
+            Helper::MapLookupElem => false,
+            Helper::MapUpdateElem => false,
+            Helper::MapDeleteElem => false,
+            Helper::KtimeGetNs => false,
+            Helper::GetSmpProcessorId => true,
+            Helper::XdpAdjustHead => false,
+        }
+    }
 }
 
 /// A field of the context, struct xdp_md, that a program may read: four bytes.
@@ -167,6 +196,18 @@ impl ContextField {
             12 => Some(ContextField::IngressIfindex),
             16 => Some(ContextField::RxQueueIndex),
             _ => None,
+        }
+    }
+
+    /// Whether what it holds depends on the worker that runs.
+    pub fn asks_worker(self) -> bool
+        ensures { result ≡ field_asks_worker self }
+    {
+        match self {
+            ContextField::Data => false,
+            ContextField::DataEnd => false,
+            ContextField::IngressIfindex => false,
+            ContextField::RxQueueIndex => true,
         }
     }
 }

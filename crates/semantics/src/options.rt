@@ -1,5 +1,11 @@
 //! How shards are opened.
 
+ghost use Rattle.std.specs.Prelude.{◌≡◌, ◌↔◌, ◌⊎◌, ◌%◌, ◌<◌, ◌≤◌, true, All};
+ghost use Rattle.ebpf_decode.specs.declared.map.MapDef.{MapDef};
+ghost use Rattle.semantics.specs.ShardPlan.{AreOptions, is_shard_count, are_equal_parts, are_served_options};
+
+use ebpf_decode::MapDef;
+
 /// How shards are opened: as many for each map, with a journal for each.
 #[derive(Clone, Copy, Debug, PartialEq, Eq)]
 pub struct Options {
@@ -9,4 +15,38 @@ pub struct Options {
     pub shards: u32,
     /// How many entries each shard's journal has room for: 16 to 1,048,576.
     pub journal: u32,
+}
+
+impl Options {
+    /// Whether the shards of these maps can be opened so.
+    pub fn fit(&self, maps: &[MapDef]) -> bool
+        ensures allowed { (result ≡ true) ↔ AreOptions maps.now self.now }
+        ensures served { result ≡ are_served_options maps.now self.now }
+        ensures shards { result ≡ true → (0 < self.now.shards) × (self.now.shards ≤ 8) }
+    {
+        1 <= self.workers
+            && self.workers <= 8
+            && 16 <= self.journal
+            && self.journal <= 1_048_576
+            && is_shard_count(self.shards)
+            && are_equal_parts(maps, self.shards)
+    }
+}
+
+/// Whether a map may have so many shards.
+fn is_shard_count(count: u32) -> bool
+    ensures test { result ≡ is_shard_count count }
+    ensures power_of_two { (result ≡ true) ↔ ((count ≡ 1) ⊎ (count ≡ 2) ⊎ (count ≡ 4) ⊎ (count ≡ 8)) }
+{
+    count == 1 || count == 2 || count == 4 || count == 8
+}
+
+/// Whether each map's entries can be divided among so many shards.
+fn are_equal_parts(maps: &[MapDef], parts: u32) -> bool
+    requires { 0 < parts }
+    ensures test { result ≡ are_equal_parts maps.now parts }
+    ensures each { (result ≡ true) ↔ All (λ (definition : MapDef). definition.max_entries % parts ≡ 0) maps.now }
+{
+    maps.iter()
+        .all(|definition| definition.max_entries % parts == 0)
 }

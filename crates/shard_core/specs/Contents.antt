@@ -4,15 +4,9 @@ use Rattle.ebpf_decode.specs.declared.map.MapKind.{MapKind}
 use Rattle.ebpf_decode.specs.declared.map.MapKind.TheVariants.{Array}
 use Rattle.semantics.specs.declared.plan.ShardPlan.{ShardPlan}
 use Rattle.semantics.specs.ShardPlan.{capacity}
-use Rattle.semantics.specs.SequentialShard.{SequentialShard}
 use Rattle.map_cells.specs.CellTable.{CellTable, empty_table, is_kept, with_new_cell, with_bytes, with_retired, IsNotRetired, IsLatestStamp}
-use Rattle.shard_core.specs.declared.answers.Counts.{Counts}
 use Rattle.shard_core.specs.declared.keys.KeyTable.{KeyTable}
 use Rattle.shard_core.specs.KeyTables.{MayGrow, victim_cell, touched_in, without_victim_in, IsInserted}
-
--- whatever state has as many keys, and as many retired cells that wait
-abbrev pub AsCounted : Counts → (SequentialShard → Type 0) → Type 0
-AsCounted counts is = (state : SequentialShard) → counts.present ≡ length state.present → counts.waiting ≡ length state.retired → is state
 
 -- so many cells of one value, and room for others up to so many places and ids
 abbrev pub filled_table : List ℕ → ℕ → ℕ → ℕ → CellTable

@@ -1,13 +1,13 @@
 //! Which calls a caller may make: what a shard knows of the caller, without reading its journal where a flag tells.
 
 ghost use Rattle.std.specs.Prelude.{◌≡◌, ◌<◌, reverse};
-ghost use Rattle.semantics.specs.Reclamation.{holds};
-ghost use Rattle.semantics.specs.History.{is_inside_worker, is_holder, meets};
+ghost use Rattle.semantics.specs.Reclamation.{is_inside, holds};
+ghost use Rattle.semantics.specs.History.{meets};
 ghost use Rattle.one_thread_map.specs.Standings.{IsStanding};
 
 use crate::shard::Shard;
 use journal::Journal;
-use one_thread_map::conditions::{Standing, cell_of_call, meets_with};
+use one_thread_map::conditions::{Standing, meets_with, worker_of};
 use one_thread_map::history::{held_by, is_worker};
 use semantics::{Call, Caller};
 
@@ -20,42 +20,22 @@ impl Shard {
         holds(worker, cell, self.journal())
     }
 
-    /// Whether the caller is a worker of the plan that is inside. Reads no journal.
-    fn is_inside_worker(&self, who: &Caller) -> bool
-        ensures { result ≡ is_inside_worker self.now.plan (reverse self.now.journal) who.now }
-    {
-        match who {
-            Caller::Worker { number } => u32::from(*number) < self.plan().workers
-                && self.is_inside(*number),
-            Caller::Controller => false,
-            Caller::Reclaimer => false,
-        }
-    }
-
-    /// Whether the caller is a worker of the plan that holds the cell.
-    fn is_holder(&self, who: &Caller, cell: u64) -> bool
-        ensures { result ≡ is_holder self.now.plan (reverse self.now.journal) who.now cell }
-    {
-        match who {
-            Caller::Worker { number } => u32::from(*number) < self.plan().workers
-                && self.holds(*number, cell),
-            Caller::Controller => false,
-            Caller::Reclaimer => false,
-        }
-    }
-
     /// What the shard knows of the caller before its call.
     fn standing(&self, who: &Caller, call: &Call) -> Standing
         ensures { IsStanding self.now.plan (reverse self.now.journal) who.now call.now result }
     {
-        let is_inside = self.is_inside_worker(who);
-        let is_holder = match cell_of_call(call) {
-            Some(cell) => self.is_holder(who, cell.id),
-            None => false,
-        };
-        Standing {
-            is_inside,
-            is_holder,
+        match worker_of(self.plan(), who) {
+            Some(worker) => Standing {
+                is_inside: self.is_inside(worker),
+                is_holder: match call.cell() {
+                    Some(cell) => self.holds(worker, cell.id),
+                    None => false,
+                },
+            },
+            None => Standing {
+                is_inside: false,
+                is_holder: false,
+            },
         }
     }
 

@@ -1,7 +1,6 @@
 //! One shard of a map, with the journal of its calls: each call is one step and one entry. No lock, no handle.
 #![tactic(auto)]
 
-mod answers;
 mod apply;
 mod asked;
 mod closing;

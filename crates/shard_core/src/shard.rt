@@ -11,7 +11,6 @@ ghost use Rattle.shard_core.specs.JournaledShard.{opened_shard, state_of, sequen
 ghost use Rattle.shard_core.specs.Calls.{MayCall, IsFullFor, after_call, enter_call, leave_call, lookup_call, load_call, store_call};
 ghost use Rattle.shard_core.specs.Calls.{atomic_call, update_call, delete_call, reclaim_call};
 
-use crate::answers::{Counts, update_answer};
 use crate::contents::{open_cells, put_value, retire_key};
 use crate::keys::KeyTable;
 use crate::places::{Places, count, floor, set};
@@ -19,7 +18,7 @@ use crate::ranges::{change_number, number_in, put_number};
 use isa::AtomicOp;
 use journal::{AtomicChange, CellRange, Journal};
 use map_cells::Cells;
-use one_thread_map::answers::delete_answer_of_kind;
+use one_thread_map::answers::{Counts, delete_answer_of_kind, update_answer_of_kind};
 use semantics::{Call, Caller, Errno, JournalFull, SectionChange, ShardPlan, UpdateFlags};
 use std::alloc::{AllocError, Global};
 use std::marker::Model;
@@ -259,7 +258,7 @@ impl Shard {
         };
         match UpdateFlags::of(flags) {
             None => Errno::Invalid.code(),
-            Some(flags) => update_answer(&self.plan, counts, flags, self.keys.find(key)),
+            Some(flags) => update_answer_of_kind(&self.plan, counts, flags, self.keys.find(key)),
         }
     }
 

@@ -13,11 +13,11 @@ use Rattle.semantics.specs.declared.call.Call.TheVariants.{Enter, Leave, Lookup,
 use Rattle.semantics.specs.declared.call.Reply.{Reply}
 use Rattle.semantics.specs.declared.call.Reply.TheVariants.{Entered, Left, Cell, Null, Word, Done, Answer, Freed}
 use Rattle.semantics.specs.declared.call.Entry.{Entry}
-use Rattle.semantics.specs.Reclamation.{found_cell, is_inside, holds}
+use Rattle.semantics.specs.Reclamation.{is_inside, holds}
 use Rattle.semantics.specs.declared.plan.ShardPlan.{ShardPlan}
 use Rattle.semantics.specs.History.{IsLegalHistory}
 use Rattle.semantics.proofs.shared.ConditionLemmas.{first_true, second_true}
-use Rattle.semantics.proofs.shared.HoldingLemmas.{guarded}
+use Rattle.semantics.proofs.shared.HoldingLemmas.{found_cell, held_by_lookup, guarded}
 use Rattle.semantics.specs.ServedCalls.{IsHandedOut}
 use Rattle.shard_core.specs.JournaledShard.{JournaledShard, with_entry}
 use Rattle.map_port.specs.Served.{Keeps, program_over}
@@ -60,7 +60,7 @@ pub held_after_call : (worker cell : ℕ) (call : Call) (reply : Reply) (history
 held_after_call worker cell (Enter shard) reply history run held = absurd run
 held_after_call worker cell (Leave shard) reply history run held = absurd run
 held_after_call worker cell (Reclaim shard) reply history run held = absurd run
-held_after_call worker cell (Lookup shard key) reply history run held = rw (same_worker worker, held) (or_held (found_cell reply cell))
+held_after_call worker cell (Lookup shard key) reply history run held = rw (same_worker worker, held) (held_by_lookup shard key reply cell true ∙ or_held (found_cell reply cell))
 held_after_call worker cell (Load at offset size) reply history run held = rw (same_worker worker) held
 held_after_call worker cell (Store at offset size value) reply history run held = rw (same_worker worker) held
 held_after_call worker cell (Atomic at offset size op value expected) reply history run held = rw (same_worker worker) held

@@ -2,7 +2,7 @@
 
 use crate::asserting::same;
 use ebpf_decode::{MapDef, MapKind};
-use journals::{EntryList, are_options};
+use journals::EntryList;
 use semantics::{Call, Caller, CellRef, Entry, Key, Options, Reply, Value};
 use std::alloc::{AllocError, Global};
 
@@ -46,7 +46,7 @@ fn options_that_open_shards(rt: HostRuntime) {
             shards,
             journal,
         };
-        same(&rt, name, &are_options(&MAPS, &options), &want);
+        same(&rt, name, &options.fit(&MAPS), &want);
     }
 }
 

@@ -9,4 +9,4 @@ pub use fault::OpenFault;
 pub use shard_core::{
     Call, Caller, CellRef, Entry, JournalFull, Key, Options, Reply, Shard, ShardPlan, Value,
 };
-pub use shards::{Shards, maps_of};
+pub use shards::{Shards, copied, maps_of};

@@ -4,15 +4,15 @@ ghost use Rattle.std.specs.Prelude.{◌≡◌, ◌<◌, ◌≤◌, ◌↔◌, So
 ghost use Rattle.std.specs.Borrow.{sem};
 ghost use Rattle.std.specs.List.{AllByRecursion};
 ghost use Rattle.semantics.specs.PlanLimits.{HasImageSizes};
-ghost use Rattle.semantics.specs.ShardPlan.{AreOptions};
-ghost use Rattle.shards.specs.Opening.{are_served_options, AreOpened};
+ghost use Rattle.semantics.specs.ShardPlan.{AreOptions, are_served_options};
+ghost use Rattle.shards.specs.Opening.{AreOpened};
 ghost use Rattle.shards.specs.declared.fault.OpenFault.TheVariants.{BadOptions};
 
 use crate::fault::OpenFault;
-use crate::opening::{are_served, open_each};
+use crate::opening::open_each;
 use ebpf_decode::{Image, MapDef};
 use shard_core::{Options, Shard};
-use std::alloc::Global;
+use std::alloc::{AllocError, Global};
 use std::marker::Model;
 
 /// The shards of an image's maps, by their numbers: map after map. Contracts see the list of them.
@@ -41,7 +41,7 @@ impl Shards {
         ensures bad_options { IsErrOf result BadOptions ↔ IsFalse (are_served_options image.now.maps options) }
     {
         let maps = maps_of(image);
-        if !are_served(maps, &options) {
+        if !options.fit(maps) {
             return Err(OpenFault::BadOptions);
         }
         let shards = open_each(alloc, maps, &options)?;
@@ -80,4 +80,13 @@ pub fn maps_of(image: &Image) -> &[MapDef]
     ensures sizes { AllByRecursion HasImageSizes image.now.maps }
 {
     image.maps()
+}
+
+/// A copy of the list of maps, for who keeps the maps beside their shards. Fails only for lack of memory.
+pub fn copied(alloc: Global, maps: &[MapDef]) -> Result<Vec<MapDef>, AllocError>
+    ensures { IfOk result (λ copy. copy.items ≡ maps.now) }
+{
+    let mut copy = Vec::with_capacity(alloc, maps.len())?;
+    copy.extend_from_slice(maps)?;
+    Ok(copy)
 }

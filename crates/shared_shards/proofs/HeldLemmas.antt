@@ -7,11 +7,10 @@ use Rattle.semantics.specs.declared.call.Caller.TheVariants.{Worker, Controller,
 use Rattle.semantics.specs.declared.call.Call.{Call}
 use Rattle.semantics.specs.declared.call.Call.TheVariants.{Enter, Leave, Lookup, Load, Store, Atomic, Update, Delete, Reclaim}
 use Rattle.semantics.specs.declared.call.Reply.{Reply}
-use Rattle.semantics.specs.declared.call.Reply.TheVariants.{Entered, Left, Cell, Null, Word, Done, Answer, Freed}
 use Rattle.semantics.specs.declared.call.Entry.{Entry}
 use Rattle.semantics.specs.declared.full.JournalFull.{JournalFull}
 use Rattle.semantics.specs.declared.plan.ShardPlan.{ShardPlan}
-use Rattle.semantics.specs.Reclamation.{held_by, holds}
+use Rattle.semantics.specs.Reclamation.{held_by, held_where, held_change, holds}
 use Rattle.semantics.specs.CallerLaws.{own_entries}
 use Rattle.semantics.specs.History.{IsLegalHistory, is_own_key, meets_part, shard_of_call}
 use Rattle.semantics.proofs.shared.ConditionLemmas.{first_true, second_true}
@@ -19,9 +18,9 @@ use Rattle.semantics.proofs.shared.CallerLemmas.{own_holds}
 use Rattle.shard_core.specs.FewHeld.{is_among, AreOnce, FewAreHeld}
 use Rattle.shared_shards.proofs.EntryLemmas.{worker_within}
 use Rattle.shared_shards.specs.CallerView.{CallerView, IsServed, IsRefused}
-use Rattle.shared_shards.specs.declared.held.HeldChange.{HeldChange}
-use Rattle.shared_shards.specs.declared.held.HeldChange.TheVariants.{LetsGo, Finds, Stays}
-use Rattle.shared_shards.specs.HeldCells.{held_change, found_change, HeldIds, ids_after, held_after, held_when, most_held, HasRoomFor, AreHeld, AreHeldOf, room_of}
+use Rattle.semantics.specs.declared.call.HeldChange.{HeldChange}
+use Rattle.semantics.specs.declared.call.HeldChange.TheVariants.{LetsGo, Finds, Stays}
+use Rattle.shared_shards.specs.HeldCells.{HeldIds, ids_after, held_after, held_when, most_held, HasRoomFor, AreHeld, AreHeldOf, room_of}
 
 -- ---- what the list says
 
@@ -62,28 +61,11 @@ among_new cell id ids = by_test (is_among id ids) refl
     by_test true there = present cell id ids there
     by_test false apart = among_more cell id ids
 
-among_found : (shard : ℕ) (key : List ℕ) (reply : Reply) (cell : ℕ) (ids : List ℕ) →
-    is_among cell (ids_after (found_change reply) ids) ≡ held_by (Lookup shard key) reply cell (is_among cell ids)
-among_found shard key Entered cell ids = refl
-among_found shard key Left cell ids = refl
-among_found shard key (Cell found) cell ids = among_new cell found.id ids
-among_found shard key Null cell ids = refl
-among_found shard key (Word value) cell ids = refl
-among_found shard key Done cell ids = refl
-among_found shard key (Answer code) cell ids = refl
-among_found shard key (Freed count) cell ids = refl
-
-among_after : (call : Call) (reply : Reply) (cell : ℕ) (ids : List ℕ) →
-    is_among cell (ids_after (held_change call reply) ids) ≡ held_by call reply cell (is_among cell ids)
-among_after (Enter shard) reply cell ids = refl
-among_after (Leave shard) reply cell ids = refl
-among_after (Lookup shard key) reply cell ids = among_found shard key reply cell ids
-among_after (Load at offset size) reply cell ids = refl
-among_after (Store at offset size value) reply cell ids = refl
-among_after (Atomic at offset size op value expected) reply cell ids = refl
-among_after (Update shard key value flags) reply cell ids = refl
-among_after (Delete shard key) reply cell ids = refl
-among_after (Reclaim shard) reply cell ids = refl
+among_after : (change : HeldChange) (cell : ℕ) (ids : List ℕ) →
+    is_among cell (ids_after change ids) ≡ held_where change cell (is_among cell ids)
+among_after LetsGo cell ids = refl
+among_after (Finds id) cell ids = among_new cell id ids
+among_after Stays cell ids = refl
 
 -- ---- each cell stands there once
 
@@ -103,26 +85,10 @@ once_new id ids once = by_test (is_among id ids) refl
     by_test true there = once
     by_test false apart = once_more id ids once apart
 
-once_found : (reply : Reply) (ids : List ℕ) → AreOnce ids → AreOnce (ids_after (found_change reply) ids)
-once_found Entered ids once = once
-once_found Left ids once = once
-once_found (Cell found) ids once = once_new found.id ids once
-once_found Null ids once = once
-once_found (Word value) ids once = once
-once_found Done ids once = once
-once_found (Answer code) ids once = once
-once_found (Freed count) ids once = once
-
-once_after : (call : Call) (reply : Reply) (ids : List ℕ) → AreOnce ids → AreOnce (ids_after (held_change call reply) ids)
-once_after (Enter shard) reply ids once = tt
-once_after (Leave shard) reply ids once = tt
-once_after (Lookup shard key) reply ids once = once_found reply ids once
-once_after (Load at offset size) reply ids once = once
-once_after (Store at offset size value) reply ids once = once
-once_after (Atomic at offset size op value expected) reply ids once = once
-once_after (Update shard key value flags) reply ids once = once
-once_after (Delete shard key) reply ids once = once
-once_after (Reclaim shard) reply ids once = once
+once_after : (change : HeldChange) (ids : List ℕ) → AreOnce ids → AreOnce (ids_after change ids)
+once_after LetsGo ids once = tt
+once_after (Finds id) ids once = once_new id ids once
+once_after Stays ids once = once
 
 holds_after : (number cell : ℕ) (call : Call) (reply : Reply) (own : List Entry) →
     holds number cell ((record { who = Worker number; call = call; reply = reply }) ∷ own) ≡ held_by call reply cell (holds number cell own)
@@ -133,8 +99,8 @@ are_held : (number : ℕ) (plan : ShardPlan) (call : Call) (reply : Reply) (own 
     AreHeld number plan ((record { who = Worker number; call = call; reply = reply }) ∷ own) (held_after (held_change call reply) held)
 are_held number plan call reply own held are = record {
   some_room = are.some_room;
-  once = once_after call reply held.ids are.once;
-  each = λ cell. among_after call reply cell held.ids ∙ ap (held_by call reply cell) (are.each cell) ∙ sym (holds_after number cell call reply own);
+  once = once_after (held_change call reply) held.ids are.once;
+  each = λ cell. among_after (held_change call reply) cell held.ids ∙ ap (held_by call reply cell) (are.each cell) ∙ sym (holds_after number cell call reply own);
 }
 
 held_one : (who : Caller) (plan : ShardPlan) (call : Call) (reply : Reply) (own own' : List Entry) (held : HeldIds) →

@@ -2,35 +2,19 @@
 use Rattle.std.specs.Prelude.{◌≡◌, ◌*◌, ◌≤◌, ◌<◌, ◌&&◌, ℕ, Bool, false, List, [], ◌∷◌, ◌++◌, length, slice_index_or, Result, Ok, Err, if◌then◌else◌}
 use Rattle.semantics.specs.declared.call.Caller.{Caller}
 use Rattle.semantics.specs.declared.call.Caller.TheVariants.{Worker}
-use Rattle.semantics.specs.declared.call.Call.{Call}
-use Rattle.semantics.specs.declared.call.Call.TheVariants.{Enter, Leave, Lookup}
-use Rattle.semantics.specs.declared.call.Reply.{Reply}
-use Rattle.semantics.specs.declared.call.Reply.TheVariants.{Cell}
 use Rattle.semantics.specs.declared.call.Entry.{Entry}
 use Rattle.semantics.specs.declared.full.JournalFull.{JournalFull}
 use Rattle.semantics.specs.declared.plan.ShardPlan.{ShardPlan}
 use Rattle.semantics.specs.ShardPlan.{capacity}
 use Rattle.semantics.specs.Reclamation.{is_inside, holds}
 use Rattle.shard_core.specs.FewHeld.{is_among, AreOnce}
-use Rattle.shared_shards.specs.declared.held.HeldChange.{HeldChange}
-use Rattle.shared_shards.specs.declared.held.HeldChange.TheVariants.{LetsGo, Finds, Stays}
+use Rattle.semantics.specs.declared.call.HeldChange.{HeldChange}
+use Rattle.semantics.specs.declared.call.HeldChange.TheVariants.{LetsGo, Finds, Stays}
 
 -- the caller is a worker inside, and found the cell by a Lookup since it entered
 abbrev pub holds_own : Caller → List Entry → ℕ → Bool
 holds_own (Worker number) own cell = is_inside number own && holds number cell own
 holds_own who own cell = false
-
--- ---- what a call makes of the cells that its worker holds
-
-abbrev pub found_change : Reply → HeldChange
-found_change (Cell cell) = Finds cell.id
-found_change reply = Stays
-
-abbrev pub held_change : Call → Reply → HeldChange
-held_change (Enter shard) reply = LetsGo
-held_change (Leave shard) reply = LetsGo
-held_change (Lookup shard key) reply = found_change reply
-held_change call reply = Stays
 
 -- ---- the list of them
 

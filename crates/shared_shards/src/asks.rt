@@ -6,11 +6,10 @@ ghost use Rattle.semantics.specs.declared.call.Reply.{Reply};
 ghost use Rattle.semantics.specs.Sections.{section_change};
 ghost use Rattle.semantics.specs.History.{IsLegalJournal};
 ghost use Rattle.shard_core.specs.Calls.{MayCall, IsFullFor, after_call};
-ghost use Rattle.shared_shards.specs.HeldCells.{held_change, found_change};
+ghost use Rattle.semantics.specs.Reclamation.{held_change};
 
-use crate::held::HeldChange;
 use journal::{AtomicChange, CellRange};
-use semantics::{Call, Caller, JournalFull, Reply, SectionChange};
+use semantics::{Call, Caller, HeldChange, JournalFull, Reply, SectionChange};
 use shard_core::Shard;
 
 /// A call of one kind. It is one step of the shard and one entry of its journal.
@@ -324,43 +323,10 @@ impl<'a> Ask for Calls<'a> {
     }
 
     fn held(&self, answer: &Reply) -> HeldChange {
-        held_by(self.call, answer)
+        HeldChange::of(self.call, answer)
     }
 
     fn make(self, shard: &mut Shard, who: Caller) -> Result<Reply, JournalFull> {
         shard.apply(who, self.call)
-    }
-}
-
-/// What a call with this reply makes of the cells that its worker holds.
-fn held_by(call: &Call, reply: &Reply) -> HeldChange
-    ensures { result ≡ held_change call.now reply.now }
-{
-    match call {
-        Call::Enter { .. } => HeldChange::LetsGo,
-        Call::Leave { .. } => HeldChange::LetsGo,
-        Call::Lookup { .. } => found_by(reply),
-        Call::Load { .. } => HeldChange::Stays,
-        Call::Store { .. } => HeldChange::Stays,
-        Call::Atomic { .. } => HeldChange::Stays,
-        Call::Update { .. } => HeldChange::Stays,
-        Call::Delete { .. } => HeldChange::Stays,
-        Call::Reclaim { .. } => HeldChange::Stays,
-    }
-}
-
-/// What a Lookup with this reply makes of the cells that its worker holds.
-fn found_by(reply: &Reply) -> HeldChange
-    ensures { result ≡ found_change reply.now }
-{
-    match reply {
-        Reply::Cell { cell } => HeldChange::Finds { id: cell.id },
-        Reply::Entered => HeldChange::Stays,
-        Reply::Left => HeldChange::Stays,
-        Reply::Null => HeldChange::Stays,
-        Reply::Word { .. } => HeldChange::Stays,
-        Reply::Done => HeldChange::Stays,
-        Reply::Answer { .. } => HeldChange::Stays,
-        Reply::Freed { .. } => HeldChange::Stays,
     }
 }

@@ -6,11 +6,10 @@ ghost use Rattle.journals.specs.JournalsView.{entries_at};
 ghost use Rattle.shared_shards.specs.CallerView.{IsSettled};
 ghost use Rattle.shared_shards.specs.Passes.{pass_at, view_at, AreSettled};
 
-use crate::desk::Desk;
 use crate::naming::Naming;
 use crate::pass::Pass;
 use crate::rule::Length;
-use crate::sharing::Shards;
+use crate::sharing::{Desk, Shards};
 use journals::{Journals, ShardJournal};
 use std::sync::Wait;
 

@@ -6,20 +6,9 @@ ghost use Rattle.semantics.specs.declared.call.Caller.{Caller};
 ghost use Rattle.shard_core.specs.FewHeld.{is_among};
 ghost use Rattle.shared_shards.specs.HeldCells.{HasRoomFor, held_after, held_at, most_held, room_at, room_of};
 
-use semantics::{Caller, ShardPlan};
+use semantics::{Caller, HeldChange, ShardPlan};
 use std::alloc::{AllocError, Global};
 use std::marker::Model;
-
-/// What a call that was served makes of the cells that its worker holds.
-#[derive(Clone, Copy, Debug, PartialEq, Eq)]
-pub enum HeldChange {
-    /// Enter and Leave: the worker holds none.
-    LetsGo,
-    /// A Lookup that found its key: the worker holds this cell too.
-    Finds { id: u64 },
-    /// Every other call.
-    Stays,
-}
 
 /// The cells that a worker found since it entered a shard, each once, in the order in which it found them first.
 #[derive(Drop)]

@@ -2,8 +2,8 @@
 
 ghost use Rattle.std.specs.Prelude.{◌≡◌, ◌≤◌, ◌<◌, ◌+◌, ◌↔◌, false, IfOk, IsErrOf, IsFalse, length, replicate};
 ghost use Rattle.semantics.specs.declared.options.Options.{Options};
-ghost use Rattle.semantics.specs.ShardPlan.{AreOptions};
-ghost use Rattle.shards.specs.Opening.{are_served_options, AreOpened};
+ghost use Rattle.semantics.specs.ShardPlan.{AreOptions, are_served_options};
+ghost use Rattle.shards.specs.Opening.{AreOpened};
 ghost use Rattle.shards.specs.declared.fault.OpenFault.TheVariants.{BadOptions};
 ghost use Rattle.semantics.specs.Each.{Each};
 ghost use Rattle.shared_shards.specs.NewShards.{AreUnused, IsMadeOf, IsNamed, IsNamedAt, IsRowOf};
@@ -11,17 +11,16 @@ ghost use Rattle.shared_shards.specs.HeldCells.{IsRoomOf};
 ghost use Rattle.shared_shards.specs.SharedMaps.{AreWords};
 
 use crate::dealer::Dealer;
-use crate::desk::Desk;
 use crate::held::most_held;
 use crate::naming::Naming;
 use crate::new_shard::NewShard;
 use crate::rule::Length;
-use crate::sharing::Shards;
+use crate::sharing::{Desk, Shards};
 use crate::waiting::Waiting;
 use ebpf_decode::{Image, MapDef};
 use semantics::Options;
 use shard_core::Shard;
-use shards::OpenFault;
+use shards::{OpenFault, copied};
 use std::alloc::{AllocError, Global};
 use std::marker::{Model, PhantomData};
 use std::sync::Mutex;
@@ -102,15 +101,6 @@ impl Opened {
     {
         self.shards.len()
     }
-}
-
-/// A copy of the list of maps.
-fn copied(alloc: Global, maps: &[MapDef]) -> Result<Vec<MapDef>, AllocError>
-    ensures { IfOk result (λ copy. copy.items ≡ maps.now) }
-{
-    let mut copy = Vec::with_capacity(alloc, maps.len())?;
-    copy.extend_from_slice(maps)?;
-    Ok(copy)
 }
 
 /// Each shard with a word and with seats for so many callers.

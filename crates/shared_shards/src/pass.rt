@@ -2,17 +2,18 @@
 
 ghost use Rattle.std.specs.Prelude.{◌≡◌, ◌≢◌, ◌<◌, ◌∷◌, ℕ, length, reverse, IfOk, IfErr, OnErr};
 ghost use Rattle.semantics.specs.History.{meets, shard_of_call};
+ghost use Rattle.semantics.specs.Reclamation.{held_change};
 ghost use Rattle.shared_shards.specs.CallerView.{entry_of, HasLooked, IsSettled};
 ghost use Rattle.shared_shards.specs.Passes.{KnowsItsOwn, badge_at, view_at, own_at, seen_at, IsElsewhereSame, is_inside_of, flag_at, flag_after};
-ghost use Rattle.shared_shards.specs.HeldCells.{HasRoomFor, held_at, held_change, held_when, holds_own};
+ghost use Rattle.shared_shards.specs.HeldCells.{HasRoomFor, held_at, held_when, holds_own};
 ghost use Rattle.shared_shards.specs.Asked.{MayAsk, MayAskInside, IsAnswered, IsTurnedAway, EnteredAndAnswered, IsStopped};
 ghost use Rattle.semantics.specs.declared.call.Call.TheVariants.{Enter};
 
 use crate::asks::{Ask, Enters};
-use crate::desk::Desk;
 use crate::held::HeldCells;
 use crate::naming::Naming;
 use crate::rule::{Known, Length};
+use crate::sharing::Desk;
 use crate::stopped::Stopped;
 use atomic_table::Badge;
 use semantics::{Call, Caller, CellRef, JournalFull, SectionChange};

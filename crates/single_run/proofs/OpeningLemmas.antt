@@ -19,7 +19,7 @@ use Rattle.map_port.specs.Served.{Maps}
 use Rattle.shard_port.proofs.shared.ReadyLemmas.{plan_number}
 use Rattle.shared_shards.specs.Seats.{no_plan}
 use Rattle.shared_shards.specs.NewShards.{shard_at}
-use Rattle.single_run.specs.ShardRuns.{IsOutside}
+use Rattle.single_run.specs.ShardRuns.{IsOutsideNumbered}
 use Rattle.single_run.specs.Updates.{served_by, entry_of_update, updates_at, AreUpdated}
 
 -- ---- opened
@@ -66,7 +66,7 @@ of_controller served [] = tt
 of_controller served (update ∷ later) = (refl, of_controller served later)
 
 pub outside_updated : (maps : List MapDef) (options : Options) (updates : List MapUpdate) (shards : List JournaledShard) (worker : ℕ) →
-    AreUpdated maps options updates shards → IsOutside worker shards
+    AreUpdated maps options updates shards → IsOutsideNumbered worker shards
 outside_updated maps options updates shards worker are = record {
   outside = λ number within.
       ap is_some (ap (λ (journal : List Entry). entered_at worker (reverse journal)) (are.written number within)

@@ -30,7 +30,7 @@ use Rattle.shard_port.specs.PassSessions.{session_at, AreWithin}
 use Rattle.frame_runs.specs.FrameRuns.{AreFormed}
 use Rattle.shared_shards.specs.Seats.{no_plan}
 use Rattle.shared_shards.specs.NewShards.{shard_at}
-use Rattle.single_run.specs.ShardRuns.{HasMore, HasRunOver, HasStoppedOver, WasRefusedOver, IsCutSession, IsFullAfter, IsOutside}
+use Rattle.single_run.specs.ShardRuns.{HasMore, HasRunOver, HasStoppedOver, WasRefusedOver, IsCutSession, IsFullAfter, IsOutsideNumbered}
 
 -- ---- what a chain of calls keeps
 
@@ -106,7 +106,7 @@ visit_by worker number = enter_by worker number ∷ leave_by worker number ∷ [
 
 module _ (program : Program) (start : MachineState) (worker : ℕ) (before after : List JournaledShard) (port later : PlainPort)
     (same_shards : port.shards.now ≡ before) (same_worker : port.worker ≡ worker) (served : maps_of port ≡ maps_in program)
-    (outside : IsOutside worker before) (finished : after ≡ all_left later.worker later.shards.now)
+    (outside : IsOutsideNumbered worker before) (finished : after ≡ all_left later.worker later.shards.now)
   where
     same_count : length port.shards.now ≡ length before
     same_count = ap (λ (shards : List JournaledShard). length shards) same_shards

@@ -93,6 +93,6 @@ abbrev pub HasStoppedOver : Program → MachineState → ℕ → List JournaledS
 HasStoppedOver program start worker before after frame (JournalFull shard) = WasRefusedOver program start worker before after frame shard
 
 -- the worker is outside each of the shards, and these have their numbers
-pub record IsOutside (worker : ℕ) (shards : List JournaledShard) : Type 0 where
+pub record IsOutsideNumbered (worker : ℕ) (shards : List JournaledShard) : Type 0 where
   pub outside : (number : ℕ) → number < length shards → IsFalse (is_in worker (shard_at shards number))
   pub numbered : (number : ℕ) → number < length shards → (shard_at shards number).plan.number ≡ number

@@ -1,6 +1,6 @@
 //! The journals of shards that nobody calls any more.
 
-ghost use Rattle.std.specs.Prelude.{◌≡◌, ◌<◌, ◌≤◌, ℕ, IfOk, length, vec_capacity};
+ghost use Rattle.std.specs.Prelude.{◌≡◌, ◌<◌, ◌≤◌, ℕ, length, vec_capacity};
 ghost use Rattle.semantics.specs.History.{IsLegalJournal};
 ghost use Rattle.journals.specs.JournalsView.{AreJournals, entries_at};
 ghost use Rattle.shared_shards.specs.NewShards.{shard_at};
@@ -9,16 +9,6 @@ use ebpf_decode::MapDef;
 use journals::{Journals, ShardJournal};
 use semantics::Options;
 use shards::Shards;
-use std::alloc::{AllocError, Global};
-
-/// A copy of the list of maps.
-pub(crate) fn copied(alloc: Global, maps: &[MapDef]) -> Result<Vec<MapDef>, AllocError>
-    ensures { IfOk result (λ copy. copy.items ≡ maps.now) }
-{
-    let mut copy = Vec::with_capacity(alloc, maps.len())?;
-    copy.extend_from_slice(maps)?;
-    Ok(copy)
-}
 
 /// The shards' journals, moved into this room and not copied.
 pub(crate) fn journals_of(

@@ -2,14 +2,14 @@
 
 ghost use Rattle.std.specs.Prelude.{◌≡◌, ◌⊎◌, ◌≤◌, ◌↔◌, IfOk, IfErr, OnErr, IsErrOf, IsFalse};
 ghost use Rattle.semantics.specs.MachineState.{initial_state};
+ghost use Rattle.semantics.specs.ShardPlan.{are_served_options};
 ghost use Rattle.machine.specs.Running.{program_of};
-ghost use Rattle.shards.specs.Opening.{are_served_options};
 ghost use Rattle.shards.specs.declared.fault.OpenFault.TheVariants.{BadOptions};
 ghost use Rattle.map_updates.specs.Misfits.{AreFitting};
 ghost use Rattle.single_run.specs.declared.fault.RunFault.TheVariants.{Open};
 ghost use Rattle.single_run.specs.SingleRuns.{HasRunAlone, HasStoppedAlone, IsWhyNone};
 
-use crate::closing::{copied, journals_of};
+use crate::closing::journals_of;
 use crate::fault::RunFault;
 use crate::shard_runs::worker_run;
 use crate::updates::make_all;
@@ -17,7 +17,7 @@ use journals::Journals;
 use machine::{Exit, Moment, Stop};
 use map_updates::MapUpdate;
 use semantics::Options;
-use shards::{OpenFault, Shards, maps_of};
+use shards::{OpenFault, Shards, copied, maps_of};
 use std::alloc::Global;
 use verifier::Verified;
 use wire::Frame;

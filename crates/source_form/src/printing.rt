@@ -12,36 +12,24 @@ use std::alloc::{AllocError, Global};
 /// Where the comment of a line begins.
 const COMMENT_COLUMN: usize = 32;
 
-/// The slot that an instruction jumps to from a slot, if it jumps.
-fn target_of(insn: Insn, slot: u32) -> Option<u32> {
-    let target = i64::from(slot) + 1 + i64::from(insn.jump_distance()?);
-    if target < 0 {
-        return None;
-    }
-    if target > 0xffff_ffff {
-        return None;
-    }
-    Some(target as u32)
-}
-
 /// The slot in which each instruction begins.
-fn first_slots(alloc: Global, code: &[Insn]) -> Result<Vec<u32>, AllocError> {
+fn first_slots(alloc: Global, code: &[Insn]) -> Result<Vec<i64>, AllocError> {
     let mut slots = Vec::new(alloc);
     let mut slot: u32 = 0;
     for insn in code {
-        slots.push(slot)?;
+        slots.push(i64::from(slot))?;
         slot = slot.saturating_add(insn.slot_count());
     }
     Ok(slots)
 }
 
 /// The slots of instructions that jumps go to.
-fn labelled_slots(alloc: Global, code: &[Insn]) -> Result<Vec<u32>, AllocError> {
+fn labelled_slots(alloc: Global, code: &[Insn]) -> Result<Vec<i64>, AllocError> {
     let starts = first_slots(alloc, code)?;
     let mut slots = Vec::new(alloc);
     let mut slot: u32 = 0;
     for insn in code {
-        if let Some(target) = target_of(*insn, slot) {
+        if let Some(target) = insn.target(slot) {
             if starts.contains(&target) {
                 slots.push(target)?;
             }
@@ -67,7 +55,7 @@ fn put_line(
 }
 
 /// The line of an instruction, with the label in place of the distance.
-fn labelled_line(alloc: Global, insn: Insn, target: u32) -> Result<String, AllocError> {
+fn labelled_line(alloc: Global, insn: Insn, target: i64) -> Result<String, AllocError> {
     let exact = line(alloc, insn)?;
     match exact.rsplit_once(' ') {
         Some((front, _)) => format!(in alloc; "    {front} L{target}"),
@@ -80,9 +68,9 @@ fn instruction_line(
     alloc: Global,
     insn: Insn,
     slot: u32,
-    labelled: &[u32],
+    labelled: &[i64],
 ) -> Result<String, AllocError> {
-    if let Some(target) = target_of(insn, slot) {
+    if let Some(target) = insn.target(slot) {
         if labelled.contains(&target) {
             return labelled_line(alloc, insn, target);
         }
@@ -96,7 +84,7 @@ fn put_code(alloc: Global, out: &mut String, code: &[Insn]) -> Result<(), AllocE
     let labelled = labelled_slots(alloc, code)?;
     let mut slot: u32 = 0;
     for insn in code {
-        if labelled.contains(&slot) {
+        if labelled.contains(&i64::from(slot)) {
             out.push_str(&format!(in alloc; "L{slot}:\n")?)?;
         }
         let line = instruction_line(alloc, *insn, slot, &labelled)?;

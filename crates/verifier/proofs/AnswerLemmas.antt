@@ -2,10 +2,8 @@
 use Rattle.std.proofs.Common.{◌≡◌, ℕ, zero, suc, ◌+◌, ◌<◌, ◌≤◌, List, Option, Some, None, true, false, Ok, Err, refl, sym, ap, subst, ◌∙◌, ⊎_elim, arith}
 use Rattle.std.specs.Prelude.{IsOk}
 use Rattle.std.proofs.lemmas.Bool.{cases_lt}
-use Rattle.isa.specs.declared.operation.Register.TheVariants.{R0}
 use Rattle.ebpf_decode.specs.declared.version.Version.{Version}
 use Rattle.ebpf_decode.specs.declared.insn.Insn.{Insn}
-use Rattle.ebpf_decode.specs.declared.insn.Insn.TheVariants.{Alu, Neg, Movsx, Movsx32, End, Ja, Ja32, JumpIf, Ldx, Ldxs, St, Stx, AtomicUpdate, Lddw, Ldmap, Ldval, CallHelper, Exit}
 use Rattle.ebpf_decode.specs.Jumps.{jump_distance}
 use Rattle.ebpf_decode.specs.declared.map.MapDef.{MapDef}
 use Rattle.ebpf_decode.specs.InstructionEncoding.{total_slots}
@@ -13,14 +11,14 @@ use Rattle.semantics.specs.Program.{instruction_at}
 use Rattle.image_shape.proofs.shared.LawLemmas.{no_fault, one_fault}
 use Rattle.image_shape.proofs.shared.SlotLemmas.{past_end}
 use Rattle.abstract_state.specs.declared.flow.Flow.{Flow}
-use Rattle.abstract_state.specs.declared.flow.Flow.TheVariants.{Ends, Falls}
 use Rattle.abstract_state.specs.declared.refusal.Refusal.{Refusal}
 use Rattle.abstract_state.specs.declared.state.State.{State}
-use Rattle.abstract_state.specs.States.{Checked, ◌>>=◌, kind_of}
-use Rattle.abstract_state.specs.Flow.{reads, verdict_kind, falls, flow_of}
+use Rattle.abstract_state.specs.States.{Checked}
+use Rattle.abstract_state.specs.Flow.{flow_of}
 use Rattle.verifier.specs.Dataflow.{known_at, jumps, AreEntryStates, Accepts, MayAskMemory, passed_jump, passed_all, IsFirstBroken, has_no_shape, breaks_rule, wants_memory}
 use Rattle.verifier.specs.Rejects.{reject_of_shape, reject_of_refusal}
 use Rattle.verifier.specs.Answers.{HasOneAnswer, FirstRejectIsOne, RuleBeforeJumpsIsTold}
+use Rattle.verifier.proofs.Distances.{stays}
 use Rattle.verifier.proofs.shared.EntryStates.{agree}
 
 -- at the slots where both are entry states, they are the same
@@ -93,36 +91,6 @@ first_reject_is_one version maps code one other (breaks_rule slot why broken e) 
 first_reject_is_one version maps code one other (wants_memory shape asked e) second neither nor = absurd (neither e)
 
 -- ---- no memory is asked for before the first jump
-
-falls_on : (after : Checked State) (flow : Flow) → falls after ≡ Ok flow → jumps flow ≡ false
-falls_on (Ok state) flow e = let is : flow ≡ Falls state = cc in rw is refl
-falls_on (Err why) flow e = absurd cc
-
-ends_so : (first second : Checked (Unit {0})) (flow : Flow) → (first >>= (λ _. second >>= (λ _. Ok Ends))) ≡ Ok flow → jumps flow ≡ false
-ends_so (Ok one) (Ok two) flow e = let is : flow ≡ Ends = cc in rw is refl
-ends_so (Ok one) (Err why) flow e = absurd cc
-ends_so (Err why) second flow e = absurd cc
-
-stays : (maps : List MapDef) (state : State) (slot : ℕ) (insn : Insn) (flow : Flow) → jump_distance insn ≡ None → flow_of maps state slot insn ≡ Ok flow → jumps flow ≡ false
-unfolding jump_distance
-stays maps state slot (Ja distance) flow none e = absurd cc
-stays maps state slot (Ja32 distance) flow none e = absurd cc
-stays maps state slot (JumpIf width test dst source distance) flow none e = absurd cc
-stays maps state slot (Alu width op dst source) flow none e = falls_on _ flow e
-stays maps state slot (Neg width dst) flow none e = falls_on _ flow e
-stays maps state slot (Movsx extension dst src) flow none e = falls_on _ flow e
-stays maps state slot (Movsx32 extension dst src) flow none e = falls_on _ flow e
-stays maps state slot (End order width dst) flow none e = falls_on _ flow e
-stays maps state slot (Lddw dst value) flow none e = falls_on _ flow e
-stays maps state slot (Ldmap dst map) flow none e = falls_on _ flow e
-stays maps state slot (Ldx size dst src offset) flow none e = falls_on _ flow e
-stays maps state slot (Ldxs extension dst src offset) flow none e = falls_on _ flow e
-stays maps state slot (St size dst offset immediate) flow none e = falls_on _ flow e
-stays maps state slot (Stx size dst src offset) flow none e = falls_on _ flow e
-stays maps state slot (AtomicUpdate width op dst src offset) flow none e = falls_on _ flow e
-stays maps state slot (Ldval dst map offset) flow none e = falls_on _ flow e
-stays maps state slot (CallHelper helper) flow none e = falls_on _ flow e
-stays maps state slot Exit flow none e = ends_so (reads state R0) (verdict_kind (kind_of state R0)) flow e
 
 not_asked : (version : Version) (maps : List MapDef) (code : List Insn) (slot : ℕ) (why : Refusal) → IsFirstBroken version maps code slot why →
     ((before : ℕ) (insn : Insn) → before < slot → instruction_at code before ≡ Some insn → jump_distance insn ≡ None) → MayAskMemory version maps code → ⊥

@@ -10,7 +10,9 @@ use Rattle.semantics.specs.declared.call.Reply.TheVariants.{Cell}
 use Rattle.semantics.specs.declared.call.Entry.{Entry}
 use Rattle.semantics.specs.declared.call.SectionChange.TheVariants.{Stays}
 use Rattle.semantics.specs.Sections.{section_change}
-use Rattle.semantics.specs.Reclamation.{is_worker, entered_by, entered_at, is_inside, found_cell, held_by, holds}
+use Rattle.semantics.specs.Reclamation.{is_worker, entered_by, entered_at, is_inside, held_by, holds}
+use Rattle.semantics.proofs.shared.HoldingLemmas as holding
+use Rattle.semantics.proofs.shared.HoldingLemmas.{found_cell}
 
 -- ---- entries of others
 
@@ -66,7 +68,7 @@ holds_still worker one entry h who same = holds_own worker one entry h who ∙ s
 -- a lookup adds the found cell
 pub holds_lookup : (worker one shard : ℕ) (key : List ℕ) (entry : Entry) (h : List Entry) → entry.who ≡ Worker worker →
     entry.call ≡ Lookup shard key → holds worker one (entry ∷ h) ≡ (found_cell entry.reply one || holds worker one h)
-holds_lookup worker one shard key entry h who call = holds_own worker one entry h who ∙ rw call refl
+holds_lookup worker one shard key entry h who call = holds_own worker one entry h who ∙ rw call (holding.held_by_lookup shard key entry.reply one (holds worker one h))
 
 or_second : (a b : Bool) → b ≡ true → (a || b) ≡ true
 or_second true b is = refl

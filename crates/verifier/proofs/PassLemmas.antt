@@ -1,10 +1,10 @@
 -- The pass by rising slot: edges go up, so what is known at a slot is whole before the slot is looked at.
-use Rattle.std.proofs.Common.{◌≡◌, ℕ, suc, ◌+◌, ◌-◌, ◌<◌, ◌≤◌, Bool, ℤ, pos, negsuc, List, length, take, get_or, Option, Some, None, refl, sym, ap, subst, ◌∙◌, ⊎_elim, arith}
+use Rattle.std.proofs.Common.{◌≡◌, ℕ, suc, ◌+◌, ◌-◌, ◌<◌, ◌≤◌, Bool, true, false, cond, leb, ℤ, pos, negsuc, ◌+ℤ◌, List, length, take, get_or, Option, Some, None, refl, sym, ap, subst, ◌∙◌, ⊎_elim, arith}
 use Rattle.std.specs.Option.{option_or}
-use Rattle.std.specs.Prelude.{IsOk, ◌≤ℤ◌}
-use Rattle.std.proofs.Math.Facts.{yes_leb}
+use Rattle.std.specs.Prelude.{IsOk}
 use Rattle.std.proofs.lemmas.List.Sums.{sum_by_more_le}
-use Rattle.std.proofs.lemmas.Bool.{cases_lt, cases_eq, ne_eqb}
+use Rattle.std.proofs.lemmas.Bool.{cases_lt, cases_eq, ne_eqb, le-leb}
+use Rattle.std.proofs.lemmas.Int.{ints}
 use Rattle.ebpf_decode.specs.declared.version.Version.{Version}
 use Rattle.ebpf_decode.specs.declared.insn.Insn.{Insn}
 use Rattle.ebpf_decode.specs.declared.insn.Insn.TheVariants.{Ja, Ja32, JumpIf}
@@ -12,16 +12,18 @@ use Rattle.ebpf_decode.specs.declared.map.MapDef.{MapDef}
 use Rattle.ebpf_decode.specs.InstructionEncoding.{slot_count, total_slots}
 use Rattle.semantics.specs.Program.{instruction_at}
 use Rattle.image_shape.specs.declared.fault.ShapeFault.{ShapeFault}
+use Rattle.image_shape.specs.declared.fault.ShapeFault.TheVariants.{JumpBackward, JumpOutside, JumpIntoWide}
 use Rattle.ebpf_decode.specs.Jumps.{jump_distance}
 use Rattle.image_shape.specs.Edges.{is_begin}
+use Rattle.image_shape.specs.Layouts.{GoesForward}
 use Rattle.image_shape.specs.Structure.{jump_fault, fall_fault, instruction_fault, HasShape}
-use Rattle.image_shape.proofs.shared.FaultLemmas.{fault_here}
+use Rattle.image_shape.proofs.shared.FaultLemmas.{fault_here, goes_forward}
 use Rattle.image_shape.proofs.shared.SlotLemmas.{some_slots, past_end, instruction_here}
 use Rattle.abstract_state.specs.declared.refusal.Refusal.{Refusal}
 use Rattle.abstract_state.specs.declared.state.State.{State}
 use Rattle.abstract_state.specs.States.{opening_state}
 use Rattle.abstract_state.specs.Flow.{flow_of}
-use Rattle.abstract_state.specs.Soundness.{distance_of_jump, JumpsForward}
+use Rattle.abstract_state.specs.Soundness.{JumpsForward}
 use Rattle.verifier.specs.declared.reject.Reject.{Reject}
 use Rattle.verifier.specs.declared.reject.Reject.TheVariants.{Memory}
 use Rattle.verifier.specs.Rejects.{reject_of_refusal}
@@ -34,32 +36,39 @@ use Rattle.verifier.proofs.shared.EntryStates.{quiet, are_entry_states}
 
 -- ---- edges go up
 
-no_jump_back : (begins : ℕ → Bool) (total slot : ℕ) (d : ℤ) (fall : Option ShapeFault) → option_or (jump_fault begins total slot (Some d)) fall ≡ None → (n : ℕ) × (d ≡ pos n)
-no_jump_back begins total slot (pos n) fall e = (n, refl)
-no_jump_back begins total slot (negsuc n) fall e = absurd cc
+-- a target that is not above the slot is a fault
+back_is_fault : (back outside begins : Bool) (one two three : ShapeFault) (fall : Option ShapeFault) → back ≡ true →
+    option_or (cond back (Some one) (cond outside (Some two) (cond begins None (Some three)))) fall ≡ None → ⊥
+back_is_fault true outside begins one two three fall back e = absurd cc
+back_is_fault false outside begins one two three fall back e = absurd cc
+
+no_jump_back : (begins : ℕ → Bool) (total slot : ℕ) (d at : ℤ) (fall : Option ShapeFault) → at ≡ pos (slot + 1) +ℤ d →
+    option_or (jump_fault begins total slot (Some at)) fall ≡ None → (n : ℕ) × (d ≡ pos n)
+no_jump_back begins total slot (pos n) at fall is e = (n, refl)
+no_jump_back begins total slot (negsuc n) (negsuc below) fall is e = absurd cc
+no_jump_back begins total slot (negsuc n) (pos target) fall is e =
+    let low : target ≤ slot = omega (arith, ints) in
+    absurd (back_is_fault (leb target slot) (leb total target) (begins target) (JumpBackward slot) (JumpOutside slot) (JumpIntoWide slot) fall (le-leb target slot low) e)
 
 no_fault_forward : (begins : ℕ → Bool) (total slot : ℕ) (insn : Insn) → instruction_fault begins total slot insn ≡ None → JumpsForward insn
 unfolding jump_distance
-no_fault_forward begins total slot (Ja distance) e = no_jump_back begins total slot distance (fall_fault total slot (Ja distance)) e
-no_fault_forward begins total slot (Ja32 distance) e = no_jump_back begins total slot distance (fall_fault total slot (Ja32 distance)) e
+no_fault_forward begins total slot (Ja distance) e =
+    no_jump_back begins total slot distance (pos (slot + 1) +ℤ distance) (fall_fault total slot (Ja distance)) refl e
+no_fault_forward begins total slot (Ja32 distance) e =
+    no_jump_back begins total slot distance (pos (slot + 1) +ℤ distance) (fall_fault total slot (Ja32 distance)) refl e
 no_fault_forward begins total slot (JumpIf width test dst source distance) e =
-    no_jump_back begins total slot distance (fall_fault total slot (JumpIf width test dst source distance)) e
+    no_jump_back begins total slot distance (pos (slot + 1) +ℤ distance) (fall_fault total slot (JumpIf width test dst source distance)) refl e
 no_fault_forward begins total slot insn e = (0, refl)
 
 pub forward : (code : List Insn) (slot : ℕ) (insn : Insn) → HasShape code → instruction_at code slot ≡ Some insn → JumpsForward insn
 forward code slot insn shape found =
     no_fault_forward (is_begin code) (total_slots code) slot insn (sym (fault_here code slot insn found) ∙ shape.edges slot)
 
--- the same as an order of whole numbers
-pub not_back : (insn : Insn) → JumpsForward insn → pos 0 ≤ℤ distance_of_jump insn
-not_back insn up = rw up.1 (record { le = yes_leb (omega arith) })
-
 -- ---- the pass
 
-pub here_not_back : (code : List Insn) (i : ℕ) (d : Insn) (slot : ℕ) → HasShape code → i < length code → slot ≡ total_slots (take i code) →
-    pos 0 ≤ℤ distance_of_jump (get_or code i d)
-here_not_back code i d slot shape lt at =
-    not_back (get_or code i d) (forward code slot (get_or code i d) shape (instruction_here code i d slot lt at))
+pub here_forward : (code : List Insn) (i : ℕ) (d : Insn) (slot : ℕ) → HasShape code → i < length code → slot ≡ total_slots (take i code) →
+    GoesForward slot (get_or code i d)
+here_forward code i d slot shape lt at = goes_forward code slot (get_or code i d) (shape.edges slot) (instruction_here code i d slot lt at)
 
 -- the next slot is inside the program, or its end
 pub next_within : (code : List Insn) (i : ℕ) (d : Insn) (slot : ℕ) → i < length code → slot ≡ total_slots (take i code) →

@@ -1,6 +1,6 @@
 -- Every instruction of an accepted program has an entry state: a path of edges leads to it, and something flows along each edge.
 use Rattle.std.proofs.Common.{◌≡◌, inl, inr, ℕ, zero, suc, ◌+◌, ◌-◌, ◌<◌, Bool, true, false, pos, List, Option, Some, None, Ok, Err, refl, sym, ap, subst, ◌∙◌, arith}
-use Rattle.std.specs.Prelude.{◌+ℤ◌, IsSome, IsTrue}
+use Rattle.std.specs.Prelude.{IsSome, IsTrue}
 use Rattle.ebpf_decode.specs.declared.version.Version.{Version}
 use Rattle.ebpf_decode.specs.declared.insn.Insn.{Insn}
 use Rattle.ebpf_decode.specs.declared.insn.Insn.TheVariants.{Ja, Ja32, JumpIf, Exit}
@@ -12,8 +12,8 @@ use Rattle.isa.specs.declared.operation.Register.{Register}
 use Rattle.isa.specs.declared.operation.Source.{Source}
 use Rattle.semantics.specs.Program.{instruction_at}
 use Rattle.ebpf_decode.specs.Jumps.{jump_distance}
-use Rattle.verifier.proofs.Distances.{some_distance}
-use Rattle.image_shape.specs.Edges.{falls_through, IsJump, IsEdge, is_begin, IsReachableSlot, reached_start, reached_along}
+use Rattle.verifier.proofs.Distances.{no_target}
+use Rattle.image_shape.specs.Edges.{falls_through, IsEdge, is_begin, IsReachableSlot, reached_start, reached_along}
 use Rattle.image_shape.proofs.shared.LawLemmas.{edges_go_up}
 use Rattle.abstract_state.specs.declared.flow.Flow.{Flow}
 use Rattle.abstract_state.specs.declared.flow.Flow.TheVariants.{Ends, Falls, Jumps, Splits}
@@ -88,10 +88,6 @@ pub record Flows (slot : ℕ) (insn : Insn) (target : ℕ) (flow : Flow) : Type 
   pub there : State
   pub taken : IsTaken slot insn target there flow
 
-target_there : (slot : ℕ) (insn : Insn) (target : ℕ) → IsJump slot insn target → is_target slot insn target ≡ true
-target_there slot insn target jump =
-    jumps_there slot insn target (jump.2 ∙ ap (λ distance. pos (slot + 1) +ℤ distance) (sym (some_distance insn jump.0 jump.1)))
-
 falls_is : (after : Checked State) (flow : Flow) → falls after ≡ Ok flow → (state : State) × (Falls state ≡ flow)
 falls_is (Ok state) flow e = (state, ok_value (Falls state) flow e)
 falls_is (Err why) flow e = absurd cc
@@ -101,21 +97,21 @@ falls_along : (slot : ℕ) (insn : Insn) (target : ℕ) (after : Checked State) 
     Flows slot insn target flow
 falls_along slot insn target after flow e none (inl fall) =
     let is = falls_is after flow e in record { there = is.0; taken = subst (IsTaken slot insn target is.0) is.1 (by_fall (falls_there slot insn target fall.1)) }
-falls_along slot insn target after flow e none (inr jump) = absurd (let some : jump_distance insn ≡ Some jump.0 = jump.1 in cc)
+falls_along slot insn target after flow e none (inr jump) = absurd (let some : None ≡ Some (pos target) = sym (no_target slot insn none) ∙ jump in cc)
 
 -- out of one that only jumps
 jumps_along : (slot : ℕ) (insn : Insn) (target : ℕ) (state : State) (flow : Flow) → Jumps state ≡ flow → falls_through insn ≡ false → IsEdge slot insn target →
     Flows slot insn target flow
 jumps_along slot insn target state flow e none (inl fall) = absurd (let some : falls_through insn ≡ true = fall.0 in cc)
 jumps_along slot insn target state flow e none (inr jump) =
-    record { there = state; taken = subst (IsTaken slot insn target state) e (by_jump (target_there slot insn target jump)) }
+    record { there = state; taken = subst (IsTaken slot insn target state) e (by_jump (jumps_there slot insn target jump)) }
 
 -- out of one that does either
 splits_along : (slot : ℕ) (insn : Insn) (target : ℕ) (taken fallen : State) (flow : Flow) → Splits taken fallen ≡ flow → IsEdge slot insn target → Flows slot insn target flow
 splits_along slot insn target taken fallen flow e (inl fall) =
     record { there = fallen; taken = subst (IsTaken slot insn target fallen) e (by_no_test taken (falls_there slot insn target fall.1)) }
 splits_along slot insn target taken fallen flow e (inr jump) =
-    record { there = taken; taken = subst (IsTaken slot insn target taken) e (by_test fallen (target_there slot insn target jump)) }
+    record { there = taken; taken = subst (IsTaken slot insn target taken) e (by_test fallen (jumps_there slot insn target jump)) }
 
 test_splits : (state : State) (width : Width) (test : Test) (dst : Register) (source : Source) (flow : Flow) → test_flow state width test dst source ≡ Ok flow →
     Splits (refine_state state width test dst source true) (refine_state state width test dst source false) ≡ flow
@@ -129,7 +125,7 @@ test_splits state width test dst source flow e =
 no_edge : (slot target : ℕ) → IsEdge slot Exit target → ⊥
 unfolding jump_distance falls_through
 no_edge slot target (inl fall) = absurd (let some : false ≡ true = fall.0 in cc)
-no_edge slot target (inr jump) = absurd (let some : None ≡ Some jump.0 = jump.1 in cc)
+no_edge slot target (inr jump) = absurd (let some : None ≡ Some (pos target) = jump in cc)
 
 flows_along : (maps : List MapDef) (state : State) (slot : ℕ) (insn : Insn) (target : ℕ) (flow : Flow) → flow_of maps state slot insn ≡ Ok flow → IsEdge slot insn target →
     Flows slot insn target flow

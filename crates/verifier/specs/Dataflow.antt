@@ -1,10 +1,11 @@
 -- Entry states: what is known before an instruction is what flows along the edges that lead to it, joined.
-use Rattle.std.specs.Prelude.{◌≡◌, ℕ, zero, suc, ◌+◌, ◌<◌, ◌==◌, Bool, true, false, ℤ, pos, negsuc, ◌+ℤ◌, List, [], ◌∷◌, ◌++◌, Option, Some}
+use Rattle.std.specs.Prelude.{◌≡◌, ℕ, zero, suc, ◌+◌, ◌<◌, ◌==◌, Bool, true, false, ℤ, pos, negsuc, List, [], ◌∷◌, ◌++◌, Option, Some}
 use Rattle.std.specs.Prelude.{None, Ok, Err, IsOk, IsTrue, slice_index_or, if◌then◌else◌}
 use Rattle.ebpf_decode.specs.declared.insn.Insn.{Insn}
 use Rattle.ebpf_decode.specs.declared.map.MapDef.{MapDef}
 use Rattle.ebpf_decode.specs.declared.version.Version.{Version}
 use Rattle.ebpf_decode.specs.InstructionEncoding.{slot_count, total_slots}
+use Rattle.ebpf_decode.specs.Jumps.{jump_target}
 use Rattle.semantics.specs.Program.{instruction_at}
 use Rattle.image_shape.specs.declared.fault.ShapeFault.{ShapeFault}
 use Rattle.image_shape.specs.Structure.{HasShape, IsFirstFault}
@@ -15,7 +16,6 @@ use Rattle.abstract_state.specs.declared.state.State.{State}
 use Rattle.abstract_state.specs.States.{Checked, opening_state}
 use Rattle.abstract_state.specs.Join.{join_of}
 use Rattle.abstract_state.specs.Flow.{flow_of}
-use Rattle.abstract_state.specs.Soundness.{distance_of_jump}
 use Rattle.verifier.specs.declared.reject.Reject.{Reject}
 use Rattle.verifier.specs.declared.reject.Reject.TheVariants.{Memory}
 use Rattle.verifier.specs.Rejects.{reject_of_shape, reject_of_refusal}
@@ -35,13 +35,14 @@ abbrev pub joined_where : Bool → State → Option State → Option State
 joined_where true state known = join_known known state
 joined_where false state known = known
 
--- whether a jump goes there: its distance counts from the slot after it
-abbrev pub is_at : ℤ → ℕ → Bool
-is_at (pos place) slot = slot == place
-is_at (negsuc below) slot = false
+-- whether a jump goes there
+abbrev pub is_at : Option ℤ → ℕ → Bool
+is_at (Some (pos place)) slot = slot == place
+is_at (Some (negsuc below)) slot = false
+is_at None slot = false
 
 abbrev pub is_target : ℕ → Insn → ℕ → Bool
-is_target slot insn target = is_at (pos (slot + 1) +ℤ distance_of_jump insn) target
+is_target slot insn target = is_at (jump_target slot insn) target
 
 abbrev pub is_next : ℕ → Insn → ℕ → Bool
 is_next slot insn target = target == slot + slot_count insn

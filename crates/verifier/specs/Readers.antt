@@ -1,10 +1,12 @@
 -- Programs that only read: no map is changed, and neither the worker's number nor its receive queue is asked for, so that a run
 -- does the same on whichever worker it is.
-use Rattle.std.specs.Prelude.{◌≡◌, ℕ, Bool, true, false, not, ◌||◌, ℤ, pos, List, Option, Some, None, IsTrue}
-use Rattle.std.specs.Ordering.{int_eq}
+use Rattle.std.specs.Prelude.{◌≡◌, ℕ, Bool, true, false, not, ◌||◌, ℤ, List, Option, Some, None, IsTrue}
 use Rattle.ebpf_decode.specs.declared.insn.Insn.{Insn}
 use Rattle.ebpf_decode.specs.declared.insn.Insn.TheVariants.{Ldx, St, Stx, AtomicUpdate, CallHelper}
 use Rattle.semantics.specs.Program.{instruction_at}
+use Rattle.semantics.specs.Linux.{helper_of, changes_map, helper_asks_worker, field_at, field_asks_worker}
+use Rattle.semantics.specs.declared.linux.ContextField.{ContextField}
+use Rattle.semantics.specs.declared.linux.Helper.{Helper}
 use Rattle.abstract_state.specs.declared.kind.Kind.{Kind}
 use Rattle.abstract_state.specs.declared.kind.Kind.TheVariants.{Ctx, Value}
 use Rattle.abstract_state.specs.declared.state.State.{State}
@@ -12,21 +14,27 @@ use Rattle.abstract_state.specs.States.{kind_of}
 use Rattle.verifier.specs.Dataflow.{known_at}
 
 -- an update, a deletion, or the worker's number
-abbrev pub is_worker_helper : ℤ → Bool
-is_worker_helper helper = int_eq helper (pos 2) || int_eq helper (pos 3) || int_eq helper (pos 8)
+abbrev pub is_worker_helper : Option Helper → Bool
+is_worker_helper (Some helper) = changes_map helper || helper_asks_worker helper
+is_worker_helper None = false
 
 abbrev pub is_value : Kind → Bool
 is_value (Value map id off) = true
 is_value other = false
 
--- the receive queue's number, a field of the context (struct xdp_md)
+-- the receive queue's number
+abbrev pub is_worker_field : Option ContextField → Bool
+is_worker_field (Some field) = field_asks_worker field
+is_worker_field None = false
+
+-- the same, as a field of the context
 abbrev pub is_queue_field : Kind → ℤ → Bool
-is_queue_field Ctx offset = int_eq offset (pos 16)
+is_queue_field Ctx offset = is_worker_field (field_at offset)
 is_queue_field other offset = false
 
 -- the instruction only reads, in this state
 abbrev pub only_reads : State → Insn → Bool
-only_reads state (CallHelper helper) = not (is_worker_helper helper)
+only_reads state (CallHelper number) = not (is_worker_helper (helper_of number))
 only_reads state (St size dst offset immediate) = not (is_value (kind_of state dst))
 only_reads state (Stx size dst src offset) = not (is_value (kind_of state dst))
 only_reads state (AtomicUpdate width op dst src offset) = not (is_value (kind_of state dst))

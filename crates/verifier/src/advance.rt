@@ -1,19 +1,19 @@
 //! From what is known at a slot to what is known at the next.
 
-ghost use Rattle.std.specs.Prelude.{◌≡◌, ◌<◌, ◌+◌, ◌≤ℤ◌, ◌+ℤ◌, ℕ, pos, Some, Err, IsOk, IsTrue, IfOk, IfErr};
+ghost use Rattle.std.specs.Prelude.{◌≡◌, ◌<◌, ◌+◌, ℕ, Some, Err, IsOk, IsTrue, IfOk, IfErr};
 ghost use Rattle.abstract_state.specs.declared.flow.Flow.{Flow};
 ghost use Rattle.abstract_state.specs.declared.refusal.Refusal.{Refusal};
 ghost use Rattle.abstract_state.specs.declared.state.State.{State};
 ghost use Rattle.abstract_state.specs.Flow.{flow_of};
 ghost use Rattle.abstract_state.specs.InPlace.{flow_by};
-ghost use Rattle.abstract_state.specs.Soundness.{distance_of_jump};
 ghost use Rattle.ebpf_decode.specs.InstructionEncoding.{slot_count};
-ghost use Rattle.verifier.specs.Dataflow.{arriving, arriving_from, jumps};
+ghost use Rattle.image_shape.specs.Layouts.{GoesForward};
+ghost use Rattle.verifier.specs.Dataflow.{arriving, arriving_from, is_target, joined_where, jumps};
 ghost use Rattle.verifier.specs.Pending.{entry_of, pending_at};
 ghost use Rattle.verifier.specs.Stops.{BreaksRule, WantsRoom};
 
 use crate::pending::{Entry, Pending};
-use abstract_state::{Refusal, Site, Way};
+use abstract_state::{Refusal, Site, State, Way};
 use ebpf_decode::{Insn, MapDef};
 use std::alloc::{AllocError, Global};
 
@@ -26,24 +26,23 @@ pub(crate) enum Stop {
     Rule(Refusal),
 }
 
-/// How far the instruction jumps; 0 where it doesn't.
-#[tactic(auto, using(crate::proofs::Distances::no_distance))]
-pub fn distance_of_jump(insn: Insn) -> i32
-    ensures { result ≡ distance_of_jump insn }
-{
-    match insn.jump_distance() {
-        Some(distance) => distance,
-        None => 0,
-    }
-}
-
-/// Where the instruction jumps.
-fn target_of(slot: usize, insn: Insn) -> usize
+/// Brings what is known after an instruction to where it jumps.
+fn jump(
+    alloc: Global,
+    slot: usize,
+    insn: Insn,
+    pending: &mut Pending,
+    state: &State,
+) -> Result<(), AllocError>
     requires within { slot < 4096 }
-    requires forward { pos 0 ≤ℤ distance_of_jump insn }
-    ensures { pos result ≡ pos (slot + 1) +ℤ distance_of_jump insn }
+    requires forward { GoesForward slot insn }
+    ensures { IfOk result (λ _. (other : ℕ) →
+        pending_at pending.new other ≡ joined_where (is_target slot insn other) state.now (pending_at pending.old other)) }
 {
-    slot + 1 + distance_of_jump(insn) as usize
+    if let Some(target) = insn.target(slot as u32) {
+        pending.bring(alloc, target as usize, state)?;
+    }
+    Ok(())
 }
 
 /// The two edges of a conditional jump: what is known where it is taken is brought there, what is known where it isn't falls on.
@@ -56,7 +55,7 @@ fn split(
     entry: &mut Entry,
 ) -> Result<(), AllocError>
     requires within { slot < 4096 }
-    requires forward { pos 0 ≤ℤ distance_of_jump insn }
+    requires forward { GoesForward slot insn }
     ensures later { IfOk result (λ _. (target : ℕ) → slot + slot_count insn < target →
         pending_at pending.new target ≡ arriving slot insn target (flow_by insn Way.Splits entry.old.state) (pending_at pending.old target)) }
     ensures next { IfOk result (λ _.
@@ -65,7 +64,7 @@ fn split(
 {
     let mut taken = entry.state;
     taken.follow(insn, true);
-    pending.bring(alloc, target_of(slot, insn), &taken)?;
+    jump(alloc, slot, insn, pending, &taken)?;
     entry.state.follow(insn, false);
     pending.fall(slot + insn.slot_count() as usize, entry);
     Ok(())
@@ -81,7 +80,7 @@ fn lead_on(
     entry: &mut Entry,
 ) -> Result<(), AllocError>
     requires within { slot < 4096 }
-    requires forward { pos 0 ≤ℤ distance_of_jump insn }
+    requires forward { GoesForward slot insn }
     ensures later { IfOk result (λ _. (target : ℕ) → slot + slot_count insn < target →
         pending_at pending.new target ≡ arriving slot insn target (flow_by insn way entry.old.state) (pending_at pending.old target)) }
     ensures next { IfOk result (λ _.
@@ -94,7 +93,7 @@ fn lead_on(
         Way::Ends => pending.land(next, entry),
         Way::Falls => pending.fall(next, entry),
         Way::Jumps => {
-            pending.bring(alloc, target_of(slot, insn), &entry.state)?;
+            jump(alloc, slot, insn, pending, &entry.state)?;
             pending.land(next, entry);
         }
         Way::Splits => split(alloc, slot, insn, pending, entry)?,
@@ -112,7 +111,7 @@ pub(crate) fn advance(
     entry: &mut Entry,
 ) -> Result<(), Stop>
     requires within { slot < 4096 }
-    requires forward { pos 0 ≤ℤ distance_of_jump insn }
+    requires forward { GoesForward slot insn }
     ensures later { IfOk result (λ _. (target : ℕ) → slot + slot_count insn < target →
         pending_at pending.new target ≡ arriving_from maps.now slot (Some insn) (entry_of entry.old) target (pending_at pending.old target)) }
     ensures next { IfOk result (λ _.

@@ -12,7 +12,6 @@ pub mod resolved;
 pub mod survey;
 mod verified;
 
-pub use advance::distance_of_jump;
 pub use op::Op;
 pub use reject::Reject;
 pub use resolved::{Memory, Resolved};

@@ -2,17 +2,21 @@
 
 ghost use Rattle.std.specs.Prelude.{◌≡◌};
 ghost use Rattle.verifier.specs.Pending.{entry_of};
-ghost use Rattle.verifier.specs.Readers.{is_worker_helper, is_value, is_queue_field, only_reads, reads_known};
+ghost use Rattle.verifier.specs.Readers.{is_worker_helper, is_value, is_worker_field, is_queue_field, only_reads, reads_known};
 
 use crate::pending::Entry;
 use abstract_state::{Kind, State};
 use ebpf_decode::Insn;
+use semantics::{ContextField, Helper};
 
 /// An update, a deletion, or the worker's number.
-fn is_worker_helper(helper: i32) -> bool
+fn is_worker_helper(helper: Option<Helper>) -> bool
     ensures { result ≡ is_worker_helper helper }
 {
-    helper == 2 || helper == 3 || helper == 8
+    match helper {
+        Some(helper) => helper.changes_map() || helper.asks_worker(),
+        None => false,
+    }
 }
 
 fn is_value(kind: Kind) -> bool
@@ -21,12 +25,22 @@ fn is_value(kind: Kind) -> bool
     matches!(kind, Kind::Value { .. })
 }
 
-/// The number of the receive queue, a field of the context.
+/// The number of the receive queue.
+fn is_worker_field(field: Option<ContextField>) -> bool
+    ensures { result ≡ is_worker_field field }
+{
+    match field {
+        Some(field) => field.asks_worker(),
+        None => false,
+    }
+}
+
+/// The same, as a field of the context.
 fn is_queue_field(kind: Kind, offset: i16) -> bool
     ensures { result ≡ is_queue_field kind offset }
 {
     match kind {
-        Kind::Ctx => offset == 16,
+        Kind::Ctx => is_worker_field(ContextField::of(offset)),
         _ => false,
     }
 }
@@ -36,7 +50,7 @@ fn only_reads(state: &State, insn: Insn) -> bool
     ensures { result ≡ only_reads state.now insn }
 {
     match insn {
-        Insn::CallHelper { helper } => !is_worker_helper(helper),
+        Insn::CallHelper { helper } => !is_worker_helper(Helper::of(helper)),
         Insn::St { dst, .. } => !is_value(state.kind(dst)),
         Insn::Stx { dst, .. } => !is_value(state.kind(dst)),
         Insn::AtomicUpdate { dst, .. } => !is_value(state.kind(dst)),

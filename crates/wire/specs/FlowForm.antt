@@ -1,10 +1,8 @@
 -- Which frames carry a flow, and the sixteen bytes of its key: an unfragmented IPv4
 -- datagram (RFC 791) without options, of TCP or UDP, whole in an Ethernet frame.
-use Rattle.std.specs.Prelude.{◌≡◌, ℕ, zero, suc, ◌+◌, ◌*◌, ◌≤◌, ◌⊎◌, List, [], ◌∷◌, ◌++◌, length, slice_index, bit_and}
-
--- the 16-bit number at an index, high byte first
-abbrev pub be_word_at : ℕ → List ℕ → ℕ
-be_word_at at bytes = slice_index bytes at * 256 + slice_index bytes (at + 1)
+use Rattle.std.specs.Prelude.{◌≡◌, ℕ, zero, suc, ◌+◌, ◌≤◌, ◌⊎◌, List, [], ◌∷◌, ◌++◌, slice_index, bit_and}
+use Rattle.wire.specs.PlainIpv4.{total_length, IsPlainIpv4}
+pub use Rattle.wire.specs.BigEndian.{be_word_at}
 
 -- so many bytes from an index on
 abbrev pub bytes_at : ℕ → ℕ → List ℕ → List ℕ
@@ -13,12 +11,8 @@ bytes_at from (suc count) bytes = slice_index bytes from ∷ bytes_at (from + 1)
 
 -- the frame has a flow key
 pub record HasFlow (frame : List ℕ) : Type 0 where
-  pub long : 42 ≤ length frame
-  pub ether_type_high : slice_index frame 12 ≡ 0x08
-  pub ether_type_low : slice_index frame 13 ≡ 0x00
-  pub version_and_header_length : slice_index frame 14 ≡ 0x45
-  pub total_at_least : 28 ≤ be_word_at 16 frame
-  pub whole : 14 + be_word_at 16 frame ≤ length frame
+  pub plain : IsPlainIpv4 frame
+  pub total_at_least : 28 ≤ total_length frame
   pub unfragmented : bit_and (be_word_at 20 frame) 0x3fff ≡ 0
   pub transport : (slice_index frame 23 ≡ 6) ⊎ (slice_index frame 23 ≡ 17)
 

@@ -1,5 +1,7 @@
 -- The definitions that the contracts of this crate cite, in reading order.
 pub mod FrameView
+pub mod BigEndian
+pub mod PlainIpv4
 pub mod FlowForm
 pub mod FlowBytes
 pub mod EthernetBytes

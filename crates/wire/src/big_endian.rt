@@ -1,7 +1,7 @@
 //! Numbers of 16 bits as headers have them: high byte first (RFC 791, appendix B).
 
 ghost use Rattle.std.specs.Prelude.{◌≡◌, ◌+◌, ◌/◌, ◌%◌, ◌<◌, length, slice_index};
-ghost use Rattle.wire.specs.FlowForm.{be_word_at};
+ghost use Rattle.wire.specs.BigEndian.{be_word_at};
 ghost use Rattle.wire.specs.FlowBytes.{be_bytes};
 
 /// The two bytes of a number, high byte first.

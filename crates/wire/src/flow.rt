@@ -1,11 +1,13 @@
 //! The flow of a frame: who talks to whom, by which transport protocol.
 
 ghost use Rattle.std.specs.Prelude.{◌≡◌, ℕ, ◌+◌, ◌/◌, ◌%◌, ◌<◌, ◌↔◌, length, slice_index, IsSome, IfSome};
+ghost use Rattle.wire.specs.PlainIpv4.{total_length, IsPlainIpv4};
 ghost use Rattle.wire.specs.FlowForm.{be_word_at, flow_bytes_of, HasFlow};
 ghost use Rattle.wire.specs.FlowBytes.{protocol_number, be_bytes, flow_key_bytes};
 
 use crate::big_endian::{be_bytes, word_at};
 use crate::ethernet::Ipv4Address;
+use crate::ipv4::Ipv4Packet;
 
 /// The transport protocols that a flow may have.
 #[derive(Clone, Copy, Debug, PartialEq, Eq)]
@@ -59,11 +61,10 @@ pub fn flow_of(frame: &[u8]) -> Option<FlowKey>
     ensures form { IsSome result ↔ HasFlow frame.now }
     ensures key { IfSome result (λ key. flow_key_bytes key ≡ flow_bytes_of frame.now) }
 {
-    if frame.len() < 42 || frame[12] != 0x08 || frame[13] != 0x00 || frame[14] != 0x45 {
+    let Some(packet) = Ipv4Packet::of(frame) else {
         return None;
-    }
-    let total = usize::from(word_at(frame, 16));
-    if total < 28 || frame.len() < 14 + total || word_at(frame, 20) & 0x3fff != 0 {
+    };
+    if packet.total_length < 28 || word_at(frame, 20) & 0x3fff != 0 {
         return None;
     }
     let transport = match frame[23] {

@@ -14,7 +14,7 @@ const HEADROOM: usize = 256;
 const MAX_FRAME: usize = 2048;
 
 /// The fewest bytes of a frame: an Ethernet header.
-const MIN_FRAME: usize = 14;
+pub const MIN_FRAME: usize = 14;
 
 /// Why a frame was refused.
 #[derive(Clone, Copy, Debug, PartialEq, Eq, Error)]

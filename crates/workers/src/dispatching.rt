@@ -9,10 +9,7 @@ ghost use Rattle.workers.specs.Puts.{ArePutWithEnd, with_record};
 use crate::handing::{ask_due_round, due, hand_commands};
 use rx_queues::{Caller, Job, PutPass, Queues, spread};
 use std::sync::Wait;
-use wire::{Capture, Sent, flow_of};
-
-/// The fewest bytes of a frame: an Ethernet header.
-const MIN_FRAME: usize = 14;
+use wire::{Capture, MIN_FRAME, Sent, flow_of};
 
 /// The worker that handles a frame: the one of its flow, and worker 0 where it has none.
 pub(crate) fn worker_of(frame: &[u8], workers: usize) -> usize

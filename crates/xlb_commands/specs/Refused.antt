@@ -36,7 +36,7 @@ use Rattle.wire.specs.declared.capture_fault.CaptureFault.{CaptureFault}
 use Rattle.wire.specs.CaptureFormat.{Refuses as RefusesCapture}
 use Rattle.semantics.specs.declared.options.Options.{Options}
 use Rattle.semantics.specs.declared.verdict.Verdict.{Verdict}
-use Rattle.shards.specs.Opening.{are_served_options}
+use Rattle.semantics.specs.ShardPlan.{are_served_options}
 use Rattle.shards.specs.declared.fault.OpenFault.TheVariants as opens
 use Rattle.machine.specs.declared.exit.Stop.{Stop}
 use Rattle.map_updates.specs.Misfits.{AreFitting}

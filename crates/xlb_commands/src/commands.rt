@@ -23,6 +23,7 @@ use ebpf_decode::{DecodeFault, Image, decode, encode};
 use folders::{Folder, FolderFault, Front};
 use journal_files::journals_of;
 use reasons::explain;
+use semantics::facts::frame_may_come_in;
 use source_form::{SourceFault, assemble_source, explain as explain_source, source};
 use std::alloc::{AllocError, Global};
 use text_lines::text_or_line;
@@ -204,14 +205,6 @@ fn refused_frame(alloc: Global, bytes: &[u8], fault: FrameFault) -> Refusal
     ensures { result.fault ≡ Fault.Frame fault }
 {
     Refusal::hinted(Fault::Frame(fault), hints::of_frame(alloc, bytes))
-}
-
-/// A frame has the bytes that a run may begin with.
-fn frame_may_come_in(frame: &Frame)
-    requires { (14 ≤ length frame.now.bytes) × (length frame.now.bytes ≤ 2048) }
-    ensures { IsInputFrame frame.now.bytes }
-{
-    let _ = frame.bytes();
 }
 
 /// Judges an image.

@@ -9,9 +9,9 @@ use Rattle.semantics.specs.LittleEndian.{number_of_bytes}
 use Rattle.semantics.specs.RegisterValue.{RegisterValue, Number}
 use Rattle.semantics.specs.MachineState.{MachineState, StackByte}
 use Rattle.semantics.specs.Step.{Outcome, then_outcome}
-use Rattle.isa.specs.InstructionCodes.{size_bytes}
+use Rattle.isa.specs.InstructionCodes.{size_bytes, size_bits}
 use Rattle.semantics.specs.Memory.{spilled_or_number, stack_place, stack_value, packet_value}
-use Rattle.abstract_scalar.specs.Intervals.{full_of, size_bits}
+use Rattle.abstract_scalar.specs.Intervals.{full_of}
 use Rattle.abstract_state.specs.declared.kind.Kind.{Kind}
 use Rattle.abstract_state.specs.declared.kind.Kind.TheVariants.{Unset, Scalar, Ctx, Stack, Packet, PacketEnd, Map, ValueOrNull, Value}
 use Rattle.abstract_state.specs.declared.kind.StackWord.{StackWord}

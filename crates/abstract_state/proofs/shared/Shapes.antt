@@ -17,7 +17,7 @@ use Rattle.ebpf_decode.specs.declared.insn.Insn.{Insn}
 use Rattle.ebpf_decode.specs.declared.insn.Insn.TheVariants.{Alu, Neg, Movsx, Movsx32, End, Ja, Ja32, JumpIf, Ldx, Ldxs, St, Stx, AtomicUpdate, Lddw, Ldmap, Ldval, CallHelper, Exit}
 use Rattle.ebpf_decode.specs.declared.map.MapDef.{MapDef}
 use Rattle.isa.specs.InstructionCodes.{register_number, size_bytes, width_size}
-use Rattle.semantics.specs.Semantics.{fetched_register}
+use Rattle.isa.specs.Atomic.{fetched_register}
 use Rattle.abstract_scalar.specs.declared.interval.Interval.{Interval}
 use Rattle.abstract_scalar.specs.Intervals.{constant_of, interval_of, full_of}
 use Rattle.abstract_scalar.specs.Transfer.{neg_of, movsx64_of, movsx32_of, swap_of}
@@ -35,7 +35,7 @@ use Rattle.abstract_state.specs.declared.flow.Flow.TheVariants.{Ends, Falls, Jum
 use Rattle.abstract_state.specs.declared.refusal.Refusal.{Refusal}
 use Rattle.abstract_state.specs.declared.refusal.Refusal.TheVariants.{WrongKind, ContextAccess, Misaligned, StackBounds, PointerLeak, UnknownMap}
 use Rattle.abstract_state.specs.declared.state.State.{State}
-use Rattle.abstract_state.specs.States.{Checked, ◌>>=◌, kind_of, with_kind, word_of, with_word, no_bytes, stack_bytes, opening_state}
+use Rattle.abstract_state.specs.States.{Checked, ◌>>=◌, kind_of, with_kind, word_of, with_word, no_bytes, stack_size, opening_state}
 use Rattle.abstract_state.specs.Join.{zip_with, spilled, bytes_of_kind, bytes_of_word, join_kind, join_word, join_of}
 use Rattle.abstract_state.specs.Places.{range_within, aligned, stack_access, packet_access, value_access, atomic_access}
 use Rattle.abstract_state.specs.Words.{storable, narrow_storable, with_set, word_stored}
@@ -212,8 +212,8 @@ some_bytes U64 = omega arith
 
 lies : (place : ℕ) (offset : ℤ) (size : Size) (from : ℕ) → stack_access place offset (size_bytes size) ≡ Ok from → Lies size from
 lies place offset size from e =
-    let p = ok_then (range_within (pos place +ℤ offset) (size_bytes size) stack_bytes StackBounds) (λ at. aligned at (size_bytes size)) from e
-    in let l : p.value + size_bytes size ≤ 512 = range_is (pos place +ℤ offset) (size_bytes size) stack_bytes p.value StackBounds p.is
+    let p = ok_then (range_within (pos place +ℤ offset) (size_bytes size) stack_size StackBounds) (λ at. aligned at (size_bytes size)) from e
+    in let l : p.value + size_bytes size ≤ 512 = range_is (pos place +ℤ offset) (size_bytes size) stack_size p.value StackBounds p.is
     in let c = ok_if (p.value % size_bytes size == 0) (Ok p.value) Misaligned from p.next
     in let same : p.value ≡ from = ok_value p.value from c.next
     in let m : p.value % size_bytes size ≡ 0 = eqb-true (p.value % size_bytes size) 0 c.holds

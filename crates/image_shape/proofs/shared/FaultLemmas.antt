@@ -9,7 +9,7 @@ use Rattle.ebpf_decode.specs.InstructionEncoding.{slot_count, total_slots}
 use Rattle.semantics.specs.Program.{instruction_at}
 use Rattle.image_shape.specs.declared.fault.ShapeFault.{ShapeFault}
 use Rattle.image_shape.specs.declared.fault.ShapeFault.TheVariants.{JumpBackward, JumpOutside, JumpIntoWide, FallsOff, Unreachable}
-use Rattle.ebpf_decode.specs.Jumps.{jump_distance}
+use Rattle.ebpf_decode.specs.Jumps.{jump_target}
 use Rattle.image_shape.specs.Edges.{falls_through, IsEdge, is_begin}
 use Rattle.image_shape.specs.Layouts.{IsLayout, GoesForward}
 use Rattle.image_shape.specs.Structure.{jump_fault, fall_fault, instruction_fault, fault_at, HasSoundEdges, IsFirstFault, IsFirstBadEdge}
@@ -17,13 +17,13 @@ use Rattle.image_shape.proofs.shared.SlotLemmas.{some_slots, instruction_here, n
 
 -- ---- the same marks give the same fault
 
-jump_same : (f g : ℕ → Bool) (total slot : ℕ) (distance : Option ℤ) → ((k : ℕ) → f k ≡ g k) → jump_fault f total slot distance ≡ jump_fault g total slot distance
+jump_same : (f g : ℕ → Bool) (total slot : ℕ) (target : Option ℤ) → ((k : ℕ) → f k ≡ g k) → jump_fault f total slot target ≡ jump_fault g total slot target
 jump_same f g total slot None same = refl
-jump_same f g total slot (Some (negsuc distance)) same = refl
-jump_same f g total slot (Some (pos distance)) same = rw (same (slot + 1 + distance)) refl
+jump_same f g total slot (Some (negsuc below)) same = refl
+jump_same f g total slot (Some (pos target)) same = rw (same target) refl
 
 pub fault_same : (f g : ℕ → Bool) (total slot : ℕ) (insn : Insn) → ((k : ℕ) → f k ≡ g k) → instruction_fault f total slot insn ≡ instruction_fault g total slot insn
-fault_same f g total slot insn same = rw (jump_same f g total slot (jump_distance insn) same) refl
+fault_same f g total slot insn same = rw (jump_same f g total slot (jump_target slot insn) same) refl
 
 pub fault_here : (code : List Insn) (slot : ℕ) (insn : Insn) → instruction_at code slot ≡ Some insn → fault_at code slot ≡ instruction_fault (is_begin code) (total_slots code) slot insn
 fault_here code slot insn found = rw found refl
@@ -40,15 +40,17 @@ IsEdgeFault slot (JumpIntoWide named) = named ≡ slot
 IsEdgeFault slot (FallsOff named) = named ≡ slot
 IsEdgeFault slot (Unreachable named) = ⊥
 
-tests_named : (outside begins : Bool) (slot : ℕ) (fault : ShapeFault) → cond outside (Some (JumpOutside slot)) (cond begins None (Some (JumpIntoWide slot))) ≡ Some fault → IsEdgeFault slot fault
-tests_named true begins slot fault e = let is : JumpOutside slot ≡ fault = cc in subst (IsEdgeFault slot) is refl
-tests_named false true slot fault e = absurd cc
-tests_named false false slot fault e = let is : JumpIntoWide slot ≡ fault = cc in subst (IsEdgeFault slot) is refl
+tests_named : (back outside begins : Bool) (slot : ℕ) (fault : ShapeFault) →
+    cond back (Some (JumpBackward slot)) (cond outside (Some (JumpOutside slot)) (cond begins None (Some (JumpIntoWide slot)))) ≡ Some fault → IsEdgeFault slot fault
+tests_named true outside begins slot fault e = let is : JumpBackward slot ≡ fault = cc in subst (IsEdgeFault slot) is refl
+tests_named false true begins slot fault e = let is : JumpOutside slot ≡ fault = cc in subst (IsEdgeFault slot) is refl
+tests_named false false true slot fault e = absurd cc
+tests_named false false false slot fault e = let is : JumpIntoWide slot ≡ fault = cc in subst (IsEdgeFault slot) is refl
 
-jump_named : (begins : ℕ → Bool) (total slot : ℕ) (distance : Option ℤ) (fault : ShapeFault) → jump_fault begins total slot distance ≡ Some fault → IsEdgeFault slot fault
+jump_named : (begins : ℕ → Bool) (total slot : ℕ) (target : Option ℤ) (fault : ShapeFault) → jump_fault begins total slot target ≡ Some fault → IsEdgeFault slot fault
 jump_named begins total slot None fault e = absurd cc
-jump_named begins total slot (Some (negsuc distance)) fault e = let is : JumpBackward slot ≡ fault = cc in subst (IsEdgeFault slot) is refl
-jump_named begins total slot (Some (pos distance)) fault e = tests_named (leb total (slot + 1 + distance)) (begins (slot + 1 + distance)) slot fault e
+jump_named begins total slot (Some (negsuc below)) fault e = let is : JumpBackward slot ≡ fault = cc in subst (IsEdgeFault slot) is refl
+jump_named begins total slot (Some (pos target)) fault e = tests_named (leb target slot) (leb total target) (begins target) slot fault e
 
 fall_named : (falls outside : Bool) (slot : ℕ) (fault : ShapeFault) → cond (falls && outside) (Some (FallsOff slot)) None ≡ Some fault → IsEdgeFault slot fault
 fall_named true true slot fault e = let is : FallsOff slot ≡ fault = cc in subst (IsEdgeFault slot) is refl
@@ -61,8 +63,8 @@ either_named (Some one) two slot fault first second e = first e
 
 fault_named : (begins : ℕ → Bool) (total slot : ℕ) (insn : Insn) (fault : ShapeFault) → instruction_fault begins total slot insn ≡ Some fault → IsEdgeFault slot fault
 fault_named begins total slot insn fault e =
-    either_named (jump_fault begins total slot (jump_distance insn)) (fall_fault total slot insn) slot fault
-    (jump_named begins total slot (jump_distance insn) fault) (fall_named (falls_through insn) (leb total (slot + slot_count insn)) slot fault) e
+    either_named (jump_fault begins total slot (jump_target slot insn)) (fall_fault total slot insn) slot fault
+    (jump_named begins total slot (jump_target slot insn) fault) (fall_named (falls_through insn) (leb total (slot + slot_count insn)) slot fault) e
 
 bad_named : (code : List Insn) (slot : ℕ) (fault : ShapeFault) → IsEdgeFault slot fault → IsFirstBadEdge code slot fault → IsFirstFault code fault
 bad_named code slot (JumpBackward named) same bad = subst (λ at. IsFirstBadEdge code at (JumpBackward named)) (sym same) bad
@@ -88,47 +90,46 @@ no_fall_fault true true fault e is = absurd cc
 no_fall_fault true false fault e is = refl
 no_fall_fault false outside fault e is = absurd cc
 
--- the fault that a jump has by two tests
-no_jump_fault : (outside begins : Bool) (one two : ShapeFault) → cond outside (Some one) (cond begins None (Some two)) ≡ None → (outside ≡ false) × IsTrue begins
-no_jump_fault true begins one two e = absurd cc
-no_jump_fault false true one two e = (refl, refl)
-no_jump_fault false false one two e = absurd cc
+-- the fault that a jump has by three tests
+no_jump_fault : (back outside begins : Bool) (one two three : ShapeFault) → cond back (Some one) (cond outside (Some two) (cond begins None (Some three))) ≡ None →
+    (back ≡ false) × (outside ≡ false) × IsTrue begins
+no_jump_fault true outside begins one two three e = absurd cc
+no_jump_fault false true begins one two three e = absurd cc
+no_jump_fault false false true one two three e = (refl, refl, refl)
+no_jump_fault false false false one two three e = absurd cc
 
 pub record IsTarget (code : List Insn) (slot target : ℕ) : Type 0 where
   pub up : slot < target
   pub within : target < total_slots code
   pub begins : IsTrue (is_begin code target)
 
-jump_is_up : (code : List Insn) (slot target : ℕ) (distance : ℤ) → jump_fault (is_begin code) (total_slots code) slot (Some distance) ≡ None → pos target ≡ pos (slot + 1) +ℤ distance → IsTarget code slot target
-jump_is_up code slot target (negsuc distance) none e = absurd cc
-jump_is_up code slot target (pos distance) none e =
-    let tests = no_jump_fault (leb (total_slots code) (slot + 1 + distance)) (is_begin code (slot + 1 + distance)) (JumpOutside slot) (JumpIntoWide slot) none in
-    let same : target ≡ slot + 1 + distance = cc in
-    let below : slot + 1 + distance < total_slots code = leb-false (total_slots code) (slot + 1 + distance) tests.0 in
-    record { up = omega arith; within = omega arith; begins = rw same tests.1 }
+jump_is_up : (code : List Insn) (slot target : ℕ) → jump_fault (is_begin code) (total_slots code) slot (Some (pos target)) ≡ None → IsTarget code slot target
+jump_is_up code slot target none =
+    let tests = no_jump_fault (leb target slot) (leb (total_slots code) target) (is_begin code target) (JumpBackward slot) (JumpOutside slot) (JumpIntoWide slot) none in
+    record { up = leb-false target slot tests.0; within = leb-false (total_slots code) target tests.1; begins = tests.2 }
 
 -- an edge of an instruction without a fault goes up to an instruction
 pub edge_is_up : (code : List Insn) (slot : ℕ) (insn : Insn) (target : ℕ) → fault_at code slot ≡ None → instruction_at code slot ≡ Some insn → IsEdge slot insn target → IsTarget code slot target
 edge_is_up code slot insn target none found edge =
-    let parts = no_fault_parts (jump_fault (is_begin code) (total_slots code) slot (jump_distance insn)) (fall_fault (total_slots code) slot insn) (sym (fault_here code slot insn found) ∙ none) in
+    let parts = no_fault_parts (jump_fault (is_begin code) (total_slots code) slot (jump_target slot insn)) (fall_fault (total_slots code) slot insn) (sym (fault_here code slot insn found) ∙ none) in
     ⊎_elim
     (λ fall.
     let tested : leb (total_slots code) (slot + slot_count insn) ≡ false = no_fall_fault (falls_through insn) (leb (total_slots code) (slot + slot_count insn)) (FallsOff slot) parts.1 fall.0 in
     let below : slot + slot_count insn < total_slots code = leb-false (total_slots code) (slot + slot_count insn) tested in
     let same : target ≡ slot + slot_count insn = fall.1 in
     record { up = omega (arith, some_slots insn); within = omega arith; begins = rw same (next_begins code slot insn found below) })
-    (λ jump. jump_is_up code slot target jump.0 (ap (jump_fault (is_begin code) (total_slots code) slot) (sym jump.1) ∙ parts.0) jump.2)
+    (λ jump. jump_is_up code slot target (ap (jump_fault (is_begin code) (total_slots code) slot) (sym jump) ∙ parts.0))
     edge
 
 -- a jump without a fault goes forward
-forward : (begins : ℕ → Bool) (total slot : ℕ) (distance : ℤ) → jump_fault begins total slot (Some distance) ≡ None → pos 0 ≤ℤ distance
-forward begins total slot (negsuc distance) none = absurd cc
-forward begins total slot (pos distance) none = record { le = yes_leb (omega arith) }
+forward : (begins : ℕ → Bool) (total slot : ℕ) (target : ℤ) → jump_fault begins total slot (Some target) ≡ None → pos 0 ≤ℤ target
+forward begins total slot (negsuc below) none = absurd cc
+forward begins total slot (pos target) none = record { le = yes_leb (omega arith) }
 
-pub goes_forward : (code : List Insn) (slot : ℕ) (insn : Insn) → fault_at code slot ≡ None → instruction_at code slot ≡ Some insn → GoesForward insn
-goes_forward code slot insn none found distance is =
-    let parts = no_fault_parts (jump_fault (is_begin code) (total_slots code) slot (jump_distance insn)) (fall_fault (total_slots code) slot insn) (sym (fault_here code slot insn found) ∙ none) in
-    forward (is_begin code) (total_slots code) slot distance (ap (jump_fault (is_begin code) (total_slots code) slot) (sym is) ∙ parts.0)
+pub goes_forward : (code : List Insn) (slot : ℕ) (insn : Insn) → fault_at code slot ≡ None → instruction_at code slot ≡ Some insn → GoesForward slot insn
+goes_forward code slot insn none found target is =
+    let parts = no_fault_parts (jump_fault (is_begin code) (total_slots code) slot (jump_target slot insn)) (fall_fault (total_slots code) slot insn) (sym (fault_here code slot insn found) ∙ none) in
+    forward (is_begin code) (total_slots code) slot target (ap (jump_fault (is_begin code) (total_slots code) slot) (sym is) ∙ parts.0)
 
 -- ---- the pass over all edges
 

@@ -1,5 +1,5 @@
 -- Each step that goes on does so along an edge.
-use Rattle.std.proofs.Common.{◌≡◌, ℕ, ◌+◌, ◌%◌, ◌^◌, Bool, true, false, ℤ, pos, negsuc, ◌+ℤ◌, List, Option, Some, None, Ok, Err, refl, sym, inl, inr, ◌*◌}
+use Rattle.std.proofs.Common.{◌≡◌, ℕ, ◌+◌, ◌%◌, ◌^◌, Bool, true, false, ℤ, pos, negsuc, ◌+ℤ◌, List, Option, Some, None, Ok, Err, refl, sym, ap, inl, inr, ◌*◌}
 use Rattle.isa.specs.declared.operation.Width.{Width}
 use Rattle.isa.specs.declared.operation.Size.{Size}
 use Rattle.isa.specs.declared.operation.Extension.{Extension}
@@ -24,7 +24,8 @@ use Rattle.semantics.specs.Helpers.{map_argument, map_at, bytes_argument, number
 use Rattle.semantics.specs.declared.linux.Helper.{Helper}
 use Rattle.semantics.specs.declared.linux.Helper.TheVariants.{MapLookupElem, MapUpdateElem, MapDeleteElem, KtimeGetNs, GetSmpProcessorId, XdpAdjustHead}
 use Rattle.semantics.specs.Linux.{helper_of}
-use Rattle.semantics.specs.Semantics.{first_key, value_address, value_address_step, word_value, stored_places, stored_number, with_fetched, expected_number, at_next_slot, jump_step, branch_step, written_register, write_step, load_cell_step, load_step, load_signed_step, store_step, after_fetch, fetched_register, atomic_step, exit_step, instruction_step}
+use Rattle.semantics.specs.Semantics.{first_key, value_address, value_address_step, word_value, stored_places, stored_number, with_fetched, expected_number, at_next_slot, jump_step, branch_step, written_register, write_step, load_cell_step, load_step, load_signed_step, store_step, after_fetch, atomic_step, exit_step, instruction_step}
+use Rattle.isa.specs.Atomic.{fetched_register}
 use Rattle.ebpf_decode.specs.Jumps.{jump_distance}
 use Rattle.image_shape.specs.Edges.{falls_through, IsEdge}
 use Rattle.image_shape.specs.Runs.{GoesTo, RunsFollowEdges}
@@ -173,12 +174,12 @@ step_goes program state (Neg width dst) = write_goes (IsEdge state.slot (Neg wid
 step_goes program state (Movsx extension dst src) = write_goes (IsEdge state.slot (Movsx extension dst src)) (Movsx extension dst src) state dst _ (inl (refl, refl))
 step_goes program state (Movsx32 extension dst src) = write_goes (IsEdge state.slot (Movsx32 extension dst src)) (Movsx32 extension dst src) state dst _ (inl (refl, refl))
 step_goes program state (End order width dst) = write_goes (IsEdge state.slot (End order width dst)) (End order width dst) state dst _ (inl (refl, refl))
-step_goes program state (Ja distance) = jump_goes (IsEdge state.slot (Ja distance)) state distance (pos (state.slot + 1) +ℤ distance) refl (λ n is. inr (distance, refl, is))
-step_goes program state (Ja32 distance) = jump_goes (IsEdge state.slot (Ja32 distance)) state distance (pos (state.slot + 1) +ℤ distance) refl (λ n is. inr (distance, refl, is))
+step_goes program state (Ja distance) = jump_goes (IsEdge state.slot (Ja distance)) state distance (pos (state.slot + 1) +ℤ distance) refl (λ n is. inr (ap Some (sym is)))
+step_goes program state (Ja32 distance) = jump_goes (IsEdge state.slot (Ja32 distance)) state distance (pos (state.slot + 1) +ℤ distance) refl (λ n is. inr (ap Some (sym is)))
 step_goes program state (JumpIf width test dst source distance) =
     goes (IsEdge state.slot (JumpIf width test dst source distance)) (jump_outcome state width test (register_value state dst) (source_value state source)) (branch_step (JumpIf width test dst source distance) state distance) (λ taken.
     branch_goes (IsEdge state.slot (JumpIf width test dst source distance)) (JumpIf width test dst source distance) state distance taken
-    (jump_goes (IsEdge state.slot (JumpIf width test dst source distance)) state distance (pos (state.slot + 1) +ℤ distance) refl (λ n is. inr (distance, refl, is))) (inl (refl, refl)))
+    (jump_goes (IsEdge state.slot (JumpIf width test dst source distance)) state distance (pos (state.slot + 1) +ℤ distance) refl (λ n is. inr (ap Some (sym is)))) (inl (refl, refl)))
 step_goes program state (Ldx size dst src offset) = load_goes (IsEdge state.slot (Ldx size dst src offset)) program (Ldx size dst src offset) state dst _ offset size (inl (refl, refl))
 step_goes program state (Ldxs extension dst src offset) = load_signed_goes (IsEdge state.slot (Ldxs extension dst src offset)) program (Ldxs extension dst src offset) state dst _ offset extension (inl (refl, refl))
 step_goes program state (St size dst offset immediate) = store_goes (IsEdge state.slot (St size dst offset immediate)) program (St size dst offset immediate) state _ offset size _ (inl (refl, refl))

@@ -1,6 +1,6 @@
 -- What a fact of each member of a list becomes when the list changes, and what stands at a place.
 use Rattle.std.proofs.Common.{◌≡◌, ◌≢◌, ◌⊎◌, ℕ, zero, suc, ◌+◌, ◌<◌, ◌≤◌, List, [], ◌∷◌, ◌++◌, length, set, get_or, refl, sym, ap, subst, inl, inr, ⊎_elim, arith}
-use Rattle.std.specs.Prelude.{remove, Option, Some, slice_get}
+use Rattle.std.specs.Prelude.{remove, Some, slice_get}
 use mathlib.Core.Option.{some, some-injective, some-ne-none}
 use lib.ListN.{get_elem?}
 use Rattle.semantics.specs.Each.{Each}

@@ -11,6 +11,7 @@ use Rattle.semantics.specs.declared.call.Caller.{Caller}
 use Rattle.semantics.specs.declared.call.Caller.TheVariants.{Worker, Controller, Reclaimer}
 use Rattle.semantics.specs.declared.call.Entry.{Entry}
 use Rattle.semantics.specs.declared.call.Reply.{Reply}
+use Rattle.semantics.specs.declared.call.Reply.TheVariants.{Cell}
 use Rattle.semantics.specs.declared.call.Call.{Call}
 use Rattle.semantics.specs.declared.call.Call.TheVariants.{Enter, Leave, Lookup, Load, Store, Atomic, Update, Delete, Reclaim}
 use Rattle.semantics.specs.declared.plan.PresentKey.{PresentKey}
@@ -19,7 +20,7 @@ use Rattle.semantics.specs.declared.linux.UpdateFlags.{UpdateFlags}
 use Rattle.semantics.specs.declared.linux.UpdateFlags.TheVariants.{Any, NoExist, Exist}
 use Rattle.semantics.specs.Linux.{update_flags_of}
 use Rattle.semantics.specs.ShardPlan.{ShardPlan}
-use Rattle.semantics.specs.Reclamation.{is_worker, entered_by, entered_at, found_cell, held_by, holds, worker_numbers, began_after, is_reclaimable, Holds, IsReclaimable}
+use Rattle.semantics.specs.Reclamation.{is_worker, entered_by, entered_at, held_by, holds, worker_numbers, began_after, is_reclaimable, Holds, IsReclaimable}
 use Rattle.semantics.specs.LeastRecentlyUsed.{is_least_recently_used}
 use Rattle.semantics.specs.SequentialShard.{SequentialShard, without_key, without_found, after_eviction, with_new_key, with_value, with_cell, updated_where, shard_after_call, shard_after, cell_of_key, cell_of_kind, update_answer, update_answer_by, delete_answer, delete_answer_of_kind, present_key, lookup_reply, reply_of}
 use Rattle.semantics.specs.History.{shard_of_call, is_inside_worker, is_own_key, meets_part, IsLegalStep, IsLegalHistory}
@@ -220,6 +221,16 @@ pub record IsGuardedBy (found : Option ℕ) (cell place : ℕ) (retired : List R
   pub is : found ≡ Some entered
   pub late : IsLate cell entered retired
 
+-- the reply is the cell of this id
+abbrev pub found_cell : Reply → ℕ → Bool
+found_cell (Cell cell) id = cell.id == id
+found_cell reply id = false
+
+-- after a Lookup its worker holds the cell that it found, and what it held before
+pub held_by_lookup : (number : ℕ) (key : List ℕ) (reply : Reply) (cell : ℕ) (before : Bool) → held_by (Lookup number key) reply cell before ≡ (found_cell reply cell || before)
+held_by_lookup number key (Cell found) cell before = refl
+held_by_lookup number key reply cell before = refl
+
 pub reply_finds : (plan : ShardPlan) (found : Option ℕ) (cell : ℕ) → found_cell (lookup_reply plan found) cell ≡ true → found ≡ Some cell
 reply_finds plan None cell finds = cc
 reply_finds plan (Some id) cell finds = let same : id ≡ cell = grind (arith, nat_tests) in ap Some same
@@ -264,7 +275,7 @@ own_call plan history shard who (Leave number) reply worker cell sound none own 
 own_call plan history shard who (Lookup number key) reply worker cell sound none own met replied held before holds =
     own_lookup plan history shard who number key worker cell sound none own (first_true (is_inside_worker plan history who) (is_own_key plan key) met) held before
     (found_cell (lookup_reply plan (cell_of_key plan shard key)) cell) refl
-    (let at_reply : Reply → Type 0 = λ one. (found_cell one cell || held) ≡ true in subst at_reply replied holds)
+    (let at_reply : Reply → Type 0 = λ one. (found_cell one cell || held) ≡ true in subst at_reply replied (sym (held_by_lookup number key reply cell held) ∙ holds))
 own_call plan history shard who call reply worker cell sound none own met replied held before holds = own_other plan history shard call worker cell (before holds)
 
 guarded_cons : (plan : ShardPlan) (worker cell : ℕ) (entry : Entry) (older : List Entry) → IsLegalStep plan older entry → (holds worker cell older ≡ true → IsGuarded worker cell older (shard_after plan older).retired) → (own : Bool) → is_worker worker entry.who ≡ own → (if own then held_by entry.call entry.reply cell (holds worker cell older) else holds worker cell older) ≡ true → IsGuardedBy (if own then entered_by entry.call (length older) (entered_at worker older) else entered_at worker older) cell (length older) (shard_after plan (entry ∷ older)).retired

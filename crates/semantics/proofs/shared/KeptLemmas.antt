@@ -17,11 +17,11 @@ use Rattle.semantics.specs.declared.plan.RetiredCell.{RetiredCell}
 use Rattle.semantics.specs.LittleEndian.{number_of_bytes}
 use Rattle.semantics.specs.ShardPlan.{ShardPlan, capacity}
 use Rattle.semantics.specs.PlanLimits.{IsPlan}
-use Rattle.semantics.specs.Reclamation.{is_worker, found_cell, held_by, holds, is_reclaimable}
+use Rattle.semantics.specs.Reclamation.{is_worker, held_by, holds, is_reclaimable}
 use Rattle.semantics.specs.SequentialShard.{SequentialShard, opening_cells, cell_of_present, cell_of_kind, cell_of_key, without_key, without_found, after_eviction, with_value, update_answer, delete_answer, present_key, shard_after_call, shard_after, lookup_reply, reply_of, is_kept, is_kept_of_kind}
 use Rattle.semantics.specs.History.{IsLegalHistory}
 use Rattle.semantics.proofs.shared.LawLemmas.{updated_where-keeps, after_eviction-keeps, history_grows}
-use Rattle.semantics.proofs.shared.HoldingLemmas.{reply_finds, each_held_stays}
+use Rattle.semantics.proofs.shared.HoldingLemmas.{found_cell, held_by_lookup, reply_finds, each_held_stays}
 
 -- ---- maps with keys
 
@@ -178,7 +178,7 @@ held_own : (call : Call) (reply : Reply) (cell : ℕ) (before : Bool) (P : Type 
     ((number : ℕ) (key : List ℕ) → call ≡ Lookup number key → found_cell reply cell ≡ true → P) → P
 held_own (Enter number) reply cell before P held earlier found = absurd cc
 held_own (Leave number) reply cell before P held earlier found = absurd cc
-held_own (Lookup number key) reply cell before P held earlier found = by_found (found_cell reply cell) refl held
+held_own (Lookup number key) reply cell before P held earlier found = by_found (found_cell reply cell) refl (sym (held_by_lookup number key reply cell before) ∙ held)
   where
     by_found : (this : Bool) → found_cell reply cell ≡ this → (this || before) ≡ true → P
     by_found true is held = found number key refl is

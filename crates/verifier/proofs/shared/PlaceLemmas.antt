@@ -1,6 +1,6 @@
 -- A place in a run at which what is known is sound: the instruction there does not trap, and where the run goes on, what is known is
 -- sound again. Nothing is said of other runs, nor of who holds which cell.
-use Rattle.std.proofs.Common.{◌≡◌, inl, inr, ℕ, ◌+◌, ◌<◌, ◌≤◌, ◌==◌, true, pos, List, Option, Some, Ok, Err, IsTrue, refl, sym, subst, arith}
+use Rattle.std.proofs.Common.{◌≡◌, inl, inr, ℕ, ◌+◌, ◌<◌, ◌≤◌, ◌==◌, true, pos, List, Option, Some, Ok, Err, IsTrue, refl, sym, ap, subst, ◌∙◌, arith}
 use Rattle.std.specs.Prelude.{◌+ℤ◌}
 use Rattle.std.specs.List.{AllByRecursion}
 use Rattle.std.proofs.lemmas.Bool.Decides.{nat_tests}
@@ -10,6 +10,7 @@ use Rattle.ebpf_decode.specs.declared.insn.Insn.TheVariants.{Lddw, Ldmap, Ldval}
 use Rattle.ebpf_decode.specs.declared.map.MapDef.{MapDef}
 use Rattle.ebpf_decode.specs.ImageContents.{IsEncodable}
 use Rattle.ebpf_decode.specs.InstructionEncoding.{slot_count, total_slots, FieldsFit}
+use Rattle.ebpf_decode.specs.Jumps.{distance_of_jump, jump_target}
 use Rattle.semantics.specs.declared.call.Call.{Call}
 use Rattle.semantics.specs.declared.call.Reply.{Reply}
 use Rattle.semantics.specs.MachineState.{MachineState}
@@ -25,13 +26,14 @@ use Rattle.abstract_state.specs.declared.state.State.{State}
 use Rattle.abstract_state.specs.States.{Checked}
 use Rattle.abstract_state.specs.Flow.{falls, flow_of}
 use Rattle.abstract_state.specs.Abstraction.{Held, Abstracts}
-use Rattle.abstract_state.specs.Soundness.{IsShaped, HoldsAfter, GoesOn, Lands, distance_of_jump, JumpsForward, Follows}
+use Rattle.abstract_state.specs.Soundness.{IsShaped, HoldsAfter, GoesOn, Lands, JumpsForward, Follows}
 use Rattle.abstract_state.proofs.shared.FlowLaw.{flow_sound}
 use Rattle.image_shape.specs.Edges.{IsEdge, is_begin}
 use Rattle.image_shape.specs.Runs.{GoesTo}
 use Rattle.image_shape.proofs.shared.LawLemmas.{edges_go_up}
 use Rattle.image_shape.proofs.shared.RunLemmas.{runs_follow_edges}
 use Rattle.verifier.specs.Dataflow.{known_at, is_at, is_target, is_next, Accepts}
+use Rattle.verifier.proofs.Distances.{jump_goes}
 use Rattle.verifier.proofs.PassLemmas.{forward}
 use Rattle.verifier.proofs.ArrivalLemmas.{IsWhole, whole_below, IsSoundAt, IsTaken, by_fall, by_jump, by_test, by_no_test, sound_there}
 use Rattle.verifier.proofs.InstructionLemmas.{fields_here, begins_within, begun, let_through}
@@ -132,8 +134,8 @@ same_true a b h = grind (arith, nat_tests)
 pub falls_there : (slot : ℕ) (insn : Insn) (target : ℕ) → target ≡ slot + slot_count insn → is_next slot insn target ≡ true
 falls_there slot insn target e = same_true target (slot + slot_count insn) e
 
-pub jumps_there : (slot : ℕ) (insn : Insn) (target : ℕ) → pos target ≡ pos (slot + 1) +ℤ distance_of_jump insn → is_target slot insn target ≡ true
-jumps_there slot insn target e = subst (λ place. is_at place target ≡ true) e (same_true target target refl)
+pub jumps_there : (slot : ℕ) (insn : Insn) (target : ℕ) → jump_target slot insn ≡ Some (pos target) → is_target slot insn target ≡ true
+jumps_there slot insn target e = subst (λ place. is_at place target ≡ true) (sym e) (same_true target target refl)
 
 -- only a conditional jump splits, and it takes one slot
 no_split : (first : Checked State) (taken fallen : State) → falls first ≡ Ok (Splits taken fallen) → ⊥
@@ -152,20 +154,24 @@ falls_arrive : (maps : List MapDef) (held : Held) (state : MachineState) (insn :
 falls_arrive maps held state insn there next on =
     record { there = there; taken = by_fall (falls_there state.slot insn next.slot on.at); sound = on.sound; counted = on.counted }
 
-target_there : (maps : List MapDef) (held : Held) (state : MachineState) (insn : Insn) (there : State) (next : MachineState) →
+-- the instruction's target counts its distance from the next slot
+abbrev HasTarget : MachineState → Insn → Type 0
+HasTarget state insn = jump_target state.slot insn ≡ Some (pos (state.slot + 1) +ℤ distance_of_jump insn)
+
+target_there : (maps : List MapDef) (held : Held) (state : MachineState) (insn : Insn) (there : State) (next : MachineState) → HasTarget state insn →
     (lands : Lands maps held there state next (distance_of_jump insn)) → is_target state.slot insn next.slot ≡ true
-target_there maps held state insn there next lands =
-    subst (λ slot. is_target state.slot insn slot ≡ true) (sym lands.goes_on.at) (jumps_there state.slot insn lands.slot lands.target)
+target_there maps held state insn there next goes lands =
+    subst (λ slot. is_target state.slot insn slot ≡ true) (sym lands.goes_on.at) (jumps_there state.slot insn lands.slot (goes ∙ ap Some (sym lands.target)))
 
-jumps_arrive : (maps : List MapDef) (held : Held) (state : MachineState) (insn : Insn) (there : State) (next : MachineState) →
+jumps_arrive : (maps : List MapDef) (held : Held) (state : MachineState) (insn : Insn) (there : State) (next : MachineState) → HasTarget state insn →
     Lands maps held there state next (distance_of_jump insn) → Arrives maps held state insn (Jumps there) next
-jumps_arrive maps held state insn there next lands =
-    record { there = there; taken = by_jump (target_there maps held state insn there next lands); sound = lands.goes_on.sound; counted = lands.goes_on.counted }
+jumps_arrive maps held state insn there next goes lands =
+    record { there = there; taken = by_jump (target_there maps held state insn there next goes lands); sound = lands.goes_on.sound; counted = lands.goes_on.counted }
 
-taken_arrives : (maps : List MapDef) (held : Held) (state : MachineState) (insn : Insn) (taken fallen : State) (next : MachineState) →
+taken_arrives : (maps : List MapDef) (held : Held) (state : MachineState) (insn : Insn) (taken fallen : State) (next : MachineState) → HasTarget state insn →
     Lands maps held taken state next (distance_of_jump insn) → Arrives maps held state insn (Splits taken fallen) next
-taken_arrives maps held state insn taken fallen next lands =
-    record { there = taken; taken = by_test fallen (target_there maps held state insn taken next lands); sound = lands.goes_on.sound; counted = lands.goes_on.counted }
+taken_arrives maps held state insn taken fallen next goes lands =
+    record { there = taken; taken = by_test fallen (target_there maps held state insn taken next goes lands); sound = lands.goes_on.sound; counted = lands.goes_on.counted }
 
 fallen_arrives : (maps : List MapDef) (held : Held) (state : MachineState) (insn : Insn) (taken fallen : State) (next : MachineState) → slot_count insn ≡ 1 →
     GoesOn maps held fallen state next (state.slot + 1) → Arrives maps held state insn (Splits taken fallen) next
@@ -177,8 +183,10 @@ goes_on : (program : Program) (held : Held) (known : State) (state : MachineStat
     flow_of program.maps known state.slot insn ≡ Ok flow → Follows program held flow state insn (Continues next) → Arrives program.maps held state insn flow next
 goes_on program held known state insn Ends next flows follows = absurd follows
 goes_on program held known state insn (Falls there) next flows follows = falls_arrive program.maps held state insn there next follows
-goes_on program held known state insn (Jumps there) next flows follows = jumps_arrive program.maps held state insn there next follows
-goes_on program held known state insn (Splits taken fallen) next flows (inl lands) = taken_arrives program.maps held state insn taken fallen next lands
+goes_on program held known state insn (Jumps there) next flows follows =
+    jumps_arrive program.maps held state insn there next (jump_goes program.maps known state.slot insn (Jumps there) flows refl) follows
+goes_on program held known state insn (Splits taken fallen) next flows (inl lands) =
+    taken_arrives program.maps held state insn taken fallen next (jump_goes program.maps known state.slot insn (Splits taken fallen) flows refl) lands
 goes_on program held known state insn (Splits taken fallen) next flows (inr on) =
     fallen_arrives program.maps held state insn taken fallen next (splits_in_one program.maps known state.slot insn taken fallen flows) on
 

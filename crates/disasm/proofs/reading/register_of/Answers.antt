@@ -3,7 +3,7 @@ use Rattle.std.specs.List.{find}
 use Rattle.std.specs.Option.{unwrap_or}
 use Rattle.isa.specs.declared.operation.Register.{Register}
 use Rattle.isa.specs.declared.operation.Register.TheVariants.{R0}
-use Rattle.disasm.specs.declared.reading.TheConstants.{REGISTERS}
+use Rattle.isa.specs.declared.operation.TheConstants.{REGISTERS}
 use Rattle.disasm.specs.AssemblyText.{register_text}
 use Rattle.disasm.proofs.Registers.{register_again}
 use Rattle.disasm.proofs.reading.register_of.Goals as goal

@@ -1,6 +1,6 @@
 use Rattle.std.proofs.Common.{◌≡◌, ◌+◌, length, drop, rules, ap, ◌∙◌, sym, subst}
 use Rattle.wire.specs.Checksum.{ones_sum_of}
-use Rattle.ipip.specs.PlainIpv4.{IsPlainIpv4, type_of_service, total_length}
+use Rattle.wire.specs.PlainIpv4.{IsPlainIpv4, type_of_service, total_length}
 use Rattle.ipip.specs.Encapsulation.{outer_header, ethernet_header, with_headers, encapsulated_frame}
 use Rattle.ipip.proofs.HeaderLemmas.{outer_header-total, outer_header-time_to_live}
 use Rattle.ipip.proofs.FrontLemmas.{HasParts, encapsulated-parts, parts-plain}

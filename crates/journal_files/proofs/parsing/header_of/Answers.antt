@@ -14,13 +14,13 @@ returns-then-ne c =
     not_headed c.args.maps.now c.args.text.now c.in-Some.line.now c.in-Some.rest.now c.put_header.new.out.items c.header_read-options.result parts.0 parts.1 (search rules) c.header_read-options.ensures
     (λ e fits. search rules)
 
-pub returns-then-not-are_options : goal.returns-then-not-are_options
-returns-then-not-are_options c =
+pub returns-then-not-fit : goal.returns-then-not-fit
+returns-then-not-fit c =
     let parts = rw c.in-Some.is at (split_parts 10 c.args.text.now c.split_once.result c.split_once.ensures.cases (omega arith)) in
     not_headed c.args.maps.now c.args.text.now c.in-Some.line.now c.in-Some.rest.now c.put_header.new.out.items c.header_read-options.result parts.0 parts.1 (search rules) c.header_read-options.ensures
-    (λ e fits. let is = c.are_options.ensures.1 fits in search rules)
+    (λ e fits. let is = c.fit.ensures.allowed.1 fits in search rules)
 
-pub returns-else-not-are_options : goal.returns-else-not-are_options
-returns-else-not-are_options c =
+pub returns-else-not-fit : goal.returns-else-not-fit
+returns-else-not-fit c =
     let parts = rw c.in-Some.is at (split_parts 10 c.args.text.now c.split_once.result c.split_once.ensures.cases (omega arith)) in
     headed c.args.maps.now c.args.text.now c.in-Some.line.now c.in-Some.rest.now c.put_header.new.out.items c.header_read-options.result parts.0 (search rules) (search rules) (search rules) c.header_read-options.ensures

@@ -11,7 +11,7 @@ use Rattle.image_shape.proofs.shared.SlotLemmas.{slot_within, next_at, whole_at,
 use Rattle.verifier.specs.Rejects.{reject_of_refusal}
 use Rattle.verifier.specs.Dataflow.{states_of}
 use Rattle.verifier.specs.Resolving.{AreMemories}
-use Rattle.verifier.proofs.PassLemmas.{here_not_back, held_here, held_at_start, held_on, accepted, rejected, wanting}
+use Rattle.verifier.proofs.PassLemmas.{here_forward, held_here, held_at_start, held_on, accepted, rejected, wanting}
 use Rattle.verifier.proofs.ReaderLemmas.{mark_at_start, mark_next, mark_whole}
 use Rattle.verifier.proofs.MemoryLemmas.{noted_at_start, noted_next}
 use Rattle.verifier.proofs.pass.pass.Goals as goal
@@ -37,7 +37,7 @@ advance-requires-clause-within c =
 
 pub advance-requires-clause-forward : goal.advance-requires-clause-forward
 advance-requires-clause-forward c =
-    here_not_back c.args.code.now c.slots.insn-index (Alu Bits32 Add R0 (Imm (pos 0))) c.slots.slot c.requires.shape c.slots-test.true
+    here_forward c.args.code.now c.slots.insn-index (Alu Bits32 Add R0 (Imm (pos 0))) c.slots.slot c.requires.shape c.slots-test.true
     c.slots.invariant.at
 
 pub returns-in-Err-Memory-clause-rejected : goal.returns-in-Err-Memory-clause-rejected

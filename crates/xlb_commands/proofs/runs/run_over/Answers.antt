@@ -1,7 +1,7 @@
 use Rattle.std.proofs.Common.{◌≡◌, ◌∙◌, ◌≢◌, ◌<◌, ◌≤◌, ◌↔◌, ◌⊎◌, inl, inr, refl, ap, ℕ, ℤ, List, Bool, true, false, IsTrue, IsFalse, Result, Err, arith, rules, subst}
 use Rattle.ebpf_decode.specs.declared.map.MapDef.{MapDef}
 use Rattle.map_updates.specs.declared.update.MapUpdate.{MapUpdate}
-use Rattle.shards.specs.Opening.{are_served_options}
+use Rattle.semantics.specs.ShardPlan.{are_served_options}
 use Rattle.shards.specs.declared.fault.OpenFault.{OpenFault}
 use Rattle.shards.specs.declared.fault.OpenFault.TheVariants.{BadOptions, Memory}
 use Rattle.single_run.specs.declared.fault.RunFault.{RunFault}

@@ -17,7 +17,7 @@ returns-in-Some c = λ history are at.
     let read : slice_get held.workers.items c.from.result ≡ Some c.in-Some.findings.now = slice_get_read held.workers.items _ c.from.result c.in-Some.findings.now refl within c.in-Some.ensures.value in
     let who = c.in-Worker.is ∙ ap worker_of (sym same) in
     on_both c.note.result c.note.ensures.since c.note.ensures.found
-    (noted held _ c.args.entry.now history c.from.result c.in-Some.findings.now c.note.new.self c.args.place who are at read refl)
+    (noted held _ c.args.entry.now history c.from.result c.in-Some.findings.now c.note.new.self c.of.result c.args.place who c.of.ensures are at read refl)
 
 pub returns-in-None : goal.returns-in-None
 returns-in-None c = λ history are at.

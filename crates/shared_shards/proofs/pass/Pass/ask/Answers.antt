@@ -5,6 +5,7 @@ use Rattle.semantics.specs.declared.call.Entry.{Entry}
 use Rattle.shard_core.specs.FewHeld.{FewAreHeld}
 use Rattle.semantics.specs.declared.call.SectionChange.{SectionChange}
 use Rattle.semantics.specs.Sections.{section_change}
+use Rattle.semantics.specs.Reclamation.{held_change}
 use Rattle.semantics.specs.CallerLaws.{own_entries}
 use Rattle.semantics.specs.History.{IsLegalHistory}
 use Rattle.shared_shards.specs.declared.rule.Known.{Known}
@@ -12,7 +13,7 @@ use Rattle.shared_shards.specs.CallerView.{CallerView}
 use Rattle.shared_shards.specs.Seats.{view_of}
 use Rattle.shared_shards.specs.Passes.{PassView, view_at, view_of_badge, known_in, pass_view, IsElsewhereSame, IsFlagOf, flag_at, flag_after}
 use Rattle.shared_shards.proofs.Badges.{view_is, view_after, same_elsewhere, pass_after}
-use Rattle.shared_shards.specs.HeldCells.{HeldIds, held_at, held_change, held_when, AreHeldOf}
+use Rattle.shared_shards.specs.HeldCells.{HeldIds, held_at, held_when, AreHeldOf}
 use Rattle.shared_shards.proofs.Flags.{flag_moves}
 use Rattle.shared_shards.proofs.HeldLemmas.{held_moves_at, room_when_at}
 use Rattle.shared_shards.proofs.Transport.{answered_moves, turned_away_moves, next_moves}

@@ -1,5 +1,5 @@
 use Rattle.shared_shards.proofs.Moves.{parts}
-use Rattle.shared_shards.proofs.seats.part.Goals as goal
+use Rattle.shared_shards.proofs.sharing.part.Goals as goal
 
 pub split_seat-requires : goal.split_seat-requires
 split_seat-requires c =

@@ -1,6 +1,6 @@
 use Rattle.std.proofs.Common.{sym, ◌∙◌}
 use Rattle.shared_shards.proofs.Moves.{adds}
-use Rattle.shared_shards.proofs.seats.note.Goals as goal
+use Rattle.shared_shards.proofs.sharing.note.Goals as goal
 
 pub compare_exchange_with-requires : goal.compare_exchange_with-requires
 compare_exchange_with-requires c =

@@ -3,7 +3,7 @@ use Rattle.std.specs.Prelude.{reverse}
 use Rattle.semantics.specs.History.{Meets}
 use Rattle.shard_core.specs.JournaledShard.{JournaledShard}
 use Rattle.shared_shards.proofs.Conditions.{meets_by_own}
-use Rattle.shared_shards.proofs.desk.Desk.ask.Goals as goal
+use Rattle.shared_shards.proofs.sharing.Desk.ask.Goals as goal
 
 pub make-answer-requires : goal.make-answer-requires
 make-answer-requires g c =

@@ -1,7 +1,7 @@
 -- Which Ethernet frames hold a whole IPv4 packet without options (RFC 791, section 3.1),
 -- and the fields of its header.
 use Rattle.std.specs.Prelude.{◌≡◌, ℕ, ◌+◌, ◌≤◌, List, length, slice_index}
-use Rattle.wire.specs.FlowForm.{be_word_at}
+use Rattle.wire.specs.BigEndian.{be_word_at}
 
 -- the type of service of the packet in the frame
 abbrev pub type_of_service : List ℕ → ℕ

@@ -1,6 +1,6 @@
 use Rattle.std.proofs.Common.{ap, ◌∙◌}
 use Rattle.shared_shards.proofs.Moves.{joins, sees}
-use Rattle.shared_shards.proofs.seats.join.Goals as goal
+use Rattle.shared_shards.proofs.sharing.join.Goals as goal
 
 pub join_seat-requires : goal.join_seat-requires
 join_seat-requires c =

@@ -1,0 +1,13 @@
+use Rattle.std.proofs.Common.{rules, ◌≡◌, false, refl}
+use Rattle.semantics.specs.SequentialShard.{is_full_of_keys}
+use Rattle.one_thread_map.specs.OneThread.{state_of}
+use Rattle.one_thread_map.proofs.changes.evict.Goals as goal
+
+-- src/changes.rt:54:1
+pub returns-else-is_full_of_keys-clause-state : goal.returns-else-is_full_of_keys-clause-state
+returns-else-is_full_of_keys-clause-state c =
+    let said : c.is_full_of_keys.result ≡ is_full_of_keys c.args.plan.now (state_of c.args.state.now) =
+    c.is_full_of_keys.ensures (state_of c.args.state.now) c.of.ensures.present c.of.ensures.waiting in
+    let no : c.is_full_of_keys.result ≡ false = c.if-is_full_of_keys.false in
+    let not_full : is_full_of_keys c.args.plan.now (state_of c.args.state.now) ≡ false = cc in
+    rw not_full refl
