@@ -1,6 +1,6 @@
 -- An address in the value of an array's element 0: its lookup is served, and finds a cell, whatever reply a run may be given.
-use Rattle.std.proofs.Common.{◌≡◌, ℕ, ◌+◌, ◌*◌, ◌%◌, ◌<◌, ◌≤◌, ℤ, pos, negsuc, List, Option, Some, None, Ok, Err, refl, sym, ◌∙◌, ap, subst, arith}
-use Rattle.std.specs.Prelude.{All, IsTrue, slice_get}
+use Rattle.std.proofs.Common.{◌≡◌, ℕ, ◌+◌, ◌*◌, ◌%◌, ◌<◌, ℤ, pos, negsuc, Option, Some, None, Ok, refl, sym, ◌∙◌, ap, subst, arith}
+use Rattle.std.specs.Prelude.{slice_get}
 use Rattle.std.specs.List.{AllByRecursion}
 use Rattle.std.proofs.lemmas.List.Elements.{All-from_recursion}
 use Rattle.isa.specs.declared.operation.Register.{Register}
@@ -28,8 +28,8 @@ use Rattle.abstract_state.specs.declared.refusal.Refusal.TheVariants.{UnknownMap
 use Rattle.abstract_state.specs.declared.state.State.{State}
 use Rattle.abstract_state.specs.States.{◌>>=◌, with_kind}
 use Rattle.abstract_state.specs.Places.{at_offset, place_within}
-use Rattle.abstract_state.specs.Flow.{writable, array_size, address_in, value_address, address_flow, falls, flow_of}
-use Rattle.abstract_state.specs.Soundness.{IsServedLookup, GoesOn, FallsOn, Follows, HoldsAfter}
+use Rattle.abstract_state.specs.Flow.{writable, array_size, address_in, value_address, address_flow, flow_of}
+use Rattle.abstract_state.specs.Soundness.{GoesOn, FallsOn, Follows, HoldsAfter}
 use Rattle.abstract_state.specs.Abstraction.{Held, Abstracts}
 use Rattle.abstract_state.proofs.shared.Writing.{written}
 use Rattle.abstract_state.proofs.shared.Inverting.{err_not_ok, ok_value, ok_then, place_is}
@@ -94,10 +94,12 @@ addressed program held state machine a sizes dst may place offset definition kno
     rw (map_known program place definition known, written_is machine dst Uninitialized may) (
       record {
         map = place;
-        definition = definition;
-        known = known;
-        key_size = sym (subst (λ kind. IsIndexSize kind definition.key_size) array (each_at HasImageSizes program.maps place definition sizes known).index_size);
-        bytes = All-from_recursion (λ byte. byte < 256) first_key (omega arith, (omega arith, (omega arith, (omega arith, tt))));
+        of_map = record {
+          definition = definition;
+          known = known;
+          key_size = sym (subst (λ kind. IsIndexSize kind definition.key_size) array (each_at HasImageSizes program.maps place definition sizes known).index_size);
+          bytes = All-from_recursion (λ byte. byte < 256) first_key (omega arith, (omega arith, (omega arith, (omega arith, tt))));
+        };
         own = own;
       },
       given,

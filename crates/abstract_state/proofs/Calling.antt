@@ -1,6 +1,6 @@
 -- Calls of helpers: those that change a map, those that answer a number, and the move of the packet's start.
 use Rattle.std.proofs.Common.{◌≡◌, inl, inr, ℕ, suc, ◌+◌, ◌<◌, ◌≤◌, ◌==◌, ◌&&◌, Bool, true, false, ℤ, pos, negsuc, List, length, take, drop, map, replicate, refl, ◌∙◌, ap, arith, subst}
-use Rattle.std.specs.Prelude.{Ok, Err, All, IsTrue, Some, None, FitsSigned, slice_get, if◌then◌else◌}
+use Rattle.std.specs.Prelude.{Ok, All, IsTrue, Some, None, FitsSigned, slice_get, if◌then◌else◌}
 use Rattle.std.specs.Int.{w32}
 use Rattle.std.proofs.lemmas.Bool.{leb-true, and_parts}
 use Rattle.std.proofs.lemmas.List.{get_or-map, length-map}
@@ -32,7 +32,7 @@ use Rattle.abstract_state.specs.declared.kind.StackWord.{StackWord}
 use Rattle.abstract_state.specs.declared.kind.StackWord.TheVariants.{Spilled, Bytes}
 use Rattle.abstract_state.specs.declared.fact.Fact.TheVariants.{HeadMoved}
 use Rattle.semantics.specs.declared.linux.Helper.TheVariants.{MapLookupElem, MapUpdateElem, MapDeleteElem, KtimeGetNs, GetSmpProcessorId, XdpAdjustHead}
-use Rattle.abstract_state.specs.declared.refusal.Refusal.TheVariants.{StackBounds, StackUnset, UnknownHelper}
+use Rattle.abstract_state.specs.declared.refusal.Refusal.TheVariants.{StackBounds, StackUnset}
 use Rattle.abstract_state.specs.declared.flow.Flow.{Flow}
 use Rattle.abstract_state.specs.declared.state.State.{State}
 use Rattle.abstract_state.specs.States.{◌>>=◌, kind_of, word_of, key_size_of, value_size_of}
@@ -40,14 +40,14 @@ use Rattle.abstract_state.specs.Facts.{told_moved, told_kind, told_word, told}
 use Rattle.abstract_state.specs.Words.{are_bytes_set}
 use Rattle.abstract_state.specs.Calls.{known_helper, map_argument, stack_argument, number_argument, context_argument, is_inside_stack, when_all, key_arguments, update_arguments, head_arguments, returned, any_number, call_of}
 use Rattle.abstract_state.specs.Flow.{reads_arguments, falls, flow_of}
-use Rattle.abstract_state.specs.Soundness.{GoesOn, FallsOn, Follows, HoldsAfter}
+use Rattle.abstract_state.specs.Soundness.{IsKeyOf, GoesOn, FallsOn, Follows, HoldsAfter}
 use Rattle.abstract_state.specs.Abstraction.{Held, Setting, KindCovers, IsNumberIn, IsKnownMap, IsStackPlace, WordCovers, places_of, setting_of, Abstracts}
 use Rattle.abstract_state.proofs.JoinWords.{spilled_covers}
 use Rattle.abstract_state.proofs.shared.Writing.{number_below}
 use Rattle.abstract_state.proofs.shared.Checking.{ok_same, ok_then, ok_if, falls_made}
 use Rattle.abstract_state.proofs.shared.ByteNumbers.{Reads}
 use Rattle.abstract_state.proofs.shared.StackReading.{set_bytes}
-use Rattle.abstract_state.proofs.shared.StoreSoundness.{immediate_fits}
+use Rattle.abstract_state.proofs.shared.FlowSteps.{immediate_fits}
 use Rattle.abstract_state.proofs.shared.LoadedNumbers.{in_full}
 use Rattle.abstract_state.proofs.LookingUp.{returned_sound, map_kind, stack_kind, KnowsKey, knows_key, map_known, key_read, one_slot, settled, lookup_sound, number_sound}
 
@@ -132,6 +132,9 @@ key_found program held state machine a map k =
           (subst (λ n. are_bytes_set state k.key n ≡ true) same k.set);
     }
 
+abbrev is_key : (program : Program) (machine : MachineState) (map : ℕ) (f : KeyFound program machine map) → IsKeyOf program.maps map f.key.bytes
+is_key program machine map f = record { definition = f.definition; known = f.same; key_size = f.key.count_is; bytes = f.key.small }
+
 -- ---- deletions
 
 delete_follows : (program : Program) (held : Held) (state : State) (machine : MachineState) → Abstracts program.maps held state machine →
@@ -139,7 +142,7 @@ delete_follows : (program : Program) (held : Held) (state : State) (machine : Ma
 delete_follows program held state machine a map k =
     let f = key_found program held state machine a map k
     in rw (f.named, f.known, f.key.read) (
-      record { map = map; definition = f.definition; known = f.same; key_size = f.key.count_is; bytes = f.key.small; own = refl },
+      record { map = map; of_map = is_key program machine map f; own = refl },
       delete_answered program held state machine a (shard_of_key map f.definition.kind program.shards f.key.bytes) f.key.bytes,
     )
 
@@ -245,9 +248,9 @@ update_follows program held state machine a map k =
     in let number = number_read (register_value machine R4) flags.number flags.is
     in rw (f.named, f.known, f.key.read, value.read, number) (
       record {
-        at = record { map = map; definition = f.definition; known = f.same; key_size = f.key.count_is; bytes = f.key.small; own = refl };
-        value_size = value.count_is;
-        value_bytes = value.small;
+        map = map;
+        of_map = record { at = is_key program machine map f; value_size = value.count_is; value_bytes = value.small };
+        own = refl;
         small_flags = flags.word;
       },
       update_answered program held state machine a (shard_of_key map f.definition.kind program.shards f.key.bytes) f.key.bytes value.bytes flags.number,
@@ -286,7 +289,7 @@ word_beside t generation size (Spilled kind) places c =
     spilled_covers t (told_moved kind) places (record { value = c.value; covered = beside t generation size kind c.value c.covered; stored = c.stored })
 word_beside t generation size (Bytes set) places c = c
 
-moved_bytes : (distance : ℤ) (frame : FrameView) → All (λ byte. byte < 256) frame.bytes → All (λ byte. byte < 256) (moved_head distance frame).bytes
+moved_bytes : (delta : ℤ) (frame : FrameView) → All (λ byte. byte < 256) frame.bytes → All (λ byte. byte < 256) (moved_head delta frame).bytes
 moved_bytes (pos forward) frame each = All-drop (λ byte. byte < 256) forward frame.bytes each
 moved_bytes (negsuc back) frame each = All-append (λ byte. byte < 256) (replicate (suc back) 0) frame.bytes (All-replicate (λ byte. byte < 256) (suc back) 0 (omega arith)) each
 
@@ -297,22 +300,22 @@ where_moved false moved frame one other = other
 
 -- the run's state with its packet's start moved
 abbrev head_moved : MachineState → ℤ → MachineState
-head_moved machine distance = record machine { frame = adjusted_head distance machine.frame; generation = machine.generation + 1 }
+head_moved machine delta = record machine { frame = adjusted_head delta machine.frame; generation = machine.generation + 1 }
 
-moved_sound : (maps : List MapDef) (held : Held) (state : State) (machine : MachineState) (distance : ℤ) → Abstracts maps held state machine →
-    Abstracts maps held (told HeadMoved state) (head_moved machine distance)
-moved_sound maps held state machine distance a = record {
+moved_sound : (maps : List MapDef) (held : Held) (state : State) (machine : MachineState) (delta : ℤ) → Abstracts maps held state machine →
+    Abstracts maps held (told HeadMoved state) (head_moved machine delta)
+moved_sound maps held state machine delta a = record {
   ids = a.ids;
   registers = λ register.
       let l : register_number register < 11 = number_below register
       in let e : length state.registers ≡ 11 = a.is_machine.eleven_kinds
       in rw (get_or-map (told_kind HeadMoved) state.registers (register_number register) Unset Unset (omega arith))
-      (beside (setting_of maps held a.ids (head_moved machine distance)) machine.generation (length machine.frame.bytes) (kind_of state register)
+      (beside (setting_of maps held a.ids (head_moved machine delta)) machine.generation (length machine.frame.bytes) (kind_of state register)
       (register_value machine register) (a.registers register));
   stack = λ word l.
       let e : length state.stack ≡ 64 = a.is_machine.word_count
       in rw (get_or-map (told_word HeadMoved) state.stack word (Spilled Unset) (Spilled Unset) (omega arith))
-      (word_beside (setting_of maps held a.ids (head_moved machine distance)) machine.generation (length machine.frame.bytes) (word_of state word)
+      (word_beside (setting_of maps held a.ids (head_moved machine delta)) machine.generation (length machine.frame.bytes) (word_of state word)
       (places_of word machine.stack) (a.stack word l));
   start = λ h. absurd (omega arith);
   bases = a.bases;
@@ -323,29 +326,29 @@ moved_sound maps held state machine distance a = record {
     word_count = length-map state.stack (told_word HeadMoved) ∙ a.is_machine.word_count;
     worker = a.is_machine.worker;
     time = a.is_machine.time;
-    frame = where_moved (head_can_move distance machine.frame) (moved_head distance machine.frame) machine.frame
-        (moved_bytes distance machine.frame a.is_machine.frame) a.is_machine.frame;
+    frame = where_moved (head_can_move delta machine.frame) (moved_head delta machine.frame) machine.frame
+        (moved_bytes delta machine.frame a.is_machine.frame) a.is_machine.frame;
   };
 }
 
-answer_fits : (distance : ℤ) (frame : FrameView) → FitsSigned w32 (adjust_answer distance frame)
-answer_fits distance frame = by_test (head_can_move distance frame)
+answer_fits : (delta : ℤ) (frame : FrameView) → FitsSigned w32 (adjust_answer delta frame)
+answer_fits delta frame = by_test (head_can_move delta frame)
   where
     by_test : (t : Bool) → FitsSigned w32 (if t then pos 0 else negsuc 21)
     by_test true = search arith
     by_test false = search arith
 
-adjusted_sound : (program : Program) (held : Held) (state : State) (machine : MachineState) (distance : ℤ) → Abstracts program.maps held state machine →
-    GoesOn program.maps held (returned any_number (told HeadMoved state)) machine (adjusted_state machine distance) (machine.slot + 1)
-adjusted_sound program held state machine distance a =
-    let moved : Abstracts program.maps held (told HeadMoved state) (head_moved machine distance) = moved_sound program.maps held state machine distance a
+adjusted_sound : (program : Program) (held : Held) (state : State) (machine : MachineState) (delta : ℤ) → Abstracts program.maps held state machine →
+    GoesOn program.maps held (returned any_number (told HeadMoved state)) machine (adjusted_state machine delta) (machine.slot + 1)
+adjusted_sound program held state machine delta a =
+    let moved : Abstracts program.maps held (told HeadMoved state) (head_moved machine delta) = moved_sound program.maps held state machine delta a
     in record {
       at = refl;
       counted = refl;
-      sound = returned_sound program.maps held held (told HeadMoved state) (head_moved machine distance) moved.ids moved (λ map shard cell h. h) (λ id h. refl) (λ id h. refl)
-          moved.bases any_number (Number (twos_complement 64 (adjust_answer distance machine.frame)))
-          (in_full U64 (twos_complement 64 (adjust_answer distance machine.frame))
-          (immediate_fits (adjust_answer distance machine.frame) (answer_fits distance machine.frame)));
+      sound = returned_sound program.maps held held (told HeadMoved state) (head_moved machine delta) moved.ids moved (λ map shard cell h. h) (λ id h. refl) (λ id h. refl)
+          moved.bases any_number (Number (twos_complement 64 (adjust_answer delta machine.frame)))
+          (in_full U64 (twos_complement 64 (adjust_answer delta machine.frame))
+          (immediate_fits (adjust_answer delta machine.frame) (answer_fits delta machine.frame)));
     }
 
 context_kind : (kind : Kind) (register : Register) (done : Unit {0}) → context_argument kind register ≡ Ok done → kind ≡ Ctx

@@ -45,7 +45,7 @@ use Rattle.abstract_state.proofs.shared.Checking.{ok_same, ok_then, falls_made, 
 use Rattle.abstract_state.proofs.shared.Accesses.{IsAligned, IsWithin, atomic_found, cell_reached, aligned_cell_reached}
 use Rattle.abstract_state.proofs.shared.LoadedNumbers.{in_full}
 use Rattle.abstract_state.proofs.Loading.{load_size}
-use Rattle.abstract_state.proofs.Storing.{narrow_is_number}
+use Rattle.abstract_state.proofs.StoredPlaces.{narrow_is_number}
 
 -- ---- numbers of a width
 

@@ -13,7 +13,7 @@ use Rattle.isa.specs.declared.operation.Source.TheVariants.{Imm}
 use Rattle.isa.specs.declared.operation.Register.{Register}
 use Rattle.ebpf_decode.specs.declared.map.MapDef.{MapDef}
 use Rattle.semantics.specs.LittleEndian.{reaches}
-use Rattle.semantics.specs.RegisterValue.{RegisterValue, Number, PacketPointer, CellPointer}
+use Rattle.semantics.specs.RegisterValue.{RegisterValue, Number, PacketPointer}
 use Rattle.semantics.specs.RegisterValue as meaning
 use Rattle.semantics.specs.MachineState.{MachineState}
 use Rattle.semantics.specs.Step.{Outcome}

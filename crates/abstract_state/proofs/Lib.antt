@@ -15,6 +15,7 @@ pub mod SignedLoading
 pub mod LookingUp
 pub mod Calling
 pub mod StackWriting
-pub mod Storing
+pub mod StoredPlaces
 pub mod CellWriting
+pub mod Storing
 pub mod Addressing

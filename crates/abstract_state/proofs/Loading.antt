@@ -1,6 +1,6 @@
 -- Loads: what a register is then known to have.
 use Rattle.std.proofs.Common.{◌≡◌, ℕ, ◌+◌, ◌*◌, ◌/◌, ◌^◌, ◌<◌, ◌≤◌, Bool, true, false, ◌==◌, ℤ, pos, negsuc, List, length, take, drop, refl, sym, ◌∙◌, ap, arith, subst}
-use Rattle.std.specs.Prelude.{Some, None, Ok, Err, IsTrue, ◌+ℤ◌, slice_get, if◌then◌else◌}
+use Rattle.std.specs.Prelude.{Some, None, Ok, IsTrue, ◌+ℤ◌, slice_get, if◌then◌else◌}
 use Rattle.isa.specs.declared.operation.Size.{Size}
 use Rattle.isa.specs.declared.operation.Size.TheVariants.{U8, U16, U32, U64}
 use Rattle.isa.specs.declared.operation.Register.{Register}
@@ -11,7 +11,7 @@ use Rattle.ebpf_decode.specs.InstructionEncoding.{slot_count}
 use Rattle.semantics.specs.declared.call.Call.TheVariants.{Load}
 use Rattle.semantics.specs.declared.call.Reply.{Reply}
 use Rattle.semantics.specs.declared.call.Reply.TheVariants.{Entered, Left, Cell, Null, Word, Done, Answer, Freed}
-use Rattle.semantics.specs.RegisterValue.{RegisterValue, Uninitialized, Number, ContextPointer, StackPointer, PacketPointer, CellPointer}
+use Rattle.semantics.specs.RegisterValue.{RegisterValue, Uninitialized, Number, PacketPointer, CellPointer}
 use Rattle.semantics.specs.RegisterValue as meaning
 use Rattle.semantics.specs.MachineState.{MachineState, register_value, with_register}
 use Rattle.semantics.specs.Program.{Program}
@@ -26,7 +26,6 @@ use Rattle.abstract_scalar.specs.declared.interval.Interval.{Interval}
 use Rattle.abstract_scalar.specs.Intervals.{interval_of, full_of}
 use Rattle.abstract_state.specs.declared.kind.Kind.{Kind}
 use Rattle.abstract_state.specs.declared.kind.Kind.TheVariants.{Unset, Scalar, Ctx, Stack, Packet, PacketEnd, Map, ValueOrNull, Value}
-use Rattle.abstract_state.specs.declared.refusal.Refusal.TheVariants.{ContextAccess}
 use Rattle.abstract_state.specs.declared.flow.Flow.{Flow}
 use Rattle.abstract_state.specs.declared.state.State.{State}
 use Rattle.abstract_state.specs.States.{◌>>=◌, kind_of, with_kind, word_of, value_size_of}

@@ -238,10 +238,7 @@ lookup_follows program held state machine a map k =
     in rw (e1, e2, e3) (
       record {
         map = map;
-        definition = c.definition;
-        known = c.known;
-        key_size = r.count_is;
-        bytes = All-from_recursion (λ byte. byte < 256) r.bytes r.small;
+        of_map = record { definition = c.definition; known = c.known; key_size = r.count_is; bytes = All-from_recursion (λ byte. byte < 256) r.bytes r.small };
         own = refl;
       },
       given program held state machine a map c.definition c.known r.bytes,

@@ -25,7 +25,7 @@ use Rattle.abstract_state.specs.declared.kind.Kind.TheVariants.{Unset, Scalar, C
 use Rattle.abstract_state.specs.declared.refusal.Refusal.TheVariants.{WrongKind, PacketBounds, StackBounds, ValueBounds}
 use Rattle.abstract_state.specs.States.{Checked, ◌>>=◌, stack_size, value_size_of}
 use Rattle.abstract_state.specs.Places.{place_within, offsets_within}
-use Rattle.abstract_state.specs.Arithmetic.{distance_of, moves_pointers, moved_pointer, moved_value, moved_far, pointer_sum, is_movable, combined_pointer}
+use Rattle.abstract_state.specs.Arithmetic.{delta_of, moves_pointers, moved_pointer, moved_value, moved_far, pointer_sum, is_movable, combined_pointer}
 use Rattle.abstract_state.specs.Abstraction.{Ids, Setting, KindCovers, IsNumberIn, IsStackPlace, IsPacketPlace, IsLiveCell}
 use Rattle.abstract_state.proofs.shared.Between.{IsBetween, between}
 use Rattle.abstract_state.proofs.shared.Inverting.{err_not_ok, ok_value, ok_then, ok_if, place_is}
@@ -33,15 +33,15 @@ use Rattle.abstract_state.proofs.shared.Following.{Gives, gives}
 
 -- ---- how far
 
-distance_is : (width : Width) (op : AluOp) (n : ℕ) → moves_pointers width op ≡ true → pointer_distance width op (Number n) ≡ Ok (distance_of op n)
-distance_is Bits64 Add n h = refl
-distance_is Bits64 Sub n h = refl
-distance_is Bits64 op n h = absurd (false≢true h)
-distance_is Bits32 op n h = absurd (false≢true h)
+delta_is : (width : Width) (op : AluOp) (n : ℕ) → moves_pointers width op ≡ true → pointer_distance width op (Number n) ≡ Ok (delta_of op n)
+delta_is Bits64 Add n h = refl
+delta_is Bits64 Sub n h = refl
+delta_is Bits64 op n h = absurd (false≢true h)
+delta_is Bits32 op n h = absurd (false≢true h)
 
 -- a number of less than 17 bits is not negative
-small_distance : (n : ℕ) → n ≤ 65535 → signed_value 64 n ≡ pos n
-small_distance n h = let l : n < 2 ^ 63 = omega arith in rw (lt-ltb n (2 ^ 63) l) refl
+small_delta : (n : ℕ) → n ≤ 65535 → signed_value 64 n ≡ pos n
+small_delta n h = let l : n < 2 ^ 63 = omega arith in rw (lt-ltb n (2 ^ 63) l) refl
 
 -- ---- by a single number
 
@@ -54,8 +54,8 @@ past_base base off to d is =
 
 -- the value of a pointer moved by a number
 moved_by : (width : Width) (op : AluOp) (n : ℕ) (u v : RegisterValue) (make : ℤ → RegisterValue) → moves_pointers width op ≡ true → v ≡ Number n →
-    combined_value width op u v ≡ at_distance (pointer_distance width op v) make → combined_value width op u v ≡ Ok (make (distance_of op n))
-moved_by width op n u v make moves is e = e ∙ ap (λ o. at_distance o make) (ap (pointer_distance width op) is ∙ distance_is width op n moves)
+    combined_value width op u v ≡ at_distance (pointer_distance width op v) make → combined_value width op u v ≡ Ok (make (delta_of op n))
+moved_by width op n u v make moves is e = e ∙ ap (λ o. at_distance o make) (ap (pointer_distance width op) is ∙ delta_is width op n moves)
 
 -- a number that moves a pointer, and what stands for the result
 pub record Moves (s : Setting) (slot : ℕ) (width : Width) (op : AluOp) (i : Interval) (v : RegisterValue) : Type 0 where
@@ -66,33 +66,33 @@ pub record Moves (s : Setting) (slot : ℕ) (width : Width) (op : AluOp) (i : In
 
 stack_gives : (s : Setting) (slot : ℕ) (width : Width) (op : AluOp) (i : Interval) (u v : RegisterValue) (place : ℕ) (dst : Register) (kind : Kind) →
     IsStackPlace place u → Moves s slot width op i v → is_single i ≡ true →
-    moved_pointer s.maps (Stack place) (distance_of op i.low) dst ≡ Ok kind → Gives s slot kind (combined_value width op u v)
+    moved_pointer s.maps (Stack place) (delta_of op i.low) dst ≡ Ok kind → Gives s slot kind (combined_value width op u v)
 stack_gives s slot width op i u v place dst kind c m single e =
-    let p = ok_then (place_within (pos place +ℤ distance_of op i.low) stack_size StackBounds) (λ to. Ok (Stack to)) kind e
-    in let to = place_is (pos place +ℤ distance_of op i.low) stack_size StackBounds p.value p.is
+    let p = ok_then (place_within (pos place +ℤ delta_of op i.low) stack_size StackBounds) (λ to. Ok (Stack to)) kind e
+    in let to = place_is (pos place +ℤ delta_of op i.low) stack_size StackBounds p.value p.is
     in let n : m.number.number ≡ i.low = single_is i m.number.number single m.number.within
-    in let made : combined_value width op u v ≡ Ok (StackPointer (c.at +ℤ distance_of op i.low)) =
+    in let made : combined_value width op u v ≡ Ok (StackPointer (c.at +ℤ delta_of op i.low)) =
     moved_by width op i.low u v (λ d. StackPointer (c.at +ℤ d)) m.moves (m.number.is ∙ ap Number n) (rw (c.is) refl)
     in subst (λ k. Gives s slot k (combined_value width op u v)) (ok_value (Stack p.value) kind p.next)
     (let later : s.slot < slot = m.later in
-    gives s slot (Stack p.value) (combined_value width op u v) (StackPointer (c.at +ℤ distance_of op i.low)) (omega arith) m.bases made
-    (record { at = c.at +ℤ distance_of op i.low; is = refl; counted = stack_moved s place p.value c.at (distance_of op i.low) c.counted to.is }))
+    gives s slot (Stack p.value) (combined_value width op u v) (StackPointer (c.at +ℤ delta_of op i.low)) (omega arith) m.bases made
+    (record { at = c.at +ℤ delta_of op i.low; is = refl; counted = stack_moved s place p.value c.at (delta_of op i.low) c.counted to.is }))
 
 packet_gives : (s : Setting) (slot : ℕ) (width : Width) (op : AluOp) (i : Interval) (u v : RegisterValue) (id off range : ℕ) (dst : Register) (kind : Kind) →
     IsPacketPlace s id off range u → Moves s slot width op i v → is_single i ≡ true →
-    moved_pointer s.maps (Packet id off range) (distance_of op i.low) dst ≡ Ok kind → Gives s slot kind (combined_value width op u v)
+    moved_pointer s.maps (Packet id off range) (delta_of op i.low) dst ≡ Ok kind → Gives s slot kind (combined_value width op u v)
 packet_gives s slot width op i u v id off range dst kind c m single e =
-    let p = ok_then (place_within (pos off +ℤ distance_of op i.low) 65535 PacketBounds) (λ to. Ok (Packet id to range)) kind e
-    in let to = place_is (pos off +ℤ distance_of op i.low) 65535 PacketBounds p.value p.is
+    let p = ok_then (place_within (pos off +ℤ delta_of op i.low) 65535 PacketBounds) (λ to. Ok (Packet id to range)) kind e
+    in let to = place_is (pos off +ℤ delta_of op i.low) 65535 PacketBounds p.value p.is
     in let n : m.number.number ≡ i.low = single_is i m.number.number single m.number.within
-    in let made : combined_value width op u v ≡ Ok (PacketPointer s.generation (pos (s.ids.base id + off) +ℤ distance_of op i.low)) =
+    in let made : combined_value width op u v ≡ Ok (PacketPointer s.generation (pos (s.ids.base id + off) +ℤ delta_of op i.low)) =
     moved_by width op i.low u v (λ d. PacketPointer s.generation (pos (s.ids.base id + off) +ℤ d)) m.moves (m.number.is ∙ ap Number n) (rw (c.is) refl)
     in subst (λ k. Gives s slot k (combined_value width op u v)) (ok_value (Packet id p.value range) kind p.next)
     (let later : s.slot < slot = m.later in
     gives s slot (Packet id p.value range) (combined_value width op u v)
-    (PacketPointer s.generation (pos (s.ids.base id + off) +ℤ distance_of op i.low)) (omega arith) m.bases made
+    (PacketPointer s.generation (pos (s.ids.base id + off) +ℤ delta_of op i.low)) (omega arith) m.bases made
     (record {
-      is = ap (PacketPointer s.generation) (past_base (s.ids.base id) off p.value (distance_of op i.low) to.is);
+      is = ap (PacketPointer s.generation) (past_base (s.ids.base id) off p.value (delta_of op i.low) to.is);
       reached = c.reached;
       earlier = c.earlier;
       near = to.within;
@@ -120,19 +120,19 @@ ends_moved s map low high to e =
 
 value_gives : (s : Setting) (slot : ℕ) (width : Width) (op : AluOp) (i : Interval) (u v : RegisterValue) (map id : ℕ) (off : Offsets) (dst : Register) (kind : Kind) →
     IsLiveCell s map id off u → Moves s slot width op i v → is_single i ≡ true →
-    moved_pointer s.maps (Value map id off) (distance_of op i.low) dst ≡ Ok kind → Gives s slot kind (combined_value width op u v)
+    moved_pointer s.maps (Value map id off) (delta_of op i.low) dst ≡ Ok kind → Gives s slot kind (combined_value width op u v)
 value_gives s slot width op i u v map id off dst kind c m single e =
-    let p = ok_then (offsets_within s.maps map (pos off.low +ℤ distance_of op i.low) (pos off.high +ℤ distance_of op i.low)) (λ to. Ok (Value map id to)) kind e
-    in let to = ends_moved s map (pos off.low +ℤ distance_of op i.low) (pos off.high +ℤ distance_of op i.low) p.value p.is
-    in let there : IsBetween c.at (distance_of op i.low) p.value.low p.value.high =
-    between off.low off.high c.at p.value.low p.value.high (distance_of op i.low) c.least c.most to.low_is to.high_is
+    let p = ok_then (offsets_within s.maps map (pos off.low +ℤ delta_of op i.low) (pos off.high +ℤ delta_of op i.low)) (λ to. Ok (Value map id to)) kind e
+    in let to = ends_moved s map (pos off.low +ℤ delta_of op i.low) (pos off.high +ℤ delta_of op i.low) p.value p.is
+    in let there : IsBetween c.at (delta_of op i.low) p.value.low p.value.high =
+    between off.low off.high c.at p.value.low p.value.high (delta_of op i.low) c.least c.most to.low_is to.high_is
     in let n : m.number.number ≡ i.low = single_is i m.number.number single m.number.within
-    in let made : combined_value width op u v ≡ Ok (CellPointer map c.cell.shard c.cell.id (pos c.at +ℤ distance_of op i.low)) =
+    in let made : combined_value width op u v ≡ Ok (CellPointer map c.cell.shard c.cell.id (pos c.at +ℤ delta_of op i.low)) =
     moved_by width op i.low u v (λ d. CellPointer map c.cell.shard c.cell.id (pos c.at +ℤ d)) m.moves (m.number.is ∙ ap Number n) (rw (c.is) refl)
     in subst (λ k. Gives s slot k (combined_value width op u v)) (ok_value (Value map id p.value) kind p.next)
     (let later : s.slot < slot = m.later in
     gives s slot (Value map id p.value) (combined_value width op u v)
-    (CellPointer map c.cell.shard c.cell.id (pos c.at +ℤ distance_of op i.low)) (omega arith) m.bases made
+    (CellPointer map c.cell.shard c.cell.id (pos c.at +ℤ delta_of op i.low)) (omega arith) m.bases made
     (record {
       cell = c.cell;
       found = c.found;
@@ -175,7 +175,7 @@ value_far s V2 slot small i u v map id off source kind c m e =
     in let made : combined_value Bits64 Add u v ≡ Ok (CellPointer map c.cell.shard c.cell.id (pos c.at +ℤ signed_value 64 m.number.number)) =
     moved_by Bits64 Add m.number.number u v (λ d. CellPointer map c.cell.shard c.cell.id (pos c.at +ℤ d)) refl m.number.is (rw (c.is) refl)
     in let place : pos c.at +ℤ signed_value 64 m.number.number ≡ pos (c.at + m.number.number) =
-    ap (λ z. pos c.at +ℤ z) (small_distance m.number.number n) ∙ pos-+ℤ-pos c.at m.number.number
+    ap (λ z. pos c.at +ℤ z) (small_delta m.number.number n) ∙ pos-+ℤ-pos c.at m.number.number
     in subst (λ k. Gives s slot k (combined_value Bits64 Add u v)) (ok_value (Value map id p.value) kind p.next)
     (let later : s.slot < slot = m.later in
     gives s slot (Value map id p.value) (combined_value Bits64 Add u v)
@@ -227,7 +227,7 @@ packet_far s version slot i u v id off range source kind c m e =
     in let made : combined_value Bits64 Add u v ≡ Ok (PacketPointer s.generation (pos (s.ids.base id + off) +ℤ signed_value 64 m.number.number)) =
     moved_by Bits64 Add m.number.number u v (λ d. PacketPointer s.generation (pos (s.ids.base id + off) +ℤ d)) refl m.number.is (rw (c.is) refl)
     in let place : pos (s.ids.base id + off) +ℤ signed_value 64 m.number.number ≡ pos (s.ids.base id + off + m.number.number) =
-    ap (λ z. pos (s.ids.base id + off) +ℤ z) (small_distance m.number.number n) ∙ pos-+ℤ-pos (s.ids.base id + off) m.number.number
+    ap (λ z. pos (s.ids.base id + off) +ℤ z) (small_delta m.number.number n) ∙ pos-+ℤ-pos (s.ids.base id + off) m.number.number
     in subst (λ k. Gives s slot k (combined_value Bits64 Add u v)) (ok_value (Packet s.slot 0 0) kind chosen.next)
     (record {
       ids = with_base s.ids s.slot (s.ids.base id + off + m.number.number);
@@ -263,20 +263,20 @@ by_single false a b x P e f g = g e
 -- a pointer plus or minus a number
 pointer_by : (s : Setting) (version : Version) (slot : ℕ) → SmallValues s → (width : Width) (op : AluOp) (i : Interval) (pointer : Kind) (u v : RegisterValue) (dst source : Register) (kind : Kind) →
     KindCovers s pointer u → Moves s slot width op i v → is_movable pointer ≡ true →
-    (if is_single i then moved_pointer s.maps pointer (distance_of op i.low) dst else moved_far s.maps version s.slot op pointer i source) ≡ Ok kind →
+    (if is_single i then moved_pointer s.maps pointer (delta_of op i.low) dst else moved_far s.maps version s.slot op pointer i source) ≡ Ok kind →
     Gives s slot kind (combined_value width op u v)
 pointer_by s version slot small width op i (Stack place) u v dst source kind c m movable e =
-    by_single (is_single i) (moved_pointer s.maps (Stack place) (distance_of op i.low) dst) (moved_far s.maps version s.slot op (Stack place) i source) kind
+    by_single (is_single i) (moved_pointer s.maps (Stack place) (delta_of op i.low) dst) (moved_far s.maps version s.slot op (Stack place) i source) kind
     (Gives s slot kind (combined_value width op u v)) e
     (λ single one. stack_gives s slot width op i u v place dst kind c m single one)
     (λ far. absurd (stays_near s.maps version op s.slot place i source kind far))
 pointer_by s version slot small width op i (Packet id off range) u v dst source kind c m movable e =
-    by_single (is_single i) (moved_pointer s.maps (Packet id off range) (distance_of op i.low) dst) (moved_far s.maps version s.slot op (Packet id off range) i source) kind
+    by_single (is_single i) (moved_pointer s.maps (Packet id off range) (delta_of op i.low) dst) (moved_far s.maps version s.slot op (Packet id off range) i source) kind
     (Gives s slot kind (combined_value width op u v)) e
     (λ single one. packet_gives s slot width op i u v id off range dst kind c m single one)
     (λ far. packet_far_by s version slot width op i u v id off range source kind c m far)
 pointer_by s version slot small width op i (Value map id off) u v dst source kind c m movable e =
-    by_single (is_single i) (moved_pointer s.maps (Value map id off) (distance_of op i.low) dst) (moved_far s.maps version s.slot op (Value map id off) i source) kind
+    by_single (is_single i) (moved_pointer s.maps (Value map id off) (delta_of op i.low) dst) (moved_far s.maps version s.slot op (Value map id off) i source) kind
     (Gives s slot kind (combined_value width op u v)) e
     (λ single one. value_gives s slot width op i u v map id off dst kind c m single one)
     (λ far. value_far_by s version slot small width op i u v map id off source kind c m far)

@@ -1,187 +1,154 @@
--- Stores: to the stack and to the packet.
-use Rattle.std.proofs.Common.{◌≡◌, inl, inr, ℕ, ◌+◌, ◌/◌, ◌%◌, ◌<◌, ◌≤◌, ℤ, pos, List, length, refl, ◌∙◌, ap, arith}
-use Rattle.std.specs.Prelude.{Ok, All, ◌+ℤ◌}
-use Rattle.std.proofs.lemmas.List.Elements.{All-from_recursion}
+-- Stores: what is known then of the stack, and what a map is asked to store.
+use Rattle.std.proofs.Common.{◌≡◌, ℕ, ◌+◌, ◌/◌, ◌%◌, ◌^◌, ◌<◌, ℤ, pos, refl, sym, arith, subst}
+use Rattle.std.specs.Prelude.{Ok, ◌+ℤ◌}
+use Rattle.isa.specs.Words.{twos_complement}
 use Rattle.isa.specs.declared.operation.Size.{Size}
 use Rattle.isa.specs.declared.operation.Size.TheVariants.{U8, U16, U32, U64}
+use Rattle.isa.specs.declared.operation.Register.{Register}
+use Rattle.isa.specs.declared.operation.Source.TheVariants.{Reg}
 use Rattle.ebpf_decode.specs.declared.insn.Insn.{Insn}
-use Rattle.ebpf_decode.specs.declared.map.MapDef.{MapDef}
-use Rattle.ebpf_decode.specs.InstructionEncoding.{slot_count}
-use Rattle.wire.specs.FrameView.{overwritten_at, with_bytes_at}
-use Rattle.semantics.specs.LittleEndian.{bytes_of_number}
-use Rattle.semantics.specs.RegisterValue.{RegisterValue, Uninitialized, Number, ContextPointer, StackPointer, PacketPointer, MapPointer, CellPointer}
-use Rattle.semantics.specs.RegisterValue as meaning
-use Rattle.semantics.specs.MachineState.{MachineState, StackByte, register_value}
+use Rattle.ebpf_decode.specs.declared.insn.Insn.TheVariants.{St, Stx}
+use Rattle.ebpf_decode.specs.InstructionEncoding.{slot_count, FieldsFit}
+use Rattle.semantics.specs.RegisterValue.{RegisterValue, Number, StackPointer, PacketPointer, CellPointer}
+use Rattle.semantics.specs.MachineState.{MachineState, register_value}
 use Rattle.semantics.specs.Program.{Program}
 use Rattle.isa.specs.InstructionCodes.{size_bytes}
-use Rattle.semantics.specs.Memory.{stack_place, stack_range, packet_range, as_written, spilled_parts}
-use Rattle.semantics.specs.Semantics.{stored_places, store_step}
+use Rattle.semantics.specs.Semantics.{store_step, instruction_step}
+use Rattle.abstract_scalar.specs.Intervals.{constant_of}
 use Rattle.abstract_state.specs.declared.kind.Kind.{Kind}
 use Rattle.abstract_state.specs.declared.kind.Kind.TheVariants.{Unset, Scalar, Ctx, Stack, Packet, PacketEnd, Map, ValueOrNull, Value}
-use Rattle.abstract_state.specs.declared.kind.StackWord.TheVariants.{Spilled, Bytes}
+use Rattle.abstract_state.specs.declared.kind.StackWord.TheVariants.{Bytes}
+use Rattle.abstract_state.specs.declared.flow.Flow.{Flow}
 use Rattle.abstract_state.specs.declared.state.State.{State}
-use Rattle.abstract_state.specs.States.{kind_of, word_of, with_word}
+use Rattle.abstract_state.specs.States.{◌>>=◌, kind_of, word_of, with_word}
 use Rattle.abstract_state.specs.Join.{bytes_of_word}
+use Rattle.abstract_state.specs.Places.{stack_access, packet_access, value_access}
 use Rattle.abstract_state.specs.Words.{narrow_storable, with_set}
-use Rattle.abstract_state.specs.Access.{stack_stored}
-use Rattle.abstract_state.specs.Soundness.{FallsOn}
-use Rattle.abstract_state.specs.Abstraction.{Held, Setting, KindCovers, IsSpilled, WordCovers, places_of, setting_of, Abstracts}
-use Rattle.abstract_state.proofs.shared.Writing.{Extends, covers_later, word_later}
-use Rattle.abstract_state.proofs.shared.Checking.{next_setting, covers_next}
-use Rattle.abstract_state.proofs.shared.ByteNumbers.{bytes_length, bytes_small, as_written_length}
-use Rattle.abstract_state.proofs.shared.Accesses.{IsAligned, stack_reached, stack_moved, packet_moved, packet_reached}
-use Rattle.abstract_state.proofs.shared.LoadedNumbers.{some_bytes}
-use Rattle.abstract_state.proofs.shared.Splicing.{length-spliced, All-spliced}
-use Rattle.abstract_state.proofs.StackWriting.{stored_word, stored_part, stack_stored_sound}
+use Rattle.abstract_state.specs.Access.{stack_stored, stored, store_of}
+use Rattle.abstract_state.specs.Flow.{is_set, reads, reads_both, store_flow, store_register_flow, flow_of}
+use Rattle.abstract_state.specs.Soundness.{FallsOn, Follows}
+use Rattle.abstract_state.specs.Abstraction.{Held, KindCovers, IsStackPlace, setting_of, Abstracts}
+use Rattle.abstract_state.proofs.shared.Checking.{ok_same, ok_then, falls_made}
+use Rattle.abstract_state.proofs.shared.FlowSteps.{immediate_fits}
+use Rattle.abstract_state.proofs.shared.Accesses.{IsAligned, range_found, stack_found, value_found}
+use Rattle.abstract_state.proofs.CellWriting.{cell_stored}
+use Rattle.abstract_state.proofs.StoredPlaces.{AreEight, narrow_is_number, whole_stored, part_stored, packet_stored}
 
--- each word that is known by its bytes has eight of them
-abbrev pub AreEight : State → Type 0
-AreEight state = (word : ℕ) → word < 64 → length (bytes_of_word (word_of state word)) ≡ 8
+-- ---- stores to the stack, by their size
 
--- ---- what is stored
+stack_part : (program : Program) (held : Held) (state : State) (machine : MachineState) (a : Abstracts program.maps held state machine) → AreEight state → (insn : Insn) (size : Size) →
+    (offset : ℤ) (place : ℕ) (v : RegisterValue) → IsStackPlace place v → (kind : Kind) (value : RegisterValue) → KindCovers (setting_of program.maps held a.ids machine) kind value →
+    (s : State) → (stack_access place offset (size_bytes size) >>= (λ from. narrow_storable kind >>= (λ _.
+    Ok (with_word state (from / 8) (Bytes (with_set (bytes_of_word (word_of state (from / 8))) (from % 8) (size_bytes size))))))) ≡ Ok s →
+    FallsOn program held s machine (machine.slot + slot_count insn) (store_step program insn machine v offset size value)
+stack_part program held state machine a eight insn size offset place v c kind value cv s e =
+    let first = ok_then (stack_access place offset (size_bytes size)) (λ from. narrow_storable kind >>= (λ _.
+    Ok (with_word state (from / 8) (Bytes (with_set (bytes_of_word (word_of state (from / 8))) (from % 8) (size_bytes size)))))) s e
+    in let second = ok_then (narrow_storable kind) (λ _.
+    Ok (with_word state (first.0 / 8) (Bytes (with_set (bytes_of_word (word_of state (first.0 / 8))) (first.0 % 8) (size_bytes size))))) s first.1.1
+    in let same : with_word state (first.0 / 8) (Bytes (with_set (bytes_of_word (word_of state (first.0 / 8))) (first.0 % 8) (size_bytes size))) ≡ s =
+    ok_same (Ok (with_word state (first.0 / 8) (Bytes (with_set (bytes_of_word (word_of state (first.0 / 8))) (first.0 % 8) (size_bytes size)))))
+    (with_word state (first.0 / 8) (Bytes (with_set (bytes_of_word (word_of state (first.0 / 8))) (first.0 % 8) (size_bytes size)))) s refl second.1.1
+    in let n = narrow_is_number (setting_of program.maps held a.ids machine) kind value second.0 second.1.0 cv
+    in let found : IsAligned (pos place +ℤ offset) (size_bytes size) 512 first.0 = stack_found place offset (size_bytes size) first.0 first.1.0
+    in subst (λ s. FallsOn program held s machine (machine.slot + slot_count insn) (store_step program insn machine v offset size value)) same
+    (subst (λ v. FallsOn program held (with_word state (first.0 / 8) (Bytes (with_set (bytes_of_word (word_of state (first.0 / 8))) (first.0 % 8) (size_bytes size)))) machine
+    (machine.slot + slot_count insn) (store_step program insn machine v offset size value)) (sym c.is)
+    (subst (λ value. FallsOn program held (with_word state (first.0 / 8) (Bytes (with_set (bytes_of_word (word_of state (first.0 / 8))) (first.0 % 8) (size_bytes size)))) machine
+    (machine.slot + slot_count insn) (store_step program insn machine (StackPointer c.at) offset size value)) (sym n.1)
+    (part_stored program held state machine a eight insn size c.at offset place first.0 n.0 c.counted found)))
 
--- a number of which a part may be stored
-pub narrow_is_number : (s : Setting) (kind : Kind) (value : RegisterValue) (done : Unit {0}) → narrow_storable kind ≡ Ok done → KindCovers s kind value → (n : ℕ) × (value ≡ Number n)
-narrow_is_number s (Scalar i) value done e c = (c.number, c.is)
-narrow_is_number s Unset value done e c = cc
-narrow_is_number s Ctx value done e c = cc
-narrow_is_number s (Stack place) value done e c = cc
-narrow_is_number s (Packet id off range) value done e c = cc
-narrow_is_number s PacketEnd value done e c = cc
-narrow_is_number s (Map map) value done e c = cc
-narrow_is_number s (ValueOrNull map id) value done e c = cc
-narrow_is_number s (Value map id off) value done e c = cc
+stack_whole : (program : Program) (held : Held) (state : State) (machine : MachineState) (a : Abstracts program.maps held state machine) → (insn : Insn) →
+    (offset : ℤ) (place : ℕ) (v : RegisterValue) → IsStackPlace place v → (kind : Kind) (value : RegisterValue) → (kind ≡ Unset → ⊥) → KindCovers (setting_of program.maps held a.ids machine) kind value →
+    (s : State) → (stack_access place offset 8 >>= (λ from. Ok (stack_stored state U64 from kind))) ≡ Ok s →
+    FallsOn program held s machine (machine.slot + slot_count insn) (store_step program insn machine v offset U64 value)
+stack_whole program held state machine a insn offset place v c kind value set cv s e =
+    let first = ok_then (stack_access place offset 8) (λ from. Ok (stack_stored state U64 from kind)) s e
+    in let same : stack_stored state U64 first.0 kind ≡ s = ok_same (Ok (stack_stored state U64 first.0 kind)) (stack_stored state U64 first.0 kind) s refl first.1.1
+    in let found : IsAligned (pos place +ℤ offset) 8 512 first.0 = stack_found place offset 8 first.0 first.1.0
+    in subst (λ s. FallsOn program held s machine (machine.slot + slot_count insn) (store_step program insn machine v offset U64 value)) same
+    (subst (λ v. FallsOn program held (stack_stored state U64 first.0 kind) machine (machine.slot + slot_count insn) (store_step program insn machine v offset U64 value)) (sym c.is)
+    (whole_stored program held state machine a insn c.at offset place first.0 c.counted found kind value set cv))
 
--- the eight places of a value that is stored whole
-pub record StoredWhole (value : RegisterValue) : Type 0 where
-  pub places : List StackByte
-  pub are : stored_places value U64 ≡ Ok places
-  pub eight : length places ≡ 8
+-- ---- stores by what the destination is known to have
 
-number_whole : (value : RegisterValue) (n : ℕ) → value ≡ Number n → StoredWhole value
-number_whole value n e = record {
-  places = as_written (bytes_of_number 8 n);
-  are = rw e refl;
-  eight = as_written_length (bytes_of_number 8 n) ∙ bytes_length 8 n;
-}
+store_by_kind : (program : Program) (held : Held) (state : State) (machine : MachineState) (a : Abstracts program.maps held state machine) → AreEight state → (insn : Insn) (size : Size) →
+    (offset : ℤ) (dst : Register) (known : Kind) (v : RegisterValue) → KindCovers (setting_of program.maps held a.ids machine) known v →
+    (kind : Kind) (value : RegisterValue) → (kind ≡ Unset → ⊥) → KindCovers (setting_of program.maps held a.ids machine) kind value →
+    (s : State) → stored program.maps state size known offset dst kind ≡ Ok s →
+    FallsOn program held s machine (machine.slot + slot_count insn) (store_step program insn machine v offset size value)
+store_by_kind program held state machine a eight insn U64 offset dst (Stack place) v c kind value set cv s e = stack_whole program held state machine a insn offset place v c kind value set cv s e
+store_by_kind program held state machine a eight insn U8 offset dst (Stack place) v c kind value set cv s e = stack_part program held state machine a eight insn U8 offset place v c kind value cv s e
+store_by_kind program held state machine a eight insn U16 offset dst (Stack place) v c kind value set cv s e = stack_part program held state machine a eight insn U16 offset place v c kind value cv s e
+store_by_kind program held state machine a eight insn U32 offset dst (Stack place) v c kind value set cv s e = stack_part program held state machine a eight insn U32 offset place v c kind value cv s e
+store_by_kind program held state machine a eight insn size offset dst (Packet id off range) v c kind value set cv s e =
+    let first = ok_then (packet_access off range offset (size_bytes size)) (λ from. narrow_storable kind >>= (λ _. Ok state)) s e
+    in let second = ok_then (narrow_storable kind) (λ _. Ok state) s first.1.1
+    in let same : state ≡ s = ok_same (Ok state) state s refl second.1.1
+    in let n = narrow_is_number (setting_of program.maps held a.ids machine) kind value second.0 second.1.0 cv
+    in let found = range_found (pos off +ℤ offset) (size_bytes size) range _ first.0 first.1.0
+    in subst (λ s. FallsOn program held s machine (machine.slot + slot_count insn) (store_step program insn machine v offset size value)) same
+    (subst (λ v. FallsOn program held state machine (machine.slot + slot_count insn) (store_step program insn machine v offset size value)) (sym c.is)
+    (subst (λ value. FallsOn program held state machine (machine.slot + slot_count insn)
+    (store_step program insn machine (PacketPointer machine.generation (pos (a.ids.base id + off))) offset size value)) (sym n.1)
+    (packet_stored program held state machine a insn size id off range first.0 n.0 offset c.reached found.0 found.1)))
+store_by_kind program held state machine a eight insn size offset dst Unset v c kind value set cv s e = cc
+store_by_kind program held state machine a eight insn size offset dst (Scalar i) v c kind value set cv s e = cc
+store_by_kind program held state machine a eight insn size offset dst Ctx v c kind value set cv s e = cc
+store_by_kind program held state machine a eight insn size offset dst PacketEnd v c kind value set cv s e = cc
+store_by_kind program held state machine a eight insn size offset dst (Map map) v c kind value set cv s e = cc
+store_by_kind program held state machine a eight insn size offset dst (ValueOrNull map id) v c kind value set cv s e = cc
+store_by_kind program held state machine a eight insn size offset dst (Value map id off) v c kind value set cv s e =
+    let first = ok_then (value_access program.maps map off offset (size_bytes size)) (λ from. narrow_storable kind >>= (λ _. Ok state)) s e
+    in let second = ok_then (narrow_storable kind) (λ _. Ok state) s first.1.1
+    in let same : state ≡ s = ok_same (Ok state) state s refl second.1.1
+    in let n = narrow_is_number (setting_of program.maps held a.ids machine) kind value second.0 second.1.0 cv
+    in let there = value_found program.maps map off offset (size_bytes size) first.0 c.at c.least c.most first.1.0
+    in subst (λ s. FallsOn program held s machine (machine.slot + slot_count insn) (store_step program insn machine v offset size value)) same
+    (subst (λ v. FallsOn program held state machine (machine.slot + slot_count insn) (store_step program insn machine v offset size value)) (sym c.is)
+    (subst (λ value. FallsOn program held state machine (machine.slot + slot_count insn)
+    (store_step program insn machine (CellPointer map c.cell.shard c.cell.id (pos c.at)) offset size value)) (sym n.1)
+    (cell_stored program held state machine a insn size map c.cell.shard c.cell.id (pos c.at) offset there.from n.0 there.found c.held)))
 
-pointer_whole : (value pointer : RegisterValue) → value ≡ pointer → stored_places pointer U64 ≡ Ok (spilled_parts pointer) → StoredWhole value
-pointer_whole value pointer e f = record { places = spilled_parts pointer; are = ap (λ v. stored_places v U64) e ∙ f; eight = refl }
+-- ---- the instructions
 
-whole : (s : Setting) (kind : Kind) (value : RegisterValue) → (kind ≡ Unset → ⊥) → KindCovers s kind value → StoredWhole value
-whole s Unset value set c = absurd (set refl)
-whole s (Scalar i) value set c = number_whole value c.number c.is
-whole s Ctx value set c = pointer_whole value ContextPointer c refl
-whole s (Stack place) value set c = pointer_whole value (StackPointer c.at) c.is refl
-whole s (Packet id off range) value set c = pointer_whole value (PacketPointer s.generation _) c.is refl
-whole s PacketEnd value set c = pointer_whole value (meaning.PacketEnd s.generation) c refl
-whole s (Map map) value set c = pointer_whole value (MapPointer map) c.is refl
-whole s (ValueOrNull map id) value set (inl c) = number_whole value 0 c.is
-whole s (ValueOrNull map id) value set (inr c) = pointer_whole value (CellPointer map c.cell.shard c.cell.id _) c.is refl
-whole s (Value map id off) value set c = pointer_whole value (CellPointer map c.cell.shard c.cell.id _) c.is refl
+immediate_of : (size : Size) (dst : Register) (offset immediate : ℤ) → FieldsFit (St size dst offset immediate) → twos_complement 64 immediate < 2 ^ 64
+unfolding FieldsFit
+immediate_of size dst offset immediate fits = immediate_fits immediate fits.1
 
--- ---- the stack
+pub store_sound : (program : Program) (held : Held) (state : State) (machine : MachineState) (size : Size) (dst : Register) (offset immediate : ℤ) (flow : Flow) →
+    FieldsFit (St size dst offset immediate) → AreEight state → Abstracts program.maps held state machine →
+    flow_of program.maps state machine.slot (St size dst offset immediate) ≡ Ok flow →
+    Follows program held flow machine (St size dst offset immediate) (instruction_step program (St size dst offset immediate) machine)
+store_sound program held state machine size dst offset immediate flow fits eight a e =
+    let small : twos_complement 64 immediate < 2 ^ 64 = immediate_of size dst offset immediate fits
+    in let made = falls_made (store_flow program.maps state size dst offset immediate) flow e
+    in let first = ok_then (reads state dst) (λ _. store_of program.maps state size dst offset (Scalar (constant_of (twos_complement 64 immediate)))) made.0 made.1.0
+    in subst (λ flow. Follows program held flow machine (St size dst offset immediate) (instruction_step program (St size dst offset immediate) machine)) (sym made.1.1)
+    (store_by_kind program held state machine a eight (St size dst offset immediate) size offset dst (kind_of state dst) (register_value machine dst) (a.registers dst)
+    (Scalar (constant_of (twos_complement 64 immediate))) (Number (twos_complement 64 immediate)) (λ n. cc)
+    (record { number = twos_complement 64 immediate; is = refl; within = record { above = omega arith; below = omega arith }; word = small })
+    made.0 first.1.1)
 
-part_inside : (size : Size) (from : ℕ) → from % size_bytes size ≡ 0 → from % 8 + size_bytes size ≤ 8
-part_inside U8 from m = omega arith
-part_inside U16 from m = omega arith
-part_inside U32 from m = omega arith
-part_inside U64 from m = omega arith
+not_unset : (kind : Kind) (register : Register) (done : Unit {0}) → is_set kind register ≡ Ok done → kind ≡ Unset → ⊥
+not_unset Unset register done e n = cc
+not_unset (Scalar i) register done e n = cc
+not_unset Ctx register done e n = cc
+not_unset (Stack place) register done e n = cc
+not_unset (Packet id off range) register done e n = cc
+not_unset PacketEnd register done e n = cc
+not_unset (Map map) register done e n = cc
+not_unset (ValueOrNull map id) register done e n = cc
+not_unset (Value map id off) register done e n = cc
 
-pub whole_stored : (program : Program) (held : Held) (state : State) (machine : MachineState) (a : Abstracts program.maps held state machine) (insn : Insn)
-    (at offset : ℤ) (place from : ℕ) → stack_place at ≡ pos place → IsAligned (pos place +ℤ offset) 8 512 from → (kind : Kind) (value : RegisterValue) →
-    (kind ≡ Unset → ⊥) → KindCovers (setting_of program.maps held a.ids machine) kind value →
-    FallsOn program held (stack_stored state U64 from kind) machine (machine.slot + slot_count insn) (store_step program insn machine (StackPointer at) offset U64 value)
-whole_stored program held state machine a insn at offset place from counted found kind value set c =
-    let w : StoredWhole value = whole (setting_of program.maps held a.ids machine) kind value set c
-    in let range : stack_range machine.stack (stack_place (at +ℤ offset)) 8 ≡ Ok from =
-    stack_reached machine.stack (stack_place (at +ℤ offset)) from 8 a.is_machine.stack_size (stack_moved at offset place counted ∙ found.at) found.inside
-    in let inside : from + 8 ≤ 512 = found.inside
-    in let eight : length w.places ≡ 8 = w.eight
-    in let start : from % 8 ≡ 0 = found.multiple
-    in let now : IsSpilled (next_setting program.maps held a.ids machine (slot_count insn)) kind w.places = record {
-      value = value;
-      covered = covers_next program.maps held held a.ids machine (slot_count insn) (λ map shard cell h. h) kind value c;
-      stored = w.are;
-    }
-    in rw (range, w.are) (record {
-      at = refl;
-      counted = refl;
-      sound = stack_stored_sound program.maps held state machine a from (slot_count insn) w.places (Spilled kind) (omega arith) (omega arith) (omega arith)
-          (rw (stored_word machine.stack w.places from a.is_machine.stack_size inside start eight) now);
-    })
-
-pub part_stored : (program : Program) (held : Held) (state : State) (machine : MachineState) (a : Abstracts program.maps held state machine) → AreEight state → (insn : Insn)
-    (size : Size) (at offset : ℤ) (place from n : ℕ) → stack_place at ≡ pos place → IsAligned (pos place +ℤ offset) (size_bytes size) 512 from →
-    FallsOn program held (with_word state (from / 8) (Bytes (with_set (bytes_of_word (word_of state (from / 8))) (from % 8) (size_bytes size)))) machine
-    (machine.slot + slot_count insn) (store_step program insn machine (StackPointer at) offset size (Number n))
-part_stored program held state machine a eight insn size at offset place from n counted found =
-    let range : stack_range machine.stack (stack_place (at +ℤ offset)) (size_bytes size) ≡ Ok from =
-    stack_reached machine.stack (stack_place (at +ℤ offset)) from (size_bytes size) a.is_machine.stack_size (stack_moved at offset place counted ∙ found.at) found.inside
-    in let inside : from + size_bytes size ≤ 512 = found.inside
-    in let some : 0 < size_bytes size = some_bytes size
-    in let low : from / 8 < 64 = omega arith
-    in let part : from % 8 + size_bytes size ≤ 8 = part_inside size from found.multiple
-    in let count : length (bytes_of_number (size_bytes size) n) ≡ size_bytes size = bytes_length (size_bytes size) n
-    in let places : length (as_written (bytes_of_number (size_bytes size) n)) ≡ size_bytes size = as_written_length (bytes_of_number (size_bytes size) n) ∙ count
-    in let extends : Extends (setting_of program.maps held a.ids machine) (next_setting program.maps held a.ids machine (slot_count insn)) =
-    record { maps = refl; held = λ map shard cell h. h; base = λ id h. refl; found = λ id h. refl; slot = omega arith; generation = refl; size = refl }
-    in let before : WordCovers (next_setting program.maps held a.ids machine (slot_count insn)) (word_of state (from / 8)) (places_of (from / 8) machine.stack) =
-    word_later (setting_of program.maps held a.ids machine) (next_setting program.maps held a.ids machine (slot_count insn)) extends
-    (word_of state (from / 8)) (places_of (from / 8) machine.stack) (a.stack (from / 8) low)
-    in rw range (record {
-      at = refl;
-      counted = refl;
-      sound = stack_stored_sound program.maps held state machine a from (slot_count insn) (as_written (bytes_of_number (size_bytes size) n))
-          (Bytes (with_set (bytes_of_word (word_of state (from / 8))) (from % 8) (size_bytes size))) (omega arith) (omega arith) low
-          (stored_part (next_setting program.maps held a.ids machine (slot_count insn)) (word_of state (from / 8)) machine.stack from (size_bytes size)
-          (bytes_of_number (size_bytes size) n) a.is_machine.stack_size inside part count (bytes_small (size_bytes size) n) (eight (from / 8) low) before);
-    })
-
--- ---- the packet
-
-pub packet_stored : (program : Program) (held : Held) (state : State) (machine : MachineState) (a : Abstracts program.maps held state machine) (insn : Insn)
-    (size : Size) (id off range from n : ℕ) (offset : ℤ) → (0 < range → a.ids.base id + range ≤ length machine.frame.bytes) →
-    pos off +ℤ offset ≡ pos from → from + size_bytes size ≤ range →
-    FallsOn program held state machine (machine.slot + slot_count insn)
-    (store_step program insn machine (PacketPointer machine.generation (pos (a.ids.base id + off))) offset size (Number n))
-packet_stored program held state machine a insn size id off range from n offset reached at inside =
-    let some : 0 < size_bytes size = some_bytes size
-    in let whole : a.ids.base id + range ≤ length machine.frame.bytes = reached (omega arith)
-    in let fits : (a.ids.base id + from) + size_bytes size ≤ length machine.frame.bytes = omega arith
-    in let found : packet_range machine machine.generation (pos (a.ids.base id + off) +ℤ offset) (size_bytes size) ≡ Ok (a.ids.base id + from) =
-    packet_reached machine (pos (a.ids.base id + off) +ℤ offset) (a.ids.base id + from) (size_bytes size) (packet_moved (a.ids.base id) off from offset at) fits
-    in let count : length (bytes_of_number (size_bytes size) n) ≡ size_bytes size = bytes_length (size_bytes size) n
-    in let same : length (overwritten_at (a.ids.base id + from) (bytes_of_number (size_bytes size) n) machine.frame.bytes) ≡ length machine.frame.bytes =
-    length-spliced machine.frame.bytes (bytes_of_number (size_bytes size) n) (a.ids.base id + from) (length (bytes_of_number (size_bytes size) n)) refl (omega arith)
-    in rw found (record {
-      at = refl;
-      counted = refl;
-      sound = frame_written program.maps held state machine a (slot_count insn) (a.ids.base id + from) (bytes_of_number (size_bytes size) n) same
-          (All-from_recursion (λ byte. byte < 256) (bytes_of_number (size_bytes size) n) (bytes_small (size_bytes size) n));
-    })
-  where
-    frame_written : (maps : List MapDef) (held : Held) (state : State) (machine : MachineState) (a : Abstracts maps held state machine) (slots at : ℕ) (bytes : List ℕ) →
-        length (overwritten_at at bytes machine.frame.bytes) ≡ length machine.frame.bytes → All (λ byte. byte < 256) bytes →
-        Abstracts maps held state (record machine { frame = with_bytes_at at bytes machine.frame; slot = machine.slot + slots; steps = machine.steps + 1 })
-    frame_written maps held state machine a slots at bytes same small =
-        let extends : Extends (setting_of maps held a.ids machine) (setting_of maps held a.ids (record machine { frame = with_bytes_at at bytes machine.frame; slot = machine.slot + slots })) =
-        record { maps = refl; held = λ map shard cell h. h; base = λ id h. refl; found = λ id h. refl; slot = omega arith; generation = refl; size = same }
-        in record {
-          ids = a.ids;
-          registers = λ register. covers_later (setting_of maps held a.ids machine) (setting_of maps held a.ids (record machine { frame = with_bytes_at at bytes machine.frame; slot = machine.slot + slots })) extends
-              (kind_of state register) (register_value machine register) (a.registers register);
-          stack = λ word h. word_later (setting_of maps held a.ids machine) (setting_of maps held a.ids (record machine { frame = with_bytes_at at bytes machine.frame; slot = machine.slot + slots })) extends
-              (word_of state word) (places_of word machine.stack) (a.stack word h);
-          start = λ h. rw same (a.start h);
-          bases = a.bases;
-          is_machine = record {
-            eleven = a.is_machine.eleven;
-            eleven_kinds = a.is_machine.eleven_kinds;
-            stack_size = a.is_machine.stack_size;
-            word_count = a.is_machine.word_count;
-            worker = a.is_machine.worker;
-            time = a.is_machine.time;
-            frame = All-spliced (λ byte. byte < 256) machine.frame.bytes bytes at (length bytes) a.is_machine.frame small;
-          };
-        }
+pub store_register_sound : (program : Program) (held : Held) (state : State) (machine : MachineState) (size : Size) (dst src : Register) (offset : ℤ) (flow : Flow) →
+    AreEight state → Abstracts program.maps held state machine →
+    flow_of program.maps state machine.slot (Stx size dst src offset) ≡ Ok flow →
+    Follows program held flow machine (Stx size dst src offset) (instruction_step program (Stx size dst src offset) machine)
+store_register_sound program held state machine size dst src offset flow eight a e =
+    let made = falls_made (store_register_flow program.maps state size dst src offset) flow e
+    in let first = ok_then (reads_both state dst (Reg src)) (λ _. store_of program.maps state size dst offset (kind_of state src)) made.0 made.1.0
+    in let second = ok_then (reads state dst) (λ _. reads state src) first.0 first.1.0
+    in subst (λ flow. Follows program held flow machine (Stx size dst src offset) (instruction_step program (Stx size dst src offset) machine)) (sym made.1.1)
+    (store_by_kind program held state machine a eight (Stx size dst src offset) size offset dst (kind_of state dst) (register_value machine dst) (a.registers dst)
+    (kind_of state src) (register_value machine src) (not_unset (kind_of state src) src first.0 second.1.1) (a.registers src) made.0 first.1.1)

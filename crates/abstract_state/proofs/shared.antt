@@ -14,5 +14,4 @@ pub mod Reaching
 pub mod Shapes
 pub mod Splicing
 pub mod StackReading
-pub mod StoreSoundness
 pub mod Writing

@@ -1,5 +1,5 @@
 -- Loads, stores and atomic operations on kinds (RFC 9669, section 5).
-use Rattle.std.specs.Prelude.{ℕ, ◌/◌, ◌%◌, ◌==◌, Bool, true, false, ℤ, pos, negsuc, List, Option, Some, None, Ok, Err, if◌then◌else◌}
+use Rattle.std.specs.Prelude.{ℕ, ◌/◌, ◌%◌, Bool, true, false, ℤ, List, Option, Some, None, Ok, Err, if◌then◌else◌}
 use Rattle.isa.specs.Words.{width_bits}
 use Rattle.isa.specs.Atomic.{fetched_register}
 use Rattle.isa.specs.declared.operation.Width.{Width}

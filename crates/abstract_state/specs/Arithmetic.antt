@@ -46,9 +46,9 @@ moved_kind Bits32 kind source = Err (WrongKind source)
 -- ---- pointers
 
 -- how far a number moves a pointer: read as signed
-abbrev pub distance_of : AluOp → ℕ → ℤ
-distance_of Sub n = neg_ℤ (signed_value 64 n)
-distance_of op n = signed_value 64 n
+abbrev pub delta_of : AluOp → ℕ → ℤ
+delta_of Sub n = neg_ℤ (signed_value 64 n)
+delta_of op n = signed_value 64 n
 
 -- the operations that move a pointer
 abbrev pub moves_pointers : Width → AluOp → Bool
@@ -58,13 +58,13 @@ moves_pointers width op = false
 
 -- by a single number
 abbrev pub moved_pointer : List MapDef → Kind → ℤ → Register → Checked Kind
-moved_pointer maps (Stack place) distance dst =
-    place_within (pos place +ℤ distance) stack_size StackBounds >>= (λ to. Ok (Stack to))
-moved_pointer maps (Packet id off range) distance dst =
-    place_within (pos off +ℤ distance) 65535 PacketBounds >>= (λ to. Ok (Packet id to range))
-moved_pointer maps (Value map id off) distance dst =
-    offsets_within maps map (pos off.low +ℤ distance) (pos off.high +ℤ distance) >>= (λ to. Ok (Value map id to))
-moved_pointer maps other distance dst = Err (WrongKind dst)
+moved_pointer maps (Stack place) delta dst =
+    place_within (pos place +ℤ delta) stack_size StackBounds >>= (λ to. Ok (Stack to))
+moved_pointer maps (Packet id off range) delta dst =
+    place_within (pos off +ℤ delta) 65535 PacketBounds >>= (λ to. Ok (Packet id to range))
+moved_pointer maps (Value map id off) delta dst =
+    offsets_within maps map (pos off.low +ℤ delta) (pos off.high +ℤ delta) >>= (λ to. Ok (Value map id to))
+moved_pointer maps other delta dst = Err (WrongKind dst)
 
 -- by a number of which only an interval is known, an address in a value moves in version 2 alone: by each end of it
 abbrev pub moved_value : List MapDef → Version → ℕ → ℕ → Offsets → Interval → Register → Checked Kind
@@ -81,7 +81,7 @@ moved_far maps version slot op other i source = Err (WrongKind source)
 
 abbrev pub pointer_sum : List MapDef → Version → ℕ → AluOp → Kind → Kind → Register → Register → Checked Kind
 pointer_sum maps version slot op pointer (Scalar i) dst source =
-    if is_single i then moved_pointer maps pointer (distance_of op i.low) dst else moved_far maps version slot op pointer i source
+    if is_single i then moved_pointer maps pointer (delta_of op i.low) dst else moved_far maps version slot op pointer i source
 pointer_sum maps version slot op pointer other dst source = Err (WrongKind source)
 
 -- the pointers that can be moved

@@ -5,7 +5,7 @@ ghost use Rattle.std.specs.Int.RustNames.{int_le};
 ghost use Rattle.isa.specs.Words.{signed_value};
 ghost use Rattle.abstract_scalar.specs.Transfer.{transfer_of};
 ghost use Rattle.abstract_state.specs.InPlace.{kept};
-ghost use Rattle.abstract_state.specs.Arithmetic.{source_kind, blamed, number_kind, moved_kind, distance_of, moves_pointers, moved_pointer};
+ghost use Rattle.abstract_state.specs.Arithmetic.{source_kind, blamed, number_kind, moved_kind, delta_of, moves_pointers, moved_pointer};
 ghost use Rattle.abstract_state.specs.Arithmetic.{moved_value, moved_far, pointer_sum, is_movable, combined_pointer, combined_kind};
 ghost use Rattle.abstract_state.specs.Arithmetic.{alu_kind, after_alu_of};
 
@@ -45,8 +45,8 @@ fn moved(width: Width, kind: Kind, source: Register) -> Result<Kind, Refusal>
 }
 
 /// How far a number moves a pointer: read as signed.
-fn distance(op: AluOp, n: u64) -> i128
-    ensures { result ≡ distance_of op n }
+fn delta(op: AluOp, n: u64) -> i128
+    ensures { result ≡ delta_of op n }
 {
     match op {
         AluOp::Sub => -i128::from(n.cast_signed()),
@@ -68,23 +68,23 @@ fn moves_pointers(width: Width, op: AluOp) -> bool
 fn moved_pointer(
     maps: &[MapDef],
     pointer: Kind,
-    distance: i128,
+    delta: i128,
     dst: Register,
 ) -> Result<Kind, Refusal>
-    requires { (int_le (neg_ℤ (pos (2 ^ 64))) distance ≡ true) × (int_le distance (pos (2 ^ 64)) ≡ true) }
-    ensures { result ≡ moved_pointer maps.now pointer distance dst }
+    requires { (int_le (neg_ℤ (pos (2 ^ 64))) delta ≡ true) × (int_le delta (pos (2 ^ 64)) ≡ true) }
+    ensures { result ≡ moved_pointer maps.now pointer delta dst }
 {
     match pointer {
         Kind::Stack(place) => {
             let to = place_within(
-                i128::from(place) + distance,
+                i128::from(place) + delta,
                 u32::from(STACK_SIZE),
                 Refusal::StackBounds,
             )?;
             Ok(Kind::Stack(to as u16))
         }
         Kind::Packet { id, off, range } => {
-            let to = place_within(i128::from(off) + distance, 65535, Refusal::PacketBounds)?;
+            let to = place_within(i128::from(off) + delta, 65535, Refusal::PacketBounds)?;
             Ok(Kind::Packet {
                 id,
                 off: to as u16,
@@ -92,8 +92,8 @@ fn moved_pointer(
             })
         }
         Kind::Value { map, id, off } => {
-            let low = i128::from(off.low) + distance;
-            let high = i128::from(off.high) + distance;
+            let low = i128::from(off.low) + delta;
+            let high = i128::from(off.high) + delta;
             let off = offsets_within(maps, map, low, high)?;
             Ok(Kind::Value { map, id, off })
         }
@@ -155,7 +155,7 @@ fn pointer_sum(site: Site<'_>, op: AluOp, on: Operands) -> Result<Kind, Refusal>
     match on.second {
         Kind::Scalar(i) => {
             if i.is_constant() {
-                moved_pointer(site.maps, on.first, distance(op, i.low), on.dst)
+                moved_pointer(site.maps, on.first, delta(op, i.low), on.dst)
             } else {
                 moved_far(site, op, on, i)
             }

@@ -23,6 +23,7 @@ mod transfer;
 pub use fact::Fact;
 pub use flow::{Flow, Way};
 pub use kind::{Kind, Offsets, StackWord};
+pub use places::STACK_SIZE;
 pub use refusal::Refusal;
 pub use site::Site;
 pub use state::State;

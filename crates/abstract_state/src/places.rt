@@ -9,8 +9,8 @@ use crate::kind::Offsets;
 use crate::refusal::Refusal;
 use ebpf_decode::MapDef;
 
-/// How many bytes the stack has.
-pub(crate) const STACK_SIZE: u16 = 512;
+/// How many bytes the stack has. A place of the stack counts from the lowest, so the frame pointer's is this one.
+pub const STACK_SIZE: u16 = 512;
 
 /// A place from 0 to a limit.
 pub(crate) fn place_within(place: i128, limit: u32, why: Refusal) -> Result<u32, Refusal>

@@ -95,12 +95,12 @@ fn is_set(kind: Kind, register: Register) -> Result<(), Refusal>
 fn expects(op: AtomicOp, kind: Kind) -> Result<(), Refusal>
     ensures { result ≡ expects op kind }
 {
-    match op {
-        AtomicOp::CompareExchange => match kind {
-            Kind::Scalar(_) => Ok(()),
-            _ => Err(Refusal::WrongKind(Register::R0)),
-        },
-        _ => Ok(()),
+    if !op.compares() {
+        return Ok(());
+    }
+    match kind {
+        Kind::Scalar(_) => Ok(()),
+        _ => Err(Refusal::WrongKind(Register::R0)),
     }
 }
 
@@ -193,9 +193,10 @@ impl State {
     fn reads_expected(&self, op: AtomicOp) -> Result<(), Refusal>
         ensures { result ≡ reads_expected self.now op }
     {
-        match op {
-            AtomicOp::CompareExchange => self.reads(Register::R0),
-            _ => Ok(()),
+        if op.compares() {
+            self.reads(Register::R0)
+        } else {
+            Ok(())
         }
     }
 
@@ -213,15 +214,14 @@ impl State {
         ensures { result ≡ reads_arguments self.now helper }
     {
         match helper {
-            Helper::MapLookupElem => self.reads_both(Register::R1, Source::Reg(Register::R2)),
+            Helper::MapLookupElem | Helper::MapDeleteElem | Helper::XdpAdjustHead => {
+                self.reads_both(Register::R1, Source::Reg(Register::R2))
+            }
             Helper::MapUpdateElem => {
                 self.reads_both(Register::R1, Source::Reg(Register::R2))?;
                 self.reads_both(Register::R3, Source::Reg(Register::R4))
             }
-            Helper::MapDeleteElem => self.reads_both(Register::R1, Source::Reg(Register::R2)),
-            Helper::KtimeGetNs => Ok(()),
-            Helper::GetSmpProcessorId => Ok(()),
-            Helper::XdpAdjustHead => self.reads_both(Register::R1, Source::Reg(Register::R2)),
+            Helper::KtimeGetNs | Helper::GetSmpProcessorId => Ok(()),
         }
     }
 
@@ -466,8 +466,7 @@ impl State {
             Insn::Stx { size, dst, src, offset } => self.store_register(site, size, dst, src, offset)?,
             Insn::AtomicUpdate { width, op, dst, src, offset } => self.atomic(site, width, op, dst, src, offset)?,
             Insn::CallHelper { helper } => self.call(site, helper)?,
-            Insn::Ja { .. } => return Ok(Way::Jumps),
-            Insn::Ja32 { .. } => return Ok(Way::Jumps),
+            Insn::Ja { .. } | Insn::Ja32 { .. } => return Ok(Way::Jumps),
             Insn::JumpIf { width, test, dst, source, .. } => {
                 self.reads_both(dst, source)?;
                 allowed_test(width, test, self.kind(dst), self.source(source), dst, source)?;
@@ -485,18 +484,16 @@ impl State {
     /// Takes the state along one edge of an allowed conditional jump: the one where it is taken, or where it isn't. Of another
     /// instruction both edges leave the state as it is.
     #[inline(never)]
+    #[rattlefmt::skip]
     pub fn follow(&mut self, insn: Insn, taken: bool)
         ensures { self.new ≡ edge_state insn self.old taken }
     {
         match insn {
-            Insn::JumpIf {
-                width,
-                test,
-                dst,
-                source,
-                ..
-            } => self.learn(width, test, dst, source, taken),
-            _ => {}
+            Insn::JumpIf { width, test, dst, source, .. } => self.learn(width, test, dst, source, taken),
+            Insn::Ja { .. } | Insn::Ja32 { .. } | Insn::Exit | Insn::CallHelper { .. } => {}
+            Insn::Alu { .. } | Insn::Neg { .. } | Insn::Movsx { .. } | Insn::Movsx32 { .. } | Insn::End { .. } => {}
+            Insn::Lddw { .. } | Insn::Ldmap { .. } | Insn::Ldval { .. } => {}
+            Insn::Ldx { .. } | Insn::Ldxs { .. } | Insn::St { .. } | Insn::Stx { .. } | Insn::AtomicUpdate { .. } => {}
         }
     }
 }

@@ -1,7 +1,8 @@
 -- The account of a script, and one command more.
 use Rattle.std.proofs.Common.{◌≡◌, ℕ, List, [], ◌∷◌, ◌++◌, refl, sym, ap, ◌∙◌, subst, append_assoc}
 use Rattle.std.specs.Prelude.{Option, Some, None, IfSome, slice_get}
-use Rattle.std.specs.List.{AllByRecursion, flat_map}
+use Rattle.std.specs.List.{AllByRecursion}
+use Rattle.std.proofs.lemmas.List.{append-nil}
 use Rattle.ebpf_decode.specs.declared.map.MapDef.{MapDef}
 use Rattle.semantics.specs.declared.options.Options.{Options}
 use Rattle.semantics.specs.declared.plan.ShardPlan.{ShardPlan}
@@ -29,12 +30,8 @@ done_more : (done : List CommandDone) (one : CommandDone) (first state state' : 
 done_more [] one first state state' are is = (state', subst (λ start. IsDone start one state') (sym are) is, refl)
 done_more (other ∷ done) one first state state' (middle, did, are) is = (middle, did, done_more done one middle state state' are is)
 
-nothing_more : {A : Type 0} (xs : List A) → xs ++ [] ≡ xs
-nothing_more [] = refl
-nothing_more (x ∷ xs) = ap (λ rest. x ∷ rest) (nothing_more xs)
-
 made_more : (done : List CommandDone) (one : CommandDone) → made_in (done ++ one ∷ []) ≡ made_in done ++ one.made
-made_more [] one = nothing_more one.made
+made_more [] one = append-nil one.made
 made_more (first ∷ done) one = ap (λ rest. first.made ++ rest) (made_more done one) ∙ sym (append_assoc first.made (made_in done) one.made)
 
 full_later : (plan : ℕ → ShardPlan) (before after : UpdatesView) (one : CommandDone) → IsMoved before after one.made → (stopped : Option UpdateBytes) →

@@ -1,14 +1,9 @@
 -- An update that the controller's port takes is one that its shard serves.
-use Rattle.std.proofs.Common.{◌≡◌, ◌<◌, ◌≤◌, ℕ, zero, suc, Bool, true, ◌&&◌, List, [], ◌∷◌, length, Some, refl, sym, ap, ◌∙◌, subst, arith}
+use Rattle.std.proofs.Common.{◌≡◌, ◌<◌, ℕ, Bool, true, ◌&&◌, List, length, Some, refl, sym, ap, ◌∙◌, subst, arith}
 use Rattle.std.specs.Prelude.{All, IsTrue, ◌==◌, slice_get, ℤ, Option, Result, Ok, Err, IfOk, OnErr}
-use Rattle.std.specs.List.{AllByRecursion}
 use Rattle.std.proofs.lemmas.Bool.Decides.{nat_tests}
 use Rattle.ebpf_decode.specs.declared.map.MapDef.{MapDef}
-use Rattle.ebpf_decode.specs.declared.map.MapKind.{MapKind}
-use Rattle.ebpf_decode.specs.declared.map.MapKind.TheVariants.{Array, Hash, LruHash}
 use Rattle.ebpf_decode.specs.declared.version.Version.TheVariants.{V2}
-use Rattle.ebpf_decode.specs.ImageContents.{IsAllowedMap}
-use Rattle.ebpf_decode.specs.MapForm.{is_key_size}
 use Rattle.semantics.specs.declared.call.Caller.{Caller}
 use Rattle.semantics.specs.declared.call.Caller.TheVariants.{Controller}
 use Rattle.semantics.specs.declared.call.Call.TheVariants.{Update}
@@ -17,30 +12,23 @@ use Rattle.semantics.specs.declared.call.Reply.TheVariants.{Answer}
 use Rattle.semantics.specs.declared.full.JournalFull.{JournalFull}
 use Rattle.semantics.specs.declared.options.Options.{Options}
 use Rattle.semantics.specs.declared.plan.ShardPlan.{ShardPlan}
-use Rattle.semantics.specs.PlanLimits.{IsIndexSize}
+use Rattle.semantics.specs.declared.linux.UpdateFlags.TheVariants.{Any}
+use Rattle.semantics.specs.Linux.{flags_number}
+use Rattle.semantics.specs.PlanLimits.{IsIndexSize, HasImageSizes}
 use Rattle.semantics.specs.Program.{shard_of_key}
 use Rattle.semantics.specs.History.{Meets, is_own_key, is_value}
-use Rattle.semantics.proofs.shared.ConditionLemmas.{first_true, bytes_test}
+use Rattle.semantics.proofs.shared.ConditionLemmas.{bytes_test}
+use Rattle.semantics.proofs.shared.ImageSizes.{image_sizes}
+use Rattle.semantics.proofs.shared.PlanLemmas.{each_at}
 use Rattle.journals.specs.JournalsView.{AreImageMaps}
 use Rattle.shared_shards.specs.Passes.{PassView, own_at, IsElsewhereSame}
 use Rattle.shared_shards.specs.Asked.{MayAsk, IsAnswered, IsTurnedAway as IsAskTurnedAway}
 use Rattle.shared_shards.proofs.shared.Keys.{IsAtKey, at_key}
 use Rattle.actors.specs.SharedUpdates.{UpdatesView, IsControllersPort, shard_of_update, IsUpdated, IsTurnedAway}
 
-index_part : (kind : MapKind) (size : ℕ) → is_key_size kind size ≡ true → IsIndexSize kind size
-index_part Array size sized = grind (arith, nat_tests)
-index_part Hash size sized = tt
-index_part LruHash size sized = tt
-
-index_size_of : (definition : MapDef) → IsAllowedMap V2 definition → IsIndexSize definition.kind definition.key_size
-index_size_of definition allowed = index_part definition.kind definition.key_size (first_true _ _ (first_true _ _ allowed))
-
-found_allowed : (maps : List MapDef) (map : ℕ) (definition : MapDef) → AllByRecursion (IsAllowedMap V2) maps → slice_get maps map ≡ Some definition →
-    IsAllowedMap V2 definition
-found_allowed [] map definition allowed known = absurd cc
-found_allowed (one ∷ maps) zero definition allowed known =
-    let same : one ≡ definition = cc in subst (λ found. IsAllowedMap V2 found) same allowed.0
-found_allowed (one ∷ maps) (suc map) definition allowed known = found_allowed maps map definition allowed.1 known
+-- the flags that an update is made with
+abbrev any : ℕ
+any = flags_number Any
 
 pub same_found : (one other : MapDef) (found : Option MapDef) → found ≡ Some one → found ≡ Some other → one ≡ other
 same_found one other found first second = cc (first, second)
@@ -49,7 +37,8 @@ same_found one other found first second = cc (first, second)
 pub index_size : (maps : List MapDef) (map : ℕ) (definition : MapDef) (key : List ℕ) → AreImageMaps maps → slice_get maps map ≡ Some definition →
     length key ≡ definition.key_size → IsIndexSize definition.kind (length key)
 index_size maps map definition key are known size =
-    subst (λ n. IsIndexSize definition.kind n) (sym size) (index_size_of definition (found_allowed maps map definition are.allowed known))
+    subst (λ n. IsIndexSize definition.kind n) (sym size)
+    (each_at HasImageSizes maps map definition (image_sizes V2 maps are.allowed) known).index_size
 
 pub shard_known : (maps : List MapDef) (options : Options) (map : ℕ) (key : List ℕ) (definition : MapDef) → slice_get maps map ≡ Some definition →
     shard_of_update maps options map key ≡ shard_of_key map definition.kind options.shards key
@@ -63,16 +52,16 @@ same_test a b same = grind (arith, nat_tests)
 
 may_change : (plan : ShardPlan) (number : ℕ) (own : List Entry) (who : Caller) (key value : List ℕ) → who ≡ Controller →
     (number == plan.number) ≡ true → IsTrue (is_own_key plan key) → IsTrue (is_value plan value) →
-    Meets plan own who (Update number key value 0)
+    Meets plan own who (Update number key value any)
 may_change plan number own who key value is numbered own_key fits =
-    subst (λ one. Meets plan own one (Update number key value 0)) (sym is)
+    subst (λ one. Meets plan own one (Update number key value any)) (sym is)
     (both_true _ _ numbered (both_true _ _ own_key (both_true _ _ fits refl)))
 
 -- what is known of the shard of an update
 pub record IsAtUpdate (count : ℕ) (plan : ℕ → ShardPlan) (maps : List MapDef) (options : Options) (map : ℕ) (key value : List ℕ) (pass : PassView) : Type 0 where
   pub within : shard_of_update maps options map key < count
   pub may : MayAsk (plan (shard_of_update maps options map key)) (shard_of_update maps options map key) pass
-      (Update (shard_of_update maps options map key) key value 0)
+      (Update (shard_of_update maps options map key) key value any)
   pub of_map : slice_get maps map ≡ Some (plan (shard_of_update maps options map key)).definition
 
 pub at_update : (count : ℕ) (plan : ℕ → ShardPlan) (maps : List MapDef) (options : Options) (map : ℕ) (key value : List ℕ) (pass : PassView)
@@ -116,54 +105,61 @@ at_viewed count plan maps options pass now map key value key' value' definition 
     (subst (λ bytes. All (λ byte. byte < 256) bytes) key_is key_bytes) (subst (λ bytes. All (λ byte. byte < 256) bytes) value_is value_bytes)
 
 pub may_viewed : (count : ℕ) (plan : ℕ → ShardPlan) (maps : List MapDef) (options : Options) (pass : PassView) (now : UpdatesView) (map shard : ℕ)
-    (key value key' value' : List ℕ) → viewed maps options pass ≡ now → IsAtUpdate count plan maps options map key value pass →
-    key' ≡ key → value' ≡ value → shard ≡ shard_of_update now.maps now.options map key → MayAsk (plan shard) shard pass (Update shard key' value' 0)
-may_viewed count plan maps options pass now map shard key value key' value' view_is at key_is value_is is =
+    (key value key' value' : List ℕ) (flags : ℕ) → viewed maps options pass ≡ now → IsAtUpdate count plan maps options map key value pass →
+    key' ≡ key → value' ≡ value → shard ≡ shard_of_update now.maps now.options map key → flags ≡ any →
+    MayAsk (plan shard) shard pass (Update shard key' value' flags)
+may_viewed count plan maps options pass now map shard key value key' value' flags view_is at key_is value_is is flags_are =
     let number : ℕ = shard_of_update maps options map key in
-    let valued : MayAsk (plan number) number pass (Update number key value' 0) =
-    subst (λ bytes. MayAsk (plan number) number pass (Update number key bytes 0)) (sym value_is) at.may in
-    let keyed : MayAsk (plan number) number pass (Update number key' value' 0) =
-    subst (λ bytes. MayAsk (plan number) number pass (Update number bytes value' 0)) (sym key_is) valued in
-    subst (λ n. MayAsk (plan n) n pass (Update n key' value' 0)) (sym (shard_viewed maps options pass now map shard key view_is is)) keyed
+    let valued : MayAsk (plan number) number pass (Update number key value' any) =
+    subst (λ bytes. MayAsk (plan number) number pass (Update number key bytes any)) (sym value_is) at.may in
+    let keyed : MayAsk (plan number) number pass (Update number key' value' any) =
+    subst (λ bytes. MayAsk (plan number) number pass (Update number bytes value' any)) (sym key_is) valued in
+    let here : MayAsk (plan shard) shard pass (Update shard key' value' any) =
+    subst (λ n. MayAsk (plan n) n pass (Update n key' value' any)) (sym (shard_viewed maps options pass now map shard key view_is is)) keyed in
+    subst (λ f. MayAsk (plan shard) shard pass (Update shard key' value' f)) (sym flags_are) here
 
 pub given : (count : ℕ) (plan : ℕ → ShardPlan) (maps : List MapDef) (options : Options) (pass pass' : PassView) (now : UpdatesView) (map shard : ℕ)
-    (key value key' value' : List ℕ) → viewed maps options pass ≡ now → IsAtUpdate count plan maps options map key value pass →
-    key' ≡ key → value' ≡ value → shard ≡ shard_of_update now.maps now.options map key → IsElsewhereSame shard pass pass' →
-    (result : Result ℤ JournalFull) → IfOk result (λ code. IsAnswered (plan shard) shard pass pass' (Update shard key' value' 0) (Answer code)) →
+    (key value key' value' : List ℕ) (flags : ℕ) → viewed maps options pass ≡ now → IsAtUpdate count plan maps options map key value pass →
+    key' ≡ key → value' ≡ value → shard ≡ shard_of_update now.maps now.options map key → flags ≡ any → IsElsewhereSame shard pass pass' →
+    (result : Result ℤ JournalFull) → IfOk result (λ code. IsAnswered (plan shard) shard pass pass' (Update shard key' value' flags) (Answer code)) →
     IfOk result (λ answer. IsUpdated plan now (record { map = map; key = key; value = value }) answer (viewed maps options pass'))
-given count plan maps options pass pass' now map shard key value key' value' view_is at key_is value_is is elsewhere (Err full) answered = tt
-given count plan maps options pass pass' now map shard key value key' value' view_is at key_is value_is is elsewhere (Ok code) answered =
+given count plan maps options pass pass' now map shard key value key' value' flags view_is at key_is value_is is flags_are elsewhere (Err full) answered = tt
+given count plan maps options pass pass' now map shard key value key' value' flags view_is at key_is value_is is flags_are elsewhere (Ok code) answered =
     let number : ℕ = shard_of_update maps options map key in
     let here : shard ≡ number = shard_viewed maps options pass now map shard key view_is is in
-    let keyed : IsAnswered (plan shard) shard pass pass' (Update shard key value' 0) (Answer code) =
-    subst (λ bytes. IsAnswered (plan shard) shard pass pass' (Update shard bytes value' 0) (Answer code)) key_is answered in
-    let valued : IsAnswered (plan shard) shard pass pass' (Update shard key value 0) (Answer code) =
-    subst (λ bytes. IsAnswered (plan shard) shard pass pass' (Update shard key bytes 0) (Answer code)) value_is keyed in
+    let flagged : IsAnswered (plan shard) shard pass pass' (Update shard key' value' any) (Answer code) =
+    subst (λ f. IsAnswered (plan shard) shard pass pass' (Update shard key' value' f) (Answer code)) flags_are answered in
+    let keyed : IsAnswered (plan shard) shard pass pass' (Update shard key value' any) (Answer code) =
+    subst (λ bytes. IsAnswered (plan shard) shard pass pass' (Update shard bytes value' any) (Answer code)) key_is flagged in
+    let valued : IsAnswered (plan shard) shard pass pass' (Update shard key value any) (Answer code) =
+    subst (λ bytes. IsAnswered (plan shard) shard pass pass' (Update shard key bytes any) (Answer code)) value_is keyed in
     subst (λ port. IsUpdated plan port (record { map = map; key = key; value = value }) code (viewed maps options pass')) view_is (record {
       maps = refl;
       options = refl;
       of_map = at.of_map;
       elsewhere = subst (λ n. IsElsewhereSame n pass pass') here elsewhere;
-      answered = subst (λ n. IsAnswered (plan n) n pass pass' (Update n key value 0) (Answer code)) here valued;
+      answered = subst (λ n. IsAnswered (plan n) n pass pass' (Update n key value any) (Answer code)) here valued;
     })
 
 pub turned_away : (count : ℕ) (plan : ℕ → ShardPlan) (maps : List MapDef) (options : Options) (pass pass' : PassView) (now : UpdatesView) (map shard : ℕ)
-    (key value key' value' : List ℕ) → viewed maps options pass ≡ now → IsAtUpdate count plan maps options map key value pass →
-    key' ≡ key → value' ≡ value → shard ≡ shard_of_update now.maps now.options map key → IsElsewhereSame shard pass pass' →
-    (result : Result ℤ JournalFull) → OnErr result (IsAskTurnedAway (plan shard) shard pass pass' (Update shard key' value' 0)) →
+    (key value key' value' : List ℕ) (flags : ℕ) → viewed maps options pass ≡ now → IsAtUpdate count plan maps options map key value pass →
+    key' ≡ key → value' ≡ value → shard ≡ shard_of_update now.maps now.options map key → flags ≡ any → IsElsewhereSame shard pass pass' →
+    (result : Result ℤ JournalFull) → OnErr result (IsAskTurnedAway (plan shard) shard pass pass' (Update shard key' value' flags)) →
     OnErr result (IsTurnedAway plan now (record { map = map; key = key; value = value }) (viewed maps options pass'))
-turned_away count plan maps options pass pass' now map shard key value key' value' view_is at key_is value_is is elsewhere (Ok code) refused = tt
-turned_away count plan maps options pass pass' now map shard key value key' value' view_is at key_is value_is is elsewhere (Err full) refused =
+turned_away count plan maps options pass pass' now map shard key value key' value' flags view_is at key_is value_is is flags_are elsewhere (Ok code) refused = tt
+turned_away count plan maps options pass pass' now map shard key value key' value' flags view_is at key_is value_is is flags_are elsewhere (Err full) refused =
     let number : ℕ = shard_of_update maps options map key in
     let here : shard ≡ number = shard_viewed maps options pass now map shard key view_is is in
-    let keyed : IsAskTurnedAway (plan shard) shard pass pass' (Update shard key value' 0) =
-    subst (λ bytes. IsAskTurnedAway (plan shard) shard pass pass' (Update shard bytes value' 0)) key_is refused in
-    let valued : IsAskTurnedAway (plan shard) shard pass pass' (Update shard key value 0) =
-    subst (λ bytes. IsAskTurnedAway (plan shard) shard pass pass' (Update shard key bytes 0)) value_is keyed in
+    let flagged : IsAskTurnedAway (plan shard) shard pass pass' (Update shard key' value' any) =
+    subst (λ f. IsAskTurnedAway (plan shard) shard pass pass' (Update shard key' value' f)) flags_are refused in
+    let keyed : IsAskTurnedAway (plan shard) shard pass pass' (Update shard key value' any) =
+    subst (λ bytes. IsAskTurnedAway (plan shard) shard pass pass' (Update shard bytes value' any)) key_is flagged in
+    let valued : IsAskTurnedAway (plan shard) shard pass pass' (Update shard key value any) =
+    subst (λ bytes. IsAskTurnedAway (plan shard) shard pass pass' (Update shard key bytes any)) value_is keyed in
     subst (λ port. IsTurnedAway plan port (record { map = map; key = key; value = value }) (viewed maps options pass')) view_is (record {
       maps = refl;
       options = refl;
       of_map = at.of_map;
       elsewhere = subst (λ n. IsElsewhereSame n pass pass') here elsewhere;
-      refused = subst (λ n. IsAskTurnedAway (plan n) n pass pass' (Update n key value 0)) here valued;
+      refused = subst (λ n. IsAskTurnedAway (plan n) n pass pass' (Update n key value any)) here valued;
     })

@@ -1,6 +1,6 @@
 -- What a command that the controller applied did.
-use Rattle.std.proofs.Common.{◌≡◌, ℕ, List, [], ◌∷◌, Bool, true, false, refl, sym, ap, ◌∙◌, subst, inl, inr, ◌⊎◌}
-use Rattle.std.specs.Prelude.{ℤ, pos, Option, Some, None, map, IfSome, Result, Ok, Err}
+use Rattle.std.proofs.Common.{◌≡◌, ℕ, List, [], ◌∷◌, refl, sym, ap, ◌∙◌, subst, inl, inr}
+use Rattle.std.specs.Prelude.{ℤ, Option, Some, None, Result, Ok, Err}
 use Rattle.semantics.specs.declared.call.Caller.{Caller}
 use Rattle.semantics.specs.declared.call.Caller.TheVariants.{Controller}
 use Rattle.semantics.specs.declared.plan.ShardPlan.{ShardPlan}
@@ -9,10 +9,10 @@ use Rattle.control.specs.declared.fault.ControlFault.{ControlFault}
 use Rattle.control.specs.declared.fault.ControlFault.TheVariants.{BadSize, BadLine, UnknownBackend, BackendTwice, Refused, JournalFull, Memory}
 use Rattle.control.specs.declared.update.Update.{Update as Change}
 use Rattle.control.specs.MapUpdates.{UpdateBytes, map_update}
-use Rattle.control.specs.Controlling.{ControllerState, IsCarriedOut as IsWhole, IsStopped, IsUnchanged, IsAnswered, IsLeft, refusal_of, first_updates, up_after, updates_of}
+use Rattle.control.specs.Controlling.{ControllerState, IsCarriedOut as IsWhole, IsStopped, IsAnswered, IsLeft, refusal_of, first_updates, up_after, updates_of}
 use Rattle.gates.specs.Gates.{IsCounted, IsUncounted}
 use Rattle.actors.specs.SharedUpdates.{UpdatesView, IsUpdated, IsTurnedAway}
-use Rattle.actors.specs.Commands.{AnsweredUpdate, CommandDone, IsNothing, IsDone, IsDoneBy, IsFullFor, IsMoved, HasEffect, all_done}
+use Rattle.actors.specs.Commands.{AnsweredUpdate, CommandDone, IsNothing, IsDoneBy, IsMoved, HasEffect, all_done}
 use Rattle.actors.proofs.Moving.{HasWithin, moved_by_all, moved_until_full, moved_by_one, moved_nowhere}
 
 -- no fault comes first

@@ -1,6 +1,7 @@
 -- One job more.
-use Rattle.std.proofs.Common.{◌≡◌, ℕ, zero, suc, ◌+◌, List, [], ◌∷◌, ◌++◌, refl, sym, ap, ◌∙◌, subst, append_assoc, arith}
+use Rattle.std.proofs.Common.{◌≡◌, ℕ, zero, suc, ◌+◌, List, [], ◌∷◌, ◌++◌, refl, sym, ap, ◌∙◌, append_assoc, arith}
 use Rattle.std.specs.Prelude.{replicate}
+use Rattle.std.proofs.lemmas.List.{append-nil}
 use Rattle.rx_queues.specs.declared.job.Job.{Job}
 use Rattle.rx_queues.specs.declared.job.Job.TheVariants.{Command as CommandJob, Note, End}
 use Rattle.semantics.specs.declared.plan.ShardPlan.{ShardPlan}
@@ -21,12 +22,8 @@ command_jobs_more : (noted : List Applied) (last : Applied) → command_jobs (no
 command_jobs_more [] last = refl
 command_jobs_more (one ∷ noted) last = ap (λ rest. CommandJob one.command ∷ rest) (command_jobs_more noted last)
 
-nothing_after : {A : Type 0} (xs : List A) → xs ++ [] ≡ xs
-nothing_after [] = refl
-nothing_after (x ∷ xs) = ap (λ rest. x ∷ rest) (nothing_after xs)
-
 pub none_since : (noted : List Applied) (jobs : List Job) → jobs ≡ [] → AreNotedSince noted noted jobs
-none_since noted jobs none = record { later = []; noted = sym (nothing_after noted); each_once = none }
+none_since noted jobs none = record { later = []; noted = sym (append-nil noted); each_once = none }
 
 pub one_since : (before after after' : List Applied) (jobs jobs' : List Job) (last : Applied) → AreNotedSince before after jobs →
     after' ≡ after ++ last ∷ [] → jobs' ≡ jobs ++ CommandJob last.command ∷ [] → AreNotedSince before after' jobs'

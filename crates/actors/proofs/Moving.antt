@@ -1,7 +1,8 @@
 -- What updates make of the controller's view of the shards.
 use Rattle.std.proofs.Common.{◌≡◌, ◌≢◌, ℕ, Bool, true, false, List, [], ◌∷◌, ◌++◌, refl, sym, ap, ◌∙◌, subst, append_assoc, arith}
-use Rattle.std.specs.Prelude.{◌==◌, ℤ, pos, map, if◌then◌else◌, Option, is_some}
+use Rattle.std.specs.Prelude.{◌==◌, ℤ, pos, if◌then◌else◌, Option, is_some}
 use Rattle.std.proofs.lemmas.Bool.Decides.{nat_tests}
+use Rattle.std.proofs.lemmas.List.{append-nil}
 use Rattle.ebpf_decode.specs.declared.map.MapDef.{MapDef}
 use Rattle.semantics.specs.declared.call.Caller.{Caller}
 use Rattle.semantics.specs.declared.call.Caller.TheVariants.{Controller}
@@ -148,10 +149,6 @@ moved_by_all plan within gives refuses has (change ∷ changes) before after who
     moved_on (within before) (within middle) (within after) (done_update change ∷ []) (all_done changes) first
     (moved_by_all plan within gives refuses has changes middle after first.who later)
 
-nothing_more : {A : Type 0} (xs : List A) → xs ++ [] ≡ xs
-nothing_more [] = refl
-nothing_more (x ∷ xs) = ap (λ rest. x ∷ rest) (nothing_more xs)
-
 pub record IsMovedAndFull (plan : ℕ → ShardPlan) (before after : UpdatesView) (begun : List Change) (next : Change) : Type 0 where
   pub moved : IsMoved before after (all_done begun)
   pub full : IsFullFor plan before.maps before.options after.pass (map_update next)
@@ -174,7 +171,7 @@ moved_until_full plan within gives refuses has changes before after who cut =
     let second : IsMoved (within cut.middle) (within after) [] =
     moved_by_none plan (within cut.middle) (within after) (map_update cut.next) first.who refused in
     record {
-      moved = subst (λ made. IsMoved (within before) (within after) made) (nothing_more (all_done cut.made))
+      moved = subst (λ made. IsMoved (within before) (within after) made) (append-nil (all_done cut.made))
           (moved_on (within before) (within cut.middle) (within after) (all_done cut.made) [] first second);
       full = subst (λ maps. IsFullFor plan maps (within before).options (within after).pass (map_update cut.next)) first.maps
           (subst (λ options. IsFullFor plan (within cut.middle).maps options (within after).pass (map_update cut.next)) first.options

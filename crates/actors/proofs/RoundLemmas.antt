@@ -1,11 +1,10 @@
 -- One round more, shard by shard.
-use Rattle.std.proofs.Common.{◌≡◌, ◌≢◌, ◌<◌, ◌≤◌, ℕ, suc, ◌+◌, ◌*◌, ◌⊎◌, Bool, true, false, List, [], ◌∷◌, ◌++◌, length, refl, sym, ap, ◌∙◌, subst, arith, inl, inr}
+use Rattle.std.proofs.Common.{◌≡◌, ◌≢◌, ◌<◌, ◌≤◌, ℕ, suc, ◌+◌, Bool, true, false, List, [], ◌∷◌, length, refl, sym, ap, ◌∙◌, subst, arith, inl, inr}
 use Rattle.std.specs.Prelude.{◌==◌}
 use Rattle.std.specs.List.{AllByRecursion}
 use Rattle.std.proofs.lemmas.Bool.Decides.{nat_tests}
 use Rattle.ebpf_decode.specs.declared.map.MapKind.{MapKind}
 use Rattle.ebpf_decode.specs.declared.map.MapKind.TheVariants.{Array, Hash, LruHash}
-use Rattle.semantics.specs.declared.call.Caller.{Caller}
 use Rattle.semantics.specs.declared.call.Caller.TheVariants.{Reclaimer}
 use Rattle.semantics.specs.declared.call.Call.TheVariants.{Reclaim}
 use Rattle.semantics.specs.declared.call.Reply.TheVariants.{Freed}

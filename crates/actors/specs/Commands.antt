@@ -1,5 +1,5 @@
 -- What the commands of a script become: updates with their answers, and with them the entries of the controller in the shards' journals.
-use Rattle.std.specs.Prelude.{◌≡◌, ◌≢◌, ℕ, ◌==◌, ℤ, pos, ◌⊎◌, Bool, true, false, List, [], ◌∷◌, ◌++◌, map, Option, Some, None, IfSome}
+use Rattle.std.specs.Prelude.{◌≡◌, ◌≢◌, ℕ, ◌==◌, ℤ, ◌⊎◌, true, false, List, [], ◌∷◌, ◌++◌, map, Option, Some, None, IfSome}
 use Rattle.std.specs.Prelude.{IsTrue, is_some, slice_get, if◌then◌else◌}
 use Rattle.std.specs.List.{AllByRecursion, flat_map}
 use Rattle.ebpf_decode.specs.declared.map.MapDef.{MapDef}
@@ -9,6 +9,7 @@ use Rattle.semantics.specs.declared.call.Caller.TheVariants.{Controller}
 use Rattle.semantics.specs.declared.call.Entry.{Entry}
 use Rattle.semantics.specs.declared.call.Reply.TheVariants.{Answer}
 use Rattle.semantics.specs.History.{IsJournalFull}
+use Rattle.semantics.specs.Linux.{success}
 use Rattle.shared_shards.specs.CallerView.{BeginsWith}
 use Rattle.shared_shards.specs.Passes.{PassView, own_at, seen_at}
 use Rattle.conntrack.specs.SteeringMaps.{steering_maps}
@@ -30,7 +31,7 @@ pub record AnsweredUpdate : Type 0 where
 
 -- each answered 0
 abbrev pub done_update : Change → AnsweredUpdate
-done_update change = record { update = map_update change; answer = pos 0 }
+done_update change = record { update = map_update change; answer = success }
 
 abbrev pub all_done : List Change → List AnsweredUpdate
 all_done changes = map done_update changes
@@ -78,7 +79,7 @@ pub record IsNothing (state : ControllerState) (one : CommandDone) (state' : Con
 pub record IsTurnedDown (state : ControllerState) (one : CommandDone) (answer : ℤ) (state' : ControllerState) : Type 0 where
   pub change : Change
   pub only : first_updates state.up one.action ≡ change ∷ []
-  pub not_done : answer ≢ pos 0
+  pub not_done : answer ≢ success
   pub made : one.made ≡ record { update = map_update change; answer = answer } ∷ []
   pub not_stopped : one.stopped ≡ None
   pub state_is : state' ≡ state

@@ -1,5 +1,5 @@
 -- What the controller's updates are to shards that it shares with other callers.
-use Rattle.std.specs.Prelude.{◌≡◌, ℕ, ℤ, List, length, Option, Some, None, slice_get}
+use Rattle.std.specs.Prelude.{◌≡◌, ℕ, ℤ, List, length, Some, slice_get}
 use Rattle.ebpf_decode.specs.declared.map.MapDef.{MapDef}
 use Rattle.semantics.specs.declared.options.Options.{Options}
 use Rattle.semantics.specs.declared.plan.ShardPlan.{ShardPlan}
@@ -7,7 +7,9 @@ use Rattle.semantics.specs.declared.call.Caller.TheVariants.{Controller}
 use Rattle.semantics.specs.declared.call.Call.{Call}
 use Rattle.semantics.specs.declared.call.Call.TheVariants.{Update}
 use Rattle.semantics.specs.declared.call.Reply.TheVariants.{Answer}
-use Rattle.semantics.specs.Program.{shard_of_key}
+use Rattle.semantics.specs.declared.linux.UpdateFlags.TheVariants.{Any}
+use Rattle.semantics.specs.Linux.{flags_number}
+use Rattle.semantics.specs.Program.{shard_in_map}
 use Rattle.semantics.specs.ShardPlan.{AreOptions}
 use Rattle.journals.specs.JournalsView.{AreImageMaps}
 use Rattle.shared_shards.specs.SharedMaps.{ArePlans}
@@ -35,12 +37,8 @@ pub record HasUpdateOf (maps : List MapDef) (map : ℕ) (key : List ℕ) : Type 
   pub key_size : length key ≡ definition.key_size
 
 -- the number of the shard of a map's key
-abbrev pub shard_in : Option MapDef → ℕ → ℕ → List ℕ → ℕ
-shard_in (Some definition) shards map key = shard_of_key map definition.kind shards key
-shard_in None shards map key = 0
-
 abbrev pub shard_of_update : List MapDef → Options → ℕ → List ℕ → ℕ
-shard_of_update maps options map key = shard_in (slice_get maps map) options.shards map key
+shard_of_update maps options map key = shard_in_map (slice_get maps map) options.shards map key
 
 abbrev pub shard_of : List MapDef → Options → UpdateBytes → ℕ
 shard_of maps options update = shard_of_update maps options update.map update.key
@@ -49,9 +47,9 @@ shard_of maps options update = shard_of_update maps options update.map update.ke
 abbrev pub shard_for : UpdatesView → UpdateBytes → ℕ
 shard_for port update = shard_of port.maps port.options update
 
--- an update is made whether or not its key is present: with the flags ANY
+-- an update is made whether or not its key is present
 abbrev pub update_call : ℕ → UpdateBytes → Call
-update_call number update = Update number update.key update.value 0
+update_call number update = Update number update.key update.value (flags_number Any)
 
 -- the update is one Update of the shard that its key has, with this answer, and nothing else
 pub record IsUpdated (plan : ℕ → ShardPlan) (before : UpdatesView) (update : UpdateBytes) (answer : ℤ) (after : UpdatesView) : Type 0 where

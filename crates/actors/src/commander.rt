@@ -21,7 +21,7 @@ use std::marker::Model;
 use std::sync::Wait;
 
 /// The controller of a replay: it applies commands of a script to shards that it shares with others, and notes what came of each. Contracts see the
-/// script, what was noted, the controller and its port; what the type keeps is `account`.
+/// script, what was noted, the controller and its port; what the type keeps is `has_account`.
 #[derive(Drop)]
 pub struct Commander<'a, B: Naming, W: Wait, G: Gate> {
     script: &'a [Command],
@@ -78,7 +78,7 @@ impl<'a, B: Naming, W: Wait, G: Gate> Commander<'a, B, W, G> {
     }
 
     /// The account of the commands applied so far. The function does nothing: it brings this fact into a proof.
-    pub fn account(&self)
+    pub fn has_account(&self)
         ensures { HasAccount B.plan self.now }
     {
         let _noted = self.noted.len();

@@ -1,15 +1,13 @@
 //! The maps that a controller updates, as shards that other callers share.
 
-ghost use Rattle.std.specs.Prelude.{◌≡◌, ◌<◌, ◌≤◌, length, slice_get, Some};
+ghost use Rattle.std.specs.Prelude.{◌≡◌, ◌<◌};
 ghost use Rattle.semantics.specs.declared.call.Caller.TheVariants.{Controller};
-ghost use Rattle.shared_shards.specs.Passes.{PassView};
 ghost use Rattle.actors.specs.SharedUpdates.{HasUpdateOf, shard_of_update};
 
 use control::UpdatePort;
-use ebpf_decode::MapDef;
-use one_thread_map::conditions::shard_of_kind;
+use one_thread_map::conditions::shard_of_map;
 use semantics::facts::bytes_have_8_bits;
-use semantics::{JournalFull, Key, Value};
+use semantics::{JournalFull, Key, UpdateFlags, Value};
 use shared_shards::{Naming, Pass, Shards};
 use std::marker::Model;
 use std::sync::Wait;
@@ -56,8 +54,7 @@ impl<'a, B: Naming, W: Wait> SharedUpdates<'a, B, W> {
         requires { HasUpdateOf self.now.maps map key.now }
         ensures { result ≡ shard_of_update self.now.maps self.now.options map key.now }
     {
-        let definition = definition_at(self.shards.maps(), map);
-        shard_of_kind(map, definition.kind, self.shards.options().shards, key)
+        shard_of_map(self.shards.maps(), self.shards.options().shards, map, key)
     }
 }
 
@@ -87,15 +84,7 @@ impl<'a, B: Naming, W: Wait> UpdatePort for SharedUpdates<'a, B, W> {
             shard,
             key.as_slice(),
             value.as_slice(),
-            0,
+            UpdateFlags::Any.number(),
         )
     }
-}
-
-/// The map at a place.
-fn definition_at(maps: &[MapDef], map: u32) -> MapDef
-    requires { map < length maps.now }
-    ensures { slice_get maps.now map ≡ Some result }
-{
-    maps[map as usize]
 }

@@ -1,6 +1,6 @@
 //! What the threads of the controller and the reclaimer do: the jobs of their queues, in order, until the end.
 
-ghost use Rattle.std.specs.Prelude.{◌≡◌, ◌<◌, ◌∷◌, ◌++◌, [], ℕ, true, false, MatchOption, IsTrue};
+ghost use Rattle.std.specs.Prelude.{◌≡◌, ◌<◌, ◌∷◌, ◌++◌, [], ℕ, true, false, MatchOption};
 ghost use Rattle.rx_queues.specs.Passes.{IsTakePassOf, jobs_taken, place_taken_from};
 ghost use Rattle.rx_queues.specs.declared.job.Job.TheVariants.{Command as CommandJob, Note, End};
 ghost use Rattle.semantics.specs.declared.call.Caller.TheVariants.{Controller, Reclaimer};

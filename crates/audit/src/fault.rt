@@ -3,13 +3,13 @@
 use std::alloc::AllocError;
 use thiserror::Error;
 
-/// Why journals were refused.
+/// Why journals were refused. docs/FAULTS.md says when each comes, in which order, and what it leaves.
 #[derive(Clone, Copy, Debug, PartialEq, Eq, Error)]
 pub enum AuditFault {
-    /// The allocator refused memory.
+    /// 52: memory was refused.
     #[error("fault 52 Memory")]
     Memory,
-    /// The entry at this place of this shard's journal, counted from 0, is the first that the one-thread map cannot give.
+    /// 53: the one-thread map cannot give the entry at this place, counted from 0, of this shard's journal.
     #[error("fault 53 Illegal shard {shard} place {place}")]
     Illegal { shard: usize, place: usize },
 }

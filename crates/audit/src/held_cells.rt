@@ -112,7 +112,8 @@ impl HeldCells {
 
     /// The entry stands at this place, counted from 1, after those that were noted.
     pub(crate) fn note(&mut self, entry: &Entry, place: u64) -> Result<(), AllocError>
-        ensures { (history : List Told) → AreHeld self.old history → place ≡ length history + 1 → OnOk result (AreHeld self.new (entry.now ∷ history)) }
+        ensures { (history : List Told) → AreHeld self.old history → place ≡ length history + 1 →
+            OnOk result (AreHeld self.new (entry.now ∷ history)) }
     {
         match &entry.who {
             Caller::Worker { number } => match self.workers.get_mut(usize::from(*number)) {

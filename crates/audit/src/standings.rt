@@ -1,33 +1,51 @@
 //! Who may make a call, told without reading the journal back.
 
 ghost use Rattle.std.specs.Prelude.{◌≡◌, reverse};
-ghost use Rattle.semantics.specs.Reclamation.{is_inside, holds};
 ghost use Rattle.semantics.specs.History.{meets};
-ghost use Rattle.one_thread_map.specs.Standings.{IsStanding};
 ghost use Rattle.audit.specs.HeldCells.{AreHeld};
 
 use crate::held_cells::HeldCells;
-use one_thread_map::conditions::{Standing, meets_with, worker_of};
-use semantics::{Call, Caller};
+use one_thread_map::sections::{Sections, meets};
+use semantics::{Call, Caller, ShardPlan};
 use shard_core::Shard;
+use std::marker::Model;
 
-/// What is known of the caller before its call.
-fn standing(shard: &Shard, held: &HeldCells, who: &Caller, call: &Call) -> Standing
-    requires { AreHeld held.now (reverse shard.now.journal) }
-    ensures { IsStanding shard.now.plan (reverse shard.now.journal) who.now call.now result }
-{
-    match worker_of(shard.plan(), who) {
-        Some(worker) => Standing {
-            is_inside: shard.is_inside(worker),
-            is_holder: match call.cell() {
-                Some(cell) => held.has(worker, cell.id),
-                None => false,
-            },
-        },
-        None => Standing {
-            is_inside: false,
-            is_holder: false,
-        },
+/// A shard, and which cells each worker holds after the entries of its journal.
+#[derive(Drop)]
+struct Noted<'a> {
+    shard: &'a Shard,
+    held: &'a HeldCells,
+}
+
+impl<'a> Model for Noted<'a> {
+    ghost use Rattle.std.specs.Prelude.{reverse};
+    ghost use Rattle.shard_core.specs.JournaledShard.{JournaledShard};
+    ghost use Rattle.audit.specs.HeldCells.{AreHeld};
+
+    ghost Value = { JournaledShard };
+
+    ghost view = { λ noted. noted.shard.now };
+
+    ghost invariant = { λ noted. AreHeld noted.held.now (reverse noted.shard.now.journal) };
+}
+
+impl<'a> Sections for Noted<'a> {
+    ghost use Rattle.std.specs.Prelude.{reverse};
+
+    ghost opened_with = { λ noted. noted.plan };
+
+    ghost history = { λ noted. reverse noted.journal };
+
+    fn plan(&self) -> &ShardPlan {
+        self.shard.plan()
+    }
+
+    fn is_inside(&self, worker: u8) -> bool {
+        self.shard.is_inside(worker)
+    }
+
+    fn holds(&self, worker: u8, cell: u64) -> bool {
+        self.held.has(worker, cell)
     }
 }
 
@@ -36,5 +54,5 @@ pub(crate) fn may_call(shard: &Shard, held: &HeldCells, who: &Caller, call: &Cal
     requires { AreHeld held.now (reverse shard.now.journal) }
     ensures { result ≡ meets shard.now.plan (reverse shard.now.journal) who.now call.now }
 {
-    meets_with(shard.plan(), standing(shard, held, who, call), who, call)
+    meets(&Noted { shard, held }, who, call)
 }

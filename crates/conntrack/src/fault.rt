@@ -3,13 +3,13 @@
 use std::alloc::{AllocError, AllocFailed};
 use thiserror::Error;
 
-/// Why no steering maps were made. Nothing is left behind.
+/// Why no steering maps were made. docs/FAULTS.md says when each comes, in which order, and what it leaves.
 #[derive(Clone, Copy, Debug, PartialEq, Eq, Error)]
 pub enum SteerFault {
-    /// The lookup table has none of the sizes 7, 251, 4093 and 65537.
+    /// 73: the lookup table has none of the sizes 7, 251, 4093 and 65537.
     #[error("fault 73 BadSize")]
     BadSize,
-    /// The allocator refused the list.
+    /// 74: memory was refused.
     #[error("fault 74 Memory")]
     Memory,
 }

@@ -1,19 +1,18 @@
 -- A script is read in one way.
-use Rattle.std.proofs.Common.{◌≡◌, ◌⊎◌, ℕ, zero, suc, eqb, ◌+◌, ◌<◌, ◌≤◌, ◌^◌, Bool, true, false, ltb, leb, List, [], ◌∷◌, ◌++◌, length, get_or, refl, sym, ap, ◌∙◌, arith, append_assoc}
-use Rattle.std.proofs.Common.{inl, inr}
+use Rattle.std.proofs.Common.{◌≡◌, ℕ, zero, suc, ◌+◌, ◌<◌, ◌≤◌, true, List, [], ◌∷◌, ◌++◌, length, get_or, refl, sym, ap, ◌∙◌, arith, append_assoc}
 use Rattle.std.specs.List.{AllByRecursion}
 use Rattle.std.specs.Str.{IsUtf8}
 use Rattle.std.proofs.lemmas.List.{append-nil}
 use Rattle.std.proofs.lemmas.Grind.{flat_map-append}
-use Rattle.std.proofs.lemmas.Bool.Decides.{nat_tests, Decides-eqb}
+use Rattle.std.proofs.lemmas.Bool.Decides.{nat_tests}
 use Rattle.std.proofs.lemmas.Str.{IsUtf8-from_ascii, IsUtf8-append, IsUtf8-nil}
 use Rattle.std.proofs.lemmas.Str.Ascii.{IsAscii-from_reads}
 use Rattle.control.specs.declared.command.Command.{Command}
 use Rattle.text_lines.specs.Lines.{Lacks, ended}
 use Rattle.text_lines.proofs.shared.LineLemmas.{more_lines, no_empty_line, one_line, same_front}
-use Rattle.control.specs.ScriptText.{CommandFits, IsCommandLine, NeverFalls, IsScriptText, line_of, script_text}
+use Rattle.control.specs.ScriptText.{CommandFits, NeverFalls, IsScriptText, line_of, script_text}
 use Rattle.control.specs.ScriptReading.{IsKnownCommand, BeginsWithNoCommand, BeginsWithNoneFrom, IsFirstCommand, AreRead, IsBadAfter, last_frame}
-use Rattle.text_lines.proofs.shared.ByteLemmas.{all_bytes, within, all_append, each_passes, lacks_from}
+use Rattle.text_lines.proofs.shared.ByteLemmas.{all_bytes, within, each_passes, lacks_from}
 use Rattle.control.proofs.Bytes.{line_printed}
 
 pub line_lacks_feed : (command : Command) → CommandFits command → Lacks 10 (line_of command)
@@ -60,16 +59,6 @@ bad_after text rest commands read some = record {
 
 pub same_script : (text rest : List ℕ) (commands others : List Command) → AreRead text commands rest → IsScriptText text others → (commands ≡ others) × (rest ≡ [])
 same_script text rest commands others read is = one_reading 0 commands others rest read.known is.never_falls is.fit read.stops (sym read.text_is ∙ is.spelled)
-
-pub not_empty : (r : Bool) (xs : List ℕ) → r ≡ eqb (length xs) 0 → r ≡ false → 0 < length xs
-not_empty r [] h f = absurd cc
-not_empty r (x ∷ xs) h f = omega arith
-
-pub is_empty : (r : Bool) (xs : List ℕ) → r ≡ eqb (length xs) 0 → r ≡ true → xs ≡ []
-is_empty r [] h t = refl
-is_empty r (x ∷ xs) h t =
-    let e : length (x ∷ xs) ≡ 0 = (Decides-eqb (length (x ∷ xs)) 0).0 (sym h ∙ t) in
-    absurd (omega arith)
 
 -- ---- one more line
 

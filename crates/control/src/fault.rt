@@ -4,28 +4,28 @@ use std::alloc::{AllocError, AllocFailed};
 use thiserror::Error;
 
 /// Why a script was not read, a controller not opened, or a command not carried out.
+/// docs/FAULTS.md says when each comes, in which order, and what it leaves.
 #[derive(Clone, Copy, Debug, PartialEq, Eq, Error)]
 pub enum ControlFault {
-    /// The lookup table has none of the sizes 7, 251, 4093 and 65537.
+    /// 73: the lookup table has none of the sizes 7, 251, 4093 and 65537.
     #[error("fault 73 BadSize")]
     BadSize,
-    /// This line of the script, counted from 1, is the first that is no command's.
+    /// 90: this line of the script, counted from 1, is no command's.
     #[error("fault 90 BadLine line {line}")]
     BadLine { line: usize },
-    /// There is no such backend: the number of one that goes down is not up, or that of one that comes up is not below 256 and the
-    /// size of the lookup table.
+    /// 91: there is no such backend.
     #[error("fault 91 UnknownBackend")]
     UnknownBackend,
-    /// The number or the address of a backend that comes up is up already.
+    /// 92: the number or the address of a backend that comes up is up already.
     #[error("fault 92 BackendTwice")]
     BackendTwice,
-    /// The map of services refused a service, with this answer (Linux's error number, negated).
+    /// 93: the map of services refused a service, with this answer.
     #[error("fault 93 Refused answer {answer}")]
     Refused { answer: i32 },
-    /// A journal is full, or one was when an earlier command was carried out.
+    /// 94: a journal was full.
     #[error("fault 94 JournalFull")]
     JournalFull,
-    /// The allocator refused memory.
+    /// 95: memory was refused.
     #[error("fault 95 Memory")]
     Memory,
 }

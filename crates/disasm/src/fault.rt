@@ -6,13 +6,13 @@ use ebpf_decode::DecodeFault;
 use std::alloc::AllocError;
 use thiserror::Error;
 
-/// Why a text spells no image: 21 comes before 22.
+/// Why a text spells no image. docs/FAULTS.md says when each comes, in which order, and what it leaves.
 #[derive(Clone, Copy, Debug, Error, PartialEq, Eq)]
 pub enum AsmFault {
-    /// 21: this line, counted from 1, is the first that is misspelled. An empty text has a bad line 1.
+    /// 21: this line, counted from 1, is misspelled.
     #[error("fault 21 BadLine line {line}")]
     BadLine { line: usize },
-    /// 22: every line is spelled right, but no image has these maps and instructions: 10, 11, 12, 14 or 16, never 20.
+    /// 22: every line is spelled right, but no image has these maps and instructions.
     #[error("fault 22 Image decode {}", .0.number())]
     Image(DecodeFault),
     /// 23: memory was refused.

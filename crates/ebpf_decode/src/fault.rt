@@ -8,7 +8,7 @@ ghost use Rattle.ebpf_decode.specs.ImageFormat.{fault_number};
 use std::alloc::{AllocError, AllocFailed};
 use thiserror::Error;
 
-/// What is wrong with a slot. Where several faults apply, the lower number is answered.
+/// What is wrong with a slot. docs/FAULTS.md says when each comes, in which order, and what it leaves.
 #[derive(Clone, Copy, Debug, PartialEq, Eq)]
 pub enum SlotFault {
     /// 15: no instruction has this opcode with these selecting fields.
@@ -23,11 +23,10 @@ pub enum SlotFault {
     WideCut,
 }
 
-/// Why bytes are no image: the first fault, in the order of the numbers, those of slots by rising slot.
+/// Why bytes are no image; 15 to 19 are those of `SlotFault`, with the slot. docs/FAULTS.md says when each comes, in which order, and what it leaves.
 #[derive(Clone, Copy, Debug, Error, PartialEq, Eq)]
 pub enum DecodeFault {
-    /// 10: fewer than eight bytes, another magic or version, more than 16 maps, a zero byte that is not zero, or a cut list of
-    /// maps.
+    /// 10: no head of an image, or a cut list of maps.
     #[error("fault 10 BadHead")]
     BadHead,
     /// 11: this map, counted from 0, is one that images may not have.
@@ -42,19 +41,19 @@ pub enum DecodeFault {
     /// 14: more than 4096 slots.
     #[error("fault 14 TooLong")]
     TooLong,
-    /// 15: no instruction has this opcode with these selecting fields.
+    /// 15: `SlotFault::UnknownOpcode` at this slot.
     #[error("fault 15 UnknownOpcode slot {slot}")]
     UnknownOpcode { slot: u32 },
-    /// 16: an instruction of RFC 9669 that images may not have.
+    /// 16: `SlotFault::NotInProfile` at this slot.
     #[error("fault 16 NotInProfile slot {slot}")]
     NotInProfile { slot: u32 },
-    /// 17: a register above R10.
+    /// 17: `SlotFault::BadRegister` at this slot.
     #[error("fault 17 BadRegister slot {slot}")]
     BadRegister { slot: u32 },
-    /// 18: a field that the instruction does not use is not zero.
+    /// 18: `SlotFault::FieldNotZero` at this slot.
     #[error("fault 18 FieldNotZero slot {slot}")]
     FieldNotZero { slot: u32 },
-    /// 19: the second slot of this wide instruction is missing.
+    /// 19: `SlotFault::WideCut` at this slot.
     #[error("fault 19 WideCut slot {slot}")]
     WideCut { slot: u32 },
     /// 20: memory was refused.

@@ -173,8 +173,7 @@ fn parts(alloc: Global, bytes: &[u8]) -> Result<(Version, Vec<MapDef>, Vec<Insn>
     Ok((version, maps, code))
 }
 
-/// The image that the bytes encode, or their first fault: 10 to 14, then 15 to 19 by rising slot, and within a slot the lower
-/// number. Fault 20 comes where memory was refused, never before a whole head was read. After a fault nothing is kept.
+/// The image that the bytes encode, or their first fault in the order of docs/FAULTS.md.
 pub fn decode(alloc: Global, bytes: &[u8]) -> Result<Image, DecodeFault>
     // The bytes are the encoding of the image.
     ensures found { IfOk result (λ image. IsImageEncoding bytes.now image) }
@@ -182,7 +181,7 @@ pub fn decode(alloc: Global, bytes: &[u8]) -> Result<Image, DecodeFault>
     ensures only { (image : Contents) → IsImageEncoding bytes.now image → result ≢ Err DecodeFault.Memory → result ≡ Ok image }
     // It is the first fault.
     ensures fault { IfErr result (λ fault. fault ≢ DecodeFault.Memory → first_decode_fault bytes.now ≡ Some fault) }
-    // 20 comes only where memory may have been asked for.
+    // A 20 comes only where docs/FAULTS.md says that it may.
     ensures asked { IfErr result (λ fault. fault ≡ DecodeFault.Memory → IsTrue (may_ask_memory bytes.now)) }
 {
     let (version, maps, code) = parts(alloc, bytes)?;

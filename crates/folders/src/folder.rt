@@ -6,7 +6,7 @@ ghost use Rattle.folders.specs.Fronts.{HasFront, IsFrontOf};
 use std::alloc::{AllocError, Global};
 use thiserror::Error;
 
-/// Why a file was not read or written.
+/// Why a file was not read or written. docs/FAULTS.md says when each comes, in which order, and what it leaves.
 #[derive(Clone, Copy, Debug, PartialEq, Eq, Error)]
 pub enum FolderFault {
     /// 7: it could not be opened, read or written.

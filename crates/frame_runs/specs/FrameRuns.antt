@@ -7,16 +7,20 @@ use Rattle.semantics.specs.declared.call.Call.{Call}
 use Rattle.semantics.specs.declared.call.Reply.{Reply}
 use Rattle.semantics.specs.declared.plan.ShardPlan.{ShardPlan}
 use Rattle.semantics.specs.declared.verdict.Verdict.{Verdict}
-use Rattle.semantics.specs.MachineState.{MachineState}
+use Rattle.semantics.specs.MachineState.{MachineState, initial_state}
 use Rattle.semantics.specs.Program.{Program}
 use Rattle.semantics.specs.History.{shard_of_call}
 use Rattle.semantics.specs.RunTrace.{HasExited, Waits, IsReplyTo}
+use Rattle.verifier.specs.Verified.{Verified}
 use Rattle.map_port.specs.Exchanges.{Exchange, calls_in, replies_in}
+use Rattle.machine.specs.declared.exit.Exit.{Exit}
 use Rattle.machine.specs.declared.exit.Stop.{Stop}
 use Rattle.machine.specs.declared.exit.Stop.TheVariants.{JournalFull}
-use Rattle.machine.specs.Running.{whole_trace}
+use Rattle.machine.specs.declared.moment.Moment.{Moment}
+use Rattle.machine.specs.Running.{program_of, whole_trace, Ends, StopsSo}
+use Rattle.shared_shards.specs.SharedMaps.{SharedMaps}
 use Rattle.shared_shards.specs.Passes.{PassView}
-use Rattle.shard_port.specs.PassPorts.{PassPort, IsGivenBy, IsRefusedBy}
+use Rattle.shard_port.specs.PassPorts.{PassPort, port_of, IsGivenBy, IsRefusedBy}
 use Rattle.shard_port.specs.PassSessions.{HasSessions, HasRefusedSessions}
 use Rattle.gates.specs.Gates.{next_count, count_after}
 
@@ -73,6 +77,24 @@ IsGivenTold plan count before call reply after = IsGivenBy plan count before.por
 -- the port refused the call, and the gate was told of nothing
 abbrev pub IsRefusedUntold : (ℕ → ShardPlan) → ℕ → ToldPort → Call → ToldPort → Type 0
 IsRefusedUntold plan count before call after = IsRefusedBy plan count before.port call after.port × (after.told ≡ before.told)
+
+-- the port of a pass over these shards, and how many replies the gate was told of
+abbrev pub told_by : SharedMaps → PassView → ℕ → ToldPort
+told_by shards pass told = told_port (port_of shards pass) told
+
+-- the run of an accepted image on a frame ended so, over the port of a pass
+abbrev pub EndsTold : (ℕ → ShardPlan) → ℕ → Verified → FrameView → Moment → ToldPort → ToldPort → Exit → FrameView → Type 0
+EndsTold plan count verified frame moment before after exit left =
+    Ends (IsGivenTold plan count) (program_of verified before.port.served.shards) (initial_state frame moment.worker moment.now_ns)
+    before after exit.verdict exit.steps left
+
+-- or it stopped so
+abbrev pub StopsTold : (ℕ → ShardPlan) → ℕ → Verified → FrameView → Moment → ToldPort → ToldPort → Stop → FrameView → Type 0
+StopsTold plan count verified frame moment before after stop left =
+    StopsSo (IsGivenTold plan count) (IsRefusedUntold plan count) (program_of verified before.port.served.shards)
+    (initial_state frame moment.worker moment.now_ns) before after left stop
+
+-- ---- the same by the worker's pass, which is outside every shard before and after
 
 -- the run ended so, and the gate was told of each of its replies
 abbrev pub HasRunTold : Program → MachineState → ℕ → ℕ → PassView → PassView → Verdict → ℕ → FrameView → ℕ → ℕ → Type 0

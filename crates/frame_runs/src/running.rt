@@ -3,10 +3,10 @@
 ghost use Rattle.std.specs.Prelude.{◌≡◌, ◌<◌, ℕ, IsTrue, IfOk, IfErr};
 ghost use Rattle.semantics.specs.declared.call.Caller.TheVariants.{Worker};
 ghost use Rattle.semantics.specs.MachineState.{initial_state};
-ghost use Rattle.machine.specs.Running.{program_of, Ends, StopsSo};
-ghost use Rattle.shard_port.specs.PassPorts.{is_worker_below, worker_of, port_of, IsFinishedBy};
+ghost use Rattle.machine.specs.Running.{program_of};
+ghost use Rattle.shard_port.specs.PassPorts.{is_worker_below, worker_of, IsFinishedBy};
 ghost use Rattle.shard_port.specs.PassSessions.{IsOutsideAt};
-ghost use Rattle.frame_runs.specs.FrameRuns.{IsGivenTold, IsRefusedUntold, told_port, HasRunTold, HasStoppedTold};
+ghost use Rattle.frame_runs.specs.FrameRuns.{told_by, EndsTold, StopsTold, HasRunTold, HasStoppedTold};
 
 use gates::{Gate, Tally};
 use machine::{Exit, Moment, Stop, run};
@@ -47,15 +47,12 @@ fn run_at<B: Naming, W: Wait, G: Gate>(
     requires served { port.old.shards.now.maps ≡ verified.now.maps }
     requires headroom { frame.old.headroom ≡ 256 }
     requires moment { moment.now.worker < 8 }
-    ensures exit { IfOk result (λ exit. Ends (IsGivenTold B.plan B.count) (program_of verified.now port.old.shards.now.options.shards)
-        (initial_state frame.old moment.now.worker moment.now.now_ns)
-        (told_port (port_of port.old.shards.now port.old.pass.now) port.old.tally.count)
-        (told_port (port_of port.new.shards.now port.new.pass.now) port.new.tally.count) exit.verdict exit.steps frame.new) }
-    ensures stop { IfErr result (StopsSo (IsGivenTold B.plan B.count) (IsRefusedUntold B.plan B.count)
-        (program_of verified.now port.old.shards.now.options.shards)
-        (initial_state frame.old moment.now.worker moment.now.now_ns)
-        (told_port (port_of port.old.shards.now port.old.pass.now) port.old.tally.count)
-        (told_port (port_of port.new.shards.now port.new.pass.now) port.new.tally.count) frame.new) }
+    ensures exit { IfOk result (λ exit. EndsTold B.plan B.count verified.now frame.old moment.now
+        (told_by port.old.shards.now port.old.pass.now port.old.tally.count)
+        (told_by port.new.shards.now port.new.pass.now port.new.tally.count) exit frame.new) }
+    ensures stop { IfErr result (λ stop. StopsTold B.plan B.count verified.now frame.old moment.now
+        (told_by port.old.shards.now port.old.pass.now port.old.tally.count)
+        (told_by port.new.shards.now port.new.pass.now port.new.tally.count) stop frame.new) }
     ensures same_pass { port.new.pass.ghost_name ≡ port.old.pass.ghost_name }
 {
     run(verified, frame, moment, port)

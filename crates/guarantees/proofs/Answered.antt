@@ -1,11 +1,11 @@
 -- A run whose replies are those of a function ends as with the function.
-use Rattle.std.proofs.Common.{◌≡◌, ℕ, zero, suc, List, [], ◌∷◌, refl, sym, ◌∙◌, ap, subst}
+use Rattle.std.proofs.Common.{◌≡◌, ℕ, zero, suc, List, [], ◌∷◌, refl, sym, ◌∙◌, ap}
 use Rattle.std.specs.List.{AllByRecursion}
 use Rattle.semantics.specs.declared.call.Call.{Call}
 use Rattle.semantics.specs.declared.call.Reply.{Reply}
 use Rattle.semantics.specs.MachineState.{MachineState}
 use Rattle.semantics.specs.Program.{Program}
-use Rattle.semantics.specs.RunTrace.{RunStand, HasExited, trace_from, trace_of}
+use Rattle.semantics.specs.RunTrace.{trace_from, trace_of}
 use Rattle.semantics.specs.Semantics.{next_step}
 use Rattle.semantics.specs.Step.{Step, Continues, CallsMap, Exits, Traps}
 use Rattle.map_port.specs.Exchanges.{Exchange, calls_in, replies_in}

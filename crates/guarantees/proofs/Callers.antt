@@ -1,37 +1,19 @@
 -- What holds of all entries of each caller holds of a whole legal history.
-use Rattle.std.proofs.Common.{◌≡◌, ℕ, ◌<◌, ◌==◌, Bool, true, false, ◌&&◌, List, [], ◌∷◌, refl, sym, ◌∙◌, ap, subst, arith}
-use Rattle.std.specs.Prelude.{nat_lt, if◌then◌else◌, IsTrue}
+use Rattle.std.proofs.Common.{◌≡◌, ℕ, ◌<◌, ◌==◌, Bool, true, false, List, [], ◌∷◌, refl, ◌∙◌, ap, arith}
+use Rattle.std.specs.Prelude.{if◌then◌else◌, IsTrue}
 use Rattle.std.specs.List.{AllByRecursion}
 use Rattle.std.proofs.lemmas.Bool.Decides.{nat_tests}
 use Rattle.semantics.specs.declared.call.Caller.{Caller}
 use Rattle.semantics.specs.declared.call.Caller.TheVariants.{Worker, Controller, Reclaimer}
 use Rattle.semantics.specs.declared.call.Call.{Call}
-use Rattle.semantics.specs.declared.call.Call.TheVariants.{Enter, Leave, Lookup, Load, Store, Atomic, Update, Delete, Reclaim}
 use Rattle.semantics.specs.declared.call.Entry.{Entry}
 use Rattle.semantics.specs.declared.plan.ShardPlan.{ShardPlan}
 use Rattle.semantics.specs.CallerLaws.{is_caller, own_entries}
 use Rattle.semantics.specs.History.{IsLegalHistory, meets, meets_part, shard_of_call}
-use Rattle.semantics.proofs.shared.ConditionLemmas.{first_true, second_true}
+use Rattle.semantics.proofs.shared.CallNumbers.{part_below}
+use Rattle.semantics.proofs.shared.ConditionLemmas.{second_true}
 
 -- ---- a worker that may call is one of the plan's
-
-below_of : (a b : ℕ) → IsTrue (nat_lt a b) → a < b
-below_of a b test = grind (arith, nat_tests)
-
-part_below : (plan : ShardPlan) (history : List Entry) (worker : ℕ) (call : Call) → IsTrue (meets_part plan history (Worker worker) call) →
-    worker < plan.workers
-part_below plan history worker (Enter shard) met = below_of worker plan.workers (first_true _ _ met)
-part_below plan history worker (Leave shard) met = below_of worker plan.workers (first_true _ _ met)
-part_below plan history worker (Lookup shard key) met = below_of worker plan.workers (first_true _ _ (first_true _ _ met))
-part_below plan history worker (Load cell offset size) met = below_of worker plan.workers (first_true _ _ (first_true _ _ (first_true _ _ met)))
-part_below plan history worker (Store cell offset size value) met =
-    below_of worker plan.workers (first_true _ _ (first_true _ _ (first_true _ _ (first_true _ _ met))))
-part_below plan history worker (Atomic cell offset size op value expected) met =
-    below_of worker plan.workers
-    (first_true _ _ (first_true _ _ (first_true _ _ (first_true _ _ (first_true _ _ (first_true _ _ (first_true _ _ met)))))))
-part_below plan history worker (Update shard key value flags) met = below_of worker plan.workers (first_true _ _ (first_true _ _ (first_true _ _ met)))
-part_below plan history worker (Delete shard key) met = below_of worker plan.workers (first_true _ _ (first_true _ _ met))
-part_below plan history worker (Reclaim shard) met = absurd cc
 
 worker_below : (plan : ShardPlan) (history : List Entry) (worker : ℕ) (call : Call) → IsTrue (meets plan history (Worker worker) call) → worker < plan.workers
 worker_below plan history worker call met =

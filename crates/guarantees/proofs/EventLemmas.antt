@@ -18,7 +18,7 @@ use Rattle.semantics.specs.Step.{Step, Continues, CallsMap, Exits, Traps}
 use Rattle.semantics.specs.Semantics.{next_step}
 use Rattle.semantics.specs.RunTrace.{RunTrace, HasExited, HasTrapped, GoesOn, trace_of, trace_from}
 use Rattle.semantics.specs.History.{shard_of_call}
-use Rattle.semantics.specs.System.{Setting, WorkerState, Idle, Runs, Leaves, is_entered, without_shard, run_over, IsInputFrame, input_frame}
+use Rattle.semantics.specs.System.{Setting, Idle, Runs, Leaves, is_entered, without_shard, run_over, IsInputFrame, input_frame}
 use Rattle.semantics.specs.System as model
 use Rattle.verifier.specs.Verified.{Verified}
 use Rattle.machine.specs.declared.moment.Moment.{Moment}

@@ -1,14 +1,12 @@
 -- A replay of a program that only reads: what is sent is what the runs over maps in which nothing has happened send.
-use Rattle.std.proofs.Common.{◌≡◌, ◌⊎◌, ℕ, zero, suc, ◌+◌, ◌<◌, ◌≤◌, ◌==◌, Bool, true, false, List, [], ◌∷◌, ◌++◌, length, refl, sym, ◌∙◌, ap, subst, arith, inl, inr}
+use Rattle.std.proofs.Common.{◌≡◌, ℕ, zero, suc, ◌+◌, ◌<◌, ◌≤◌, Bool, true, false, List, [], ◌∷◌, ◌++◌, length, refl, sym, ◌∙◌, ap, subst, arith}
 use Rattle.std.specs.Prelude.{Option, Some, None, IsTrue, reverse, map, slice_get, ◌%◌, ◌/◌, if◌then◌else◌}
 use Rattle.std.specs.List.{AllByRecursion}
 use Rattle.std.proofs.Math.Nat.{mod-lt}
-use Rattle.std.proofs.lemmas.Option.{slice_get_within}
 use Rattle.ebpf_decode.specs.declared.insn.Insn.{Insn}
 use Rattle.ebpf_decode.specs.declared.map.MapDef.{MapDef}
 use Rattle.ebpf_decode.specs.declared.map.MapKind.{MapKind}
 use Rattle.ebpf_decode.specs.declared.map.MapKind.TheVariants.{Array, Hash, LruHash}
-use Rattle.ebpf_decode.specs.InstructionEncoding.{total_slots}
 use Rattle.wire.specs.declared.records.Sent.{Sent}
 use Rattle.wire.specs.Fnv.{fnv1a64_of}
 use Rattle.wire.specs.FlowForm.{flow_bytes_of}
@@ -18,7 +16,7 @@ use Rattle.semantics.specs.declared.options.Options.{Options}
 use Rattle.semantics.specs.declared.plan.ShardPlan.{ShardPlan}
 use Rattle.semantics.specs.CallerLaws.{own_entries}
 use Rattle.semantics.specs.Program.{Program}
-use Rattle.semantics.specs.ShardPlan.{plan_at, plan_for_map}
+use Rattle.semantics.specs.ShardPlan.{plan_for_map}
 use Rattle.journals.specs.JournalsView.{JournalsView, entries_at}
 use Rattle.shared_shards.specs.CallerView.{CallerView}
 use Rattle.shared_shards.specs.Passes.{PassView, own_at}
@@ -29,22 +27,21 @@ use Rattle.workers.specs.declared.run_end.Ran.{Ran}
 use Rattle.workers.specs.declared.run_end.RunEnd.{RunEnd}
 use Rattle.workers.specs.declared.run_end.RunEnd.TheVariants.{Stopped, Aborted, Dropped, Passed, Sent as IsSent}
 use Rattle.workers.specs.declared.counts.Counts.{Counts}
-use Rattle.workers.specs.Accounts.{SentFrame, counts_of, sent_by, sent_of, sent_frames, runs_at, end_at, fate_of}
-use Rattle.workers.specs.Jobs.{records_of}
+use Rattle.workers.specs.Accounts.{SentFrame, counts_of, sent_by, sent_of, sent_frames, runs_at, fate_of}
 use Rattle.workers.specs.Runs.{IsRunAt, IsChainOfRuns}
 use Rattle.workers.specs.Shares.{frames_of, frame_at, is_short, has_flow, worker_of_frame, is_handed, share}
 use Rattle.workers.proofs.shared.AccountLemmas.{handed_own}
 use Rattle.replay.specs.declared.outcome.Outcome.{Outcome}
-use Rattle.replay.specs.Accounted.{IsAccounted, IsWorkOf}
-use Rattle.replay.specs.Parts.{IsScriptAccounted, rounds_of}
-use Rattle.replay.specs.Runs.{IsNewPass, IsRunIn, IsExit}
+use Rattle.replay.specs.Accounted.{IsAccounted}
+use Rattle.replay.specs.Parts.{rounds_of}
+use Rattle.replay.specs.Runs.{IsRunIn, IsExit}
 use Rattle.guarantees.specs.ReaderRuns.{is_quiet, AreQuiet, IsReadAtOpening}
-use Rattle.guarantees.specs.ReaderReplays.{IsCaptured, opening_answer, sent_where, sent_at_opening, sent_if_there, all_sent_at_opening}
-use Rattle.guarantees.proofs.Callers.{AreAllOf, all_of_callers, all_own}
-use Rattle.guarantees.proofs.NoneStopped.{IsNotStopped, IsWhole, all_whole, is_long, fate_is}
+use Rattle.guarantees.specs.ReaderReplays.{IsCaptured, sent_at_opening, sent_if_there, all_sent_at_opening}
+use Rattle.guarantees.proofs.Callers.{all_of_callers, all_own}
+use Rattle.guarantees.proofs.NoneStopped.{IsNotStopped, IsWhole, all_whole, fate_is}
 use Rattle.guarantees.proofs.OpenedRuns.{IsReading, program_at, stays_quiet, earlier, sends_as_opened}
 use Rattle.guarantees.proofs.QuietShards.{quiet_shards}
-use Rattle.guarantees.proofs.ShareOrder.{IsRunThere, run_there, share_at}
+use Rattle.guarantees.proofs.ShareOrder.{run_there, share_at}
 
 -- ---- records
 

@@ -1,5 +1,5 @@
 -- A worker's run of a program that only reads, over maps that are as they were opened.
-use Rattle.std.proofs.Common.{◌≡◌, ℕ, zero, suc, ◌<◌, ◌≤◌, ◌^◌, Bool, true, false, List, [], ◌∷◌, ◌++◌, length, refl, sym, ◌∙◌, ap, subst, arith}
+use Rattle.std.proofs.Common.{◌≡◌, ℕ, ◌<◌, ◌≤◌, false, List, [], ◌∷◌, length, refl, sym, ◌∙◌, ap, subst, arith}
 use Rattle.std.specs.Prelude.{Option, Some, None, IsTrue, reverse, slice_get, nat_lt, ◌%◌, ◌/◌}
 use Rattle.std.specs.List.{AllByRecursion}
 use Rattle.std.proofs.lemmas.Bool.Decides.{nat_tests}
@@ -12,16 +12,14 @@ use Rattle.wire.specs.declared.records.Sent.{Sent}
 use Rattle.wire.specs.FrameView.{FrameView}
 use Rattle.semantics.specs.declared.call.Call.{Call}
 use Rattle.semantics.specs.declared.call.Call.TheVariants.{Enter, Leave, Lookup, Load, Store, Atomic, Update, Delete, Reclaim}
-use Rattle.semantics.specs.declared.call.Reply.{Reply}
 use Rattle.semantics.specs.declared.call.Entry.{Entry}
 use Rattle.semantics.specs.declared.options.Options.{Options}
 use Rattle.semantics.specs.declared.plan.ShardPlan.{ShardPlan}
 use Rattle.semantics.specs.declared.verdict.Verdict.{Verdict}
 use Rattle.semantics.specs.declared.verdict.Verdict.TheVariants as verdicts
-use Rattle.semantics.specs.MachineState.{MachineState}
 use Rattle.semantics.specs.Program.{Program}
 use Rattle.semantics.specs.History.{shard_of_call}
-use Rattle.semantics.specs.RunTrace.{RunStand, RunTrace, HasExited, Waits, HasTrapped, GoesOn, IsReplyTo, trace_of}
+use Rattle.semantics.specs.RunTrace.{RunStand, RunTrace, HasExited, Waits, HasTrapped, GoesOn, trace_of}
 use Rattle.semantics.specs.ShardPlan.{plan_at, plan_for_map}
 use Rattle.semantics.specs.System.{IsInputFrame}
 use Rattle.map_port.specs.Exchanges.{Exchange, calls_in, replies_in}
@@ -31,12 +29,12 @@ use Rattle.shard_port.specs.Sessions.{entry_of, entries_at}
 use Rattle.frame_runs.specs.FrameRuns.{AreFormed}
 use Rattle.workers.specs.declared.run_end.RunEnd.{RunEnd}
 use Rattle.workers.specs.declared.run_end.RunEnd.TheVariants.{Stopped, Aborted, Dropped, Passed, Sent as IsSent}
-use Rattle.workers.specs.Accounts.{SentFrame, sent_by}
+use Rattle.workers.specs.Accounts.{sent_by}
 use Rattle.workers.specs.Shares.{is_short}
-use Rattle.replay.specs.Runs.{IsTold, IsSentOf, IsExit, start_of, time_of}
+use Rattle.replay.specs.Runs.{IsTold, IsExit, start_of, time_of}
 use Rattle.guarantees.specs.SameRuns.{AreReplies, RunsTheSame, stand_of_any, trace_of_any}
 use Rattle.guarantees.specs.ReaderRuns.{is_read, is_quiet, AreReads, AreQuiet, OnlyReads, IsReadAtOpening, opening_reply, stand_with}
-use Rattle.guarantees.specs.ReaderReplays.{IsCaptured, answer_in, opening_answer, options_of, sent_for, sent_where, sent_at_opening}
+use Rattle.guarantees.specs.ReaderReplays.{IsCaptured, answer_in, opening_answer, options_of, sent_for, sent_where}
 use Rattle.guarantees.proofs.Answered.{AreOf, ends_alike}
 use Rattle.guarantees.proofs.EveryEntry.{all_both, all_parts, all_reverse, all_reversed, all_session, in_session, all_entries, each_exchange}
 

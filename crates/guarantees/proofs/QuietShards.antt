@@ -1,5 +1,5 @@
 -- Shards of which nothing was asked that changes them.
-use Rattle.std.proofs.Common.{◌≡◌, ℕ, List, [], ◌∷◌, IsTrue, refl, sym, ◌∙◌, ap, subst}
+use Rattle.std.proofs.Common.{◌≡◌, List, [], ◌∷◌, IsTrue, refl, ◌∙◌, ap}
 use Rattle.std.specs.List.{AllByRecursion}
 use Rattle.semantics.specs.declared.call.Call.{Call}
 use Rattle.semantics.specs.declared.call.Call.TheVariants.{Enter, Leave, Lookup, Load, Store, Atomic, Update, Delete, Reclaim}
@@ -7,7 +7,7 @@ use Rattle.semantics.specs.declared.call.Entry.{Entry}
 use Rattle.semantics.specs.declared.plan.ShardPlan.{ShardPlan}
 use Rattle.semantics.specs.History.{IsLegalHistory}
 use Rattle.semantics.specs.SequentialShard.{SequentialShard, opening_shard, shard_after, shard_after_call, reply_of}
-use Rattle.guarantees.specs.ReaderRuns.{is_read, is_quiet, AreQuiet, opening_reply, IsReadAtOpening, QuietShardsAreAsOpened}
+use Rattle.guarantees.specs.ReaderRuns.{is_read, is_quiet, AreQuiet, IsReadAtOpening, QuietShardsAreAsOpened}
 
 -- one call: no cell was retired, so a Reclaim frees none
 quiet_call : (plan : ShardPlan) (history : List Entry) (call : Call) → IsTrue (is_quiet call) →

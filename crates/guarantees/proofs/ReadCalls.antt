@@ -1,5 +1,5 @@
 -- The calls of a program that only reads.
-use Rattle.std.proofs.Common.{◌≡◌, ℕ, zero, suc, ◌||◌, Bool, true, false, not, ℤ, pos, List, [], ◌∷◌, Option, Some, None, Ok, IsTrue, refl, sym, ◌∙◌, ap, subst, inl, inr, ◌⊎◌, arith}
+use Rattle.std.proofs.Common.{◌≡◌, ℕ, zero, suc, Bool, true, false, not, ℤ, List, [], ◌∷◌, Option, Ok, IsTrue, refl, sym, ◌∙◌, ap, subst, arith}
 use Rattle.std.proofs.lemmas.Bool.{false≢true}
 use Rattle.isa.specs.Words.{twos_complement}
 use Rattle.isa.specs.declared.operation.Register.{Register}
@@ -13,17 +13,13 @@ use Rattle.ebpf_decode.specs.declared.insn.Insn.TheVariants.{St, Stx, AtomicUpda
 use Rattle.ebpf_decode.specs.declared.map.MapDef.{MapDef}
 use Rattle.ebpf_decode.specs.declared.version.Version.{Version}
 use Rattle.ebpf_decode.specs.ImageContents.{IsEncodable}
-use Rattle.semantics.specs.declared.call.Call.{Call}
 use Rattle.semantics.specs.declared.call.Reply.{Reply}
-use Rattle.semantics.specs.declared.linux.Helper.TheVariants.{MapLookupElem, MapUpdateElem, MapDeleteElem, KtimeGetNs, GetSmpProcessorId, XdpAdjustHead}
-use Rattle.semantics.specs.Linux.{helper_of}
-use Rattle.semantics.specs.RegisterValue.{RegisterValue, Number, ContextPointer, StackPointer, PacketPointer, MapPointer, CellPointer}
+use Rattle.semantics.specs.RegisterValue.{RegisterValue, Number, ContextPointer, StackPointer, PacketPointer, MapPointer}
 use Rattle.semantics.specs.RegisterValue as meaning
 use Rattle.semantics.specs.MachineState.{MachineState, register_value, initial_state}
 use Rattle.semantics.specs.Program.{Program}
 use Rattle.semantics.specs.RunTrace.{trace_from, trace_of}
 use Rattle.semantics.specs.Semantics.{next_step}
-use Rattle.semantics.specs.ServedCalls.{Held}
 use Rattle.semantics.specs.Step.{Step, Continues, CallsMap, Exits, Traps}
 use Rattle.semantics.specs.System.{input_frame}
 use Rattle.abstract_scalar.specs.Intervals.{constant_of}
@@ -39,7 +35,7 @@ use Rattle.abstract_state.proofs.shared.Checking.{ok_then, falls_made}
 use Rattle.abstract_state.proofs.shared.Opening.{opening_sound}
 use Rattle.verifier.specs.Readers.{is_value, is_worker_helper, only_reads, IsReader}
 use Rattle.verifier.specs.Dataflow.{Accepts}
-use Rattle.verifier.proofs.shared.PlaceLemmas.{parts_fit, IsSoundPlace, Here, here_of, continues_there, answered_there}
+use Rattle.verifier.proofs.shared.PlaceLemmas.{parts_fit, Here, here_of, continues_there, answered_there}
 use Rattle.verifier.proofs.shared.LocalLemmas.{begins_at_start}
 use Rattle.verifier.proofs.shared.SafetyLemmas.{some_slot}
 use Rattle.guarantees.specs.SameRuns.{AreReplies}

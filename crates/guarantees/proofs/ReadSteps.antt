@@ -1,8 +1,8 @@
 -- An instruction that only reads asks a map for nothing but a lookup or a load.
-use Rattle.std.proofs.Common.{◌≡◌, ℕ, Bool, true, false, ℤ, pos, negsuc, List, Option, Some, None, Ok, Err, refl, sym, ◌∙◌, ap, subst}
+use Rattle.std.proofs.Common.{◌≡◌, ℕ, Bool, true, false, ℤ, pos, negsuc, List, Option, Some, None, Ok, Err, refl}
 use Rattle.std.specs.Prelude.{◌+ℤ◌}
 use Rattle.isa.specs.Words.{twos_complement}
-use Rattle.isa.specs.InstructionCodes.{size_bytes, width_size, extension_size}
+use Rattle.isa.specs.InstructionCodes.{size_bytes, extension_size}
 use Rattle.isa.specs.declared.operation.Width.{Width}
 use Rattle.isa.specs.declared.operation.Size.{Size}
 use Rattle.isa.specs.declared.operation.Extension.{Extension}
@@ -19,7 +19,7 @@ use Rattle.semantics.specs.Linux.{helper_of}
 use Rattle.semantics.specs.RegisterValue.{RegisterValue, Uninitialized, Number, ContextPointer, StackPointer, PacketPointer, PacketEnd, MapPointer, CellPointer}
 use Rattle.semantics.specs.MachineState.{MachineState, register_value}
 use Rattle.semantics.specs.Program.{Program, shard_of_key}
-use Rattle.semantics.specs.Step.{Outcome, Step, or_trap, Continues, CallsMap, Exits, Traps}
+use Rattle.semantics.specs.Step.{Outcome, Step, or_trap, CallsMap}
 use Rattle.semantics.specs.Arithmetic.{source_value}
 use Rattle.semantics.specs.Comparison.{jump_outcome}
 use Rattle.semantics.specs.Memory.{packet_range, stack_range, stack_place, cell_range}

@@ -1,5 +1,5 @@
 -- Runs of a program that only reads are the same on whichever worker.
-use Rattle.std.proofs.Common.{◌≡◌, ℕ, zero, suc, ◌==◌, ◌||◌, Bool, true, false, not, ℤ, pos, negsuc, List, [], ◌∷◌, Option, Some, None, Ok, IsTrue, refl, sym, ◌∙◌, ap, subst, inl, inr, arith}
+use Rattle.std.proofs.Common.{◌≡◌, ℕ, zero, suc, true, false, not, List, [], ◌∷◌, Option, Ok, IsTrue, refl, sym, ◌∙◌, ap, subst, inl, inr, arith}
 use Rattle.std.proofs.lemmas.Bool.{false≢true}
 use Rattle.isa.specs.declared.operation.Register.{Register}
 use Rattle.ebpf_decode.specs.declared.insn.Insn.{Insn}
@@ -11,9 +11,7 @@ use Rattle.semantics.specs.declared.call.Call.{Call}
 use Rattle.semantics.specs.declared.call.Call.TheVariants.{Lookup}
 use Rattle.semantics.specs.declared.call.Reply.{Reply}
 use Rattle.semantics.specs.declared.call.Reply.TheVariants.{Cell}
-use Rattle.semantics.specs.declared.linux.ContextField.TheVariants.{Data, DataEnd, IngressIfindex, RxQueueIndex}
-use Rattle.semantics.specs.declared.linux.Helper.TheVariants.{MapLookupElem, MapUpdateElem, MapDeleteElem, KtimeGetNs, GetSmpProcessorId, XdpAdjustHead}
-use Rattle.semantics.specs.Linux.{helper_of, field_at}
+use Rattle.semantics.specs.Linux.{field_at}
 use Rattle.semantics.specs.RegisterValue.{RegisterValue, Number, ContextPointer, StackPointer, PacketPointer, MapPointer, CellPointer}
 use Rattle.semantics.specs.RegisterValue as meaning
 use Rattle.semantics.specs.MachineState.{MachineState, register_value, initial_state}

@@ -20,7 +20,7 @@ use Rattle.semantics.specs.declared.call.SectionChange.TheVariants.{Begins, Ends
 use Rattle.semantics.specs.Sections.{section_change}
 use Rattle.semantics.specs.Reclamation.{inside_count}
 use Rattle.semantics.specs.History.{shard_of_call, lacks_room, room_for_leave, IsJournalFull}
-use Rattle.semantics.specs.System.{Setting, Idle, Runs, is_entered, run_over, IsInputFrame, input_frame}
+use Rattle.semantics.specs.System.{Setting, Runs, is_entered, run_over, IsInputFrame, input_frame}
 use Rattle.semantics.specs.System as model
 use Rattle.verifier.specs.Verified.{Verified}
 use Rattle.machine.specs.declared.exit.Stop.{Stop}

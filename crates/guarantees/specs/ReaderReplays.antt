@@ -1,5 +1,5 @@
 -- What a replay of a program that only reads sends: the program's run trace frame by frame, over maps in which nothing has happened.
-use Rattle.std.specs.Prelude.{◌≡◌, ℕ, zero, suc, ◌≤◌, ◌<◌, ◌^◌, Bool, List, [], ◌∷◌, ◌++◌, length, All, Option, Some, None, slice_get, if◌then◌else◌}
+use Rattle.std.specs.Prelude.{◌≡◌, ℕ, zero, suc, ◌≤◌, ◌<◌, ◌^◌, List, [], ◌∷◌, ◌++◌, length, All, Option, Some, None, slice_get, if◌then◌else◌}
 use Rattle.std.specs.List.{AllByRecursion}
 use Rattle.ebpf_decode.specs.declared.insn.Insn.{Insn}
 use Rattle.ebpf_decode.specs.declared.map.MapDef.{MapDef}

@@ -1,5 +1,5 @@
 -- What runs of a program that only reads ask of maps, and what maps in which nothing has happened answer.
-use Rattle.std.specs.Prelude.{◌≡◌, ℕ, zero, suc, ◌<◌, ◌^◌, Bool, true, false, List, [], ◌∷◌, Option, Some, None, IsTrue}
+use Rattle.std.specs.Prelude.{◌≡◌, ℕ, zero, suc, ◌<◌, ◌^◌, Bool, true, false, List, [], IsTrue}
 use Rattle.std.specs.List.{AllByRecursion}
 use Rattle.ebpf_decode.specs.declared.insn.Insn.{Insn}
 use Rattle.ebpf_decode.specs.declared.map.MapDef.{MapDef}

@@ -1,5 +1,7 @@
-//! What xlb promises, on one page. Each guarantee that stands today is the contract of a function that does nothing; each is composed
-//! from what the public calls of the crates below ensure, and the definitions that it names are those of docs/DEFINITIONS.md.
+//! The guarantees of xlb that are composed of several calls, on one page: each has a law here, the contract of a function that does
+//! nothing, composed from what the public calls of the crates below ensure. What a single call promises by itself is that call's contract:
+//! robustness, functional correctness, and what is said of queues, of journals at `Shards::close`, of `run_alone` and of `replay`.
+//! docs/GUARANTEES.md says where these stand. The definitions that a law names are those of docs/DEFINITIONS.md.
 //!
 //! *Whatever frames arrive and however the shared steps of workers, controller and reclaimer interleave, a run of an image that
 //! `verify` accepted reaches no trap and ends within as many instructions as the image has slots*: `accepted_images_are_safe`.

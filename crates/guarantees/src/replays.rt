@@ -1,6 +1,6 @@
 //! The replay of which the law on programs that only read speaks, made.
 
-ghost use Rattle.std.specs.Prelude.{◌≡◌, ◌<◌, ◌≤◌, ◌↔◌, [], ℕ, length, IfOk, IsErrOf, IsFalse};
+ghost use Rattle.std.specs.Prelude.{◌≡◌, ◌<◌, ◌≤◌, ◌↔◌, [], length, IfOk, IsErrOf, IsFalse};
 ghost use Rattle.std.specs.List.{AllByRecursion};
 ghost use Rattle.verifier.specs.Readers.{IsReader};
 ghost use Rattle.machine.specs.Running.{program_of};

@@ -1,5 +1,5 @@
 -- The pass that marks what is reached: edges go up, so all marks of a slot are made before it is looked at.
-use Rattle.std.proofs.Common.{◌≡◌, ◌≢◌, ℕ, ◌+◌, ◌<◌, ◌≤◌, Bool, true, false, ℤ, pos, negsuc, List, length, get_or, set, replicate, Some, None, refl, sym, ap, subst, ◌∙◌, inl, inr, ⊎_elim, arith, lit<}
+use Rattle.std.proofs.Common.{◌≡◌, ◌≢◌, ℕ, ◌<◌, ◌≤◌, Bool, true, false, ℤ, pos, negsuc, List, length, get_or, set, replicate, Some, None, refl, sym, ap, subst, ◌∙◌, inl, inr, ⊎_elim, arith, lit<}
 use Rattle.std.specs.Prelude.{IsTrue}
 use Rattle.std.proofs.lemmas.Bool.{cases_lt, cases_eq}
 use Rattle.std.proofs.lemmas.List.{get_or-set_same, get_or-set_other, length-replicate, length-set}
@@ -9,7 +9,7 @@ use Rattle.semantics.specs.Program.{instruction_at}
 use Rattle.ebpf_decode.specs.Jumps.{jump_target}
 use Rattle.image_shape.specs.Edges.{IsJump, IsEdge, is_begin, IsReachableSlot, reached_start, reached_along}
 use Rattle.image_shape.specs.Structure.{HasSoundEdges, HasShape, IsFirstUnreachable}
-use Rattle.image_shape.specs.Layouts.{GoesForward, IsMarked}
+use Rattle.image_shape.specs.Layouts.{HasNoNegativeTarget, IsMarked}
 use Rattle.image_shape.proofs.shared.SlotLemmas.{past_end}
 use Rattle.image_shape.proofs.shared.FaultLemmas.{IsTarget, edge_is_up}
 use Rattle.image_shape.proofs.LayoutLemmas.{unmarked}
@@ -122,8 +122,8 @@ one_marked slots before target room is only = record {
 pub one_target : (slot : ℕ) (insn : Insn) (target : ℕ) → jump_target slot insn ≡ Some (pos target) → (k : ℕ) → IsJump slot insn k → k ≡ target
 one_target slot insn target is k jump = let found : jump_target slot insn ≡ Some (pos k) = jump in cc
 
--- the target of a jump that goes forward, as a slot
-pub target_slot : (slot : ℕ) (insn : Insn) (target : ℤ) → GoesForward slot insn → ((k : ℕ) → IsJump slot insn k → k < 4096) → jump_target slot insn ≡ Some target →
+-- the target of a jump that is not below 0, as a slot
+pub target_slot : (slot : ℕ) (insn : Insn) (target : ℤ) → HasNoNegativeTarget slot insn → ((k : ℕ) → IsJump slot insn k → k < 4096) → jump_target slot insn ≡ Some target →
     (at : ℕ) × (target ≡ pos at) × (at < 4096)
 target_slot slot insn (pos at) up targets is = (at, refl, targets at is)
 target_slot slot insn (negsuc below) up targets is = absurd (up (negsuc below) is).le

@@ -11,8 +11,8 @@ pub record IsLayout (code : List Insn) (begins : List Bool) (total : ℕ) : Type
   pub slots : total ≡ total_slots code
 
 -- the target of a jump is not below 0
-abbrev pub GoesForward : ℕ → Insn → Type 0
-GoesForward slot insn = (target : ℤ) → jump_target slot insn ≡ Some target → pos 0 ≤ℤ target
+abbrev pub HasNoNegativeTarget : ℕ → Insn → Type 0
+HasNoNegativeTarget slot insn = (target : ℤ) → jump_target slot insn ≡ Some target → pos 0 ≤ℤ target
 
 -- these slots are marked too, and no others
 pub record IsMarked (slots : ℕ → Type 0) (before after : List Bool) : Type 0 where

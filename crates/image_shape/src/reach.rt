@@ -4,7 +4,7 @@ ghost use Rattle.std.specs.Prelude.{◌≡◌, ℕ, ◌≤◌, ◌<◌, IfOk, If
 ghost use Rattle.ebpf_decode.specs.InstructionEncoding.{total_slots};
 ghost use Rattle.image_shape.specs.Edges.{IsFall, IsJump, IsEdge};
 ghost use Rattle.image_shape.specs.Structure.{HasShape, HasSoundEdges, IsFirstFault};
-ghost use Rattle.image_shape.specs.Layouts.{GoesForward, IsMarked};
+ghost use Rattle.image_shape.specs.Layouts.{HasNoNegativeTarget, IsMarked};
 
 use crate::edges::falls_through;
 use crate::fault::ShapeFault;
@@ -35,7 +35,7 @@ pub(crate) fn check_reach(code: &[Insn]) -> Result<(), ShapeFault>
 fn mark_edges(reached: &mut [bool; MAX_SLOTS], slot: usize, insn: Insn)
     requires within { slot < 4096 }
     requires targets { (target : ℕ) → IsEdge slot insn target → target < 4096 }
-    requires forward { GoesForward slot insn }
+    requires not_negative { HasNoNegativeTarget slot insn }
     ensures { IsMarked (IsEdge slot insn) reached.old reached.new }
 {
     mark_next(reached, slot, insn);
@@ -57,7 +57,7 @@ fn mark_next(reached: &mut [bool; MAX_SLOTS], slot: usize, insn: Insn)
 fn mark_target(reached: &mut [bool; MAX_SLOTS], slot: usize, insn: Insn)
     requires within { slot < 4096 }
     requires targets { (target : ℕ) → IsJump slot insn target → target < 4096 }
-    requires forward { GoesForward slot insn }
+    requires not_negative { HasNoNegativeTarget slot insn }
     ensures { IsMarked (IsJump slot insn) reached.old reached.new }
 {
     if let Some(target) = insn.target(slot as u32) {

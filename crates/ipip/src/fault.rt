@@ -2,13 +2,13 @@
 
 use thiserror::Error;
 
-/// Why a frame was not encapsulated.
+/// Why a frame was not encapsulated. docs/FAULTS.md says when each comes, in which order, and what it leaves.
 #[derive(Clone, Copy, Debug, PartialEq, Eq, Error)]
 pub enum IpipFault {
     /// 80: the inner packet's time to live is 0.
     #[error("fault 80 TtlZero")]
     TtlZero,
-    /// 81: the inner packet has more than 1480 bytes, so that the outer one would have more than 1500.
+    /// 81: the inner packet has more than 1480 bytes.
     #[error("fault 81 TooLong")]
     TooLong,
     /// 82: fewer than 20 bytes of headroom.

@@ -8,6 +8,7 @@ ghost use Rattle.journal.specs.Rows.{HasNoBytes, entry_of};
 ghost use Rattle.journal.specs.Ranges.{IsShortRange};
 
 use crate::append::{AtomicChange, CellRange};
+use crate::kept_bytes::put_bytes;
 use crate::row::{Row, Shape};
 use semantics::{Caller, Entry};
 use std::alloc::{AllocError, Global};
@@ -215,15 +216,4 @@ fn put_row(rows: &mut Vec<Row>, row: Row)
     ensures room { vec_capacity rows.old ≤ vec_capacity rows.new }
 {
     rows.push_reserved(row);
-}
-
-// Puts bytes behind the others, for which there is room.
-fn put_bytes(bytes: &mut Vec<u8>, more: &[u8])
-    requires { vec_len bytes.old + length more.now ≤ vec_capacity bytes.old }
-    ensures items { bytes.new.items ≡ bytes.old.items ++ more.now }
-    ensures room { vec_capacity bytes.old ≤ vec_capacity bytes.new }
-{
-    if bytes.extend_from_slice(more).is_err() {
-        unreachable!()
-    }
 }

@@ -1,9 +1,20 @@
-//! Keys and values read back from bytes that stand one after another.
+//! Keys and values as bytes that stand one after another, put there and read back.
 
-ghost use Rattle.std.specs.Prelude.{◌≡◌, ◌+◌, ◌≤◌, length};
+ghost use Rattle.std.specs.Prelude.{◌≡◌, ◌+◌, ◌≤◌, ◌++◌, length, vec_len, vec_capacity};
 ghost use Rattle.journal.specs.Rows.{part};
 
 use semantics::{Key, Value};
+
+/// Puts bytes behind the others, for which there is room.
+pub fn put_bytes(bytes: &mut Vec<u8>, more: &[u8])
+    requires { vec_len bytes.old + length more.now ≤ vec_capacity bytes.old }
+    ensures items { bytes.new.items ≡ bytes.old.items ++ more.now }
+    ensures room { vec_capacity bytes.old ≤ vec_capacity bytes.new }
+{
+    if bytes.extend_from_slice(more).is_err() {
+        unreachable!()
+    }
+}
 
 /// So many bytes from a place on.
 fn part(bytes: &[u8], at: u64, size: u32) -> &[u8]

@@ -12,5 +12,5 @@ mod row;
 
 pub use append::{AtomicChange, CellRange};
 pub use journal_of_shard::Journal;
-pub use kept_bytes::{key_at, value_at};
+pub use kept_bytes::{key_at, put_bytes, value_at};
 pub use semantics::{Caller, Entry};

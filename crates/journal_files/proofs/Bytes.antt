@@ -1,5 +1,5 @@
 -- Which bytes stand in the words of a line.
-use Rattle.std.proofs.Common.{◌≡◌, ℕ, zero, suc, ◌+◌, ◌≤◌, ◌<◌, ◌^◌, ◌/◌, ◌%◌, Bool, true, List, [], ◌∷◌, ◌++◌, get_or, refl, arith}
+use Rattle.std.proofs.Common.{◌≡◌, ℕ, zero, suc, ◌+◌, ◌<◌, ◌^◌, ◌/◌, ◌%◌, Bool, true, List, [], ◌∷◌, ◌++◌, get_or, refl, arith}
 use Rattle.std.specs.Prelude.{ℤ, pos, negsuc, FitsSigned, codes}
 use Rattle.std.specs.Int.{w32}
 use Rattle.std.specs.Fmt.{decimal, signed_decimal}
@@ -18,7 +18,7 @@ use Rattle.text_lines.proofs.shared.ByteLemmas.{all_bytes, within, both, joined,
 use Rattle.journal_files.specs.declared.verb.Verb.{Verb}
 use Rattle.journal_files.specs.declared.verb.Verb.TheVariants.{Enter, Leave, Lookup, Load, Store, Atomic, Update, Delete, Reclaim}
 use Rattle.journal_files.specs.JournalText.{who_text, verb_text, verb_of_call, reply_text, told_text, line_of}
-use Rattle.journal_files.specs.EntryForm.{IsNumber, IsKey, CallerFits, CallFits, RepliesTo, EntryFits, IsFinding, IsWord, IsAnswer, IsFreed, IsEntered, IsLeft, IsDone}
+use Rattle.journal_files.specs.EntryForm.{CallerFits, CallFits, ReplyFits, EntryFits, IsFinding, IsWord, IsAnswer, IsFreed, IsEntered, IsLeft, IsDone}
 
 -- ---- words: bytes above the space
 
@@ -177,8 +177,8 @@ done_printed (Word value) fits = absurd fits
 done_printed (Answer code) fits = absurd fits
 done_printed (Freed count) fits = absurd fits
 
-told_printed : (call : Call) (reply : Reply) → CallFits call → RepliesTo call reply → all_bytes printed (told_text call (reply_text reply)) ≡ true
-unfolding told_text CallFits RepliesTo
+told_printed : (call : Call) (reply : Reply) → CallFits call → ReplyFits call reply → all_bytes printed (told_text call (reply_text reply)) ≡ true
+unfolding told_text CallFits ReplyFits
 told_printed (calls.Enter shard) reply fits replies = entered_printed reply replies
 told_printed (calls.Leave shard) reply fits replies = left_printed reply replies
 told_printed (calls.Lookup shard key) reply fits replies = hex_before key (reply_text reply) fits.1.1 (finding_printed shard reply replies)

@@ -1,31 +1,22 @@
 -- The first line is read in one way, and files are whole.
-use Rattle.std.proofs.Common.{◌≡◌, ◌⊎◌, ℕ, zero, suc, ◌+◌, ◌*◌, ◌/◌, ◌%◌, ◌<◌, ◌≤◌, ◌^◌, Bool, true, false, List, [], ◌∷◌, ◌++◌, length, take, drop, get_or, refl, sym, ap, subst, ◌∙◌, arith, append_assoc, length-append}
-use Rattle.std.proofs.Common.{inl, inr}
-use Rattle.std.specs.Prelude.{◌≢◌, ◌↔◌, Some, None, Option, slice_get, codes}
+use Rattle.std.proofs.Common.{◌≡◌, ℕ, zero, suc, ◌+◌, ◌<◌, ◌^◌, true, List, [], ◌∷◌, ◌++◌, length, take, get_or, refl, sym, ap, subst, ◌∙◌, arith, append_assoc}
+use Rattle.std.specs.Prelude.{Some, slice_get, codes}
 use Rattle.std.specs.Fmt.{decimal}
 use Rattle.std.proofs.lemmas.List.{append-nil}
-use Rattle.std.specs.List.{AllByRecursion}
 use Rattle.std.proofs.lemmas.Grind.{flat_map-append}
 use Rattle.ebpf_decode.specs.declared.map.MapDef.{MapDef}
 use Rattle.semantics.specs.declared.call.Entry.{Entry}
 use Rattle.semantics.specs.declared.options.Options.{Options}
 use Rattle.semantics.specs.ShardPlan.{AreOptions}
+use Rattle.semantics.proofs.shared.PlanLemmas.{few_parts}
 use Rattle.text_lines.specs.Lines.{Lacks, ended}
 use Rattle.text_lines.proofs.shared.LineLemmas.{lacks_mid, one_line, same_front}
 use Rattle.journal_files.specs.JournalText.{line_of, header_text, entries_text, all_entries}
-use Rattle.journal_files.specs.JournalReading.{IsHeaderLine, BeginsWithNoHeader, IsHeadedBy}
+use Rattle.journal_files.specs.JournalReading.{BeginsWithNoHeader, IsHeadedBy}
 use Rattle.text_lines.proofs.shared.ByteLemmas.{all_bytes, all_append, lacks_from}
-use Rattle.journal_files.proofs.Bytes.{word, printed, decimal_within, spaced, print_word}
+use Rattle.journal_files.proofs.Bytes.{printed, decimal_within, spaced, print_word}
 
 -- ---- the header
-
-pub shards_small : (maps : List MapDef) (options : Options) → AreOptions maps options → options.shards ≤ 8
-shards_small maps options fits = by fits.power_of_two where
-  by : (options.shards ≡ 1) ⊎ (options.shards ≡ 2) ⊎ (options.shards ≡ 4) ⊎ (options.shards ≡ 8) → options.shards ≤ 8
-  by (inl e) = omega (arith, e)
-  by (inr (inl e)) = omega (arith, e)
-  by (inr (inr (inl e))) = omega (arith, e)
-  by (inr (inr (inr e))) = omega (arith, e)
 
 header_printed : (options : Options) → options.workers < 2 ^ 64 → options.shards < 2 ^ 64 → options.journal < 2 ^ 64 → all_bytes printed (header_text options) ≡ true
 unfolding header_text
@@ -36,7 +27,7 @@ header_printed options workers shards journal =
 
 pub header_printed_of : (maps : List MapDef) (options : Options) → AreOptions maps options → all_bytes printed (header_text options) ≡ true
 header_printed_of maps options fits =
-    let few = shards_small maps options fits in
+    let few = few_parts maps options fits in
     header_printed options (omega (arith, fits.at_most_eight)) (omega (arith, few)) (omega (arith, fits.greatest_journal))
 
 pub header_lacks_feed : (maps : List MapDef) (options : Options) → AreOptions maps options → Lacks 10 (header_text options)
@@ -48,7 +39,7 @@ ReadsHeader line result = (options : Options) → options.workers < 2 ^ 32 → o
 
 pub header_found : (maps : List MapDef) (line : List ℕ) (result other : Options) → ReadsHeader line result → AreOptions maps other → line ≡ header_text other → result ≡ other
 header_found maps line result other reads fits is =
-    let few = shards_small maps other fits in
+    let few = few_parts maps other fits in
     reads other (omega (arith, fits.at_most_eight)) (omega (arith, few)) (omega (arith, fits.greatest_journal)) is
 
 pub no_header_line : (maps : List MapDef) (text : List ℕ) → Lacks 10 text → BeginsWithNoHeader maps text

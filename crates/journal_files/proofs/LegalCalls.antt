@@ -1,5 +1,5 @@
 -- A call that its caller may make is one that a file may have: its numbers, keys and values fit.
-use Rattle.std.proofs.Common.{◌≡◌, ℕ, ◌+◌, ◌^◌, ◌<◌, ◌≤◌, ◌==◌, Bool, true, false, ◌&&◌, ◌||◌, nat_lt, List, [], ◌∷◌, length, IsTrue, arith, lit<, refl, sym, ◌∙◌}
+use Rattle.std.proofs.Common.{◌≡◌, ℕ, zero, suc, ◌+◌, ◌^◌, ◌<◌, ◌≤◌, ◌==◌, Bool, true, false, ◌&&◌, ◌||◌, nat_lt, List, [], ◌∷◌, length, IsTrue, arith, lit<, refl, sym, ◌∙◌}
 use Rattle.std.specs.Prelude.{is_some, if◌then◌else◌}
 use Rattle.std.specs.List.{AllByRecursion}
 use Rattle.std.proofs.Math.Nat.{pow-le-pow_right}
@@ -16,29 +16,24 @@ use Rattle.semantics.specs.declared.plan.ShardPlan.{ShardPlan}
 use Rattle.semantics.specs.PlanLimits.{IsPlan}
 use Rattle.semantics.specs.Program.{part_of_key}
 use Rattle.semantics.specs.Reclamation.{is_worker, held_by, holds}
-use Rattle.semantics.specs.History.{shard_of_call, is_holder, is_own_key, is_value, are_bytes, are_flags, is_load_size, is_atomic_size, is_in_cell}
+use Rattle.semantics.specs.History.{shard_of_call, is_holder, is_own_key, is_value, are_bytes, are_flags, is_in_cell}
 use Rattle.semantics.specs.History.{is_aligned, fits_size, meets_part}
+use Rattle.semantics.proofs.shared.CallNumbers.{below_of, same_number, narrow_load, narrow_atomic, op_below, part_below, key_sized}
 use Rattle.semantics.proofs.shared.ConditionLemmas.{first_true, second_true}
 use Rattle.semantics.proofs.shared.HoldingLemmas.{found_cell, held_by_lookup}
-use Rattle.journal_files.specs.EntryForm.{IsNumber, IsShard, IsKey, IsValue, CallerFits, CallFits, IsFinding, RepliesTo, HasSizesOf}
-use Rattle.journal_files.proofs.CellBytes.{are_by_index, bytes_tested}
+use Rattle.journal_files.specs.EntryForm.{IsNumber, IsShard, IsKey, IsValue, CallerFits, CallFits, IsFinding, ReplyFits, HasSizesOf}
+use Rattle.hex.specs.Hex.{IsBytes}
+use Rattle.semantics.specs.ByteCells.{AreBytes}
+use Rattle.semantics.proofs.shared.CellBytes.{bytes_tested}
+
+-- ---- bytes
+
+are_by_index : (bytes : List ℕ) → AreBytes bytes → IsBytes bytes
+are_by_index [] each i = omega arith
+are_by_index (byte ∷ bytes) each zero = each.0
+are_by_index (byte ∷ bytes) each (suc i) = are_by_index bytes each.1 i
 
 -- ---- numbers
-
-below_of : (a b : ℕ) → IsTrue (nat_lt a b) → a < b
-below_of a b test = grind (arith, nat_tests)
-
-pub same_number : (a b : ℕ) → IsTrue (a == b) → a ≡ b
-same_number a b test = grind (arith, nat_tests)
-
-pub narrow_load : (size : ℕ) → IsTrue (is_load_size size) → size ≤ 8
-narrow_load size test = grind (arith, nat_tests)
-
-pub narrow_atomic : (size : ℕ) → IsTrue (is_atomic_size size) → size ≤ 8
-narrow_atomic size test = grind (arith, nat_tests)
-
-op_below : (op : ℕ) → IsTrue (is_some (atomic_op_of op)) → op < 256
-op_below op known = grind (arith, nat_tests)
 
 -- a number of at most eight bytes
 pub is_number : (value size : ℕ) → size ≤ 8 → value < 256 ^ size → IsNumber value
@@ -68,12 +63,9 @@ shard_fits shard number same few = omega (arith, same, few)
 
 -- ---- keys and values
 
-sized_key : (plan : ShardPlan) (key : List ℕ) → IsTrue (is_own_key plan key) → length key ≡ plan.definition.key_size
-sized_key plan key own = same_number _ _ (first_true (length key == plan.definition.key_size) _ own)
-
 key_fits : (plan : ShardPlan) (key : List ℕ) → IsPlan plan → IsTrue (is_own_key plan key) → IsKey key
 key_fits plan key is own =
-    let long : length key ≡ plan.definition.key_size = sized_key plan key own in (
+    let long : length key ≡ plan.definition.key_size = key_sized plan key own in (
       omega (arith, long, is.limits.key_size),
       are_by_index key (bytes_tested key (second_true (part_of_key plan.definition.kind plan.parts key == plan.part) (are_bytes key)
           (second_true (length key == plan.definition.key_size) _ own))),
@@ -91,21 +83,6 @@ value_fits plan value is valued =
 
 -- ---- callers
 
-part_below : (plan : ShardPlan) (history : List Entry) (worker : ℕ) (call : Call) → IsTrue (meets_part plan history (Worker worker) call) →
-    worker < plan.workers
-part_below plan history worker (Enter shard) met = below_of worker plan.workers (first_true _ _ met)
-part_below plan history worker (Leave shard) met = below_of worker plan.workers (first_true _ _ met)
-part_below plan history worker (Lookup shard key) met = below_of worker plan.workers (first_true _ _ (first_true _ _ met))
-part_below plan history worker (Load cell offset size) met = below_of worker plan.workers (first_true _ _ (first_true _ _ (first_true _ _ met)))
-part_below plan history worker (Store cell offset size value) met =
-    below_of worker plan.workers (first_true _ _ (first_true _ _ (first_true _ _ (first_true _ _ met))))
-part_below plan history worker (Atomic cell offset size op value expected) met =
-    below_of worker plan.workers
-    (first_true _ _ (first_true _ _ (first_true _ _ (first_true _ _ (first_true _ _ (first_true _ _ (first_true _ _ met)))))))
-part_below plan history worker (Update shard key value flags) met = below_of worker plan.workers (first_true _ _ (first_true _ _ (first_true _ _ met)))
-part_below plan history worker (Delete shard key) met = below_of worker plan.workers (first_true _ _ (first_true _ _ met))
-part_below plan history worker (Reclaim shard) met = absurd cc
-
 pub caller_fits : (plan : ShardPlan) (history : List Entry) (who : Caller) (call : Call) → IsPlan plan → IsTrue (meets_part plan history who call) →
     CallerFits who
 caller_fits plan history (Worker number) call is met =
@@ -118,7 +95,7 @@ caller_fits plan history Reclaimer call is met = tt
 
 -- the entry's reply is of its call's form
 abbrev pub HasReply : Entry → Type 0
-HasReply entry = RepliesTo entry.call entry.reply
+HasReply entry = ReplyFits entry.call entry.reply
 
 found_fits : (shard : ℕ) (reply : Reply) (cell : ℕ) (before : Bool) → IsFinding shard reply → (IsTrue before → IsNumber cell) →
     IsTrue (found_cell reply cell || before) → IsNumber cell
@@ -135,9 +112,9 @@ found_fits shard Done cell before fits was held = was held
 found_fits shard (Answer code) cell before fits was held = was held
 found_fits shard (Freed count) cell before fits was held = was held
 
-held_by_fits : (call : Call) (reply : Reply) (cell : ℕ) (before : Bool) → RepliesTo call reply → (IsTrue before → IsNumber cell) →
+held_by_fits : (call : Call) (reply : Reply) (cell : ℕ) (before : Bool) → ReplyFits call reply → (IsTrue before → IsNumber cell) →
     IsTrue (held_by call reply cell before) → IsNumber cell
-unfolding RepliesTo
+unfolding ReplyFits
 held_by_fits (Enter shard) reply cell before fits was held = absurd cc
 held_by_fits (Leave shard) reply cell before fits was held = absurd cc
 held_by_fits (Lookup shard key) reply cell before fits was held = found_fits shard reply cell before fits was (sym (held_by_lookup shard key reply cell before) ∙ held)
@@ -217,15 +194,15 @@ call_fits plan history who (Reclaim shard) is replies few met = few
 pub sizes_fit : (plan : ShardPlan) (history : List Entry) (who : Caller) (call : Call) → IsTrue (meets_part plan history who call) →
     HasSizesOf plan.definition call
 unfolding HasSizesOf
-sizes_fit plan history who (Enter shard) met = tt
-sizes_fit plan history who (Leave shard) met = tt
-sizes_fit plan history who (Lookup shard key) met = sized_key plan key (second_true _ _ met)
-sizes_fit plan history who (Load cell offset size) met = tt
-sizes_fit plan history who (Store cell offset size value) met = tt
-sizes_fit plan history who (Atomic cell offset size op value expected) met = tt
+sizes_fit plan history who (Enter shard) met = (tt, tt)
+sizes_fit plan history who (Leave shard) met = (tt, tt)
+sizes_fit plan history who (Lookup shard key) met = (key_sized plan key (second_true _ _ met), tt)
+sizes_fit plan history who (Load cell offset size) met = (tt, tt)
+sizes_fit plan history who (Store cell offset size value) met = (tt, tt)
+sizes_fit plan history who (Atomic cell offset size op value expected) met = (tt, tt)
 sizes_fit plan history who (Update shard key value flags) met = (
-  sized_key plan key (second_true _ _ (first_true _ _ met)),
+  key_sized plan key (second_true _ _ (first_true _ _ met)),
   sized_value plan value (first_true (is_value plan value) (are_flags flags) (second_true _ _ met)),
 )
-sizes_fit plan history who (Delete shard key) met = sized_key plan key (second_true _ _ met)
-sizes_fit plan history who (Reclaim shard) met = tt
+sizes_fit plan history who (Delete shard key) met = (key_sized plan key (second_true _ _ met), tt)
+sizes_fit plan history who (Reclaim shard) met = (tt, tt)

@@ -1,5 +1,5 @@
 -- Each entry of a legal journal is one that a file may have, in the list of its shard; so the text of legal journals is their file.
-use Rattle.std.proofs.Common.{◌≡◌, ℕ, zero, suc, ◌+◌, ◌*◌, ◌/◌, ◌%◌, ◌<◌, ◌≤◌, List, [], ◌∷◌, ◌++◌, length, reverse, Some, IsTrue, arith, refl, sym, ap}
+use Rattle.std.proofs.Common.{◌≡◌, ℕ, zero, suc, ◌+◌, ◌*◌, ◌/◌, ◌<◌, ◌≤◌, List, [], ◌∷◌, ◌++◌, length, reverse, Some, IsTrue, arith, refl, sym, ap}
 use Rattle.std.proofs.Common.{subst, ◌∙◌}
 use Rattle.std.specs.Prelude.{◌==◌, slice_get, slice_index_or}
 use Rattle.std.specs.List.{AllByRecursion}
@@ -10,22 +10,22 @@ use Rattle.ebpf_decode.specs.declared.version.Version.TheVariants.{V2}
 use Rattle.semantics.specs.declared.call.Entry.{Entry}
 use Rattle.semantics.specs.declared.options.Options.{Options}
 use Rattle.semantics.specs.declared.plan.ShardPlan.{ShardPlan}
-use Rattle.semantics.specs.ShardPlan.{plan_for_map, plan_at, AreOptions}
+use Rattle.semantics.specs.ShardPlan.{plan_for_map, plan_at}
 use Rattle.semantics.specs.PlanLimits.{IsPlan}
 use Rattle.semantics.specs.History.{shard_of_call, meets_part, IsLegalStep, IsLegalHistory, IsLegalJournal}
 use Rattle.semantics.proofs.shared.ConditionLemmas.{first_true, second_true}
 use Rattle.semantics.proofs.shared.HoldingLemmas.{each_weaker}
 use Rattle.semantics.proofs.shared.ImageSizes.{image_sizes}
-use Rattle.semantics.proofs.shared.PlanLemmas.{shards_have_plans}
+use Rattle.semantics.proofs.shared.PlanLemmas.{some_shards, shards_have_plans, few_parts, plan_of}
 use Rattle.journals.specs.JournalsView.{JournalsView, AreJournals, entries_at}
-use Rattle.journal_files.specs.EntryForm.{IsShard, EntryFits, RepliesTo, HasSizesOf, IsFileEntry}
+use Rattle.journal_files.specs.EntryForm.{IsShard, EntryFits, ReplyFits, HasSizesOf, IsFileEntry}
 use Rattle.journal_files.specs.JournalText.{all_entries}
 use Rattle.journal_files.specs.JournalReading.{IsOfShard, AreListedFrom}
 use Rattle.journals.specs.LegalJournals.{AreLegal}
 use Rattle.journal_files.specs.LegalJournals.{ReadBackWhereLegal}
-use Rattle.journal_files.proofs.CellBytes.{each_append}
-use Rattle.journal_files.proofs.Headers.{shards_small}
-use Rattle.journal_files.proofs.LegalCalls.{same_number, caller_fits, call_fits, sizes_fit, HasReply}
+use Rattle.semantics.proofs.shared.CellBytes.{each_append}
+use Rattle.journal_files.proofs.LegalCalls.{caller_fits, call_fits, sizes_fit, HasReply}
+use Rattle.semantics.proofs.shared.CallNumbers.{same_number}
 use Rattle.journal_files.proofs.LegalReplies.{reply_fits}
 
 -- ---- a legal history
@@ -48,7 +48,7 @@ step_fits plan older entry is few legal fit step =
       fits = record {
         who = caller_fits plan older entry.who entry.call is met;
         call = call_fits plan older entry.who entry.call is replies (omega (arith, same, few)) met;
-        reply = subst (λ r. RepliesTo entry.call r) (sym step.step.replied) (reply_fits plan older entry.who entry.call is legal same met step.room);
+        reply = subst (λ r. ReplyFits entry.call r) (sym step.step.replied) (reply_fits plan older entry.who entry.call is legal same met step.room);
       };
       shard = same;
       sizes = sizes_fit plan older entry.who entry.call met;
@@ -78,16 +78,6 @@ record IsListed (maps : List MapDef) (options : Options) (number : ℕ) (entry :
   file : IsFileEntry maps options entry
   shard : IsOfShard number entry
 
-abbrev plan_of : Options → ℕ → MapDef → ShardPlan
-plan_of options number definition = record {
-  number = number;
-  part = number % options.shards;
-  parts = options.shards;
-  definition = definition;
-  workers = options.workers;
-  reserve = options.journal;
-}
-
 list_of : (maps : List MapDef) (options : Options) (number : ℕ) (definition : MapDef) (entries : List Entry) →
     IsPlan (plan_of options number definition) → IsShard number → slice_get maps (number / options.shards) ≡ Some definition →
     IsLegalJournal (plan_of options number definition) entries → AllByRecursion (IsListed maps options number) entries
@@ -113,9 +103,6 @@ there [] place within = absurd (omega arith)
 there (x ∷ xs) zero within = (x, refl)
 there (x ∷ xs) (suc place) within = there xs place (omega (arith, within))
 
-some_parts : (maps : List MapDef) (options : Options) → AreOptions maps options → 0 < options.shards
-some_parts maps options fits = search (arith, fits.power_of_two)
-
 number_few : (maps : List MapDef) (options : Options) (number : ℕ) → length maps ≤ 16 → options.shards ≤ 8 →
     number < length maps * options.shards → IsShard number
 number_few maps options number few small below = search (arith, few, small, below)
@@ -127,12 +114,12 @@ list_at journals are legal number within =
     let options : Options = journals.options in
     let below : number < length maps * options.shards = omega (arith, within, are.one_each) in
     let place : number / options.shards < length maps =
-    div_below number options.shards (length maps) (some_parts maps options are.options_fit) below in
+    div_below number options.shards (length maps) (some_shards maps options are.options_fit) below in
     let found = there maps (number / options.shards) place in
     let plan : ShardPlan = plan_of options number found.0 in
     let planned : plan_at maps options number ≡ Some plan = ap (plan_for_map options number) found.1 in
     let is : IsPlan plan = shards_have_plans maps options number plan (image_sizes V2 maps are.maps_are.allowed) are.options_fit planned in
-    let few : IsShard number = number_few maps options number are.maps_are.few (shards_small maps options are.options_fit) below in
+    let few : IsShard number = number_few maps options number are.maps_are.few (few_parts maps options are.options_fit) below in
     list_of maps options number found.0 (entries_at journals number) is few found.1 (legal number within plan planned)
 
 -- ---- the lists of all shards

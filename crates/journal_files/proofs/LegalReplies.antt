@@ -1,8 +1,7 @@
 -- What a legal history's shard replies is a reply that a file may have: of its call's form, with numbers that fit.
-use Rattle.std.proofs.Common.{◌≡◌, ℕ, ◌+◌, ◌/◌, ◌<◌, ◌≤◌, Bool, true, false, cond, ◌&&◌, not, nat_lt, ℤ, List, [], ◌∷◌, length, replicate, Option, Some}
+use Rattle.std.proofs.Common.{◌≡◌, ℕ, ◌+◌, ◌/◌, ◌<◌, ◌≤◌, Bool, true, false, cond, not, nat_lt, List, [], ◌∷◌, length, replicate, Option, Some}
 use Rattle.std.proofs.Common.{None, IsTrue, arith, refl, sym, div-le_self}
-use Rattle.std.specs.Prelude.{FitsSigned, IsFalse, filter, find, option_map, bytes_eq, if◌then◌else◌}
-use Rattle.std.specs.Int.{w32}
+use Rattle.std.specs.Prelude.{IsFalse, filter, find, option_map, bytes_eq, if◌then◌else◌}
 use Rattle.std.specs.List.{AllByRecursion}
 use Rattle.std.proofs.lemmas.Bool.Decides.{nat_tests}
 use Rattle.std.proofs.lemmas.List.{length-replicate}
@@ -12,36 +11,29 @@ use Rattle.semantics.specs.declared.call.Caller.{Caller}
 use Rattle.semantics.specs.declared.call.Call.{Call}
 use Rattle.semantics.specs.declared.call.Call.TheVariants.{Enter, Leave, Lookup, Load, Store, Atomic, Update, Delete, Reclaim}
 use Rattle.semantics.specs.declared.call.Entry.{Entry}
-use Rattle.semantics.specs.declared.linux.Errno.{Errno}
-use Rattle.semantics.specs.declared.linux.Errno.TheVariants.{NoEntry, TooBig, NoMemory, Exists, Invalid}
-use Rattle.semantics.specs.declared.linux.UpdateFlags.{UpdateFlags}
-use Rattle.semantics.specs.declared.linux.UpdateFlags.TheVariants.{Any, NoExist, Exist}
 use Rattle.semantics.specs.declared.plan.PresentKey.{PresentKey}
 use Rattle.semantics.specs.declared.plan.RetiredCell.{RetiredCell}
 use Rattle.semantics.specs.declared.plan.ShardPlan.{ShardPlan}
-use Rattle.semantics.specs.Linux.{errno_code, success, update_flags_of}
 use Rattle.semantics.specs.LittleEndian.{number_of_bytes}
 use Rattle.semantics.specs.ShardPlan.{capacity}
 use Rattle.semantics.specs.PlanLimits.{IsPlan}
 use Rattle.semantics.specs.Reclamation.{inside_count, is_reclaimable}
 use Rattle.semantics.specs.SequentialShard.{SequentialShard, opening_cells, cell_of_index, cell_of_present, cell_of_kind, cell_of_key, number_in_cell}
-use Rattle.semantics.specs.SequentialShard.{has_free_cell, is_full_of_keys, is_hash, present_key_answer, array_update_answer, new_key_answer}
-use Rattle.semantics.specs.SequentialShard.{absent_key_answer, keyed_update_answer, update_answer_of_kind, update_answer_by, update_answer}
-use Rattle.semantics.specs.SequentialShard.{delete_answer_of_kind, delete_answer, without_found, with_value, present_key, reclaimable_cells, lookup_reply}
+use Rattle.semantics.specs.SequentialShard.{update_answer}
+use Rattle.semantics.specs.SequentialShard.{delete_answer, without_found, with_value, present_key, reclaimable_cells, lookup_reply}
 use Rattle.semantics.specs.SequentialShard.{reply_of, shard_after_call, shard_after}
 use Rattle.semantics.specs.History.{shard_of_call, meets_part, journal_is_full, IsLegalHistory}
 use Rattle.semantics.proofs.shared.ConditionLemmas.{first_true, second_true}
+use Rattle.semantics.proofs.shared.AnswerLemmas.{update_fits, delete_fits}
+use Rattle.semantics.proofs.shared.CellBytes.{number_below}
 use Rattle.semantics.proofs.shared.HoldingLemmas.{each_find, sound_after}
 use Rattle.semantics.proofs.shared.IdLemmas.{ids_are_few}
 use Rattle.semantics.proofs.shared.LawLemmas.{updated_where-keeps, after_eviction-keeps}
-use Rattle.journal_files.specs.EntryForm.{IsNumber, IsFinding, RepliesTo}
-use Rattle.journal_files.proofs.CellBytes.{number_below}
-use Rattle.journal_files.proofs.LegalCalls.{narrow_load, narrow_atomic, is_number}
+use Rattle.journal_files.specs.EntryForm.{IsNumber, IsFinding, ReplyFits}
+use Rattle.journal_files.proofs.LegalCalls.{is_number}
+use Rattle.semantics.proofs.shared.CallNumbers.{narrow_load, narrow_atomic, not_over}
 
 -- ---- a journal that is not full is short
-
-not_over : (most count : ℕ) → nat_lt most count ≡ false → count ≤ most
-not_over most count test = grind (arith, nat_tests)
 
 -- before an entry for which there was room
 abbrev IsShort : List Entry → Type 0
@@ -114,71 +106,6 @@ finding_fits : (plan : ShardPlan) (shard : ℕ) (found : Option ℕ) → shard �
 finding_fits plan shard None same fits = tt
 finding_fits plan shard (Some cell) same fits = (sym same, fits cell refl)
 
--- ---- answers of updates and deletions
-
-errno_fits : (errno : Errno) → FitsSigned w32 (errno_code errno)
-errno_fits NoEntry = search arith
-errno_fits TooBig = search arith
-errno_fits NoMemory = search arith
-errno_fits Exists = search arith
-errno_fits Invalid = search arith
-
-success_fits : FitsSigned w32 success
-success_fits = search arith
-
-either_fits : (t : Bool) (a b : ℤ) → FitsSigned w32 a → FitsSigned w32 b → FitsSigned w32 (if t then a else b)
-either_fits true a b p q = p
-either_fits false a b p q = q
-
-present_key_fits : (flags : UpdateFlags) → FitsSigned w32 (present_key_answer flags)
-present_key_fits Any = success_fits
-present_key_fits NoExist = errno_fits Exists
-present_key_fits Exist = success_fits
-
-new_key_fits : (plan : ShardPlan) (shard : SequentialShard) → FitsSigned w32 (new_key_answer plan shard)
-new_key_fits plan shard =
-    either_fits (is_hash plan.definition.kind && is_full_of_keys plan shard) (errno_code TooBig)
-    (if has_free_cell plan shard then success else errno_code NoMemory) (errno_fits TooBig)
-    (either_fits (has_free_cell plan shard) success (errno_code NoMemory) success_fits (errno_fits NoMemory))
-
-absent_fits : (plan : ShardPlan) (shard : SequentialShard) (flags : UpdateFlags) → FitsSigned w32 (absent_key_answer plan shard flags)
-absent_fits plan shard Any = new_key_fits plan shard
-absent_fits plan shard NoExist = new_key_fits plan shard
-absent_fits plan shard Exist = errno_fits NoEntry
-
-keyed_answer_fits : (plan : ShardPlan) (shard : SequentialShard) (flags : UpdateFlags) (cell : Option ℕ) →
-    FitsSigned w32 (keyed_update_answer plan shard flags cell)
-keyed_answer_fits plan shard flags (Some cell) = present_key_fits flags
-keyed_answer_fits plan shard flags None = absent_fits plan shard flags
-
-array_fits : (flags : UpdateFlags) (cell : Option ℕ) → FitsSigned w32 (array_update_answer flags cell)
-array_fits flags None = errno_fits TooBig
-array_fits flags (Some cell) = present_key_fits flags
-
-update_of_kind_fits : (kind : MapKind) (plan : ShardPlan) (shard : SequentialShard) (flags : UpdateFlags) (cell : Option ℕ) →
-    FitsSigned w32 (update_answer_of_kind kind plan shard flags cell)
-update_of_kind_fits Array plan shard flags cell = array_fits flags cell
-update_of_kind_fits Hash plan shard flags cell = keyed_answer_fits plan shard flags cell
-update_of_kind_fits LruHash plan shard flags cell = keyed_answer_fits plan shard flags cell
-
-update_by_fits : (kind : MapKind) (plan : ShardPlan) (shard : SequentialShard) (flags : Option UpdateFlags) (cell : Option ℕ) →
-    FitsSigned w32 (update_answer_by kind plan shard flags cell)
-update_by_fits kind plan shard None cell = errno_fits Invalid
-update_by_fits kind plan shard (Some flags) cell = update_of_kind_fits kind plan shard flags cell
-
-update_fits : (plan : ShardPlan) (shard : SequentialShard) (key : List ℕ) (flags : ℕ) → FitsSigned w32 (update_answer plan shard key flags)
-update_fits plan shard key flags = update_by_fits plan.definition.kind plan shard (update_flags_of flags) (cell_of_key plan shard key)
-
-deletion_fits : (kind : MapKind) (cell : Option ℕ) → FitsSigned w32 (delete_answer_of_kind kind cell)
-deletion_fits Array cell = errno_fits Invalid
-deletion_fits Hash (Some cell) = success_fits
-deletion_fits Hash None = errno_fits NoEntry
-deletion_fits LruHash (Some cell) = success_fits
-deletion_fits LruHash None = errno_fits NoEntry
-
-delete_fits : (plan : ShardPlan) (shard : SequentialShard) (key : List ℕ) → FitsSigned w32 (delete_answer plan shard key)
-delete_fits plan shard key = deletion_fits plan.definition.kind (cell_of_key plan shard key)
-
 -- ---- each call retires one cell at most
 
 fewer : {A : Type 0} (test : A → Bool) (xs : List A) → length (filter test xs) ≤ length xs
@@ -239,8 +166,8 @@ freed_fits plan history short =
 
 pub reply_fits : (plan : ShardPlan) (history : List Entry) (who : Caller) (call : Call) → IsPlan plan → IsLegalHistory plan history →
     shard_of_call call ≡ plan.number → IsTrue (meets_part plan history who call) → IsFalse (journal_is_full plan history call) →
-    RepliesTo call (reply_of plan history (shard_after plan history) call)
-unfolding RepliesTo
+    ReplyFits call (reply_of plan history (shard_after plan history) call)
+unfolding ReplyFits
 reply_fits plan history who (Enter shard) is legal same met room = tt
 reply_fits plan history who (Leave shard) is legal same met room = tt
 reply_fits plan history who (Lookup shard key) is legal same met room =

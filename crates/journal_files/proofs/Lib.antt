@@ -4,7 +4,6 @@ pub mod Words
 pub mod Lines
 pub mod Headers
 pub mod Whole
-pub mod CellBytes
 pub mod LegalCalls
 pub mod LegalReplies
 pub mod LegalJournals

@@ -1,25 +1,19 @@
 -- A file of journals is read in one way.
-use Rattle.std.proofs.Common.{◌≡◌, ◌⊎◌, ℕ, zero, eqb, ◌+◌, ◌*◌, ◌/◌, ◌<◌, ◌≤◌, ◌^◌, Bool, true, false, ltb, leb, List, [], ◌∷◌, ◌++◌, length, refl, sym, ap, subst, ◌∙◌, arith, append_assoc, length-append}
-use Rattle.std.proofs.Common.{inl, inr}
+use Rattle.std.proofs.Common.{◌≡◌, ℕ, ◌+◌, ◌<◌, ◌≤◌, List, [], ◌∷◌, ◌++◌, length, refl, sym, ap, subst, ◌∙◌, arith, append_assoc, length-append}
 use Rattle.std.specs.Prelude.{◌≢◌, Some, None, Option}
 use Rattle.std.specs.List.{AllByRecursion}
-use Rattle.std.specs.Str.{IsUtf8}
 use Rattle.std.proofs.lemmas.List.{append-nil}
 use Rattle.std.proofs.lemmas.Grind.{flat_map-append}
-use Rattle.std.proofs.lemmas.Bool.Decides.{nat_tests, Decides-eqb}
-use Rattle.std.proofs.lemmas.Str.{IsUtf8-from_ascii, IsUtf8-append, IsUtf8-nil}
-use Rattle.std.proofs.lemmas.Str.Ascii.{IsAscii-from_reads}
 use Rattle.ebpf_decode.specs.declared.map.MapDef.{MapDef}
 use Rattle.semantics.specs.declared.call.Entry.{Entry}
 use Rattle.semantics.specs.declared.options.Options.{Options}
-use Rattle.semantics.specs.ShardPlan.{AreOptions}
 use Rattle.semantics.specs.History.{shard_of_call}
 use Rattle.text_lines.specs.Lines.{Lacks, ended}
 use Rattle.text_lines.proofs.shared.LineLemmas.{lacks_mid, more_lines, no_empty_line, one_line, same_front}
-use Rattle.journal_files.specs.JournalText.{line_of, header_text, entries_text, all_entries}
+use Rattle.journal_files.specs.JournalText.{line_of, entries_text, all_entries}
 use Rattle.journal_files.specs.EntryForm.{EntryFits, IsFileEntry}
 use Rattle.journal_files.specs.JournalReading.{IsOfShard, AreListedFrom, IsEntryLine, TellsEntry, IsKnownEntry, BeginsWithNoneFrom, NeverFalls, last_shard, AreDivided, AreRead}
-use Rattle.text_lines.proofs.shared.ByteLemmas.{all_bytes, within, each_passes, lacks_from}
+use Rattle.text_lines.proofs.shared.ByteLemmas.{lacks_from}
 use Rattle.journal_files.proofs.Bytes.{printed, line_printed}
 
 -- the first line is no entry's, or there is no whole line
@@ -55,16 +49,6 @@ one_reading maps options least (c ∷ entries) (o ∷ others) rest known falls f
 pub known_fit : (maps : List MapDef) (options : Options) (entries : List Entry) → AllByRecursion (IsKnownEntry maps options) entries → AllByRecursion (IsFileEntry maps options) entries
 known_fit maps options [] known = tt
 known_fit maps options (c ∷ entries) known = (known.0.0.fits, known_fit maps options entries known.1)
-
-pub not_empty : (r : Bool) (xs : List ℕ) → r ≡ eqb (length xs) 0 → r ≡ false → 0 < length xs
-not_empty r [] h f = absurd cc
-not_empty r (x ∷ xs) h f = omega arith
-
-pub is_empty : (r : Bool) (xs : List ℕ) → r ≡ eqb (length xs) 0 → r ≡ true → xs ≡ []
-is_empty r [] h t = refl
-is_empty r (x ∷ xs) h t =
-    let e : length (x ∷ xs) ≡ 0 = (Decides-eqb (length (x ∷ xs)) 0).0 (sym h ∙ t) in
-    absurd (omega arith)
 
 -- ---- one more line
 

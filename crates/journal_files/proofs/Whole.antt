@@ -1,7 +1,7 @@
 -- What is read is the whole file, and nothing else is.
-use Rattle.std.proofs.Common.{◌≡◌, ◌⊎◌, ℕ, zero, suc, ◌+◌, ◌*◌, ◌/◌, ◌%◌, ◌<◌, ◌≤◌, ◌^◌, Bool, true, false, List, [], ◌∷◌, ◌++◌, length, take, drop, get_or, refl, sym, ap, subst, ◌∙◌, arith, append_assoc, length-append}
+use Rattle.std.proofs.Common.{◌≡◌, ◌⊎◌, ℕ, zero, suc, ◌+◌, ◌*◌, ◌/◌, ◌<◌, ◌≤◌, true, List, [], ◌∷◌, ◌++◌, length, drop, get_or, refl, sym, ap, ◌∙◌, arith, length-append}
 use Rattle.std.proofs.Common.{inl, inr}
-use Rattle.std.specs.Prelude.{◌≢◌, Some, None, Option, slice_get, Result, Ok, Err}
+use Rattle.std.specs.Prelude.{Some, slice_get}
 use Rattle.std.specs.Str.{IsUtf8}
 use Rattle.std.specs.List.{AllByRecursion}
 use Rattle.std.proofs.lemmas.List.{append-nil}
@@ -16,13 +16,13 @@ use Rattle.semantics.specs.History.{shard_of_call}
 use Rattle.journals.specs.JournalsView.{JournalsView, AreJournals}
 use Rattle.text_lines.specs.Lines.{ended}
 use Rattle.text_lines.proofs.shared.LineLemmas.{one_line, same_front}
-use Rattle.journal_files.specs.JournalText.{line_of, header_text, entries_text, all_entries, journals_text}
-use Rattle.journal_files.specs.EntryForm.{EntryFits, IsFileEntry}
-use Rattle.journal_files.specs.JournalReading.{IsOfShard, AreListedFrom, IsJournalsFile, IsHeaderLine, BeginsWithNoHeader, IsHeadedBy, AreDivided, AreRead, NeverFalls, last_shard, IsBadAfter, IsNoFile}
-use Rattle.text_lines.proofs.shared.ByteLemmas.{all_bytes, within, each_passes}
+use Rattle.journal_files.specs.JournalText.{line_of, header_text, entries_text, all_entries}
+use Rattle.journal_files.specs.EntryForm.{IsFileEntry}
+use Rattle.journal_files.specs.JournalReading.{IsOfShard, AreListedFrom, IsJournalsFile, BeginsWithNoHeader, IsHeadedBy, AreDivided, AreRead, NeverFalls, last_shard, IsBadAfter, IsNoFile}
+use Rattle.text_lines.proofs.shared.ByteLemmas.{all_bytes, each_passes}
 use Rattle.journal_files.proofs.Bytes.{printed, line_printed}
 use Rattle.journal_files.proofs.Lines.{one_reading, known_fit, entries_long}
-use Rattle.journal_files.proofs.Headers.{header_lacks_feed, header_printed_of, shards_small}
+use Rattle.journal_files.proofs.Headers.{header_lacks_feed, header_printed_of}
 
 -- ---- lists of shards
 

@@ -1,5 +1,5 @@
 -- Words are read back.
-use Rattle.std.proofs.Common.{◌≡◌, ℕ, zero, suc, ◌+◌, ◌*◌, ◌≤◌, ◌<◌, ◌^◌, ◌/◌, ◌%◌, Bool, true, false, List, [], ◌∷◌, ◌++◌, length, drop, take, get_or, Result, Ok, Err, refl, sym, ap, subst, ◌∙◌, arith, length-append}
+use Rattle.std.proofs.Common.{◌≡◌, ℕ, zero, suc, ◌+◌, ◌*◌, ◌<◌, ◌^◌, ◌/◌, List, [], ◌∷◌, length, drop, get_or, Result, Ok, Err, refl, sym, ap, ◌∙◌, arith}
 use Rattle.std.specs.Prelude.{◌≢◌, ℤ, pos, negsuc, FitsSigned, codes}
 use Rattle.std.specs.Int.{w32}
 use Rattle.std.specs.Fmt.{decimal, signed_decimal}
@@ -20,12 +20,12 @@ use Rattle.semantics.specs.declared.call.Reply.TheVariants.{Entered, Left, Cell,
 use Rattle.semantics.specs.declared.call.Entry.{Entry}
 use Rattle.semantics.specs.History.{shard_of_call}
 use Rattle.journal_files.specs.declared.verb.Verb.{Verb}
-use Rattle.journal_files.specs.JournalText.{who_text, verb_text, verb_of_call, reply_text, told_text, line_of}
-use Rattle.journal_files.specs.EntryForm.{CallerFits, CallFits, RepliesTo, EntryFits, IsEntered, IsLeft, IsDone}
+use Rattle.journal_files.specs.JournalText.{who_text, verb_text, verb_of_call, reply_text, told_text}
+use Rattle.journal_files.specs.EntryForm.{CallerFits, CallFits, ReplyFits, EntryFits, IsEntered, IsLeft, IsDone}
 use Rattle.journal_files.specs.ToldReading.{Reads, entry_with}
 use Rattle.text_lines.specs.Lines.{Lacks}
 use Rattle.text_lines.proofs.shared.ByteLemmas.{lacks_from}
-use Rattle.journal_files.proofs.Bytes.{word, printed, decimal_within, hex_within, who_within, verb_within}
+use Rattle.journal_files.proofs.Bytes.{word, decimal_within, hex_within, who_within, verb_within}
 
 pub signed_read : {E : Type 0} (z : ℤ) (bs : List ℕ) (r : Result ℤ E) → FitsSigned w32 z → bs ≡ signed_decimal z → ParsesSigned w32 10 bs r → r ≡ Ok z
 signed_read (pos n) bs r fits is h = parse-signed_decimal w32 (pos n) bs r fits (omega arith) is h
@@ -109,9 +109,9 @@ done_is (Answer code) is = absurd is
 done_is (Freed count) is = absurd is
 
 -- what is read by the verb, where the text is that of a fitting call and reply, is their entry
-pub reads_call : (who : Caller) (call : Call) (reply : Reply) (text : List ℕ) (result : Entry) → CallFits call → RepliesTo call reply
+pub reads_call : (who : Caller) (call : Call) (reply : Reply) (text : List ℕ) (result : Entry) → CallFits call → ReplyFits call reply
     → Reads (verb_of_call call) who (shard_of_call call) text result → text ≡ told_text call (reply_text reply) → result ≡ entry_with who call reply
-unfolding Reads CallFits RepliesTo
+unfolding Reads CallFits ReplyFits
 reads_call who (calls.Enter shard) reply text result fits replies reads is = reads ∙ entered_is who (calls.Enter shard) reply replies
 reads_call who (calls.Leave shard) reply text result fits replies reads is = reads ∙ left_is who (calls.Leave shard) reply replies
 reads_call who (calls.Lookup shard key) reply text result fits replies reads is = reads key reply fits.1 replies is

@@ -1,5 +1,5 @@
 -- Which entries a file may have. A call may be one that no map serves, as a Load of three bytes: whether an entry is legal is not asked here.
-use Rattle.std.specs.Prelude.{◌≡◌, ℕ, ◌/◌, ◌<◌, ◌≤◌, ◌^◌, ℤ, FitsSigned, List, length, Some, slice_get, slice_index}
+use Rattle.std.specs.Prelude.{◌≡◌, ℕ, ◌/◌, ◌<◌, ◌≤◌, ◌^◌, FitsSigned, List, length, Some, IfSome, slice_get}
 use Rattle.std.specs.Int.{w32}
 use Rattle.ebpf_decode.specs.declared.map.MapDef.{MapDef}
 use Rattle.semantics.specs.declared.call.Caller.{Caller}
@@ -11,6 +11,7 @@ use Rattle.semantics.specs.declared.call.Reply.{Reply}
 use Rattle.semantics.specs.declared.call.Reply.TheVariants.{Entered, Left, Cell, Null, Word, Done, Answer, Freed}
 use Rattle.semantics.specs.declared.call.Entry.{Entry}
 use Rattle.semantics.specs.declared.options.Options.{Options}
+use Rattle.semantics.specs.Cells.{key_of_call, value_of_call}
 use Rattle.semantics.specs.History.{shard_of_call}
 use Rattle.hex.specs.Hex.{IsBytes}
 
@@ -79,36 +80,29 @@ abbrev pub IsFreed : Reply → Type 0
 IsFreed (Freed count) = IsNumber count
 IsFreed reply = ⊥
 
-unfoldable pub RepliesTo : Call → Reply → Type 0
-RepliesTo (Enter shard) reply = IsEntered reply
-RepliesTo (Leave shard) reply = IsLeft reply
-RepliesTo (Lookup shard key) reply = IsFinding shard reply
-RepliesTo (Load cell offset size) reply = IsWord reply
-RepliesTo (Store cell offset size value) reply = IsDone reply
-RepliesTo (Atomic cell offset size op value expected) reply = IsWord reply
-RepliesTo (Update shard key value flags) reply = IsAnswer reply
-RepliesTo (Delete shard key) reply = IsAnswer reply
-RepliesTo (Reclaim shard) reply = IsFreed reply
+unfoldable pub ReplyFits : Call → Reply → Type 0
+ReplyFits (Enter shard) reply = IsEntered reply
+ReplyFits (Leave shard) reply = IsLeft reply
+ReplyFits (Lookup shard key) reply = IsFinding shard reply
+ReplyFits (Load cell offset size) reply = IsWord reply
+ReplyFits (Store cell offset size value) reply = IsDone reply
+ReplyFits (Atomic cell offset size op value expected) reply = IsWord reply
+ReplyFits (Update shard key value flags) reply = IsAnswer reply
+ReplyFits (Delete shard key) reply = IsAnswer reply
+ReplyFits (Reclaim shard) reply = IsFreed reply
 
 -- the entry is a call with a reply of its form
 pub record EntryFits (entry : Entry) : Type 0 where
   pub who : CallerFits entry.who
   pub call : CallFits entry.call
-  pub reply : RepliesTo entry.call entry.reply
+  pub reply : ReplyFits entry.call entry.reply
 
 -- ---- which calls the maps have room for
 
--- keys and values have the map's lengths
+-- the call's key and value, where it names them, have the map's lengths
 unfoldable pub HasSizesOf : MapDef → Call → Type 0
-HasSizesOf definition (Enter shard) = Unit {0}
-HasSizesOf definition (Leave shard) = Unit {0}
-HasSizesOf definition (Lookup shard key) = length key ≡ definition.key_size
-HasSizesOf definition (Load cell offset size) = Unit {0}
-HasSizesOf definition (Store cell offset size value) = Unit {0}
-HasSizesOf definition (Atomic cell offset size op value expected) = Unit {0}
-HasSizesOf definition (Update shard key value flags) = (length key ≡ definition.key_size) × (length value ≡ definition.value_size)
-HasSizesOf definition (Delete shard key) = length key ≡ definition.key_size
-HasSizesOf definition (Reclaim shard) = Unit {0}
+HasSizesOf definition call =
+    IfSome (key_of_call call) (λ key. length key ≡ definition.key_size) × IfSome (value_of_call call) (λ value. length value ≡ definition.value_size)
 
 -- the call is on a shard of one of the maps, with keys and values of its lengths
 pub record IsCallOn (maps : List MapDef) (options : Options) (call : Call) : Type 0 where

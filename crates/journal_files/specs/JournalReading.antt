@@ -1,5 +1,5 @@
 -- What is read of a file of journals: the journals, or the first line that cannot stand there.
-use Rattle.std.specs.Prelude.{◌≡◌, ◌≢◌, ℕ, ◌+◌, ◌<◌, ◌≤◌, ◌⊎◌, List, [], ◌∷◌, ◌++◌, length, Option, Some, None, get_or, ⊤}
+use Rattle.std.specs.Prelude.{◌≡◌, ◌≢◌, ℕ, ◌+◌, ◌<◌, ◌≤◌, ◌⊎◌, List, [], ◌∷◌, ◌++◌, length, Option, Some, None, ⊤}
 use Rattle.std.specs.List.{AllByRecursion}
 use Rattle.std.specs.Str.{IsUtf8}
 use Rattle.text_lines.specs.NoText.{IsNoText}
@@ -13,7 +13,7 @@ use Rattle.journal_files.specs.declared.fault.FileFault.{FileFault}
 use Rattle.journal_files.specs.declared.fault.FileFault.TheVariants.{Device, Memory, BadJournalFile}
 use Rattle.text_lines.specs.Lines.{ended}
 use Rattle.journal_files.specs.JournalText.{line_of, header_text, entries_text, all_entries, journals_text}
-use Rattle.journal_files.specs.EntryForm.{EntryFits, IsFileEntry}
+use Rattle.journal_files.specs.EntryForm.{IsFileEntry}
 
 -- ---- whole files
 

@@ -3,7 +3,6 @@
 ghost use Rattle.std.specs.Prelude.{length};
 ghost use Rattle.journals.specs.JournalsView.{AreImageMaps, AreJournals};
 ghost use Rattle.journal_files.specs.LegalJournals.{ReadBackWhereLegal};
-ghost use Rattle.hex.specs.Hex.{IsBytes};
 
 use ebpf_decode::Image;
 use journals::Journals;
@@ -30,8 +29,3 @@ pub(crate) fn legal_journals_read_back(journals: &Journals)
 {
     journals_are(journals);
 }
-
-/// Bytes are numbers below 256.
-pub(crate) fn are_bytes(bytes: &[u8])
-    ensures { IsBytes bytes.now }
-{}

@@ -3,16 +3,16 @@
 use std::alloc::{AllocError, AllocFailed};
 use thiserror::Error;
 
-/// Why journals were not read or not written.
+/// Why journals were not read or not written. docs/FAULTS.md says when each comes, in which order, and what it leaves.
 #[derive(Clone, Copy, Debug, PartialEq, Eq, Error)]
 pub enum FileFault {
-    /// A call of the device failed.
+    /// 7: a call of the device failed.
     #[error("fault 7 Device")]
     Device,
-    /// The allocator refused memory.
+    /// 52: memory was refused.
     #[error("fault 52 Memory")]
     Memory,
-    /// This line of the file, counted from 1, is the first that cannot stand there.
+    /// 55: this line of the file, counted from 1, cannot stand there.
     #[error("fault 55 BadJournalFile line {line}")]
     BadJournalFile { line: usize },
 }

@@ -1,8 +1,9 @@
 //! Journals read from their text.
 
-ghost use Rattle.std.specs.Prelude.{◌≡◌, ◌≢◌, ◌↔◌, ◌≤◌, ◌+◌, ◌*◌, ◌<◌, ◌++◌, ◌∷◌, true, [], List, ℕ, length, IfOk, IfErr, OnOk};
+ghost use Rattle.std.specs.Prelude.{◌≡◌, ◌≢◌, ◌↔◌, ◌≤◌, ◌+◌, ◌*◌, ◌<◌, ◌++◌, ◌∷◌, true, [], List, ℕ, length, IfOk, IfErr, IfSome, OnOk};
 ghost use Rattle.std.specs.Option.{MatchOption};
 ghost use Rattle.std.specs.Str.{IsUtf8};
+ghost use Rattle.semantics.specs.Cells.{key_of_call, value_of_call};
 ghost use Rattle.semantics.specs.ShardPlan.{AreOptions};
 ghost use Rattle.journals.specs.JournalsView.{JournalsView as Lists, AreImageMaps, AreJournals};
 ghost use Rattle.journal_files.specs.declared.fault.FileFault.TheVariants.{BadJournalFile, Memory};
@@ -22,23 +23,31 @@ use std::alloc::{AllocError, Global};
 use std::mem;
 use text_lines::text_or_line;
 
-/// Whether the call's key and value have the map's lengths.
+/// Whether the call's key and value, where it names them, have the map's lengths.
 #[tactic(auto, unfolding(crate::specs::EntryForm::HasSizesOf))]
 fn has_sizes_of(definition: &MapDef, call: &Call) -> bool
     ensures { (result ≡ true) ↔ HasSizesOf definition.now call.now }
 {
-    let key_size = definition.key_size as usize;
-    match call {
-        Call::Lookup { key, .. } => key.as_slice().len() == key_size,
-        Call::Update { key, value, .. } => key.as_slice().len() == key_size
-            && value.as_slice().len() == definition.value_size as usize,
-        Call::Delete { key, .. } => key.as_slice().len() == key_size,
-        Call::Enter { .. } => true,
-        Call::Leave { .. } => true,
-        Call::Load { .. } => true,
-        Call::Store { .. } => true,
-        Call::Atomic { .. } => true,
-        Call::Reclaim { .. } => true,
+    has_key_of(definition, call) && has_value_of(definition, call)
+}
+
+/// Whether the call's key, where it names one, has the map's length.
+fn has_key_of(definition: &MapDef, call: &Call) -> bool
+    ensures { (result ≡ true) ↔ IfSome (key_of_call call.now) (λ key. length key ≡ definition.now.key_size) }
+{
+    match call.key() {
+        Some(key) => key.as_slice().len() == definition.key_size as usize,
+        None => true,
+    }
+}
+
+/// Whether the call's value, where it names one, has the map's length.
+fn has_value_of(definition: &MapDef, call: &Call) -> bool
+    ensures { (result ≡ true) ↔ IfSome (value_of_call call.now) (λ value. length value ≡ definition.now.value_size) }
+{
+    match call.value() {
+        Some(value) => value.as_slice().len() == definition.value_size as usize,
+        None => true,
     }
 }
 

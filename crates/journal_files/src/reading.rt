@@ -13,7 +13,6 @@ ghost use Rattle.journal_files.specs.EntryForm.{IsKey, IsValue, CallerFits, IsFi
 ghost use Rattle.journal_files.specs.ToldReading.{Reads};
 ghost use Rattle.journal_files.specs.declared.verb.Verb.TheVariants as verbs;
 
-use crate::facts::are_bytes;
 use crate::verb::Verb;
 use semantics::{Call, Caller, CellRef, Entry, Key, Options, Reply, Value};
 use text_lines::{after, count_of, cut};
@@ -71,7 +70,6 @@ fn value_with(bytes: &[u8]) -> Value
     ensures fits { IsValue result }
     ensures same { length bytes.now ≤ 256 → result ≡ bytes.now }
 {
-    are_bytes(bytes);
     match Value::of(bytes) {
         Some(value) => value,
         None => Value::empty(),
@@ -83,7 +81,6 @@ fn key_with(bytes: &[u8]) -> Key
     ensures fits { IsKey result }
     ensures same { length bytes.now ≤ 32 → result ≡ bytes.now }
 {
-    are_bytes(bytes);
     match Key::of(bytes) {
         Some(key) => key,
         None => Key::empty(),
@@ -170,7 +167,7 @@ fn freed_of(text: &str) -> Reply
     }
 }
 
-#[tactic(auto, unfolding(crate::specs::EntryForm::CallFits, crate::specs::EntryForm::RepliesTo))]
+#[tactic(auto, unfolding(crate::specs::EntryForm::CallFits, crate::specs::EntryForm::ReplyFits))]
 fn lookup_of(who: Caller, shard: u32, text: &str) -> Entry
     requires { CallerFits who }
     ensures fits { EntryFits result }
@@ -187,7 +184,7 @@ fn lookup_of(who: Caller, shard: u32, text: &str) -> Entry
     }
 }
 
-#[tactic(auto, unfolding(crate::specs::EntryForm::CallFits, crate::specs::EntryForm::RepliesTo))]
+#[tactic(auto, unfolding(crate::specs::EntryForm::CallFits, crate::specs::EntryForm::ReplyFits))]
 fn load_of(who: Caller, shard: u32, text: &str) -> Entry
     requires { CallerFits who }
     ensures fits { EntryFits result }
@@ -207,7 +204,7 @@ fn load_of(who: Caller, shard: u32, text: &str) -> Entry
     }
 }
 
-#[tactic(auto, unfolding(crate::specs::EntryForm::CallFits, crate::specs::EntryForm::RepliesTo))]
+#[tactic(auto, unfolding(crate::specs::EntryForm::CallFits, crate::specs::EntryForm::ReplyFits))]
 fn store_of(who: Caller, shard: u32, text: &str) -> Entry
     requires { CallerFits who }
     ensures fits { EntryFits result }
@@ -229,7 +226,7 @@ fn store_of(who: Caller, shard: u32, text: &str) -> Entry
     }
 }
 
-#[tactic(auto, unfolding(crate::specs::EntryForm::CallFits, crate::specs::EntryForm::RepliesTo))]
+#[tactic(auto, unfolding(crate::specs::EntryForm::CallFits, crate::specs::EntryForm::ReplyFits))]
 fn atomic_of(who: Caller, shard: u32, text: &str) -> Entry
     requires { CallerFits who }
     ensures fits { EntryFits result }
@@ -255,7 +252,7 @@ fn atomic_of(who: Caller, shard: u32, text: &str) -> Entry
     }
 }
 
-#[tactic(auto, unfolding(crate::specs::EntryForm::CallFits, crate::specs::EntryForm::RepliesTo))]
+#[tactic(auto, unfolding(crate::specs::EntryForm::CallFits, crate::specs::EntryForm::ReplyFits))]
 fn update_of(who: Caller, shard: u32, text: &str) -> Entry
     requires { CallerFits who }
     ensures fits { EntryFits result }
@@ -276,7 +273,7 @@ fn update_of(who: Caller, shard: u32, text: &str) -> Entry
     }
 }
 
-#[tactic(auto, unfolding(crate::specs::EntryForm::CallFits, crate::specs::EntryForm::RepliesTo))]
+#[tactic(auto, unfolding(crate::specs::EntryForm::CallFits, crate::specs::EntryForm::ReplyFits))]
 fn delete_of(who: Caller, shard: u32, text: &str) -> Entry
     requires { CallerFits who }
     ensures fits { EntryFits result }
@@ -301,7 +298,7 @@ fn plain(who: Caller, call: Call, reply: Reply) -> Entry
 }
 
 /// The entry of a verb, by the words that come after it.
-#[tactic(auto, unfolding(crate::specs::ToldReading::Reads, crate::specs::EntryForm::CallFits, crate::specs::EntryForm::RepliesTo))]
+#[tactic(auto, unfolding(crate::specs::ToldReading::Reads, crate::specs::EntryForm::CallFits, crate::specs::EntryForm::ReplyFits))]
 fn told_of(verb: Verb, who: Caller, shard: u32, text: &str) -> Entry
     requires { CallerFits who }
     ensures fits { EntryFits result }

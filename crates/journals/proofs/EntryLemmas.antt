@@ -34,9 +34,6 @@ entries_kept bytes more (row ∷ rows) within =
     rw (call_kept bytes more row.call within.0) (rw (entries_kept bytes more rows within.1) refl)
 
 -- what was put last is read back
-part_last : (bytes key : List ℕ) → part (length bytes) (length key) (bytes ++ key) ≡ key
-part_last bytes key = ap (take (length key)) (drop_at bytes key (length bytes) refl) ∙ take_all (length key) key (omega (arith))
-
 key_last : (bytes key value : List ℕ) → part (length bytes) (length key) (bytes ++ (key ++ value)) ≡ key
 key_last bytes key value = ap (take (length key)) (drop_at bytes (key ++ value) (length bytes) refl) ∙ take_at key value (length key) refl
 
@@ -49,14 +46,14 @@ value_last bytes key value =
 call_last : (bytes : List ℕ) (call : Call) → call_of (bytes ++ bytes_of call) (row_of (length bytes) call) ≡ call
 call_last bytes (calls.Enter shard) = refl
 call_last bytes (calls.Leave shard) = refl
-call_last bytes (calls.Lookup shard key) = ap (calls.Lookup shard) (part_last bytes key)
+call_last bytes (calls.Lookup shard key) = ap (calls.Lookup shard) (key_last bytes key [])
 call_last bytes (calls.Load cell offset size) = refl
 call_last bytes (calls.Store cell offset size value) = refl
 call_last bytes (calls.Atomic cell offset size op value expected) = refl
 call_last bytes (calls.Update shard key value flags) =
     ap (λ k. calls.Update shard k (part (length bytes + length key) (length value) (bytes ++ (key ++ value))) flags) (key_last bytes key value)
     ∙ ap (λ v. calls.Update shard key v flags) (value_last bytes key value)
-call_last bytes (calls.Delete shard key) = ap (calls.Delete shard) (part_last bytes key)
+call_last bytes (calls.Delete shard key) = ap (calls.Delete shard) (key_last bytes key [])
 call_last bytes (calls.Reclaim shard) = refl
 
 -- one entry more, whose bytes come behind the others

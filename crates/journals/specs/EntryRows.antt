@@ -1,9 +1,10 @@
 -- How rows and bytes make a list of entries.
-use Rattle.std.specs.Prelude.{ℕ, ◌+◌, ◌≤◌, List, [], ◌++◌, length, map}
+use Rattle.std.specs.Prelude.{ℕ, ◌+◌, ◌≤◌, List, [], ◌++◌, length, map, unwrap_or}
 use Rattle.std.specs.List.{AllByRecursion}
 use Rattle.semantics.specs.declared.call.Call.{Call}
 use Rattle.semantics.specs.declared.call.Call.TheVariants as calls
 use Rattle.semantics.specs.declared.call.Entry.{Entry}
+use Rattle.semantics.specs.Cells.{key_of_call, value_of_call}
 use Rattle.journal.specs.Rows.{part}
 use Rattle.journals.specs.declared.call_row.CallRow.{CallRow}
 use Rattle.journals.specs.declared.call_row.CallRow.TheVariants.{Enter, Leave, Lookup, Load, Store, Atomic, Update, Delete, Reclaim}
@@ -11,15 +12,7 @@ use Rattle.journals.specs.declared.entry_list.EntryRow.{EntryRow}
 
 -- the key of a call, and behind it its value
 abbrev pub bytes_of : Call → List ℕ
-bytes_of (calls.Enter shard) = []
-bytes_of (calls.Leave shard) = []
-bytes_of (calls.Lookup shard key) = key
-bytes_of (calls.Load cell offset size) = []
-bytes_of (calls.Store cell offset size value) = []
-bytes_of (calls.Atomic cell offset size op value expected) = []
-bytes_of (calls.Update shard key value flags) = key ++ value
-bytes_of (calls.Delete shard key) = key
-bytes_of (calls.Reclaim shard) = []
+bytes_of call = unwrap_or (key_of_call call) [] ++ unwrap_or (value_of_call call) []
 
 -- the row of a call whose key and value stand from this place on
 abbrev pub row_of : ℕ → Call → CallRow

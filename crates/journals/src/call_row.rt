@@ -1,9 +1,10 @@
 //! A call as a list of entries keeps it.
 
-ghost use Rattle.std.specs.Prelude.{◌≡◌, ◌+◌, ◌≤◌, ◌++◌, length, vec_len, vec_capacity};
+ghost use Rattle.std.specs.Prelude.{◌≡◌, ◌+◌, ◌≤◌, ◌++◌, [], length, unwrap_or, vec_len, vec_capacity};
+ghost use Rattle.semantics.specs.Cells.{key_of_call, value_of_call};
 ghost use Rattle.journals.specs.EntryRows.{bytes_of, row_of, call_of, FitsRow, IsWithin};
 
-use journal::{key_at, value_at};
+use journal::{key_at, put_bytes, value_at};
 use semantics::{Call, CellRef, Key, Value};
 
 /// A call whose key, and behind it its value, stand among the list's bytes from `at` on.
@@ -112,17 +113,7 @@ impl CallRow {
 pub(crate) fn byte_count(call: &Call) -> usize
     ensures { result ≡ length (bytes_of call.now) }
 {
-    match call {
-        Call::Lookup { key, .. } => key.as_slice().len(),
-        Call::Update { key, value, .. } => key.as_slice().len() + value.as_slice().len(),
-        Call::Delete { key, .. } => key.as_slice().len(),
-        Call::Enter { .. } => 0,
-        Call::Leave { .. } => 0,
-        Call::Load { .. } => 0,
-        Call::Store { .. } => 0,
-        Call::Atomic { .. } => 0,
-        Call::Reclaim { .. } => 0,
-    }
+    key_bytes(call).len() + value_bytes(call).len()
 }
 
 /// Puts the key and the value of a call behind the bytes, for which there is room.
@@ -130,30 +121,29 @@ pub(crate) fn put_bytes_of(bytes: &mut Vec<u8>, call: &Call)
     requires { vec_len bytes.old + length (bytes_of call.now) ≤ vec_capacity bytes.old }
     ensures { bytes.new.items ≡ bytes.old.items ++ bytes_of call.now }
 {
-    match call {
-        Call::Lookup { key, .. } => put_bytes(bytes, key.as_slice()),
-        Call::Update { key, value, .. } => {
-            put_bytes(bytes, key.as_slice());
-            put_bytes(bytes, value.as_slice());
-        }
-        Call::Delete { key, .. } => put_bytes(bytes, key.as_slice()),
-        Call::Enter { .. } => {}
-        Call::Leave { .. } => {}
-        Call::Load { .. } => {}
-        Call::Store { .. } => {}
-        Call::Atomic { .. } => {}
-        Call::Reclaim { .. } => {}
+    put_bytes(bytes, key_bytes(call));
+    put_bytes(bytes, value_bytes(call));
+}
+
+// The bytes of the key that the call names, none where it names no key.
+fn key_bytes(call: &Call) -> &[u8]
+    ensures bytes { result.now ≡ unwrap_or (key_of_call call.now) [] }
+    ensures at_most { length result.now ≤ 32 }
+{
+    match call.key() {
+        Some(key) => key.as_slice(),
+        None => &[],
     }
 }
 
-/// Puts bytes behind the others, for which there is room.
-fn put_bytes(bytes: &mut Vec<u8>, more: &[u8])
-    requires { vec_len bytes.old + length more.now ≤ vec_capacity bytes.old }
-    ensures items { bytes.new.items ≡ bytes.old.items ++ more.now }
-    ensures room { vec_capacity bytes.old ≤ vec_capacity bytes.new }
+// The bytes of the value that an Update gives its key, none of another call.
+fn value_bytes(call: &Call) -> &[u8]
+    ensures bytes { result.now ≡ unwrap_or (value_of_call call.now) [] }
+    ensures at_most { length result.now ≤ 256 }
 {
-    if bytes.extend_from_slice(more).is_err() {
-        unreachable!()
+    match call.value() {
+        Some(value) => value.as_slice(),
+        None => &[],
     }
 }
 

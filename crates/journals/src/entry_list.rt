@@ -112,7 +112,5 @@ fn put_row(rows: &mut Vec<EntryRow>, row: EntryRow)
     requires { vec_len rows.old < vec_capacity rows.old }
     ensures { rows.new.items ≡ rows.old.items ++ row ∷ [] }
 {
-    if rows.push(row).is_err() {
-        unreachable!()
-    }
+    rows.push_reserved(row);
 }

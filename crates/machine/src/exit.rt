@@ -15,11 +15,10 @@ pub struct Exit {
     pub steps: u64,
 }
 
-/// Why a run stopped before its end.
+/// Why a run stopped before its end. docs/FAULTS.md says when each comes, in which order, and what it leaves.
 #[derive(Clone, Copy, Debug, PartialEq, Eq, Error)]
 pub enum Stop {
-    /// The port refused the run's next call, of this shard: over shards, its journal has no room. The calls before it stand, and the
-    /// frame is not to be sent.
+    /// 60: the port refused the run's next call, of this shard.
     #[error("fault 60 JournalFull shard {shard}")]
     JournalFull { shard: u32 },
 }

@@ -3,22 +3,22 @@
 use std::alloc::{AllocError, AllocFailed};
 use thiserror::Error;
 
-/// Why no ring was made. Where several apply, it is the one of the lowest number; no fault leaves anything behind.
+/// Why no ring was made. docs/FAULTS.md says when each comes, in which order, and what it leaves.
 #[derive(Clone, Copy, Debug, PartialEq, Eq, Error)]
 pub enum RingFault {
-    /// The list has no backend.
+    /// 70: the list has no backend.
     #[error("fault 70 NoBackend")]
     NoBackend,
-    /// Two backends have one number, or one address.
+    /// 71: two backends have one number, or one address.
     #[error("fault 71 Twice")]
     Twice,
-    /// More than 256 backends, or more than slots.
+    /// 72: more than 256 backends, or more than slots.
     #[error("fault 72 TooMany")]
     TooMany,
-    /// A table has 7, 251, 4093 or 65537 slots.
+    /// 73: no table has this number of slots.
     #[error("fault 73 BadSize")]
     BadSize,
-    /// The allocator refused the table or the list of preferences.
+    /// 74: memory was refused.
     #[error("fault 74 Memory")]
     Memory,
 }

@@ -1,5 +1,5 @@
 -- What a port serves: the calls that a run may make of it, and the words that stand for cells.
-use Rattle.std.specs.Prelude.{◌≡◌, ℕ, zero, suc, ◌%◌, ◌<◌, ◌^◌, List, [], length, All, IsTrue, Option, Some, None, slice_get}
+use Rattle.std.specs.Prelude.{◌≡◌, ℕ, zero, suc, ◌^◌, List, [], IsTrue, slice_get}
 use Rattle.isa.specs.declared.operation.AtomicOp.{AtomicOp}
 use Rattle.ebpf_decode.specs.declared.map.MapDef.{MapDef}
 use Rattle.isa.specs.InstructionCodes.{atomic_code}
@@ -8,10 +8,8 @@ use Rattle.semantics.specs.declared.call.Call.{Call}
 use Rattle.semantics.specs.declared.call.Call.TheVariants.{Lookup, Atomic, Update, Delete}
 use Rattle.semantics.specs.declared.call.Reply.{Reply}
 use Rattle.semantics.specs.declared.call.Reply.TheVariants.{Cell, Null}
-use Rattle.semantics.specs.Program.{Program, shard_of_key}
-use Rattle.semantics.specs.History.{is_atomic_size, is_expected}
-use Rattle.semantics.specs.ServedCalls.{Held}
-use Rattle.semantics.specs.ServedCalls.{IsServedLoad}
+use Rattle.semantics.specs.Program.{Program, shard_in_map}
+use Rattle.semantics.specs.ServedCalls.{Held, IsServedLoad, IsServedStore, IsServedAtomic}
 
 -- ---- maps and shards
 
@@ -26,10 +24,7 @@ program_over served = record { code = []; maps = served.maps; shards = served.sh
 
 -- the shard of a key
 abbrev pub shard_of : Maps → ℕ → List ℕ → ℕ
-shard_of served map key = shard_in (slice_get served.maps map) where
-  shard_in : Option MapDef → ℕ
-  shard_in (Some definition) = shard_of_key map definition.kind served.shards key
-  shard_in None = 0
+shard_of served map key = shard_in_map (slice_get served.maps map) served.shards map key
 
 -- ---- the calls
 
@@ -45,39 +40,18 @@ delete_call served map key = Delete (shard_of served map key) key
 abbrev pub atomic_call : CellRef → ℕ → ℕ → AtomicOp → ℕ → ℕ → Call
 atomic_call cell offset size op value expected = Atomic cell offset size (atomic_code op) value expected
 
--- a key of a map that there is
-pub record IsKeyOf (served : Maps) (map : ℕ) (key : List ℕ) : Type 0 where
-  pub definition : MapDef
-  pub known : slice_get served.maps map ≡ Some definition
-  pub key_size : length key ≡ definition.key_size
-  pub bytes : All (λ byte. byte < 256) key
-
--- with a value of that map
-pub record IsPairOf (served : Maps) (map : ℕ) (key value : List ℕ) : Type 0 where
-  pub definition : MapDef
-  pub known : slice_get served.maps map ≡ Some definition
-  pub key_size : length key ≡ definition.key_size
-  pub value_size : length value ≡ definition.value_size
-  pub bytes : All (λ byte. byte < 256) key
-  pub value_bytes : All (λ byte. byte < 256) value
-
 -- some bytes of a cell that was handed out, inside its value
 abbrev pub IsReadable : Maps → Held → CellRef → ℕ → ℕ → Type 0
 IsReadable served held cell offset size = IsServedLoad (program_over served) held cell offset size
 
 -- a number that is stored there
-pub record IsStorable (served : Maps) (held : Held) (cell : CellRef) (offset size value : ℕ) : Type 0 where
-  pub place : IsReadable served held cell offset size
-  pub fits : value < 256 ^ size
+abbrev pub IsStorable : Maps → Held → CellRef → ℕ → ℕ → ℕ → Type 0
+IsStorable served held cell offset size value = IsServedStore (program_over served) held cell offset size value
 
--- an atomic operation there, at a multiple of its size; only compare-and-exchange has a number to compare with
-pub record IsAtomic (served : Maps) (held : Held) (cell : CellRef) (offset size : ℕ) (op : AtomicOp) (value expected : ℕ) : Type 0 where
-  pub place : IsReadable served held cell offset size
-  pub atomic_size : IsTrue (is_atomic_size size)
-  pub aligned : offset % size ≡ 0
-  pub fits : value < 256 ^ size
-  pub expected_fits : expected < 256 ^ size
-  pub expected_if : IsTrue (is_expected (atomic_code op) expected)
+-- an atomic operation there
+abbrev pub IsAtomic : Maps → Held → CellRef → ℕ → ℕ → AtomicOp → ℕ → ℕ → Type 0
+IsAtomic served held cell offset size op value expected =
+    IsServedAtomic (program_over served) held cell offset size (atomic_code op) value expected
 
 -- ---- handles: the numbers by which a port names the cells that it handed out
 
@@ -86,9 +60,9 @@ abbrev pub handle_limit : ℕ
 handle_limit = 2 ^ 55
 
 -- the reply that a handle tells: 0 is no cell
-abbrev pub found_reply : (ℕ → CellRef) → ℕ → Reply
-found_reply cell_of zero = Null
-found_reply cell_of (suc handle) = Cell (cell_of (suc handle))
+abbrev pub reply_of_handle : (ℕ → CellRef) → ℕ → Reply
+reply_of_handle cell_of zero = Null
+reply_of_handle cell_of (suc handle) = Cell (cell_of (suc handle))
 
 -- what a call leaves to the port: its maps, and all that it handed out under the same handles
 pub record Keeps (before after : Maps) (held held' : Held) (cell_of cell_of' : ℕ → CellRef) : Type 0 where

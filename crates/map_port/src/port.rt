@@ -8,9 +8,9 @@ ghost use Rattle.semantics.specs.declared.call.Reply.{Reply};
 ghost use Rattle.semantics.specs.declared.call.Reply.TheVariants.{Word, Done, Answer};
 ghost use Rattle.semantics.specs.History.{shard_of_call};
 ghost use Rattle.semantics.specs.RunTrace.{IsReplyTo};
-ghost use Rattle.semantics.specs.ServedCalls.{IsHandedOut};
-ghost use Rattle.map_port.specs.Served.{Maps, program_over, lookup_call, update_call, delete_call, atomic_call, IsKeyOf, IsPairOf};
-ghost use Rattle.map_port.specs.Served.{IsReadable, IsStorable, IsAtomic, handle_limit, found_reply, Keeps};
+ghost use Rattle.semantics.specs.ServedCalls.{IsHandedOut, IsKeyOf, IsPairOf};
+ghost use Rattle.map_port.specs.Served.{Maps, program_over, lookup_call, update_call, delete_call, atomic_call};
+ghost use Rattle.map_port.specs.Served.{IsReadable, IsStorable, IsAtomic, handle_limit, reply_of_handle, Keeps};
 
 use isa::AtomicOp;
 use semantics::{JournalFull, Key, Value};
@@ -38,8 +38,9 @@ pub trait MapPort {
     /// Looks a key up: the handle of its cell, or 0 where the key is absent. A refusal names the shard; what it leaves is
     /// `refuses`, which for a port over shards is that the journal has no room.
     fn lookup(&mut self, map: u32, key: &Key) -> Result<u64, JournalFull>
-        requires { IsKeyOf (serves self.old) map key.now }
-        ensures gives { IfOk result (λ handle. gives self.old (lookup_call (serves self.old) map key.now) (found_reply (cell_of self.new) handle) self.new) }
+        requires { IsKeyOf (serves self.old).maps map key.now }
+        ensures gives { IfOk result (λ handle. gives self.old (lookup_call (serves self.old) map key.now)
+            (reply_of_handle (cell_of self.new) handle) self.new) }
         ensures limit { IfOk result (λ handle. handle < handle_limit) }
         ensures refuses { OnErr result (refuses self.old (lookup_call (serves self.old) map key.now) self.new) }
         ensures names_the_shard { IfErr result (λ fault. fault.shard ≡ shard_of_call (lookup_call (serves self.old) map key.now)) };
@@ -76,14 +77,14 @@ pub trait MapPort {
 
     /// Asks for the value of a key to be set, and gives the answer. Refused as `lookup` is.
     fn update(&mut self, map: u32, key: &Key, value: &Value, flags: u64) -> Result<i32, JournalFull>
-        requires { IsPairOf (serves self.old) map key.now value.now }
+        requires { IsPairOf (serves self.old).maps map key.now value.now }
         ensures gives { IfOk result (λ code. gives self.old (update_call (serves self.old) map key.now value.now flags) (Answer code) self.new) }
         ensures refuses { OnErr result (refuses self.old (update_call (serves self.old) map key.now value.now flags) self.new) }
         ensures names_the_shard { IfErr result (λ fault. fault.shard ≡ shard_of_call (update_call (serves self.old) map key.now value.now flags)) };
 
     /// Asks for a key to be removed, and gives the answer. Refused as `lookup` is.
     fn delete(&mut self, map: u32, key: &Key) -> Result<i32, JournalFull>
-        requires { IsKeyOf (serves self.old) map key.now }
+        requires { IsKeyOf (serves self.old).maps map key.now }
         ensures gives { IfOk result (λ code. gives self.old (delete_call (serves self.old) map key.now) (Answer code) self.new) }
         ensures refuses { OnErr result (refuses self.old (delete_call (serves self.old) map key.now) self.new) }
         ensures names_the_shard { IfErr result (λ fault. fault.shard ≡ shard_of_call (delete_call (serves self.old) map key.now)) };

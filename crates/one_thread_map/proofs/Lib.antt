@@ -1,1 +1,2 @@
+mod NewestLemmas
 pub mod SizeLemmas

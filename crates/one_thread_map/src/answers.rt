@@ -11,9 +11,7 @@ ghost use Rattle.semantics.specs.SequentialShard.{present_key_answer, array_upda
 ghost use Rattle.semantics.specs.SequentialShard.{keyed_update_answer, update_answer_of_kind, update_answer_by, update_answer};
 ghost use Rattle.semantics.specs.SequentialShard.{delete_answer_of_kind, delete_answer, lookup_reply, reply_of};
 
-use crate::state::{
-    ShardState, capacity, cell_bytes, cell_of_index, cell_of_present, reclaimable_count,
-};
+use crate::state::{ShardState, cell_bytes, cell_of_index, cell_of_present, reclaimable_count};
 use ebpf_decode::MapKind;
 use isa::{AtomicOp, Width, atomic};
 use semantics::little_endian::{number_of_bytes, part_at};
@@ -85,7 +83,7 @@ fn has_free_cell(plan: &ShardPlan, counts: Counts) -> bool
     requires { IsWithinLimits plan.now }
     ensures { AsCounted counts (λ state. result ≡ has_free_cell plan.now state) }
 {
-    counts.present as u128 + (counts.waiting as u128) < 2 * u128::from(capacity(plan))
+    counts.present as u128 + (counts.waiting as u128) < 2 * u128::from(plan.capacity())
 }
 
 /// Whether the shard has as many keys as it may have.
@@ -93,7 +91,7 @@ pub fn is_full_of_keys(plan: &ShardPlan, counts: Counts) -> bool
     requires { IsWithinLimits plan.now }
     ensures { AsCounted counts (λ state. result ≡ is_full_of_keys plan.now state) }
 {
-    capacity(plan) <= counts.present as u64
+    u64::from(plan.capacity()) <= counts.present as u64
 }
 
 /// What an Update of a key that is there answers: that it exists, where it may not.

@@ -1,19 +1,21 @@
 //! Which calls a shard serves, and when its journal is full.
 
-ghost use Rattle.std.specs.Prelude.{◌≡◌, ◌<◌, ◌≤◌, ◌==◌, ◌+◌, ◌%◌, ◌^◌, ◌&&◌, ℕ, Bool, List, IfSome, IsTrue, length, reverse, nat_lt, is_some};
+ghost use Rattle.std.specs.Prelude.{◌≡◌, ◌<◌, ◌≤◌, ◌==◌, ◌+◌, ◌%◌, ◌^◌, ◌&&◌, ℕ, Bool, List, Some, IfSome, IsTrue, length, reverse};
+ghost use Rattle.std.specs.Prelude.{not, nat_lt, is_some, slice_get};
+ghost use Rattle.ebpf_decode.specs.declared.map.MapDef.{MapDef};
 ghost use Rattle.semantics.specs.declared.call.Entry.{Entry};
 ghost use Rattle.semantics.specs.declared.plan.ShardPlan.{ShardPlan};
 ghost use Rattle.one_thread_map.specs.Standings.{is_worker_with, is_atomic, IsStanding};
 ghost use Rattle.semantics.specs.PlanLimits.{IsWithinLimits, IsIndexSize};
 ghost use Rattle.semantics.specs.Reclamation.{is_inside, holds, inside_count};
-ghost use Rattle.semantics.specs.Program.{shard_number_of_key, part_of_key, shard_of_key};
-ghost use Rattle.semantics.specs.History.{is_outside_worker, is_inside_worker, is_holder, may_change_keys, is_reclaimer, are_bytes};
+ghost use Rattle.semantics.specs.Program.{shard_number_of_key, part_of_key, shard_of_key, shard_in_map};
+ghost use Rattle.semantics.specs.History.{is_outside_worker, is_inside_worker, is_holder, may_change_keys, are_bytes};
 ghost use Rattle.semantics.specs.History.{is_own_key, is_value, are_flags, is_load_size, is_atomic_size, is_in_cell, is_aligned};
 ghost use Rattle.semantics.specs.History.{fits_size, is_expected, meets_part, meets, room_for_leave, room_needed, lacks_room};
 ghost use Rattle.semantics.specs.History.{journal_is_full};
 
-use crate::history::{holds, inside_count, is_inside};
-use ebpf_decode::MapKind;
+use crate::history::inside_count;
+use ebpf_decode::{MapDef, MapKind};
 use isa::AtomicOp;
 use semantics::little_endian::number_of_bytes;
 use semantics::{Call, Caller, Entry, Key, SectionChange, ShardPlan, Value};
@@ -29,71 +31,31 @@ pub struct Standing {
 }
 
 /// The number of a caller that is a worker of the plan.
-pub fn worker_of(plan: &ShardPlan, who: &Caller) -> Option<u8>
+pub(crate) fn worker_of(plan: &ShardPlan, who: &Caller) -> Option<u8>
     ensures below { IfSome result (λ worker. worker < plan.now.workers) }
     ensures inside { (history : List Entry) → is_inside_worker plan.now history who.now ≡ is_worker_with (λ worker. is_inside worker history) result }
-    ensures holder { (history : List Entry) (cell : ℕ) → is_holder plan.now history who.now cell ≡ is_worker_with (λ worker. holds worker cell history) result }
+    ensures holder { (history : List Entry) (cell : ℕ) → is_holder plan.now history who.now cell ≡
+        is_worker_with (λ worker. holds worker cell history) result }
+    ensures outside { (history : List Entry) → is_outside_worker plan.now history who.now ≡
+        is_worker_with (λ worker. not (is_inside worker history)) result }
 {
-    match who {
-        Caller::Worker { number } => if u32::from(*number) < plan.workers {
-            Some(*number)
-        } else {
-            None
-        },
-        Caller::Controller => None,
-        Caller::Reclaimer => None,
-    }
-}
-
-/// What the journal tells of a caller before its call.
-fn standing_in(plan: &ShardPlan, journal: &[Entry], who: &Caller, call: &Call) -> Standing
-    ensures { IsStanding plan.now (reverse journal.now) who.now call.now result }
-{
-    match worker_of(plan, who) {
-        Some(worker) => Standing {
-            is_inside: is_inside(worker, journal),
-            is_holder: match call.cell() {
-                Some(cell) => holds(worker, cell.id, journal),
-                None => false,
-            },
-        },
-        None => Standing {
-            is_inside: false,
-            is_holder: false,
-        },
-    }
+    who.worker()
+        .filter(|number| u32::from(*number) < plan.workers)
 }
 
 /// Whether the caller is a worker of the plan that is not inside.
 fn is_outside_worker(plan: &ShardPlan, who: &Caller, inside: bool) -> bool
     ensures { (history : List Entry) → inside ≡ is_inside_worker plan.now history who.now → result ≡ is_outside_worker plan.now history who.now }
 {
-    match who {
-        Caller::Worker { number } => u32::from(*number) < plan.workers && !inside,
-        Caller::Controller => false,
-        Caller::Reclaimer => false,
-    }
+    worker_of(plan, who).is_some() && !inside
 }
 
 /// Whether the caller may change keys: a worker inside, and the controller always.
 fn may_change_keys(who: &Caller, inside: bool) -> bool
-    ensures { (plan : ShardPlan) (history : List Entry) → inside ≡ is_inside_worker plan history who.now → result ≡ may_change_keys plan history who.now }
+    ensures { (plan : ShardPlan) (history : List Entry) → inside ≡ is_inside_worker plan history who.now →
+        result ≡ may_change_keys plan history who.now }
 {
-    match who {
-        Caller::Worker { .. } => inside,
-        Caller::Controller => true,
-        Caller::Reclaimer => false,
-    }
-}
-
-fn is_reclaimer(who: &Caller) -> bool
-    ensures { result ≡ is_reclaimer who.now }
-{
-    match who {
-        Caller::Worker { .. } => false,
-        Caller::Controller => false,
-        Caller::Reclaimer => true,
-    }
+    *who == Caller::Controller || inside
 }
 
 /// The number that chooses a key's shard: an array's index, else the key's hash.
@@ -108,8 +70,8 @@ pub fn shard_number_of_key(kind: MapKind, key: &[u8]) -> u64
     }
 }
 
-/// What is left of a number after a division by a number of parts. Those that maps are opened with have a case each, since a division by
-/// a variable takes longer than the rest of a look-up.
+/// What is left of a number after a division by a number of parts. Those that maps are opened with have a case each, since a division by a
+/// variable takes longer than the rest of a look-up.
 fn part_of_number(number: u64, parts: u32) -> u32
     requires { 0 < parts }
     ensures { result ≡ number % parts }
@@ -133,6 +95,18 @@ pub fn shard_of_kind(map: u32, kind: MapKind, parts: u32, key: &Key) -> u32
 {
     let number = shard_number_of_key(kind, key.as_slice());
     map * parts + part_of_number(number, parts)
+}
+
+/// The number of the shard of a key of the map at a place, with so many shards for each map.
+pub fn shard_of_map(maps: &[MapDef], parts: u32, map: u32, key: &Key) -> u32
+    requires map { map < length maps.now }
+    requires maps { length maps.now ≤ 16 }
+    requires parts { 0 < parts }
+    requires few { parts ≤ 8 }
+    requires size { (definition : MapDef) → slice_get maps.now map ≡ Some definition → IsIndexSize definition.kind (length key.now) }
+    ensures { result ≡ shard_in_map (slice_get maps.now map) parts map key.now }
+{
+    shard_of_kind(map, maps[map as usize].kind, parts, key)
 }
 
 /// Whether the key has the map's length and belongs to the shard.
@@ -260,7 +234,7 @@ fn meets_part(plan: &ShardPlan, standing: Standing, who: &Caller, call: &Call) -
             && is_own_key(plan, key)
             && (is_value(plan, value) && are_flags(*flags)),
         Call::Delete { key, .. } => may_change_keys(who, is_inside) && is_own_key(plan, key),
-        Call::Reclaim { .. } => is_reclaimer(who),
+        Call::Reclaim { .. } => who.is_reclaimer(),
     }
 }
 
@@ -281,38 +255,38 @@ fn are_flags(flags: u64) -> bool
 }
 
 /// Whether a caller of this standing may make this call on this shard: the journal is not read.
-pub fn meets_with(plan: &ShardPlan, standing: Standing, who: &Caller, call: &Call) -> bool
+pub(crate) fn meets_with(plan: &ShardPlan, standing: Standing, who: &Caller, call: &Call) -> bool
     requires { IsWithinLimits plan.now }
     ensures { (history : List Entry) → IsStanding plan.now history who.now call.now standing → result ≡ meets plan.now history who.now call.now }
 {
     call.shard() == plan.number && meets_part(plan, standing, who, call)
 }
 
-/// Whether the caller may make this call on this shard now.
-pub fn meets(plan: &ShardPlan, journal: &[Entry], who: &Caller, call: &Call) -> bool
-    requires { IsWithinLimits plan.now }
-    ensures { result ≡ meets plan.now (reverse journal.now) who.now call.now }
+/// Whether a journal of so many entries, with so many runs inside, has no room for a call that is no Leave: for its entry, one more for each
+/// run inside, and one more for the run that it lets in.
+pub fn lacks_room(plan: &ShardPlan, entries: usize, inside: usize, entering: u8) -> bool
+    ensures { result ≡ nat_lt plan.now.reserve (entries + inside + entering + 1) }
 {
-    meets_with(plan, standing_in(plan, journal, who, call), who, call)
-}
-
-/// Whether the journal has no room for a call that is no Leave: for its entry, one more for each run inside, and one more
-/// for the run that it lets in.
-fn lacks_room(plan: &ShardPlan, journal: &[Entry], entering: u8) -> bool
-    ensures { result ≡ nat_lt plan.now.reserve (length (reverse journal.now) + inside_count (reverse journal.now) + entering + 1) }
-{
-    let needed = journal.len() as u128 + inside_count(journal) as u128 + u128::from(entering) + 1;
+    let needed = entries as u128 + inside as u128 + u128::from(entering) + 1;
     u128::from(plan.reserve) < needed
 }
 
-/// Whether the journal is full for this call: the entries, one more for each run inside, one for a run that would enter, and
-/// one for the call itself are more than it has room for. For a Leave it never is, since its Enter left it room.
-pub fn journal_is_full(plan: &ShardPlan, journal: &[Entry], call: &Call) -> bool
-    ensures { result ≡ journal_is_full plan.now (reverse journal.now) call.now }
+/// Whether a journal of so many entries, with so many runs inside, is full for this call: the entries, one more for each run inside, one for a
+/// run that would enter, and one for the call itself are more than it has room for. For a Leave it never is, since its Enter left it room.
+pub fn is_full_with(plan: &ShardPlan, entries: usize, inside: usize, call: &Call) -> bool
+    ensures { (history : List Entry) → entries ≡ length history → inside ≡ inside_count history →
+        result ≡ journal_is_full plan.now history call.now }
 {
     match call.section_change() {
         SectionChange::Ends => false,
-        SectionChange::Begins => lacks_room(plan, journal, 1),
-        SectionChange::Stays => lacks_room(plan, journal, 0),
+        SectionChange::Begins => lacks_room(plan, entries, inside, 1),
+        SectionChange::Stays => lacks_room(plan, entries, inside, 0),
     }
+}
+
+/// Whether the journal is full for this call.
+pub fn journal_is_full(plan: &ShardPlan, journal: &[Entry], call: &Call) -> bool
+    ensures { result ≡ journal_is_full plan.now (reverse journal.now) call.now }
+{
+    is_full_with(plan, journal.len(), inside_count(journal), call)
 }

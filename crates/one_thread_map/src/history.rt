@@ -2,12 +2,13 @@
 //!
 //! A journal has its oldest entry first; the definitions speak of the history, which has its newest entry first.
 
-ghost use Rattle.std.specs.Prelude.{◌≡◌, ◌==◌, ◌+◌, ◌<◌, ◌^◌, ℕ, Bool, Option, List, reverse, length, unwrap_or, count_by, bytes_eq};
-ghost use Rattle.std.specs.Prelude.{vec_len, vec_capacity, ◌++◌, ◌∷◌, []};
+ghost use Rattle.std.specs.Prelude.{◌≡◌, ◌==◌, ◌+◌, ◌<◌, ◌^◌, ℕ, Bool, Option, List, reverse, length, unwrap_or, count_by};
+ghost use Rattle.std.specs.Prelude.{vec_len, vec_capacity, ◌++◌, ◌∷◌, [], Some, slice_get};
+ghost use Rattle.semantics.specs.declared.call.Entry.{Entry};
 ghost use Rattle.std.specs.List.{list_all};
 ghost use Rattle.semantics.specs.Reclamation.{is_worker, entered_where, entered_by, entered_at, is_inside, held_change, held_where, held_by, holds};
 ghost use Rattle.semantics.specs.Reclamation.{worker_numbers, inside_count, began_after, is_reclaimable};
-ghost use Rattle.semantics.specs.LeastRecentlyUsed.{is_found, is_done, call_uses, uses, last_use};
+ghost use Rattle.semantics.specs.LeastRecentlyUsed.{last_use};
 
 use semantics::{Call, Caller, Entry, HeldChange, Key, Reply, RetiredCell, SectionChange};
 
@@ -15,14 +16,10 @@ use semantics::{Call, Caller, Entry, HeldChange, Key, Reply, RetiredCell, Sectio
 const WORKER_NUMBERS: [u8; 8] = [0, 1, 2, 3, 4, 5, 6, 7];
 
 /// Whether the caller is the worker of this number.
-pub fn is_worker(worker: u8, who: &Caller) -> bool
+fn is_worker(worker: u8, who: &Caller) -> bool
     ensures { result ≡ is_worker worker who.now }
 {
-    match who {
-        Caller::Worker { number } => *number == worker,
-        Caller::Controller => false,
-        Caller::Reclaimer => false,
-    }
+    who.worker() == Some(worker)
 }
 
 /// Where a worker's own call at a place begins or ends a section: where the section then began, if there is one.
@@ -77,7 +74,7 @@ fn count_inside(workers: &[u8], journal: &[Entry]) -> usize
 }
 
 /// Where a worker's own entry decides whether it then holds the cell: the answer.
-pub fn held_by(call: &Call, reply: &Reply, cell: u64) -> Option<bool>
+fn held_by(call: &Call, reply: &Reply, cell: u64) -> Option<bool>
     ensures { (before : Bool) → unwrap_or result before ≡ held_by call.now reply.now cell before }
 {
     match HeldChange::of(call, reply) {
@@ -87,14 +84,42 @@ pub fn held_by(call: &Call, reply: &Reply, cell: u64) -> Option<bool>
     }
 }
 
-/// Whether the worker holds the cell: since its last Enter, which no Leave follows, a Lookup of its own found it.
-pub fn holds(worker: u8, cell: u64, journal: &[Entry]) -> bool
-    ensures { result ≡ holds worker cell (reverse journal.now) }
+/// Entries by their places, the oldest first.
+pub trait Entries {
+    /// The list of them.
+    ghost entries: { Self → List Entry };
+
+    /// How many there are.
+    fn len(&self) -> usize
+        ensures { result ≡ length (entries self.now) };
+
+    /// The entry at a place, counted from 0.
+    fn entry(&self, place: usize) -> Entry
+        requires { place < length (entries self.now) }
+        ensures { slice_get (entries self.now) place ≡ Some result };
+}
+
+impl Entries for Vec<Entry> {
+    ghost entries = { λ list. list.items };
+
+    fn len(&self) -> usize {
+        self.len()
+    }
+
+    fn entry(&self, place: usize) -> Entry {
+        self[place]
+    }
+}
+
+/// Whether the worker holds the cell: since its last Enter, which no Leave follows, a Lookup of its own found it. Reads the entries from the
+/// newest one back to the worker's Enter or Leave.
+pub fn holds<J: Entries>(worker: u8, cell: u64, journal: &J) -> bool
+    ensures { result ≡ holds worker cell (reverse (J.entries journal.now)) }
 {
     let mut older = journal.len();
     'newer: while older > 0 {
         older -= 1;
-        let entry = &journal[older];
+        let entry = journal.entry(older);
         if is_worker(worker, &entry.who) {
             if let Some(answer) = held_by(&entry.call, &entry.reply, cell) {
                 return answer;
@@ -129,39 +154,6 @@ fn all_began_after(workers: &[u8], journal: &[Entry], since: u64) -> bool
         .all(|worker| began_after(since, entered_at(*worker, journal)))
 }
 
-/// Whether the reply is the answer 0.
-fn is_done(reply: &Reply) -> bool
-    ensures { result ≡ is_done reply.now }
-{
-    match reply {
-        Reply::Answer { code } => *code == 0,
-        Reply::Entered => false,
-        Reply::Left => false,
-        Reply::Cell { .. } => false,
-        Reply::Null => false,
-        Reply::Word { .. } => false,
-        Reply::Done => false,
-        Reply::Freed { .. } => false,
-    }
-}
-
-/// Whether the entry is a use of the key: a Lookup that found it, or an Update that answered 0.
-pub fn uses(key: &Key, entry: &Entry) -> bool
-    ensures { result ≡ uses key.now entry.now }
-{
-    match &entry.call {
-        Call::Lookup { key: asked, .. } => asked.is_same(key) && entry.reply.cell().is_some(),
-        Call::Update { key: asked, .. } => asked.is_same(key) && is_done(&entry.reply),
-        Call::Enter { .. } => false,
-        Call::Leave { .. } => false,
-        Call::Load { .. } => false,
-        Call::Store { .. } => false,
-        Call::Atomic { .. } => false,
-        Call::Delete { .. } => false,
-        Call::Reclaim { .. } => false,
-    }
-}
-
 /// One more than the place of the key's last use; 0 where there is none.
 pub fn last_use(key: &Key, journal: &[Entry]) -> u64
     ensures { result ≡ last_use key.now (reverse journal.now) }
@@ -170,7 +162,7 @@ pub fn last_use(key: &Key, journal: &[Entry]) -> u64
     'newer: while older > 0 {
         let newest = older;
         older -= 1;
-        if uses(key, &journal[older]) {
+        if journal[older].uses(key) {
             return newest as u64;
         }
     }

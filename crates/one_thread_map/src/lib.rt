@@ -7,6 +7,7 @@ mod changes;
 pub mod conditions;
 pub mod history;
 mod one_thread;
+pub mod sections;
 pub mod state;
 
 pub use one_thread::OneThreadShard;

@@ -8,8 +8,9 @@ ghost use Rattle.one_thread_map.specs.OneThread.{with_entry};
 
 use crate::answers::reply_of;
 use crate::changes::apply;
-use crate::conditions::{journal_is_full, meets};
-use crate::history::put_entry;
+use crate::conditions::journal_is_full;
+use crate::history::{holds, is_inside, put_entry};
+use crate::sections::{Sections, meets};
 use crate::state::{ShardState, opening_cells};
 use semantics::{Call, Caller, Entry, Reply, ShardPlan};
 use std::alloc::{AllocError, Global};
@@ -74,7 +75,7 @@ impl OneThreadShard {
     pub fn meets(&self, who: &Caller, call: &Call) -> bool
         ensures { result ≡ meets self.now.plan self.now.history who.now call.now }
     {
-        meets(&self.plan, &self.entries, who, call)
+        meets(self, who, call)
     }
 
     /// Whether the journal is full for this call.
@@ -114,5 +115,23 @@ impl OneThreadShard {
             },
         );
         Ok(reply)
+    }
+}
+
+impl Sections for OneThreadShard {
+    ghost opened_with = { λ shard. shard.plan };
+
+    ghost history = { λ shard. shard.history };
+
+    fn plan(&self) -> &ShardPlan {
+        &self.plan
+    }
+
+    fn is_inside(&self, worker: u8) -> bool {
+        is_inside(worker, &self.entries)
+    }
+
+    fn holds(&self, worker: u8, cell: u64) -> bool {
+        holds(worker, cell, &self.entries)
     }
 }

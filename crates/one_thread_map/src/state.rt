@@ -5,7 +5,6 @@ ghost use Rattle.std.specs.Prelude.{vec_len, vec_capacity, length, reverse, filt
 ghost use Rattle.std.specs.Prelude.{bytes_eq, replicate};
 ghost use Rattle.std.specs.List.{list_all};
 ghost use Rattle.semantics.specs.PlanLimits.{IsWithinLimits, IsIndexSize};
-ghost use Rattle.semantics.specs.ShardPlan.{capacity};
 ghost use Rattle.semantics.specs.Reclamation.{is_reclaimable};
 ghost use Rattle.semantics.specs.LeastRecentlyUsed.{last_use, is_least_recently_used, least_recently_used};
 ghost use Rattle.semantics.specs.SequentialShard.{opening_cells, cell_of_index, cell_of_present};
@@ -24,14 +23,6 @@ pub struct ShardState {
     pub cells: Vec<Value>,
     /// The cells that were retired and are not freed, the newest first.
     pub retired: Vec<RetiredCell>,
-}
-
-/// How many keys the shard may have.
-pub fn capacity(plan: &ShardPlan) -> u64
-    requires { IsWithinLimits plan.now }
-    ensures { result ≡ capacity plan.now }
-{
-    u64::from(plan.definition.max_entries / plan.parts)
 }
 
 /// The cell of an array's index.
@@ -171,7 +162,11 @@ pub fn opening_cells(alloc: Global, plan: &ShardPlan) -> Result<Vec<Value>, Allo
     ensures { IfOk result (λ cells. cells.items ≡ opening_cells plan.now.definition.kind plan.now) }
 {
     match plan.definition.kind {
-        MapKind::Array => copies(alloc, capacity(plan), zeros(plan.definition.value_size)),
+        MapKind::Array => copies(
+            alloc,
+            u64::from(plan.capacity()),
+            zeros(plan.definition.value_size),
+        ),
         MapKind::Hash => Ok(Vec::new(alloc)),
         MapKind::LruHash => Ok(Vec::new(alloc)),
     }

@@ -42,12 +42,12 @@ use Rattle.semantics.specs.declared.linux.Helper.TheVariants.{MapLookupElem, Map
 use Rattle.abstract_state.specs.declared.flow.Flow.{Flow}
 use Rattle.abstract_state.specs.declared.flow.Flow.TheVariants.{Ends, Falls, Jumps, Splits}
 use Rattle.abstract_state.specs.declared.refusal.Refusal.{Refusal}
-use Rattle.abstract_state.specs.declared.refusal.Refusal.TheVariants.{UnsetRegister, WrongKind, PacketBounds, StackBounds, StackUnset, ValueBounds, Misaligned, ContextAccess, UnknownHelper}
+use Rattle.abstract_state.specs.declared.refusal.Refusal.TheVariants.{UnsetRegister, WrongKind, PacketBounds, StackBounds, StackUnset, ValueBounds, Misaligned}
 use Rattle.abstract_state.specs.declared.state.State.{State}
 use Rattle.abstract_state.specs.States.{Checked, ◌>>=◌, kind_of, with_kind, word_of, stack_size, key_size_of, value_size_of}
 use Rattle.abstract_state.specs.Places.{place_within, range_within, aligned, stack_access, packet_access, offsets_within, value_range, value_access, atomic_access, at_offset}
 use Rattle.abstract_state.specs.Words.{loaded_number, are_bytes_set, narrow_loaded, spilled_loaded, word_loaded, narrow_storable, storable}
-use Rattle.abstract_state.specs.Arithmetic.{source_kind, blamed, number_kind, moved_kind, distance_of, moves_pointers, moved_pointer, moved_value, moved_far, pointer_sum, is_movable, combined_pointer, combined_kind, alu_kind, after_alu_of}
+use Rattle.abstract_state.specs.Arithmetic.{source_kind, blamed, number_kind, moved_kind, delta_of, moves_pointers, moved_pointer, moved_value, moved_far, pointer_sum, is_movable, combined_pointer, combined_kind, alu_kind, after_alu_of}
 use Rattle.abstract_state.specs.Refinement.{is_null_test, is_order, against_scalar, against_end, against_packet, allowed_test, number_cut, fact_of, refined, refine_state}
 use Rattle.abstract_state.specs.Access.{field_kind, context_kind, context_loaded, loaded_kind, signed_loaded, load_of, signed_load_of, stack_stored, stored, store_of, with_fetched_kind, is_number, expects, atomic_on, atomic_of}
 use Rattle.abstract_state.specs.Calls.{known_helper, helper_at, map_argument, stack_argument, number_argument, context_argument, is_inside_stack, when_all, key_arguments, update_arguments, head_arguments, call_of}
@@ -192,8 +192,8 @@ moved_far_fair state maps version slot op other i source = tt
 sum_fair : (state : State) (maps : List MapDef) (version : Version) (slot : ℕ) (op : AluOp) (pointer other : Kind) (dst source : Register) →
     Asks state (pointer_sum maps version slot op pointer other dst source)
 sum_fair state maps version slot op pointer (Scalar i) dst source =
-    fair_if state (is_single i) (moved_pointer maps pointer (distance_of op i.low) dst) (moved_far maps version slot op pointer i source)
-    (moved_pointer_fair state maps pointer (distance_of op i.low) dst) (moved_far_fair state maps version slot op pointer i source)
+    fair_if state (is_single i) (moved_pointer maps pointer (delta_of op i.low) dst) (moved_far maps version slot op pointer i source)
+    (moved_pointer_fair state maps pointer (delta_of op i.low) dst) (moved_far_fair state maps version slot op pointer i source)
 sum_fair state maps version slot op pointer other dst source = tt
 
 pointer_fair : (state : State) (maps : List MapDef) (version : Version) (slot : ℕ) (width : Width) (op : AluOp) (pointer other : Kind) (dst source : Register) →

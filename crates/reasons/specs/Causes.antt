@@ -1,5 +1,5 @@
 -- What breaks a rule: the causes of each number, told apart by the instruction and by what is known before it.
-use Rattle.std.specs.Prelude.{ℕ, ◌+◌, ◌==◌, ℤ, pos, negsuc, ◌+ℤ◌, List, length, Option, Some, None, Ok, Err, slice_get, if◌then◌else◌}
+use Rattle.std.specs.Prelude.{ℕ, ◌+◌, ◌==◌, ℤ, pos, negsuc, ◌+ℤ◌, List, length, Option, Some, None, slice_get, if◌then◌else◌}
 use Rattle.isa.specs.declared.operation.Source.{Source}
 use Rattle.isa.specs.declared.operation.Source.TheVariants.{Imm, Reg}
 use Rattle.isa.specs.declared.operation.Register.{Register}
@@ -21,14 +21,14 @@ use Rattle.semantics.specs.declared.linux.Helper.TheVariants.{XdpAdjustHead}
 use Rattle.abstract_state.specs.declared.refusal.Refusal.{Refusal}
 use Rattle.abstract_state.specs.declared.refusal.Refusal.TheVariants as rule
 use Rattle.abstract_state.specs.declared.state.State.{State}
-use Rattle.abstract_state.specs.States.{Checked, kind_of}
+use Rattle.abstract_state.specs.States.{kind_of}
 use Rattle.reasons.specs.declared.cause.Access.{Access}
 use Rattle.reasons.specs.declared.cause.Need.{Need}
 use Rattle.reasons.specs.declared.cause.Role.{Role}
 use Rattle.reasons.specs.declared.cause.Role.TheVariants.{Computes, Tests, Loads, Stores, Updates, Calls, Others}
 use Rattle.reasons.specs.declared.cause.Cause.{Cause}
 use Rattle.reasons.specs.declared.cause.Cause.TheVariants.{JumpsBack, JumpsOutside, JumpsIntoWide, RunsPastEnd, NoPathLeads, NotWritten}
-use Rattle.reasons.specs.declared.cause.Cause.TheVariants.{NullNotTested, NotAnAddress, PointerArithmetic, UnknownDistance, TestOfKinds}
+use Rattle.reasons.specs.declared.cause.Cause.TheVariants.{NullNotTested, NotAnAddress, PointerArithmetic, UnknownDelta, TestOfKinds}
 use Rattle.reasons.specs.declared.cause.Cause.TheVariants.{AtomicElsewhere, ExpectedPointer, BeforeBase, NoTestShows, ComparedForFewer}
 use Rattle.reasons.specs.declared.cause.Cause.TheVariants.{PacketOffsetLeaves, PacketOffsetUnknown, OutsideStack, StackPointerLeaves}
 use Rattle.reasons.specs.declared.cause.Cause.TheVariants.{ArgumentOutsideStack, LoadUnwritten, ArgumentUnwritten, OutsideValue}
@@ -90,7 +90,7 @@ source_interval state insn = None
 
 abbrev pub computed : Kind → Cause
 computed (ValueOrNull map id) = NullNotTested
-computed (Scalar i) = UnknownDistance
+computed (Scalar i) = UnknownDelta
 computed other = PointerArithmetic
 
 abbrev pub updated : Kind → Cause

@@ -203,7 +203,7 @@ fn words_of(cause: Cause) -> (&'static str, &'static str) {
         Cause::NullNotTested
         | Cause::NotAnAddress
         | Cause::PointerArithmetic
-        | Cause::UnknownDistance
+        | Cause::UnknownDelta
         | Cause::TestOfKinds
         | Cause::AtomicElsewhere
         | Cause::ExpectedPointer => kinds(cause),
@@ -294,7 +294,7 @@ fn kinds(cause: Cause) -> (&'static str, &'static str) {
             "the only arithmetic with a pointer is to add a number to it or to subtract one, in 64 bits, with the pointer as destination; only the stack, the packet and values can be moved in so",
             "compute the number first, in another register, and add it to a copy of the pointer",
         ),
-        Cause::UnknownDistance => (
+        Cause::UnknownDelta => (
             "such a pointer moves only by a single known number (the packet's also by adding one of which an upper bound is known, a value's so from image version 2 on)",
             "use a constant offset, or choose between constants by jumps",
         ),

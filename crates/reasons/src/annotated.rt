@@ -9,7 +9,7 @@ ghost use Rattle.reasons.specs.Annotations.{known_items, state_lines, known_line
 use crate::instruction::put_slot_line;
 use crate::reader::{Reason, put_reason};
 use crate::wording::{put_kind, put_word};
-use abstract_state::{Kind, StackWord, State};
+use abstract_state::{Kind, STACK_SIZE, StackWord, State};
 use ebpf_decode::{Image, Insn};
 use std::alloc::{AllocError, Global};
 use verifier::Survey;
@@ -88,7 +88,7 @@ fn put_word_text(
     requires { word < 64 }
     ensures { OnOk result (string_bytes out.new ≡ string_bytes out.old ++ word_item_text word known) }
 {
-    put_word_place(alloc, out, 512 - 8 * word)?;
+    put_word_place(alloc, out, usize::from(STACK_SIZE) - 8 * word)?;
     put_word(alloc, out, known)?;
     out.push_str(";")
 }

@@ -83,7 +83,7 @@ pub enum Cause {
     NotAnAddress,
     PointerArithmetic,
     /// A pointer is moved by a number that is no single one.
-    UnknownDistance,
+    UnknownDelta,
     TestOfKinds,
     AtomicElsewhere,
     ExpectedPointer,
@@ -203,7 +203,7 @@ fn computed(blamed: Kind) -> Cause
 {
     match blamed {
         Kind::ValueOrNull { .. } => Cause::NullNotTested,
-        Kind::Scalar(_) => Cause::UnknownDistance,
+        Kind::Scalar(_) => Cause::UnknownDelta,
         _ => Cause::PointerArithmetic,
     }
 }
@@ -461,8 +461,7 @@ fn pointer_leak(role: Role, base: Kind) -> Cause
 {
     match role {
         Role::Loads => Cause::PartOfPointer,
-        Role::Stores => pointer_stored(base),
-        Role::Updates => pointer_stored(base),
+        Role::Stores | Role::Updates => pointer_stored(base),
         _ => Cause::VerdictPointer,
     }
 }

@@ -10,7 +10,7 @@ ghost use Rattle.reasons.specs.Instructions.{called_map, sizes_read, argument_te
 
 use crate::cause::{Access, access_of};
 use crate::wording::{put_kind, put_word};
-use abstract_state::{Kind, StackWord, State};
+use abstract_state::{Kind, STACK_SIZE, StackWord, State};
 use disasm::line;
 use ebpf_decode::{Insn, MapDef};
 use isa::{AluOp, AtomicOp, Register, Source};
@@ -81,10 +81,10 @@ fn called_registers(helper: Option<Helper>) -> Used
 {
     let [r1, r2, r3, r4] = [Register::R1, Register::R2, Register::R3, Register::R4];
     match helper {
-        Some(Helper::MapLookupElem) => [Some(r1), Some(r2), None, None],
+        Some(Helper::MapLookupElem | Helper::MapDeleteElem | Helper::XdpAdjustHead) => {
+            [Some(r1), Some(r2), None, None]
+        }
         Some(Helper::MapUpdateElem) => [Some(r1), Some(r2), Some(r3), Some(r4)],
-        Some(Helper::MapDeleteElem) => [Some(r1), Some(r2), None, None],
-        Some(Helper::XdpAdjustHead) => [Some(r1), Some(r2), None, None],
         _ => [None; 4],
     }
 }
@@ -107,15 +107,11 @@ fn used_registers(insn: Insn) -> Used
 {
     match insn {
         Insn::Alu { op: AluOp::Mov, source, .. } => [source_register(source), None, None, None],
-        Insn::Alu { dst, source, .. } => [Some(dst), source_register(source), None, None],
-        Insn::Neg { dst, .. } => [Some(dst), None, None, None],
-        Insn::Movsx { src, .. } => [Some(src), None, None, None],
-        Insn::Movsx32 { src, .. } => [Some(src), None, None, None],
-        Insn::End { dst, .. } => [Some(dst), None, None, None],
-        Insn::JumpIf { dst, source, .. } => [Some(dst), source_register(source), None, None],
-        Insn::Ldx { src, .. } => [Some(src), None, None, None],
-        Insn::Ldxs { src, .. } => [Some(src), None, None, None],
-        Insn::St { dst, .. } => [Some(dst), None, None, None],
+        Insn::Alu { dst, source, .. } | Insn::JumpIf { dst, source, .. } => [Some(dst), source_register(source), None, None],
+        Insn::Neg { dst, .. } | Insn::End { dst, .. } | Insn::St { dst, .. } => [Some(dst), None, None, None],
+        Insn::Movsx { src, .. } | Insn::Movsx32 { src, .. } | Insn::Ldx { src, .. } | Insn::Ldxs { src, .. } => {
+            [Some(src), None, None, None]
+        }
         Insn::Stx { dst, src, .. } => [Some(dst), Some(src), None, None],
         Insn::AtomicUpdate { op, dst, src, .. } => [Some(dst), Some(src), compared_register(op), None],
         Insn::CallHelper { helper } => called_registers(Helper::of(helper)),
@@ -144,7 +140,7 @@ fn place_word(at: i64) -> Option<usize>
     ensures value { result ≡ place_word at }
     ensures inside { IfSome result (λ word. word < 64) }
 {
-    if 0 <= at && at < 512 {
+    if 0 <= at && at < i64::from(STACK_SIZE) {
         Some(at as usize / 8)
     } else {
         None
@@ -194,7 +190,7 @@ fn put_word_line(
     requires { word < 64 }
     ensures { OnOk result (string_bytes out.new ≡ string_bytes out.old ++ word_line state.now word) }
 {
-    put_word_head(alloc, out, 512 - 8 * word)?;
+    put_word_head(alloc, out, usize::from(STACK_SIZE) - 8 * word)?;
     put_word(alloc, out, word_at(state, word))?;
     out.push_str("\n")
 }
@@ -249,7 +245,7 @@ fn put_stack_range(
     if size == 0 {
         return Ok(());
     }
-    if place + size <= 512 {
+    if place + size <= usize::from(STACK_SIZE) {
         put_words(
             alloc,
             out,

@@ -110,8 +110,7 @@ fn brought_by(maps: &[MapDef], slot: u32, insn: Insn, state: &State, target: u32
             }
         }
         Ok(Way::Splits) => split_to(slot, insn, &after, target),
-        Ok(Way::Ends) => None,
-        Err(_) => None,
+        Ok(Way::Ends) | Err(_) => None,
     }
 }
 

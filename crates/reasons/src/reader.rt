@@ -79,9 +79,9 @@ impl Reason {
     {
         match insn {
             Insn::CallHelper { helper } => reason_called(Helper::of(helper)),
-            Insn::St { dst, .. } => reason_stored(state.kind(dst)),
-            Insn::Stx { dst, .. } => reason_stored(state.kind(dst)),
-            Insn::AtomicUpdate { dst, .. } => reason_stored(state.kind(dst)),
+            Insn::St { dst, .. } | Insn::Stx { dst, .. } | Insn::AtomicUpdate { dst, .. } => {
+                reason_stored(state.kind(dst))
+            }
             Insn::Ldx { src, offset, .. } => reason_loaded(state.kind(src), offset),
             _ => None,
         }

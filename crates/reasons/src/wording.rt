@@ -4,7 +4,7 @@ ghost use Rattle.std.specs.Prelude.{◌≡◌, ◌++◌, string_bytes, OnOk};
 ghost use Rattle.reasons.specs.Wording.{range_text, packet_base_text, offset_text, packet_text, value_head_text, value_text, kind_text};
 ghost use Rattle.reasons.specs.Wording.{byte_mark, marks_text, word_text};
 
-use abstract_state::{Kind, Offsets, StackWord};
+use abstract_state::{Kind, Offsets, STACK_SIZE, StackWord};
 use std::alloc::{AllocError, Global};
 
 /// A number, or the least and the greatest of several.
@@ -89,7 +89,7 @@ pub(crate) fn put_kind(alloc: Global, out: &mut String, kind: Kind) -> Result<()
         }
         Kind::Ctx => out.push_str("context"),
         Kind::Stack(place) => {
-            let below = 512_u16.saturating_sub(place);
+            let below = STACK_SIZE.saturating_sub(place);
             out.push_str(&format!(in alloc; "stack r10-{below}")?)
         }
         Kind::Packet { id, off, range } => put_packet(alloc, out, id, off, range),

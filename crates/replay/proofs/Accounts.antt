@@ -19,10 +19,10 @@ use Rattle.semantics.specs.CallerLaws.{own_entries}
 use Rattle.semantics.specs.Program.{Program}
 use Rattle.machine.specs.declared.exit.Stop.{Stop}
 use Rattle.machine.specs.declared.exit.Stop.TheVariants.{JournalFull}
-use Rattle.frame_runs.specs.FrameRuns.{HasRun, WasRefused, HasStopped}
+use Rattle.frame_runs.specs.FrameRuns.{HasStopped}
 use Rattle.shared_shards.specs.CallerView.{CallerView, BeginsWith}
 use Rattle.journals.specs.JournalsView.{JournalsView, entries_at}
-use Rattle.shared_shards.specs.Passes.{PassView, own_at, seen_at, pass_at, no_pass, AreSettled}
+use Rattle.shared_shards.specs.Passes.{PassView, own_at, seen_at, pass_at, AreSettled}
 use Rattle.shard_port.specs.PassSessions.{IsKeptOut}
 use Rattle.actors.proofs.shared.FullStays.{full_stays}
 use Rattle.workers.specs.declared.counts.Counts.{Counts}
@@ -38,7 +38,7 @@ use Rattle.workers.specs.Shares.{frames_of, share}
 use Rattle.workers.specs.Jobs.{records_of}
 use Rattle.replay.specs.declared.outcome.Outcome.{Outcome}
 use Rattle.replay.specs.declared.shard_runner.Working.{Working}
-use Rattle.replay.specs.Runs.{IsNewPass, IsNewAt, IsIdle, IsRunOf, IsRunBy, IsRunIn, IsExit, IsStop, IsStopIn, StopsFor, IsFullAtEnd, pass_in, start_of}
+use Rattle.replay.specs.Runs.{IsNewPass, IsNewAt, IsIdle, IsRunOf, IsRunBy, IsRunIn, IsExit, StopsFor, IsFullAtEnd, pass_in, start_of}
 use Rattle.replay.specs.Accounted.{IsWorkOf}
 
 -- ---- an outcome by its parts

@@ -1,37 +1,37 @@
 -- The controller's part and the reclaimer's.
-use Rattle.std.proofs.Common.{◌≡◌, ◌⊎◌, ℕ, zero, suc, ◌+◌, ◌*◌, ◌<◌, ◌≤◌, List, [], ◌∷◌, ◌++◌, length, length-append, refl, sym, ap, ◌∙◌, subst, arith}
+use Rattle.std.proofs.Common.{◌≡◌, ℕ, zero, suc, ◌+◌, ◌*◌, ◌<◌, List, [], ◌∷◌, ◌++◌, length, length-append, refl, sym, ap, ◌∙◌, subst, arith}
 use Rattle.std.specs.Prelude.{Option, Some, None, IfSome, IsTrue, is_some, slice_get, map, replicate, reverse}
 use Rattle.std.proofs.lemmas.Option.{slice_get_within}
-use Rattle.std.proofs.Math.Nat.{mod-lt, mul-le-mul_right, suc-mul}
-use Rattle.std.specs.List.{AllByRecursion}
+use Rattle.std.proofs.Math.Nat.{mod-lt}
 use Rattle.ebpf_decode.specs.declared.map.MapDef.{MapDef}
 use Rattle.ebpf_decode.specs.declared.map.MapKind.{MapKind}
 use Rattle.ebpf_decode.specs.declared.map.MapKind.TheVariants.{Array, Hash, LruHash}
 use Rattle.semantics.specs.declared.call.Caller.{Caller}
-use Rattle.semantics.specs.declared.call.Caller.TheVariants.{Controller, Reclaimer}
+use Rattle.semantics.specs.declared.call.Caller.TheVariants.{Reclaimer}
 use Rattle.semantics.specs.declared.call.Call.TheVariants.{Reclaim}
 use Rattle.semantics.specs.declared.call.Entry.{Entry}
 use Rattle.semantics.specs.declared.options.Options.{Options}
 use Rattle.semantics.specs.declared.plan.ShardPlan.{ShardPlan}
 use Rattle.semantics.specs.CallerLaws.{own_entries}
-use Rattle.semantics.specs.Program.{part_of_key, shard_number_of_key}
+use Rattle.semantics.specs.Program.{part_of_key, shard_in_map, shard_number_of_key}
 use Rattle.semantics.specs.ShardPlan.{AreOptions}
 use Rattle.journals.specs.JournalsView.{JournalsView, entries_at}
 use Rattle.shared_shards.specs.CallerView.{BeginsWith}
 use Rattle.shared_shards.specs.SharedMaps.{ArePlans}
-use Rattle.shared_shards.proofs.shared.Keys.{some_part}
 use Rattle.shared_shards.specs.Passes.{PassView, own_at, seen_at, pass_at, AreSettled}
 use Rattle.rx_queues.specs.declared.job.Job.{Job}
 use Rattle.rx_queues.specs.declared.job.Job.TheVariants.{Frame, Command as CommandJob, Note, End}
 use Rattle.control.specs.declared.command.Command.{Command}
 use Rattle.control.specs.MapUpdates.{UpdateBytes}
 use Rattle.actors.specs.declared.applied.Applied.{Applied}
-use Rattle.actors.specs.SharedUpdates.{shard_in, shard_of, update_call}
+use Rattle.actors.specs.SharedUpdates.{shard_of, update_call}
 use Rattle.actors.specs.Commands.{CommanderView, CommandDone, IsAccount, IsFullFor, ServesScript}
-use Rattle.actors.specs.Jobs.{command_jobs, AreRoundsMade}
+use Rattle.actors.specs.Jobs.{command_jobs}
 use Rattle.actors.specs.Rounds.{AreReclaimed, IsReclaimedBy}
 use Rattle.workers.specs.Actors.{numbers_from, commands_from}
 use Rattle.maglev.specs.RingSize.{IsRingSize}
+use Rattle.semantics.proofs.shared.HoldingLemmas.{each_weaker}
+use Rattle.semantics.proofs.shared.PlanLemmas.{some_shards, below_count}
 use Rattle.replay.specs.Parts.{HasCommanded, HasReclaimed, IsScriptRun, IsFullInJournal, IsScriptAccounted, AreRoundsAccounted, numbers_of, refused_of}
 use Rattle.replay.proofs.Accounts.{full_later}
 
@@ -143,19 +143,8 @@ script_run plan maps options script size start noted pass first count is_script 
       who = has.who;
     }
 
-all_map : {A : Type 0} (P Q : A → Type 0) → ((x : A) → P x → Q x) → (xs : List A) → AllByRecursion P xs → AllByRecursion Q xs
-all_map P Q step [] all = all
-all_map P Q step (x ∷ xs) all = (step x all.0, all_map P Q step xs all.1)
-
--- the shard of a map's key is one of all maps' shards
-below_count : (map maps parts part : ℕ) → map < maps → part < parts → map * parts + part < maps * parts
-below_count map maps parts part of_map of_part =
-    let more : suc map * parts ≤ maps * parts = mul-le-mul_right parts of_map in
-    let next : suc map * parts ≡ map * parts + parts = suc-mul map parts in
-    omega (arith, more, next, of_part)
-
 within_of : (maps : List MapDef) (map parts : ℕ) (key : List ℕ) (found : Option MapDef) → 0 < parts → slice_get maps map ≡ found →
-    IsTrue (is_some found) → shard_in found parts map key < length maps * parts
+    IsTrue (is_some found) → shard_in_map found parts map key < length maps * parts
 within_of maps map parts key None some is there = absurd cc
 within_of maps map parts key (Some definition) some is there =
     below_count map (length maps) parts (part_of_key definition.kind parts key) (slice_get_within maps map definition is)
@@ -168,7 +157,7 @@ full_stands plan maps options count journals pass plans are settled None full = 
 full_stands plan maps options count journals pass plans are settled (Some update) full =
     let shard = shard_of maps options update in
     let below : shard < length maps * options.shards =
-    within_of maps update.map options.shards update.key (slice_get maps update.map) (some_part maps options are) refl full.of_map in
+    within_of maps update.map options.shards update.key (slice_get maps update.map) (some_shards maps options are) refl full.of_map in
     let within : shard < count = subst (λ (n : ℕ). shard < n) (sym plans.count_is) below in
     record {
       within = within;
@@ -192,7 +181,7 @@ script_stands plan maps options count script size noted pass journals refused pl
   state = run.state;
   are_done = run.account.are_done;
   own = λ number within. ap (λ (c : Caller). own_entries c (reverse (entries_at journals number))) (sym run.who) ∙ sym (settled number within).own ∙ run.account.own number;
-  full = all_map (λ (one : CommandDone). IfSome one.stopped (IsFullFor plan maps options pass))
+  full = each_weaker (λ (one : CommandDone). IfSome one.stopped (IsFullFor plan maps options pass))
       (λ (one : CommandDone). IfSome one.stopped (IsFullInJournal plan maps options count journals))
       (λ one. full_stands plan maps options count journals pass plans are settled one.stopped) run.account.done run.account.full;
   refused_are = refused_are;

@@ -3,17 +3,16 @@
 use std::alloc::AllocError;
 use thiserror::Error;
 
-/// Why a replay was given up. Then nothing of it is left: no frame, no journal, no count. Where several apply, it is the one of the lowest
-/// number.
+/// Why a replay was given up. docs/FAULTS.md says when each comes, in which order, and what it leaves.
 #[derive(Clone, Copy, Debug, PartialEq, Eq, Error)]
 pub enum ReplayFault {
-    /// No shards of the image's maps can be opened with these options, or there are commands and the maps are not those of steering.
+    /// 51: no shards are opened with these options, or there are commands and the maps are not those of steering.
     #[error("fault 51 BadOptions")]
     BadOptions,
-    /// The allocator refused memory, before the threads or in one of them.
+    /// 52: memory was refused.
     #[error("fault 52 Memory")]
     Memory,
-    /// A thread could not be started. No frame was run.
+    /// 56: a thread could not be started.
     #[error("fault 56 NoThread")]
     NoThread,
 }

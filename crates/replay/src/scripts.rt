@@ -1,6 +1,6 @@
 //! What a replay makes of its script before the threads, and of the notes after them.
 
-ghost use Rattle.std.specs.Prelude.{◌≡◌, ◌≤◌, [], ℕ, length, map, IfOk, IfSome, IsNone};
+ghost use Rattle.std.specs.Prelude.{◌≡◌, ◌≤◌, [], length, map, IfOk, IfSome, IsNone};
 ghost use Rattle.maglev.specs.RingSize.{IsRingSize};
 ghost use Rattle.control.specs.declared.command.Command.{Command as Line};
 ghost use Rattle.actors.specs.Commands.{ServesScript, StaysOf};

@@ -1,6 +1,6 @@
 //! Runs over the shards that all workers share.
 
-ghost use Rattle.std.specs.Prelude.{◌≡◌, ◌<◌, ◌≤◌, IfOk, IfSome};
+ghost use Rattle.std.specs.Prelude.{◌≡◌, ◌<◌, ◌≤◌, IfOk};
 ghost use Rattle.machine.specs.Running.{program_of};
 ghost use Rattle.replay.specs.Runs.{IsIdle, IsSentOf, IsTold, IsRunOf, time_of};
 

@@ -201,7 +201,8 @@ fn push<R: Wait>(rt: &R, queue: &Queue, pass: &mut QueuePass, job: Job) -> Resul
 fn pop<R: Wait>(rt: &R, queue: &Queue, pass: &mut QueuePass) -> Option<Job>
     requires { IsTakePassFor queue.now pass.old }
     ensures pass { IsTakePassFor queue.now pass.new }
-    ensures taken { MatchOption result ((view pass.new).taken ≡ (view pass.old).taken) (λ job. (view pass.new).taken ≡ (view pass.old).taken ++ job ∷ []) }
+    ensures taken { MatchOption result ((view pass.new).taken ≡ (view pass.old).taken)
+        (λ job. (view pass.new).taken ≡ (view pass.old).taken ++ job ∷ []) }
 {
     queue.pop_as::<Takes, R>(rt, pass)
 }

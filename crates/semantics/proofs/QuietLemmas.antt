@@ -144,7 +144,7 @@ delete_quiet program state =
 adjust_quiet : (state : MachineState) → IsQuiet (adjust_head_step state)
 adjust_quiet state =
     quiet_twice (context_argument (register_value state R1)) (λ context. number_argument (register_value state R2))
-    (λ context distance. Continues (adjusted_state state (signed_value 32 (low_half distance)))) (λ context distance. tt)
+    (λ context delta. Continues (adjusted_state state (signed_value 32 (low_half delta)))) (λ context delta. tt)
 
 helper_quiet : (program : Program) (state : MachineState) (number : ℤ) → IsQuiet (helper_step program state number)
 helper_quiet program state number = by_helper (helper_of number)

@@ -1,13 +1,13 @@
 -- Events around a safe image keep every history legal, and a run inside the shards that it has entered.
-use Rattle.std.proofs.Common.{◌≡◌, ◌≢◌, ℕ, zero, suc, ◌*◌, ◌/◌, ◌%◌, ◌<◌, ◌≤◌, ◌==◌, ◌&&◌, ◌||◌, Bool, true, false, not, nat_lt, List, [], ◌∷◌, length, replicate, Option, Some, None, refl, sym, ap, subst, ◌∙◌, ⊎_elim, div-lt_iff_lt-mul, arith}
-use Rattle.std.specs.Prelude.{IsTrue, MatchBool, slice_get, slice_index_or, if◌then◌else◌}
+use Rattle.std.proofs.Common.{◌≡◌, ◌≢◌, ℕ, ◌*◌, ◌/◌, ◌%◌, ◌<◌, ◌≤◌, ◌==◌, ◌&&◌, ◌||◌, Bool, true, false, not, nat_lt, List, [], ◌∷◌, length, Option, Some, None, refl, sym, ap, subst, ◌∙◌, ⊎_elim, div-lt_iff_lt-mul, arith}
+use Rattle.std.specs.Prelude.{IsTrue, MatchBool, slice_get, if◌then◌else◌}
 use Rattle.std.proofs.lemmas.Bool.{cases_eq, ne_eqb, eqb-true}
 use Rattle.std.proofs.lemmas.Bool.Decides.{nat_tests}
-use Rattle.std.proofs.lemmas.Grind.{get_or-set_at}
-use Rattle.std.proofs.lemmas.List.{get_or-set_other, length-set, length-replicate}
+use Rattle.std.proofs.lemmas.List.{length-set, length-replicate}
 use Rattle.std.proofs.lemmas.Option.{slice_get_within}
 use Rattle.ebpf_decode.specs.declared.insn.Insn.{Insn}
 use Rattle.ebpf_decode.specs.declared.map.MapDef.{MapDef}
+use Rattle.semantics.proofs.shared.PlanLemmas.{some_shards}
 use Rattle.semantics.specs.declared.options.Options.{Options}
 use Rattle.semantics.specs.declared.call.Caller.{Caller}
 use Rattle.semantics.specs.declared.call.Caller.TheVariants.{Worker, Controller, Reclaimer}
@@ -26,6 +26,7 @@ use Rattle.semantics.specs.History.{shard_of_call, Meets, journal_is_full, IsLeg
 use Rattle.semantics.specs.System.{Setting, program_of, SystemState, SystemEvent, BeginsRun, DoesInstruction, CallsShard, LeavesShard, Controls, Reclaims, WorkerState, Idle, Runs, Leaves, worker_state, history_of, with_worker, with_entry, is_entered, entry_for, input_frame, opening_system, run_over, without_shard, is_local, DoesNext, MayLeave, MayCall, CanHappen, CanAllHappen, after_local, after_instruction, after_call, after_run_call, after_asking, after_shard_call, after_leaving, after_event, system_after}
 use Rattle.semantics.proofs.QuietLemmas.{IsQuiet, run_is_quiet}
 use Rattle.semantics.specs.Safety.{IsServedAt, after_enter, IsServedCall, DoesNotTrap, IsSafeWorker, IsSafeImage}
+use Rattle.semantics.proofs.shared.SystemSteps.{state_there, state_elsewhere, history_there, history_elsewhere, gone, same_everywhere}
 
 -- ---- plans
 
@@ -43,12 +44,6 @@ planned_by maps options number (Some definition) plan is planned =
 
 planned : (maps : List MapDef) (options : Options) (number : ℕ) (plan : ShardPlan) → plan_at maps options number ≡ Some plan → IsPlanAt maps options number plan
 planned maps options number plan is = planned_by maps options number (slice_get maps (number / options.shards)) plan refl is
-
-some_shards : (maps : List MapDef) (options : Options) → AreOptions maps options → 0 < options.shards
-some_shards maps options fits = ⊎_elim
-    (λ one. omega (arith, one))
-    (λ more. ⊎_elim (λ two. omega (arith, two)) (λ many. ⊎_elim (λ four. omega (arith, four)) (λ eight. omega (arith, eight)) many) more)
-    fits.power_of_two
 
 -- ---- what is known of every system that is reached
 
@@ -75,18 +70,6 @@ record IsSetting (setting : Setting) : Type 0 where
   options : AreOptions setting.maps setting.options
 
 -- ---- lists of workers and histories
-
-state_there : (system : SystemState) (worker : ℕ) (now : WorkerState) → worker < length system.workers → worker_state (with_worker system worker now) worker ≡ now
-state_there system worker now below = get_or-set_at system.workers worker worker now Idle refl below
-
-state_elsewhere : (system : SystemState) (worker other : ℕ) (now : WorkerState) → other ≢ worker → worker_state (with_worker system worker now) other ≡ worker_state system other
-state_elsewhere system worker other now apart = get_or-set_other system.workers worker other now Idle apart
-
-history_there : (system : SystemState) (number : ℕ) (entry : Entry) → number < length system.histories → history_of (with_entry system number entry) number ≡ entry ∷ history_of system number
-history_there system number entry below = get_or-set_at system.histories number number (entry ∷ history_of system number) [] refl below
-
-history_elsewhere : (system : SystemState) (number shard : ℕ) (entry : Entry) → shard ≢ number → history_of (with_entry system number entry) shard ≡ history_of system shard
-history_elsewhere system number shard entry apart = get_or-set_other system.histories number shard (entry ∷ history_of system number) [] apart
 
 within_histories : (setting : Setting) (system : SystemState) (number : ℕ) (plan : ShardPlan) → IsSetting setting → IsOrderly setting system → plan_at setting.maps setting.options number ≡ Some plan →
     plan.number < length system.histories
@@ -225,15 +208,6 @@ foreign_call setting system number (Some plan) who call good orderly is may nobo
 over_entered : (entered : List ℕ) → entered_of (run_over entered) ≡ entered
 over_entered [] = refl
 over_entered (shard ∷ entered) = refl
-
-gone_by : (shard one : ℕ) (entered : List ℕ) (same : Bool) → (one == shard) ≡ same → is_entered shard (without_shard shard entered) ≡ false →
-    is_entered shard (if not same then one ∷ without_shard shard entered else without_shard shard entered) ≡ false
-gone_by shard one entered true e h = h
-gone_by shard one entered false e h = rw e h
-
-gone : (shard : ℕ) (entered : List ℕ) → is_entered shard (without_shard shard entered) ≡ false
-gone shard [] = refl
-gone shard (one ∷ entered) = gone_by shard one entered (one == shard) refl (gone shard entered)
 
 still_by : (shard other one : ℕ) (entered : List ℕ) (same : Bool) → (is_entered other (without_shard shard entered) ≡ true → is_entered other entered ≡ true) →
     is_entered other (if not same then one ∷ without_shard shard entered else without_shard shard entered) ≡ true → is_entered other (one ∷ entered) ≡ true
@@ -423,11 +397,6 @@ event_orderly setting system (Reclaims shard) good can safe orderly =
     foreign_call setting system shard (plan_at setting.maps setting.options shard) Reclaimer (Reclaim shard) good orderly refl can (λ worker. refl)
 
 -- ---- from the opening on
-
-same_everywhere : {A : Type 0} → (n k : ℕ) (d : A) → slice_index_or (replicate n d) k d ≡ d
-same_everywhere zero k d = refl
-same_everywhere (suc n) zero d = refl
-same_everywhere (suc n) (suc k) d = same_everywhere n k d
 
 opening_orderly : (setting : Setting) → IsOrderly setting (opening_system setting)
 opening_orderly setting =

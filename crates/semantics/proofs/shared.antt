@@ -11,3 +11,7 @@ pub mod FirstElement
 pub mod UseLemmas
 pub mod CallerLemmas
 pub mod EachLemmas
+pub mod CellBytes
+pub mod AnswerLemmas
+pub mod SystemSteps
+pub mod CallNumbers

@@ -18,6 +18,7 @@ pub mod Sections
 pub mod Cells
 pub mod ShardPlan
 pub mod PlanLimits
+pub mod ByteCells
 pub mod Reclamation
 pub mod LeastRecentlyUsed
 pub mod SequentialShard

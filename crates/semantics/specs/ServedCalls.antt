@@ -14,14 +14,24 @@ use Rattle.semantics.specs.History.{is_load_size, is_atomic_size, is_expected}
 abbrev pub Held : Type 0
 Held = ℕ → ℕ → ℕ → Bool
 
+-- a key of a map that there is
+pub record IsKeyOf (maps : List MapDef) (map : ℕ) (key : List ℕ) : Type 0 where
+  pub definition : MapDef
+  pub known : slice_get maps map ≡ Some definition
+  pub key_size : length key ≡ definition.key_size
+  pub bytes : All (λ byte. byte < 256) key
+
+-- with a value of that map
+pub record IsPairOf (maps : List MapDef) (map : ℕ) (key value : List ℕ) : Type 0 where
+  pub at : IsKeyOf maps map key
+  pub value_size : length value ≡ at.definition.value_size
+  pub value_bytes : All (λ byte. byte < 256) value
+
 -- a lookup of a key of a map that the program has, in the key's shard
 pub record IsServedLookup (program : Program) (shard : ℕ) (key : List ℕ) : Type 0 where
   pub map : ℕ
-  pub definition : MapDef
-  pub known : slice_get program.maps map ≡ Some definition
-  pub key_size : length key ≡ definition.key_size
-  pub bytes : All (λ byte. byte < 256) key
-  pub own : shard ≡ shard_of_key map definition.kind program.shards key
+  pub of_map : IsKeyOf program.maps map key
+  pub own : shard ≡ shard_of_key map of_map.definition.kind program.shards key
 
 -- a load from a cell that is held, inside its value
 pub record IsServedLoad (program : Program) (held : Held) (cell : CellRef) (offset size : ℕ) : Type 0 where
@@ -50,9 +60,9 @@ pub record IsServedAtomic (program : Program) (held : Held) (cell : CellRef) (of
 
 -- an update of such a key with a value of the map's size; the map answers flags that it doesn't know
 pub record IsServedUpdate (program : Program) (shard : ℕ) (key value : List ℕ) (flags : ℕ) : Type 0 where
-  pub at : IsServedLookup program shard key
-  pub value_size : length value ≡ at.definition.value_size
-  pub value_bytes : All (λ byte. byte < 256) value
+  pub map : ℕ
+  pub of_map : IsPairOf program.maps map key value
+  pub own : shard ≡ shard_of_key map of_map.at.definition.kind program.shards key
   pub small_flags : flags < 2 ^ 64
 
 abbrev pub IsServed : Program → Held → Call → Type 0

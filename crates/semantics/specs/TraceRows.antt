@@ -111,7 +111,7 @@ deleting = key_prepared ++ CallHelper (pos 3) ∷ Exit ∷ []
 
 -- xdp_adjust_head with -20 opens twenty bytes of zeros, and moves nothing by -257
 abbrev pub moving_head : ℤ → List Insn
-moving_head distance = Alu Bits64 Mov R2 (Imm distance) ∷ CallHelper (pos 44) ∷ Alu Bits64 Mov R0 (Imm (pos 3)) ∷ Exit ∷ []
+moving_head delta = Alu Bits64 Mov R2 (Imm delta) ∷ CallHelper (pos 44) ∷ Alu Bits64 Mov R0 (Imm (pos 3)) ∷ Exit ∷ []
 
 pub record HelpersAsk : Type 0 where
   pub delete_calls : (trace_from_start 6 deleting (Answer (negsuc 1) ∷ [])).calls ≡ Delete 0 (key_of 7) ∷ []

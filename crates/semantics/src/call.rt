@@ -1,10 +1,12 @@
 //! The calls on a map shard, their callers and their replies.
 
 ghost use Rattle.std.specs.Prelude.{◌≡◌};
+ghost use Rattle.std.specs.Option.{option_map};
 ghost use Rattle.semantics.specs.Sections.{section_change};
-ghost use Rattle.semantics.specs.Cells.{cell_of_call, cell_of_reply};
+ghost use Rattle.semantics.specs.Cells.{cell_of_call, cell_of_reply, key_of_call, value_of_call, worker_of, word_in, answer_in};
+ghost use Rattle.semantics.specs.LeastRecentlyUsed.{is_done, uses};
 ghost use Rattle.semantics.specs.Reclamation.{found_change, held_change};
-ghost use Rattle.semantics.specs.History.{shard_of_call};
+ghost use Rattle.semantics.specs.History.{shard_of_call, is_reclaimer};
 
 use crate::bytes::{Key, Value};
 
@@ -17,6 +19,30 @@ pub enum Caller {
     Controller,
     /// The reclaimer, which frees retired cells.
     Reclaimer,
+}
+
+impl Caller {
+    /// The worker's number, if a worker calls.
+    pub fn worker(&self) -> Option<u8>
+        ensures { result ≡ worker_of self.now }
+    {
+        match self {
+            Caller::Worker { number } => Some(*number),
+            Caller::Controller => None,
+            Caller::Reclaimer => None,
+        }
+    }
+
+    /// Whether the reclaimer calls.
+    pub fn is_reclaimer(&self) -> bool
+        ensures { result ≡ is_reclaimer self.now }
+    {
+        match self {
+            Caller::Worker { .. } => false,
+            Caller::Controller => false,
+            Caller::Reclaimer => true,
+        }
+    }
 }
 
 /// A cell of a shard, by the id that it got at its creation. An id is never given again.
@@ -130,6 +156,40 @@ impl Call {
         }
     }
 
+    /// The key that the call names.
+    pub fn key(&self) -> Option<&Key>
+        ensures { option_map (λ key. key.now) result ≡ key_of_call self.now }
+    {
+        match self {
+            Call::Enter { .. } => None,
+            Call::Leave { .. } => None,
+            Call::Lookup { key, .. } => Some(key),
+            Call::Load { .. } => None,
+            Call::Store { .. } => None,
+            Call::Atomic { .. } => None,
+            Call::Update { key, .. } => Some(key),
+            Call::Delete { key, .. } => Some(key),
+            Call::Reclaim { .. } => None,
+        }
+    }
+
+    /// The value that an Update gives its key.
+    pub fn value(&self) -> Option<&Value>
+        ensures { option_map (λ value. value.now) result ≡ value_of_call self.now }
+    {
+        match self {
+            Call::Enter { .. } => None,
+            Call::Leave { .. } => None,
+            Call::Lookup { .. } => None,
+            Call::Load { .. } => None,
+            Call::Store { .. } => None,
+            Call::Atomic { .. } => None,
+            Call::Update { value, .. } => Some(value),
+            Call::Delete { .. } => None,
+            Call::Reclaim { .. } => None,
+        }
+    }
+
     /// What the call does to its worker's section.
     pub fn section_change(&self) -> SectionChange
         ensures { result ≡ section_change self.now }
@@ -185,6 +245,54 @@ impl Reply {
             Reply::Freed { .. } => None,
         }
     }
+
+    /// The number that a Load or an atomic operation told, 0 in another reply.
+    pub fn word(&self) -> u64
+        ensures { result ≡ word_in self.now }
+    {
+        match self {
+            Reply::Word { value } => *value,
+            Reply::Entered => 0,
+            Reply::Left => 0,
+            Reply::Cell { .. } => 0,
+            Reply::Null => 0,
+            Reply::Done => 0,
+            Reply::Answer { .. } => 0,
+            Reply::Freed { .. } => 0,
+        }
+    }
+
+    /// What an Update or a Delete answered, 0 in another reply.
+    pub fn answer(&self) -> i32
+        ensures { result ≡ answer_in self.now }
+    {
+        match self {
+            Reply::Answer { code } => *code,
+            Reply::Entered => 0,
+            Reply::Left => 0,
+            Reply::Cell { .. } => 0,
+            Reply::Null => 0,
+            Reply::Word { .. } => 0,
+            Reply::Done => 0,
+            Reply::Freed { .. } => 0,
+        }
+    }
+
+    /// Whether an Update or a Delete did what it was asked: its answer is 0.
+    pub fn is_done(&self) -> bool
+        ensures { result ≡ is_done self.now }
+    {
+        match self {
+            Reply::Answer { code } => *code == 0,
+            Reply::Entered => false,
+            Reply::Left => false,
+            Reply::Cell { .. } => false,
+            Reply::Null => false,
+            Reply::Word { .. } => false,
+            Reply::Done => false,
+            Reply::Freed { .. } => false,
+        }
+    }
 }
 
 /// What a call that was served makes of the cells that its worker holds.
@@ -233,4 +341,23 @@ pub struct Entry {
     pub who: Caller,
     pub call: Call,
     pub reply: Reply,
+}
+
+impl Entry {
+    /// Whether the entry is a use of the key: a Lookup that found it, or an Update that answered 0.
+    pub fn uses(&self, key: &Key) -> bool
+        ensures { result ≡ uses key.now self.now }
+    {
+        match &self.call {
+            Call::Lookup { key: asked, .. } => asked.is_same(key) && self.reply.cell().is_some(),
+            Call::Update { key: asked, .. } => asked.is_same(key) && self.reply.is_done(),
+            Call::Enter { .. } => false,
+            Call::Leave { .. } => false,
+            Call::Load { .. } => false,
+            Call::Store { .. } => false,
+            Call::Atomic { .. } => false,
+            Call::Delete { .. } => false,
+            Call::Reclaim { .. } => false,
+        }
+    }
 }

@@ -1,5 +1,8 @@
 //! What a shard is opened with, and what its state consists of.
 
+ghost use Rattle.std.specs.Prelude.{◌≡◌, ◌<◌};
+ghost use Rattle.semantics.specs.ShardPlan.{capacity};
+
 use crate::bytes::Key;
 use ebpf_decode::MapDef;
 
@@ -18,6 +21,16 @@ pub struct ShardPlan {
     pub workers: u32,
     /// How many entries the journal has room for.
     pub reserve: u32,
+}
+
+impl ShardPlan {
+    /// How many keys the shard may have: its part of the map's entries.
+    pub fn capacity(&self) -> u32
+        requires { 0 < self.now.parts }
+        ensures { result ≡ capacity self.now }
+    {
+        self.definition.max_entries / self.parts
+    }
 }
 
 /// A present key, with the cell that has its value.

@@ -1,5 +1,5 @@
 -- What a caller's condition says of its call.
-use Rattle.std.proofs.Common.{◌≡◌, ◌⊎◌, ℕ, ◌+◌, ◌%◌, ◌==◌, ◌<◌, ◌≤◌, ◌^◌, Bool, true, false, ◌&&◌, ◌||◌, nat_lt, nat_le, List, length, arith, refl, inl, inr}
+use Rattle.std.proofs.Common.{◌≡◌, ◌⊎◌, ℕ, ◌+◌, ◌==◌, ◌<◌, ◌≤◌, ◌^◌, Bool, true, false, ◌||◌, nat_lt, List, length, arith, refl, inl, inr}
 use Rattle.std.specs.Prelude.{IsTrue, is_some}
 use Rattle.std.proofs.lemmas.Bool.Decides.{nat_tests}
 use Rattle.semantics.specs.declared.call.Entry.{Entry}
@@ -12,7 +12,8 @@ use Rattle.semantics.specs.PlanLimits.{IsPlan}
 use Rattle.semantics.specs.Reclamation.{holds}
 use Rattle.semantics.specs.SequentialShard.{is_kept, shard_after}
 use Rattle.isa.specs.InstructionCodes.{atomic_op_of}
-use Rattle.semantics.specs.History.{shard_of_call, is_holder, is_own_key, is_value, are_bytes, are_flags, is_load_size, is_atomic_size, is_in_cell, is_aligned, fits_size, is_expected, may_change_keys, is_inside_worker, meets_part, meets, IsLegalHistory}
+use Rattle.semantics.specs.History.{shard_of_call, is_holder, is_own_key, is_value, are_bytes, are_flags, is_atomic_size, is_in_cell, is_aligned, may_change_keys, is_inside_worker, meets_part, meets, IsLegalHistory}
+use Rattle.semantics.proofs.shared.CallNumbers.{same_number, narrow_load, narrow_atomic, op_below, fits_below, key_sized}
 use Rattle.semantics.proofs.shared.ConditionLemmas.{first_true, second_true}
 use Rattle.semantics.proofs.shared.KeptLemmas.{held_is_kept_of_plan}
 
@@ -32,12 +33,6 @@ holder_kept plan history (Worker number) cell is legal held =
     let below : number < 8 = grind (arith, nat_tests) in
     held_is_kept_of_plan plan history number cell is below legal (second_true (nat_lt number plan.workers) (holds number cell history) held)
 
-narrow_load : (size : ℕ) → IsTrue (is_load_size size) → size ≤ 8
-narrow_load size met = grind (arith, nat_tests)
-
-narrow_atomic : (size : ℕ) → IsTrue (is_atomic_size size) → size ≤ 8
-narrow_atomic size met = grind (arith, nat_tests)
-
 either_size : (size : ℕ) → IsTrue (is_atomic_size size) → (size ≡ 4) ⊎ (size ≡ 8)
 either_size size met = by_test (size == 4) refl met
   where
@@ -47,12 +42,6 @@ either_size size met = by_test (size == 4) refl met
 
 in_cell : (plan : ShardPlan) (offset size : ℕ) → IsTrue (is_in_cell plan offset size) → offset + size ≤ plan.definition.value_size
 in_cell plan offset size met = grind (arith, nat_tests)
-
-fits : (value size : ℕ) → IsTrue (fits_size value size) → value < 256 ^ size
-fits value size met = grind (arith, nat_tests)
-
-same_number : (a b : ℕ) → IsTrue (a == b) → a ≡ b
-same_number a b met = grind (arith, nat_tests)
 
 part_met : (plan : ShardPlan) (history : List Entry) (who : Caller) (call : Call) → IsTrue (meets plan history who call) → IsTrue (meets_part plan history who call)
 part_met plan history who call met = second_true (shard_of_call call == plan.number) (meets_part plan history who call) met
@@ -89,9 +78,6 @@ pub record IsAtomicOf (plan : ShardPlan) (history : List Entry) (cell offset siz
   pub value_fits : value < 256 ^ size
   pub expected_fits : expected < 256 ^ size
 
-op_below : (op : ℕ) → IsTrue (is_some (atomic_op_of op)) → op < 256
-op_below op known = grind (arith, nat_tests)
-
 pub atomic_asked : (plan : ShardPlan) (history : List Entry) (who : Caller) (shard cell offset size op value expected : ℕ) → IsPlan plan → IsLegalHistory plan history →
     IsTrue (meets plan history who (Atomic (record { shard = shard; id = cell }) offset size op value expected)) → IsAtomicOf plan history cell offset size op value expected
 atomic_asked plan history who shard cell offset size op value expected is legal met =
@@ -111,12 +97,9 @@ atomic_asked plan history who shard cell offset size op value expected is legal 
       size_is = either_size size (second_true _ _ to_size);
       known = known;
       short = op_below op known;
-      value_fits = fits value size (second_true _ _ to_value);
-      expected_fits = fits expected size (second_true _ _ to_expected);
+      value_fits = fits_below value size (second_true _ _ to_value);
+      expected_fits = fits_below expected size (second_true _ _ to_expected);
     }
-
-key_sized : (plan : ShardPlan) (key : List ℕ) → IsTrue (is_own_key plan key) → length key ≡ plan.definition.key_size
-key_sized plan key met = same_number _ _ (first_true (length key == plan.definition.key_size) _ met)
 
 pub lookup_asked : (plan : ShardPlan) (history : List Entry) (who : Caller) (shard : ℕ) (key : List ℕ) →
     IsTrue (meets plan history who (Lookup shard key)) → length key ≡ plan.definition.key_size

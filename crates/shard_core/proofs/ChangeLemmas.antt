@@ -1,6 +1,6 @@
 -- What an Update and a Delete ask of cells and keys, and leave of them.
-use Rattle.std.proofs.Common.{◌≡◌, ◌≢◌, ◌⊎◌, ℕ, zero, suc, ◌+◌, ◌*◌, ◌/◌, ◌%◌, ◌<◌, ◌≤◌, Bool, true, false, cond, not, nat_lt, nat_le, ℤ, pos, negsuc, List, [], ◌∷◌, ◌++◌, length, Option, Some, None, arith, refl, sym, ◌∙◌, ap, subst, inl, inr}
-use Rattle.std.specs.Prelude.{◌==◌, ◌&&◌, IsTrue, IsFalse, is_some, filter, find, option_map, bytes_eq, if◌then◌else◌}
+use Rattle.std.proofs.Common.{◌≡◌, ◌≢◌, ◌⊎◌, ℕ, zero, suc, ◌+◌, ◌*◌, ◌/◌, ◌%◌, ◌<◌, ◌≤◌, Bool, true, false, cond, not, nat_le, ℤ, pos, negsuc, List, [], ◌∷◌, length, Option, Some, None, arith, refl, sym, ◌∙◌, ap, subst, inl, inr}
+use Rattle.std.specs.Prelude.{◌==◌, ◌&&◌, IsTrue, is_some, filter, find, option_map, bytes_eq, if◌then◌else◌}
 use Rattle.std.specs.List.{AllByRecursion}
 use Rattle.std.proofs.lemmas.Nat.{div-add-mod'}
 use Rattle.std.proofs.lemmas.Bool.Decides.{nat_tests}
@@ -13,7 +13,7 @@ use Rattle.semantics.specs.declared.call.Entry.{Entry}
 use Rattle.semantics.specs.declared.plan.ShardPlan.{ShardPlan}
 use Rattle.semantics.specs.declared.plan.PresentKey.{PresentKey}
 use Rattle.semantics.specs.declared.plan.RetiredCell.{RetiredCell}
-use Rattle.semantics.specs.declared.linux.Errno.TheVariants.{NoEntry, TooBig, NoMemory, Exists, Invalid}
+use Rattle.semantics.specs.declared.linux.Errno.TheVariants.{TooBig, NoMemory, Invalid}
 use Rattle.semantics.specs.declared.linux.UpdateFlags.{UpdateFlags}
 use Rattle.semantics.specs.declared.linux.UpdateFlags.TheVariants.{Any, NoExist, Exist}
 use Rattle.semantics.specs.Linux.{errno_code, success, update_flags_of}
@@ -27,7 +27,7 @@ use Rattle.semantics.specs.History.{IsLegalHistory}
 use Rattle.semantics.proofs.shared.HoldingLemmas.{each_weaker, each_find, IsSound, sound_after, array_after}
 use Rattle.semantics.proofs.shared.KeptLemmas.{found_kept}
 use Rattle.semantics.proofs.shared.IdLemmas.{ids_are_few}
-use Rattle.semantics.proofs.shared.UseLemmas.{keys_differ}
+use Rattle.semantics.proofs.shared.UseLemmas.{keys_differ, first_parts}
 use Rattle.map_cells.specs.CellTable.{CellTable, with_retired, is_below, freed_below}
 use Rattle.map_cells.specs.CellTable as T
 use Rattle.lru_maps.specs.LruTable.{LruTable, last_of, without_victim}
@@ -40,10 +40,10 @@ use Rattle.shard_core.specs.Contents.{CanCreate, CanRetire, IsPut, with_evicted}
 use Rattle.shard_core.specs.Sections.{entered_places, floor_of}
 use Rattle.shard_core.specs.ShardFields.{waiting, IsBalanced, IsContents}
 use Rattle.shard_core.proofs.PlaceLemmas.{floor_tells}
-use Rattle.shard_core.proofs.StateLemmas.{IsApart, apart_after, key_gone, IsGone, each_first}
+use Rattle.shard_core.proofs.StateLemmas.{apart_after, key_gone, IsGone}
 use Rattle.shard_core.proofs.KeyLemmas.{IsNoUse, IsUseOf, keyed_kind, cell_in_is, cell_in_present, fits_touched, keys_touched, fits_removed, keys_removed}
 use Rattle.shard_core.proofs.ContentLemmas.{contents_on, contents_written, contents_created}
-use Rattle.shard_core.proofs.RetireLemmas.{oldest_first, oldest_count, not_retired, latest_stamp, contents_retired, contents_freed, after_reclaim, IsFloorFor, freed_are, found_any}
+use Rattle.shard_core.proofs.RetireLemmas.{oldest_count, not_retired, latest_stamp, contents_retired, contents_freed, IsFloorFor, freed_are}
 use Rattle.shard_core.proofs.StepLemmas.{table_keeps}
 
 -- ---- answers of 0
@@ -274,7 +274,7 @@ created_recent plan entry history cells cells_after table keys_after key value i
         let made : cells_after ≡ T.with_new_cell (with_retired cells last.1 (length history)) value = put.0 ∙ ap (λ victim. T.with_new_cell (with_evicted victim (length history) cells) value) goes in
         let left : IsGone last.0 (of_last last.0 last.1) (shard_after plan history).present = key_gone last.0 (of_last last.0 last.1) (shard_after plan history).present found contents.has.keys_apart contents.has.cells_apart in
         let others : AllByRecursion (λ (one : PresentKey). length (shard_after plan history).cells ≡ one.cell → ⊥) (filter (λ (one : PresentKey). not (one.cell == last.1)) (shard_after plan history).present) =
-        each_first (λ (one : PresentKey). length (shard_after plan history).cells ≡ one.cell → ⊥) (λ (one : PresentKey). not (one.cell == last.1)) (shard_after plan history).present (others_below (shard_after plan history) (sound_after plan history)) in
+        first_parts (λ (one : PresentKey). length (shard_after plan history).cells ≡ one.cell → ⊥) (λ (one : PresentKey). not (one.cell == last.1)) (shard_after plan history).present (others_below (shard_after plan history) (sound_after plan history)) in
         rw (evicted_is plan history (shard_after plan history) (of_last last.0 last.1) (full_is ∙ full) least, made)
         (contents_created plan entry history (S.without_key (shard_after plan history) (length history) (of_last last.0 last.1)) (with_retired cells last.1 (length history)) (Recent (without_victim table)) keys_after key value free used
         (left.finds key ∙ none_gone (bytes_eq last.0 key) (cell_of_present (shard_after plan history).present key) absent) others inserted

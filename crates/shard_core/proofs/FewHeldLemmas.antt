@@ -1,9 +1,9 @@
 -- A worker holds kept cells alone, and kept cells are few.
-use Rattle.std.proofs.Common.{◌≡◌, ◌≢◌, ℕ, zero, suc, ◌+◌, ◌*◌, ◌==◌, ◌<◌, ◌≤◌, ◌⊎◌, Bool, true, false, true≢false, not, ◌&&◌, ◌||◌, nat_lt, List, [], ◌∷◌, ◌++◌, length, map, replicate, length-append, eq-eqb, ne_eqb, refl, sym, ap, ◌∙◌, subst, inl, inr, arith}
+use Rattle.std.proofs.Common.{◌≡◌, ◌≢◌, ℕ, zero, suc, ◌+◌, ◌*◌, ◌==◌, ◌<◌, ◌≤◌, Bool, true, false, true≢false, not, ◌&&◌, ◌||◌, List, [], ◌∷◌, ◌++◌, length, map, length-append, eq-eqb, ne_eqb, refl, sym, ap, ◌∙◌, inl, inr, arith}
 use Rattle.std.specs.Prelude.{Option, Some, None, is_some, if◌then◌else◌}
 use Rattle.std.specs.List.{list_any}
 use Rattle.std.proofs.lemmas.Bool.Decides.{eqb_tells, nat_tests}
-use Rattle.std.proofs.lemmas.List.{length-map, length-replicate}
+use Rattle.std.proofs.lemmas.List.{length-map}
 use Rattle.ebpf_decode.specs.declared.map.MapKind.{MapKind}
 use Rattle.ebpf_decode.specs.declared.map.MapKind.TheVariants.{Array, Hash, LruHash}
 use Rattle.semantics.specs.declared.call.Entry.{Entry}
@@ -19,10 +19,10 @@ use Rattle.semantics.specs.declared.plan.ShardPlan.{ShardPlan}
 use Rattle.semantics.specs.ShardPlan.{capacity}
 use Rattle.semantics.specs.PlanLimits.{IsPlan}
 use Rattle.semantics.specs.IdLaws.{creates, creations}
-use Rattle.semantics.specs.SequentialShard.{SequentialShard, shard_after, is_kept_of_kind, opening_cells, update_answer_by, cell_of_key}
+use Rattle.semantics.specs.SequentialShard.{SequentialShard, shard_after, is_kept_of_kind, update_answer_by, cell_of_key}
 use Rattle.semantics.specs.History.{IsLegalHistory}
 use Rattle.semantics.proofs.shared.IdLemmas.{ids_count}
-use Rattle.semantics.proofs.shared.KeptLemmas.{held_is_kept_of_plan}
+use Rattle.semantics.proofs.shared.KeptLemmas.{held_is_kept_of_plan, opened_count}
 use Rattle.map_cells.specs.CellTable.{CellTable}
 use Rattle.shard_core.specs.ShardFields.{IsBalanced}
 use Rattle.shard_core.specs.FewHeld.{is_among, AreOnce, FewAreHeld}
@@ -148,14 +148,11 @@ no_creations plan (entry ∷ older) is =
     let rest = no_creations plan older is in
     omega (arith, none, rest)
 
-opened_cells : (kind : MapKind) (plan : ShardPlan) → kind ≡ Array → length (opening_cells kind plan) ≡ capacity plan
-opened_cells kind plan is = rw is (length-replicate (capacity plan) (replicate plan.definition.value_size 0))
-
 array_cells : (plan : ShardPlan) (history : List Entry) → plan.definition.kind ≡ Array → length (shard_after plan history).cells ≡ capacity plan
 array_cells plan history is =
     let all = ids_count plan history in
     let none = no_creations plan history is in
-    let opened = opened_cells plan.definition.kind plan is in
+    let opened = opened_count plan.definition.kind plan is in
     omega (arith, all, none, opened)
 
 -- ---- so few cells are held

@@ -1,8 +1,7 @@
 -- What each change leaves of a table of keys beside a history: keys of an LRU map stand in the order of their last uses.
-use Rattle.std.proofs.Common.{◌≡◌, ℕ, ◌+◌, ◌<◌, ◌≤◌, Bool, true, false, cond, not, nat_le, List, [], ◌∷◌, length, Option, Some, None, arith, refl, sym, ◌∙◌, ap, subst}
+use Rattle.std.proofs.Common.{◌≡◌, ℕ, ◌+◌, Bool, true, false, cond, not, List, ◌∷◌, length, Option, Some, None, arith, refl, sym, ◌∙◌, ap}
 use Rattle.std.specs.Prelude.{◌==◌, is_some, filter, find, option_map, bytes_eq, if◌then◌else◌}
 use Rattle.std.specs.List.{AllByRecursion}
-use Rattle.std.specs.Map.{lookup, remove_entry}
 use Rattle.ebpf_decode.specs.declared.map.MapKind.TheVariants.{Array}
 use Rattle.semantics.specs.declared.call.Entry.{Entry}
 use Rattle.semantics.specs.declared.plan.ShardPlan.{ShardPlan}
@@ -11,9 +10,7 @@ use Rattle.semantics.specs.LeastRecentlyUsed.{uses}
 use Rattle.semantics.specs.SequentialShard.{SequentialShard, cell_of_present, cell_of_key}
 use Rattle.semantics.specs.UseLaws.{ArePairwise}
 use Rattle.plain_maps.specs.HashTable.{cell_of}
-use Rattle.lru_maps.specs.LruTable.{LruTable, victim, last_of}
-use Rattle.lru_maps.specs.ByUse.{IsByUse}
-use Rattle.lru_maps.proofs.shared.ByUse.{by_use_on, by_use_touched, by_use_new, by_use_removed, by_use_evicted}
+use Rattle.lru_maps.proofs.shared.ByUse.{by_use_on, by_use_touched, by_use_new, by_use_removed}
 use Rattle.shard_core.specs.declared.keys.KeyTable.{KeyTable}
 use Rattle.shard_core.specs.declared.keys.KeyTable.TheVariants.{Indices, Hashed, Recent}
 use Rattle.shard_core.specs.KeyTables.{cell_in, FitsPlan, HasKeys, IsKeyed, touched_in, IsInserted, IsRemoved}

@@ -10,5 +10,4 @@ mod RetireLemmas
 mod StepLemmas
 mod ChangeLemmas
 mod OpeningLemmas
-mod NewestLemmas
 mod FewHeldLemmas

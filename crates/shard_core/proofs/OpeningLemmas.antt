@@ -1,6 +1,6 @@
 -- A shard in which nothing has happened.
-use Rattle.std.proofs.Common.{◌≡◌, ℕ, zero, suc, ◌+◌, ◌*◌, ◌<◌, ◌≤◌, Bool, true, false, nat_lt, List, [], ◌∷◌, length, replicate, get_or, Option, Some, None, arith, refl, sym, ◌∙◌, ap}
-use Rattle.std.specs.Prelude.{IsTrue, count_by, is_some}
+use Rattle.std.proofs.Common.{◌≡◌, ℕ, zero, suc, ◌+◌, ◌<◌, ◌≤◌, nat_lt, List, [], ◌∷◌, length, replicate, get_or, Some, None, arith, refl, sym, ◌∙◌}
+use Rattle.std.specs.Prelude.{IsTrue}
 use Rattle.std.proofs.lemmas.List.{length-replicate}
 use Rattle.std.proofs.lemmas.Bool.Decides.{nat_tests}
 use Rattle.ebpf_decode.specs.declared.map.MapKind.{MapKind}
@@ -14,7 +14,7 @@ use Rattle.map_cells.specs.CellTable.{CellTable}
 use Rattle.shard_core.specs.declared.keys.KeyTable.{KeyTable}
 use Rattle.shard_core.specs.KeyTables.{FitsPlan, HasKeys}
 use Rattle.shard_core.specs.Contents.{opened_table}
-use Rattle.shard_core.specs.ShardFields.{Mirrors, IsBalanced, IsContents, IsShard}
+use Rattle.shard_core.specs.ShardFields.{Mirrors, IsBalanced, IsShard}
 
 abbrev opened_state : MapKind → ShardPlan → SequentialShard
 opened_state kind plan = record { present = []; cells = opening_cells kind plan; retired = [] }

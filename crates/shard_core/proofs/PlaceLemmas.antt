@@ -1,5 +1,5 @@
 -- How the places of those who are inside follow the journal, and what they tell of retired cells.
-use Rattle.std.proofs.Common.{◌≡◌, ℕ, zero, suc, ◌+◌, ◌<◌, ◌≤◌, Bool, true, false, ◌&&◌, nat_lt, List, [], ◌∷◌, length, Option, Some, None, get_or, set, arith, refl, sym, ◌∙◌, ap}
+use Rattle.std.proofs.Common.{◌≡◌, ℕ, zero, suc, ◌<◌, ◌≤◌, Bool, true, false, ◌&&◌, nat_lt, List, [], ◌∷◌, length, Option, Some, None, get_or, arith, refl, sym, ◌∙◌, ap}
 use Rattle.std.proofs.lemmas.List.{set_past}
 use Rattle.std.proofs.lemmas.Bool.Decides.{nat_tests}
 use Rattle.std.specs.Prelude.{◌==◌, count_by, is_some, if◌then◌else◌, map}
@@ -11,7 +11,7 @@ use Rattle.semantics.specs.declared.call.Call.TheVariants.{Enter, Leave}
 use Rattle.semantics.specs.declared.call.Reply.{Reply}
 use Rattle.semantics.specs.declared.call.Entry.{Entry}
 use Rattle.semantics.specs.declared.plan.RetiredCell.{RetiredCell}
-use Rattle.semantics.specs.Reclamation.{is_worker, entered_by, entered_at, is_inside, worker_numbers, inside_count, began_after, is_reclaimable}
+use Rattle.semantics.specs.Reclamation.{is_worker, entered_by, entered_at, worker_numbers, inside_count, began_after, is_reclaimable}
 use Rattle.shard_core.specs.Sections.{entered_places, with_place, earlier, floor_of}
 use Rattle.shard_core.proofs.FlagLemmas.{KeepsSections}
 

@@ -1,6 +1,6 @@
 -- What a retirement and a Reclaim leave of cells and keys.
-use Rattle.std.proofs.Common.{◌≡◌, ◌≢◌, ◌⊎◌, ℕ, suc, ◌+◌, ◌-◌, ◌*◌, ◌<◌, ◌≤◌, Bool, true, false, cond, not, ◌||◌, nat_lt, nat_le, List, [], ◌∷◌, ◌++◌, map, reverse, length, get_or, Option, Some, None, arith, refl, sym, ◌∙◌, ap, subst, inl, inr}
-use Rattle.std.specs.Prelude.{◌==◌, IsTrue, filter, find, option_map, bytes_eq, is_some, if◌then◌else◌}
+use Rattle.std.proofs.Common.{◌≡◌, ◌≢◌, ℕ, suc, ◌+◌, ◌<◌, ◌≤◌, Bool, true, false, cond, not, ◌||◌, nat_lt, List, [], ◌∷◌, ◌++◌, map, reverse, length, get_or, Some, arith, refl, sym, ◌∙◌, ap, subst}
+use Rattle.std.specs.Prelude.{◌==◌, IsTrue, filter, find, bytes_eq}
 use Rattle.std.specs.List.{AllByRecursion, list_any}
 use Rattle.std.proofs.lemmas.List.{length-reverse, length-append, reverse-append, get_or_append_left, get_or_push}
 use Rattle.std.proofs.lemmas.List.Elements.{filter-append}
@@ -12,9 +12,8 @@ use Rattle.semantics.specs.declared.call.Entry.{Entry}
 use Rattle.semantics.specs.declared.plan.ShardPlan.{ShardPlan}
 use Rattle.semantics.specs.declared.plan.PresentKey.{PresentKey}
 use Rattle.semantics.specs.declared.plan.RetiredCell.{RetiredCell}
-use Rattle.semantics.specs.ShardPlan.{capacity}
 use Rattle.semantics.specs.Reclamation.{is_reclaimable}
-use Rattle.semantics.specs.SequentialShard.{SequentialShard, cell_of_present, without_key, is_kept, is_kept_of_kind}
+use Rattle.semantics.specs.SequentialShard.{SequentialShard, without_key, is_kept, is_kept_of_kind}
 use Rattle.semantics.specs.UseLaws.{ArePairwise}
 use Rattle.semantics.proofs.shared.HoldingLemmas.{each_weaker, IsSound}
 use Rattle.map_cells.specs.declared.retired.Retired.{Retired}
@@ -23,7 +22,7 @@ use Rattle.shard_core.specs.declared.keys.KeyTable.{KeyTable}
 use Rattle.shard_core.specs.KeyTables.{FitsPlan, HasKeys, IsKeyed}
 use Rattle.shard_core.specs.ShardFields.{Mirrors, waiting, IsBalanced, IsContents}
 use Rattle.shard_core.proofs.MirrorLemmas.{mirrors_fewer, mirrors_without, length-without, IsNone}
-use Rattle.shard_core.proofs.StateLemmas.{IsApart, IsGone, key_gone}
+use Rattle.shard_core.proofs.StateLemmas.{IsGone, key_gone}
 use Rattle.shard_core.proofs.KeyLemmas.{IsNoUse, keyed_kind, keys_on}
 
 -- ---- the retired cells, the oldest first

@@ -1,6 +1,6 @@
 -- What holds of every state that a history leads to: cells are apart, and were retired before now.
-use Rattle.std.proofs.Common.{◌≡◌, ℕ, suc, ◌+◌, ◌<◌, ◌≤◌, Bool, true, false, cond, not, nat_lt, List, [], ◌∷◌, ◌++◌, length, Option, Some, None, arith, refl, sym, ◌∙◌, ap, subst}
-use Rattle.std.specs.Prelude.{◌==◌, filter, find, option_map, bytes_eq, if◌then◌else◌}
+use Rattle.std.proofs.Common.{◌≡◌, ℕ, suc, ◌+◌, ◌<◌, Bool, true, false, cond, not, List, [], ◌∷◌, length, Option, Some, None, arith, refl, sym, ◌∙◌, ap, subst}
+use Rattle.std.specs.Prelude.{◌==◌, filter, find, option_map, bytes_eq}
 use Rattle.std.specs.List.{AllByRecursion}
 use Rattle.std.proofs.lemmas.Slice.Eq.{bytes_eq-Decides}
 use Rattle.std.proofs.lemmas.Bool.Decides.{nat_tests}
@@ -12,23 +12,11 @@ use Rattle.semantics.specs.declared.plan.RetiredCell.{RetiredCell}
 use Rattle.semantics.specs.declared.plan.ShardPlan.{ShardPlan}
 use Rattle.semantics.specs.Reclamation.{is_reclaimable}
 use Rattle.semantics.specs.LeastRecentlyUsed.{is_least_recently_used}
-use Rattle.semantics.specs.SequentialShard.{SequentialShard, cell_of_present, cell_of_key, without_key, without_found, after_eviction, with_new_key, with_value, updated_where, update_answer, delete_answer, present_key, shard_after_call, shard_after}
+use Rattle.semantics.specs.SequentialShard.{SequentialShard, cell_of_present, cell_of_key, without_key, without_found, after_eviction, with_new_key, with_value, update_answer, delete_answer, present_key, shard_after_call, shard_after}
 use Rattle.semantics.specs.UseLaws.{ArePairwise}
 use Rattle.semantics.proofs.shared.LawLemmas.{updated_where-keeps, after_eviction-keeps}
-use Rattle.semantics.proofs.shared.HoldingLemmas.{each_weaker, each_filter, each_find, IsSound, sound_after}
-
--- ---- lists
-
-pub each_first : {A : Type 0} (P : A → Type 0) (test : A → Bool) → (xs : List A) → AllByRecursion P xs → AllByRecursion P (filter test xs)
-each_first P test xs each = each_weaker (λ x. P x × (test x ≡ true)) P (λ x held. held.0) (filter test xs) (each_filter P test xs each)
-
-pairs_filter : {A : Type 0} (R : A → A → Type 0) (test : A → Bool) (xs : List A) → ArePairwise R xs → ArePairwise R (filter test xs)
-pairs_filter R test [] pairs = tt
-pairs_filter R test (x ∷ xs) pairs = by_test (test x) (pairs_filter R test xs pairs.1)
-  where
-    by_test : (t : Bool) → ArePairwise R (filter test xs) → ArePairwise R (cond t (x ∷ filter test xs) (filter test xs))
-    by_test true rest = (each_first (R x) test xs pairs.0, rest)
-    by_test false rest = rest
+use Rattle.semantics.proofs.shared.UseLemmas.{first_parts, pairs_filter}
+use Rattle.semantics.proofs.shared.HoldingLemmas.{each_weaker, each_find, IsSound, sound_after}
 
 -- ---- states
 
@@ -65,7 +53,7 @@ apart_with_new_key shard place key value below apart = record {
 
 present_below_without : (shard : SequentialShard) (place : ℕ) (gone : Option PresentKey) → AllByRecursion (λ (one : PresentKey). one.cell < length shard.cells) shard.present → AllByRecursion (λ (one : PresentKey). one.cell < length (without_found shard place gone).cells) (without_found shard place gone).present
 present_below_without shard place None below = below
-present_below_without shard place (Some gone) below = each_first (λ (one : PresentKey). one.cell < length shard.cells) (λ (one : PresentKey). not (one.cell == gone.cell)) shard.present below
+present_below_without shard place (Some gone) below = first_parts (λ (one : PresentKey). one.cell < length shard.cells) (λ (one : PresentKey). not (one.cell == gone.cell)) shard.present below
 
 apart_with_value : (plan : ShardPlan) (history : List Entry) (shard : SequentialShard) (key value : List ℕ) (cell : Option ℕ) → IsSound shard → IsApart (length history) shard → IsApart (suc (length history)) (with_value plan history shard key value cell)
 apart_with_value plan history shard key value (Some cell) sound apart = let later = apart_later (length history) shard apart in record { since = later.since; retired = later.retired; present = later.present }
@@ -93,7 +81,7 @@ apart_after_call plan history shard (Delete number key) sound apart =
 apart_after_call plan history shard (Reclaim number) sound apart =
     let later = apart_later (length history) shard apart in
     record {
-      since = each_first (λ (gone : RetiredCell). gone.since < suc (length history)) (λ (gone : RetiredCell). not (is_reclaimable history gone)) shard.retired later.since;
+      since = first_parts (λ (gone : RetiredCell). gone.since < suc (length history)) (λ (gone : RetiredCell). not (is_reclaimable history gone)) shard.retired later.since;
       retired = pairs_filter (λ (one other : RetiredCell). one.cell ≡ other.cell → ⊥) (λ (gone : RetiredCell). not (is_reclaimable history gone)) shard.retired apart.retired;
       present = apart.present;
     }

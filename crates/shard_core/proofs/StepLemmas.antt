@@ -1,26 +1,18 @@
 -- What one step leaves of a shard.
-use Rattle.std.proofs.Common.{◌≡◌, ◌⊎◌, ℕ, ◌+◌, ◌*◌, ◌<◌, ◌≤◌, Bool, true, false, cond, nat_lt, nat_le, ℤ, pos, negsuc, List, [], ◌∷◌, ◌++◌, reverse, length, take, drop, Option, Some, None, arith, refl, sym, ◌∙◌, ap, subst}
-use Rattle.std.specs.Prelude.{◌==◌, ◌&&◌, IsTrue, IsFalse, count_by, is_some, find, option_map, bytes_eq, if◌then◌else◌}
-use Rattle.std.specs.List.{AllByRecursion}
-use Rattle.std.proofs.lemmas.List.{reverse-append, length-replicate}
-use Rattle.std.proofs.lemmas.Bool.Decides.{nat_tests}
-use Rattle.ebpf_decode.specs.declared.map.MapKind.{MapKind}
-use Rattle.ebpf_decode.specs.declared.map.MapKind.TheVariants.{Array, Hash, LruHash}
+use Rattle.std.proofs.Common.{◌≡◌, ℕ, ◌*◌, List, [], ◌∷◌, ◌++◌, reverse, take, drop, Option, Some, refl, sym, ◌∙◌, ap, subst}
+use Rattle.std.specs.Prelude.{IsTrue, IsFalse, count_by, is_some}
+use Rattle.std.proofs.lemmas.List.{reverse-append}
 use Rattle.semantics.specs.declared.call.Caller.{Caller}
 use Rattle.semantics.specs.declared.call.Call.{Call}
 use Rattle.semantics.specs.declared.call.Reply.{Reply}
 use Rattle.semantics.specs.declared.call.Entry.{Entry}
 use Rattle.semantics.specs.declared.plan.ShardPlan.{ShardPlan}
-use Rattle.semantics.specs.declared.plan.PresentKey.{PresentKey}
-use Rattle.semantics.specs.declared.plan.RetiredCell.{RetiredCell}
 use Rattle.wire.specs.FrameView.{overwritten_at}
 use Rattle.isa.specs.declared.operation.AtomicOp.{AtomicOp}
 use Rattle.isa.specs.Atomic.{atomic_result}
 use Rattle.isa.specs.InstructionCodes.{atomic_op_of}
 use Rattle.semantics.specs.LittleEndian.{number_of_bytes, bytes_of_number}
-use Rattle.semantics.specs.ShardPlan.{capacity}
-use Rattle.semantics.specs.PlanLimits.{IsPlan}
-use Rattle.semantics.specs.SequentialShard.{SequentialShard, opening_cells, cell_bytes, number_in_cell, with_number_in_cell, changed_by, reply_of, shard_after_call, shard_after, is_kept}
+use Rattle.semantics.specs.SequentialShard.{SequentialShard, cell_bytes, number_in_cell, with_number_in_cell, changed_by, reply_of, shard_after_call, shard_after, is_kept}
 use Rattle.semantics.specs.History.{meets, journal_is_full, IsLegalHistory}
 use Rattle.journal.specs.Journaled.{Journaled, with_entry}
 use Rattle.map_cells.specs.CellTable.{CellTable, cell_at, bytes_of_cell, number_at, with_number}

@@ -20,7 +20,7 @@ pub(crate) fn open_cells(alloc: Global, plan: &ShardPlan) -> Result<Cells, Alloc
     ensures { IfOk result (λ cells. cells ≡ opened_table plan.now.definition.kind plan.now) }
 {
     let size = plan.definition.value_size;
-    let capacity = plan.definition.max_entries / plan.parts;
+    let capacity = plan.capacity();
     match plan.definition.kind {
         MapKind::Array => array_cells(alloc, capacity, plan.reserve, zeros(size).as_slice()),
         MapKind::Hash => Cells::new(alloc, size as usize, 2 * capacity, plan.reserve as usize),

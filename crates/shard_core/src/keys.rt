@@ -39,18 +39,10 @@ impl KeyTable {
                 indices: ArrayShard::new(definition.max_entries, plan.parts),
             }),
             MapKind::Hash => Ok(KeyTable::Hashed {
-                keys: hashed(
-                    alloc,
-                    definition.key_size,
-                    definition.max_entries / plan.parts,
-                )?,
+                keys: hashed(alloc, definition.key_size, plan.capacity())?,
             }),
             MapKind::LruHash => Ok(KeyTable::Recent {
-                keys: recent(
-                    alloc,
-                    definition.key_size,
-                    definition.max_entries / plan.parts,
-                )?,
+                keys: recent(alloc, definition.key_size, plan.capacity())?,
             }),
         }
     }

@@ -21,15 +21,11 @@ pub(crate) fn count(places: &[Option<u64>]) -> usize
 pub(crate) fn set(places: &mut [Option<u64>], who: &Caller, place: Option<u64>)
     ensures { places.new ≡ with_place who.now place places.old }
 {
-    match who {
-        Caller::Worker { number } => {
-            let at = usize::from(*number);
-            if at < places.len() {
-                places[at] = place;
-            }
+    if let Some(number) = who.worker() {
+        let at = usize::from(number);
+        if at < places.len() {
+            places[at] = place;
         }
-        Caller::Controller => {}
-        Caller::Reclaimer => {}
     }
 }
 

@@ -19,7 +19,8 @@ use isa::AtomicOp;
 use journal::{AtomicChange, CellRange, Journal};
 use map_cells::Cells;
 use one_thread_map::answers::{Counts, delete_answer_of_kind, update_answer_of_kind};
-use semantics::{Call, Caller, Errno, JournalFull, SectionChange, ShardPlan, UpdateFlags};
+use one_thread_map::conditions::{is_full_with, lacks_room};
+use semantics::{Call, Caller, Errno, JournalFull, ShardPlan, UpdateFlags};
 use std::alloc::{AllocError, Global};
 use std::marker::Model;
 
@@ -110,8 +111,7 @@ impl Shard {
     fn lacks_room(&self, entering: u8) -> bool
         ensures { result ≡ nat_lt self.now.plan.reserve (length (reverse self.now.journal) + inside_count (reverse self.now.journal) + entering + 1) }
     {
-        let needed = self.journal.len() as u128 + self.inside as u128 + u128::from(entering) + 1;
-        u128::from(self.plan.reserve) < needed
+        lacks_room(&self.plan, self.journal.len(), self.inside, entering)
     }
 
     /// Whether the journal is full for this call: the entries, one more for each run inside, one for a run that would enter,
@@ -119,11 +119,7 @@ impl Shard {
     pub fn is_full(&self, call: &Call) -> bool
         ensures { result ≡ journal_is_full self.now.plan (reverse self.now.journal) call.now }
     {
-        match call.section_change() {
-            SectionChange::Ends => false,
-            SectionChange::Begins => self.lacks_room(1),
-            SectionChange::Stays => self.lacks_room(0),
-        }
+        is_full_with(&self.plan, self.journal.len(), self.inside, call)
     }
 
     /// The refusal of a full journal.

@@ -1,5 +1,5 @@
 -- What the calls of each kind give.
-use Rattle.std.proofs.Common.{◌≡◌, ℕ, zero, suc, ◌+◌, ◌-◌, ◌*◌, ◌/◌, ◌%◌, ◌^◌, ◌<◌, ◌≤◌, Bool, true, false, ◌&&◌, nat_lt, ℤ, List, [], ◌∷◌, length, reverse, Option, Some, None, arith, refl, sym, ◌∙◌, ap, subst, add-one}
+use Rattle.std.proofs.Common.{◌≡◌, ℕ, zero, suc, ◌+◌, ◌-◌, ◌*◌, ◌/◌, ◌%◌, ◌^◌, ◌<◌, ◌≤◌, Bool, true, false, nat_lt, ℤ, List, [], ◌∷◌, length, reverse, Option, Some, None, arith, refl, sym, ◌∙◌, ap, subst, add-one}
 use Rattle.std.specs.Prelude.{◌==◌, IsTrue, slice_get, find, option_map, bytes_eq, if◌then◌else◌}
 use Rattle.std.specs.List.{AllByRecursion}
 use Rattle.std.proofs.lemmas.Option.{slice_get_within}
@@ -26,7 +26,8 @@ use Rattle.semantics.specs.LittleEndian.{number_of_bytes}
 use Rattle.semantics.specs.ShardPlan.{plan_for_map}
 use Rattle.semantics.specs.PlanLimits.{IsIndexSize, HasImageSizes}
 use Rattle.semantics.specs.Reclamation.{inside_count}
-use Rattle.semantics.specs.SequentialShard.{SequentialShard, shard_after, opening_cells, cell_of_kind, cell_of_index, cell_of_present, cell_of_key, lookup_reply}
+use Rattle.semantics.specs.SequentialShard.{shard_after, opening_cells, cell_of_kind, cell_of_index, cell_of_present, cell_of_key, lookup_reply}
+use Rattle.semantics.specs.ServedCalls.{IsKeyOf}
 use Rattle.semantics.specs.History.{meets_part}
 use Rattle.semantics.specs.RunTrace.{IsReplyTo, MayBeAbsent}
 use Rattle.semantics.proofs.shared.FirstElement.{nothing_found}
@@ -34,13 +35,16 @@ use Rattle.semantics.proofs.shared.IdLemmas.{ids_are_few}
 use Rattle.semantics.proofs.shared.HoldingLemmas.{each_find, each_weaker, sound_after}
 use Rattle.semantics.proofs.shared.ConditionLemmas.{first_true, second_true}
 use Rattle.shard_core.specs.JournaledShard.{JournaledShard}
-use Rattle.map_port.specs.Served.{Maps, program_over, shard_of, IsKeyOf, found_reply}
+use Rattle.map_port.specs.Served.{Maps, program_over, reply_of_handle}
+use Rattle.semantics.proofs.shared.PlanLemmas.{some_shards, few_parts}
 use Rattle.shard_port.specs.Asking.{entered, IsAnsweredAmong}
-use Rattle.shard_port.specs.PortView.{IsShardOf, IsReady, IsRunCall, SetsBytes, IsGivenBy, cell_of_handle, handle_of, word_in, answer_in, has_small_cell}
+use Rattle.shard_port.specs.PortView.{IsShardOf, IsReady, IsRunCall, SetsBytes, IsGivenBy, cell_of_handle, handle_of, has_small_cell}
 use Rattle.shard_port.specs.PortLaws.{both_true}
-use Rattle.shard_port.proofs.ByteLemmas.{number_in_cell-below}
+use Rattle.semantics.proofs.shared.CellBytes.{number_in_cell-below}
+use Rattle.semantics.proofs.shared.CallNumbers.{not_over}
+use Rattle.semantics.specs.Cells.{word_in, answer_in}
 use Rattle.shard_port.proofs.shared.ReadyLemmas.{plan_number, bytes_entered}
-use Rattle.shard_port.proofs.shared.MayAskLemmas.{served_by, shard_of_known, some_part, few_parts}
+use Rattle.shard_port.proofs.shared.MayAskLemmas.{served_by}
 
 -- ---- maps
 
@@ -57,16 +61,11 @@ index_size_prop Hash size = λ one other. refl
 index_size_prop Array size = ℕ_set size 4
 index_size_prop LruHash size = λ one other. refl
 
-pub index_size : (maps : List MapDef) (options : Options) (worker : ℕ) (shards : List JournaledShard) (map : ℕ) (key : List ℕ) (definition : MapDef) → IsReady maps options worker shards → IsKeyOf (served_by maps options) map key → slice_get maps map ≡ Some definition → IsIndexSize definition.kind (length key)
+pub index_size : (maps : List MapDef) (options : Options) (worker : ℕ) (shards : List JournaledShard) (map : ℕ) (key : List ℕ) (definition : MapDef) → IsReady maps options worker shards → IsKeyOf maps map key → slice_get maps map ≡ Some definition → IsIndexSize definition.kind (length key)
 index_size maps options worker shards map key definition ready of_map known =
     let same : of_map.definition ≡ definition = some_same _ _ (sym of_map.known ∙ known) in
     let sized : length key ≡ definition.key_size = of_map.key_size ∙ ap (λ (one : MapDef). one.key_size) same in
     subst (IsIndexSize definition.kind) (sym sized) (sizes_at maps map definition ready.sizes known).index_size
-
-pub map_within : (maps : List MapDef) (options : Options) (worker : ℕ) (shards : List JournaledShard) (map : ℕ) (key : List ℕ) → IsReady maps options worker shards → IsKeyOf (served_by maps options) map key → map ≤ 16
-map_within maps options worker shards map key ready of_map =
-    let within : map < length maps = slice_get_within maps map of_map.definition of_map.known in
-    omega (arith, within, ready.few)
 
 -- ---- small cells
 
@@ -114,9 +113,6 @@ small_of_kind Hash plan history key is few entries short = small_keyed plan hist
 small_of_kind Array plan history key is few entries short = small_index plan (number_of_bytes key) few entries
 small_of_kind LruHash plan history key is few entries short = small_keyed plan history key few (few_cells plan history LruHash is refl short)
 
-pub not_over : (most count : ℕ) → nat_lt most count ≡ false → count ≤ most
-not_over most count is = grind (arith, nat_tests)
-
 pub plan_reserve : (options : Options) (number : ℕ) (definition : Option MapDef) (plan : ShardPlan) → plan_for_map options number definition ≡ Some plan → plan.reserve ≡ options.journal
 plan_reserve options number None plan is = cc
 plan_reserve options number (Some definition) plan is =
@@ -143,7 +139,7 @@ small_lookup maps options worker before number key reply after ready among =
 
 -- ---- lookups
 
-pub found_again : (plan : ShardPlan) (found : Option ℕ) → has_small_cell (lookup_reply plan found) ≡ true → lookup_reply plan found ≡ found_reply cell_of_handle (handle_of (lookup_reply plan found))
+pub found_again : (plan : ShardPlan) (found : Option ℕ) → has_small_cell (lookup_reply plan found) ≡ true → lookup_reply plan found ≡ reply_of_handle cell_of_handle (handle_of (lookup_reply plan found))
 found_again plan None small = refl
 found_again plan (Some id) small =
     let low : IsTrue (nat_lt id (2 ^ 32)) = second_true (nat_lt plan.number 128) (nat_lt id (2 ^ 32)) small in
@@ -153,10 +149,10 @@ found_again plan (Some id) small =
     let cell : id ≡ (suc (plan.number * 2 ^ 32 + id) - 1) % 2 ^ 32 = sym (mod-mul-add plan.number (2 ^ 32) id below) ∙ ap (λ n. n % 2 ^ 32) (sym place) in
     rw add-one (ap (λ n. Cell (record { shard = n; id = id })) shard ∙ ap (λ n. Cell (record { shard = (suc (plan.number * 2 ^ 32 + id) - 1) / 2 ^ 32; id = n })) cell)
 
-pub found_told : (worker : ℕ) (before : List JournaledShard) (number : ℕ) (key : List ℕ) (reply : Reply) (after : List JournaledShard) → IsTrue (has_small_cell reply) → IsAnsweredAmong worker before (Lookup number key) reply after → reply ≡ found_reply cell_of_handle (handle_of reply)
+pub found_told : (worker : ℕ) (before : List JournaledShard) (number : ℕ) (key : List ℕ) (reply : Reply) (after : List JournaledShard) → IsTrue (has_small_cell reply) → IsAnsweredAmong worker before (Lookup number key) reply after → reply ≡ reply_of_handle cell_of_handle (handle_of reply)
 found_told worker before number key reply after small among =
     let is : reply ≡ lookup_reply among.shard.plan (cell_of_key among.shard.plan (shard_after among.shard.plan (reverse (entered worker among.shard).journal)) key) = among.answered.replied in
-    subst (λ (one : Reply). one ≡ found_reply cell_of_handle (handle_of one)) (sym is)
+    subst (λ (one : Reply). one ≡ reply_of_handle cell_of_handle (handle_of one)) (sym is)
     (found_again among.shard.plan (cell_of_key among.shard.plan (shard_after among.shard.plan (reverse (entered worker among.shard).journal)) key) (subst (λ (one : Reply). has_small_cell one ≡ true) is small))
 
 -- what a lookup finds in its shard, which its worker has entered before
@@ -175,7 +171,7 @@ absent_where maps options worker before number key reply after ready among none 
     let planned = plan_number options number (slice_get maps (number / options.shards)) plan is.planned in
     let sizes : HasImageSizes plan.definition = sizes_at maps (number / options.shards) plan.definition ready.sizes planned.4 in
     nothing_found (program_over (served_by maps options)) plan (shard_after plan (reverse (entered worker among.shard).journal)) number key
-    (some_part maps options ready.are_options) planned.4 sizes.some_entries none
+    (some_shards maps options ready.are_options) planned.4 sizes.some_entries none
 
 may_be_absent : (maps : List MapDef) (options : Options) (worker : ℕ) (before : List JournaledShard) (number : ℕ) (key : List ℕ) (reply : Reply) (after : List JournaledShard) →
     ∥ IsReady maps options worker before ∥₁ → (among : IsAnsweredAmong worker before (Lookup number key) reply after) → found_there among ≡ None →

@@ -1,5 +1,4 @@
 pub mod LeavingLemmas
-pub mod ByteLemmas
 pub mod GivenLemmas
 pub mod SessionLemmas
 pub mod PlainLaws

@@ -1,19 +1,14 @@
 -- What the calls of a pass's port give: the replies of a legal history.
-use Rattle.std.proofs.Common.{◌≡◌, ℕ, zero, suc, ◌+◌, ◌*◌, ◌/◌, ◌^◌, ◌<◌, ◌≤◌, Bool, true, false, ◌&&◌, List, [], ◌∷◌, ◌++◌, length, Option, Some, None, arith, refl, sym, ◌∙◌, ap, subst}
-use Rattle.std.specs.Prelude.{◌==◌, IsTrue, slice_get}
-use Rattle.std.specs.List.{AllByRecursion}
-use Rattle.std.proofs.lemmas.Bool.Decides.{nat_tests}
-use Rattle.std.proofs.lemmas.List.Elements.{recursion_from_All}
+use Rattle.std.proofs.Common.{◌≡◌, ℕ, ◌+◌, ◌*◌, ◌/◌, ◌^◌, ◌<◌, ◌≤◌, true, List, ◌++◌, length, Some, arith, refl, sym, ◌∙◌, ap, subst}
+use Rattle.std.specs.Prelude.{IsTrue, slice_get}
 use Rattle.std.proofs.Math.Nat.{mul-le-mul_right}
 use Rattle.ebpf_decode.specs.declared.map.MapDef.{MapDef}
 use Rattle.ebpf_decode.specs.declared.version.Version.TheVariants.{V2}
 use Rattle.semantics.specs.declared.options.Options.{Options}
 use Rattle.semantics.specs.declared.plan.ShardPlan.{ShardPlan}
-use Rattle.semantics.specs.declared.call.Caller.{Caller}
-use Rattle.semantics.specs.declared.call.Caller.TheVariants.{Worker}
 use Rattle.semantics.specs.declared.call.CellRef.{CellRef}
 use Rattle.semantics.specs.declared.call.Call.{Call}
-use Rattle.semantics.specs.declared.call.Call.TheVariants.{Enter, Leave, Lookup, Load, Store, Atomic, Update, Delete, Reclaim}
+use Rattle.semantics.specs.declared.call.Call.TheVariants.{Lookup, Load, Atomic}
 use Rattle.semantics.specs.declared.call.Reply.{Reply}
 use Rattle.semantics.specs.declared.call.Reply.TheVariants.{Word}
 use Rattle.semantics.specs.declared.call.Entry.{Entry}
@@ -21,52 +16,26 @@ use Rattle.semantics.specs.ShardPlan.{AreOptions}
 use Rattle.semantics.specs.PlanLimits.{HasImageSizes}
 use Rattle.semantics.specs.Reclamation.{inside_count}
 use Rattle.semantics.specs.SequentialShard.{shard_after, cell_of_key, lookup_reply, reply_of}
-use Rattle.semantics.specs.History.{shard_of_call, meets, meets_part, may_change_keys, is_own_key, is_value, are_flags, are_bytes, IsLegalStep, IsLegalHistory}
-use Rattle.semantics.specs.RunTrace.{IsReplyTo, MayBeAbsent}
-use Rattle.semantics.proofs.shared.ConditionLemmas.{first_true, second_true, tested_bytes}
+use Rattle.semantics.specs.History.{shard_of_call, IsLegalStep, IsLegalHistory}
+use Rattle.semantics.specs.RunTrace.{IsReplyTo}
+use Rattle.semantics.proofs.shared.PlanLemmas.{some_shards, few_parts}
 use Rattle.semantics.proofs.shared.FirstElement.{nothing_found}
 use Rattle.semantics.proofs.shared.ImageSizes.{image_sizes}
 use Rattle.journals.specs.JournalsView.{AreImageMaps}
-use Rattle.map_port.specs.Served.{Maps, program_over, found_reply}
+use Rattle.map_port.specs.Served.{program_over, reply_of_handle}
 use Rattle.shared_shards.specs.CallerView.{CallerView}
 use Rattle.shared_shards.specs.Passes.{PassView, view_at, IsElsewhereSame}
 use Rattle.shared_shards.specs.SharedMaps.{ArePlans}
-use Rattle.shared_shards.proofs.shared.Keys as keys
 use Rattle.shard_port.specs.Asking.{asked_entry}
-use Rattle.shard_port.specs.PortView.{AreBytes, SetsBytes, IsRunCall, cell_of_handle, handle_of, has_small_cell, word_in}
-use Rattle.shard_port.specs.PassPorts.{PassPort, worker_of, entering, is_worker_below, IsAskedAt, IsGivenBy, IsRefusedBy, IsTurnedAwayAt}
-use Rattle.shard_port.proofs.ByteLemmas.{cells_after_call, number_in_cell-below}
+use Rattle.shard_port.specs.PortView.{IsRunCall, cell_of_handle, handle_of, has_small_cell}
+use Rattle.shard_port.specs.PassPorts.{worker_of, entering, is_worker_below, IsAskedAt, IsGivenBy, IsRefusedBy, IsTurnedAwayAt}
+use Rattle.semantics.proofs.shared.CellBytes.{number_below}
+use Rattle.semantics.proofs.shared.CallNumbers.{not_over}
+use Rattle.semantics.specs.Cells.{word_in}
 use Rattle.shard_port.proofs.shared.ReadyLemmas.{plan_number}
 use Rattle.shard_port.proofs.shared.MayAskLemmas.{served_by}
-use Rattle.shard_port.proofs.GivenLemmas.{sizes_at, small_of_kind, not_over, plan_reserve, found_again, found_formed}
-use Rattle.shard_port.proofs.PlainLaws.{opening_bytes}
+use Rattle.shard_port.proofs.GivenLemmas.{sizes_at, small_of_kind, plan_reserve, found_again, found_formed}
 use Rattle.shard_port.proofs.shared.PassAskLemmas.{is_worker}
-
--- ---- legal histories hold bytes
-
-sets_bytes : (plan : ShardPlan) (history : List Entry) (who : Caller) (call : Call) → IsTrue (meets plan history who call) → SetsBytes call
-sets_bytes plan history who (Enter shard) met = tt
-sets_bytes plan history who (Leave shard) met = tt
-sets_bytes plan history who (Lookup shard key) met = tt
-sets_bytes plan history who (Load cell offset size) met = tt
-sets_bytes plan history who (Store cell offset size value) met = tt
-sets_bytes plan history who (Atomic cell offset size op value expected) met = tt
-sets_bytes plan history who (Update shard key value flags) met =
-    let part : IsTrue ((may_change_keys plan history who && is_own_key plan key) && (is_value plan value && are_flags flags)) =
-    second_true (shard == plan.number) _ met in
-    let set : IsTrue (is_value plan value && are_flags flags) = second_true (may_change_keys plan history who && is_own_key plan key) _ part in
-    let value_is : IsTrue (is_value plan value) = first_true (is_value plan value) (are_flags flags) set in
-    let bytes : are_bytes value ≡ true = second_true (length value == plan.definition.value_size) (are_bytes value) value_is in
-    recursion_from_All (λ byte. byte < 256) value (tested_bytes value bytes)
-sets_bytes plan history who (Delete shard key) met = tt
-sets_bytes plan history who (Reclaim shard) met = tt
-
-legal_bytes : (plan : ShardPlan) (history : List Entry) → IsLegalHistory plan history →
-    AllByRecursion AreBytes (shard_after plan history).cells
-legal_bytes plan [] legal = opening_bytes plan.definition.kind plan
-legal_bytes plan (entry ∷ older) legal =
-    cells_after_call plan older (shard_after plan older) entry.call
-    (sets_bytes plan older entry.who entry.call legal.0.step.met) (legal_bytes plan older legal.1)
 
 -- ---- the history in which the call was answered
 
@@ -94,7 +63,7 @@ few_shards : (maps : List MapDef) (options : Options) (count : ℕ) (plan : ℕ 
 few_shards maps options count plan plans are image =
     let counted : count ≡ length maps * options.shards = plans.count_is in
     let at_most : length maps * options.shards ≤ 16 * options.shards = mul-le-mul_right options.shards image.few in
-    let parts : options.shards ≤ 8 = keys.few_parts maps options are in
+    let parts : options.shards ≤ 8 = few_parts maps options are in
     omega (arith, counted, at_most, parts)
 
 pub record IsSmallShard (options : Options) (plan : ShardPlan) (number : ℕ) (maps : List MapDef) : Type 0 where
@@ -140,12 +109,12 @@ small_lookup maps options count plan number worker before after key reply plans 
 
 pub found_told : (plan : ShardPlan) (number worker : ℕ) (before after : CallerView) (key : List ℕ) (reply : Reply) →
     IsTrue (has_small_cell reply) → IsAskedAt plan number worker before after (Lookup number key) reply →
-    reply ≡ found_reply cell_of_handle (handle_of reply)
+    reply ≡ reply_of_handle cell_of_handle (handle_of reply)
 found_told plan number worker before after key reply small asked =
     let history : List Entry = entering worker number before.own ++ asked.earlier in
     let is : reply ≡ lookup_reply plan (cell_of_key plan (shard_after plan history) key) =
     answered plan number worker before after (Lookup number key) reply asked in
-    subst (λ (one : Reply). one ≡ found_reply cell_of_handle (handle_of one)) (sym is)
+    subst (λ (one : Reply). one ≡ reply_of_handle cell_of_handle (handle_of one)) (sym is)
     (found_again plan (cell_of_key plan (shard_after plan history) key) (subst (λ (one : Reply). has_small_cell one ≡ true) is small))
 
 pub lookup_formed : (maps : List MapDef) (options : Options) (count : ℕ) (plan : ℕ → ShardPlan) (number worker : ℕ)
@@ -159,7 +128,7 @@ lookup_formed maps options count plan number worker before after key reply plans
     (sym (answered (plan number) number worker before after (Lookup number key) reply asked))
     (found_formed (served_by maps options) (plan number) number key (cell_of_key (plan number) (shard_after (plan number) history) key)
     at.numbered (λ none. nothing_found (program_over (served_by maps options)) (plan number) (shard_after (plan number) history) number key
-    (keys.some_part maps options are) at.defined at.sizes.some_entries none))
+    (some_shards maps options are) at.defined at.sizes.some_entries none))
 
 -- ---- words
 
@@ -170,7 +139,7 @@ word_below plan number worker before after cell offset size value asked =
     let legal = legal_step plan number worker before after (Load cell offset size) (Word value) asked in
     subst (λ (one : Reply). word_in one < 256 ^ size)
     (sym (answered plan number worker before after (Load cell offset size) (Word value) asked))
-    (number_in_cell-below (shard_after plan history) cell.id offset size (legal_bytes plan history legal.1))
+    (number_below plan history cell.id offset size legal.1)
 
 pub changed_below : (plan : ShardPlan) (number worker : ℕ) (before after : CallerView) (cell : CellRef)
     (offset size op value expected old : ℕ) →
@@ -180,7 +149,7 @@ changed_below plan number worker before after cell offset size op value expected
     let legal = legal_step plan number worker before after (Atomic cell offset size op value expected) (Word old) asked in
     subst (λ (one : Reply). word_in one < 256 ^ size)
     (sym (answered plan number worker before after (Atomic cell offset size op value expected) (Word old) asked))
-    (number_in_cell-below (shard_after plan history) cell.id offset size (legal_bytes plan history legal.1))
+    (number_below plan history cell.id offset size legal.1)
 
 -- ---- together
 
@@ -196,7 +165,7 @@ pub given_by : (maps maps' : List MapDef) (options options' : Options) (count : 
 given_by maps maps' options options' count plan before after call reply told same_maps same_options are below within elsewhere run formed is asked =
     record {
       same_maps = ap (λ ms. served_by ms options') same_maps ∙ ap (λ os. served_by maps os) same_options;
-      some_shard = keys.some_part maps options are;
+      some_shard = some_shards maps options are;
       within = within;
       elsewhere = elsewhere;
       is_worker = is_worker options.workers before.who below;

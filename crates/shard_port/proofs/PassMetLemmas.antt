@@ -17,14 +17,16 @@ use Rattle.semantics.specs.declared.call.Call.TheVariants.{Load, Store}
 use Rattle.semantics.specs.Program.{shard_of_key, value_size_of}
 use Rattle.semantics.specs.ShardPlan.{AreOptions}
 use Rattle.semantics.specs.PlanLimits.{IsIndexSize}
+use Rattle.semantics.proofs.shared.PlanLemmas.{some_shards}
 use Rattle.semantics.proofs.shared.ImageSizes.{image_sizes}
 use Rattle.ebpf_decode.specs.declared.version.Version.TheVariants.{V2}
 use Rattle.journals.specs.JournalsView.{AreImageMaps}
 use Rattle.shard_port.proofs.GivenLemmas.{sizes_at, some_same}
 use Rattle.semantics.specs.Reclamation.{is_inside, holds}
+use Rattle.semantics.specs.ServedCalls.{IsKeyOf, IsPairOf}
 use Rattle.semantics.specs.History.{is_inside_worker, is_holder, is_own_key, is_load_size, is_in_cell, Meets}
 use Rattle.semantics.proofs.shared.ConditionLemmas.{first_true, second_true, bytes_test}
-use Rattle.map_port.specs.Served.{Maps, shard_of, IsKeyOf, IsPairOf, IsReadable, IsStorable, IsAtomic, lookup_call, update_call, delete_call, atomic_call}
+use Rattle.map_port.specs.Served.{Maps, shard_of, IsReadable, IsStorable, IsAtomic, lookup_call, update_call, delete_call, atomic_call}
 use Rattle.shared_shards.specs.SharedMaps.{ArePlans}
 use Rattle.shared_shards.specs.Passes.{PassView, own_at}
 use Rattle.shared_shards.proofs.shared.Keys as keys
@@ -33,7 +35,7 @@ use Rattle.shard_port.specs.PassPorts.{is_worker_below, worker_of, inside_own, h
 use Rattle.shared_shards.specs.HeldCells.{holds_own}
 use Rattle.shard_port.specs.PassPortLaws.{inside_once, stays_inside}
 use Rattle.shard_port.proofs.shared.ReadyLemmas.{plan_number}
-use Rattle.shard_port.proofs.shared.MayAskLemmas.{served_by, same_test, flags_test, fits_test, known_op, in_cell_of}
+use Rattle.shard_port.proofs.shared.MayAskLemmas.{served_by, same_test, flags_test, fits_test, known_op, load_of_atomic, in_cell_of}
 use Rattle.shard_port.proofs.shared.PassAskLemmas.{IsPlannedAt, planned_at, below_workers}
 
 -- ---- keys
@@ -42,14 +44,8 @@ pub shard_known : (served : Maps) (map : ℕ) (key : List ℕ) (definition : Map
     shard_of served map key ≡ shard_of_key map definition.kind served.shards key
 shard_known served map key definition known = rw known refl
 
-pub map_within : (maps : List MapDef) (options : Options) (map : ℕ) (key : List ℕ) → AreImageMaps maps →
-    IsKeyOf (served_by maps options) map key → map ≤ 16
-map_within maps options map key image of_map =
-    let within : map < length maps = slice_get_within maps map of_map.definition of_map.known in
-    omega (arith, within, image.few)
-
 pub index_size : (maps : List MapDef) (options : Options) (map : ℕ) (key : List ℕ) (definition : MapDef) → AreImageMaps maps →
-    IsKeyOf (served_by maps options) map key → slice_get maps map ≡ Some definition → IsIndexSize definition.kind (length key)
+    IsKeyOf maps map key → slice_get maps map ≡ Some definition → IsIndexSize definition.kind (length key)
 index_size maps options map key definition image of_map known =
     let same : of_map.definition ≡ definition = some_same _ _ (sym of_map.known ∙ known) in
     let sized : length key ≡ definition.key_size = of_map.key_size ∙ ap (λ (one : MapDef). one.key_size) same in
@@ -73,7 +69,7 @@ inside_worker options plan Reclaimer number own same below = cc
 
 pub at_key : (maps : List MapDef) (options : Options) (count : ℕ) (plan : ℕ → ShardPlan) (who : Caller) (own : List Entry) (map : ℕ)
     (key : List ℕ) → ArePlans maps options count plan → AreOptions maps options → IsTrue (is_worker_below options.workers who) →
-    (of_map : IsKeyOf (served_by maps options) map key) →
+    (of_map : IsKeyOf maps map key) →
     IsAtKey options count plan who own (shard_of (served_by maps options) map key) of_map.definition key
 at_key maps options count plan who own map key plans are below of_map =
     let definition : MapDef = of_map.definition in
@@ -92,7 +88,7 @@ at_key maps options count plan who own map key plans are below of_map =
 
 pub lookup_met : (maps : List MapDef) (options : Options) (count : ℕ) (plan : ℕ → ShardPlan) (who : Caller) (own : List Entry) (map : ℕ)
     (key : List ℕ) → ArePlans maps options count plan → AreOptions maps options → IsTrue (is_worker_below options.workers who) →
-    IsKeyOf (served_by maps options) map key →
+    IsKeyOf maps map key →
     Meets (plan (shard_of (served_by maps options) map key))
     (inside_own (worker_of who) (shard_of (served_by maps options) map key) own) who (lookup_call (served_by maps options) map key)
 lookup_met maps options count plan who own map key plans are below of_map =
@@ -101,7 +97,7 @@ lookup_met maps options count plan who own map key plans are below of_map =
 
 pub delete_met : (maps : List MapDef) (options : Options) (count : ℕ) (plan : ℕ → ShardPlan) (who : Caller) (own : List Entry) (map : ℕ)
     (key : List ℕ) → ArePlans maps options count plan → AreOptions maps options → IsTrue (is_worker_below options.workers who) →
-    IsKeyOf (served_by maps options) map key →
+    IsKeyOf maps map key →
     Meets (plan (shard_of (served_by maps options) map key))
     (inside_own (worker_of who) (shard_of (served_by maps options) map key) own) who (delete_call (served_by maps options) map key)
 delete_met maps options count plan (Worker worker) own map key plans are below of_map =
@@ -112,14 +108,12 @@ delete_met maps options count plan Reclaimer own map key plans are below of_map 
 
 pub update_met : (maps : List MapDef) (options : Options) (count : ℕ) (plan : ℕ → ShardPlan) (who : Caller) (own : List Entry) (map : ℕ)
     (key value : List ℕ) (flags : ℕ) → ArePlans maps options count plan → AreOptions maps options →
-    IsTrue (is_worker_below options.workers who) → flags < 2 ^ 64 → IsPairOf (served_by maps options) map key value →
+    IsTrue (is_worker_below options.workers who) → flags < 2 ^ 64 → IsPairOf maps map key value →
     Meets (plan (shard_of (served_by maps options) map key))
     (inside_own (worker_of who) (shard_of (served_by maps options) map key) own) who
     (update_call (served_by maps options) map key value flags)
 update_met maps options count plan (Worker worker) own map key value flags plans are below few pair =
-    let of_map : IsKeyOf (served_by maps options) map key =
-    record { definition = pair.definition; known = pair.known; key_size = pair.key_size; bytes = pair.bytes } in
-    let at = at_key maps options count plan (Worker worker) own map key plans are below of_map in
+    let at = at_key maps options count plan (Worker worker) own map key plans are below pair.at in
     let number : ℕ = shard_of (served_by maps options) map key in
     let sized : length value ≡ (plan number).definition.value_size =
     pair.value_size ∙ ap (λ (one : MapDef). one.value_size) (sym at.defined) in
@@ -172,7 +166,7 @@ at_place maps options count plan pass cell offset size plans are below readable 
     let place : cell.shard / options.shards ≡ map = grind (arith, nat_tests) in
     let known = some_map maps map offset size (slice_get maps map) refl readable.is_size readable.inside in
     let among : map < length maps = slice_get_within maps map known.0 known.1 in
-    let some : 0 < options.shards = keys.some_part maps options are in
+    let some : 0 < options.shards = some_shards maps options are in
     let below_all : cell.shard < length maps * options.shards =
     (div-lt_iff_lt-mul some).0 (subst (λ (n : ℕ). n < length maps) (sym place) among) in
     let counted : count ≡ length maps * options.shards = plans.count_is in
@@ -203,7 +197,7 @@ pub store_met : (maps : List MapDef) (options : Options) (count : ℕ) (plan : �
     IsStorable (served_by maps options) (has_found (record { served = served_by maps options; pass = pass })) cell offset size value →
     Meets (plan cell.shard) (inside_own (worker_of pass.who) cell.shard (own_at pass cell.shard)) pass.who (Store cell offset size value)
 store_met maps options count plan pass cell offset size value plans are below storable =
-    let at = at_place maps options count plan pass cell offset size plans are below storable.place in
+    let at = at_place maps options count plan pass cell offset size plans are below storable.at in
     both_true _ _ at.numbered
     (both_true _ _ (both_true _ _ (both_true _ _ at.holder at.is_size) at.in_cell) (fits_test value size storable.fits))
 
@@ -215,8 +209,8 @@ pub change_met : (maps : List MapDef) (options : Options) (count : ℕ) (plan : 
     Meets (plan cell.shard) (inside_own (worker_of pass.who) cell.shard (own_at pass cell.shard)) pass.who
     (atomic_call cell offset size op value expected)
 change_met maps options count plan pass cell offset size op value expected plans are below atomic =
-    let at = at_place maps options count plan pass cell offset size plans are below atomic.place in
+    let at = at_place maps options count plan pass cell offset size plans are below (load_of_atomic atomic) in
     both_true _ _ at.numbered
-    (both_true _ _ (both_true _ _ (both_true _ _ (both_true _ _ (both_true _ _ (both_true _ _ at.holder atomic.atomic_size)
+    (both_true _ _ (both_true _ _ (both_true _ _ (both_true _ _ (both_true _ _ (both_true _ _ at.holder atomic.is_size)
     (both_true _ _ at.in_cell (same_test _ _ atomic.aligned))) (known_op op)) (fits_test value size atomic.fits))
-    (fits_test expected size atomic.expected_fits)) atomic.expected_if)
+    (fits_test expected size atomic.expected_fits)) atomic.compares)

@@ -16,12 +16,13 @@ use Rattle.semantics.specs.declared.call.Entry.{Entry}
 use Rattle.semantics.specs.ShardPlan.{AreOptions}
 use Rattle.semantics.specs.History.{shard_of_call, Meets}
 use Rattle.semantics.specs.RunTrace.{IsReplyTo}
-use Rattle.journal.specs.Entries as entries
+use Rattle.journal.specs.Entries.{found_reply}
 use Rattle.journals.specs.JournalsView.{AreImageMaps}
-use Rattle.map_port.specs.Served.{shard_of, IsKeyOf, IsPairOf, IsReadable, IsStorable, IsAtomic, program_over, lookup_call, update_call, delete_call, atomic_call, found_reply}
+use Rattle.semantics.specs.ServedCalls.{IsKeyOf, IsPairOf}
+use Rattle.map_port.specs.Served.{shard_of, IsReadable, IsStorable, IsAtomic, program_over, lookup_call, update_call, delete_call, atomic_call, reply_of_handle}
+use Rattle.semantics.proofs.shared.PlanLemmas.{some_shards}
 use Rattle.shared_shards.specs.Passes.{PassView, view_at, own_at, IsElsewhereSame}
 use Rattle.shared_shards.specs.SharedMaps.{SharedMaps, ArePlans}
-use Rattle.shared_shards.proofs.shared.Keys as keys
 use Rattle.shard_port.specs.PortView.{IsRunCall, cell_of_handle, handle_of, has_small_cell}
 use Rattle.shard_port.specs.PassPorts.{is_worker_below, worker_of, inside_own, served_of, port_of, has_found, IsAskedAt, IsTurnedAwayAt, IsGivenBy, IsRefusedBy}
 use Rattle.shard_port.proofs.shared.PassAskLemmas.{is_worker}
@@ -44,7 +45,7 @@ given_one : (count : ℕ) (plan : ℕ → ShardPlan) (shards shards' : SharedMap
     (view_at after (shard_of_call call)) call reply → IsGivenBy plan count (port_of shards before) call reply (port_of shards' after)
 given_one count plan shards shards' before after call reply stands same within elsewhere run formed asked = record {
   same_maps = ap served_of same;
-  some_shard = keys.some_part shards.maps shards.options stands.options;
+  some_shard = some_shards shards.maps shards.options stands.options;
   within = within;
   elsewhere = elsewhere;
   is_worker = is_worker shards.options.workers before.who stands.below;
@@ -68,14 +69,14 @@ refused_one count plan shards shards' before after call stands same within elsew
 -- ---- keys
 
 key_within : (count : ℕ) (plan : ℕ → ShardPlan) (shards : SharedMaps) (before : PassView) (map : ℕ) (key : List ℕ) (number : ℕ) →
-    Stands count plan shards before → IsKeyOf (served_of shards) map key → number ≡ shard_of (served_of shards) map key → number < count
+    Stands count plan shards before → IsKeyOf shards.maps map key → number ≡ shard_of (served_of shards) map key → number < count
 key_within count plan shards before map key number stands of_map is =
     let at : IsAtKey shards.options count plan before.who (own_at before number) (shard_of (served_of shards) map key) of_map.definition key =
     at_key shards.maps shards.options count plan before.who (own_at before number) map key stands.plans stands.options stands.below of_map in
     subst (λ (n : ℕ). n < count) (sym is) at.within
 
 pub met_lookup : (count : ℕ) (plan : ℕ → ShardPlan) (shards : SharedMaps) (pass : PassView) (map : ℕ) (key : List ℕ) (number : ℕ)
-    (bytes : List ℕ) → Stands count plan shards pass → IsKeyOf (served_of shards) map key → number ≡ shard_of (served_of shards) map key →
+    (bytes : List ℕ) → Stands count plan shards pass → IsKeyOf shards.maps map key → number ≡ shard_of (served_of shards) map key →
     bytes ≡ key → Meets (plan number) (inside_own (worker_of pass.who) number (own_at pass number)) pass.who (Lookup number bytes)
 met_lookup count plan shards pass map key number bytes stands of_map is same =
     subst (λ (list : List ℕ). Meets (plan number) (inside_own (worker_of pass.who) number (own_at pass number)) pass.who (Lookup number list))
@@ -85,7 +86,7 @@ met_lookup count plan shards pass map key number bytes stands of_map is same =
     stands.options stands.below of_map))
 
 pub met_delete : (count : ℕ) (plan : ℕ → ShardPlan) (shards : SharedMaps) (pass : PassView) (map : ℕ) (key : List ℕ) (number : ℕ)
-    (bytes : List ℕ) → Stands count plan shards pass → IsKeyOf (served_of shards) map key → number ≡ shard_of (served_of shards) map key →
+    (bytes : List ℕ) → Stands count plan shards pass → IsKeyOf shards.maps map key → number ≡ shard_of (served_of shards) map key →
     bytes ≡ key → Meets (plan number) (inside_own (worker_of pass.who) number (own_at pass number)) pass.who (Delete number bytes)
 met_delete count plan shards pass map key number bytes stands of_map is same =
     subst (λ (list : List ℕ). Meets (plan number) (inside_own (worker_of pass.who) number (own_at pass number)) pass.who (Delete number list))
@@ -95,7 +96,7 @@ met_delete count plan shards pass map key number bytes stands of_map is same =
     stands.options stands.below of_map))
 
 pub met_update : (count : ℕ) (plan : ℕ → ShardPlan) (shards : SharedMaps) (pass : PassView) (map : ℕ) (key value : List ℕ) (flags : ℕ)
-    (number : ℕ) (bytes value_bytes : List ℕ) → Stands count plan shards pass → flags < 2 ^ 64 → IsPairOf (served_of shards) map key value →
+    (number : ℕ) (bytes value_bytes : List ℕ) → Stands count plan shards pass → flags < 2 ^ 64 → IsPairOf shards.maps map key value →
     number ≡ shard_of (served_of shards) map key → bytes ≡ key → value_bytes ≡ value →
     Meets (plan number) (inside_own (worker_of pass.who) number (own_at pass number)) pass.who (Update number bytes value_bytes flags)
 met_update count plan shards pass map key value flags number bytes value_bytes stands few pair is same same_value =
@@ -121,25 +122,25 @@ update_same number number' bytes key value_bytes value flags is same same_value 
 
 -- the reply of a lookup, whose cell has a handle
 pub small_found : (count : ℕ) (plan : ℕ → ShardPlan) (shards : SharedMaps) (before after : PassView) (map : ℕ) (key : List ℕ) (number : ℕ)
-    (bytes : List ℕ) (found : Option ℕ) → Stands count plan shards before → IsKeyOf (served_of shards) map key →
+    (bytes : List ℕ) (found : Option ℕ) → Stands count plan shards before → IsKeyOf shards.maps map key →
     number ≡ shard_of (served_of shards) map key →
     IsAskedAt (plan number) number (worker_of before.who) (view_at before number) (view_at after number) (Lookup number bytes)
-    (entries.found_reply number found) → IsTrue (has_small_cell (entries.found_reply number found))
+    (found_reply number found) → IsTrue (has_small_cell (found_reply number found))
 small_found count plan shards before after map key number bytes found stands of_map is asked =
     small_lookup shards.maps shards.options count plan number (worker_of before.who) (view_at before number) (view_at after number) bytes
-    (entries.found_reply number found) stands.plans stands.options stands.maps
+    (found_reply number found) stands.plans stands.options stands.maps
     (key_within count plan shards before map key number stands of_map is) asked
 
 pub lookup_given : (count : ℕ) (plan : ℕ → ShardPlan) (shards shards' : SharedMaps) (before after : PassView) (map : ℕ) (key : List ℕ)
     (number : ℕ) (bytes : List ℕ) (found : Option ℕ) (handle : ℕ) → Stands count plan shards before → shards' ≡ shards →
-    IsElsewhereSame number before after → IsKeyOf (served_of shards) map key → number ≡ shard_of (served_of shards) map key → bytes ≡ key →
-    handle ≡ handle_of (entries.found_reply number found) →
+    IsElsewhereSame number before after → IsKeyOf shards.maps map key → number ≡ shard_of (served_of shards) map key → bytes ≡ key →
+    handle ≡ handle_of (found_reply number found) →
     IsAskedAt (plan number) number (worker_of before.who) (view_at before number) (view_at after number) (Lookup number bytes)
-    (entries.found_reply number found) →
-    IsGivenBy plan count (port_of shards before) (lookup_call (served_of shards) map key) (found_reply cell_of_handle handle)
+    (found_reply number found) →
+    IsGivenBy plan count (port_of shards before) (lookup_call (served_of shards) map key) (reply_of_handle cell_of_handle handle)
     (port_of shards' after)
 lookup_given count plan shards shards' before after map key number bytes found handle stands same_shards elsewhere of_map is same told asked =
-    let reply : Reply = entries.found_reply number found in
+    let reply : Reply = found_reply number found in
     let within : number < count = key_within count plan shards before map key number stands of_map is in
     let small : IsTrue (has_small_cell reply) = small_found count plan shards before after map key number bytes found stands of_map is asked in
     let formed : IsReplyTo (program_over (served_of shards)) (Lookup number bytes) reply =
@@ -147,16 +148,16 @@ lookup_given count plan shards shards' before after map key number bytes found h
     reply stands.plans stands.options stands.maps within asked in
     let given : IsGivenBy plan count (port_of shards before) (Lookup number bytes) reply (port_of shards' after) =
     given_one count plan shards shards' before after (Lookup number bytes) reply stands same_shards within elsewhere tt formed asked in
-    let by_handle : reply ≡ found_reply cell_of_handle handle =
+    let by_handle : reply ≡ reply_of_handle cell_of_handle handle =
     found_told (plan number) number (worker_of before.who) (view_at before number) (view_at after number) bytes reply small asked
-    ∙ ap (found_reply cell_of_handle) (sym told) in
-    subst (λ (call : Call). IsGivenBy plan count (port_of shards before) call (found_reply cell_of_handle handle) (port_of shards' after))
+    ∙ ap (reply_of_handle cell_of_handle) (sym told) in
+    subst (λ (call : Call). IsGivenBy plan count (port_of shards before) call (reply_of_handle cell_of_handle handle) (port_of shards' after))
     (lookup_same number (shard_of (served_of shards) map key) bytes key is same)
     (subst (λ (one : Reply). IsGivenBy plan count (port_of shards before) (Lookup number bytes) one (port_of shards' after)) by_handle given)
 
 pub lookup_refused : (count : ℕ) (plan : ℕ → ShardPlan) (shards shards' : SharedMaps) (before after : PassView) (map : ℕ) (key : List ℕ)
     (number : ℕ) (bytes : List ℕ) → Stands count plan shards before → shards' ≡ shards → IsElsewhereSame number before after →
-    IsKeyOf (served_of shards) map key → number ≡ shard_of (served_of shards) map key → bytes ≡ key →
+    IsKeyOf shards.maps map key → number ≡ shard_of (served_of shards) map key → bytes ≡ key →
     IsTurnedAwayAt (plan number) number (worker_of before.who) (view_at before number) (view_at after number) (Lookup number bytes) →
     IsRefusedBy plan count (port_of shards before) (lookup_call (served_of shards) map key) (port_of shards' after)
 lookup_refused count plan shards shards' before after map key number bytes stands same_shards elsewhere of_map is same away =
@@ -167,7 +168,7 @@ lookup_refused count plan shards shards' before after map key number bytes stand
 
 pub delete_given : (count : ℕ) (plan : ℕ → ShardPlan) (shards shards' : SharedMaps) (before after : PassView) (map : ℕ) (key : List ℕ)
     (number : ℕ) (bytes : List ℕ) (code told : ℤ) → Stands count plan shards before → shards' ≡ shards → IsElsewhereSame number before after →
-    IsKeyOf (served_of shards) map key → number ≡ shard_of (served_of shards) map key → bytes ≡ key → FitsSigned w32 code →
+    IsKeyOf shards.maps map key → number ≡ shard_of (served_of shards) map key → bytes ≡ key → FitsSigned w32 code →
     told ≡ code → IsAskedAt (plan number) number (worker_of before.who) (view_at before number) (view_at after number) (Delete number bytes) (Answer code) →
     IsGivenBy plan count (port_of shards before) (delete_call (served_of shards) map key) (Answer told) (port_of shards' after)
 delete_given count plan shards shards' before after map key number bytes code told stands same_shards elsewhere of_map is same fits is_told asked =
@@ -179,7 +180,7 @@ delete_given count plan shards shards' before after map key number bytes code to
 
 pub delete_refused : (count : ℕ) (plan : ℕ → ShardPlan) (shards shards' : SharedMaps) (before after : PassView) (map : ℕ) (key : List ℕ)
     (number : ℕ) (bytes : List ℕ) → Stands count plan shards before → shards' ≡ shards → IsElsewhereSame number before after →
-    IsKeyOf (served_of shards) map key → number ≡ shard_of (served_of shards) map key → bytes ≡ key →
+    IsKeyOf shards.maps map key → number ≡ shard_of (served_of shards) map key → bytes ≡ key →
     IsTurnedAwayAt (plan number) number (worker_of before.who) (view_at before number) (view_at after number) (Delete number bytes) →
     IsRefusedBy plan count (port_of shards before) (delete_call (served_of shards) map key) (port_of shards' after)
 delete_refused count plan shards shards' before after map key number bytes stands same_shards elsewhere of_map is same away =
@@ -188,14 +189,9 @@ delete_refused count plan shards shards' before after map key number bytes stand
     (refused_one count plan shards shards' before after (Delete number bytes) stands same_shards
     (key_within count plan shards before map key number stands of_map is) elsewhere away)
 
-pub key_of_pair : (shards : SharedMaps) (map : ℕ) (key value : List ℕ) → IsPairOf (served_of shards) map key value →
-    IsKeyOf (served_of shards) map key
-key_of_pair shards map key value pair =
-    record { definition = pair.definition; known = pair.known; key_size = pair.key_size; bytes = pair.bytes }
-
 pub update_given : (count : ℕ) (plan : ℕ → ShardPlan) (shards shards' : SharedMaps) (before after : PassView) (map : ℕ)
     (key value : List ℕ) (flags number : ℕ) (bytes value_bytes : List ℕ) (code told : ℤ) → Stands count plan shards before → shards' ≡ shards →
-    IsElsewhereSame number before after → IsPairOf (served_of shards) map key value → number ≡ shard_of (served_of shards) map key →
+    IsElsewhereSame number before after → IsPairOf shards.maps map key value → number ≡ shard_of (served_of shards) map key →
     bytes ≡ key → value_bytes ≡ value → FitsSigned w32 code →
     told ≡ code → IsAskedAt (plan number) number (worker_of before.who) (view_at before number) (view_at after number)
     (Update number bytes value_bytes flags) (Answer code) →
@@ -206,11 +202,11 @@ update_given count plan shards shards' before after map key value flags number b
     (update_same number (shard_of (served_of shards) map key) bytes key value_bytes value flags is same same_value)
     (subst (λ (z : ℤ). IsGivenBy plan count (port_of shards before) (Update number bytes value_bytes flags) (Answer z) (port_of shards' after))
     (sym is_told) (given_one count plan shards shards' before after (Update number bytes value_bytes flags) (Answer code) stands same_shards
-    (key_within count plan shards before map key number stands (key_of_pair shards map key value pair) is) elsewhere tt fits asked))
+    (key_within count plan shards before map key number stands pair.at is) elsewhere tt fits asked))
 
 pub update_refused : (count : ℕ) (plan : ℕ → ShardPlan) (shards shards' : SharedMaps) (before after : PassView) (map : ℕ)
     (key value : List ℕ) (flags number : ℕ) (bytes value_bytes : List ℕ) → Stands count plan shards before → shards' ≡ shards →
-    IsElsewhereSame number before after → IsPairOf (served_of shards) map key value → number ≡ shard_of (served_of shards) map key →
+    IsElsewhereSame number before after → IsPairOf shards.maps map key value → number ≡ shard_of (served_of shards) map key →
     bytes ≡ key → value_bytes ≡ value →
     IsTurnedAwayAt (plan number) number (worker_of before.who) (view_at before number) (view_at after number)
     (Update number bytes value_bytes flags) →
@@ -220,7 +216,7 @@ update_refused count plan shards shards' before after map key value flags number
     subst (λ (call : Call). IsRefusedBy plan count (port_of shards before) call (port_of shards' after))
     (update_same number (shard_of (served_of shards) map key) bytes key value_bytes value flags is same same_value)
     (refused_one count plan shards shards' before after (Update number bytes value_bytes flags) stands same_shards
-    (key_within count plan shards before map key number stands (key_of_pair shards map key value pair) is) elsewhere away)
+    (key_within count plan shards before map key number stands pair.at is) elsewhere away)
 
 -- ---- cells
 

@@ -1,5 +1,5 @@
 -- The laws of plain ports.
-use Rattle.std.proofs.Common.{◌≡◌, ◌⊎◌, inl, inr, ⊎_elim, Bool, true, false, ℕ, zero, suc, List, [], ◌∷◌, replicate, Option, Some, None, arith, refl, sym, ◌∙◌, ap, subst}
+use Rattle.std.proofs.Common.{◌≡◌, ◌⊎◌, inl, inr, ⊎_elim, Bool, true, false, ℕ, List, [], ◌∷◌, Option, Some, None, arith, refl, sym, ◌∙◌, ap, subst}
 use Rattle.std.specs.Prelude.{◌==◌, ◌++◌, IsFalse, is_some, map, reverse, slice_get, slice_set, option_map}
 use Rattle.std.specs.List.{filter}
 use Rattle.std.proofs.lemmas.List.{append_assoc, reverse-append}
@@ -12,25 +12,23 @@ use Rattle.std.proofs.Math.Logic.{∥∥₁_map}
 use Rattle.std.proofs.lemmas.Bool.Decides.{nat_tests}
 use Rattle.semantics.specs.declared.call.Call.{Call}
 use Rattle.ebpf_decode.specs.declared.map.MapDef.{MapDef}
-use Rattle.ebpf_decode.specs.declared.map.MapKind.{MapKind}
-use Rattle.ebpf_decode.specs.declared.map.MapKind.TheVariants.{Hash, Array, LruHash}
 use Rattle.semantics.specs.declared.options.Options.{Options}
 use Rattle.semantics.specs.declared.plan.ShardPlan.{ShardPlan}
 use Rattle.semantics.specs.declared.call.Entry.{Entry}
-use Rattle.semantics.specs.ShardPlan.{plan_at, capacity}
-use Rattle.semantics.specs.SequentialShard.{opening_cells}
+use Rattle.semantics.specs.ShardPlan.{plan_at}
 use Rattle.semantics.specs.History.{shard_of_call, IsLegalJournal}
 use Rattle.shard_core.specs.JournaledShard.{JournaledShard, with_entry, opened_shard}
 use Rattle.shards.specs.Opening.{AreOpened}
 use Rattle.map_port.specs.Exchanges.{Exchange, IsChain}
 use Rattle.shard_port.specs.Asking.{is_in, left, entered, all_left, leave_by, CannotEnter, CannotCall, IsTurnedAwayAmong}
-use Rattle.shard_port.specs.PortView.{PortView, AreBytes, SetsBytes, IsShardOf, AreShardsOf, ServesMaps, IsGivenBy}
+use Rattle.shard_port.specs.PortView.{PortView, SetsBytes, IsShardOf, AreShardsOf, ServesMaps, IsGivenBy}
 use Rattle.shard_port.specs.declared.plain.PlainPort.{PlainPort}
 use Rattle.shard_port.specs.PlainPorts.{view_of, IsSamePort, PortGives, PortRefuses}
 use Rattle.shard_port.specs.Sessions.{entry_of, is_at, with_entries, begun, session, entries_at, IsVisited}
 use Rattle.shard_port.proofs.shared.ReadyLemmas.{shards_with, bytes_with_entry}
 use Rattle.shard_port.specs.PortLaws.{set_here}
 use Rattle.shard_port.proofs.SessionLemmas.{after_outside, chain_worker, left_at, set_other, IsWritten, IsAdded, added_nothing, added_enter, entered_added}
+use Rattle.semantics.proofs.shared.CellBytes.{opening_bytes}
 
 chain_of_views : (before after : PlainPort) (exchanges : List Exchange) → IsChain PortGives before exchanges after →
     IsChain IsGivenBy (view_of before) exchanges (view_of after)
@@ -134,19 +132,6 @@ stays_one_port before after (exchange ∷ later) chain =
     }
 
 -- ---- opened shards
-
-zeros : (count : ℕ) → AreBytes (replicate count 0)
-zeros zero = tt
-zeros (suc count) = (omega arith, zeros count)
-
-copies : (count : ℕ) (value : List ℕ) → AreBytes value → AllByRecursion AreBytes (replicate count value)
-copies zero value bytes = tt
-copies (suc count) value bytes = (bytes, copies count value bytes)
-
-pub opening_bytes : (kind : MapKind) (plan : ShardPlan) → AllByRecursion AreBytes (opening_cells kind plan)
-opening_bytes Array plan = copies (capacity plan) (replicate plan.definition.value_size 0) (zeros plan.definition.value_size)
-opening_bytes Hash plan = tt
-opening_bytes LruHash plan = tt
 
 shard_opened : (maps : List MapDef) (options : Options) (number : ℕ) (planned : Option ShardPlan) (shard : JournaledShard) →
     plan_at maps options number ≡ planned → option_map opened_shard planned ≡ Some shard → IsShardOf maps options number shard

@@ -1,14 +1,15 @@
 -- A single caller's port over the shards of an image's maps: what its calls give, and by which words it names cells.
-use Rattle.std.specs.Prelude.{◌≡◌, ℕ, ◌+◌, ◌-◌, ◌*◌, ◌/◌, ◌%◌, ◌^◌, ◌<◌, ◌≤◌, ◌==◌, Bool, true, false, ◌&&◌, nat_lt, ℤ, pos, List}
+use Rattle.std.specs.Prelude.{◌≡◌, ℕ, ◌+◌, ◌-◌, ◌*◌, ◌/◌, ◌%◌, ◌^◌, ◌<◌, ◌≤◌, ◌==◌, Bool, true, false, ◌&&◌, nat_lt, List}
 use Rattle.std.specs.Prelude.{reverse, length, Option, Some, None, slice_get}
 use Rattle.std.specs.List.{AllByRecursion}
 use Rattle.ebpf_decode.specs.declared.map.MapDef.{MapDef}
 use Rattle.semantics.specs.declared.options.Options.{Options}
 use Rattle.semantics.specs.declared.call.CellRef.{CellRef}
 use Rattle.semantics.specs.declared.call.Call.{Call}
-use Rattle.semantics.specs.declared.call.Call.TheVariants.{Enter, Leave, Reclaim, Update}
+use Rattle.semantics.specs.declared.call.Call.TheVariants.{Enter, Leave, Reclaim}
 use Rattle.semantics.specs.declared.call.Reply.{Reply}
-use Rattle.semantics.specs.declared.call.Reply.TheVariants.{Cell, Word, Answer}
+use Rattle.semantics.specs.Cells.{cell_of_reply}
+pub use Rattle.semantics.specs.ByteCells.{AreBytes, SetsBytes}
 use Rattle.semantics.specs.ShardPlan.{plan_at, AreOptions}
 use Rattle.semantics.specs.PlanLimits.{HasImageSizes}
 use Rattle.semantics.specs.SequentialShard.{shard_after}
@@ -20,9 +21,6 @@ use Rattle.map_port.specs.Served.{Maps, program_over}
 use Rattle.shard_port.specs.Asking.{IsAnsweredAmong, IsTurnedAwayAmong}
 
 -- ---- the shards of an image's maps
-
-abbrev pub AreBytes : List ℕ → Type 0
-AreBytes numbers = AllByRecursion (λ number. number < 256) numbers
 
 -- every cell holds bytes
 abbrev pub HasByteCells : JournaledShard → Type 0
@@ -57,10 +55,14 @@ pub record IsReady (maps : List MapDef) (options : Options) (worker : ℕ) (shar
 abbrev pub cell_of_handle : ℕ → CellRef
 cell_of_handle handle = record { shard = (handle - 1) / 2 ^ 32; id = (handle - 1) % 2 ^ 32 }
 
--- the handle of the cell that a lookup found; 0 where there is none
+-- the handle of a cell; 0 where there is none
+abbrev pub handle_of_cell : Option CellRef → ℕ
+handle_of_cell (Some cell) = cell.shard * 2 ^ 32 + cell.id + 1
+handle_of_cell None = 0
+
+-- the handle of the cell that a lookup found
 abbrev pub handle_of : Reply → ℕ
-handle_of (Cell cell) = cell.shard * 2 ^ 32 + cell.id + 1
-handle_of reply = 0
+handle_of reply = handle_of_cell (cell_of_reply reply)
 
 -- ---- what a call gives
 
@@ -85,11 +87,6 @@ IsRunCall (Leave shard) = ⊥
 IsRunCall (Reclaim shard) = ⊥
 IsRunCall call = Unit {0}
 
--- a value that is set consists of bytes
-abbrev pub SetsBytes : Call → Type 0
-SetsBytes (Update shard key value flags) = AreBytes value
-SetsBytes call = Unit {0}
-
 -- the call's shard answered as the one-thread shard does, entered before if the worker was not inside
 pub record IsGivenBy (before : PortView) (call : Call) (reply : Reply) (after : PortView) : Type 0 where
   pub same_maps : after.served ≡ before.served
@@ -106,19 +103,12 @@ pub record IsRefusedBy (before : PortView) (call : Call) (after : PortView) : Ty
   pub same_worker : after.worker ≡ before.worker
   pub turned_away : IsTurnedAwayAmong before.worker before.shards call after.shards
 
--- ---- replies as numbers
-
--- what a Load or an atomic operation told
-abbrev pub word_in : Reply → ℕ
-word_in (Word value) = value
-word_in reply = 0
-
--- what an Update or a Delete answered
-abbrev pub answer_in : Reply → ℤ
-answer_in (Answer code) = code
-answer_in reply = pos 0
+-- ---- cells that a handle can name
 
 -- a cell whose shard and id stay apart in a handle
+abbrev pub is_small_cell : Option CellRef → Bool
+is_small_cell (Some cell) = nat_lt cell.shard 128 && nat_lt cell.id (2 ^ 32)
+is_small_cell None = true
+
 abbrev pub has_small_cell : Reply → Bool
-has_small_cell (Cell cell) = nat_lt cell.shard 128 && nat_lt cell.id (2 ^ 32)
-has_small_cell reply = true
+has_small_cell reply = is_small_cell (cell_of_reply reply)

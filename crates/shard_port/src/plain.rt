@@ -5,14 +5,14 @@ ghost use Rattle.semantics.specs.ShardPlan.{AreOptions};
 ghost use Rattle.semantics.specs.History.{shard_of_call, IsLegalJournal};
 ghost use Rattle.shard_port.specs.Asking.{may_ask_at, all_left, IsAnsweredAmong, IsTurnedAwayAmong, entered, left, can_enter, may_ask};
 ghost use Rattle.shard_port.specs.Asking.{IsAnswered, IsTurnedAway, IsWorkerOf};
-ghost use Rattle.shard_port.specs.PortView.{ServesMaps, IsReady, IsRunCall, SetsBytes, cell_of_handle, handle_of, word_in, answer_in, has_small_cell};
+ghost use Rattle.shard_port.specs.PortView.{ServesMaps, IsReady, IsRunCall, SetsBytes, cell_of_handle, handle_of, has_small_cell};
 ghost use Rattle.map_port.specs.Served.{handle_limit};
 ghost use Rattle.std.specs.List.{AllByRecursion};
 
-use ebpf_decode::{Image, MapDef};
+use ebpf_decode::Image;
 use isa::AtomicOp;
 use map_port::MapPort;
-use one_thread_map::conditions::shard_of_kind;
+use one_thread_map::conditions::shard_of_map;
 use semantics::{Call, Caller, CellRef, JournalFull, Key, Options, Reply, Value};
 use shard_core::Shard;
 use shards::{Shards, maps_of};
@@ -31,7 +31,8 @@ pub struct PlainPort<'a> {
 }
 
 impl<'a> PlainPort<'a> {
-    ghost use Rattle.map_port.specs.Served.{shard_of, IsKeyOf};
+    ghost use Rattle.semantics.specs.ServedCalls.{IsKeyOf};
+    ghost use Rattle.map_port.specs.Served.{shard_of};
     ghost use Rattle.shard_port.specs.PlainPorts.{maps_of};
 
     /// The worker's port over the shards of the image's maps, which were opened with these options. It enters none yet.
@@ -61,11 +62,10 @@ impl<'a> PlainPort<'a> {
 
     /// The shard of a map's key.
     fn shard_of(&self, map: u32, key: &Key) -> u32
-        requires { IsKeyOf (maps_of self.now) map key.now }
+        requires { IsKeyOf (maps_of self.now).maps map key.now }
         ensures { result ≡ shard_of (maps_of self.now) map key.now }
     {
-        let definition = definition_at(self.image.maps(), map);
-        shard_of_kind(map, definition.kind, self.options.shards, key)
+        shard_of_map(self.image.maps(), self.options.shards, map, key)
     }
 
     /// Makes a run's call, at the shard that the call names: entered before, if the worker is not inside. Refused where the
@@ -140,7 +140,7 @@ impl<'a> MapPort for PlainPort<'a> {
             size,
         };
         match self.ask(&call) {
-            Ok(reply) => Ok(word_in(&reply)),
+            Ok(reply) => Ok(reply.word()),
             Err(full) => Err(full),
         }
     }
@@ -182,7 +182,7 @@ impl<'a> MapPort for PlainPort<'a> {
             expected,
         };
         match self.ask(&call) {
-            Ok(reply) => Ok(word_in(&reply)),
+            Ok(reply) => Ok(reply.word()),
             Err(full) => Err(full),
         }
     }
@@ -201,7 +201,7 @@ impl<'a> MapPort for PlainPort<'a> {
             flags,
         };
         match self.ask(&call) {
-            Ok(reply) => Ok(answer_in(&reply)),
+            Ok(reply) => Ok(reply.answer()),
             Err(full) => Err(full),
         }
     }
@@ -212,18 +212,10 @@ impl<'a> MapPort for PlainPort<'a> {
             key: *key,
         };
         match self.ask(&call) {
-            Ok(reply) => Ok(answer_in(&reply)),
+            Ok(reply) => Ok(reply.answer()),
             Err(full) => Err(full),
         }
     }
-}
-
-/// The map at a place.
-pub(crate) fn definition_at(maps: &[MapDef], map: u32) -> MapDef
-    requires { map < length maps.now }
-    ensures { slice_get maps.now map ≡ Some result }
-{
-    maps[map as usize]
 }
 
 /// The cell that a handle stands for.
@@ -243,47 +235,9 @@ fn handle_of(reply: &Reply) -> u64
     ensures handle { result ≡ handle_of reply.now }
     ensures limit { result < handle_limit }
 {
-    match reply {
-        Reply::Cell { cell } => u64::from(cell.shard) * 0x1_0000_0000 + cell.id + 1,
-        Reply::Entered => 0,
-        Reply::Left => 0,
-        Reply::Null => 0,
-        Reply::Word { .. } => 0,
-        Reply::Done => 0,
-        Reply::Answer { .. } => 0,
-        Reply::Freed { .. } => 0,
-    }
-}
-
-/// The number that a Load or an atomic operation told.
-fn word_in(reply: &Reply) -> u64
-    ensures { result ≡ word_in reply.now }
-{
-    match reply {
-        Reply::Word { value } => *value,
-        Reply::Entered => 0,
-        Reply::Left => 0,
-        Reply::Cell { .. } => 0,
-        Reply::Null => 0,
-        Reply::Done => 0,
-        Reply::Answer { .. } => 0,
-        Reply::Freed { .. } => 0,
-    }
-}
-
-/// What an Update or a Delete answered.
-fn answer_in(reply: &Reply) -> i32
-    ensures { result ≡ answer_in reply.now }
-{
-    match reply {
-        Reply::Answer { code } => *code,
-        Reply::Entered => 0,
-        Reply::Left => 0,
-        Reply::Cell { .. } => 0,
-        Reply::Null => 0,
-        Reply::Word { .. } => 0,
-        Reply::Done => 0,
-        Reply::Freed { .. } => 0,
+    match reply.cell() {
+        Some(cell) => u64::from(cell.shard) * 0x1_0000_0000 + cell.id + 1,
+        None => 0,
     }
 }
 

@@ -8,12 +8,12 @@ ghost use Rattle.shared_shards.specs.Passes.{IsElsewhereSame};
 ghost use Rattle.shard_port.specs.PortView.{handle_of, has_small_cell};
 ghost use Rattle.shard_port.specs.PassPorts.{is_worker_below, MayAskOnceInside, IsAskedBy, IsTurnedAwayBy, IsLeftBy, IsFinishedBy};
 
-use crate::plain::{cell_of_handle, definition_at};
+use crate::plain::cell_of_handle;
 use gates::{Gate, Tally};
 use isa::AtomicOp;
 use journal::{AtomicChange, CellRange};
 use map_port::MapPort;
-use one_thread_map::conditions::shard_of_kind;
+use one_thread_map::conditions::shard_of_map;
 use semantics::{JournalFull, Key, Value};
 use shared_shards::{
     Ask, Changes, Deletes, Loads, Looks, Naming, Pass, Shards, Stopped, Stores, Updates,
@@ -34,7 +34,8 @@ pub struct ShardPort<'a, B: Naming, W: Wait, G: Gate> {
 }
 
 impl<'a, B: Naming, W: Wait, G: Gate> ShardPort<'a, B, W, G> {
-    ghost use Rattle.map_port.specs.Served.{shard_of, IsKeyOf};
+    ghost use Rattle.semantics.specs.ServedCalls.{IsKeyOf};
+    ghost use Rattle.map_port.specs.Served.{shard_of};
     ghost use Rattle.shard_port.specs.PassPorts.{served_of};
 
     /// The port of a worker's pass, over the shards of a program's maps. It enters none yet. Replies are counted on from the tally's.
@@ -61,12 +62,11 @@ impl<'a, B: Naming, W: Wait, G: Gate> ShardPort<'a, B, W, G> {
 
     /// The shard of a map's key.
     fn shard_of(&self, map: u32, key: &Key) -> u32
-        requires { IsKeyOf (served_of self.now.shards.now) map key.now }
+        requires { IsKeyOf (served_of self.now.shards.now).maps map key.now }
         ensures { result ≡ shard_of (served_of self.now.shards.now) map key.now }
     {
         self.shards.planned();
-        let definition = definition_at(self.shards.maps(), map);
-        shard_of_kind(map, definition.kind, self.shards.options().shards, key)
+        shard_of_map(self.shards.maps(), self.shards.options().shards, map, key)
     }
 
     /// Makes a run's call of a shard: entered before, if the worker is not inside. Refused where the shard's journal is full for the

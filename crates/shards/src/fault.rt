@@ -3,14 +3,13 @@
 use std::alloc::{AllocError, AllocFailed};
 use thiserror::Error;
 
-/// Why no shards were opened. Where both apply, it is the one of the lower number; nothing is left behind.
+/// Why no shards were opened. docs/FAULTS.md says when each comes, in which order, and what it leaves.
 #[derive(Clone, Copy, Debug, PartialEq, Eq, Error)]
 pub enum OpenFault {
-    /// There are not 1 to 8 workers, not 1, 2, 4 or 8 shards for each map, a map's entries are no multiple of its shards, or a journal has
-    /// not room for 16 to 1,048,576 entries.
+    /// 51: no shards of these maps are opened with these options.
     #[error("fault 51 BadOptions")]
     BadOptions,
-    /// The allocator refused the cells or the journals.
+    /// 52: memory was refused.
     #[error("fault 52 Memory")]
     Memory,
 }

@@ -1,17 +1,16 @@
 -- Each entry of a legal history is of one caller that the plan knows.
-use Rattle.std.proofs.Common.{◌≡◌, ◌≢◌, ◌<◌, ◌≤◌, ℕ, zero, suc, Bool, true, false, true≢false, ◌&&◌, List, [], ◌∷◌, length, nat_lt, refl, sym, ap, ◌∙◌, subst, ⊎_elim, arith}
+use Rattle.std.proofs.Common.{◌≡◌, ◌≢◌, ◌<◌, ◌≤◌, ℕ, zero, suc, List, [], ◌∷◌, length, refl, sym, ap, ◌∙◌, subst, ⊎_elim, arith}
 use Rattle.std.specs.Prelude.{IsTrue, ◌==◌, reverse}
-use Rattle.std.proofs.lemmas.Bool.Decides.{nat_tests}
 use Rattle.std.proofs.lemmas.List.{length-reverse}
 use Rattle.semantics.specs.declared.call.Caller.{Caller}
 use Rattle.semantics.specs.declared.call.Caller.TheVariants.{Worker, Controller, Reclaimer}
 use Rattle.semantics.specs.declared.call.Call.{Call}
-use Rattle.semantics.specs.declared.call.Call.TheVariants.{Enter, Leave, Lookup, Load, Store, Atomic, Update, Delete, Reclaim}
 use Rattle.semantics.specs.declared.call.Entry.{Entry}
 use Rattle.semantics.specs.declared.plan.ShardPlan.{ShardPlan}
 use Rattle.semantics.specs.CallerLaws.{own_entries}
 use Rattle.semantics.specs.History.{IsLegalHistory, meets_part, shard_of_call}
 use Rattle.semantics.proofs.shared.ConditionLemmas.{second_true}
+use Rattle.semantics.proofs.shared.CallNumbers.{part_below}
 use Rattle.shared_shards.specs.LengthRule.{caller_at, place_of}
 use Rattle.shared_shards.specs.EntryCounts.{own_total, AllEntriesAreSomebodys}
 use Rattle.shared_shards.proofs.Callers.{place_at, own_of_maker, own_of_other}
@@ -19,30 +18,10 @@ use Rattle.shared_shards.proofs.Settling.{same_or_other}
 
 -- ---- callers that the plan knows
 
-known_by : (number workers : ℕ) (a : Bool) → IsTrue (nat_lt number workers && a) → number < workers
-known_by number workers a met = grind (arith, nat_tests)
-
-head_true : (a b : Bool) → IsTrue (a && b) → IsTrue a
-head_true true b met = refl
-head_true false b met = met
-
--- a worker's call that meets its condition is of a worker of the plan
-pub worker_within : (plan : ShardPlan) (history : List Entry) (number : ℕ) (call : Call) → IsTrue (meets_part plan history (Worker number) call) → number < plan.workers
-worker_within plan history number (Enter shard) met = known_by number plan.workers _ met
-worker_within plan history number (Leave shard) met = known_by number plan.workers _ met
-worker_within plan history number (Lookup shard key) met = known_by number plan.workers _ (head_true _ _ met)
-worker_within plan history number (Load cell offset size) met = known_by number plan.workers _ (head_true _ _ (head_true _ _ met))
-worker_within plan history number (Store cell offset size value) met = known_by number plan.workers _ (head_true _ _ (head_true _ _ (head_true _ _ met)))
-worker_within plan history number (Atomic cell offset size op value expected) met =
-    known_by number plan.workers _ (head_true _ _ (head_true _ _ (head_true _ _ (head_true _ _ (head_true _ _ (head_true _ _ met))))))
-worker_within plan history number (Update shard key value flags) met = known_by number plan.workers _ (head_true _ _ (head_true _ _ met))
-worker_within plan history number (Delete shard key) met = known_by number plan.workers _ (head_true _ _ met)
-worker_within plan history number (Reclaim shard) met = absurd (true≢false (sym met))
-
 place_within : (plan : ShardPlan) (history : List Entry) (who : Caller) (call : Call) → IsTrue (meets_part plan history who call) → place_of who < suc (suc plan.workers)
 place_within plan history Controller call met = omega arith
 place_within plan history Reclaimer call met = omega arith
-place_within plan history (Worker number) call met = (let below = worker_within plan history number call met in omega (arith, below))
+place_within plan history (Worker number) call met = (let below = part_below plan history number call met in omega (arith, below))
 
 -- ---- own entries, counted
 

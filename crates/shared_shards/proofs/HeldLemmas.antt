@@ -16,10 +16,10 @@ use Rattle.semantics.specs.History.{IsLegalHistory, is_own_key, meets_part, shar
 use Rattle.semantics.proofs.shared.ConditionLemmas.{first_true, second_true}
 use Rattle.semantics.proofs.shared.CallerLemmas.{own_holds}
 use Rattle.shard_core.specs.FewHeld.{is_among, AreOnce, FewAreHeld}
-use Rattle.shared_shards.proofs.EntryLemmas.{worker_within}
 use Rattle.shared_shards.specs.CallerView.{CallerView, IsServed, IsRefused}
 use Rattle.semantics.specs.declared.call.HeldChange.{HeldChange}
 use Rattle.semantics.specs.declared.call.HeldChange.TheVariants.{LetsGo, Finds, Stays}
+use Rattle.semantics.proofs.shared.CallNumbers.{part_below}
 use Rattle.shared_shards.specs.HeldCells.{HeldIds, ids_after, held_after, held_when, most_held, HasRoomFor, AreHeld, AreHeldOf, room_of}
 
 -- ---- what the list says
@@ -149,7 +149,7 @@ room_after plan Reclaimer call reply before after held served mine few are =
     (second_true (shard_of_call call == plan.number) (meets_part plan served.earlier Reclaimer call) legal.0.step.met)
 room_after plan (Worker number) call reply before after held served mine few are =
     let legal = subst (IsLegalHistory plan) served.seen served.legal in
-    let known = worker_within plan served.earlier number call (second_true (shard_of_call call == plan.number) (meets_part plan served.earlier (Worker number) call) legal.0.step.met) in
+    let known = part_below plan served.earlier number call (second_true (shard_of_call call == plan.number) (meets_part plan served.earlier (Worker number) call) legal.0.step.met) in
     let grown : AreHeld number plan after.own (held_after (held_change call reply) held) = held_one (Worker number) plan call reply before.own after.own held served.own are in
     let all = few.most number (ids_after (held_change call reply) held.ids) known grown.once
     (λ cell among. sym (own_holds number cell after.seen) ∙ ap (holds number cell) (sym mine) ∙ sym (grown.each cell) ∙ among) in

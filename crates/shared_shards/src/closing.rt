@@ -56,7 +56,8 @@ fn settled<B: Naming>(
         IsSettled (pass_at passes.old.items place).who (view_at (pass_at passes.old.items place) number) result }
     ensures count { length passes.new.items ≡ length passes.old.items }
     ensures callers { (place : ℕ) → (pass_at passes.new.items place).who ≡ (pass_at passes.old.items place).who }
-    ensures others { (place other : ℕ) → other ≢ number → view_at (pass_at passes.new.items place) other ≡ view_at (pass_at passes.old.items place) other }
+    ensures others { (place other : ℕ) → other ≢ number →
+        view_at (pass_at passes.new.items place) other ≡ view_at (pass_at passes.old.items place) other }
 {
     'passes: for place in 0..passes.len() {
         passes[place].settle(&mut desk, word, number);

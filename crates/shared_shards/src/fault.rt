@@ -3,16 +3,16 @@
 use std::alloc::AllocError;
 use thiserror::Error;
 
-/// Why a caller got no pass. Nothing was changed: a caller that got none for lack of memory may ask again.
+/// Why a caller got no pass. docs/FAULTS.md says when each comes, in which order, and what it leaves.
 #[derive(Clone, Copy, Debug, PartialEq, Eq, Error)]
 pub enum PassFault {
-    /// There is no such worker.
+    /// 51: there is no such worker.
     #[error("fault 51 BadOptions")]
     BadOptions,
-    /// The allocator refused the pass.
+    /// 52: memory was refused.
     #[error("fault 52 Memory")]
     Memory,
-    /// The caller has its pass already.
+    /// 54: the caller has its pass already.
     #[error("fault 54 PassTaken")]
     PassTaken,
 }

@@ -80,11 +80,7 @@ impl HeldCells {
 pub(crate) fn room_of(who: Caller, room: usize) -> usize
     ensures { result ≡ room_of who room }
 {
-    match who {
-        Caller::Worker { .. } => room,
-        Caller::Controller => 0,
-        Caller::Reclaimer => 0,
-    }
+    if who.worker().is_some() { room } else { 0 }
 }
 
 /// How many cells a worker can hold in a shard of this plan: two for each entry of the capacity.
@@ -92,7 +88,7 @@ pub(crate) fn most_held(plan: &ShardPlan) -> usize
     requires { IsPlan plan.now }
     ensures { result ≡ most_held plan.now }
 {
-    2 * (plan.definition.max_entries / plan.parts) as usize
+    2 * plan.capacity() as usize
 }
 
 /// No cells of each shard, and the caller's room for as many as a worker can hold there. Fails only for lack of memory.
@@ -103,7 +99,8 @@ pub(crate) fn none_held(
 ) -> Result<Vec<HeldCells>, AllocError>
     ensures count { IfOk result (λ held. length held.items ≡ length rooms.now) }
     ensures none { IfOk result (λ held. (number : ℕ) → number < length rooms.now → (held_at held.items number).ids ≡ []) }
-    ensures room { IfOk result (λ held. (number : ℕ) → number < length rooms.now → room_of who (room_at rooms.now number) ≤ (held_at held.items number).room) }
+    ensures room { IfOk result (λ held. (number : ℕ) → number < length rooms.now →
+        room_of who (room_at rooms.now number) ≤ (held_at held.items number).room) }
 {
     let mut held = Vec::with_capacity(alloc, rooms.len())?;
     'lists: for number in 0..rooms.len() {

@@ -51,11 +51,7 @@ impl<B: Naming> Pass<B> {
         requires { shard < B.count }
         ensures { result ≡ is_inside_of self.now.who (own_at self.now shard) }
     {
-        match self.who {
-            Caller::Worker { .. } => self.inside[shard as usize],
-            Caller::Controller => false,
-            Caller::Reclaimer => false,
-        }
+        self.who.worker().is_some() && self.inside[shard as usize]
     }
 
     /// Whether the caller holds the cell: it is a worker inside the cell's shard, and found the cell there by a Lookup of its own since its
@@ -65,11 +61,7 @@ impl<B: Naming> Pass<B> {
         ensures { result ≡ holds_own self.now.who (own_at self.now cell.now.shard) cell.now.id }
     {
         let shard = cell.shard as usize;
-        match self.who {
-            Caller::Worker { .. } => self.inside[shard] && self.held[shard].has(cell.id),
-            Caller::Controller => false,
-            Caller::Reclaimer => false,
-        }
+        self.who.worker().is_some() && (self.inside[shard] && self.held[shard].has(cell.id))
     }
 
     /// Makes the caller's call of a shard whose lock it has.

@@ -1,7 +1,6 @@
 -- A run over shards in which nothing had happened but updates, by the journals that are left.
-use Rattle.std.proofs.Common.{◌≡◌, ℕ, ◌*◌, ◌<◌, List, ◌++◌, length, Some, sym, ap, ◌∙◌, subst}
+use Rattle.std.proofs.Common.{◌≡◌, ℕ, ◌<◌, List, ◌++◌, length, Some, sym, ap, ◌∙◌, subst}
 use Rattle.std.specs.Prelude.{Result, Ok, Err, IfOk, IfErr}
-use Rattle.ebpf_decode.specs.declared.map.MapDef.{MapDef}
 use Rattle.wire.specs.FrameView.{FrameView}
 use Rattle.map_updates.specs.declared.update.MapUpdate.{MapUpdate}
 use Rattle.semantics.specs.declared.call.Entry.{Entry}
@@ -10,7 +9,6 @@ use Rattle.semantics.specs.declared.verdict.Verdict.{Verdict}
 use Rattle.semantics.specs.History.{IsLegalJournal}
 use Rattle.semantics.specs.MachineState.{MachineState}
 use Rattle.semantics.specs.Program.{Program}
-use Rattle.semantics.specs.ShardPlan.{plan_at}
 use Rattle.shard_core.specs.JournaledShard.{JournaledShard}
 use Rattle.journals.specs.JournalsView.{JournalsView, entries_at}
 use Rattle.machine.specs.declared.exit.Exit.{Exit}
@@ -19,8 +17,8 @@ use Rattle.machine.specs.declared.exit.Stop.TheVariants.{JournalFull}
 use Rattle.shard_port.specs.PassSessions.{session_at, AreWithin}
 use Rattle.shared_shards.specs.NewShards.{shard_at}
 use Rattle.single_run.specs.ShardRuns.{HasMore, HasRunOver, HasStoppedOver, IsFullAfter}
-use Rattle.single_run.specs.Updates.{served_by, updates_at, updated_shard, AreUpdated}
-use Rattle.single_run.specs.SingleRuns.{IsLegalAt, AreJournalsOf, HasRunAlone, HasStoppedAlone, IsCutBehind}
+use Rattle.single_run.specs.Updates.{served_by, updates_at, AreUpdated}
+use Rattle.single_run.specs.SingleRuns.{AreJournalsOf, HasRunAlone, HasStoppedAlone}
 
 module _ (program : Program) (start : MachineState) (options : Options) (worker : ℕ) (updates : List MapUpdate) (before after : List JournaledShard)
     (journals : JournalsView) (were : AreUpdated program.maps options updates before) (maps_are : journals.maps ≡ program.maps)

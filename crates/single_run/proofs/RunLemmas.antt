@@ -1,14 +1,12 @@
 -- What a run over shards comes to, from what its calls ensure.
-use Rattle.std.proofs.Common.{◌≡◌, ⊎_elim, inl, inr, ℕ, zero, suc, ◌<◌, Bool, true, false, ◌||◌, List, [], ◌∷◌, ◌++◌, length, map, reverse, Option, Some, refl, sym, ap, ◌∙◌, subst}
-use Rattle.std.specs.Prelude.{IsFalse, slice_get, slice_index_or, if◌then◌else◌}
-use Rattle.std.specs.List.{AllByRecursion}
+use Rattle.std.proofs.Common.{◌≡◌, ⊎_elim, inl, inr, ℕ, zero, suc, ◌<◌, Bool, true, false, ◌||◌, List, [], ◌∷◌, ◌++◌, length, reverse, Option, Some, refl, sym, ap, ◌∙◌, subst}
+use Rattle.std.specs.Prelude.{IsFalse, slice_get, if◌then◌else◌}
 use Rattle.std.proofs.lemmas.List.{length-set, length-map}
 use Rattle.std.proofs.lemmas.Option.{slice_get-get_or, slice_get_within, get_or_from_slice_get}
 use Rattle.wire.specs.FrameView.{FrameView}
 use Rattle.semantics.specs.declared.call.Call.{Call}
 use Rattle.semantics.specs.declared.call.Entry.{Entry}
 use Rattle.semantics.specs.declared.call.Reply.{Reply}
-use Rattle.semantics.specs.declared.options.Options.{Options}
 use Rattle.semantics.specs.declared.verdict.Verdict.{Verdict}
 use Rattle.semantics.specs.MachineState.{MachineState}
 use Rattle.semantics.specs.Program.{Program}
@@ -19,18 +17,17 @@ use Rattle.map_port.specs.Exchanges.{Exchange, IsChain}
 use Rattle.map_port.specs.Served.{Maps, program_over}
 use Rattle.machine.specs.declared.exit.Stop.{Stop}
 use Rattle.machine.specs.declared.exit.Stop.TheVariants.{JournalFull}
-use Rattle.machine.specs.Running.{Ends, Stops, StopsSo}
+use Rattle.machine.specs.Running.{Ends, StopsSo}
 use Rattle.shard_port.specs.Asking.{is_in, enter_by, leave_by, all_left, left, can_enter, entered, CannotEnter, CannotCall}
 use Rattle.shard_port.specs.declared.plain.PlainPort.{PlainPort}
 use Rattle.shard_port.specs.PlainPorts.{PortGives, PortRefuses, maps_of}
-use Rattle.shard_port.specs.PortView.{IsGivenBy}
 use Rattle.shard_port.specs.PortLaws.{append_none, set_here}
 use Rattle.shard_port.specs.Sessions.{WritesSessions, WritesRefusedSessions, IsVisited, entries_at, begun, session, with_entries}
 use Rattle.shard_port.specs.PassSessions.{session_at, AreWithin}
 use Rattle.frame_runs.specs.FrameRuns.{AreFormed}
 use Rattle.shared_shards.specs.Seats.{no_plan}
 use Rattle.shared_shards.specs.NewShards.{shard_at}
-use Rattle.single_run.specs.ShardRuns.{HasMore, HasRunOver, HasStoppedOver, WasRefusedOver, IsCutSession, IsFullAfter, IsOutsideNumbered}
+use Rattle.single_run.specs.ShardRuns.{HasMore, HasRunOver, HasStoppedOver, IsCutSession, IsFullAfter, IsOutsideNumbered}
 
 -- ---- what a chain of calls keeps
 

@@ -1,6 +1,6 @@
 -- Updates before a run: which calls they are, and what the journals have of them.
-use Rattle.std.proofs.Common.{◌≡◌, ◌≢◌, ⊎_elim, ℕ, ◌+◌, ◌<◌, ◌≤◌, ◌^◌, Bool, true, false, cond, ◌&&◌, List, [], ◌∷◌, ◌++◌, length, take, map, reverse, Option, Some, None, pos, arith, refl, sym, ap, ◌∙◌, subst, append-nil}
-use Rattle.std.specs.Prelude.{◌==◌, All, IsTrue, slice_get, slice_set, slice_index_or, if◌then◌else◌}
+use Rattle.std.proofs.Common.{◌≡◌, ◌≢◌, ⊎_elim, ℕ, ◌+◌, ◌<◌, ◌≤◌, ◌^◌, Bool, true, false, cond, List, [], ◌∷◌, ◌++◌, length, take, map, Option, Some, None, pos, arith, refl, sym, ap, ◌∙◌, subst, append-nil}
+use Rattle.std.specs.Prelude.{◌==◌, All, IsTrue, slice_get, slice_set, slice_index_or}
 use Rattle.std.specs.List.{AllByRecursion, filter}
 use Rattle.std.proofs.lemmas.Bool.{cases_eq}
 use Rattle.std.proofs.lemmas.Bool.Decides.{nat_tests}
@@ -17,11 +17,13 @@ use Rattle.semantics.specs.declared.call.Reply.TheVariants.{Answer}
 use Rattle.semantics.specs.declared.options.Options.{Options}
 use Rattle.semantics.specs.declared.plan.ShardPlan.{ShardPlan}
 use Rattle.semantics.specs.History.{IsLegalJournal}
-use Rattle.semantics.specs.PlanLimits.{HasImageSizes}
+use Rattle.semantics.specs.PlanLimits.{IsIndexSize, HasImageSizes}
+use Rattle.semantics.specs.ServedCalls.{IsKeyOf}
 use Rattle.semantics.specs.ShardPlan.{plan_at, AreOptions}
 use Rattle.semantics.proofs.shared.ConditionLemmas.{bytes_test}
+use Rattle.semantics.proofs.shared.PlanLemmas.{each_at}
 use Rattle.shard_core.specs.JournaledShard.{JournaledShard, opened_shard}
-use Rattle.map_port.specs.Served.{Maps, IsKeyOf}
+use Rattle.map_port.specs.Served.{Maps}
 use Rattle.shard_port.specs.PortView.{AreShardsOf, IsReady, ServesMaps}
 use Rattle.shard_port.specs.Sessions.{CallsKeepServing}
 use Rattle.shard_port.proofs.shared.MayAskLemmas.{at_key, same_test, flags_test}
@@ -30,7 +32,7 @@ use Rattle.shard_port.specs.PortLaws.{both_true}
 use Rattle.shared_shards.specs.Seats.{no_plan}
 use Rattle.shared_shards.specs.NewShards.{shard_at}
 use Rattle.semantics.proofs.shared.EachLemmas.{or_set_here, or_set_else}
-use Rattle.single_run.specs.Updates.{served_by, shard_of_update, entry_of_update, is_update_at, updates_at, AreUpdated, may_update, IsMade, IsNext, updated_shard}
+use Rattle.single_run.specs.Updates.{served_by, shard_of_update, entry_of_update, is_update_at, updates_at, AreUpdated, may_update, IsMade, IsNext}
 
 -- ---- an update that fits its map
 
@@ -59,12 +61,20 @@ fits_map maps update none = by_map (slice_get maps update.map) refl none
     by_map None is none = absurd cc
     by_map (Some definition) is none = both_sizes maps update definition is _ _ refl refl none
 
+-- its key is of the size that its map's kind has
+pub index_size : (maps : List MapDef) (update : MapUpdate) (definition : MapDef) → AllByRecursion HasImageSizes maps → Fits maps update →
+    slice_get maps update.map ≡ Some definition → IsIndexSize definition.kind (length update.key)
+index_size maps update definition sizes fits found =
+    let same : fits.definition ≡ definition = cc (fits.known, found) in
+    subst (λ n. IsIndexSize definition.kind n) (sym (fits.key_size ∙ ap (λ (one : MapDef). one.key_size) same))
+    (each_at HasImageSizes maps update.map definition sizes found).index_size
+
 -- the controller may make it
 pub may_make : (maps : List MapDef) (options : Options) (shards : List JournaledShard) (update : MapUpdate) → IsReady maps options 0 shards →
     Fits maps update → All (λ byte. byte < 256) update.key → All (λ byte. byte < 256) update.value →
     IsTrue (may_update (slice_get shards (shard_of_update (served_by maps options) update)) update)
 may_make maps options shards update ready fits bytes value_bytes =
-    let of_map : IsKeyOf (served_by maps options) update.map update.key =
+    let of_map : IsKeyOf maps update.map update.key =
     record { definition = fits.definition; known = fits.known; key_size = fits.key_size; bytes = bytes } in
     let at = at_key maps options 0 shards update.map update.key ready of_map in
     let same : fits.definition ≡ at.shard.plan.definition = cc (fits.known, at.definition) in

@@ -1,5 +1,5 @@
 -- One run of a worker over shards that it is outside of: what the shards' journals then have more.
-use Rattle.std.specs.Prelude.{◌≡◌, ◌⊎◌, ℕ, ◌<◌, ◌≤◌, List, [], ◌∷◌, ◌++◌, length, reverse, Some, slice_get, IsFalse}
+use Rattle.std.specs.Prelude.{◌≡◌, ◌⊎◌, ℕ, ◌<◌, ◌≤◌, List, [], ◌∷◌, ◌++◌, length, reverse, IsFalse}
 use Rattle.ebpf_decode.specs.InstructionEncoding.{total_slots}
 use Rattle.wire.specs.FrameView.{FrameView}
 use Rattle.semantics.specs.declared.call.Call.{Call}

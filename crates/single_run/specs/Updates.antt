@@ -1,5 +1,5 @@
 -- What the controller sets before a run: for each update one entry of its own, in the journal of the shard that the key belongs to.
-use Rattle.std.specs.Prelude.{◌≡◌, ◌≢◌, ℕ, ◌*◌, ◌<◌, ◌==◌, ℤ, pos, Bool, false, ◌&&◌, List, ◌++◌, [], ◌∷◌, length, map, take, reverse}
+use Rattle.std.specs.Prelude.{◌≡◌, ◌≢◌, ℕ, ◌*◌, ◌<◌, ◌==◌, ℤ, Bool, false, List, length, map, take, reverse}
 use Rattle.std.specs.Prelude.{Option, Some, None, slice_get, slice_set}
 use Rattle.std.specs.List.{filter}
 use Rattle.ebpf_decode.specs.declared.map.MapDef.{MapDef}
@@ -10,6 +10,8 @@ use Rattle.semantics.specs.declared.call.Entry.{Entry}
 use Rattle.semantics.specs.declared.call.Reply.TheVariants.{Answer}
 use Rattle.semantics.specs.declared.options.Options.{Options}
 use Rattle.semantics.specs.declared.plan.ShardPlan.{ShardPlan}
+use Rattle.semantics.specs.declared.linux.UpdateFlags.TheVariants.{Any}
+use Rattle.semantics.specs.Linux.{flags_number, success}
 use Rattle.semantics.specs.History.{meets, IsLegalJournal}
 use Rattle.semantics.specs.SequentialShard.{update_answer}
 use Rattle.semantics.specs.ShardPlan.{plan_at}
@@ -27,13 +29,13 @@ served_by maps options = record { maps = maps; shards = options.shards }
 abbrev pub shard_of_update : Maps → MapUpdate → ℕ
 shard_of_update served update = shard_of served update.map update.key
 
--- the update as a call, whether or not the key is there (the flags ANY of bpf(2))
+-- the update as a call, whether or not the key is there
 abbrev pub call_of_update : Maps → MapUpdate → Call
-call_of_update served update = update_call served update.map update.key update.value 0
+call_of_update served update = update_call served update.map update.key update.value (flags_number Any)
 
 -- the entry of an update that the map took
 abbrev pub entry_of_update : Maps → MapUpdate → Entry
-entry_of_update served update = record { who = Controller; call = call_of_update served update; reply = Answer (pos 0) }
+entry_of_update served update = record { who = Controller; call = call_of_update served update; reply = Answer success }
 
 abbrev pub is_update_at : Maps → ℕ → MapUpdate → Bool
 is_update_at served number update = shard_of_update served update == number
@@ -76,8 +78,8 @@ pub record IsRefusedUpdate (maps : List MapDef) (options : Options) (updates : L
   pub update : MapUpdate
   pub before : JournaledShard
   pub next : IsNext maps options updates place update before
-  pub answered : answer ≡ update_answer before.plan (state_of before) update.key 0
-  pub no_success : answer ≢ pos 0
+  pub answered : answer ≡ update_answer before.plan (state_of before) update.key (flags_number Any)
+  pub no_success : answer ≢ success
 
 -- the journal has no room for it
 pub record IsFullForUpdate (maps : List MapDef) (options : Options) (updates : List MapUpdate) (place : ℕ) : Type 0 where
@@ -90,18 +92,18 @@ pub record IsFullForUpdate (maps : List MapDef) (options : Options) (updates : L
 
 -- the controller may make the update on this shard
 abbrev pub may_update : Option JournaledShard → MapUpdate → Bool
-may_update (Some one) update = meets one.plan (reverse one.journal) Controller (shard.update_call one update.key update.value 0)
+may_update (Some one) update = meets one.plan (reverse one.journal) Controller (shard.update_call one update.key update.value (flags_number Any))
 may_update None update = false
 
 -- the shard of this number took the update, or gave another answer; either way it has the entry
 pub record IsMade (before : List JournaledShard) (number : ℕ) (update : MapUpdate) (answer : ℤ) (after : List JournaledShard) : Type 0 where
   pub one : JournaledShard
   pub known : slice_get before number ≡ Some one
-  pub answered : answer ≡ update_answer one.plan (state_of one) update.key 0
-  pub legal : IsLegalJournal one.plan (after_call one Controller (shard.update_call one update.key update.value 0) (Answer answer)).journal
-  pub put_back : after ≡ slice_set before number (after_call one Controller (shard.update_call one update.key update.value 0) (Answer answer))
+  pub answered : answer ≡ update_answer one.plan (state_of one) update.key (flags_number Any)
+  pub legal : IsLegalJournal one.plan (after_call one Controller (shard.update_call one update.key update.value (flags_number Any)) (Answer answer)).journal
+  pub put_back : after ≡ slice_set before number (after_call one Controller (shard.update_call one update.key update.value (flags_number Any)) (Answer answer))
 
 pub record IsFull (before : List JournaledShard) (number : ℕ) (update : MapUpdate) : Type 0 where
   pub one : JournaledShard
   pub known : slice_get before number ≡ Some one
-  pub full : IsFullFor one (shard.update_call one update.key update.value 0)
+  pub full : IsFullFor one (shard.update_call one update.key update.value (flags_number Any))

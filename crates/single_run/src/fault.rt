@@ -4,16 +4,16 @@ use shards::OpenFault;
 use std::alloc::AllocError;
 use thiserror::Error;
 
-/// Why no run was made.
+/// Why no run was made. docs/FAULTS.md says when each comes, in which order, and what it leaves.
 #[derive(Clone, Copy, Debug, PartialEq, Eq, Error)]
 pub enum RunFault {
-    /// 51 or 52: options that no shards are opened with, or no memory.
+    /// 51 or 52: no shards were opened.
     #[error(transparent)]
     Open(OpenFault),
-    /// The update at this place of the list, from 0, was refused by its map, with this answer (Linux's error number, negated).
+    /// 93: the map of the update at this place of the list, counted from 0, refused it with this answer.
     #[error("fault 93 Refused answer {answer}")]
     Refused { place: usize, answer: i32 },
-    /// For the update at this place the journal of its shard was full.
+    /// 94: the journal was full for the update at this place.
     #[error("fault 94 JournalFull")]
     Full { place: usize },
 }

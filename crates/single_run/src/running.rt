@@ -56,7 +56,8 @@ pub fn run_alone(
         single.journals)) }
     ensures stop { IfOk result (λ single. IfErr single.ended (λ stop. HasStoppedAlone (program_of verified.now options.shards)
         (initial_state frame.old moment.now.worker moment.now.now_ns) options moment.now.worker updates.now frame.new stop single.journals)) }
-    ensures bad_options { IsErrOf result (Open BadOptions) ↔ (IsFalse (are_served_options verified.now.maps options) ⊎ (options.workers ≤ moment.now.worker)) }
+    ensures bad_options { IsErrOf result (Open BadOptions) ↔
+        (IsFalse (are_served_options verified.now.maps options) ⊎ (options.workers ≤ moment.now.worker)) }
     ensures why { IfErr result (IsWhyNone verified.now.maps options updates.now) }
     ensures unchanged { OnErr result (frame.new ≡ frame.old) }
 {

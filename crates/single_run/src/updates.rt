@@ -1,6 +1,6 @@
 //! What the controller sets before a run.
 
-ghost use Rattle.std.specs.Prelude.{◌≡◌, ◌<◌, ◌≤◌, IsTrue, IfOk, IfErr, IsErrOf, OnOk, OnErr, None, Some, length, slice_get};
+ghost use Rattle.std.specs.Prelude.{◌≡◌, ◌<◌, ◌≤◌, IsTrue, IfOk, IfErr, IsErrOf, OnOk, OnErr, None, length, slice_get};
 ghost use Rattle.std.specs.List.{AllByRecursion};
 ghost use Rattle.semantics.specs.PlanLimits.{HasImageSizes};
 ghost use Rattle.semantics.specs.ShardPlan.{AreOptions};
@@ -15,9 +15,9 @@ ghost use Rattle.single_run.specs.Updates.{served_by, shard_of_update, AreUpdate
 use crate::fault::RunFault;
 use ebpf_decode::{Image, MapDef};
 use map_updates::MapUpdate;
-use one_thread_map::conditions::shard_of_kind;
+use one_thread_map::conditions::shard_of_map;
 use semantics::facts::bytes_have_8_bits;
-use semantics::{Caller, JournalFull, Options};
+use semantics::{Caller, JournalFull, Options, UpdateFlags};
 use shard_port::laws::{calls_keep_serving, opened_serve};
 use shards::{Shards, maps_of};
 
@@ -66,16 +66,7 @@ fn shard_of(maps: &[MapDef], options: &Options, update: &MapUpdate) -> u32
     requires fits { misfit_of maps.now update.now ≡ None }
     ensures { result ≡ shard_of_update (served_by maps.now options.now) update.now }
 {
-    let definition = definition_at(maps, update.map);
-    shard_of_kind(update.map, definition.kind, options.shards, &update.key)
-}
-
-/// The map at a place.
-fn definition_at(maps: &[MapDef], map: u32) -> MapDef
-    requires { map < length maps.now }
-    ensures { slice_get maps.now map ≡ Some result }
-{
-    maps[map as usize]
+    shard_of_map(maps, options.shards, update.map, &update.key)
 }
 
 /// Makes one update at the shard of a number.
@@ -89,6 +80,6 @@ fn make(shards: &mut Shards, number: u32, update: &MapUpdate) -> Result<i32, Jou
         Caller::Controller,
         update.key.as_slice(),
         update.value.as_slice(),
-        0,
+        UpdateFlags::Any.number(),
     )
 }

@@ -24,7 +24,7 @@ pub enum Problem {
     NoSpelling,
 }
 
-/// Why no image comes of a source.
+/// Why no image comes of a source. docs/FAULTS.md says when each comes, in which order, and what it leaves.
 #[derive(Clone, Copy, Debug, Error, PartialEq, Eq)]
 pub enum SourceFault {
     /// 21: this line of the source, counted from 1, is bad.

@@ -14,12 +14,19 @@ use Rattle.ebpf_decode.specs.declared.insn.Insn.{Insn}
 use Rattle.ebpf_decode.specs.declared.insn.Insn.TheVariants.{Alu, AtomicUpdate, CallHelper, End, Exit, Ja, JumpIf, Lddw, Ldmap, Ldx, St, Stx}
 use Rattle.ebpf_decode.specs.declared.version.Version.TheVariants.{V1}
 use Rattle.ebpf_decode.specs.ImageContents.{Contents}
+use Rattle.semantics.specs.declared.linux.Helper.{Helper}
+use Rattle.semantics.specs.declared.linux.Helper.TheVariants.{MapLookupElem, MapUpdateElem, XdpAdjustHead}
+use Rattle.semantics.specs.Linux.{helper_number}
 use Rattle.conntrack.specs.SteeringMaps.{steering_maps}
 
 -- so far below
 abbrev pub minus : ℕ → ℤ
 minus zero = pos 0
 minus (suc n) = negsuc n
+
+-- the call of a helper, by Linux's number of it
+abbrev pub call_of : Helper → Insn
+call_of helper = CallHelper (pos (helper_number helper))
 
 -- the frame has a flow: an unfragmented IPv4 datagram without options, of TCP or UDP, whole in the frame
 abbrev pub flow_block : List Insn
@@ -69,7 +76,7 @@ vip_block =
     Ldmap R1 (pos 0) ∷
     Alu Bits64 Mov R2 (Reg R10) ∷
     Alu Bits64 Add R2 (Imm (minus 24)) ∷
-    CallHelper (pos 1) ∷
+    call_of MapLookupElem ∷
     JumpIf Bits64 Eq R0 (Imm (pos 0)) (pos 165) ∷
     Ldx U64 R8 R0 (pos 0) ∷ []
 
@@ -83,7 +90,7 @@ guards_block =
     Ldmap R1 (pos 4) ∷
     Alu Bits64 Mov R2 (Reg R10) ∷
     Alu Bits64 Add R2 (Imm (minus 28)) ∷
-    CallHelper (pos 1) ∷
+    call_of MapLookupElem ∷
     JumpIf Bits64 Eq R0 (Imm (pos 0)) (pos 156) ∷
     Ldx U64 R3 R0 (pos 16) ∷
     JumpIf Bits32 Ne R3 (Imm (pos 1)) (pos 154) ∷
@@ -99,14 +106,14 @@ tracking_block =
     Ldmap R1 (pos 1) ∷
     Alu Bits64 Mov R2 (Reg R10) ∷
     Alu Bits64 Add R2 (Imm (minus 16)) ∷
-    CallHelper (pos 1) ∷
+    call_of MapLookupElem ∷
     JumpIf Bits64 Eq R0 (Imm (pos 0)) (pos 12) ∷
     Ldx U64 R3 R0 (pos 0) ∷
     Stx U32 R10 R3 (minus 28) ∷
     Ldmap R1 (pos 3) ∷
     Alu Bits64 Mov R2 (Reg R10) ∷
     Alu Bits64 Add R2 (Imm (minus 28)) ∷
-    CallHelper (pos 1) ∷
+    call_of MapLookupElem ∷
     JumpIf Bits64 Eq R0 (Imm (pos 0)) (pos 4) ∷
     Ldx U64 R9 R0 (pos 0) ∷
     Alu Bits64 Mov R3 (Reg R9) ∷
@@ -142,7 +149,7 @@ ring_block size =
     Ldmap R1 (pos 2) ∷
     Alu Bits64 Mov R2 (Reg R10) ∷
     Alu Bits64 Add R2 (Imm (minus 28)) ∷
-    CallHelper (pos 1) ∷
+    call_of MapLookupElem ∷
     JumpIf Bits64 Eq R0 (Imm (pos 0)) (pos 77) ∷
     Ldx U32 R3 R0 (pos 0) ∷
     JumpIf Bits64 Eq R3 (Imm (pos 0)) (pos 75) ∷
@@ -151,7 +158,7 @@ ring_block size =
     Ldmap R1 (pos 3) ∷
     Alu Bits64 Mov R2 (Reg R10) ∷
     Alu Bits64 Add R2 (Imm (minus 56)) ∷
-    CallHelper (pos 1) ∷
+    call_of MapLookupElem ∷
     JumpIf Bits64 Eq R0 (Imm (pos 0)) (pos 67) ∷
     Ldx U64 R9 R0 (pos 0) ∷
     Alu Bits64 Mov R3 (Reg R9) ∷
@@ -164,7 +171,7 @@ ring_block size =
     Alu Bits64 Mov R3 (Reg R10) ∷
     Alu Bits64 Add R3 (Imm (minus 56)) ∷
     Alu Bits64 Mov R4 (Imm (pos 0)) ∷
-    CallHelper (pos 2) ∷ []
+    call_of MapUpdateElem ∷ []
 
 -- the frame is moved, and its new headers are written, all but the checksum
 abbrev pub tunnel_block : List Insn
@@ -173,7 +180,7 @@ tunnel_block =
     Ldx U16 R7 R7 (pos 16) ∷
     Alu Bits64 Mov R1 (Reg R6) ∷
     Alu Bits64 Mov R2 (Imm (minus 20)) ∷
-    CallHelper (pos 44) ∷
+    call_of XdpAdjustHead ∷
     JumpIf Bits64 Ne R0 (Imm (pos 0)) (pos 48) ∷
     Ldx U32 R1 R6 (pos 0) ∷
     Ldx U32 R2 R6 (pos 4) ∷
@@ -244,7 +251,7 @@ count_block =
     Ldmap R1 (pos 5) ∷
     Alu Bits64 Mov R2 (Reg R10) ∷
     Alu Bits64 Add R2 (Imm (minus 28)) ∷
-    CallHelper (pos 1) ∷
+    call_of MapLookupElem ∷
     JumpIf Bits64 Eq R0 (Imm (pos 0)) (pos 2) ∷
     Alu Bits64 Mov R1 (Imm (pos 1)) ∷
     AtomicUpdate Bits64 AtomicAdd R0 R1 (pos 0) ∷ []

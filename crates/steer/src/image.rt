@@ -1,6 +1,6 @@
 //! The image that is shipped.
 
-ghost use Rattle.std.specs.Prelude.{◌≡◌, ℕ, ◌≤◌, ◌↔◌, IfOk, IsErrOf};
+ghost use Rattle.std.specs.Prelude.{◌≡◌, ◌↔◌, IfOk, IsErrOf};
 ghost use Rattle.maglev.specs.RingSize.{IsRingSize};
 ghost use Rattle.conntrack.specs.declared.fault.SteerFault.TheVariants.{BadSize};
 ghost use Rattle.steer.specs.ShippedProgram.{shipped_image, code_of, shipped_blocks};
@@ -38,16 +38,16 @@ fn code(alloc: Global, size: u32) -> Result<Vec<Insn>, SteerFault>
     let mut code = Vec::new(alloc);
     code.extend_from_slice(&blocks::FLOW)?;
     code.extend_from_slice(&blocks::KEY)?;
-    code.extend_from_slice(&blocks::VIP)?;
-    code.extend_from_slice(&blocks::GUARDS)?;
-    code.extend_from_slice(&blocks::TRACKING)?;
+    code.extend_from_slice(&blocks::vip_block())?;
+    code.extend_from_slice(&blocks::guards_block())?;
+    code.extend_from_slice(&blocks::tracking_block())?;
     blocks::put_hash(&mut code)?;
     code.extend_from_slice(&blocks::ring_block(size))?;
-    code.extend_from_slice(&blocks::TUNNEL)?;
+    code.extend_from_slice(&blocks::tunnel_block())?;
     code.extend_from_slice(&blocks::CHECKSUM)?;
     code.extend_from_slice(&blocks::PASS)?;
     code.extend_from_slice(&blocks::DROP)?;
-    code.extend_from_slice(&blocks::COUNT)?;
+    code.extend_from_slice(&blocks::count_block())?;
     code.extend_from_slice(&blocks::END)?;
     Ok(code)
 }

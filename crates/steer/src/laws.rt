@@ -1,6 +1,6 @@
 //! What holds of the shipped program, as contracts of functions that do nothing.
 
-ghost use Rattle.std.specs.Prelude.{IsTrue, ◌≡◌, ◌≤◌};
+ghost use Rattle.std.specs.Prelude.{IsTrue, ◌≡◌};
 ghost use Rattle.ebpf_decode.specs.InstructionEncoding.{total_slots};
 ghost use Rattle.steer.specs.BlockForm.{are_blocks};
 ghost use Rattle.steer.specs.ShippedProgram.{shipped_blocks, code_of};

@@ -25,11 +25,13 @@ use Rattle.semantics.specs.System.{Setting, program_of, SystemState, Idle, Runs,
 use Rattle.abstract_state.specs.declared.state.State.{State}
 use Rattle.abstract_state.specs.Soundness.{IsHandedOut, HoldsAfter}
 use Rattle.abstract_state.proofs.shared.Writing.{held_more}
+use Rattle.semantics.proofs.shared.PlanLemmas.{some_shards}
 use Rattle.verifier.proofs.SystemInvariant.{entered_of, held_by, IsSoundRun, IsSoundWorker, IsSetting, IsSoundSystem}
 use Rattle.verifier.proofs.HistoryLemmas.{inside_enter, inside_lookup, inside_stays, holds_still, still_held, found_held}
-use Rattle.verifier.proofs.PlanLemmas.{plan_facts, plan_within, some_shards, enter_meets}
+use Rattle.verifier.proofs.PlanLemmas.{plan_facts, plan_within, enter_meets}
 use Rattle.verifier.proofs.SettingLemmas.{held_facts}
-use Rattle.verifier.proofs.EntryLemmas.{history_there, history_elsewhere, local_change, own_entry}
+use Rattle.semantics.proofs.shared.SystemSteps.{history_there, history_elsewhere}
+use Rattle.verifier.proofs.EntryLemmas.{local_change, own_entry}
 use Rattle.verifier.proofs.EventLemmas.{by_full, over_keeps, over_sound, is_counted}
 
 same_number : (n : ℕ) → (n == n) ≡ true

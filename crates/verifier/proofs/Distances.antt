@@ -10,7 +10,7 @@ use Rattle.abstract_state.specs.declared.flow.Flow.TheVariants.{Ends, Falls}
 use Rattle.abstract_state.specs.declared.state.State.{State}
 use Rattle.abstract_state.specs.States.{Checked, ◌>>=◌, kind_of}
 use Rattle.abstract_state.specs.Flow.{reads, verdict_kind, falls, flow_of}
-use Rattle.image_shape.specs.Layouts.{GoesForward}
+use Rattle.image_shape.specs.Layouts.{HasNoNegativeTarget}
 use Rattle.verifier.specs.Dataflow.{is_at, is_target, jumps}
 
 pub no_target : (slot : ℕ) (insn : Insn) → jump_distance insn ≡ None → jump_target slot insn ≡ None
@@ -60,8 +60,8 @@ jump_goes maps state slot insn flow e is_jump = absurd (let quiet : jumps flow �
 
 -- ---- the target, as a slot
 
--- the target of a jump that goes forward is a slot, and the only one that the jump goes to
-pub target_slot : (slot : ℕ) (insn : Insn) (target : ℤ) → GoesForward slot insn → jump_target slot insn ≡ Some target →
+-- the target of a jump that is not below 0 is a slot, and the only one that the jump goes to
+pub target_slot : (slot : ℕ) (insn : Insn) (target : ℤ) → HasNoNegativeTarget slot insn → jump_target slot insn ≡ Some target →
     (at : ℕ) × (target ≡ pos at) × ((other : ℕ) → (other == at) ≡ is_target slot insn other)
 target_slot slot insn (pos at) up is = (at, refl, λ other. sym (ap (λ found. is_at found other) is))
 target_slot slot insn (negsuc below) up is = absurd (up (negsuc below) is).le

@@ -1,9 +1,8 @@
 -- One more entry in one shard's history: what every other worker knows stays, and the shard stays sound.
-use Rattle.std.proofs.Common.{◌≡◌, ◌≢◌, ℕ, ◌*◌, ◌/◌, ◌<◌, ◌≤◌, ◌==◌, ◌&&◌, true, false, List, [], ◌∷◌, length, Option, Some, refl, sym, ap, subst, ◌∙◌, ⊎_elim, arith}
+use Rattle.std.proofs.Common.{◌≡◌, ℕ, ◌*◌, ◌/◌, ◌<◌, ◌≤◌, ◌==◌, ◌&&◌, true, false, List, ◌∷◌, length, Option, Some, refl, sym, ap, subst, ◌∙◌, ⊎_elim, arith}
 use Rattle.std.specs.Prelude.{IsTrue}
 use Rattle.std.proofs.lemmas.Bool.{cases_eq}
-use Rattle.std.proofs.lemmas.Grind.{get_or-set_at}
-use Rattle.std.proofs.lemmas.List.{get_or-set_other, length-set}
+use Rattle.std.proofs.lemmas.List.{length-set}
 use Rattle.semantics.specs.declared.plan.ShardPlan.{ShardPlan}
 use Rattle.semantics.specs.declared.call.Caller.{Caller}
 use Rattle.semantics.specs.declared.call.Caller.TheVariants.{Worker}
@@ -14,21 +13,13 @@ use Rattle.semantics.specs.ShardPlan.{plan_at}
 use Rattle.semantics.specs.System.{Setting, SystemState, WorkerState, Idle, Runs, Leaves, worker_state, history_of, with_worker, with_entry, is_entered, entry_for}
 use Rattle.abstract_state.specs.declared.state.State.{State}
 use Rattle.abstract_state.proofs.shared.Writing.{held_more}
+use Rattle.semantics.proofs.shared.PlanLemmas.{some_shards}
 use Rattle.verifier.proofs.SystemInvariant.{entered_of, held_by, IsSoundWorker, IsSoundShard, IsSetting, IsSoundSystem}
 use Rattle.verifier.proofs.HistoryLemmas.{inside_other, holds_other, is_another}
-use Rattle.verifier.proofs.PlanLemmas.{plan_facts, plan_within, some_shards}
+use Rattle.verifier.proofs.PlanLemmas.{plan_facts, plan_within}
 use Rattle.verifier.proofs.ShardLemmas.{IsPermitted}
 use Rattle.verifier.proofs.SettingLemmas.{entry_sound}
-
--- ---- histories
-
-pub history_there : (system : SystemState) (number : ℕ) (entry : Entry) → number < length system.histories →
-    history_of (with_entry system number entry) number ≡ entry ∷ history_of system number
-history_there system number entry h = get_or-set_at system.histories number number (entry ∷ history_of system number) [] refl h
-
-pub history_elsewhere : (system : SystemState) (number shard : ℕ) (entry : Entry) → shard ≢ number →
-    history_of (with_entry system number entry) shard ≡ history_of system shard
-history_elsewhere system number shard entry other = get_or-set_other system.histories number shard (entry ∷ history_of system number) [] other
+use Rattle.semantics.proofs.shared.SystemSteps.{state_there, state_elsewhere, history_there, history_elsewhere}
 
 -- ---- who made no entry
 
@@ -103,13 +94,6 @@ foreign_entry setting states system number plan who call good sound planned perm
     }
 
 -- ---- a worker's state
-
-pub state_there : (system : SystemState) (worker : ℕ) (now : WorkerState) → worker < length system.workers → worker_state (with_worker system worker now) worker ≡ now
-state_there system worker now h = get_or-set_at system.workers worker worker now Idle refl h
-
-pub state_elsewhere : (system : SystemState) (worker other : ℕ) (now : WorkerState) → other ≢ worker →
-    worker_state (with_worker system worker now) other ≡ worker_state system other
-state_elsewhere system worker other now apart = get_or-set_other system.workers worker other now Idle apart
 
 -- a worker that goes on by itself
 pub local_change : (setting : Setting) (states : List (Option State)) (system : SystemState) (worker : ℕ) (now : WorkerState) → IsSetting setting states →

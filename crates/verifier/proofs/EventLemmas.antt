@@ -12,10 +12,12 @@ use Rattle.semantics.specs.ShardPlan.{plan_at}
 use Rattle.semantics.specs.History.{Meets, journal_is_full}
 use Rattle.semantics.specs.System.{Setting, SystemState, Idle, Leaves, worker_state, history_of, with_entry, is_entered, MayCall, entry_for, run_over, without_shard, after_call, after_run_call}
 use Rattle.abstract_state.specs.declared.state.State.{State}
+use Rattle.semantics.proofs.shared.PlanLemmas.{some_shards}
 use Rattle.verifier.proofs.SystemInvariant.{entered_of, IsSoundWorker, IsSetting, IsSoundSystem}
 use Rattle.verifier.proofs.HistoryLemmas.{inside_leave}
-use Rattle.verifier.proofs.PlanLemmas.{plan_facts, plan_within, some_shards, leave_meets}
-use Rattle.verifier.proofs.EntryLemmas.{history_there, history_elsewhere, foreign_entry, own_entry}
+use Rattle.verifier.proofs.PlanLemmas.{plan_facts, plan_within, leave_meets}
+use Rattle.semantics.proofs.shared.SystemSteps.{history_there, history_elsewhere, gone}
+use Rattle.verifier.proofs.EntryLemmas.{foreign_entry, own_entry}
 
 -- ---- the controller and the reclaimer
 
@@ -34,16 +36,13 @@ call_sound setting states system number None who call good sound planned may nob
 
 -- ---- leaving
 
-over_entered : (entered : List ℕ) → entered_of (run_over entered) ≡ entered
-over_entered [] = refl
-over_entered (shard ∷ entered) = refl
+pub over_keeps : (entered : List ℕ) → entered_of (run_over entered) ≡ entered
+over_keeps [] = refl
+over_keeps (shard ∷ entered) = refl
 
 pub over_sound : (setting : Setting) (states : List (Option State)) (system : SystemState) (worker : ℕ) (entered : List ℕ) → IsSoundWorker setting states system worker (run_over entered)
 over_sound setting states system worker [] = tt
 over_sound setting states system worker (shard ∷ entered) = tt
-
-pub over_keeps : (entered : List ℕ) → entered_of (run_over entered) ≡ entered
-over_keeps = over_entered
 
 -- a worker that does something is one of the options'
 pub is_counted : (setting : Setting) (states : List (Option State)) (system : SystemState) (worker : ℕ) → IsSoundSystem setting states system → worker_state system worker ≢ Idle →
@@ -52,15 +51,6 @@ is_counted setting states system worker sound busy = ⊎_elim
     (λ few. few)
     (λ many. absurd (busy (sound.numbers worker many)))
     (cases_lt worker setting.options.workers)
-
-gone_by : (shard one : ℕ) (entered : List ℕ) (same : Bool) → (one == shard) ≡ same → is_entered shard (without_shard shard entered) ≡ false →
-    is_entered shard (if not same then one ∷ without_shard shard entered else without_shard shard entered) ≡ false
-gone_by shard one entered true e h = h
-gone_by shard one entered false e h = rw e h
-
-pub gone : (shard : ℕ) (entered : List ℕ) → is_entered shard (without_shard shard entered) ≡ false
-gone shard [] = refl
-gone shard (one ∷ entered) = gone_by shard one entered (one == shard) refl (gone shard entered)
 
 other_by : (shard other one : ℕ) (entered : List ℕ) (same : Bool) → (one == shard) ≡ same → (one == shard ≡ true → (one == other) ≡ false) →
     is_entered other (without_shard shard entered) ≡ is_entered other entered →
@@ -98,17 +88,17 @@ leave_sound setting states system worker shard entered (Some plan) good sound is
     ap (is_inside worker) (history_there system plan.number (entry_for plan system (Worker worker) (Leave shard)) within)
     ∙ inside_leave worker shard (entry_for plan system (Worker worker) (Leave shard)) (history_of system plan.number) refl refl
     in let left : is_entered s (entered_of (run_over (without_shard shard entered))) ≡ false =
-    ap (is_entered s) (over_entered (without_shard shard entered)) ∙ ap (λ n. is_entered n (without_shard shard entered)) (same ∙ at) ∙ gone shard entered
+    ap (is_entered s) (over_keeps (without_shard shard entered)) ∙ ap (λ n. is_entered n (without_shard shard entered)) (same ∙ at) ∙ gone shard entered
     in ap (λ n. is_inside worker (history_of (with_entry system plan.number (entry_for plan system (Worker worker) (Leave shard))) n)) same ∙ now ∙ sym left)
     (λ apart. ap (is_inside worker) (history_elsewhere system plan.number s (entry_for plan system (Worker worker) (Leave shard)) apart)
     ∙ sound.inside worker s ∙ ap (λ st. is_entered s (entered_of st)) is
-    ∙ sym (ap (is_entered s) (over_entered (without_shard shard entered)) ∙ others_stay shard s entered (λ e. apart (e ∙ sym at))))
+    ∙ sym (ap (is_entered s) (over_keeps (without_shard shard entered)) ∙ others_stay shard s entered (λ e. apart (e ∙ sym at))))
     (cases_eq s plan.number))
     (λ s still. ⊎_elim
     (λ same. let no_more : is_entered s (entered_of (run_over (without_shard shard entered))) ≡ false =
-    ap (is_entered s) (over_entered (without_shard shard entered)) ∙ ap (λ n. is_entered n (without_shard shard entered)) same ∙ gone shard entered
+    ap (is_entered s) (over_keeps (without_shard shard entered)) ∙ ap (λ n. is_entered n (without_shard shard entered)) same ∙ gone shard entered
     in absurd cc)
     (λ apart. sound.entered worker s (ap (λ st. is_entered s (entered_of st)) is ∙ sym (others_stay shard s entered apart)
-    ∙ sym (ap (is_entered s) (over_entered (without_shard shard entered))) ∙ still))
+    ∙ sym (ap (is_entered s) (over_keeps (without_shard shard entered))) ∙ still))
     (cases_eq s shard))
     (over_sound setting states (with_entry system plan.number (entry_for plan system (Worker worker) (Leave shard))) worker (without_shard shard entered))

@@ -13,6 +13,7 @@ use Rattle.semantics.specs.Sections.{section_change}
 use Rattle.semantics.specs.Reclamation.{is_worker, entered_by, entered_at, is_inside, held_by, holds}
 use Rattle.semantics.proofs.shared.HoldingLemmas as holding
 use Rattle.semantics.proofs.shared.HoldingLemmas.{found_cell}
+use Rattle.semantics.proofs.shared.KeptLemmas.{second_or}
 
 -- ---- entries of others
 
@@ -70,14 +71,10 @@ pub holds_lookup : (worker one shard : ℕ) (key : List ℕ) (entry : Entry) (h 
     entry.call ≡ Lookup shard key → holds worker one (entry ∷ h) ≡ (found_cell entry.reply one || holds worker one h)
 holds_lookup worker one shard key entry h who call = holds_own worker one entry h who ∙ rw call (holding.held_by_lookup shard key entry.reply one (holds worker one h))
 
-or_second : (a b : Bool) → b ≡ true → (a || b) ≡ true
-or_second true b is = refl
-or_second false b is = is
-
 pub still_held : (worker one shard : ℕ) (key : List ℕ) (entry : Entry) (h : List Entry) → entry.who ≡ Worker worker →
     entry.call ≡ Lookup shard key → holds worker one h ≡ true → holds worker one (entry ∷ h) ≡ true
 still_held worker one shard key entry h who call held =
-    holds_lookup worker one shard key entry h who call ∙ or_second (found_cell entry.reply one) (holds worker one h) held
+    holds_lookup worker one shard key entry h who call ∙ second_or (found_cell entry.reply one) (holds worker one h) held
 
 pub found_held : (worker shard : ℕ) (key : List ℕ) (c : CellRef) (entry : Entry) (h : List Entry) → entry.who ≡ Worker worker →
     entry.call ≡ Lookup shard key → entry.reply ≡ Cell c → holds worker c.id (entry ∷ h) ≡ true

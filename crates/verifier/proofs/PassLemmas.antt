@@ -15,9 +15,9 @@ use Rattle.image_shape.specs.declared.fault.ShapeFault.{ShapeFault}
 use Rattle.image_shape.specs.declared.fault.ShapeFault.TheVariants.{JumpBackward, JumpOutside, JumpIntoWide}
 use Rattle.ebpf_decode.specs.Jumps.{jump_distance}
 use Rattle.image_shape.specs.Edges.{is_begin}
-use Rattle.image_shape.specs.Layouts.{GoesForward}
+use Rattle.image_shape.specs.Layouts.{HasNoNegativeTarget}
 use Rattle.image_shape.specs.Structure.{jump_fault, fall_fault, instruction_fault, HasShape}
-use Rattle.image_shape.proofs.shared.FaultLemmas.{fault_here, goes_forward}
+use Rattle.image_shape.proofs.shared.FaultLemmas.{fault_here, no_negative_target}
 use Rattle.image_shape.proofs.shared.SlotLemmas.{some_slots, past_end, instruction_here}
 use Rattle.abstract_state.specs.declared.refusal.Refusal.{Refusal}
 use Rattle.abstract_state.specs.declared.state.State.{State}
@@ -66,9 +66,9 @@ forward code slot insn shape found =
 
 -- ---- the pass
 
-pub here_forward : (code : List Insn) (i : ℕ) (d : Insn) (slot : ℕ) → HasShape code → i < length code → slot ≡ total_slots (take i code) →
-    GoesForward slot (get_or code i d)
-here_forward code i d slot shape lt at = goes_forward code slot (get_or code i d) (shape.edges slot) (instruction_here code i d slot lt at)
+pub here_not_negative : (code : List Insn) (i : ℕ) (d : Insn) (slot : ℕ) → HasShape code → i < length code → slot ≡ total_slots (take i code) →
+    HasNoNegativeTarget slot (get_or code i d)
+here_not_negative code i d slot shape lt at = no_negative_target code slot (get_or code i d) (shape.edges slot) (instruction_here code i d slot lt at)
 
 -- the next slot is inside the program, or its end
 pub next_within : (code : List Insn) (i : ℕ) (d : Insn) (slot : ℕ) → i < length code → slot ≡ total_slots (take i code) →

@@ -16,25 +16,16 @@ use Rattle.semantics.specs.declared.call.CellRef.{CellRef}
 use Rattle.semantics.specs.declared.call.Caller.TheVariants.{Worker}
 use Rattle.semantics.specs.declared.call.Call.TheVariants.{Enter, Leave, Lookup, Load, Store, Atomic, Update, Delete}
 use Rattle.semantics.specs.declared.call.Entry.{Entry}
-use Rattle.semantics.specs.Program.{shard_number_of_key}
+use Rattle.semantics.specs.Program.{shard_number_of_key, shard_of_key}
 use Rattle.semantics.specs.Reclamation.{is_inside, holds}
 use Rattle.semantics.specs.ShardPlan.{plan_for_map, plan_at, AreOptions}
 use Rattle.semantics.specs.History.{is_holder, is_inside_worker, is_own_key, is_value, is_load_size, is_atomic_size, is_in_cell, is_aligned, fits_size, Meets}
 use Rattle.abstract_state.specs.States.{value_size_of}
 use Rattle.abstract_state.specs.Abstraction.{Held}
-use Rattle.abstract_state.specs.Soundness.{IsServedLookup, IsServedLoad, IsServedAtomic}
+use Rattle.abstract_state.specs.Soundness.{IsKeyOf, IsServedLoad, IsServedAtomic}
+use Rattle.semantics.proofs.shared.PlanLemmas.{some_shards, plan_of}
 
 -- ---- the plan of a number
-
-abbrev pub plan_of : Options → ℕ → MapDef → ShardPlan
-plan_of options shard definition = record {
-  number = shard;
-  part = shard % options.shards;
-  parts = options.shards;
-  definition = definition;
-  workers = options.workers;
-  reserve = options.journal;
-}
 
 pub record IsPlanOf (maps : List MapDef) (options : Options) (shard : ℕ) (plan : ShardPlan) : Type 0 where
   pub number : plan.number ≡ shard
@@ -127,27 +118,28 @@ pub record IsPlannedLookup (maps : List MapDef) (options : Options) (shard : ℕ
   pub meets : (h : List Entry) (worker : ℕ) → worker < options.workers → is_inside worker h ≡ true → Meets plan h (Worker worker) (Lookup shard key)
 
 -- a lookup of a key in its shard is one that the shard serves
-pub lookup_plan : (maps : List MapDef) (code : List Insn) (options : Options) (shard : ℕ) (key : List ℕ) → 0 < options.shards →
-    (served : IsServedLookup (record { code = code; maps = maps; shards = options.shards }) shard key) → IsPlannedLookup maps options shard key served.map
-lookup_plan maps code options shard key some served =
-    let part : ℕ = shard_number_of_key served.definition.kind key % options.shards
-    in let small : part < options.shards = mod_below (shard_number_of_key served.definition.kind key) options.shards some
-    in let own : shard ≡ served.map * options.shards + part = served.own
-    in let of_map : shard / options.shards ≡ served.map = ap (λ n. n / options.shards) own ∙ shard_map served.map options.shards part small
-    in let of_part : shard % options.shards ≡ part = ap (λ n. n % options.shards) own ∙ mod-mul-add served.map options.shards part small
-    in let planned : plan_at maps options shard ≡ Some (plan_of options shard served.definition) =
-    plan_from maps options shard served.definition (ap (slice_get maps) of_map ∙ served.known)
+pub lookup_plan : (maps : List MapDef) (options : Options) (shard map : ℕ) (key : List ℕ) → 0 < options.shards → (of_key : IsKeyOf maps map key) →
+    shard ≡ shard_of_key map of_key.definition.kind options.shards key → IsPlannedLookup maps options shard key map
+lookup_plan maps options shard map key some of_key own =
+    let definition : MapDef = of_key.definition
+    in let part : ℕ = shard_number_of_key definition.kind key % options.shards
+    in let small : part < options.shards = mod_below (shard_number_of_key definition.kind key) options.shards some
+    in let in_part : shard ≡ map * options.shards + part = own
+    in let of_map : shard / options.shards ≡ map = ap (λ n. n / options.shards) in_part ∙ shard_map map options.shards part small
+    in let of_part : shard % options.shards ≡ part = ap (λ n. n % options.shards) in_part ∙ mod-mul-add map options.shards part small
+    in let planned : plan_at maps options shard ≡ Some (plan_of options shard definition) =
+    plan_from maps options shard definition (ap (slice_get maps) of_map ∙ of_key.known)
     in record {
-      plan = plan_of options shard served.definition;
+      plan = plan_of options shard definition;
       planned = planned;
       of_map = sym of_map;
-      below = plan_within maps options shard (plan_of options shard served.definition) some planned;
-      value_size = sym (ap value_size_of served.known);
+      below = plan_within maps options shard (plan_of options shard definition) some planned;
+      value_size = sym (ap value_size_of of_key.known);
       meets = λ h worker few inside.
           both (shard == shard) _ (same_true shard shard refl)
           (both (nat_lt worker options.workers && is_inside worker h) _ (both (nat_lt worker options.workers) _ (below_true worker options.workers few) inside)
-          (both (length key == served.definition.key_size) _ (same_true (length key) served.definition.key_size served.key_size)
-          (both (part == shard % options.shards) _ (same_true part (shard % options.shards) (sym of_part)) (bytes_test key served.bytes))));
+          (both (length key == definition.key_size) _ (same_true (length key) definition.key_size of_key.key_size)
+          (both (part == shard % options.shards) _ (same_true part (shard % options.shards) (sym of_part)) (bytes_test key of_key.bytes))));
     }
 
 -- a load from a held cell is one that the cell's shard serves
@@ -221,12 +213,6 @@ update_meets plan h worker shard key value flags looks size bytes small =
     (below_true flags (2 ^ 64) small)))
 
 -- ---- plans of images that may be opened with the options
-
-pub some_shards : (maps : List MapDef) (options : Options) → AreOptions maps options → 0 < options.shards
-some_shards maps options fits = ⊎_elim
-    (λ one. omega (arith, one))
-    (λ more. ⊎_elim (λ two. omega (arith, two)) (λ many. ⊎_elim (λ four. omega (arith, four)) (λ eight. omega (arith, eight)) many) more)
-    fits.power_of_two
 
 at_plan : (maps : List MapDef) (options : Options) (shard : ℕ) (plan : ShardPlan) (P : MapDef → Type 0) → plan_at maps options shard ≡ Some plan → All P maps → P plan.definition
 at_plan maps options shard plan P planned all =

@@ -11,6 +11,7 @@ use Rattle.semantics.specs.declared.call.Call.{Call}
 use Rattle.semantics.specs.declared.call.Call.TheVariants.{Enter, Lookup, Load, Store, Atomic, Update, Delete}
 use Rattle.semantics.specs.declared.call.Reply.TheVariants.{Entered}
 use Rattle.semantics.specs.Reclamation.{is_inside, holds}
+use Rattle.semantics.proofs.shared.PlanLemmas.{some_shards}
 use Rattle.verifier.proofs.HistoryLemmas.{inside_enter}
 use Rattle.semantics.specs.ShardPlan.{plan_at}
 use Rattle.semantics.specs.SequentialShard.{shard_after, is_kept}
@@ -21,7 +22,7 @@ use Rattle.abstract_state.specs.declared.state.State.{State}
 use Rattle.abstract_state.specs.States.{value_size_of}
 use Rattle.abstract_state.specs.Soundness.{IsServedLookup, IsServedLoad, IsServedStore, IsServedAtomic, IsServedUpdate}
 use Rattle.verifier.proofs.SystemInvariant.{held_by, IsSoundShard, IsSetting}
-use Rattle.verifier.proofs.PlanLemmas.{plan_facts, plan_in_equal_parts, plan_has_parts, some_shards, enter_meets, lookup_plan, load_meets, store_meets, atomic_meets, delete_meets, update_meets}
+use Rattle.verifier.proofs.PlanLemmas.{plan_facts, plan_in_equal_parts, plan_has_parts, enter_meets, lookup_plan, load_meets, store_meets, atomic_meets, delete_meets, update_meets}
 use Rattle.verifier.proofs.ShardLemmas.{IsPermitted, sound_after, held_cell_is_kept}
 
 -- ---- what is held
@@ -73,7 +74,7 @@ pub lookup_served : (setting : Setting) (states : List (Option State)) (system :
     worker < setting.options.workers → is_inside worker (history_of system shard) ≡ is_entered shard entered → IsServedLookup (program_of setting) shard key →
     IsServedCall (plan_at setting.maps setting.options shard) system worker entered (Lookup shard key)
 lookup_served setting states system worker entered shard key good few inside served =
-    let is = lookup_plan setting.maps setting.code setting.options shard key (some_shards setting.maps setting.options good.options) served
+    let is = lookup_plan setting.maps setting.options shard served.map key (some_shards setting.maps setting.options good.options) served.of_map served.own
     in let facts = plan_facts setting.maps setting.options shard is.plan is.planned
     in let at : is.plan.number ≡ shard = facts.number
     in let inside_at : is_inside worker (history_of system is.plan.number) ≡ is_entered is.plan.number entered = rw at inside
@@ -89,7 +90,7 @@ pub delete_served : (setting : Setting) (states : List (Option State)) (system :
     worker < setting.options.workers → is_inside worker (history_of system shard) ≡ is_entered shard entered → IsServedLookup (program_of setting) shard key →
     IsServedCall (plan_at setting.maps setting.options shard) system worker entered (Delete shard key)
 delete_served setting states system worker entered shard key good few inside served =
-    let is = lookup_plan setting.maps setting.code setting.options shard key (some_shards setting.maps setting.options good.options) served
+    let is = lookup_plan setting.maps setting.options shard served.map key (some_shards setting.maps setting.options good.options) served.of_map served.own
     in let facts = plan_facts setting.maps setting.options shard is.plan is.planned
     in let at : is.plan.number ≡ shard = facts.number
     in let inside_at : is_inside worker (history_of system is.plan.number) ≡ is_entered is.plan.number entered = rw at inside
@@ -105,21 +106,21 @@ pub update_served : (setting : Setting) (states : List (Option State)) (system :
     worker < setting.options.workers → is_inside worker (history_of system shard) ≡ is_entered shard entered → IsServedUpdate (program_of setting) shard key value flags →
     IsServedCall (plan_at setting.maps setting.options shard) system worker entered (Update shard key value flags)
 update_served setting states system worker entered shard key value flags good few inside served =
-    let is = lookup_plan setting.maps setting.code setting.options shard key (some_shards setting.maps setting.options good.options) served.at
+    let is = lookup_plan setting.maps setting.options shard served.map key (some_shards setting.maps setting.options good.options) served.of_map.at served.own
     in let facts = plan_facts setting.maps setting.options shard is.plan is.planned
     in let at : is.plan.number ≡ shard = facts.number
     in let inside_at : is_inside worker (history_of system is.plan.number) ≡ is_entered is.plan.number entered = rw at inside
-    in let size : length value ≡ is.plan.definition.value_size = served.value_size ∙ sym (is.value_size ∙ ap value_size_of served.at.known)
+    in let size : length value ≡ is.plan.definition.value_size = served.of_map.value_size ∙ sym (is.value_size ∙ ap value_size_of served.of_map.at.known)
     in served_at is.plan system worker entered (Update shard key value flags) (plan_at setting.maps setting.options shard) is.planned (omega (arith, few, facts.workers)) inside_at
     (λ into. (
       update_meets is.plan (history_of system is.plan.number) worker shard key value flags (is.meets (history_of system is.plan.number) worker few (inside_at ∙ into))
-          size served.value_bytes served.small_flags,
+          size served.of_map.value_bytes served.small_flags,
       tt,
     ))
     (λ outside. (
       update_meets is.plan (after_enter is.plan (history_of system is.plan.number) worker) worker shard key value flags
           (is.meets (after_enter is.plan (history_of system is.plan.number) worker) worker few (enters_inside is.plan system worker))
-          size served.value_bytes served.small_flags,
+          size served.of_map.value_bytes served.small_flags,
       tt,
     ))
 

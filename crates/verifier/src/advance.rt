@@ -7,7 +7,7 @@ ghost use Rattle.abstract_state.specs.declared.state.State.{State};
 ghost use Rattle.abstract_state.specs.Flow.{flow_of};
 ghost use Rattle.abstract_state.specs.InPlace.{flow_by};
 ghost use Rattle.ebpf_decode.specs.InstructionEncoding.{slot_count};
-ghost use Rattle.image_shape.specs.Layouts.{GoesForward};
+ghost use Rattle.image_shape.specs.Layouts.{HasNoNegativeTarget};
 ghost use Rattle.verifier.specs.Dataflow.{arriving, arriving_from, is_target, joined_where, jumps};
 ghost use Rattle.verifier.specs.Pending.{entry_of, pending_at};
 ghost use Rattle.verifier.specs.Stops.{BreaksRule, WantsRoom};
@@ -35,7 +35,7 @@ fn jump(
     state: &State,
 ) -> Result<(), AllocError>
     requires within { slot < 4096 }
-    requires forward { GoesForward slot insn }
+    requires not_negative { HasNoNegativeTarget slot insn }
     ensures { IfOk result (λ _. (other : ℕ) →
         pending_at pending.new other ≡ joined_where (is_target slot insn other) state.now (pending_at pending.old other)) }
 {
@@ -55,7 +55,7 @@ fn split(
     entry: &mut Entry,
 ) -> Result<(), AllocError>
     requires within { slot < 4096 }
-    requires forward { GoesForward slot insn }
+    requires not_negative { HasNoNegativeTarget slot insn }
     ensures later { IfOk result (λ _. (target : ℕ) → slot + slot_count insn < target →
         pending_at pending.new target ≡ arriving slot insn target (flow_by insn Way.Splits entry.old.state) (pending_at pending.old target)) }
     ensures next { IfOk result (λ _.
@@ -80,7 +80,7 @@ fn lead_on(
     entry: &mut Entry,
 ) -> Result<(), AllocError>
     requires within { slot < 4096 }
-    requires forward { GoesForward slot insn }
+    requires not_negative { HasNoNegativeTarget slot insn }
     ensures later { IfOk result (λ _. (target : ℕ) → slot + slot_count insn < target →
         pending_at pending.new target ≡ arriving slot insn target (flow_by insn way entry.old.state) (pending_at pending.old target)) }
     ensures next { IfOk result (λ _.
@@ -111,7 +111,7 @@ pub(crate) fn advance(
     entry: &mut Entry,
 ) -> Result<(), Stop>
     requires within { slot < 4096 }
-    requires forward { GoesForward slot insn }
+    requires not_negative { HasNoNegativeTarget slot insn }
     ensures later { IfOk result (λ _. (target : ℕ) → slot + slot_count insn < target →
         pending_at pending.new target ≡ arriving_from maps.now slot (Some insn) (entry_of entry.old) target (pending_at pending.old target)) }
     ensures next { IfOk result (λ _.

@@ -51,9 +51,9 @@ fn only_reads(state: &State, insn: Insn) -> bool
 {
     match insn {
         Insn::CallHelper { helper } => !is_worker_helper(Helper::of(helper)),
-        Insn::St { dst, .. } => !is_value(state.kind(dst)),
-        Insn::Stx { dst, .. } => !is_value(state.kind(dst)),
-        Insn::AtomicUpdate { dst, .. } => !is_value(state.kind(dst)),
+        Insn::St { dst, .. } | Insn::Stx { dst, .. } | Insn::AtomicUpdate { dst, .. } => {
+            !is_value(state.kind(dst))
+        }
         Insn::Ldx { src, offset, .. } => !is_queue_field(state.kind(src), offset),
         _ => true,
     }

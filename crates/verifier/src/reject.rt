@@ -8,22 +8,22 @@ use image_shape::ShapeFault;
 use thiserror::Error;
 
 /// The first rule that a program breaks, with the slot of the instruction and, where the rule is about one, the register's number.
-/// The rules of structure (30 to 34) come before those of kinds, which come by rising slot.
+/// docs/FAULTS.md says when each is answered, and in which order.
 #[derive(Clone, Copy, Debug, Error, PartialEq, Eq)]
 pub enum Reject {
-    /// 30: a jump's distance is below 0.
+    /// 30: a jump goes back.
     #[error("fault 30 JumpBackward slot {slot}")]
     JumpBackward { slot: u32 },
-    /// 31: a jump's target lies past the last slot.
+    /// 31: a jump leaves the program.
     #[error("fault 31 JumpOutside slot {slot}")]
     JumpOutside { slot: u32 },
-    /// 32: a jump's target is the second slot of a wide instruction.
+    /// 32: a jump goes into a wide instruction.
     #[error("fault 32 JumpIntoWide slot {slot}")]
     JumpIntoWide { slot: u32 },
-    /// 33: the next slot of an instruction at which a run may go on is past the end.
+    /// 33: a run could go on past the last slot.
     #[error("fault 33 FallsOff slot {slot}")]
     FallsOff { slot: u32 },
-    /// 34: no path leads from slot 0 to the instruction.
+    /// 34: no path leads to the instruction.
     #[error("fault 34 Unreachable slot {slot}")]
     Unreachable { slot: u32 },
     /// 35: an unset register is read.

@@ -4,31 +4,31 @@ ghost use Rattle.std.specs.Prelude.{◌≡◌};
 
 use thiserror::Error;
 
-/// Why a capture was not read or not written. Records count from 1.
+/// Why a capture was not read or not written. docs/FAULTS.md says when each comes, in which order, and what it leaves.
 #[derive(Clone, Copy, Debug, PartialEq, Eq, Error)]
 pub enum CaptureFault {
-    /// The first four bytes are not the magic number `a1b2c3d4`, low byte first.
+    /// 1: the first four bytes are not the magic number `a1b2c3d4`, low byte first.
     #[error("fault 1 BadMagic")]
     BadMagic,
-    /// The version is not 2.4.
+    /// 2: the version is not 2.4.
     #[error("fault 2 BadVersion")]
     BadVersion,
-    /// The link type is not 1 (Ethernet).
+    /// 3: the link type is not 1 (Ethernet).
     #[error("fault 3 BadLink")]
     BadLink,
-    /// The file ends in the header (record 0) or in the head of a record.
+    /// 4: the file ends in its header (record 0), or in the header of this record, counted from 1.
     #[error("fault 4 CutHead record {record}")]
     CutHead { record: u64 },
-    /// The file ends in the kept bytes of a record.
+    /// 5: the file ends in the kept bytes of this record.
     #[error("fault 5 CutFrame record {record}")]
     CutFrame { record: u64 },
-    /// A record keeps more than 2048 bytes.
+    /// 6: this record keeps more than 2048 bytes.
     #[error("fault 6 FrameTooLong record {record}")]
     FrameTooLong { record: u64 },
-    /// A call of the device failed.
+    /// 7: a call of the device failed.
     #[error("fault 7 Device")]
     Device,
-    /// The allocator refused memory.
+    /// 8: memory was refused.
     #[error("fault 8 Memory")]
     Memory,
 }

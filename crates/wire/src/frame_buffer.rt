@@ -16,16 +16,16 @@ const MAX_FRAME: usize = 2048;
 /// The fewest bytes of a frame: an Ethernet header.
 pub const MIN_FRAME: usize = 14;
 
-/// Why a frame was refused.
+/// Why a frame was refused. docs/FAULTS.md says when each comes, in which order, and what it leaves.
 #[derive(Clone, Copy, Debug, PartialEq, Eq, Error)]
 pub enum FrameFault {
-    /// More than 2048 bytes.
+    /// 6: more than 2048 bytes.
     #[error("fault 6 FrameTooLong")]
     FrameTooLong,
-    /// The allocator refused the buffer.
+    /// 8: memory was refused.
     #[error("fault 8 Memory")]
     Memory,
-    /// Fewer than 14 bytes.
+    /// 9: fewer than 14 bytes.
     #[error("fault 9 ShortFrame")]
     ShortFrame,
 }

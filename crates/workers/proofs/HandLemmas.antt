@@ -2,6 +2,7 @@
 use Rattle.std.proofs.Common.{replicate, ◌≡◌, ℕ, zero, suc, ◌+◌, ◌<◌, ◌/◌, ◌%◌, ◌==◌, Bool, true, false, if◌then◌else◌, List, [], ◌∷◌, ◌++◌, map, length, refl, sym, ap, ◌∙◌, subst, arith, add-one, append_assoc}
 use Rattle.std.proofs.Math.Nat.{mod-lt, div-add-mod}
 use Rattle.std.proofs.lemmas.Bool.Decides.{nat_tests}
+use Rattle.std.proofs.lemmas.List.{append-nil}
 use Rattle.rx_queues.specs.declared.job.Job.{Job}
 use Rattle.rx_queues.specs.declared.job.Job.TheVariants.{Command, Note, End}
 use Rattle.rx_queues.specs.Fifo.{IsTakenInOrder}
@@ -9,10 +10,6 @@ use Rattle.rx_queues.specs.Passes.{with_job_at}
 use Rattle.workers.specs.Actors.{numbers_from, commands_from, HasEnded, HasNoEnd, EndsOnce, ArePutAt, AreHandedOver, AreBothEnded}
 use Rattle.workers.specs.Puts.{put_at}
 use Rattle.workers.proofs.PutLemmas.{length_with_job, job_here, job_elsewhere}
-
-nothing_after : {A : Type 0} (xs : List A) → xs ++ [] ≡ xs
-nothing_after [] = refl
-nothing_after (x ∷ xs) = ap (λ rest. x ∷ rest) (nothing_after xs)
 
 -- ---- jobs put at one place
 
@@ -26,7 +23,7 @@ one_put place job before after is = record {
 pub none_put_at : (place : ℕ) (before after : List (List Job)) → after ≡ before → ArePutAt place [] before after
 none_put_at place before after is = record {
   count = ap (λ (p : List (List Job)). length p) is;
-  here = λ within. ap (λ p. put_at p place) is ∙ sym (nothing_after (put_at before place));
+  here = λ within. ap (λ p. put_at p place) is ∙ sym (append-nil (put_at before place));
   elsewhere = λ other apart. ap (λ p. put_at p other) is;
 }
 
@@ -168,4 +165,4 @@ rounds_more number = subst (λ n. replicate (number / 64) Note ++ (if n % 64 == 
     by_test : (test : Bool) → (suc number % 64 == 0) ≡ test
         → replicate (number / 64) Note ++ (if suc number % 64 == 0 then Note ∷ [] else []) ≡ replicate (suc number / 64) Note
     by_test true is = rw is (notes_push (number / 64) ∙ ap (λ n. replicate n Note) (sym (round_over number is)))
-    by_test false is = rw is (nothing_after (replicate (number / 64) Note) ∙ ap (λ n. replicate n Note) (sym (round_on number is)))
+    by_test false is = rw is (append-nil (replicate (number / 64) Note) ∙ ap (λ n. replicate n Note) (sym (round_on number is)))

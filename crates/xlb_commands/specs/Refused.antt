@@ -67,7 +67,7 @@ use Rattle.xlb_commands.specs.declared.fault.Fault.TheVariants as faults
 use Rattle.xlb_commands.specs.Files.{FileBytes, AreKept, IsImageFile}
 use Rattle.xlb_commands.specs.FaultLines.{fault_line, mistake_text}
 use Rattle.xlb_commands.specs.Replays.{IsProgramOf, IsScriptOf, IsCaptureOf, program_of_replay}
-use Rattle.xlb_commands.specs.Results.{IsDone, IsDoneInPart, IsMistake, run_options, program_of_run, start_of_run}
+use Rattle.xlb_commands.specs.Results.{IsDone, IsDoneInPart, IsReported, IsMistake, run_options, program_of_run, start_of_run}
 
 -- ---- files
 
@@ -387,3 +387,8 @@ pub record IsTold (before after : FileBytes) (failed : Type 0) (settings : Setti
   pub notes : List ℕ
   pub told : err'.failures ≡ err.failures → PrintsRefusal fault notes err.held err'.held
   pub nothing : out'.failures ≡ out.failures → out'.held ≡ out.held
+
+-- the command is refused: its report says so, or its fault was told
+abbrev pub IsRefused : FileBytes → FileBytes → Type 0 → Settings → Stream → Stream → Stream → Stream → Type 0
+IsRefused before after failed settings out out' err err' =
+    IsReported before after settings out.held out'.held err.held err'.held ⊎ IsTold before after failed settings out out' err err'

@@ -28,7 +28,7 @@ pub enum Fault {
     Text(AsmFault),
     /// 21 to 23: a text in the source form that spells no image.
     Source(SourceFault),
-    /// 30 to 48: a program that may not run.
+    /// 30 to 49: a program that may not run.
     Program(Reject),
     /// 6, 8 or 9: bytes that are no frame.
     Frame(FrameFault),

@@ -1,11 +1,11 @@
 //! The program, but for its command line.
 
-ghost use Rattle.std.specs.Prelude.{◌≡◌, ◌+◌, ◌-◌, ◌<◌, ◌^◌, ◌⊎◌, ℕ, List, true, false, IfErr, IfOk, OnOk, string_bytes};
+ghost use Rattle.std.specs.Prelude.{◌≡◌, ◌+◌, ◌-◌, ◌<◌, ◌^◌, ℕ, List, true, false, IfErr, IfOk, OnOk, string_bytes};
 ghost use Rattle.std.specs.Io.KnownBytes.{append_known};
 ghost use Rattle.explanations.specs.Refusals.{IsRefusalText};
 ghost use Rattle.xlb_commands.specs.FaultLines.{fault_line, mistake_text};
-ghost use Rattle.xlb_commands.specs.Results.{IsAnswer, IsDone, IsReported, KeepsFiles};
-ghost use Rattle.xlb_commands.specs.Refused.{HasFailed, IsMistaken, IsRefusedWith, IsTold, PrintsMistake, PrintsRefusal, notes_told, stream};
+ghost use Rattle.xlb_commands.specs.Results.{IsAnswer, IsDone, KeepsFiles};
+ghost use Rattle.xlb_commands.specs.Refused.{HasFailed, IsMistaken, IsRefused, IsRefusedWith, PrintsMistake, PrintsRefusal, notes_told, stream};
 
 use crate::commands::{
     assemble_file, assemble_source_file, audit_file, check, check_explained, disassemble,
@@ -201,9 +201,8 @@ pub fn serve<R: Threads + Wait + Sync, D: Folder, P: Progress + Sync, O: Sink, E
         × (O.held out.new ≡ append_known (O.held out.old) text) }
     ensures quiet { result ≡ 0 → E.held err.new ≡ E.held err.old }
     ensures kept { KeepsFiles (D.holds folder.old) (D.holds folder.new) settings.now }
-    ensures refused { result ≡ 1
-        → IsReported (D.holds folder.old) (D.holds folder.new) settings.now (O.held out.old) (O.held out.new) (E.held err.old) (E.held err.new)
-        ⊎ IsTold (D.holds folder.old) (D.holds folder.new) (HasFailed (D.failure_count folder.old) (D.failure_count folder.new)) settings.now
+    ensures refused { result ≡ 1 → IsRefused (D.holds folder.old) (D.holds folder.new)
+        (HasFailed (D.failure_count folder.old) (D.failure_count folder.new)) settings.now
         (stream (O.held out.old) (O.failure_count out.old)) (stream (O.held out.new) (O.failure_count out.new))
         (stream (E.held err.old) (E.failure_count err.old)) (stream (E.held err.new) (E.failure_count err.new)) }
     ensures mistaken { result ≡ 2 → IsMistaken (D.holds folder.old) (D.holds folder.new) settings.now

@@ -131,12 +131,12 @@ pub stack_reached : (stack : List StackByte) (place : ℤ) (from count : ℕ) �
     stack_range stack place count ≡ Ok from
 stack_reached stack place from count long at inside = rw (at, reaches_within (from + count) stack (omega arith)) refl
 
--- a distance from a pointer
-pub stack_moved : (at distance : ℤ) (place : ℕ) → stack_place at ≡ pos place → stack_place (at +ℤ distance) ≡ pos place +ℤ distance
-stack_moved at distance place counted = sym (+ℤ_assoc (pos 512) at distance) ∙ ap (λ z. z +ℤ distance) counted
+-- an offset from a pointer
+pub stack_moved : (at offset : ℤ) (place : ℕ) → stack_place at ≡ pos place → stack_place (at +ℤ offset) ≡ pos place +ℤ offset
+stack_moved at offset place counted = sym (+ℤ_assoc (pos 512) at offset) ∙ ap (λ z. z +ℤ offset) counted
 
-pub packet_moved : (base off from : ℕ) (distance : ℤ) → pos off +ℤ distance ≡ pos from → pos (base + off) +ℤ distance ≡ pos (base + from)
-packet_moved base off from distance at = +ℤ_assoc (pos base) (pos off) distance ∙ ap (λ z. pos base +ℤ z) at
+pub packet_moved : (base off from : ℕ) (offset : ℤ) → pos off +ℤ offset ≡ pos from → pos (base + off) +ℤ offset ≡ pos (base + from)
+packet_moved base off from offset at = +ℤ_assoc (pos base) (pos off) offset ∙ ap (λ z. pos base +ℤ z) at
 
 itself : (n : ℕ) → (n == n) ≡ true
 itself n = grind (arith, nat_tests)

@@ -3,7 +3,7 @@ use Rattle.abstract_state.specs.Soundness.{FlowIsSound}
 use Rattle.abstract_state.proofs.shared.FlowSteps.{flow_follows}
 use Rattle.abstract_state.proofs.Loading.{load_sound}
 use Rattle.abstract_state.proofs.SignedLoading.{signed_load_sound}
-use Rattle.abstract_state.proofs.shared.StoreSoundness.{store_sound, store_register_sound}
+use Rattle.abstract_state.proofs.Storing.{store_sound, store_register_sound}
 use Rattle.abstract_state.proofs.CellWriting.{atomic_sound}
 use Rattle.abstract_state.proofs.Addressing.{address_sound}
 use Rattle.abstract_state.proofs.Calling.{call_sound}

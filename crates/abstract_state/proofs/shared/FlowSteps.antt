@@ -40,7 +40,7 @@ unfolding FieldsFit
 alu_source width op dst (Imm immediate) fits = immediate_fits immediate fits
 alu_source width op dst (Reg register) fits = tt
 
-jump_source : (width : Width) (test : Test) (dst : Register) (source : Source) (distance : ℤ) → FieldsFit (JumpIf width test dst source distance) → SourceFits source
+pub jump_source : (width : Width) (test : Test) (dst : Register) (source : Source) (distance : ℤ) → FieldsFit (JumpIf width test dst source distance) → SourceFits source
 unfolding FieldsFit
 jump_source width test dst (Imm immediate) distance fits = immediate_fits immediate fits.1
 jump_source width test dst (Reg register) distance fits = tt

@@ -33,7 +33,7 @@ use Rattle.semantics.specs.declared.linux.Helper.TheVariants.{MapLookupElem, Map
 use Rattle.abstract_state.specs.declared.flow.Flow.{Flow}
 use Rattle.abstract_state.specs.declared.flow.Flow.TheVariants.{Ends, Falls, Jumps, Splits}
 use Rattle.abstract_state.specs.declared.refusal.Refusal.{Refusal}
-use Rattle.abstract_state.specs.declared.refusal.Refusal.TheVariants.{WrongKind, ContextAccess, Misaligned, StackBounds, PointerLeak, UnknownMap}
+use Rattle.abstract_state.specs.declared.refusal.Refusal.TheVariants.{WrongKind, ContextAccess, Misaligned, StackBounds, PointerLeak}
 use Rattle.abstract_state.specs.declared.state.State.{State}
 use Rattle.abstract_state.specs.States.{Checked, ◌>>=◌, kind_of, with_kind, word_of, with_word, no_bytes, stack_size, opening_state}
 use Rattle.abstract_state.specs.Join.{zip_with, spilled, bytes_of_kind, bytes_of_word, join_kind, join_word, join_of}
@@ -101,7 +101,7 @@ set_eight set from count h inside =
     in omega arith
 
 -- an aligned access stays inside its word
-inside_word : (size : Size) (from : ℕ) → from % size_bytes size ≡ 0 → from % 8 + size_bytes size ≤ 8
+pub inside_word : (size : Size) (from : ℕ) → from % size_bytes size ≡ 0 → from % 8 + size_bytes size ≤ 8
 inside_word U8 from h = omega arith
 inside_word U16 from h = omega arith
 inside_word U32 from h = omega arith

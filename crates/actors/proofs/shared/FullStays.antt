@@ -1,7 +1,7 @@
 -- A journal that is full for a call stays full for it, whatever is called later: an entry takes room for good, and only its Leave gives back the
 -- room that an Enter kept for it.
-use Rattle.std.proofs.Common.{◌≡◌, ℕ, ◌+◌, ◌<◌, ◌≤◌, Bool, true, false, cond, nat_lt, not, List, [], ◌∷◌, ◌++◌, length, arith, refl, sym, ◌∙◌, ap, subst}
-use Rattle.std.specs.Prelude.{◌==◌, ◌&&◌, count_by, is_some, IsTrue, if◌then◌else◌}
+use Rattle.std.proofs.Common.{◌≡◌, ℕ, ◌+◌, ◌≤◌, Bool, true, false, cond, not, List, [], ◌∷◌, ◌++◌, length, arith, refl, sym, ap, subst}
+use Rattle.std.specs.Prelude.{◌==◌, ◌&&◌, count_by, IsTrue}
 use Rattle.std.specs.List.{list_all}
 use Rattle.std.proofs.lemmas.Bool.{and_parts}
 use Rattle.std.proofs.lemmas.List.Sums.{sum_by-cons}
@@ -15,8 +15,8 @@ use Rattle.semantics.specs.declared.call.SectionChange.{SectionChange}
 use Rattle.semantics.specs.declared.call.SectionChange.TheVariants.{Begins, Ends, Stays}
 use Rattle.semantics.specs.declared.plan.ShardPlan.{ShardPlan}
 use Rattle.semantics.specs.Sections.{section_change}
-use Rattle.semantics.specs.Reclamation.{is_worker, is_inside, inside_count, worker_numbers}
-use Rattle.semantics.specs.History.{lacks_room, room_for_leave, room_needed, journal_is_full, IsJournalFull}
+use Rattle.semantics.specs.Reclamation.{is_inside, inside_count, worker_numbers}
+use Rattle.semantics.specs.History.{lacks_room, room_needed, IsJournalFull}
 
 -- ---- how many of some numbers pass a test
 

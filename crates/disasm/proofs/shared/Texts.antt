@@ -1,12 +1,12 @@
 -- A text is read in one way.
-use Rattle.std.proofs.Common.{◌≡◌, ℕ, ◌+◌, ◌<◌, ◌^◌, Bool, true, false, ◌&&◌, leb, ltb, eqb, List, [], ◌∷◌, ◌++◌, length, get_or, Some, None, refl, sym, ap, ◌∙◌, arith, append_assoc}
+use Rattle.std.proofs.Common.{◌≡◌, ℕ, ◌+◌, ◌<◌, ◌^◌, true, false, ◌&&◌, leb, ltb, eqb, List, [], ◌∷◌, ◌++◌, length, get_or, Some, None, refl, sym, ap, ◌∙◌, arith, append_assoc}
 use Rattle.std.specs.Prelude.{codes}
 use Rattle.std.proofs.Common.{inr}
 use Rattle.std.specs.Fmt.{decimal}
 use Rattle.std.specs.List.{AllByRecursion}
 use Rattle.std.proofs.lemmas.List.{append-nil, append_cancel_left}
 use Rattle.std.proofs.lemmas.Grind.{flat_map-append}
-use Rattle.std.proofs.lemmas.Bool.Decides.{nat_tests, Decides-eqb}
+use Rattle.std.proofs.lemmas.Bool.Decides.{nat_tests}
 use Rattle.ebpf_decode.specs.declared.insn.Insn.{Insn}
 use Rattle.ebpf_decode.specs.declared.map.MapDef.{MapDef}
 use Rattle.ebpf_decode.specs.declared.map.MapKind.{MapKind}
@@ -140,16 +140,6 @@ no_fault version maps code is =
     let some : eqb (length code) 0 ≡ false = grind (arith, nat_tests, is.some_code) in
     let short : ltb 4096 (total_slots code) ≡ false = grind (arith, nat_tests, is.few_slots) in
     rw (few, all_good version 0 maps is.maps_allowed, some, short, all_known version 0 code is.in_version) refl
-
-pub not_empty : (r : Bool) (xs : List ℕ) → r ≡ eqb (length xs) 0 → r ≡ false → 0 < length xs
-not_empty r [] h f = absurd cc
-not_empty r (x ∷ xs) h f = omega arith
-
-pub is_empty : (r : Bool) (xs : List ℕ) → r ≡ eqb (length xs) 0 → r ≡ true → xs ≡ []
-is_empty r [] h t = refl
-is_empty r (x ∷ xs) h t =
-    let e : length (x ∷ xs) ≡ 0 = (Decides-eqb (length (x ∷ xs)) 0).0 (sym h ∙ t) in
-    absurd (omega arith)
 
 not_next : (n m : ℕ) → n ≡ m → m ≡ n + 1 → ⊥
 not_next n m same next = omega arith

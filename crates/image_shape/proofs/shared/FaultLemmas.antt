@@ -1,5 +1,5 @@
 -- Faults of edges: what they depend on, and what it means that there is none.
-use Rattle.std.proofs.Common.{◌≡◌, ◌≢◌, ℕ, ◌+◌, ◌<◌, ◌≤◌, Bool, true, false, cond, ◌&&◌, leb, ℤ, pos, negsuc, ◌+ℤ◌, ◌≤ℤ◌, List, length, get_or, take, Option, Some, None, refl, sym, ap, subst, ◌∙◌, ⊎_elim, arith}
+use Rattle.std.proofs.Common.{◌≡◌, ◌≢◌, ℕ, ◌+◌, ◌<◌, ◌≤◌, Bool, true, false, cond, ◌&&◌, leb, ℤ, pos, negsuc, ◌≤ℤ◌, List, length, get_or, take, Option, Some, None, refl, sym, ap, subst, ◌∙◌, ⊎_elim, arith}
 use Rattle.std.specs.Option.{option_or}
 use Rattle.std.specs.Prelude.{IsTrue}
 use Rattle.std.proofs.Math.Facts.{yes_leb}
@@ -11,7 +11,7 @@ use Rattle.image_shape.specs.declared.fault.ShapeFault.{ShapeFault}
 use Rattle.image_shape.specs.declared.fault.ShapeFault.TheVariants.{JumpBackward, JumpOutside, JumpIntoWide, FallsOff, Unreachable}
 use Rattle.ebpf_decode.specs.Jumps.{jump_target}
 use Rattle.image_shape.specs.Edges.{falls_through, IsEdge, is_begin}
-use Rattle.image_shape.specs.Layouts.{IsLayout, GoesForward}
+use Rattle.image_shape.specs.Layouts.{IsLayout, HasNoNegativeTarget}
 use Rattle.image_shape.specs.Structure.{jump_fault, fall_fault, instruction_fault, fault_at, HasSoundEdges, IsFirstFault, IsFirstBadEdge}
 use Rattle.image_shape.proofs.shared.SlotLemmas.{some_slots, instruction_here, none_inside, past_end, next_begins}
 
@@ -121,15 +121,15 @@ edge_is_up code slot insn target none found edge =
     (λ jump. jump_is_up code slot target (ap (jump_fault (is_begin code) (total_slots code) slot) (sym jump) ∙ parts.0))
     edge
 
--- a jump without a fault goes forward
-forward : (begins : ℕ → Bool) (total slot : ℕ) (target : ℤ) → jump_fault begins total slot (Some target) ≡ None → pos 0 ≤ℤ target
-forward begins total slot (negsuc below) none = absurd cc
-forward begins total slot (pos target) none = record { le = yes_leb (omega arith) }
+-- the target of a jump without a fault is not below 0
+not_negative : (begins : ℕ → Bool) (total slot : ℕ) (target : ℤ) → jump_fault begins total slot (Some target) ≡ None → pos 0 ≤ℤ target
+not_negative begins total slot (negsuc below) none = absurd cc
+not_negative begins total slot (pos target) none = record { le = yes_leb (omega arith) }
 
-pub goes_forward : (code : List Insn) (slot : ℕ) (insn : Insn) → fault_at code slot ≡ None → instruction_at code slot ≡ Some insn → GoesForward slot insn
-goes_forward code slot insn none found target is =
+pub no_negative_target : (code : List Insn) (slot : ℕ) (insn : Insn) → fault_at code slot ≡ None → instruction_at code slot ≡ Some insn → HasNoNegativeTarget slot insn
+no_negative_target code slot insn none found target is =
     let parts = no_fault_parts (jump_fault (is_begin code) (total_slots code) slot (jump_target slot insn)) (fall_fault (total_slots code) slot insn) (sym (fault_here code slot insn found) ∙ none) in
-    forward (is_begin code) (total_slots code) slot target (ap (jump_fault (is_begin code) (total_slots code) slot) (sym is) ∙ parts.0)
+    not_negative (is_begin code) (total_slots code) slot target (ap (jump_fault (is_begin code) (total_slots code) slot) (sym is) ∙ parts.0)
 
 -- ---- the pass over all edges
 

@@ -5,7 +5,6 @@ use Rattle.std.specs.List.{AllByRecursion, list_all}
 use Rattle.std.specs.Map.{lookup, lookup_entry, remove_entry}
 use Rattle.std.proofs.lemmas.Bool.Decides.{leb_tells}
 use Rattle.std.proofs.lemmas.Bool.{le-leb, false≢true}
-use Rattle.std.proofs.lemmas.Slice.Eq.{bytes_eq-Decides}
 use Rattle.lru.specs.LruCache.{promoted}
 use Rattle.semantics.specs.declared.call.Entry.{Entry}
 use Rattle.semantics.specs.declared.plan.PresentKey.{PresentKey}
@@ -16,12 +15,9 @@ use Rattle.semantics.specs.SequentialShard.{cell_of_present}
 use Rattle.semantics.specs.UseLaws.{ArePairwise}
 use Rattle.lru_maps.specs.LruTable.{last_of, all_but_last}
 use Rattle.lru_maps.specs.ByUse.{IsUsedLater, HaveOtherKeys, HaveOtherCells, IsByUse}
-
-same_key : (a b : List ℕ) → bytes_eq a b ≡ true → a ≡ b
-same_key a b same = (bytes_eq-Decides a b).0 same
-
-key_same : (a : List ℕ) → bytes_eq a a ≡ true
-key_same a = (bytes_eq-Decides a a).1 refl
+use Rattle.semantics.proofs.shared.HoldingLemmas.{each_weaker}
+use Rattle.semantics.proofs.shared.UseLemmas.{pairs_filter, used_within}
+use Rattle.lru_maps.proofs.Orders.{same_key, key_same}
 
 -- a test of keys does not ask which stands first
 either_way : (a b : List ℕ) → bytes_eq a b ≡ bytes_eq b a
@@ -36,26 +32,6 @@ either_way a b = go (bytes_eq a b) refl
         back false is = is
 
 -- ---- lists
-
-each_weaker : {A : Type 0} (P Q : A → Type 0) → ((x : A) → P x → Q x) → (xs : List A) → AllByRecursion P xs → AllByRecursion Q xs
-each_weaker P Q weaker [] each = tt
-each_weaker P Q weaker (x ∷ xs) each = (weaker x each.0, each_weaker P Q weaker xs each.1)
-
-each_filter : {A : Type 0} (P : A → Type 0) (test : A → Bool) (xs : List A) → AllByRecursion P xs → AllByRecursion P (filter test xs)
-each_filter P test [] each = tt
-each_filter P test (x ∷ xs) each = by_test (test x) (each_filter P test xs each.1)
-  where
-    by_test : (t : Bool) → AllByRecursion P (filter test xs) → AllByRecursion P (cond t (x ∷ filter test xs) (filter test xs))
-    by_test true rest = (each.0, rest)
-    by_test false rest = rest
-
-pairs_filter : {A : Type 0} (R : A → A → Type 0) (test : A → Bool) (xs : List A) → ArePairwise R xs → ArePairwise R (filter test xs)
-pairs_filter R test [] pairs = tt
-pairs_filter R test (x ∷ xs) pairs = by_test (test x) (pairs_filter R test xs pairs.1)
-  where
-    by_test : (t : Bool) → ArePairwise R (filter test xs) → ArePairwise R (cond t (x ∷ filter test xs) (filter test xs))
-    by_test true rest = (each_filter (R x) test xs pairs.0, rest)
-    by_test false rest = rest
 
 -- ---- entries by key
 
@@ -144,14 +120,6 @@ module _ (history : List Entry) where
       by_test true same rest = (let k : key ≡ e.0 = same_key key e.0 same in rw k (earlier_apart e entries falling.0))
       by_test false differ rest = (differ, rest)
 
-within : (key : List ℕ) (history : List Entry) → last_use key history ≤ length history
-within key [] = omega arith
-within key (entry ∷ older) = by_use (uses key entry) (within key older)
-  where
-    by_use : (used : Bool) → last_use key older ≤ length older → cond used (suc (length older)) (last_use key older) ≤ suc (length older)
-    by_use true before = omega arith
-    by_use false before = omega (arith, before)
-
 module _ (entry : Entry) (older : List Entry) where
   unused_stays : (key : List ℕ) → uses key entry ≡ false → last_use key (entry ∷ older) ≡ last_use key older
   unused_stays key none = rw none refl
@@ -178,7 +146,7 @@ module _ (entry : Entry) (older : List Entry) where
   first_later key id (o ∷ entries) is none =
       let first : last_use o.0 (entry ∷ older) ≡ last_use o.0 older = unused_stays o.0 none.0 in
       let now : last_use key (entry ∷ older) ≡ suc (length older) = used_now key is in
-      let few : last_use o.0 older ≤ length older = within o.0 older in
+      let few : last_use o.0 older ≤ length older = used_within o.0 older in
       (omega (arith, first, now, few), first_later key id entries is none.1)
 
   module _ (present : List PresentKey) (entries : List (List ℕ × ℕ)) (before : IsByUse older present entries) where

@@ -3,7 +3,7 @@ use Rattle.std.proofs.Common.{◌≡◌, ℕ, ◌+◌, ◌*◌, ◌/◌, ◌%◌
 use Rattle.std.specs.Prelude.{◌==◌, filter, find, option_map, bytes_eq, if◌then◌else◌}
 use Rattle.std.specs.List.{AllByRecursion, list_any}
 use Rattle.std.proofs.lemmas.Nat.{div_below}
-use Rattle.std.proofs.lemmas.List.{length-replicate}
+use Rattle.std.proofs.lemmas.List.{length-replicate, append-nil}
 use Rattle.std.proofs.lemmas.Map.Views.{any-filter_same}
 use Rattle.std.proofs.lemmas.Bool.Decides.{nat_tests}
 use Rattle.ebpf_decode.specs.declared.map.MapKind.{MapKind}
@@ -34,7 +34,7 @@ first_or : (a b : Bool) → a ≡ true → (a || b) ≡ true
 first_or true b is = refl
 first_or false b is = cc
 
-second_or : (a b : Bool) → b ≡ true → (a || b) ≡ true
+pub second_or : (a b : Bool) → b ≡ true → (a || b) ≡ true
 second_or true b is = refl
 second_or false b is = is
 
@@ -134,18 +134,14 @@ index_within plan index cell true is equal some found =
     in omega (arith, same, here)
 index_within plan index cell false is equal some found = absurd cc
 
-opened_count : (kind : MapKind) (plan : ShardPlan) → kind ≡ Array → length (opening_cells kind plan) ≡ capacity plan
+pub opened_count : (kind : MapKind) (plan : ShardPlan) → kind ≡ Array → length (opening_cells kind plan) ≡ capacity plan
 opened_count kind plan array = rw array (length-replicate (capacity plan) (replicate plan.definition.value_size 0))
-
-append_none : {A : Type 0} (xs : List A) → xs ++ [] ≡ xs
-append_none [] = refl
-append_none (x ∷ xs) = ap (λ rest. x ∷ rest) (append_none xs)
 
 -- an array's shard has a cell for each of its indices, whatever happened
 cells_stay : (plan : ShardPlan) (history : List Entry) → length (opening_cells plan.definition.kind plan) ≤ length (shard_after plan history).cells
 cells_stay plan history =
     let grown : length (shard_after plan []).cells ≤ length (shard_after plan (history ++ [])).cells = history_grows plan history [] in
-    let same : history ++ [] ≡ history = append_none history in
+    let same : history ++ [] ≡ history = append-nil history in
     let at : length (shard_after plan (history ++ [])).cells ≡ length (shard_after plan history).cells = ap (λ h. length (shard_after plan h).cells) same in
     omega (arith, grown, at)
 

@@ -1,5 +1,5 @@
 -- The plans of the shards of an image's maps.
-use Rattle.std.proofs.Common.{◌≡◌, ℕ, zero, suc, ◌/◌, ◌%◌, ◌<◌, List, [], ◌∷◌, Option, Some, None, refl, subst, ⊎_elim, arith}
+use Rattle.std.proofs.Common.{◌≡◌, ℕ, zero, suc, ◌+◌, ◌*◌, ◌/◌, ◌%◌, ◌<◌, ◌≤◌, List, [], ◌∷◌, length, get_or, Option, Some, None, refl, subst, ⊎_elim, arith, mul-le-mul_right, suc-mul}
 use Rattle.std.specs.Prelude.{slice_get}
 use Rattle.std.specs.List.{AllByRecursion}
 use Rattle.std.proofs.lemmas.Nat.{mod_below}
@@ -14,13 +14,23 @@ each_at P [] place definition each is = absurd cc
 each_at P (first ∷ maps) zero definition each is = let same : first ≡ definition = cc in subst P same each.0
 each_at P (first ∷ maps) (suc place) definition each is = each_at P maps place definition each.1 is
 
-some_shards : (maps : List MapDef) (options : Options) → AreOptions maps options → 0 < options.shards
+pub some_shards : (maps : List MapDef) (options : Options) → AreOptions maps options → 0 < options.shards
 some_shards maps options fits = ⊎_elim
     (λ one. omega (arith, one))
     (λ more. ⊎_elim (λ two. omega (arith, two)) (λ many. ⊎_elim (λ four. omega (arith, four)) (λ eight. omega (arith, eight)) many) more)
     fits.power_of_two
 
-abbrev plan_of : Options → ℕ → MapDef → ShardPlan
+pub few_parts : (maps : List MapDef) (options : Options) → AreOptions maps options → options.shards ≤ 8
+few_parts maps options are = grind (arith, are.power_of_two)
+
+-- the shard of a map's part is one of all maps' shards
+pub below_count : (map maps parts part : ℕ) → map < maps → part < parts → map * parts + part < maps * parts
+below_count map maps parts part of_map of_part =
+    let more : suc map * parts ≤ maps * parts = mul-le-mul_right parts of_map in
+    let next : suc map * parts ≡ map * parts + parts = suc-mul map parts in
+    omega (arith, more, next, of_part)
+
+abbrev pub plan_of : Options → ℕ → MapDef → ShardPlan
 plan_of options number definition = record {
   number = number;
   part = number % options.shards;
@@ -55,3 +65,9 @@ plan_by maps options number plan (Some definition) sizes fits is planned =
 
 pub shards_have_plans : (maps : List MapDef) (options : Options) (number : ℕ) (plan : ShardPlan) → AllByRecursion HasImageSizes maps → AreOptions maps options → plan_at maps options number ≡ Some plan → IsPlan plan
 shards_have_plans maps options number plan sizes fits is = plan_by maps options number plan (slice_get maps (number / options.shards)) sizes fits refl is
+
+-- the map at a place that there is
+pub map_at : (maps : List MapDef) (place : ℕ) (other : MapDef) → place < length maps → slice_get maps place ≡ Some (get_or maps place other)
+map_at [] place other within = absurd (omega (arith, within))
+map_at (one ∷ rest) zero other within = refl
+map_at (one ∷ rest) (suc place) other within = map_at rest place other (omega (arith, within))

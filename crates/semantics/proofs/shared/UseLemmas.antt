@@ -27,10 +27,10 @@ pub pairs_weaker : {A : Type 0} (R S : A → A → Type 0) → ((x y : A) → R 
 pairs_weaker R S weaker [] pairs = tt
 pairs_weaker R S weaker (x ∷ xs) pairs = (each_weaker (R x) (S x) (weaker x) xs pairs.0, pairs_weaker R S weaker xs pairs.1)
 
-first_parts : {A : Type 0} (P : A → Type 0) (test : A → Bool) (xs : List A) → AllByRecursion P xs → AllByRecursion P (filter test xs)
+pub first_parts : {A : Type 0} (P : A → Type 0) (test : A → Bool) (xs : List A) → AllByRecursion P xs → AllByRecursion P (filter test xs)
 first_parts P test xs each = each_weaker (λ x. P x × (test x ≡ true)) P (λ x held. held.0) (filter test xs) (each_filter P test xs each)
 
-pairs_filter : {A : Type 0} (R : A → A → Type 0) (test : A → Bool) (xs : List A) → ArePairwise R xs → ArePairwise R (filter test xs)
+pub pairs_filter : {A : Type 0} (R : A → A → Type 0) (test : A → Bool) (xs : List A) → ArePairwise R xs → ArePairwise R (filter test xs)
 pairs_filter R test [] pairs = tt
 pairs_filter R test (x ∷ xs) pairs = by_test (test x) (pairs_filter R test xs pairs.1)
   where
@@ -40,7 +40,7 @@ pairs_filter R test (x ∷ xs) pairs = by_test (test x) (pairs_filter R test xs 
 
 -- ---- a use is of one key
 
-same_bytes : (a b : List ℕ) → bytes_eq a b ≡ true → a ≡ b
+pub same_bytes : (a b : List ℕ) → bytes_eq a b ≡ true → a ≡ b
 same_bytes a b same = (bytes_eq-Decides a b).0 same
 
 bytes_same : (a : List ℕ) → bytes_eq a a ≡ true
@@ -61,7 +61,7 @@ one_key entry (Atomic cell offset size op value expected) reply a b first second
 one_key entry (Delete shard key) reply a b first second = cc
 one_key entry (Reclaim shard) reply a b first second = cc
 
-used_within : (key : List ℕ) (history : List Entry) → last_use key history ≤ length history
+pub used_within : (key : List ℕ) (history : List Entry) → last_use key history ≤ length history
 used_within key [] = omega arith
 used_within key (entry ∷ older) = by_use (uses key entry) (used_within key older)
   where

@@ -1,9 +1,9 @@
 -- A call that the port takes is one that its shard serves.
-use Rattle.std.proofs.Common.{◌≡◌, ℕ, zero, suc, ◌+◌, ◌*◌, ◌/◌, ◌%◌, ◌^◌, ◌<◌, ◌≤◌, Bool, true, false, nat_lt, nat_le, List, [], ◌∷◌, ◌++◌, length, reverse, Option, Some, None, arith, refl, sym, ◌∙◌, ap, subst}
+use Rattle.std.proofs.Common.{◌≡◌, ℕ, zero, suc, ◌+◌, ◌*◌, ◌/◌, ◌%◌, ◌^◌, ◌<◌, ◌≤◌, Bool, true, false, ◌||◌, nat_lt, List, [], ◌∷◌, ◌++◌, length, reverse, Option, Some, None, arith, refl, sym, ◌∙◌, ap, subst}
 use Rattle.std.specs.Prelude.{◌==◌, IsTrue, is_some, slice_get, if◌then◌else◌}
 use Rattle.std.proofs.lemmas.Option.{slice_get_within}
 use Rattle.std.proofs.lemmas.Nat.{div-mul-add, mod-mul-add}
-use Rattle.std.proofs.Math.Nat.{mod-lt, mul-le-mul_right, suc-mul}
+use Rattle.std.proofs.Math.Nat.{mod-lt}
 use Rattle.std.proofs.lemmas.Bool.Decides.{nat_tests}
 use Rattle.isa.specs.declared.operation.AtomicOp.{AtomicOp}
 use Rattle.isa.specs.declared.operation.AtomicOp.TheVariants.{AtomicAdd, AtomicOr, AtomicAnd, AtomicXor, FetchAdd, FetchOr, FetchAnd, FetchXor, Exchange, CompareExchange}
@@ -14,13 +14,14 @@ use Rattle.semantics.specs.declared.plan.ShardPlan.{ShardPlan}
 use Rattle.semantics.specs.declared.call.CellRef.{CellRef}
 use Rattle.semantics.specs.declared.call.Call.TheVariants.{Load, Store}
 use Rattle.semantics.specs.Program.{part_of_key, shard_number_of_key}
-use Rattle.semantics.specs.ShardPlan.{AreOptions}
 use Rattle.semantics.specs.Reclamation.{is_inside, holds}
+use Rattle.semantics.specs.ServedCalls.{Held, IsKeyOf, IsPairOf, IsServedLoad, IsServedAtomic}
 use Rattle.semantics.specs.History.{are_flags, is_own_key, is_load_size, is_in_cell, fits_size}
 use Rattle.semantics.proofs.shared.ConditionLemmas.{first_true, second_true, bytes_test}
-use Rattle.semantics.specs.Program.{value_size_of}
+use Rattle.semantics.specs.Program.{Program, value_size_of}
 use Rattle.shard_core.specs.JournaledShard.{JournaledShard}
-use Rattle.map_port.specs.Served.{Maps, shard_of, IsKeyOf, IsPairOf, IsReadable, IsStorable, IsAtomic, lookup_call, update_call, delete_call, atomic_call}
+use Rattle.map_port.specs.Served.{Maps, shard_of, IsReadable, IsStorable, IsAtomic, lookup_call, update_call, delete_call, atomic_call}
+use Rattle.semantics.proofs.shared.PlanLemmas.{some_shards, below_count}
 use Rattle.shard_port.specs.Asking.{is_in, enter_by, entered, may_ask_at}
 use Rattle.shard_port.specs.PortView.{holds_at, is_handed_out, IsShardOf, IsReady}
 use Rattle.shard_port.specs.PortLaws.{same_worker, append_none, newest_first, stays_entered, held_is_inside, both_true}
@@ -33,12 +34,6 @@ inside_once_entered worker shard = by_test (is_in worker shard) refl
         is_inside worker (reverse (shard.journal ++ (if inside then [] else enter_by worker shard.plan.number ∷ []))) ≡ true
     by_test true is = rw (append_none shard.journal) is
     by_test false is = rw (newest_first shard (enter_by worker shard.plan.number), same_worker worker) refl
-
-pub some_part : (maps : List MapDef) (options : Options) → AreOptions maps options → 0 < options.shards
-some_part maps options are = grind (arith, are.power_of_two)
-
-pub few_parts : (maps : List MapDef) (options : Options) → AreOptions maps options → options.shards ≤ 8
-few_parts maps options are = grind (arith, are.power_of_two)
 
 -- ---- the shard of a key
 
@@ -55,12 +50,6 @@ found_at : (shards : List JournaledShard) (number : ℕ) → number < length sha
 found_at [] number within = absurd (omega arith)
 found_at (first ∷ rest) zero within = (first, refl)
 found_at (first ∷ rest) (suc number) within = found_at rest number (omega arith)
-
-below_count : (map maps parts part : ℕ) → map < maps → part < parts → map * parts + part < maps * parts
-below_count map maps parts part of_map of_part =
-    let more : suc map * parts ≤ maps * parts = mul-le-mul_right parts of_map in
-    let next : suc map * parts ≡ map * parts + parts = suc-mul map parts in
-    omega (arith, more, next, of_part)
 
 pub flags_test : (flags : ℕ) → flags < 2 ^ 64 → are_flags flags ≡ true
 flags_test flags few = grind (arith, nat_tests)
@@ -79,12 +68,12 @@ pub record IsAtKey (maps : List MapDef) (options : Options) (worker : ℕ) (shar
     pub definition : slice_get maps map ≡ Some shard.plan.definition
 
 pub at_key : (maps : List MapDef) (options : Options) (worker : ℕ) (shards : List JournaledShard) (map : ℕ) (key : List ℕ) →
-    IsReady maps options worker shards → IsKeyOf (served_by maps options) map key → IsAtKey maps options worker shards map key
+    IsReady maps options worker shards → IsKeyOf maps map key → IsAtKey maps options worker shards map key
 at_key maps options worker shards map key ready of_map =
     let parts : ℕ = options.shards in
     let definition : MapDef = of_map.definition in
     let part : ℕ = part_of_key definition.kind parts key in
-    let some : 0 < parts = some_part maps options ready.are_options in
+    let some : 0 < parts = some_shards maps options ready.are_options in
     let below : part < parts = mod-lt (shard_number_of_key definition.kind key) some in
     let number : ℕ = shard_of (served_by maps options) map key in
     let at : number ≡ map * parts + part = shard_of_known (served_by maps options) map key definition of_map.known in
@@ -114,28 +103,26 @@ at_key maps options worker shards map key ready of_map =
     }
 
 pub may_lookup : (maps : List MapDef) (options : Options) (worker : ℕ) (shards : List JournaledShard) (map : ℕ) (key : List ℕ) →
-    IsReady maps options worker shards → IsKeyOf (served_by maps options) map key →
+    IsReady maps options worker shards → IsKeyOf maps map key →
     IsTrue (may_ask_at worker (slice_get shards (shard_of (served_by maps options) map key)) (lookup_call (served_by maps options) map key))
 may_lookup maps options worker shards map key ready of_map =
     let at = at_key maps options worker shards map key ready of_map in
     rw at.known (both_true _ _ at.is_worker (both_true _ _ at.numbered (both_true _ _ (both_true _ _ at.is_worker at.inside) at.own_key)))
 
 pub may_delete : (maps : List MapDef) (options : Options) (worker : ℕ) (shards : List JournaledShard) (map : ℕ) (key : List ℕ) →
-    IsReady maps options worker shards → IsKeyOf (served_by maps options) map key →
+    IsReady maps options worker shards → IsKeyOf maps map key →
     IsTrue (may_ask_at worker (slice_get shards (shard_of (served_by maps options) map key)) (delete_call (served_by maps options) map key))
 may_delete maps options worker shards map key ready of_map =
     let at = at_key maps options worker shards map key ready of_map in
     rw at.known (both_true _ _ at.is_worker (both_true _ _ at.numbered (both_true _ _ (both_true _ _ at.is_worker at.inside) at.own_key)))
 
 pub may_update : (maps : List MapDef) (options : Options) (worker : ℕ) (shards : List JournaledShard) (map : ℕ) (key value : List ℕ)
-    (flags : ℕ) → IsReady maps options worker shards → flags < 2 ^ 64 → IsPairOf (served_by maps options) map key value →
+    (flags : ℕ) → IsReady maps options worker shards → flags < 2 ^ 64 → IsPairOf maps map key value →
     IsTrue (may_ask_at worker (slice_get shards (shard_of (served_by maps options) map key))
     (update_call (served_by maps options) map key value flags))
 may_update maps options worker shards map key value flags ready few pair =
-    let of_map : IsKeyOf (served_by maps options) map key =
-    record { definition = pair.definition; known = pair.known; key_size = pair.key_size; bytes = pair.bytes } in
-    let at = at_key maps options worker shards map key ready of_map in
-    let same : pair.definition ≡ at.shard.plan.definition = cc (pair.known, at.definition) in
+    let at = at_key maps options worker shards map key ready pair.at in
+    let same : pair.at.definition ≡ at.shard.plan.definition = cc (pair.at.known, at.definition) in
     let sized : length value ≡ at.shard.plan.definition.value_size = pair.value_size ∙ ap (λ (one : MapDef). one.value_size) same in
     rw at.known (both_true _ _ at.is_worker (both_true _ _ at.numbered
     (both_true _ _ (both_true _ _ (both_true _ _ at.is_worker at.inside) at.own_key)
@@ -221,6 +208,26 @@ at_place maps options worker shards cell offset size ready readable =
 pub fits_test : (value size : ℕ) → value < 256 ^ size → fits_size value size ≡ true
 fits_test value size fits = grind (arith, nat_tests)
 
+-- four or eight bytes are a size of loads
+size_of_atomic : (four eight two one : Bool) → IsTrue (four || eight) → IsTrue (one || two || four || eight)
+size_of_atomic true eight two true either = refl
+size_of_atomic true eight true false either = refl
+size_of_atomic true eight false false either = refl
+size_of_atomic false true two true either = refl
+size_of_atomic false true true false either = refl
+size_of_atomic false true false false either = refl
+size_of_atomic false false two one either = absurd cc
+
+-- where an atomic operation may be made a load may
+pub load_of_atomic : {program : Program} {held : Held} {cell : CellRef} {offset size op value expected : ℕ} →
+    IsServedAtomic program held cell offset size op value expected → IsServedLoad program held cell offset size
+load_of_atomic {size = size} atomic = record {
+  map = atomic.map;
+  holds = atomic.holds;
+  is_size = size_of_atomic (size == 4) (size == 8) (size == 2) (size == 1) atomic.is_size;
+  inside = atomic.inside;
+}
+
 pub known_op : (op : AtomicOp) → is_some (atomic_op_of (atomic_code op)) ≡ true
 known_op AtomicAdd = refl
 known_op AtomicOr = refl
@@ -247,7 +254,7 @@ pub may_store : (maps : List MapDef) (options : Options) (worker : ℕ) (shards 
     IsStorable (served_by maps options) (is_handed_out (record { served = served_by maps options; worker = worker; shards = shards })) cell
     offset size value → IsTrue (may_ask_at worker (slice_get shards cell.shard) (Store cell offset size value))
 may_store maps options worker shards cell offset size value ready storable =
-    let at = at_place maps options worker shards cell offset size ready storable.place in
+    let at = at_place maps options worker shards cell offset size ready storable.at in
     rw at.known (both_true _ _ at.is_worker (both_true _ _ at.numbered
     (both_true _ _ (both_true _ _ (both_true _ _ (both_true _ _ at.is_worker at.held) at.is_size) at.in_cell)
     (fits_test value size storable.fits))))
@@ -258,8 +265,8 @@ pub may_change : (maps : List MapDef) (options : Options) (worker : ℕ) (shards
     offset size op value expected → IsTrue (may_ask_at worker (slice_get shards cell.shard)
     (atomic_call cell offset size op value expected))
 may_change maps options worker shards cell offset size op value expected ready atomic =
-    let at = at_place maps options worker shards cell offset size ready atomic.place in
+    let at = at_place maps options worker shards cell offset size ready (load_of_atomic atomic) in
     rw at.known (both_true _ _ at.is_worker (both_true _ _ at.numbered
     (both_true _ _ (both_true _ _ (both_true _ _ (both_true _ _ (both_true _ _ (both_true _ _ (both_true _ _ at.is_worker at.held)
-    atomic.atomic_size) (both_true _ _ at.in_cell (same_test _ _ atomic.aligned))) (known_op op)) (fits_test value size atomic.fits))
-    (fits_test expected size atomic.expected_fits)) atomic.expected_if)))
+    atomic.is_size) (both_true _ _ at.in_cell (same_test _ _ atomic.aligned))) (known_op op)) (fits_test value size atomic.fits))
+    (fits_test expected size atomic.expected_fits)) atomic.compares)))

@@ -19,7 +19,7 @@ use Rattle.semantics.specs.declared.full.JournalFull.{JournalFull}
 use Rattle.shard_port.specs.Asking.{is_in, enter_by, leave_by, entered, left, asked_entry, all_left, IsWorkerOf, IsAnswered, CannotEnter, CannotCall, IsTurnedAway, IsAnsweredAmong, IsTurnedAwayAmong}
 use Rattle.shard_port.specs.PortView.{HasByteCells, SetsBytes, IsShardOf, AreShardsOf, IsReady}
 use Rattle.shard_port.specs.PortLaws.{newest_first, append_none}
-use Rattle.shard_port.proofs.ByteLemmas.{cells_after_call}
+use Rattle.semantics.proofs.shared.CellBytes.{cells_after_call}
 
 -- ---- plans
 

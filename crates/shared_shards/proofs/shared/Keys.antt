@@ -1,9 +1,9 @@
 -- The shard of a key: it is there, it is planned for the key's map, and the key is its own.
-use Rattle.std.proofs.Common.{◌≡◌, ℕ, suc, ◌+◌, ◌*◌, ◌/◌, ◌%◌, ◌<◌, ◌≤◌, true, List, length, Some, arith, refl, sym, ◌∙◌, ap}
+use Rattle.std.proofs.Common.{◌≡◌, ℕ, ◌+◌, ◌*◌, ◌/◌, ◌%◌, ◌<◌, true, List, length, Some, arith, refl, sym, ◌∙◌, ap}
 use Rattle.std.specs.Prelude.{All, slice_get}
 use Rattle.std.proofs.lemmas.Option.{slice_get_within}
 use Rattle.std.proofs.lemmas.Nat.{div-mul-add, mod-mul-add}
-use Rattle.std.proofs.Math.Nat.{mod-lt, mul-le-mul_right, suc-mul}
+use Rattle.std.proofs.Math.Nat.{mod-lt}
 use Rattle.std.proofs.lemmas.Bool.Decides.{nat_tests}
 use Rattle.std.specs.Prelude.{Bool, ◌&&◌, ◌==◌}
 use Rattle.ebpf_decode.specs.declared.map.MapDef.{MapDef}
@@ -13,19 +13,8 @@ use Rattle.semantics.specs.Program.{part_of_key, shard_number_of_key, shard_of_k
 use Rattle.semantics.specs.ShardPlan.{AreOptions, plan_at, plan_for_map}
 use Rattle.semantics.specs.History.{is_own_key}
 use Rattle.semantics.proofs.shared.ConditionLemmas.{bytes_test}
+use Rattle.semantics.proofs.shared.PlanLemmas.{some_shards, below_count}
 use Rattle.shared_shards.specs.SharedMaps.{ArePlans}
-
-pub some_part : (maps : List MapDef) (options : Options) → AreOptions maps options → 0 < options.shards
-some_part maps options are = grind (arith, are.power_of_two)
-
-pub few_parts : (maps : List MapDef) (options : Options) → AreOptions maps options → options.shards ≤ 8
-few_parts maps options are = grind (arith, are.power_of_two)
-
-below_count : (map maps parts part : ℕ) → map < maps → part < parts → map * parts + part < maps * parts
-below_count map maps parts part of_map of_part =
-    let more : suc map * parts ≤ maps * parts = mul-le-mul_right parts of_map in
-    let next : suc map * parts ≡ map * parts + parts = suc-mul map parts in
-    omega (arith, more, next, of_part)
 
 same_test : (a b : ℕ) → a ≡ b → (a == b) ≡ true
 same_test a b same = grind (arith, nat_tests)
@@ -76,7 +65,7 @@ at_key maps options count plan map definition key plans are known size bytes =
     let parts : ℕ = options.shards in
     let part : ℕ = part_of_key definition.kind parts key in
     let number : ℕ = map * parts + part in
-    let some : 0 < parts = some_part maps options are in
+    let some : 0 < parts = some_shards maps options are in
     let below : part < parts = mod-lt (shard_number_of_key definition.kind key) some in
     let here : map * parts + part < length maps * parts =
     below_count map (length maps) parts part (slice_get_within maps map definition known) below in

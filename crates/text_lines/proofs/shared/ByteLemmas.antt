@@ -1,6 +1,7 @@
 -- All bytes of a text pass a test, and so none is a mark that doesn't.
-use Rattle.std.proofs.Common.{◌≡◌, ℕ, zero, suc, ◌+◌, ◌<◌, Bool, true, false, ◌&&◌, leb, ltb, List, [], ◌∷◌, ◌++◌, length, get_or, refl, ap, arith}
+use Rattle.std.proofs.Common.{◌≡◌, ℕ, zero, suc, ◌+◌, ◌<◌, Bool, true, false, ◌&&◌, leb, ltb, eqb, List, [], ◌∷◌, ◌++◌, length, get_or, refl, sym, ◌∙◌, ap, arith}
 use Rattle.std.specs.Prelude.{◌≢◌}
+use Rattle.std.proofs.lemmas.Bool.Decides.{Decides-eqb}
 
 abbrev pub all_bytes : (ℕ → Bool) → List ℕ → Bool
 all_bytes p [] = true
@@ -48,3 +49,14 @@ weaken p q h [] a = refl
 weaken p q h (x ∷ xs) a =
     let s = both (p x) (all_bytes p xs) a in
     joined (q x) (all_bytes q xs) (h x s.0) (weaken p q h xs s.1)
+
+-- a list whose length a test compares with 0
+pub not_empty : (r : Bool) (xs : List ℕ) → r ≡ eqb (length xs) 0 → r ≡ false → 0 < length xs
+not_empty r [] h f = absurd cc
+not_empty r (x ∷ xs) h f = omega arith
+
+pub is_empty : (r : Bool) (xs : List ℕ) → r ≡ eqb (length xs) 0 → r ≡ true → xs ≡ []
+is_empty r [] h t = refl
+is_empty r (x ∷ xs) h t =
+    let e : length (x ∷ xs) ≡ 0 = (Decides-eqb (length (x ∷ xs)) 0).0 (sym h ∙ t) in
+    absurd (omega arith)

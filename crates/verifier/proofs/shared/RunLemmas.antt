@@ -18,8 +18,9 @@ use Rattle.abstract_state.specs.declared.flow.Flow.{Flow}
 use Rattle.abstract_state.specs.declared.flow.Flow.TheVariants.{Ends, Falls, Jumps, Splits}
 use Rattle.abstract_state.specs.declared.state.State.{State}
 use Rattle.abstract_state.specs.Soundness.{IsServed, Follows}
+use Rattle.semantics.proofs.shared.PlanLemmas.{some_shards}
 use Rattle.verifier.proofs.SystemInvariant.{entered_of, held_by, IsSoundRun, IsSoundWorker, IsSoundShard, IsSetting, IsSoundSystem}
-use Rattle.verifier.proofs.PlanLemmas.{some_shards, plan_exists}
+use Rattle.verifier.proofs.PlanLemmas.{plan_exists}
 pub use Rattle.verifier.proofs.InstructionLemmas.{begins_within}
 use Rattle.verifier.proofs.shared.PlaceLemmas.{Here, here_of}
 use Rattle.verifier.proofs.SettingLemmas.{held_facts, lookup_served, load_served, store_served, atomic_served, update_served, delete_served}

@@ -1,6 +1,6 @@
 -- Whatever happens, the system stays sound; so no run of an accepted program traps or runs on.
-use Rattle.std.proofs.Common.{◌≡◌, ℕ, zero, suc, ◌<◌, ◌≤◌, ◌*◌, ◌/◌, Bool, true, false, List, [], ◌∷◌, length, replicate, Option, Some, None, refl, sym, ap, subst, ◌∙◌, arith}
-use Rattle.std.specs.Prelude.{IsTrue, MatchBool, slice_index_or, if◌then◌else◌}
+use Rattle.std.proofs.Common.{◌≡◌, ℕ, ◌<◌, ◌≤◌, ◌*◌, ◌/◌, Bool, true, false, List, [], ◌∷◌, length, Option, Some, None, refl, sym, ap, subst, ◌∙◌, arith}
+use Rattle.std.specs.Prelude.{IsTrue, MatchBool, if◌then◌else◌}
 use Rattle.std.proofs.lemmas.List.{length-replicate}
 use Rattle.std.proofs.lemmas.List.Sums.{sum_by-cons}
 use Rattle.ebpf_decode.specs.declared.insn.Insn.{Insn}
@@ -19,7 +19,7 @@ use Rattle.semantics.specs.Step.{Step, Continues, CallsMap, Exits, Traps}
 use Rattle.semantics.specs.Semantics.{next_step}
 use Rattle.semantics.specs.declared.options.Options.{Options}
 use Rattle.semantics.specs.PlanLimits.{HasImageSizes}
-use Rattle.semantics.proofs.shared.PlanLemmas.{each_at}
+use Rattle.semantics.proofs.shared.PlanLemmas.{some_shards, each_at}
 use Rattle.semantics.specs.ShardPlan.{plan_at, AreOptions}
 use Rattle.semantics.specs.RunTrace.{IsReplyTo}
 use Rattle.semantics.specs.SequentialShard.{shard_after}
@@ -34,9 +34,11 @@ use Rattle.abstract_state.specs.Soundness.{IsServed, IsHandedOut, Follows}
 use Rattle.verifier.specs.Dataflow.{Accepts}
 use Rattle.verifier.specs.Coverage.{CoverRuns}
 use Rattle.verifier.proofs.SystemInvariant.{entered_of, held_by, IsSoundRun, IsSoundWorker, IsSoundShard, IsSetting, IsSoundSystem}
-use Rattle.verifier.proofs.ReplyLemmas.{lookup_answer, word_fits, update_fits, delete_fits}
-use Rattle.verifier.proofs.PlanLemmas.{plan_facts, some_shards}
+use Rattle.semantics.proofs.shared.AnswerLemmas.{update_fits, delete_fits}
+use Rattle.verifier.proofs.ReplyLemmas.{lookup_answer, word_fits}
+use Rattle.verifier.proofs.PlanLemmas.{plan_facts}
 use Rattle.verifier.proofs.ShardLemmas.{sound_at_start}
+use Rattle.semantics.proofs.shared.SystemSteps.{same_everywhere}
 use Rattle.verifier.proofs.EntryLemmas.{local_change}
 use Rattle.verifier.proofs.EventLemmas.{call_sound, leave_sound, is_counted}
 use Rattle.verifier.proofs.AskingLemmas.{grown, stopped, enter_sound, ask_sound, IsQuiet, quiet_lookup, quiet_call, lookup_holds, still_holds}
@@ -202,11 +204,6 @@ event_sound setting states system (Reclaims shard) good can sound =
     call_sound setting states system shard (plan_at setting.maps setting.options shard) Reclaimer (Reclaim shard) good sound refl can (λ worker. refl)
 
 -- ---- where nothing has happened
-
-same_everywhere : {A : Type 0} → (n k : ℕ) (d : A) → slice_index_or (replicate n d) k d ≡ d
-same_everywhere zero k d = refl
-same_everywhere (suc n) zero d = refl
-same_everywhere (suc n) (suc k) d = same_everywhere n k d
 
 opening_is_sound : (setting : Setting) (states : List (Option State)) → IsSetting setting states → IsSoundSystem setting states (opening_system setting)
 opening_is_sound setting states good =

@@ -1,7 +1,8 @@
 use Rattle.std.proofs.Common.{◌≡◌, ◌+◌, ℕ, List, length, refl, arith}
 use Rattle.std.proofs.Common.{inl, inr}
-use Rattle.control.proofs.Scripts.{same_script, bad_after, not_empty}
+use Rattle.control.proofs.Scripts.{same_script, bad_after}
 use Rattle.control.proofs.parsing.script_of.Goals as goal
+use Rattle.text_lines.proofs.shared.ByteLemmas.{not_empty}
 
 pub returns-then-is_empty-clause-only : goal.returns-then-is_empty-clause-only
 returns-then-is_empty-clause-only c = λ script is. (same_script c.args.text.now c.in_ok-commands.rest.now c.in_ok-commands.commands.items script c.in_ok-commands.ensures is).0

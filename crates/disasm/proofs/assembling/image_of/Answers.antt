@@ -1,8 +1,9 @@
 use Rattle.std.proofs.Common.{◌≡◌, ◌∙◌, sym, arith, refl, Some, None}
 use Rattle.ebpf_decode.specs.declared.fault.DecodeFault.{DecodeFault}
 use Rattle.ebpf_decode.specs.ImageFormat.{first_part_fault}
-use Rattle.disasm.proofs.shared.Texts.{same_parts, bad_after, faulty, no_fault, not_empty, is_empty}
+use Rattle.disasm.proofs.shared.Texts.{same_parts, bad_after, faulty, no_fault}
 use Rattle.disasm.proofs.assembling.image_of.Goals as goal
+use Rattle.text_lines.proofs.shared.ByteLemmas.{not_empty, is_empty}
 
 pub returns-then-not-is_empty-clause-refused : goal.returns-then-not-is_empty-clause-refused
 returns-then-not-is_empty-clause-refused c =

@@ -1,7 +1,7 @@
 use Rattle.std.proofs.Common.{◌<◌, refl, rules, arith}
 use Rattle.ebpf_decode.specs.InstructionEncoding.{total_slots}
 use Rattle.image_shape.proofs.shared.SlotLemmas.{slot_within, next_at, whole_at, begins_here, instruction_here, none_inside}
-use Rattle.image_shape.proofs.shared.FaultLemmas.{IsTarget, edge_is_up, goes_forward}
+use Rattle.image_shape.proofs.shared.FaultLemmas.{IsTarget, edge_is_up, no_negative_target}
 use Rattle.image_shape.proofs.ReachLemmas.{reached_at_start, reached_next, unreachable_here, all_reachable}
 use Rattle.image_shape.proofs.reach.check_reach.Goals as goal
 
@@ -23,8 +23,8 @@ mark_edges-requires-clause-targets c target edge =
     let within : target < total_slots c.args.code.now = up.within in
     omega arith
 
-pub mark_edges-requires-clause-forward : goal.mark_edges-requires-clause-forward
-mark_edges-requires-clause-forward c = goes_forward _ _ _ (c.requires.edges c.loop-insn.slot) (instruction_here _ _ _ _ c.loop-insn-test.true c.loop-insn.invariant.at)
+pub mark_edges-requires-clause-not_negative : goal.mark_edges-requires-clause-not_negative
+mark_edges-requires-clause-not_negative c = no_negative_target _ _ _ (c.requires.edges c.loop-insn.slot) (instruction_here _ _ _ _ c.loop-insn-test.true c.loop-insn.invariant.at)
 
 pub loop-insn-preserved : goal.loop-insn-preserved
 loop-insn-preserved c = record {

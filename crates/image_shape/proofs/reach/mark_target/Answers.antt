@@ -6,13 +6,13 @@ use Rattle.image_shape.proofs.reach.mark_target.Goals as goal
 
 pub overflow_cast-reached : goal.overflow_cast-reached
 overflow_cast-reached c =
-    let up : pos 0 ≤ℤ c.in-Some.target = c.requires.forward c.in-Some.target (sym c.target.ensures ∙ c.in-Some.is) in
+    let up : pos 0 ≤ℤ c.in-Some.target = c.requires.not_negative c.in-Some.target (sym c.target.ensures ∙ c.in-Some.is) in
     search rules
 
 pub bounds-reached-target : goal.bounds-reached-target
 bounds-reached-target c =
     let range : to_z w64 (of_z w64 c.in-Some.target) ≡ c.in-Some.target = search rules in
-    let there = target_slot c.args.slot c.args.insn c.in-Some.target c.requires.forward c.requires.targets (sym c.target.ensures ∙ c.in-Some.is) in
+    let there = target_slot c.args.slot c.args.insn c.in-Some.target c.requires.not_negative c.requires.targets (sym c.target.ensures ∙ c.in-Some.is) in
     let same : to_z w64 (of_z w64 c.in-Some.target) ≡ pos there.0 = range ∙ there.1 in
     rw same there.2
 
@@ -20,7 +20,7 @@ pub returns-in-Some : goal.returns-in-Some
 returns-in-Some c =
     let range : to_z w64 (of_z w64 c.in-Some.target) ≡ c.in-Some.target = search rules in
     let found : jump_target c.args.slot c.args.insn ≡ Some c.in-Some.target = sym c.target.ensures ∙ c.in-Some.is in
-    let there = target_slot c.args.slot c.args.insn c.in-Some.target c.requires.forward c.requires.targets found in
+    let there = target_slot c.args.slot c.args.insn c.in-Some.target c.requires.not_negative c.requires.targets found in
     let same : to_z w64 (of_z w64 c.in-Some.target) ≡ pos there.0 = range ∙ there.1 in
     let is : jump_target c.args.slot c.args.insn ≡ Some (pos there.0) = found ∙ ap Some there.1 in
     let within : there.0 < 4096 = there.2 in

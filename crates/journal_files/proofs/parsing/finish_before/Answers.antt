@@ -1,4 +1,4 @@
-use Rattle.std.proofs.Common.{◌≡◌, ◌∙◌, ◌+◌, ◌≤◌, ◌∷◌, [], List, length, ap, arith, rules}
+use Rattle.std.proofs.Common.{◌≡◌, ◌∙◌, ◌+◌, length, ap, rules}
 use Rattle.std.proofs.lemmas.List.{length_push}
 use Rattle.journal_files.proofs.Lines.{divide_to}
 use Rattle.journal_files.proofs.parsing.finish_before.Goals as goal

@@ -1,4 +1,4 @@
-use Rattle.std.proofs.Common.{◌≡◌, ◌∙◌, sym, rules, arith}
+use Rattle.std.proofs.Common.{rules, arith}
 use Rattle.std.proofs.lemmas.Str.Pattern.{split_parts}
 use Rattle.journal_files.proofs.Headers.{no_header_line, headed, not_headed}
 use Rattle.journal_files.proofs.parsing.header_of.Goals as goal

@@ -1,4 +1,4 @@
-use Rattle.std.proofs.Common.{◌≡◌, ◌*◌, length, refl, rules}
+use Rattle.std.proofs.Common.{refl, rules}
 use Rattle.journal_files.proofs.parsing.journals_from.Goals as goal
 
 pub returns : goal.returns

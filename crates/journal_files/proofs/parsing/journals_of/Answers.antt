@@ -1,4 +1,3 @@
-use Rattle.std.proofs.Common.{◌≡◌, ◌∙◌, sym}
 use Rattle.std.proofs.Common.{inl}
 use Rattle.journal_files.proofs.Whole.{is_text}
 use Rattle.journal_files.proofs.parsing.journals_of.Goals as goal

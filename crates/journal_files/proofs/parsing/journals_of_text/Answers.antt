@@ -1,9 +1,8 @@
-use Rattle.std.proofs.Common.{◌≡◌, ◌∙◌, ◌+◌, ◌≤◌, ℕ, length, ap, sym, rules, arith}
+use Rattle.std.proofs.Common.{rules}
 use Rattle.std.proofs.Common.{inr}
-use Rattle.journal_files.specs.JournalReading.{IsHeadedBy}
-use Rattle.journal_files.proofs.Lines.{not_empty, is_empty}
 use Rattle.journal_files.proofs.Whole.{file_read, read_entries, bad_after, done_within, lines_within}
 use Rattle.journal_files.proofs.parsing.journals_of_text.Goals as goal
+use Rattle.text_lines.proofs.shared.ByteLemmas.{not_empty, is_empty}
 
 pub overflow_add-result : goal.overflow_add-result
 overflow_add-result c =

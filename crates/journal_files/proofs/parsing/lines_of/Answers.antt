@@ -1,6 +1,6 @@
-use Rattle.std.proofs.Common.{◌≡◌, ◌∙◌, ◌++◌, ◌∷◌, ◌+◌, ◌≤◌, ◌<◌, List, ℕ, length, sym, rules, arith}
+use Rattle.std.proofs.Common.{rules, arith}
 use Rattle.std.proofs.lemmas.Str.Pattern.{split_parts}
-use Rattle.journal_files.proofs.Lines.{AreReadSoFar, all_read, no_entry, no_feed, not_told, first_told, tells_none, tells_some, earlier_shard, read_more, count_fits}
+use Rattle.journal_files.proofs.Lines.{all_read, no_entry, no_feed, not_told, first_told, tells_none, tells_some, earlier_shard, read_more, count_fits}
 use Rattle.journal_files.proofs.parsing.lines_of.Goals as goal
 
 pub returns-in-None : goal.returns-in-None

@@ -1,4 +1,3 @@
-use Rattle.std.proofs.Common.{rules}
 use Rattle.journal_files.proofs.Headers.{entry_written}
 use Rattle.journal_files.proofs.printing.put_entries.Goals as goal
 

@@ -1,5 +1,3 @@
-use Rattle.std.proofs.Common.{◌≡◌, sym}
-use Rattle.hex.proofs.HexLemmas.{decode_sized-encode_lower}
 use Rattle.journal_files.proofs.Words.{decoded}
 use Rattle.journal_files.proofs.reading.decode.Goals as goal
 

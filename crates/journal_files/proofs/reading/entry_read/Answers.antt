@@ -1,4 +1,4 @@
-use Rattle.std.proofs.Common.{◌≡◌, ◌++◌, ◌∷◌, ◌<◌, ◌^◌, refl, arith}
+use Rattle.std.proofs.Common.{◌++◌, ◌∷◌, ◌<◌, ◌^◌, arith}
 use Rattle.std.specs.Fmt.{decimal}
 use Rattle.semantics.specs.History.{shard_of_call}
 use Rattle.journal_files.specs.JournalText.{who_text, verb_text, verb_of_call, told_text, reply_text, line_of}

@@ -1,4 +1,3 @@
-use Rattle.std.proofs.Common.{arith}
 use Rattle.std.specs.Fmt.{decimal}
 use Rattle.journal_files.proofs.Words.{number_lacks}
 use Rattle.journal_files.proofs.reading.field.Goals as goal

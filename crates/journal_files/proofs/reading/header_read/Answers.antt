@@ -1,4 +1,4 @@
-use Rattle.std.proofs.Common.{◌≡◌, ◌++◌, ◌∷◌, refl, arith}
+use Rattle.std.proofs.Common.{◌++◌, ◌∷◌, refl, arith}
 use Rattle.std.specs.Fmt.{decimal}
 use Rattle.journal_files.specs.JournalText.{header_text}
 use Rattle.journal_files.proofs.Words.{number_lacks}

@@ -1,7 +1,5 @@
-use Rattle.std.proofs.Common.{◌≡◌, ◌++◌, ◌∷◌, ℕ, List, refl, arith}
-use Rattle.std.specs.Fmt.{decimal}
+use Rattle.std.proofs.Common.{refl}
 use Rattle.hex.specs.Hex.{encode_lower}
-use Rattle.journal_files.specs.EntryForm.{CallFits, RepliesTo}
 use Rattle.journal_files.specs.JournalText.{told_text, reply_text}
 use Rattle.journal_files.specs.ToldReading.{Reads}
 use Rattle.journal_files.proofs.Words.{hex_lacks}

@@ -1,6 +1,3 @@
-use Rattle.std.proofs.Common.{◌∙◌, arith}
-use Rattle.std.specs.Int.{w32}
-use Rattle.std.proofs.lemmas.Int.{to_z-of_z}
 use Rattle.text_lines.proofs.shared.ResultLemmas.{ok_same, ok_not_err}
 use Rattle.journal_files.proofs.Words.{signed_read, back_to}
 use Rattle.journal_files.proofs.reading.signed_of.Goals as goal

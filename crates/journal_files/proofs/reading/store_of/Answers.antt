@@ -1,10 +1,8 @@
-use Rattle.std.proofs.Common.{◌≡◌, ◌++◌, ◌∷◌, ℕ, List, refl, arith}
+use Rattle.std.proofs.Common.{◌++◌, ◌∷◌, refl}
 use Rattle.std.specs.Fmt.{decimal}
-use Rattle.hex.specs.Hex.{encode_lower}
 use Rattle.semantics.specs.declared.call.Reply.TheVariants.{Done}
 use Rattle.journal_files.specs.JournalText.{told_text, reply_text}
 use Rattle.journal_files.specs.ToldReading.{Reads}
-use Rattle.journal_files.proofs.Words.{hex_lacks}
 use Rattle.journal_files.proofs.reading.store_of.Goals as goal
 
 pub returns-clause-found : goal.returns-clause-found

@@ -1,7 +1,7 @@
-use Rattle.std.proofs.Common.{◌≡◌, ◌∙◌, ap, sym}
+use Rattle.std.proofs.Common.{◌∙◌, ap}
 use Rattle.semantics.specs.declared.call.Reply.{Reply}
 use Rattle.semantics.specs.declared.call.Call.TheVariants.{Reclaim}
-use Rattle.journal_files.specs.JournalText.{told_text, reply_text}
+use Rattle.journal_files.specs.JournalText.{told_text}
 use Rattle.journal_files.specs.ToldReading.{Reads, entry_with}
 use Rattle.journal_files.proofs.reading.told_of.Goals as goal
 

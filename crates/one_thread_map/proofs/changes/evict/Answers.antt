@@ -1,4 +1,4 @@
-use Rattle.std.proofs.Common.{rules, ◌≡◌, false, refl}
+use Rattle.std.proofs.Common.{◌≡◌, false, refl}
 use Rattle.semantics.specs.SequentialShard.{is_full_of_keys}
 use Rattle.one_thread_map.specs.OneThread.{state_of}
 use Rattle.one_thread_map.proofs.changes.evict.Goals as goal

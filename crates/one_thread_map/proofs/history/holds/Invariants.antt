@@ -3,10 +3,10 @@ use Rattle.semantics.specs.Reclamation.{holds}
 use Rattle.one_thread_map.proofs.history.holds.Given as goal
 
 abbrev pub invariant-newer : goal.invariant-newer
-invariant-newer l = record {
-  within : l.older ≤ length l.journal;
-  rest : holds l.worker l.cell (reverse (take l.older l.journal)) ≡ holds l.worker l.cell (reverse l.journal);
+invariant-newer g l = record {
+  within : l.older ≤ length (g.J.Entries.entries l.journal);
+  rest : holds l.worker l.cell (reverse (take l.older (g.J.Entries.entries l.journal))) ≡ holds l.worker l.cell (reverse (g.J.Entries.entries l.journal));
 }
 
 abbrev pub decreases-newer : goal.decreases-newer
-decreases-newer l = l.older
+decreases-newer g l = l.older

@@ -1,6 +1,6 @@
 use Rattle.std.proofs.Common.{◌<◌}
 use Rattle.std.proofs.lemmas.Result.{IfOk-weaker}
-use Rattle.map_port.specs.Served.{lookup_call, found_reply, IsReadable}
+use Rattle.map_port.specs.Served.{lookup_call, reply_of_handle, IsReadable}
 use Rattle.pass_tests.proofs.TestLemmas.{example_key, example_cell}
 use Rattle.pass_tests.proofs.port_rows.look.Goals as goal
 
@@ -13,7 +13,7 @@ pub returns-clause-held : goal.returns-clause-held
 returns-clause-held g c =
     IfOk-weaker c.lookup.result
     (λ handle. g.P.MapPort.gives c.args.port.now (lookup_call (g.P.MapPort.serves c.args.port.now) c.args.map c.key_of.result)
-    (found_reply (g.P.MapPort.cell_of c.lookup.new.self) handle) c.lookup.new.self)
+    (reply_of_handle (g.P.MapPort.cell_of c.lookup.new.self) handle) c.lookup.new.self)
     (λ handle. 0 < handle →
     IsReadable (g.P.MapPort.serves c.lookup.new.self) (g.P.MapPort.has_handed_out c.lookup.new.self)
     (g.P.MapPort.cell_of c.lookup.new.self handle) 0 8)

@@ -1,8 +1,7 @@
-use Rattle.std.proofs.Common.{◌≡◌, ◌∙◌, ap, ap₂, subst, rules}
+use Rattle.std.proofs.Common.{◌≡◌, ◌∙◌, ap₂, subst, rules}
 use Rattle.std.proofs.lemmas.Result.{IfOk-weaker, IfErr-weaker}
 use Rattle.semantics.specs.declared.options.Options.{Options}
 use Rattle.semantics.specs.MachineState.{initial_state}
-use Rattle.map_port.specs.Served.{Maps}
 use Rattle.machine.specs.Running.{program_of, Ends, StopsSo}
 use Rattle.shard_port.specs.PlainPorts.{PortGives, PortRefuses, maps_of}
 use Rattle.single_run.proofs.RunLemmas.{maps_in, ran_over, stopped_over}

@@ -1,5 +1,5 @@
-use Rattle.std.proofs.Common.{rules, ◌≡◌, ◌≢◌, ◌<◌, length, pos, ℕ, ℤ, List, sym, ap, ◌∙◌, subst, arith, to_z, of_z, w32}
-use Rattle.std.specs.Prelude.{All, FitsSigned, IsTrue, slice_get, slice_index_or}
+use Rattle.std.proofs.Common.{rules, ◌≡◌, ◌<◌, length, pos, ℕ, ℤ, List, sym, ap, ◌∙◌, subst, arith, to_z, of_z, w32}
+use Rattle.std.specs.Prelude.{All, FitsSigned, IsTrue, slice_get}
 use Rattle.std.specs.Coded.{Coded-set, coded_bool}
 use Rattle.std.proofs.Math.Logic.{∥∥₁_elim}
 use Rattle.std.proofs.lemmas.Int.{to_z-of_z}

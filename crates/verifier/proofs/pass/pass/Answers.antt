@@ -11,7 +11,7 @@ use Rattle.image_shape.proofs.shared.SlotLemmas.{slot_within, next_at, whole_at,
 use Rattle.verifier.specs.Rejects.{reject_of_refusal}
 use Rattle.verifier.specs.Dataflow.{states_of}
 use Rattle.verifier.specs.Resolving.{AreMemories}
-use Rattle.verifier.proofs.PassLemmas.{here_forward, held_here, held_at_start, held_on, accepted, rejected, wanting}
+use Rattle.verifier.proofs.PassLemmas.{here_not_negative, held_here, held_at_start, held_on, accepted, rejected, wanting}
 use Rattle.verifier.proofs.ReaderLemmas.{mark_at_start, mark_next, mark_whole}
 use Rattle.verifier.proofs.MemoryLemmas.{noted_at_start, noted_next}
 use Rattle.verifier.proofs.pass.pass.Goals as goal
@@ -35,9 +35,9 @@ advance-requires-clause-within c =
     let within : c.slots.slot < total_slots c.args.code.now = slot_within _ _ _ c.slots-test.true c.slots.invariant.at in
     omega (arith, c.requires.few)
 
-pub advance-requires-clause-forward : goal.advance-requires-clause-forward
-advance-requires-clause-forward c =
-    here_forward c.args.code.now c.slots.insn-index (Alu Bits32 Add R0 (Imm (pos 0))) c.slots.slot c.requires.shape c.slots-test.true
+pub advance-requires-clause-not_negative : goal.advance-requires-clause-not_negative
+advance-requires-clause-not_negative c =
+    here_not_negative c.args.code.now c.slots.insn-index (Alu Bits32 Add R0 (Imm (pos 0))) c.slots.slot c.requires.shape c.slots-test.true
     c.slots.invariant.at
 
 pub returns-in-Err-Memory-clause-rejected : goal.returns-in-Err-Memory-clause-rejected

@@ -10,7 +10,7 @@ use Rattle.image_shape.proofs.shared.SlotLemmas.{slot_within, next_at, whole_at,
 use Rattle.verifier.specs.Dataflow.{states_of, known_at}
 use Rattle.verifier.specs.Pending.{entry_of}
 use Rattle.verifier.specs.Surveys.{slot_of}
-use Rattle.verifier.proofs.PassLemmas.{here_forward, held_here, held_at_start, held_on, accepted}
+use Rattle.verifier.proofs.PassLemmas.{here_not_negative, held_here, held_at_start, held_on, accepted}
 use Rattle.verifier.proofs.SurveyLemmas.{noted_in, broken_here}
 use Rattle.verifier.proofs.survey.survey_code.Goals as goal
 
@@ -19,9 +19,9 @@ advance-requires-clause-within c =
     let within : c.slots.slot < total_slots c.args.code.now = slot_within _ _ _ c.slots-test.true c.slots.invariant.at in
     omega (arith, c.requires.few)
 
-pub advance-requires-clause-forward : goal.advance-requires-clause-forward
-advance-requires-clause-forward c =
-    here_forward c.args.code.now c.slots.insn-index (Alu Bits32 Add R0 (Imm (pos 0))) c.slots.slot c.requires.shape c.slots-test.true
+pub advance-requires-clause-not_negative : goal.advance-requires-clause-not_negative
+advance-requires-clause-not_negative c =
+    here_not_negative c.args.code.now c.slots.insn-index (Alu Bits32 Add R0 (Imm (pos 0))) c.slots.slot c.requires.shape c.slots-test.true
     c.slots.invariant.at
 
 pub slots-init : goal.slots-init

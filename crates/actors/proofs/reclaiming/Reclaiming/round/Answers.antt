@@ -1,5 +1,5 @@
 use Rattle.std.proofs.Common.{◌<◌, ◌≤◌, arith}
-use Rattle.actors.proofs.RoundLemmas.{first_turn, next_turn, all_turns}
+use Rattle.actors.proofs.RoundLemmas.{next_turn, all_turns}
 use Rattle.actors.proofs.reclaiming.Reclaiming.round.Goals as goal
 
 pub shards-preserved : goal.shards-preserved

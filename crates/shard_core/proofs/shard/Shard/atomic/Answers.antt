@@ -1,11 +1,11 @@
-use Rattle.std.proofs.Common.{reverse, length, refl, sym, ◌∙◌, ap, ◌+◌, ◌≡◌, ◌<◌, ◌≤◌, arith}
+use Rattle.std.proofs.Common.{reverse, refl, sym, ◌∙◌, ap, ◌+◌, ◌≤◌, arith}
 use Rattle.std.specs.Prelude.{IsTrue, IsFalse}
 use Rattle.semantics.specs.declared.call.Call.TheVariants.{Atomic}
 use Rattle.semantics.specs.declared.call.Reply.TheVariants.{Word}
 use Rattle.semantics.specs.History.{meets, journal_is_full}
 use Rattle.semantics.specs.SequentialShard.{shard_after}
 use Rattle.journal.specs.Entries.{atomic_entry}
-use Rattle.shard_core.proofs.AskedLemmas.{IsAtomicOf, atomic_asked}
+use Rattle.shard_core.proofs.AskedLemmas.{atomic_asked}
 use Rattle.shard_core.proofs.StepLemmas.{step_taken, table_keeps, kept_number, contents_changed}
 use Rattle.shard_core.proofs.shard.Shard.atomic.Goals as goal
 

@@ -3,8 +3,7 @@ use Rattle.std.specs.Prelude.{IsTrue, IsFalse}
 use Rattle.semantics.specs.declared.call.Call.TheVariants.{Load}
 use Rattle.semantics.specs.declared.call.Reply.TheVariants.{Word}
 use Rattle.semantics.specs.History.{meets, journal_is_full}
-use Rattle.semantics.specs.SequentialShard.{shard_after, number_in_cell}
-use Rattle.map_cells.specs.CellTable.{number_at}
+use Rattle.semantics.specs.SequentialShard.{shard_after}
 use Rattle.journal.specs.Entries.{load_entry}
 use Rattle.shard_core.proofs.AskedLemmas.{load_asked}
 use Rattle.shard_core.proofs.ContentLemmas.{contents_on}

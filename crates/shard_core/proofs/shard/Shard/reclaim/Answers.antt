@@ -1,9 +1,8 @@
-use Rattle.std.proofs.Common.{reverse, length, refl, sym, ◌∙◌, ap, ◌≡◌, ◌<◌, ◌≤◌, arith}
+use Rattle.std.proofs.Common.{reverse, length, refl, sym, ◌∙◌, ap, ◌≡◌}
 use Rattle.std.specs.Prelude.{IsTrue, IsFalse}
 use Rattle.semantics.specs.declared.call.Call.TheVariants.{Reclaim}
 use Rattle.semantics.specs.declared.call.Reply.TheVariants.{Freed}
 use Rattle.semantics.specs.History.{meets, journal_is_full}
-use Rattle.semantics.specs.SequentialShard.{shard_after}
 use Rattle.std.proofs.lemmas.List.{length-reverse}
 use Rattle.shard_core.specs.Sections.{entered_places, floor_of}
 use Rattle.journal.specs.Entries.{reclaim_entry}

@@ -1,12 +1,9 @@
-use Rattle.std.proofs.Common.{reverse, length, refl, sym, ◌∙◌, ap, ◌≡◌, ◌<◌, ◌≤◌, arith}
+use Rattle.std.proofs.Common.{reverse, refl, sym, ◌∙◌, ap}
 use Rattle.std.specs.Prelude.{IsTrue, IsFalse}
 use Rattle.semantics.specs.declared.call.Call.TheVariants.{Store}
 use Rattle.semantics.specs.declared.call.Reply.TheVariants.{Done}
 use Rattle.semantics.specs.History.{meets, journal_is_full}
 use Rattle.semantics.specs.SequentialShard.{shard_after}
-use Rattle.semantics.specs.LittleEndian.{bytes_of_number}
-use Rattle.semantics.specs.SequentialShard.{cell_bytes}
-use Rattle.wire.specs.FrameView.{overwritten_at}
 use Rattle.journal.specs.Entries.{store_entry}
 use Rattle.shard_core.proofs.AskedLemmas.{store_asked}
 use Rattle.shard_core.proofs.StepLemmas.{step_taken, table_keeps, contents_stored}

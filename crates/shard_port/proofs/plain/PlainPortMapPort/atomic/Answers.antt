@@ -4,9 +4,11 @@ use Rattle.std.proofs.Math.Logic.{∥∥₁_elim}
 use Rattle.semantics.specs.declared.call.Call.TheVariants.{Atomic}
 use Rattle.semantics.specs.declared.call.Reply.TheVariants.{Word}
 use Rattle.isa.specs.InstructionCodes.{atomic_code}
+use Rattle.semantics.proofs.shared.PlanLemmas.{some_shards}
+use Rattle.semantics.specs.Cells.{word_in}
 use Rattle.shard_port.specs.Asking.{IsAnsweredAmong}
-use Rattle.shard_port.specs.PortView.{IsReady, cell_of_handle, word_in}
-use Rattle.shard_port.proofs.shared.MayAskLemmas.{may_change, some_part}
+use Rattle.shard_port.specs.PortView.{IsReady, cell_of_handle}
+use Rattle.shard_port.proofs.shared.MayAskLemmas.{may_change}
 use Rattle.shard_port.proofs.GivenLemmas.{given_by, change_told, change_below}
 use Rattle.shard_port.proofs.plain.PlainPortMapPort.atomic.Goals as goal
 
@@ -28,7 +30,7 @@ returns-in-Ok-clause-gives c =
     c.args.self.now.worker c.args.self.now.shards.now). change_below c.args.self.now.image.now.maps c.args.self.now.options
     c.args.self.now.worker c.args.self.now.shards.now (cell_of_handle c.args.handle) c.args.offset c.args.size (atomic_code c.args.op)
     c.args.value c.args.expected c.in-Ok.reply c.ask.new.self.shards.now ready among) in
-    rw c.word_in.ensures (record {
+    rw c.word.ensures (record {
       same_port = record {
         same_shards = c.ask.ensures.same_shards;
         same_maps = ap (λ image. image.now.maps) c.ask.ensures.same_image;
@@ -40,7 +42,7 @@ returns-in-Ok-clause-gives c =
           c.in-Ok.reply (Word (word_in c.in-Ok.reply))
           (ap (λ image. image.now.maps) c.ask.ensures.same_image) c.ask.ensures.same_options c.ask.ensures.same_worker
           (∥∥₁_elim c.args.self.now.ready le_prop (λ (ready : IsReady c.args.self.now.image.now.maps c.args.self.now.options
-          c.args.self.now.worker c.args.self.now.shards.now). some_part _ c.args.self.now.options ready.are_options)) tt tt (below)
+          c.args.self.now.worker c.args.self.now.shards.now). some_shards _ c.args.self.now.options ready.are_options)) tt tt (below)
           (change_told c.args.self.now.worker c.args.self.now.shards.now (cell_of_handle c.args.handle) c.args.offset c.args.size
           (atomic_code c.args.op) c.args.value c.args.expected c.in-Ok.reply c.ask.new.self.shards.now among) among;
     })

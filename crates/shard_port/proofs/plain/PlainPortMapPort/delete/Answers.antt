@@ -5,10 +5,11 @@ use Rattle.std.specs.Coded.{Coded-set, coded_bool, le_prop}
 use Rattle.std.proofs.Math.Logic.{∥∥₁_elim}
 use Rattle.semantics.specs.declared.call.Reply.TheVariants.{Answer}
 use Rattle.map_port.specs.Served.{delete_call, shard_of}
+use Rattle.semantics.proofs.shared.PlanLemmas.{some_shards}
 use Rattle.shard_port.specs.Asking.{IsAnsweredAmong}
 use Rattle.shard_port.specs.PortView.{IsReady}
 use Rattle.shard_port.specs.PlainPorts.{maps_of}
-use Rattle.shard_port.proofs.shared.MayAskLemmas.{may_delete, some_part}
+use Rattle.shard_port.proofs.shared.MayAskLemmas.{may_delete}
 use Rattle.shard_port.proofs.GivenLemmas.{given_by, delete_told}
 use Rattle.shard_port.proofs.plain.PlainPortMapPort.delete.Goals as goal
 
@@ -23,8 +24,8 @@ returns-in-Ok-clause-gives c =
     let among : IsAnsweredAmong c.args.self.now.worker c.args.self.now.shards.now
     (delete_call (maps_of c.args.self.now) c.args.map c.args.key.now) c.in-Ok.reply c.ask.new.self.shards.now =
     rw c.shard_of.ensures at c.in-Ok.ensures.answered in
-    let fits : FitsSigned w32 c.answer_in.result = search rules in
-    let same : to_z w32 (of_z w32 c.answer_in.result) ≡ c.answer_in.result = to_z-of_z w32 c.answer_in.result fits in
+    let fits : FitsSigned w32 c.answer.result = search rules in
+    let same : to_z w32 (of_z w32 c.answer.result) ≡ c.answer.result = to_z-of_z w32 c.answer.result fits in
     record {
       same_port = record {
         same_shards = c.ask.ensures.same_shards;
@@ -33,11 +34,11 @@ returns-in-Ok-clause-gives c =
         same_worker = c.ask.ensures.same_worker;
       };
       given = given_by c.args.self.now.image.now.maps _ c.args.self.now.options _ c.args.self.now.worker _ c.args.self.now.shards.now _
-          (delete_call (maps_of c.args.self.now) c.args.map c.args.key.now) c.in-Ok.reply (Answer (to_z w32 (of_z w32 c.answer_in.result)))
+          (delete_call (maps_of c.args.self.now) c.args.map c.args.key.now) c.in-Ok.reply (Answer (to_z w32 (of_z w32 c.answer.result)))
           (ap (λ image. image.now.maps) c.ask.ensures.same_image) c.ask.ensures.same_options c.ask.ensures.same_worker
           (∥∥₁_elim c.args.self.now.ready le_prop (λ (ready : IsReady c.args.self.now.image.now.maps c.args.self.now.options
-          c.args.self.now.worker c.args.self.now.shards.now). some_part _ c.args.self.now.options ready.are_options)) tt tt
+          c.args.self.now.worker c.args.self.now.shards.now). some_shards _ c.args.self.now.options ready.are_options)) tt tt
           (subst (FitsSigned w32) (sym same) fits)
           (delete_told c.args.self.now.worker c.args.self.now.shards.now (shard_of (maps_of c.args.self.now) c.args.map c.args.key.now)
-          c.args.key.now c.in-Ok.reply c.ask.new.self.shards.now among ∙ ap Answer (sym c.answer_in.ensures ∙ sym same)) among;
+          c.args.key.now c.in-Ok.reply c.ask.new.self.shards.now among ∙ ap Answer (sym c.answer.ensures ∙ sym same)) among;
     }

@@ -2,12 +2,13 @@ use Rattle.std.proofs.Common.{◌≡◌, ap, subst}
 use Rattle.std.specs.Prelude.{IsTrue}
 use Rattle.std.specs.Coded.{Coded-set, coded_bool, le_prop}
 use Rattle.std.proofs.Math.Logic.{∥∥₁_elim}
-use Rattle.map_port.specs.Served.{lookup_call, found_reply, shard_of, program_over}
+use Rattle.map_port.specs.Served.{lookup_call, reply_of_handle, shard_of, program_over}
 use Rattle.semantics.specs.RunTrace.{IsReplyTo}
+use Rattle.semantics.proofs.shared.PlanLemmas.{some_shards}
 use Rattle.shard_port.specs.Asking.{IsAnsweredAmong}
 use Rattle.shard_port.specs.PortView.{IsReady, cell_of_handle, handle_of, has_small_cell}
 use Rattle.shard_port.specs.PlainPorts.{maps_of}
-use Rattle.shard_port.proofs.shared.MayAskLemmas.{may_lookup, some_part}
+use Rattle.shard_port.proofs.shared.MayAskLemmas.{may_lookup}
 use Rattle.shard_port.proofs.GivenLemmas.{given_by, small_lookup, found_told, lookup_formed}
 use Rattle.shard_port.proofs.plain.PlainPortMapPort.lookup.Goals as goal
 
@@ -38,7 +39,7 @@ returns-in-Ok-clause-gives c =
     small_lookup c.args.self.now.image.now.maps c.args.self.now.options c.args.self.now.worker c.args.self.now.shards.now
     (shard_of (maps_of c.args.self.now) c.args.map c.args.key.now) c.args.key.now c.in-Ok.reply c.ask.new.self.shards.now ready
     among) in
-    let told : c.in-Ok.reply ≡ found_reply cell_of_handle (handle_of c.in-Ok.reply) =
+    let told : c.in-Ok.reply ≡ reply_of_handle cell_of_handle (handle_of c.in-Ok.reply) =
     found_told c.args.self.now.worker c.args.self.now.shards.now (shard_of (maps_of c.args.self.now) c.args.map c.args.key.now)
     c.args.key.now c.in-Ok.reply c.ask.new.self.shards.now small among in
     rw c.handle_of.ensures.handle (record {
@@ -50,10 +51,10 @@ returns-in-Ok-clause-gives c =
       };
       given = given_by c.args.self.now.image.now.maps _ c.args.self.now.options _ c.args.self.now.worker _ c.args.self.now.shards.now _
           (lookup_call (maps_of c.args.self.now) c.args.map c.args.key.now) c.in-Ok.reply
-          (found_reply cell_of_handle (handle_of c.in-Ok.reply))
+          (reply_of_handle cell_of_handle (handle_of c.in-Ok.reply))
           (ap (λ image. image.now.maps) c.ask.ensures.same_image) c.ask.ensures.same_options c.ask.ensures.same_worker
           (∥∥₁_elim c.args.self.now.ready le_prop (λ (ready : IsReady c.args.self.now.image.now.maps c.args.self.now.options
-          c.args.self.now.worker c.args.self.now.shards.now). some_part _ c.args.self.now.options ready.are_options)) tt tt
+          c.args.self.now.worker c.args.self.now.shards.now). some_shards _ c.args.self.now.options ready.are_options)) tt tt
           (subst (IsReplyTo (program_over (maps_of c.args.self.now)) (lookup_call (maps_of c.args.self.now) c.args.map c.args.key.now))
           told (lookup_formed c.args.self.now.image.now.maps c.args.self.now.options c.args.self.now.worker c.args.self.now.shards.now
           (shard_of (maps_of c.args.self.now) c.args.map c.args.key.now) c.args.key.now c.in-Ok.reply c.ask.new.self.shards.now

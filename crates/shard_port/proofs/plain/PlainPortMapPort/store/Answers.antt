@@ -3,9 +3,10 @@ use Rattle.std.specs.Coded.{Coded-set, coded_bool, le_prop}
 use Rattle.std.proofs.Math.Logic.{∥∥₁_elim}
 use Rattle.semantics.specs.declared.call.Call.TheVariants.{Store}
 use Rattle.semantics.specs.declared.call.Reply.TheVariants.{Done}
+use Rattle.semantics.proofs.shared.PlanLemmas.{some_shards}
 use Rattle.shard_port.specs.Asking.{IsAnsweredAmong}
 use Rattle.shard_port.specs.PortView.{IsReady, cell_of_handle}
-use Rattle.shard_port.proofs.shared.MayAskLemmas.{may_store, some_part}
+use Rattle.shard_port.proofs.shared.MayAskLemmas.{may_store}
 use Rattle.shard_port.proofs.GivenLemmas.{given_by, store_told}
 use Rattle.shard_port.proofs.plain.PlainPortMapPort.store.Goals as goal
 
@@ -31,7 +32,7 @@ returns-in-Ok-clause-gives c =
           (Store (cell_of_handle c.args.handle) c.args.offset c.args.size c.args.value) c.in-Ok.field-0 (Done)
           (ap (λ image. image.now.maps) c.ask.ensures.same_image) c.ask.ensures.same_options c.ask.ensures.same_worker
           (∥∥₁_elim c.args.self.now.ready le_prop (λ (ready : IsReady c.args.self.now.image.now.maps c.args.self.now.options
-          c.args.self.now.worker c.args.self.now.shards.now). some_part _ c.args.self.now.options ready.are_options)) tt tt (tt)
+          c.args.self.now.worker c.args.self.now.shards.now). some_shards _ c.args.self.now.options ready.are_options)) tt tt (tt)
           (store_told c.args.self.now.worker c.args.self.now.shards.now (cell_of_handle c.args.handle) c.args.offset c.args.size
           c.args.value c.in-Ok.field-0 c.ask.new.self.shards.now among) among;
     }
