@@ -7,7 +7,7 @@ use machine::{Exit, Moment, run};
 use semantics::Options;
 use shard_port::PlainPort;
 use shard_port::laws::opened_serve;
-use shards::Shards;
+use shards::PlainShards;
 use std::alloc::Global;
 use verifier::Verified;
 use wire::{Frame, fnv1a64};
@@ -53,7 +53,7 @@ fn frame_of(alloc: Global, bytes: &[u8]) -> Result<Frame, u8>
 pub fn run_once(alloc: Global, verified: &Verified, bytes: &[u8], journal: u32) -> Result<Ran, u8> {
     opened_serve();
     let options = options(journal);
-    let mut shards = match Shards::open(alloc, verified.image(), options) {
+    let mut shards = match PlainShards::open(alloc, verified.image(), options) {
         Ok(shards) => shards,
         Err(fault) => return Err(fault.number()),
     };
@@ -78,7 +78,7 @@ pub fn prepare_once(
     bytes: &[u8],
     journal: u32,
 ) -> Result<u64, u8> {
-    let shards = match Shards::open(alloc, verified.image(), options(journal)) {
+    let shards = match PlainShards::open(alloc, verified.image(), options(journal)) {
         Ok(shards) => shards,
         Err(fault) => return Err(fault.number()),
     };

@@ -8,7 +8,7 @@ use Rattle.ebpf_decode.specs.declared.map.MapKind.TheVariants.{Array}
 use Rattle.semantics.specs.declared.options.Options.{Options}
 use Rattle.semantics.specs.declared.plan.ShardPlan.{ShardPlan}
 use Rattle.semantics.specs.ShardPlan.{plan_at, plan_for_map}
-use Rattle.shared_shards.specs.SharedMaps.{ArePlans}
+use Rattle.shards.specs.SharedMaps.{ArePlans}
 use Rattle.bench_parts.specs.Measured.{measured_plan}
 
 abbrev measured_map : MapDef

@@ -5,7 +5,7 @@ use Rattle.semantics.specs.declared.call.Caller.{Caller}
 use Rattle.semantics.specs.declared.call.Caller.TheVariants.{Worker}
 use Rattle.semantics.specs.declared.plan.ShardPlan.{ShardPlan}
 use Rattle.semantics.specs.Reclamation.{is_inside, holds}
-use Rattle.shared_shards.specs.Passes.{PassView, own_at}
+use Rattle.shards.specs.Passes.{PassView, own_at}
 
 -- the only shard of an array of 64 keys, for four workers
 abbrev pub measured_plan : ℕ → ShardPlan

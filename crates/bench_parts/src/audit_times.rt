@@ -3,7 +3,7 @@
 use anyhow::Error;
 use audit::audit;
 use ebpf_decode::{Image, Insn, MapDef, MapKind, Version};
-use journal_files::journals_of;
+use journals::journals_of;
 use std::alloc::Global;
 use std::time::Instant;
 

@@ -17,7 +17,7 @@ use rows::{FRAMES, ROWS, Row, SIZE, frame_bytes};
 use semantics::Verdict;
 use shard_port::PlainPort;
 use shard_port::laws::{opened_serve, stays_one_port};
-use shards::Shards;
+use shards::PlainShards;
 use std::alloc::Global;
 use std::time::Instant;
 use steer::shipped;
@@ -44,7 +44,11 @@ fn run_at(verified: &Verified, frame: &mut Frame, port: &mut PlainPort) -> Resul
 }
 
 /// One run.
-fn run_session(verified: &Verified, shards: &mut Shards, frame: &mut Frame) -> Result<Exit, Stop>
+fn run_session(
+    verified: &Verified,
+    shards: &mut PlainShards,
+    frame: &mut Frame,
+) -> Result<Exit, Stop>
     requires options { AreOptions verified.now.maps bench_options }
     requires shards { ServesMaps verified.now.maps bench_options shards.old }
     requires headroom { frame.old.headroom ≡ 256 }
@@ -57,7 +61,12 @@ fn run_session(verified: &Verified, shards: &mut Shards, frame: &mut Frame) -> R
 }
 
 /// Makes the frames and runs the program on each. Gives how many were sent.
-fn run_all(alloc: Global, verified: &Verified, shards: &mut Shards, row: &Row) -> Result<u32, Error>
+fn run_all(
+    alloc: Global,
+    verified: &Verified,
+    shards: &mut PlainShards,
+    row: &Row,
+) -> Result<u32, Error>
     requires options { AreOptions verified.now.maps bench_options }
     requires shards { ServesMaps verified.now.maps bench_options shards.old }
 {
@@ -85,7 +94,7 @@ fn make_all(alloc: Global, row: &Row) -> Result<usize, Error> {
 /// What a frame's run takes, in tenths of a nanosecond, and how many frames were sent.
 fn timed(rt: &HostRuntime, verified: &Verified, row: &Row) -> Result<(u128, u32), Error> {
     let alloc = rt.alloc();
-    let mut shards = Shards::open(alloc, verified.image(), options())?;
+    let mut shards = PlainShards::open(alloc, verified.image(), options())?;
     opened_serve();
     if !put_session(verified.image(), &mut shards, row)? {
         return Ok((u128::MAX, 0));

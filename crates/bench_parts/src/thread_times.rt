@@ -4,14 +4,14 @@ mod core_calls;
 mod shared_calls;
 
 ghost use Rattle.std.specs.Prelude.{◌≡◌, ◌<◌, IfOk};
-ghost use Rattle.shared_shards.specs.NewShards.{IsNamed};
+ghost use Rattle.shards.specs.NewShards.{IsNamed};
 ghost use Rattle.bench_parts.specs.Measured.{IsReady};
 
 use anyhow::Error;
 use core_calls::timed_core;
 use ebpf_decode::{Image, Insn, Version};
+use shards::{Naming, Opened, Shards};
 use shared_calls::{LOOKUPS, MAP, OPTIONS, THREADS, Task, task_of, work};
-use shared_shards::{Naming, Opened, Shards};
 use std::alloc::Global;
 use std::marker::Brand;
 use std::sync::Wait;

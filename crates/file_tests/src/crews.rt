@@ -3,6 +3,7 @@
 ghost use Rattle.std.specs.Prelude.{◌≡◌, ◌<◌, ◌≤◌};
 
 use crate::asserting::same;
+use replay::{Actor, ActorEnded, Handled, RunEnd, Runner, run_all};
 use rx_queues::{Job, Queues, TakePass};
 use std::alloc::Global;
 use std::process::Abort;
@@ -10,7 +11,6 @@ use std::sync::Wait;
 use std::test::Fail;
 use std::thread::Threads;
 use wire::{Capture, MemorySink, MemorySource, Sent, read_capture, write_capture};
-use workers::{Actor, ActorEnded, Handled, RunEnd, Runner, run_all};
 
 /// Passes each frame, and counts in a worker's state how many it has run.
 #[derive(Drop)]

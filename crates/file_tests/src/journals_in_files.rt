@@ -3,8 +3,7 @@
 use crate::asserting::{holds, holds_at, prints, same, same_at, same_bytes};
 use crate::slow_devices::{SlowSink, SlowSource};
 use ebpf_decode::{Image, Insn, MapDef, MapKind, Version};
-use journal_files::{FileFault, read_journals, write_journals};
-use journals::{Journals, ShardJournal};
+use journals::{FileFault, Journals, ShardJournal, read_journals, write_journals};
 use semantics::{Call, Caller, CellRef, Entry, Key, Reply, Value};
 use std::alloc::Global;
 use std::process::Abort;

@@ -24,11 +24,11 @@ use Rattle.verifier.specs.Verified.{Verified}
 use Rattle.machine.specs.declared.moment.Moment.{Moment}
 use Rattle.machine.specs.Running.{program_of, whole_trace}
 use Rattle.map_port.specs.Exchanges.{Exchange, calls_in, replies_in}
-use Rattle.shared_shards.specs.Passes.{PassView, own_at}
+use Rattle.shards.specs.Passes.{PassView, own_at}
 use Rattle.shard_port.specs.Asking.{enter_by, leave_by}
 use Rattle.shard_port.specs.Sessions.{entry_of, is_at, entries_at, begun, session}
 use Rattle.shard_port.specs.PassPorts.{is_worker_below, worker_of}
-use Rattle.frame_runs.specs.FrameRuns.{HasRun}
+use Rattle.runs.specs.FrameRuns.{HasRun}
 use Rattle.guarantees.specs.SystemRuns.{Writes, Move, IsMove, AreMoves, does, is_of_shard, entries_asked, entries_in, entries_on, setting_of, RanInSystem}
 use Rattle.guarantees.specs.Guarantees.{RunsAreOfTheSystem}
 use Rattle.guarantees.proofs.MoveLemmas.{asks, leave, begins_so, goes_on, ends, calls, enters, leaves_one}

@@ -18,23 +18,23 @@ use Rattle.semantics.specs.CallerLaws.{own_entries}
 use Rattle.semantics.specs.Program.{Program}
 use Rattle.semantics.specs.ShardPlan.{plan_for_map}
 use Rattle.journals.specs.JournalsView.{JournalsView, entries_at}
-use Rattle.shared_shards.specs.CallerView.{CallerView}
-use Rattle.shared_shards.specs.Passes.{PassView, own_at}
-use Rattle.actors.specs.declared.applied.Applied.{Applied}
-use Rattle.actors.specs.Commands.{CommandDone, AreNotedOf, made_in, with_updates}
-use Rattle.actors.specs.Rounds.{IsReclaim, IsReclaimedBy}
-use Rattle.workers.specs.declared.run_end.Ran.{Ran}
-use Rattle.workers.specs.declared.run_end.RunEnd.{RunEnd}
-use Rattle.workers.specs.declared.run_end.RunEnd.TheVariants.{Stopped, Aborted, Dropped, Passed, Sent as IsSent}
-use Rattle.workers.specs.declared.counts.Counts.{Counts}
-use Rattle.workers.specs.Accounts.{SentFrame, counts_of, sent_by, sent_of, sent_frames, runs_at, fate_of}
-use Rattle.workers.specs.Runs.{IsRunAt, IsChainOfRuns}
-use Rattle.workers.specs.Shares.{frames_of, frame_at, is_short, has_flow, worker_of_frame, is_handed, share}
-use Rattle.workers.proofs.shared.AccountLemmas.{handed_own}
+use Rattle.shards.specs.CallerView.{CallerView}
+use Rattle.shards.specs.Passes.{PassView, own_at}
+use Rattle.replay.specs.declared.applied.Applied.{Applied}
+use Rattle.replay.specs.Commands.{CommandDone, AreNotedOf, made_in, with_updates}
+use Rattle.replay.specs.Rounds.{IsReclaim, IsReclaimedBy}
+use Rattle.replay.specs.declared.run_end.Ran.{Ran}
+use Rattle.replay.specs.declared.run_end.RunEnd.{RunEnd}
+use Rattle.replay.specs.declared.run_end.RunEnd.TheVariants.{Stopped, Aborted, Dropped, Passed, Sent as IsSent}
+use Rattle.replay.specs.declared.counts.Counts.{Counts}
+use Rattle.replay.specs.Accounts.{SentFrame, counts_of, sent_by, sent_of, sent_frames, runs_at, fate_of}
+use Rattle.replay.specs.RunsInOrder.{IsRunAt, IsChainOfRuns}
+use Rattle.replay.specs.Shares.{frames_of, frame_at, is_short, has_flow, worker_of_frame, is_handed, share}
+use Rattle.replay.proofs.shared.AccountLemmas.{handed_own}
 use Rattle.replay.specs.declared.outcome.Outcome.{Outcome}
 use Rattle.replay.specs.Accounted.{IsAccounted}
 use Rattle.replay.specs.Parts.{rounds_of}
-use Rattle.replay.specs.Runs.{IsRunIn, IsExit}
+use Rattle.replay.specs.RunsOverShards.{IsRunIn, IsExit}
 use Rattle.guarantees.specs.ReaderRuns.{is_quiet, AreQuiet, IsReadAtOpening}
 use Rattle.guarantees.specs.ReaderReplays.{IsCaptured, sent_at_opening, sent_if_there, all_sent_at_opening}
 use Rattle.guarantees.proofs.Callers.{all_of_callers, all_own}

@@ -23,15 +23,15 @@ use Rattle.semantics.specs.RunTrace.{RunStand, RunTrace, HasExited, Waits, HasTr
 use Rattle.semantics.specs.ShardPlan.{plan_at, plan_for_map}
 use Rattle.semantics.specs.System.{IsInputFrame}
 use Rattle.map_port.specs.Exchanges.{Exchange, calls_in, replies_in}
-use Rattle.shared_shards.specs.Passes.{PassView, own_at}
+use Rattle.shards.specs.Passes.{PassView, own_at}
 use Rattle.shard_port.specs.PassSessions.{session_at, AreWithin}
 use Rattle.shard_port.specs.Sessions.{entry_of, entries_at}
-use Rattle.frame_runs.specs.FrameRuns.{AreFormed}
-use Rattle.workers.specs.declared.run_end.RunEnd.{RunEnd}
-use Rattle.workers.specs.declared.run_end.RunEnd.TheVariants.{Stopped, Aborted, Dropped, Passed, Sent as IsSent}
-use Rattle.workers.specs.Accounts.{sent_by}
-use Rattle.workers.specs.Shares.{is_short}
-use Rattle.replay.specs.Runs.{IsTold, IsExit, start_of, time_of}
+use Rattle.runs.specs.FrameRuns.{AreFormed}
+use Rattle.replay.specs.declared.run_end.RunEnd.{RunEnd}
+use Rattle.replay.specs.declared.run_end.RunEnd.TheVariants.{Stopped, Aborted, Dropped, Passed, Sent as IsSent}
+use Rattle.replay.specs.Accounts.{sent_by}
+use Rattle.replay.specs.Shares.{is_short}
+use Rattle.replay.specs.RunsOverShards.{IsTold, IsExit, start_of, time_of}
 use Rattle.guarantees.specs.SameRuns.{AreReplies, RunsTheSame, stand_of_any, trace_of_any}
 use Rattle.guarantees.specs.ReaderRuns.{is_read, is_quiet, AreReads, AreQuiet, OnlyReads, IsReadAtOpening, opening_reply, stand_with}
 use Rattle.guarantees.specs.ReaderReplays.{IsCaptured, answer_in, opening_answer, options_of, sent_for, sent_where}

@@ -28,11 +28,11 @@ use Rattle.machine.specs.declared.exit.Stop.TheVariants.{JournalFull}
 use Rattle.machine.specs.declared.moment.Moment.{Moment}
 use Rattle.machine.specs.Running.{program_of, whole_trace}
 use Rattle.map_port.specs.Exchanges.{Exchange, calls_in, replies_in}
-use Rattle.shared_shards.specs.Passes.{PassView, own_at}
+use Rattle.shards.specs.Passes.{PassView, own_at}
 use Rattle.shard_port.specs.Asking.{enter_by, leave_by}
 use Rattle.shard_port.specs.Sessions.{entries_at}
 use Rattle.shard_port.specs.PassSessions.{session_at, IsKeptOut, IsVisitedAt, HasRefusedSessions}
-use Rattle.frame_runs.specs.FrameRuns.{HasStopped}
+use Rattle.runs.specs.FrameRuns.{HasStopped}
 use Rattle.guarantees.specs.SystemRuns.{Writes, Move, IsMove, AreMoves, entries_on, HaveGrown, IsStoppedInSystem, setting_of, HasStoppedInSystem}
 use Rattle.guarantees.specs.Guarantees.{StoppedRunsAreOfTheSystem}
 use Rattle.guarantees.proofs.MoveLemmas.{asks, begins_so, enters, is_refused, cannot_enter}

@@ -19,7 +19,7 @@ use Rattle.shards.specs.Opening.{AreOpened}
 use Rattle.shard_port.specs.Asking.{is_in}
 use Rattle.shard_port.specs.PortView.{ServesMaps}
 use Rattle.map_port.specs.Exchanges.{Exchange, calls_in, replies_in}
-use Rattle.shared_shards.specs.Passes.{PassView}
+use Rattle.shards.specs.Passes.{PassView}
 use Rattle.shard_port.specs.PassSessions.{HasSessions, HasRefusedSessions}
 use Rattle.machine.specs.Running.{program_of}
 use Rattle.guarantees.specs.SystemRuns.{Answers, IsRunOfSystem, IsStoppedInSystem}

@@ -16,11 +16,11 @@ use Rattle.semantics.specs.Program.{Program}
 use Rattle.semantics.specs.History.{shard_of_call}
 use Rattle.semantics.specs.RunTrace.{RunStand, HasExited}
 use Rattle.semantics.specs.ShardPlan.{plan_at, AreOptions}
-use Rattle.workers.specs.Accounts.{SentFrame, sent_frames}
-use Rattle.workers.specs.Shares.{is_short}
+use Rattle.replay.specs.Accounts.{SentFrame, sent_frames}
+use Rattle.replay.specs.Shares.{is_short}
 use Rattle.replay.specs.declared.outcome.Outcome.{Outcome}
 use Rattle.replay.specs.Accounted.{IsAccounted}
-use Rattle.replay.specs.Runs.{time_of, start_of}
+use Rattle.replay.specs.RunsOverShards.{time_of, start_of}
 use Rattle.guarantees.specs.ReaderRuns.{opening_reply, stand_with}
 
 -- ---- the maps as they were opened

@@ -20,8 +20,8 @@ use Rattle.verifier.specs.Verified.{Verified}
 use Rattle.machine.specs.declared.exit.Stop.{Stop}
 use Rattle.machine.specs.declared.exit.Stop.TheVariants.{JournalFull}
 use Rattle.machine.specs.declared.moment.Moment.{Moment}
-use Rattle.shared_shards.specs.CallerView.{BeginsWith}
-use Rattle.shared_shards.specs.Passes.{PassView, own_at, seen_at}
+use Rattle.shards.specs.CallerView.{BeginsWith}
+use Rattle.shards.specs.Passes.{PassView, own_at, seen_at}
 
 -- ---- what a worker's event asks of a shard
 

@@ -5,16 +5,16 @@ ghost use Rattle.std.specs.List.{AllByRecursion};
 ghost use Rattle.verifier.specs.Readers.{IsReader};
 ghost use Rattle.machine.specs.Running.{program_of};
 ghost use Rattle.semantics.specs.ShardPlan.{are_served_options};
-ghost use Rattle.workers.specs.Accounts.{sent_frames};
+ghost use Rattle.replay.specs.Accounts.{sent_frames};
 ghost use Rattle.replay.specs.declared.fault.ReplayFault.TheVariants.{BadOptions};
 ghost use Rattle.guarantees.specs.ReaderReplays.{IsCaptured, all_sent_at_opening};
 
 use crate::readers_send_as_at_opening;
 use control::Script;
-use gates::Gate;
 use replay::{Outcome, ReplayFault, replay};
 use semantics::Options;
 use semantics::facts::bytes_have_8_bits;
+use shard_port::Gate;
 use std::alloc::Global;
 use std::sync::Wait;
 use std::thread::Threads;

@@ -7,11 +7,11 @@ ghost use Rattle.shard_port.specs.PortView.{ServesMaps};
 ghost use Rattle.guarantees.specs.Runs.{IsOutside, start_of, IsTheMeaning, IsStoppedBeginning};
 
 use crate::{runs_are_their_meaning, stopped_runs_are_beginnings};
-use frame_runs::plain::run_at;
 use machine::{Exit, Moment, Stop};
+use runs::plain_run::run_at;
 use semantics::Options;
 use shard_port::PlainPort;
-use shards::Shards;
+use shards::PlainShards;
 use verifier::Verified;
 use wire::Frame;
 
@@ -21,7 +21,7 @@ use wire::Frame;
 pub fn worker_run(
     verified: &Verified,
     options: Options,
-    shards: &mut Shards,
+    shards: &mut PlainShards,
     moment: &Moment,
     frame: &mut Frame,
 ) -> Result<Exit, Stop>

@@ -6,11 +6,11 @@ ghost use Rattle.shard_port.specs.PassSessions.{IsOutsideAt};
 ghost use Rattle.guarantees.specs.SystemRuns.{setting_of, RanInSystem, HasStoppedInSystem};
 
 use crate::{runs_are_of_the_system, stopped_runs_are_of_the_system};
-use frame_runs::run_frame;
-use gates::Gate;
 use machine::{Exit, Moment, Stop};
+use runs::run_frame;
 use semantics::facts::{frame_may_come_in, time_has_64_bits};
-use shared_shards::{Naming, Pass, Shards};
+use shard_port::Gate;
+use shards::{Naming, Pass, Shards};
 use std::sync::Wait;
 use verifier::Verified;
 use wire::Frame;

@@ -8,8 +8,8 @@ use Rattle.semantics.specs.declared.plan.ShardPlan.{ShardPlan}
 use Rattle.semantics.specs.CallerLaws.{own_entries}
 use Rattle.semantics.specs.History.{IsLegalJournal}
 use Rattle.journals.specs.JournalsView.{JournalsView, entries_at}
-use Rattle.shared_shards.specs.Passes.{PassView, pass_at, own_at, AreSettled}
-use Rattle.shared_shards.specs.EntryCounts.{own_total, AllEntriesAreSomebodys}
+use Rattle.shards.specs.Passes.{PassView, pass_at, own_at, AreSettled}
+use Rattle.shards.specs.EntryCounts.{own_total, AllEntriesAreSomebodys}
 use Rattle.pass_tests.specs.TwoWorkers.{AreTheFour}
 
 own_count : (count : ℕ) (journals : JournalsView) (pass : PassView) (who : Caller) → 0 < count → AreSettled count journals pass → pass.who ≡ who →

@@ -10,8 +10,8 @@ use Rattle.semantics.specs.declared.call.Entry.{Entry}
 use Rattle.semantics.specs.declared.options.Options.{Options}
 use Rattle.semantics.specs.declared.plan.ShardPlan.{ShardPlan}
 use Rattle.semantics.specs.History.{IsLegalHistory}
-use Rattle.shared_shards.specs.CallerView.{CallerView, BeginsWith}
-use Rattle.shared_shards.specs.Passes.{PassView, own_at}
+use Rattle.shards.specs.CallerView.{CallerView, BeginsWith}
+use Rattle.shards.specs.Passes.{PassView, own_at}
 
 -- an array of one element, in one shard, whose journal has room for 16 entries
 abbrev pub one_element : MapDef

@@ -15,7 +15,7 @@ use map_port::MapPort;
 use semantics::{Call, Caller, CellRef, Entry, JournalFull, Key, Options, Reply, Value};
 use shard_port::laws::opened_serve;
 use shard_port::plain::PlainPort;
-use shards::Shards;
+use shards::PlainShards;
 use std::alloc::Global;
 use std::process::Abort;
 use std::test::Fail;
@@ -229,7 +229,7 @@ fn run(
     rt: &impl Abort,
     image: &Image,
     options: Options,
-    shards: &mut Shards,
+    shards: &mut PlainShards,
     rows: &[Row],
 ) -> Option<JournalFull>
     requires maps { image.now.maps ≡ example_maps }
@@ -296,7 +296,7 @@ fn entry_of(shard: u32, made: Made, reply: Reply) -> Entry {
 }
 
 /// An entry of a shard's journal; None past its end.
-fn entry_at(shards: &mut Shards, number: u32, place: usize) -> Option<Entry> {
+fn entry_at(shards: &mut PlainShards, number: u32, place: usize) -> Option<Entry> {
     if number as usize >= shards.count() {
         return None;
     }
@@ -309,7 +309,7 @@ fn entry_at(shards: &mut Shards, number: u32, place: usize) -> Option<Entry> {
 }
 
 /// Compares all entries of a shard's journal, each as what was asked and what was replied.
-fn says(rt: &impl Abort, shards: &mut Shards, name: &str, number: u32, want: &[Entered]) {
+fn says(rt: &impl Abort, shards: &mut PlainShards, name: &str, number: u32, want: &[Entered]) {
     holds(rt, name, (number as usize) < shards.count());
     let mut place: usize = 0;
     for (times, made, reply) in want {
@@ -333,7 +333,7 @@ fn session(
 ) -> Result<(), Fail> {
     let image = example_image(alloc)?;
     let options = options_of(journal);
-    let mut shards = Shards::open(alloc, &image, options)?;
+    let mut shards = PlainShards::open(alloc, &image, options)?;
     opened_serve();
     let found = run(rt, &image, options, &mut shards, rows);
     same(rt, "what is refused", &found, &refused);
@@ -486,7 +486,7 @@ fn answers_of_a_hash_map(rt: HostRuntime) -> Result<(), Fail> {
 fn look_once(
     image: &Image,
     options: Options,
-    shards: &mut Shards,
+    shards: &mut PlainShards,
     index: u32,
 ) -> Result<u64, JournalFull>
     requires maps { image.now.maps ≡ example_maps }
@@ -516,7 +516,7 @@ const TWO_SESSIONS: [Entered; 6] = [
 fn one_session_for_each_run(rt: HostRuntime) -> Result<(), Fail> {
     let image = example_image(rt.alloc())?;
     let options = options_of(64);
-    let mut shards = Shards::open(rt.alloc(), &image, options)?;
+    let mut shards = PlainShards::open(rt.alloc(), &image, options)?;
     opened_serve();
     same(
         &rt,

@@ -5,13 +5,13 @@ mod rows;
 mod two_workers;
 
 ghost use Rattle.std.specs.Prelude.{IfOk};
-ghost use Rattle.shared_shards.specs.NewShards.{IsNamed};
+ghost use Rattle.shards.specs.NewShards.{IsNamed};
 
 use crate::asserting::{holds, same};
 use ebpf_decode::{Image, Insn, MapDef, MapKind, Version};
 use journals::Journals;
 use semantics::{Call, Caller, CellRef, Key, Options, Reply};
-use shared_shards::{Naming, Opened, Pass, PassFault, Shards};
+use shards::{Naming, Opened, Pass, PassFault, Shards};
 use std::alloc::{AllocError, Global};
 use std::marker::Brand;
 use std::process::Abort;

@@ -19,26 +19,26 @@ use Rattle.semantics.specs.CallerLaws.{own_entries}
 use Rattle.semantics.specs.Program.{Program}
 use Rattle.machine.specs.declared.exit.Stop.{Stop}
 use Rattle.machine.specs.declared.exit.Stop.TheVariants.{JournalFull}
-use Rattle.frame_runs.specs.FrameRuns.{HasStopped}
-use Rattle.shared_shards.specs.CallerView.{CallerView, BeginsWith}
+use Rattle.runs.specs.FrameRuns.{HasStopped}
+use Rattle.shards.specs.CallerView.{CallerView, BeginsWith}
 use Rattle.journals.specs.JournalsView.{JournalsView, entries_at}
-use Rattle.shared_shards.specs.Passes.{PassView, own_at, seen_at, pass_at, AreSettled}
+use Rattle.shards.specs.Passes.{PassView, own_at, seen_at, pass_at, AreSettled}
 use Rattle.shard_port.specs.PassSessions.{IsKeptOut}
-use Rattle.actors.proofs.shared.FullStays.{full_stays}
-use Rattle.workers.specs.declared.counts.Counts.{Counts}
-use Rattle.workers.specs.declared.crew.Handled.{Handled}
-use Rattle.workers.specs.declared.run_end.Ran.{Ran}
-use Rattle.workers.specs.declared.run_end.RunEnd.{RunEnd}
-use Rattle.workers.specs.declared.run_end.RunEnd.TheVariants.{Stopped, Aborted, Dropped, Passed, Sent as IsSent}
-use Rattle.workers.specs.Accounts.{lists_of, runs_at, AreRunsOfShares}
+use Rattle.replay.proofs.shared.FullStays.{full_stays}
+use Rattle.replay.specs.declared.counts.Counts.{Counts}
+use Rattle.replay.specs.declared.crew.Handled.{Handled}
+use Rattle.replay.specs.declared.run_end.Ran.{Ran}
+use Rattle.replay.specs.declared.run_end.RunEnd.{RunEnd}
+use Rattle.replay.specs.declared.run_end.RunEnd.TheVariants.{Stopped, Aborted, Dropped, Passed, Sent as IsSent}
+use Rattle.replay.specs.Accounts.{lists_of, runs_at, AreRunsOfShares}
 use Rattle.semantics.specs.Each.{Each}
-use Rattle.workers.specs.Crews.{IsHandled, IsPart}
-use Rattle.workers.specs.Runs.{IsRunAt, IsChainOfRuns, HasHandled}
-use Rattle.workers.specs.Shares.{frames_of, share}
-use Rattle.workers.specs.Jobs.{records_of}
+use Rattle.replay.specs.Crews.{IsHandled, IsPart}
+use Rattle.replay.specs.RunsInOrder.{IsRunAt, IsChainOfRuns, HasHandled}
+use Rattle.replay.specs.Shares.{frames_of, share}
+use Rattle.replay.specs.RunJobs.{records_of}
 use Rattle.replay.specs.declared.outcome.Outcome.{Outcome}
 use Rattle.replay.specs.declared.shard_runner.Working.{Working}
-use Rattle.replay.specs.Runs.{IsNewPass, IsNewAt, IsIdle, IsRunOf, IsRunBy, IsRunIn, IsExit, StopsFor, IsFullAtEnd, pass_in, start_of}
+use Rattle.replay.specs.RunsOverShards.{IsNewPass, IsNewAt, IsIdle, IsRunOf, IsRunBy, IsRunIn, IsExit, StopsFor, IsFullAtEnd, pass_in, start_of}
 use Rattle.replay.specs.Accounted.{IsWorkOf}
 
 -- ---- an outcome by its parts

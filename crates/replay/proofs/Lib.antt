@@ -1,2 +1,17 @@
+pub mod shared
+pub mod ListLemmas
+pub mod PutLemmas
+pub mod ShareLemmas
+pub mod RunLemmas
+pub mod CrewParts
+pub mod HandLemmas
+pub mod DispatchLemmas
+pub mod TakeLemmas
+pub mod Moving
+pub mod Effects
+pub mod CommandAccounts
+pub mod RoundLemmas
+pub mod Asking
+pub mod JobLemmas
 pub mod Accounts
 pub mod PartLemmas

@@ -16,19 +16,19 @@ use Rattle.semantics.specs.CallerLaws.{own_entries}
 use Rattle.semantics.specs.Program.{part_of_key, shard_in_map, shard_number_of_key}
 use Rattle.semantics.specs.ShardPlan.{AreOptions}
 use Rattle.journals.specs.JournalsView.{JournalsView, entries_at}
-use Rattle.shared_shards.specs.CallerView.{BeginsWith}
-use Rattle.shared_shards.specs.SharedMaps.{ArePlans}
-use Rattle.shared_shards.specs.Passes.{PassView, own_at, seen_at, pass_at, AreSettled}
+use Rattle.shards.specs.CallerView.{BeginsWith}
+use Rattle.shards.specs.SharedMaps.{ArePlans}
+use Rattle.shards.specs.Passes.{PassView, own_at, seen_at, pass_at, AreSettled}
 use Rattle.rx_queues.specs.declared.job.Job.{Job}
 use Rattle.rx_queues.specs.declared.job.Job.TheVariants.{Frame, Command as CommandJob, Note, End}
 use Rattle.control.specs.declared.command.Command.{Command}
 use Rattle.control.specs.MapUpdates.{UpdateBytes}
-use Rattle.actors.specs.declared.applied.Applied.{Applied}
-use Rattle.actors.specs.SharedUpdates.{shard_of, update_call}
-use Rattle.actors.specs.Commands.{CommanderView, CommandDone, IsAccount, IsFullFor, ServesScript}
-use Rattle.actors.specs.Jobs.{command_jobs}
-use Rattle.actors.specs.Rounds.{AreReclaimed, IsReclaimedBy}
-use Rattle.workers.specs.Actors.{numbers_from, commands_from}
+use Rattle.replay.specs.declared.applied.Applied.{Applied}
+use Rattle.replay.specs.SharedUpdates.{shard_of, update_call}
+use Rattle.replay.specs.Commands.{CommanderView, CommandDone, IsAccount, IsFullFor, ServesScript}
+use Rattle.replay.specs.ActorJobs.{command_jobs}
+use Rattle.replay.specs.Rounds.{AreReclaimed, IsReclaimedBy}
+use Rattle.replay.specs.Actors.{numbers_from, commands_from}
 use Rattle.maglev.specs.RingSize.{IsRingSize}
 use Rattle.semantics.proofs.shared.HoldingLemmas.{each_weaker}
 use Rattle.semantics.proofs.shared.PlanLemmas.{some_shards, below_count}

@@ -8,16 +8,16 @@ use Rattle.semantics.specs.CallerLaws.{own_entries}
 use Rattle.semantics.specs.History.{IsLegalJournal}
 use Rattle.semantics.specs.Program.{Program}
 use Rattle.journals.specs.JournalsView.{JournalsView, entries_at}
-use Rattle.shared_shards.specs.Passes.{PassView, own_at}
-use Rattle.shared_shards.specs.SharedMaps.{ArePlans}
-use Rattle.workers.specs.declared.run_end.Ran.{Ran}
-use Rattle.workers.specs.Accounts.{runs_at, counts_of, frames_in, sent_of, sent_frames}
-use Rattle.workers.specs.Runs.{IsRunAt, HasHandled}
-use Rattle.workers.specs.Shares.{frames_of, share}
+use Rattle.shards.specs.Passes.{PassView, own_at}
+use Rattle.shards.specs.SharedMaps.{ArePlans}
+use Rattle.replay.specs.declared.run_end.Ran.{Ran}
+use Rattle.replay.specs.Accounts.{runs_at, counts_of, frames_in, sent_of, sent_frames}
+use Rattle.replay.specs.RunsInOrder.{IsRunAt, HasHandled}
+use Rattle.replay.specs.Shares.{frames_of, share}
 use Rattle.control.specs.declared.command.Command.{Command}
 use Rattle.replay.specs.declared.outcome.Outcome.{Outcome}
 use Rattle.replay.specs.Parts.{IsScriptAccounted, AreRoundsAccounted, rounds_of}
-use Rattle.replay.specs.Runs.{IsNewPass, IsRunIn}
+use Rattle.replay.specs.RunsOverShards.{IsNewPass, IsRunIn}
 
 -- a worker ran its records, in order, from a pass that had seen nothing; and in each journal its entries are those of its runs, one after the
 -- other

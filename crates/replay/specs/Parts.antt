@@ -8,19 +8,19 @@ use Rattle.semantics.specs.declared.plan.ShardPlan.{ShardPlan}
 use Rattle.semantics.specs.CallerLaws.{own_entries}
 use Rattle.semantics.specs.History.{IsJournalFull}
 use Rattle.journals.specs.JournalsView.{JournalsView, entries_at}
-use Rattle.shared_shards.specs.Passes.{PassView}
+use Rattle.shards.specs.Passes.{PassView}
 use Rattle.rx_queues.specs.declared.job.Job.{Job}
 use Rattle.maglev.specs.RingSize.{IsRingSize}
 use Rattle.conntrack.specs.SteeringMaps.{steering_maps}
 use Rattle.control.specs.declared.command.Command.{Command}
 use Rattle.control.specs.Controlling.{ControllerState}
 use Rattle.control.specs.MapUpdates.{UpdateBytes}
-use Rattle.actors.specs.declared.applied.Applied.{Applied}
-use Rattle.actors.specs.SharedUpdates.{shard_of, update_call}
-use Rattle.actors.specs.Commands.{CommanderView, CommandDone, AreNotedOf, AreDone, IsAccount, ServesScript, opened_controller, made_in, with_updates}
-use Rattle.actors.specs.Jobs.{AreCommandsTaken, AreRoundsMade, IsAccounted as IsControllersAccount}
-use Rattle.actors.specs.Rounds.{IsReclaimedBy}
-use Rattle.workers.specs.Actors.{numbers_from}
+use Rattle.replay.specs.declared.applied.Applied.{Applied}
+use Rattle.replay.specs.SharedUpdates.{shard_of, update_call}
+use Rattle.replay.specs.Commands.{CommanderView, CommandDone, AreNotedOf, AreDone, IsAccount, ServesScript, opened_controller, made_in, with_updates}
+use Rattle.replay.specs.ActorJobs.{AreCommandsTaken, AreRoundsMade, IsAccounted as IsControllersAccount}
+use Rattle.replay.specs.Rounds.{IsReclaimedBy}
+use Rattle.replay.specs.Actors.{numbers_from}
 
 -- ---- what the threads hand back for their jobs
 

@@ -1,15 +1,15 @@
 //! The controller and the reclaimer of a replay, as their threads run them.
 
-use actors::{
-    Applied, Commander, CommandsEnded, Reclaiming, RoundsEnded, commands_until_end,
-    rounds_until_end,
-};
-use gates::Gate;
+use crate::actor::{Actor, ActorEnded};
+use crate::applied::Applied;
+use crate::commander::Commander;
+use crate::reclaiming::Reclaiming;
+use crate::until_end::{CommandsEnded, RoundsEnded, commands_until_end, rounds_until_end};
 use rx_queues::{Queues, TakePass};
-use shared_shards::{Naming, Pass};
+use shard_port::Gate;
+use shards::{Naming, Pass};
 use std::alloc::Global;
 use std::sync::Wait;
-use workers::{Actor, ActorEnded};
 
 /// The controller, with the commands that it has applied before its thread begins.
 #[derive(Drop)]
@@ -61,8 +61,8 @@ pub(crate) struct Rounding<'a, B: Naming, W: Wait, G: Gate> {
 
 impl<'a, B: Naming, W: Wait, G: Gate> Actor<Pass<B>> for Rounding<'a, B, W, G> {
     ghost use Rattle.std.specs.Prelude.{◌≡◌, ℕ};
-    ghost use Rattle.shared_shards.specs.CallerView.{nothing_seen};
-    ghost use Rattle.shared_shards.specs.Passes.{view_at};
+    ghost use Rattle.shards.specs.CallerView.{nothing_seen};
+    ghost use Rattle.shards.specs.Passes.{view_at};
     ghost use Rattle.replay.specs.Parts.{HasReclaimed};
 
     ghost is_ready = { λ actor. (number : ℕ) → view_at actor.reclaiming number ≡ nothing_seen };

@@ -4,27 +4,29 @@ ghost use Rattle.std.specs.Prelude.{◌≡◌, ◌<◌, length, IfOk};
 ghost use Rattle.semantics.specs.declared.call.Caller.TheVariants.{Reclaimer};
 ghost use Rattle.machine.specs.Running.{program_of};
 ghost use Rattle.maglev.specs.RingSize.{IsRingSize};
-ghost use Rattle.actors.specs.Commands.{ServesScript};
-ghost use Rattle.actors.specs.Rounds.{AreReclaimed};
-ghost use Rattle.workers.specs.Crews.{AreHandled};
+ghost use Rattle.replay.specs.Commands.{ServesScript};
+ghost use Rattle.replay.specs.Rounds.{AreReclaimed};
+ghost use Rattle.replay.specs.Crews.{AreHandled};
 ghost use Rattle.replay.specs.Accounted.{IsAccounted};
 ghost use Rattle.replay.specs.Parts.{IsScriptRun, rounds_of, refused_of};
-ghost use Rattle.replay.specs.Runs.{IsNewAt, IsRunBy};
+ghost use Rattle.replay.specs.RunsOverShards.{IsNewAt, IsRunBy};
 
+use crate::accounting::account;
 use crate::actor_parts::Commanded;
+use crate::applied::Applied;
+use crate::counts::Counts;
+use crate::crew::{Handled, parted};
 use crate::outcome::Outcome;
 use crate::passes::all_passes;
 use crate::scripts::refused;
 use crate::shard_runner::Working;
-use actors::Applied;
 use control::Script;
 use journals::Journals;
-use shared_shards::{Naming, Pass, Shards};
+use shards::{Naming, Pass, Shards};
 use std::alloc::{AllocError, Global};
 use std::sync::Wait;
 use verifier::Verified;
 use wire::{Capture, Sent};
-use workers::{Counts, Handled, account, parted};
 
 /// What a replay tells: of the commands those that were refused.
 fn outcome_of(counts: Counts, noted: Vec<Applied>, sent: Vec<Sent>, journals: Journals) -> Outcome

@@ -1,19 +1,53 @@
-//! Replays of captures: workers on threads run an accepted program over shared maps, and everything is accounted for.
+//! Replays of captures: workers on threads run an accepted program over shared maps, beside a controller and a reclaimer, and everything is accounted for.
 #![tactic(auto)]
 
+mod accounting;
+mod actor;
 mod actor_parts;
+mod actor_thread;
+mod all_run;
+mod applied;
 mod closing;
+mod commander;
+mod counts;
+mod crew;
+mod crew_fault;
+mod dispatching;
 mod fault;
+mod gated_updates;
+mod handing;
+mod lane;
 mod outcome;
 mod passes;
+mod reclaiming;
 mod replaying;
+mod run_end;
+mod runner;
 mod scripts;
 mod shard_runner;
+mod shared_updates;
 mod threads;
+mod until_end;
+mod worker;
 
-pub use actors::Applied;
+pub use accounting::account;
+pub use actor::{Actor, ActorEnded};
+pub use actor_thread::Part;
+pub use all_run::{AllEnded, run_all};
+pub use applied::Applied;
+pub use commander::Commander;
+pub use counts::Counts;
+pub use crew::{Handled, parted};
+pub use crew_fault::CrewFault;
 pub use fault::ReplayFault;
-pub use gates::{Gate, NoGate};
+pub use gated_updates::GatedUpdates;
+pub use lane::Lane;
 pub use outcome::Outcome;
+pub use reclaiming::Reclaiming;
 pub use replaying::replay;
-pub use workers::Counts;
+pub use run_end::{Ran, RunEnd};
+pub use runner::Runner;
+pub use shard_port::{Gate, NoGate};
+pub use shared_updates::SharedUpdates;
+pub use until_end::{CommandsEnded, RoundsEnded, commands_until_end, rounds_until_end};
+pub use worker::WorkerEnded;

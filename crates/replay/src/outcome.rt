@@ -1,9 +1,9 @@
 //! What a replay gives.
 
-use actors::Applied;
+use crate::applied::Applied;
+use crate::counts::Counts;
 use journals::Journals;
 use wire::Sent;
-use workers::Counts;
 
 /// What became of a capture's records.
 #[derive(Drop)]

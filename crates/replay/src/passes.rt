@@ -1,14 +1,14 @@
 //! The passes of a replay: dealt before its threads, and gathered after them.
 
 ghost use Rattle.std.specs.Prelude.{◌≡◌, ◌≤◌, ◌∷◌, ◌++◌, [], ℕ, length, map, IfOk};
-ghost use Rattle.shared_shards.specs.CallerView.{nothing_seen};
-ghost use Rattle.shared_shards.specs.Passes.{view_at};
+ghost use Rattle.shards.specs.CallerView.{nothing_seen};
+ghost use Rattle.shards.specs.Passes.{view_at};
 ghost use Rattle.semantics.specs.Each.{Each};
-ghost use Rattle.replay.specs.Runs.{IsNewAt, pass_in};
+ghost use Rattle.replay.specs.RunsOverShards.{IsNewAt, pass_in};
 
 use crate::shard_runner::Working;
 use semantics::Caller;
-use shared_shards::{Dealer, Naming, Pass};
+use shards::{Dealer, Naming, Pass};
 use std::alloc::{AllocError, Global};
 
 /// What each worker begins with: its pass, and no reply yet.

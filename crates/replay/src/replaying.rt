@@ -4,13 +4,15 @@ ghost use Rattle.std.specs.Prelude.{◌≡◌, ◌⊎◌, ◌<◌, ◌≤◌, �
 ghost use Rattle.machine.specs.Running.{program_of};
 ghost use Rattle.semantics.specs.ShardPlan.{are_served_options};
 ghost use Rattle.maglev.specs.RingSize.{IsRingSize};
-ghost use Rattle.actors.specs.Commands.{ServesScript};
-ghost use Rattle.shared_shards.specs.NewShards.{IsNamed};
+ghost use Rattle.replay.specs.Commands.{ServesScript};
+ghost use Rattle.shards.specs.NewShards.{IsNamed};
 ghost use Rattle.replay.specs.Accounted.{IsAccounted};
 ghost use Rattle.replay.specs.Parts.{HasNoTable};
 ghost use Rattle.replay.specs.declared.fault.ReplayFault.TheVariants.{BadOptions};
 
+use crate::all_run::AllEnded;
 use crate::closing::closed;
+use crate::crew_fault::CrewFault;
 use crate::fault::ReplayFault;
 use crate::outcome::Outcome;
 use crate::passes::new_workers;
@@ -18,18 +20,16 @@ use crate::scripts::{starts_of, table_for};
 use crate::shard_runner::ShardRunner;
 use crate::threads::{new_controller, new_reclaimer, run_threads};
 use control::Script;
-use gates::Gate;
 use rx_queues::Queues;
 use semantics::Options;
-use shards::OpenFault;
-use shared_shards::{Naming, Opened};
+use shard_port::Gate;
+use shards::{Naming, OpenFault, Opened};
 use std::alloc::Global;
 use std::marker::Brand;
 use std::sync::Wait;
 use std::thread::Threads;
 use verifier::Verified;
 use wire::Capture;
-use workers::{AllEnded, CrewFault};
 
 /// Why no shards were opened, as a replay has it.
 fn fault_of(fault: OpenFault) -> ReplayFault

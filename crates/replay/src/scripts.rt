@@ -3,16 +3,17 @@
 ghost use Rattle.std.specs.Prelude.{◌≡◌, ◌≤◌, [], length, map, IfOk, IfSome, IsNone};
 ghost use Rattle.maglev.specs.RingSize.{IsRingSize};
 ghost use Rattle.control.specs.declared.command.Command.{Command as Line};
-ghost use Rattle.actors.specs.Commands.{ServesScript, StaysOf};
-ghost use Rattle.workers.specs.Actors.{numbers_from};
+ghost use Rattle.replay.specs.Commands.{ServesScript, StaysOf};
+ghost use Rattle.replay.specs.Actors.{numbers_from};
 ghost use Rattle.replay.specs.Parts.{HasNoTable, numbers_of, refused_of};
 
-use actors::{Applied, Commander};
+use crate::applied::Applied;
+use crate::commander::Commander;
 use conntrack::table_size;
 use control::Command;
 use ebpf_decode::MapDef;
-use gates::Gate;
-use shared_shards::Naming;
+use shard_port::Gate;
+use shards::Naming;
 use std::alloc::{AllocError, Global};
 use std::sync::Wait;
 

@@ -2,18 +2,19 @@
 
 ghost use Rattle.std.specs.Prelude.{◌≡◌, ◌<◌, ◌≤◌, IfOk};
 ghost use Rattle.machine.specs.Running.{program_of};
-ghost use Rattle.replay.specs.Runs.{IsIdle, IsSentOf, IsTold, IsRunOf, time_of};
+ghost use Rattle.replay.specs.RunsOverShards.{IsIdle, IsSentOf, IsTold, IsRunOf, time_of};
 
-use frame_runs::run_frame;
-use gates::Gate;
+use crate::run_end::RunEnd;
+use crate::runner::Runner;
 use machine::Moment;
+use runs::run_frame;
 use semantics::Verdict;
-use shared_shards::{Naming, Pass, Shards};
+use shard_port::Gate;
+use shards::{Naming, Pass, Shards};
 use std::alloc::{AllocError, Global};
 use std::sync::Wait;
 use verifier::Verified;
 use wire::{Frame, Sent};
-use workers::{RunEnd, Runner};
 
 /// What a worker keeps from run to run.
 #[derive(Drop)]
@@ -79,7 +80,7 @@ fn end_of(
 
 impl<'a, B: Naming, R: Wait, G: Gate> Runner<Working<B>> for ShardRunner<'a, B, R, G> {
     ghost use Rattle.machine.specs.Running.{program_of};
-    ghost use Rattle.replay.specs.Runs.{IsNewPass, IsIdle, IsRunOf};
+    ghost use Rattle.replay.specs.RunsOverShards.{IsNewPass, IsIdle, IsRunOf};
 
     ghost is_new = { λ runner worker working. IsNewPass worker working.pass };
 

@@ -5,30 +5,32 @@ ghost use Rattle.semantics.specs.declared.call.Caller.TheVariants.{Reclaimer};
 ghost use Rattle.maglev.specs.RingSize.{IsRingSize};
 ghost use Rattle.machine.specs.Running.{program_of};
 ghost use Rattle.rx_queues.specs.Passes.{IsPutPassOf, AreTakePasses, workers_of, jobs_put};
-ghost use Rattle.shared_shards.specs.CallerView.{nothing_seen};
-ghost use Rattle.shared_shards.specs.Passes.{view_at};
-ghost use Rattle.actors.specs.Commands.{ServesScript};
-ghost use Rattle.actors.specs.Rounds.{AreReclaimed};
+ghost use Rattle.shards.specs.CallerView.{nothing_seen};
+ghost use Rattle.shards.specs.Passes.{view_at};
+ghost use Rattle.replay.specs.Commands.{ServesScript};
+ghost use Rattle.replay.specs.Rounds.{AreReclaimed};
 ghost use Rattle.semantics.specs.Each.{Each};
-ghost use Rattle.workers.specs.Crews.{AreHandled};
+ghost use Rattle.replay.specs.Crews.{AreHandled};
 ghost use Rattle.replay.specs.Parts.{IsStarted, IsScriptRun, rounds_of};
-ghost use Rattle.replay.specs.Runs.{IsNewAt, IsRunBy};
+ghost use Rattle.replay.specs.RunsOverShards.{IsNewAt, IsRunBy};
 
 use crate::actor_parts::{Commanded, Commanding, Rounding};
+use crate::all_run::{AllEnded, run_all};
+use crate::commander::Commander;
+use crate::crew_fault::CrewFault;
 use crate::passes::new_pass;
+use crate::reclaiming::Reclaiming;
 use crate::scripts::apply_first;
 use crate::shard_runner::{ShardRunner, Working};
-use actors::{Commander, Reclaiming};
 use control::Script;
-use gates::Gate;
 use rx_queues::{PutPass, Queues, TakePass};
 use semantics::Caller;
-use shared_shards::{Dealer, Naming, Pass, Shards};
+use shard_port::Gate;
+use shards::{Dealer, Naming, Pass, Shards};
 use std::alloc::{AllocError, Global};
 use std::sync::Wait;
 use std::thread::Threads;
 use wire::Capture;
-use workers::{AllEnded, CrewFault, run_all};
 
 /// The controller, which has applied the commands before the first frame, and how many they are.
 pub(crate) fn new_controller<'x, B: Naming, R: Wait, G: Gate>(

@@ -2,18 +2,18 @@
 
 ghost use Rattle.std.specs.Prelude.{◌≡◌, ◌≤◌, [], IfOk};
 ghost use Rattle.rx_queues.specs.Passes.{HasQueue, IsTakePassOf, jobs_taken};
-ghost use Rattle.shared_shards.specs.NewShards.{IsNamed};
+ghost use Rattle.shards.specs.NewShards.{IsNamed};
 
 use crate::asserting::{holds, same};
-use actors::{Applied, Commander, Reclaiming, commands_until_end, rounds_until_end};
 use conntrack::{maps, table_size};
 use control::{ControlFault, parse_script};
 use ebpf_decode::{Image, Insn, Version};
-use gates::{Gate, NoGate};
 use journals::Journals;
+use replay::{Applied, Commander, Reclaiming, commands_until_end, rounds_until_end};
 use rx_queues::{Job, OpenFault, Queues, TakePass};
 use semantics::{Caller, Options};
-use shared_shards::{Naming, Opened, Pass, Shards};
+use shard_port::{Gate, NoGate};
+use shards::{Naming, Opened, Pass, Shards};
 use std::alloc::Global;
 use std::cell::Cell;
 use std::marker::Brand;

@@ -8,7 +8,7 @@ ghost use Rattle.std.specs.Prelude.{◌≡◌, ◌≤◌, ◌<◌, ◌^◌, leng
 use crate::asserting::{holds, same, same_bytes};
 use control::parse_script;
 use disasm::assemble;
-use journal_files::write_journals;
+use journals::write_journals;
 use replay::{Counts, Gate, NoGate, Outcome, replay};
 use semantics::Options;
 use std::alloc::Global;

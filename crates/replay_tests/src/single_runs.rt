@@ -4,13 +4,12 @@ ghost use Rattle.std.specs.Prelude.{◌≡◌, ◌≤◌, ◌<◌, length};
 
 use crate::asserting::{same, same_bytes};
 use disasm::assemble;
-use journal_files::write_journals;
-use journals::Journals;
+use journals::{Journals, write_journals};
 use machine::{Exit, Moment, Stop};
 use map_updates::{MapUpdate, misfit_of};
+use runs::{RunFault, SingleRun, run_alone};
 use semantics::{Key, Options, Value, Verdict};
 use shards::OpenFault;
-use single_run::{RunFault, SingleRun, run_alone};
 use std::alloc::Global;
 use std::process::Abort;
 use std::test::Fail;

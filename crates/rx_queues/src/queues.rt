@@ -6,7 +6,7 @@ ghost use Rattle.crossbeam_queue.specs.Passes.{view, IsPassOf, ruled_capacity};
 ghost use Rattle.rx_queues.specs.Fifo.{IsTakenInOrder, known};
 ghost use Rattle.rx_queues.specs.Passes.{queue_of, HasQueue, workers_of, jobs_put, jobs_taken, jobs_put_for, with_job_at, IsPutPassOf};
 ghost use Rattle.rx_queues.specs.Passes.{IsTakePassOf, place_taken_from, AreTakePasses, IsPutPassFor, IsTakePassFor, WasFull};
-ghost use Rattle.shards.specs.declared.fault.OpenFault.TheVariants.{BadOptions};
+ghost use Rattle.shards.specs.declared.open_fault.OpenFault.TheVariants.{BadOptions};
 
 use crate::job::Job;
 use crate::passes::{PutPass, Queues, TakePass};

@@ -23,9 +23,9 @@ use Rattle.semantics.proofs.shared.FirstElement.{nothing_found}
 use Rattle.semantics.proofs.shared.ImageSizes.{image_sizes}
 use Rattle.journals.specs.JournalsView.{AreImageMaps}
 use Rattle.map_port.specs.Served.{program_over, reply_of_handle}
-use Rattle.shared_shards.specs.CallerView.{CallerView}
-use Rattle.shared_shards.specs.Passes.{PassView, view_at, IsElsewhereSame}
-use Rattle.shared_shards.specs.SharedMaps.{ArePlans}
+use Rattle.shards.specs.CallerView.{CallerView}
+use Rattle.shards.specs.Passes.{PassView, view_at, IsElsewhereSame}
+use Rattle.shards.specs.SharedMaps.{ArePlans}
 use Rattle.shard_port.specs.Asking.{asked_entry}
 use Rattle.shard_port.specs.PortView.{IsRunCall, cell_of_handle, handle_of, has_small_cell}
 use Rattle.shard_port.specs.PassPorts.{worker_of, entering, is_worker_below, IsAskedAt, IsGivenBy, IsRefusedBy, IsTurnedAwayAt}

@@ -27,12 +27,12 @@ use Rattle.semantics.specs.ServedCalls.{IsKeyOf, IsPairOf}
 use Rattle.semantics.specs.History.{is_inside_worker, is_holder, is_own_key, is_load_size, is_in_cell, Meets}
 use Rattle.semantics.proofs.shared.ConditionLemmas.{first_true, second_true, bytes_test}
 use Rattle.map_port.specs.Served.{Maps, shard_of, IsReadable, IsStorable, IsAtomic, lookup_call, update_call, delete_call, atomic_call}
-use Rattle.shared_shards.specs.SharedMaps.{ArePlans}
-use Rattle.shared_shards.specs.Passes.{PassView, own_at}
-use Rattle.shared_shards.proofs.shared.Keys as keys
+use Rattle.shards.specs.SharedMaps.{ArePlans}
+use Rattle.shards.specs.Passes.{PassView, own_at}
+use Rattle.shards.proofs.shared.Keys as keys
 use Rattle.shard_port.specs.PortLaws.{both_true}
 use Rattle.shard_port.specs.PassPorts.{is_worker_below, worker_of, inside_own, has_found}
-use Rattle.shared_shards.specs.HeldCells.{holds_own}
+use Rattle.shards.specs.HeldCells.{holds_own}
 use Rattle.shard_port.specs.PassPortLaws.{inside_once, stays_inside}
 use Rattle.shard_port.proofs.shared.ReadyLemmas.{plan_number}
 use Rattle.shard_port.proofs.shared.MayAskLemmas.{served_by, same_test, flags_test, fits_test, known_op, load_of_atomic, in_cell_of}

@@ -21,8 +21,8 @@ use Rattle.journals.specs.JournalsView.{AreImageMaps}
 use Rattle.semantics.specs.ServedCalls.{IsKeyOf, IsPairOf}
 use Rattle.map_port.specs.Served.{shard_of, IsReadable, IsStorable, IsAtomic, program_over, lookup_call, update_call, delete_call, atomic_call, reply_of_handle}
 use Rattle.semantics.proofs.shared.PlanLemmas.{some_shards}
-use Rattle.shared_shards.specs.Passes.{PassView, view_at, own_at, IsElsewhereSame}
-use Rattle.shared_shards.specs.SharedMaps.{SharedMaps, ArePlans}
+use Rattle.shards.specs.Passes.{PassView, view_at, own_at, IsElsewhereSame}
+use Rattle.shards.specs.SharedMaps.{SharedMaps, ArePlans}
 use Rattle.shard_port.specs.PortView.{IsRunCall, cell_of_handle, handle_of, has_small_cell}
 use Rattle.shard_port.specs.PassPorts.{is_worker_below, worker_of, inside_own, served_of, port_of, has_found, IsAskedAt, IsTurnedAwayAt, IsGivenBy, IsRefusedBy}
 use Rattle.shard_port.proofs.shared.PassAskLemmas.{is_worker}

@@ -14,8 +14,8 @@ use Rattle.semantics.specs.declared.call.Entry.{Entry}
 use Rattle.semantics.specs.Reclamation.{is_inside}
 use Rattle.semantics.specs.History.{shard_of_call, IsJournalFull}
 use Rattle.map_port.specs.Exchanges.{Exchange, IsChain}
-use Rattle.shared_shards.specs.CallerView.{CallerView, BeginsWith, IsServed}
-use Rattle.shared_shards.specs.Passes.{PassView, view_at, own_at, seen_at}
+use Rattle.shards.specs.CallerView.{CallerView, BeginsWith, IsServed}
+use Rattle.shards.specs.Passes.{PassView, view_at, own_at, seen_at}
 use Rattle.shard_port.specs.Asking.{enter_by, leave_by, asked_entry}
 use Rattle.shard_port.specs.PortView.{IsRunCall}
 use Rattle.shard_port.specs.PortLaws.{same_worker, inside_after_call}

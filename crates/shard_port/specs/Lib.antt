@@ -1,3 +1,4 @@
+pub mod ScheduleHook
 pub mod Asking
 pub mod PortView
 pub mod PortLaws

@@ -20,13 +20,13 @@ use Rattle.semantics.specs.History.{shard_of_call}
 use Rattle.semantics.proofs.shared.ConditionLemmas.{first_true, second_true}
 use Rattle.semantics.specs.ServedCalls.{IsHandedOut}
 use Rattle.map_port.specs.Served.{Keeps, program_over}
-use Rattle.shared_shards.specs.CallerView.{CallerView}
-use Rattle.shared_shards.specs.Passes.{own_at}
+use Rattle.shards.specs.CallerView.{CallerView}
+use Rattle.shards.specs.Passes.{own_at}
 use Rattle.shard_port.specs.Asking.{enter_by, asked_entry}
 use Rattle.shard_port.specs.PortView.{IsRunCall, cell_of_handle}
 use Rattle.shard_port.specs.PortLaws.{same_worker, both_true, held_after_call, inside_after_call}
 use Rattle.shard_port.specs.PassPorts.{PassPort, worker_of, inside_own, has_found, IsGivenBy}
-use Rattle.shared_shards.specs.HeldCells.{holds_own}
+use Rattle.shards.specs.HeldCells.{holds_own}
 
 -- ---- one shard
 

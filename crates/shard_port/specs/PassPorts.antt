@@ -12,10 +12,10 @@ use Rattle.semantics.specs.Reclamation.{is_inside}
 use Rattle.semantics.specs.History.{shard_of_call, Meets, IsLegalHistory, IsJournalFull}
 use Rattle.semantics.specs.RunTrace.{IsReplyTo}
 use Rattle.map_port.specs.Served.{Maps, program_over}
-use Rattle.shared_shards.specs.CallerView.{CallerView, BeginsWith, IsServed, IsRefused}
-use Rattle.shared_shards.specs.Passes.{PassView, view_at, own_at, IsElsewhereSame}
-use Rattle.shared_shards.specs.SharedMaps.{SharedMaps}
-use Rattle.shared_shards.specs.HeldCells.{holds_own}
+use Rattle.shards.specs.CallerView.{CallerView, BeginsWith, IsServed, IsRefused}
+use Rattle.shards.specs.Passes.{PassView, view_at, own_at, IsElsewhereSame}
+use Rattle.shards.specs.SharedMaps.{SharedMaps}
+use Rattle.shards.specs.HeldCells.{holds_own}
 use Rattle.shard_port.specs.Asking.{enter_by, leave_by, asked_entry}
 use Rattle.shard_port.specs.PortView.{IsRunCall}
 

@@ -10,8 +10,8 @@ use Rattle.semantics.specs.declared.plan.ShardPlan.{ShardPlan}
 use Rattle.semantics.specs.Reclamation.{is_inside}
 use Rattle.semantics.specs.History.{shard_of_call, IsJournalFull}
 use Rattle.map_port.specs.Exchanges.{Exchange, IsChain}
-use Rattle.shared_shards.specs.CallerView.{BeginsWith}
-use Rattle.shared_shards.specs.Passes.{PassView, own_at, seen_at}
+use Rattle.shards.specs.CallerView.{BeginsWith}
+use Rattle.shards.specs.Passes.{PassView, own_at, seen_at}
 use Rattle.shard_port.specs.Asking.{enter_by, leave_by}
 use Rattle.shard_port.specs.Sessions.{entries_at, begun, session}
 use Rattle.shard_port.specs.PassPorts.{PassPort, IsGivenBy, IsRefusedBy, IsFinishedBy}

@@ -4,7 +4,9 @@
 pub mod laws;
 pub mod plain;
 pub mod port;
+mod schedule_hook;
 
 pub use map_port::MapPort;
 pub use plain::PlainPort;
 pub use port::ShardPort;
+pub use schedule_hook::{Gate, NoGate, Tally};

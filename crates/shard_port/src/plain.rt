@@ -15,14 +15,14 @@ use map_port::MapPort;
 use one_thread_map::conditions::shard_of_map;
 use semantics::{Call, Caller, CellRef, JournalFull, Key, Options, Reply, Value};
 use shard_core::Shard;
-use shards::{Shards, maps_of};
+use shards::{PlainShards, maps_of};
 
 /// A worker's port over the shards of an image's maps. It enters a shard before its first call there, and has to be finished,
 /// which leaves the shards that it entered. No call takes memory.
 ///
 /// A cell's handle is `shard * 2^32 + id + 1`: its shard's number above its id.
 pub struct PlainPort<'a> {
-    shards: &'a mut Shards,
+    shards: &'a mut PlainShards,
     image: &'a Image,
     options: Options,
     /// Its number.
@@ -39,7 +39,7 @@ impl<'a> PlainPort<'a> {
     pub fn over(
         image: &'a Image,
         options: Options,
-        shards: &'a mut Shards,
+        shards: &'a mut PlainShards,
         worker: u8,
     ) -> PlainPort<'a>
         requires options { AreOptions image.now.maps options }
@@ -283,7 +283,7 @@ fn ask(shard: &mut Shard, worker: u8, call: &Call) -> Result<Reply, JournalFull>
 }
 
 /// Makes the call for the worker at the shard that the call names. Refused as at one shard, with the shard's number.
-fn ask_at(shards: &mut Shards, worker: u8, call: &Call) -> Result<Reply, JournalFull>
+fn ask_at(shards: &mut PlainShards, worker: u8, call: &Call) -> Result<Reply, JournalFull>
     requires { IsTrue (may_ask_at worker (slice_get shards.old (shard_of_call call.now)) call.now) }
     ensures answered { IfOk result (λ reply. IsAnsweredAmong worker shards.old call.now reply shards.new) }
     ensures turned_away { OnErr result (IsTurnedAwayAmong worker shards.old call.now shards.new) }
@@ -308,7 +308,7 @@ fn leave(shard: &mut Shard, worker: u8)
 }
 
 /// Leaves all shards that the worker is inside of, the lowest number first.
-fn leave_all(shards: &mut Shards, worker: u8)
+fn leave_all(shards: &mut PlainShards, worker: u8)
     requires few { length shards.old ≤ 128 }
     requires worker { AllByRecursion (IsWorkerOf worker) shards.old }
     ensures { shards.new ≡ all_left worker shards.old }

@@ -3,21 +3,19 @@
 ghost use Rattle.std.specs.Prelude.{◌≡◌, ◌<◌, IsTrue, IfOk, IfErr, OnOk, OnErr};
 ghost use Rattle.journal.specs.Entries.{found_reply};
 ghost use Rattle.map_port.specs.Served.{handle_limit};
-ghost use Rattle.gates.specs.Gates.{next_count};
-ghost use Rattle.shared_shards.specs.Passes.{IsElsewhereSame};
+ghost use Rattle.shard_port.specs.ScheduleHook.{next_count};
+ghost use Rattle.shards.specs.Passes.{IsElsewhereSame};
 ghost use Rattle.shard_port.specs.PortView.{handle_of, has_small_cell};
 ghost use Rattle.shard_port.specs.PassPorts.{is_worker_below, MayAskOnceInside, IsAskedBy, IsTurnedAwayBy, IsLeftBy, IsFinishedBy};
 
 use crate::plain::cell_of_handle;
-use gates::{Gate, Tally};
+use crate::schedule_hook::{Gate, Tally};
 use isa::AtomicOp;
 use journal::{AtomicChange, CellRange};
 use map_port::MapPort;
 use one_thread_map::conditions::shard_of_map;
 use semantics::{JournalFull, Key, Value};
-use shared_shards::{
-    Ask, Changes, Deletes, Loads, Looks, Naming, Pass, Shards, Stopped, Stores, Updates,
-};
+use shards::{Ask, Changes, Deletes, Loads, Looks, Naming, Pass, Shards, Stopped, Stores, Updates};
 use std::sync::Wait;
 
 /// A worker's port over shared shards: one run. It enters a shard before its first call there, and has to be finished, which leaves the
@@ -110,7 +108,7 @@ impl<'a, B: Naming, W: Wait, G: Gate> ShardPort<'a, B, W, G> {
 }
 
 impl<'a, B: Naming, W: Wait, G: Gate> MapPort for ShardPort<'a, B, W, G> {
-    ghost use Rattle.gates.specs.Gates.{IsCounted, IsUncounted};
+    ghost use Rattle.shard_port.specs.ScheduleHook.{IsCounted, IsUncounted};
     ghost use Rattle.shard_port.specs.PortView.{cell_of_handle};
     ghost use Rattle.shard_port.specs.PassPorts.{served_of, port_of, has_found, IsGivenBy, IsRefusedBy};
     ghost use Rattle.shard_port.specs.PassPortLaws.{keeps_by, hands_out_by};

@@ -3,7 +3,7 @@
 use crate::asserting::{holds, same};
 use ebpf_decode::{Image, Insn, MapDef, MapKind, Version};
 use shard_core::{Call, Caller, CellRef, JournalFull, Key, Options, Reply, Shard, ShardPlan};
-use shards::{OpenFault, Shards};
+use shards::{OpenFault, PlainShards};
 use std::alloc::Global;
 use std::process::Abort;
 use std::test::Fail;
@@ -44,13 +44,18 @@ const OPTIONS: [(&str, u32, u32, u32, Option<OpenFault>); 11] = [
 ];
 
 /// The shards of an image, with journals of 16 entries.
-fn opened(alloc: Global, image: &Image, workers: u32, shards: u32) -> Result<Shards, OpenFault> {
+fn opened(
+    alloc: Global,
+    image: &Image,
+    workers: u32,
+    shards: u32,
+) -> Result<PlainShards, OpenFault> {
     let options = Options {
         workers,
         shards,
         journal: 16,
     };
-    Shards::open(alloc, image, options)
+    PlainShards::open(alloc, image, options)
 }
 
 /// How many shards an image has with so many to a map; None where they are refused.
@@ -63,7 +68,7 @@ fn count_of(alloc: Global, image: &Image, shards: u32) -> Option<usize> {
 
 /// Why no shards are opened; None where they are.
 fn refusal(alloc: Global, image: &Image, options: Options) -> Option<OpenFault> {
-    match Shards::open(alloc, image, options) {
+    match PlainShards::open(alloc, image, options) {
         Ok(_) => None,
         Err(fault) => Some(fault),
     }
@@ -122,7 +127,7 @@ fn make(rt: &impl Abort, shard: &mut Shard, name: &str, call: &Call) -> Result<R
 }
 
 /// How many entries the shard's journal has.
-fn length_of(rt: &impl Abort, shards: &mut Shards, number: u32) -> usize {
+fn length_of(rt: &impl Abort, shards: &mut PlainShards, number: u32) -> usize {
     holds(
         rt,
         "there is such a shard",
@@ -132,7 +137,7 @@ fn length_of(rt: &impl Abort, shards: &mut Shards, number: u32) -> usize {
 }
 
 /// Makes the call of each row, and compares.
-fn serves(rt: &impl Abort, mut shards: Shards, rows: &[Row]) {
+fn serves(rt: &impl Abort, mut shards: PlainShards, rows: &[Row]) {
     for (name, number, ask, want, lengths) in rows {
         holds(rt, name, (*number as usize) < shards.count());
         let call = call_of(*number, *ask);
@@ -164,7 +169,7 @@ fn three_kinds(alloc: Global) -> Result<Image, Fail> {
     image_of(alloc, Version::V2, &THREE_KINDS)
 }
 
-/// Shards to a map, and how many there are of three maps; none where the options are refused.
+/// PlainShards to a map, and how many there are of three maps; none where the options are refused.
 const COUNTS: [(&str, u32, Option<usize>); 8] = [
     ("one shard to a map", 1, Some(3)),
     ("two", 2, Some(6)),
@@ -195,12 +200,12 @@ const PLACES: [(&str, u32, MapKind, u32); 5] = [
 ];
 
 /// The plan of a shard.
-fn plan_of(rt: &impl Abort, shards: &mut Shards, name: &str, number: u32) -> ShardPlan {
+fn plan_of(rt: &impl Abort, shards: &mut PlainShards, name: &str, number: u32) -> ShardPlan {
     holds(rt, name, (number as usize) < shards.count());
     *shards.shard(number).plan()
 }
 
-/// Shards stand map after map, part after part.
+/// PlainShards stand map after map, part after part.
 #[test]
 fn places_of_shards(rt: HostRuntime) -> Result<(), Fail> {
     let mut shards = opened(rt.alloc(), &three_kinds(rt.alloc())?, 1, 4)?;

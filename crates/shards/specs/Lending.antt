@@ -3,7 +3,7 @@ use Rattle.std.specs.Prelude.{ℕ, List, slice_set}
 use Rattle.std.specs.Borrow.{Lends, MutBor, Fml}
 use Rattle.shard_core.specs.JournaledShard.{JournaledShard}
 use Rattle.shard_core.specs.contracts.shard.Shard as shard
-use Rattle.shards.specs.contracts.shards.Shards as opened
+use Rattle.shards.specs.contracts.plain_shards.PlainShards as opened
 
 -- r lends the shard of this number: what is last left behind r stands there, and the others stay
 abbrev pub LendsShard : MutBor (List JournaledShard) → ℕ → MutBor JournaledShard → Fml

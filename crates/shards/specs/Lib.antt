@@ -1,3 +1,14 @@
+-- The definitions that the contracts of this crate cite, in reading order.
 pub mod Opening
 pub mod Lending
-pub mod FaultNumber
+pub mod OpenFaultNumber
+pub mod CallerView
+pub mod LengthRule
+pub mod EntryCounts
+pub mod Seats
+pub mod HeldCells
+pub mod Passes
+pub mod Asked
+pub mod SharedMaps
+pub mod NewShards
+pub mod PassFaultNumber

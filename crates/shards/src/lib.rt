@@ -1,12 +1,38 @@
-//! The shards of an image's maps. One thread, no lock.
+//! The shards of an image's maps: those of a single caller (`PlainShards`), and those that many threads call, behind a lock each, with passes, which
+//! know what their callers did and saw.
 #![tactic(auto)]
 
-mod fault;
+mod asks;
+mod calls;
+mod closing;
+mod dealer;
+mod held;
+pub mod laws;
+mod naming;
+mod new_shard;
+mod open_fault;
 mod opening;
-pub mod shards;
+mod pass;
+mod pass_fault;
+mod plain_opening;
+pub mod plain_shards;
+mod rule;
+mod sharing;
+mod stopped;
+mod waiting;
 
-pub use fault::OpenFault;
+pub use asks::{
+    Ask, Calls, Changes, Deletes, Enters, Leaves, Loads, Looks, Reclaims, Stores, Updates,
+};
+pub use dealer::Dealer;
+pub use naming::Naming;
+pub use open_fault::OpenFault;
+pub use opening::Opened;
+pub use pass::Pass;
+pub use pass_fault::PassFault;
+pub use plain_shards::{PlainShards, copied, maps_of};
 pub use shard_core::{
     Call, Caller, CellRef, Entry, JournalFull, Key, Options, Reply, Shard, ShardPlan, Value,
 };
-pub use shards::{Shards, copied, maps_of};
+pub use sharing::Shards;
+pub use stopped::Stopped;

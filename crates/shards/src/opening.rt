@@ -1,52 +1,156 @@
-//! The shards that are opened with options which fit their maps.
+//! Shards as they were opened, before they have names and callers.
 
-ghost use Rattle.std.specs.Prelude.{◌≡◌, ◌*◌, ◌<◌, ◌≤◌, Some, IfOk, length};
-ghost use Rattle.std.specs.List.{AllByRecursion};
-ghost use Rattle.semantics.specs.ShardPlan.{AreOptions, plan_at};
-ghost use Rattle.semantics.specs.PlanLimits.{HasImageSizes, IsPlan};
+ghost use Rattle.std.specs.Prelude.{◌≡◌, ◌≤◌, ◌<◌, ◌+◌, ◌↔◌, false, IfOk, IsErrOf, IsFalse, length, replicate};
+ghost use Rattle.semantics.specs.declared.options.Options.{Options};
+ghost use Rattle.semantics.specs.ShardPlan.{AreOptions, are_served_options};
 ghost use Rattle.shards.specs.Opening.{AreOpened};
+ghost use Rattle.shards.specs.declared.open_fault.OpenFault.TheVariants.{BadOptions};
+ghost use Rattle.semantics.specs.Each.{Each};
+ghost use Rattle.shards.specs.NewShards.{AreUnused, IsMadeOf, IsNamed, IsNamedAt, IsRowOf};
+ghost use Rattle.shards.specs.HeldCells.{IsRoomOf};
+ghost use Rattle.shards.specs.SharedMaps.{AreWords};
 
-use ebpf_decode::MapDef;
-use shard_core::{Options, Shard, ShardPlan};
+use crate::dealer::Dealer;
+use crate::held::most_held;
+use crate::naming::Naming;
+use crate::new_shard::NewShard;
+use crate::open_fault::OpenFault;
+use crate::plain_shards::{PlainShards, copied};
+use crate::rule::Length;
+use crate::sharing::{Desk, Shards};
+use crate::waiting::Waiting;
+use ebpf_decode::{Image, MapDef};
+use semantics::Options;
+use shard_core::Shard;
 use std::alloc::{AllocError, Global};
+use std::marker::{Model, PhantomData};
+use std::sync::Mutex;
 
-/// What the shard of a number is opened with.
-fn plan_at(maps: &[MapDef], options: &Options, number: u32) -> ShardPlan
-    requires allowed { AllByRecursion HasImageSizes maps.now }
-    requires options { AreOptions maps.now options.now }
-    requires shards { 0 < options.now.shards }
-    requires number { number < length maps.now * options.now.shards }
-    ensures plan { Some result ≡ plan_at maps.now options.now number }
-    ensures limits { IsPlan result }
-{
-    let definition = &maps[(number / options.shards) as usize];
-    ShardPlan {
-        number,
-        part: number % options.shards,
-        parts: options.shards,
-        definition: *definition,
-        workers: options.workers,
-        reserve: options.journal,
+/// The shards of an image's maps, in which nothing has happened. Contracts see the maps, the options, and of each shard its plan and the
+/// name of its length word.
+#[derive(Drop)]
+pub struct Opened {
+    pub(crate) shards: Vec<NewShard>,
+    pub(crate) maps: Vec<MapDef>,
+    pub(crate) options: Options,
+}
+
+impl Model for Opened {
+    ghost use Rattle.semantics.specs.Each.{Each};
+    ghost use Rattle.shards.specs.NewShards.{OpenedShards, IsOpening};
+
+    ghost Value = { OpenedShards };
+
+    ghost view = { λ opened. record { maps = opened.maps.items; options = opened.options; shards = opened.shards.items } };
+
+    ghost invariant = { λ opened. IsOpening opened.maps.items opened.options opened.shards.items };
+}
+
+impl Opened {
+    /// Opens the shards of the image's maps. Takes all memory that they will ever need, but what `share` and `pass` say. Refused with 51
+    /// where the options are none that are served, and with 52 for lack of memory; then nothing is left.
+    pub fn open(alloc: Global, image: &Image, options: Options) -> Result<Self, OpenFault>
+        ensures maps { IfOk result (λ opened. opened.maps ≡ image.now.maps) }
+        ensures options { IfOk result (λ opened. opened.options ≡ options) }
+        ensures bad_options { IsErrOf result BadOptions ↔ IsFalse (are_served_options image.now.maps options) }
+    {
+        let shards = PlainShards::open(alloc, image, options)?.into_list();
+        let maps = copied(alloc, image.maps())?;
+        let shards = new_shards(alloc, shards, options.workers as usize + 2)?;
+        Ok(Opened {
+            shards,
+            maps,
+            options,
+        })
+    }
+
+    /// Lets callers share the shards, under names that the program picks for them, with the right to deal the passes. Takes memory for
+    /// the lists alone, and fails only for lack of it; then nothing is left.
+    pub fn share<B: Naming>(self, alloc: Global) -> Result<(Shards<B>, Dealer<B>), AllocError>
+        requires named { IsNamed B.count B.table B.plan self }
+        ensures maps { IfOk result (λ shared. shared.0 ≡ (record { maps = self.maps; options = self.options })) }
+        ensures dealer { IfOk result (λ shared. shared.1 ≡ replicate (self.options.workers + 2) false) }
+    {
+        let Opened {
+            shards,
+            maps,
+            options,
+        } = self;
+        let dealt = vec![in alloc; false; options.workers as usize + 2]?;
+        let journals = Vec::with_capacity(alloc, shards.len())?;
+        let (desks, words, rows, rooms) = parted::<B>(alloc, shards)?;
+        let shards = Shards {
+            desks,
+            words,
+            maps,
+            options,
+            journals,
+            names: PhantomData,
+        };
+        let dealer = Dealer {
+            rows,
+            dealt,
+            rooms,
+            names: PhantomData,
+        };
+        Ok((shards, dealer))
+    }
+
+    /// How many shards there are.
+    pub fn count(&self) -> usize
+        ensures { result ≡ length self.now.shards }
+    {
+        self.shards.len()
     }
 }
 
-/// Opens the shards of these maps, map after map.
-pub fn open_each(
+/// Each shard with a word and with seats for so many callers.
+fn new_shards(
     alloc: Global,
-    maps: &[MapDef],
-    options: &Options,
-) -> Result<Vec<Shard>, AllocError>
-    requires allowed { AllByRecursion HasImageSizes maps.now }
-    requires few { length maps.now ≤ 16 }
-    requires shards { (0 < options.now.shards) × (options.now.shards ≤ 8) }
-    requires options { AreOptions maps.now options.now }
-    ensures { IfOk result (λ shards. AreOpened maps.now options.now shards.items) }
+    mut shards: Vec<Shard>,
+    callers: usize,
+) -> Result<Vec<NewShard>, AllocError>
+    requires { AreUnused shards.items }
+    ensures count { IfOk result (λ all. length all.items ≡ length shards.items) }
+    ensures made { IfOk result (λ all. Each (IsMadeOf shards.items callers) 0 all.items) }
 {
-    let count = maps.len() as u32 * options.shards;
-    let mut shards = Vec::with_capacity(alloc, count as usize)?;
-    for number in 0..count {
-        let shard = Shard::open(alloc, plan_at(maps, options, number))?;
-        shards.push(shard)?;
+    let count = shards.len();
+    let mut all = Vec::with_capacity(alloc, count)?;
+    'shards: for _number in 0..count {
+        let shard = shards.remove(0);
+        all.push_reserved(NewShard::of(alloc, shard, callers)?);
     }
-    Ok(shards)
+    Ok(all)
+}
+
+/// Each shard under a lock, beside the lists of the words, of the seats that wait, and of how many cells a worker can hold there.
+fn parted<B: Naming>(
+    alloc: Global,
+    mut shards: Vec<NewShard>,
+) -> Result<(Vec<Mutex<Desk<B>>>, Vec<Length>, Vec<Waiting>, Vec<usize>), AllocError>
+    requires { Each (IsNamedAt B.table B.plan) 0 shards.items }
+    ensures desks { IfOk result (λ all. length all.0.items ≡ length shards.items) }
+    ensures words { IfOk result (λ all. (length all.1.items ≡ length shards.items) × AreWords B.table all.1.items) }
+    ensures rows { IfOk result (λ all. (length all.2.items ≡ length shards.items) × Each (IsRowOf B.table shards.items) 0 all.2.items) }
+    ensures rooms { IfOk result (λ all. (length all.3.items ≡ length shards.items) × Each (IsRoomOf B.plan) 0 all.3.items) }
+{
+    let count = shards.len();
+    let mut desks = Vec::with_capacity(alloc, count)?;
+    let mut words = Vec::with_capacity(alloc, count)?;
+    let mut rows = Vec::with_capacity(alloc, count)?;
+    let mut rooms = Vec::with_capacity(alloc, count)?;
+    'shards: for _number in 0..count {
+        let NewShard {
+            shard,
+            word,
+            keeper,
+            seats,
+        } = shards.remove(0);
+        let room = most_held(shard.plan());
+        desks.push_reserved(Mutex::new(Desk::new(shard, keeper)));
+        words.push_reserved(word);
+        rows.push_reserved(Waiting::new(seats));
+        rooms.push_reserved(room);
+    }
+    Ok((desks, words, rows, rooms))
 }

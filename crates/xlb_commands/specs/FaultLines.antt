@@ -16,12 +16,12 @@ use Rattle.wire.specs.declared.frame_buffer.FrameFault.{FrameFault}
 use Rattle.wire.specs.declared.frame_buffer.FrameFault.TheVariants as frame
 use Rattle.wire.specs.declared.capture_fault.CaptureFault.{CaptureFault}
 use Rattle.wire.specs.declared.capture_fault.CaptureFault.TheVariants as capture
-use Rattle.shards.specs.declared.fault.OpenFault.{OpenFault}
-use Rattle.shards.specs.declared.fault.OpenFault.TheVariants as options
+use Rattle.shards.specs.declared.open_fault.OpenFault.{OpenFault}
+use Rattle.shards.specs.declared.open_fault.OpenFault.TheVariants as options
 use Rattle.machine.specs.declared.exit.Stop.{Stop}
 use Rattle.machine.specs.declared.exit.Stop.TheVariants as stop
-use Rattle.journal_files.specs.declared.fault.FileFault.{FileFault}
-use Rattle.journal_files.specs.declared.fault.FileFault.TheVariants as journals
+use Rattle.journals.specs.declared.fault.FileFault.{FileFault}
+use Rattle.journals.specs.declared.fault.FileFault.TheVariants as journals
 use Rattle.audit.specs.declared.fault.AuditFault.{AuditFault}
 use Rattle.audit.specs.declared.fault.AuditFault.TheVariants as audit
 use Rattle.conntrack.specs.declared.fault.SteerFault.{SteerFault}

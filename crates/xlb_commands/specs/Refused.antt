@@ -20,9 +20,9 @@ use Rattle.disasm.specs.TextReading.{Explains as ExplainsText}
 use Rattle.source_form.specs.declared.fault.SourceFault.{SourceFault}
 use Rattle.source_form.specs.SourceImage.{Explains as ExplainsSource}
 use Rattle.journals.specs.JournalsView.{JournalsView}
-use Rattle.journal_files.specs.declared.fault.FileFault.{FileFault}
-use Rattle.journal_files.specs.declared.fault.FileFault.TheVariants as journal_faults
-use Rattle.journal_files.specs.JournalReading.{IsJournalsFile, Refuses as RefusesJournals}
+use Rattle.journals.specs.declared.fault.FileFault.{FileFault}
+use Rattle.journals.specs.declared.fault.FileFault.TheVariants as journal_faults
+use Rattle.journals.specs.JournalReading.{IsJournalsFile, Refuses as RefusesJournals}
 use Rattle.audit.specs.declared.fault.AuditFault.{AuditFault}
 use Rattle.audit.specs.Audited.{Explains as ExplainsJournals}
 use Rattle.journals.specs.LegalJournals.{AreLegal}
@@ -37,13 +37,13 @@ use Rattle.wire.specs.CaptureFormat.{Refuses as RefusesCapture}
 use Rattle.semantics.specs.declared.options.Options.{Options}
 use Rattle.semantics.specs.declared.verdict.Verdict.{Verdict}
 use Rattle.semantics.specs.ShardPlan.{are_served_options}
-use Rattle.shards.specs.declared.fault.OpenFault.TheVariants as opens
+use Rattle.shards.specs.declared.open_fault.OpenFault.TheVariants as opens
 use Rattle.machine.specs.declared.exit.Stop.{Stop}
 use Rattle.map_updates.specs.Misfits.{AreFitting}
 use Rattle.map_updates.specs.declared.misfit.Misfit.{Misfit}
 use Rattle.map_updates.specs.declared.update.MapUpdate.{MapUpdate}
-use Rattle.single_run.specs.SingleRuns.{HasRunAlone, HasStoppedAlone}
-use Rattle.single_run.specs.Updates.{IsRefusedUpdate, IsFullForUpdate}
+use Rattle.runs.specs.SingleRuns.{HasRunAlone, HasStoppedAlone}
+use Rattle.runs.specs.Updates.{IsRefusedUpdate, IsFullForUpdate}
 use Rattle.maglev.specs.RingSize.{IsRingSize}
 use Rattle.conntrack.specs.declared.fault.SteerFault.{SteerFault}
 use Rattle.conntrack.specs.declared.fault.SteerFault.TheVariants as steering

@@ -13,10 +13,10 @@ use Rattle.control.specs.declared.fault.ControlFault.{ControlFault}
 use Rattle.control.specs.FaultNumber.{control_fault_number}
 use Rattle.control.specs.ScriptText.{IsScriptText}
 use Rattle.journals.specs.JournalsView.{JournalsView}
-use Rattle.journal_files.specs.JournalText.{journals_text}
-use Rattle.workers.specs.declared.counts.Counts.{Counts}
-use Rattle.workers.specs.Accounts.{frames_in}
-use Rattle.actors.specs.declared.applied.Applied.{Applied}
+use Rattle.journals.specs.JournalText.{journals_text}
+use Rattle.replay.specs.declared.counts.Counts.{Counts}
+use Rattle.replay.specs.Accounts.{frames_in}
+use Rattle.replay.specs.declared.applied.Applied.{Applied}
 use Rattle.replay.specs.declared.outcome.Outcome.{Outcome}
 use Rattle.replay.specs.Accounted.{IsAccounted}
 use Rattle.command_line.specs.declared.commands.ReplayFiles.{ReplayFiles}

@@ -19,9 +19,9 @@ use Rattle.semantics.specs.Program.{Program}
 use Rattle.semantics.specs.System.{IsInputFrame}
 use Rattle.maglev.specs.RingSize.{IsRingSize}
 use Rattle.steer.specs.ShippedProgram.{shipped_image}
-use Rattle.single_run.specs.SingleRuns.{HasRunAlone}
+use Rattle.runs.specs.SingleRuns.{HasRunAlone}
 use Rattle.journals.specs.JournalsView.{JournalsView}
-use Rattle.journal_files.specs.JournalReading.{IsJournalsFile}
+use Rattle.journals.specs.JournalReading.{IsJournalsFile}
 use Rattle.journals.specs.LegalJournals.{AreLegal}
 use Rattle.explanations.specs.Explanations.{explanation_text}
 use Rattle.reasons.specs.Explanations.{IsExplanation}

@@ -21,7 +21,7 @@ use audit::audit;
 use disasm::{AsmFault, assemble, text};
 use ebpf_decode::{DecodeFault, Image, decode, encode};
 use folders::{Folder, FolderFault, Front};
-use journal_files::journals_of;
+use journals::journals_of;
 use reasons::explain;
 use semantics::facts::frame_may_come_in;
 use source_form::{SourceFault, assemble_source, explain as explain_source, source};

@@ -12,7 +12,7 @@ use control::ControlFault;
 use disasm::AsmFault;
 use ebpf_decode::DecodeFault;
 use folders::FolderFault;
-use journal_files::FileFault;
+use journals::FileFault;
 use machine::Stop;
 use replay::ReplayFault;
 use shards::OpenFault;

@@ -1,8 +1,8 @@
 //! How far a replay is.
 
 use ebpf_decode::MapKind;
-use gates::Gate;
 use semantics::{Caller, Options};
+use shard_port::Gate;
 use std::rt::Clock;
 use std::time::Instant;
 use verifier::Verified;

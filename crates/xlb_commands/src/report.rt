@@ -3,14 +3,13 @@
 ghost use Rattle.std.specs.Prelude.{◌≡◌, ◌↔◌, ◌≤◌, ◌++◌, [], false, IfOk, OnOk, Bool, IsTrue, string_bytes};
 ghost use Rattle.ebpf_decode.specs.InstructionEncoding.{total_slots};
 ghost use Rattle.verifier.specs.Readers.{IsReader};
-ghost use Rattle.workers.specs.Accounts.{frames_in};
+ghost use Rattle.replay.specs.Accounts.{frames_in};
 ghost use Rattle.xlb_commands.specs.Replays.{counts_text, frames_lines, refusal_line, refusal_of, refusals_text, verdicts_lines};
 ghost use Rattle.xlb_commands.specs.Results.{accepted_line, accepted_text, yes_or_no, verdict_name, run_lines, run_text};
 
-use actors::Applied;
 use ebpf_decode::Insn;
 use machine::Exit;
-use replay::Counts;
+use replay::{Applied, Counts};
 use semantics::Verdict;
 use std::alloc::{AllocError, Global};
 use verifier::Verified;

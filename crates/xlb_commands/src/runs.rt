@@ -2,7 +2,7 @@
 
 ghost use Rattle.std.specs.Prelude.{◌≡◌, ◌↔◌, ◌+◌, ◌-◌, ◌<◌, ◌≤◌, ◌^◌, IfErr, IfOk, IsErrOf};
 ghost use Rattle.machine.specs.Running.{program_of};
-ghost use Rattle.single_run.specs.SingleRuns.{HasRunAlone, HasStoppedAlone};
+ghost use Rattle.runs.specs.SingleRuns.{HasRunAlone, HasStoppedAlone};
 ghost use Rattle.map_updates.specs.Misfits.{AreFitting};
 ghost use Rattle.command_line.specs.Reading.{text_of};
 ghost use Rattle.xlb_commands.specs.Files.{AreAllKeptBut};
@@ -19,9 +19,9 @@ use ebpf_decode::MapDef;
 use folders::Folder;
 use machine::Moment;
 use map_updates::{MapUpdate, Misfit, first_misfit};
+use runs::{RunFault, SingleRun, run_alone};
 use semantics::Options;
 use shards::OpenFault;
-use single_run::{RunFault, SingleRun, run_alone};
 use std::alloc::{AllocError, Global};
 use verifier::Verified;
 use wire::Frame;

@@ -1,8 +1,8 @@
 //! Journals, written to a file.
 
 ghost use Rattle.std.specs.Prelude.{◌≡◌, ◌==◌, ◌-◌, ◌<◌, ◌^◌, Some, IfErr, IfOk, OnOk};
-ghost use Rattle.journal_files.specs.JournalText.{journals_text};
-ghost use Rattle.journal_files.specs.declared.fault.FileFault.TheVariants as no_room;
+ghost use Rattle.journals.specs.JournalText.{journals_text};
+ghost use Rattle.journals.specs.declared.fault.FileFault.TheVariants as no_room;
 ghost use Rattle.command_line.specs.Reading.{text_of};
 ghost use Rattle.xlb_commands.specs.Files.{AreAllKeptBut, AreOthersKept};
 ghost use Rattle.xlb_commands.specs.Refused.{HasFailed, IsUnreported};
@@ -11,8 +11,7 @@ ghost use Rattle.xlb_commands.specs.Replays.{AreWritten};
 use crate::commands::unserved;
 use crate::fault::{Fault, Refusal};
 use folders::Folder;
-use journal_files::{FileFault, write_journals};
-use journals::Journals;
+use journals::{FileFault, Journals, write_journals};
 use std::alloc::Global;
 use wire::MemorySink;
 

@@ -11,7 +11,7 @@ use ebpf_decode::{Image, MapDef};
 use machine::MapPort;
 use semantics::{JournalFull, Key, Options, Value};
 use shard_port::PlainPort;
-use shards::Shards;
+use shards::PlainShards;
 use wire::flow_of;
 
 /// The worker that puts the records.
@@ -126,7 +126,7 @@ fn put_all(port: &mut PlainPort, maps: &[MapDef], row: &Row) -> Result<bool, Jou
 /// All of them, in a session of their own. False where one is refused.
 pub(crate) fn put_session(
     image: &Image,
-    shards: &mut Shards,
+    shards: &mut PlainShards,
     row: &Row,
 ) -> Result<bool, JournalFull>
     requires options { AreOptions image.now.maps bench_options }

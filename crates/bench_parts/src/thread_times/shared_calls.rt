@@ -1,13 +1,13 @@
 //! The calls of one worker on a shard that threads share.
 
 ghost use Rattle.std.specs.Prelude.{◌≡◌, ◌<◌, true, IfOk, IfSome, OnOk};
-ghost use Rattle.shared_shards.specs.Passes.{own_at};
+ghost use Rattle.shards.specs.Passes.{own_at};
 ghost use Rattle.bench_parts.specs.Measured.{measured_plan, IsReady, IsAtWork, HoldsThere};
 
 use ebpf_decode::{MapDef, MapKind};
 use journal::CellRange;
 use semantics::{Caller, JournalFull, Options};
-use shared_shards::{Dealer, Naming, Pass, PassFault, Shards};
+use shards::{Dealer, Naming, Pass, PassFault, Shards};
 use std::alloc::Global;
 use std::sync::Wait;
 

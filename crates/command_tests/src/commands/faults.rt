@@ -9,7 +9,7 @@ use disasm::AsmFault;
 use ebpf_decode::DecodeFault;
 use explanations::Explanation;
 use folders::{FolderFault, MemoryFolder};
-use journal_files::FileFault;
+use journals::FileFault;
 use machine::Stop;
 use replay::ReplayFault;
 use shards::OpenFault;

@@ -1,7 +1,7 @@
 //! Rows that call a port of a worker's pass, and the journals that they leave.
 
 ghost use Rattle.std.specs.Prelude.{◌≡◌, ◌<◌, IsTrue, IfOk};
-ghost use Rattle.shared_shards.specs.NewShards.{IsNamed};
+ghost use Rattle.shards.specs.NewShards.{IsNamed};
 ghost use Rattle.pass_tests.specs.ExampleMaps.{example_maps};
 ghost use Rattle.shard_port.specs.PassPorts.{is_worker_below};
 
@@ -11,12 +11,12 @@ use super::{
     options_of,
 };
 use crate::asserting::{holds, same};
-use gates::{NoGate, Tally};
 use journals::Journals;
 use map_port::MapPort;
 use semantics::{Caller, CellRef, Entry, JournalFull, Reply};
 use shard_port::port::ShardPort;
-use shared_shards::{Naming, Opened, Pass, Shards};
+use shard_port::{NoGate, Tally};
+use shards::{Naming, Opened, Pass, Shards};
 use std::alloc::{AllocError, Global};
 use std::marker::Brand;
 use std::process::Abort;

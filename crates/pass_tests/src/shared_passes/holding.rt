@@ -1,11 +1,11 @@
 //! A shard that is held while others call.
 
-ghost use Rattle.shared_shards.specs.NewShards.{IsNamed};
+ghost use Rattle.shards.specs.NewShards.{IsNamed};
 
 use super::{Step, attempt, opened, two_passes};
 use crate::asserting::{holds, same};
 use semantics::{Call, Reply};
-use shared_shards::{Naming, Opened, Pass, Shards};
+use shards::{Naming, Opened, Pass, Shards};
 use std::alloc::Global;
 use std::marker::Brand;
 use std::process::Abort;

@@ -2,13 +2,13 @@
 
 mod by_threads;
 
-ghost use Rattle.shared_shards.specs.NewShards.{IsNamed};
+ghost use Rattle.shards.specs.NewShards.{IsNamed};
 
 use super::length_of;
 use crate::asserting::{holds, same};
 use ebpf_decode::{Image, Insn, MapDef, MapKind, Version};
 use semantics::{Call, Caller, CellRef, Key, Options, Reply, Value};
-use shared_shards::{Naming, Opened, Pass, Shards};
+use shards::{Naming, Opened, Pass, Shards};
 use std::alloc::Global;
 use std::marker::Brand;
 use std::process::Abort;

@@ -3,9 +3,9 @@
 ghost use Rattle.std.specs.Prelude.{◌≡◌, ◌<◌, ◌∷◌, ℕ, [], IfOk, length};
 ghost use Rattle.semantics.specs.declared.call.Caller.TheVariants.{Controller, Reclaimer, Worker};
 ghost use Rattle.journals.specs.JournalsView.{entries_at};
-ghost use Rattle.shared_shards.specs.CallerView.{nothing_seen};
-ghost use Rattle.shared_shards.specs.NewShards.{IsNamed};
-ghost use Rattle.shared_shards.specs.Passes.{own_at, view_at};
+ghost use Rattle.shards.specs.CallerView.{nothing_seen};
+ghost use Rattle.shards.specs.NewShards.{IsNamed};
+ghost use Rattle.shards.specs.Passes.{own_at, view_at};
 ghost use Rattle.pass_tests.specs.TwoWorkers.{one_element, for_two, its_plan, HasLoaded, AreDone, AreTheFour};
 
 use crate::asserting::{holds, same};
@@ -14,8 +14,8 @@ use ebpf_decode::{Image, Insn, MapDef, MapKind, Version};
 use journal::CellRange;
 use journals::Journals;
 use semantics::{Caller, JournalFull, Options};
-use shared_shards::laws::all_entries_are_somebodys;
-use shared_shards::{Naming, Opened, Pass, Shards};
+use shards::laws::all_entries_are_somebodys;
+use shards::{Naming, Opened, Pass, Shards};
 use std::alloc::{AllocError, Global};
 use std::marker::Brand;
 use std::process::Abort;

@@ -14,7 +14,7 @@ use isa::Register::{R0, R1, R2, R3, R6, R10};
 use isa::{Size, Source, Test};
 use machine::{Exit, Stop};
 use semantics::{Call, Caller, CellRef, Entry, Key, Options, Reply, Verdict};
-use shards::Shards;
+use shards::PlainShards;
 use std::alloc::Global;
 use std::process::Abort;
 use std::test::Fail;
@@ -37,7 +37,7 @@ pub(super) struct Run<'a> {
 }
 
 /// Compares the journal.
-fn says(rt: &impl Abort, shards: &mut Shards, run: &Run<'_>) {
+fn says(rt: &impl Abort, shards: &mut PlainShards, run: &Run<'_>) {
     assert!(rt; (run.shard as usize) < shards.count());
     let journal = shards.shard(run.shard).journal();
     same(
@@ -107,7 +107,7 @@ fn not_found(index: u8) -> [(Call, Reply); 3] {
 fn leaves(rt: &impl Abort, alloc: Global, verified: &Verified, run: &Run<'_>) -> Result<(), Fail>
     requires worker { MOMENT.worker < run.now.options.workers }
 {
-    let mut shards = Shards::open(alloc, verified.image(), run.options)?;
+    let mut shards = PlainShards::open(alloc, verified.image(), run.options)?;
     opened_shards_are_ready();
     let mut frame = Frame::of(alloc, run.frame)?;
     let end = worker_run(verified, run.options, &mut shards, &MOMENT, &mut frame);

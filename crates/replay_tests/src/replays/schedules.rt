@@ -4,8 +4,7 @@ use super::{
     COUNTS_TO_THREE, Frames, NONE, READS_ONE, Row, SENDS_ALL, has_part, journals_file, replayed,
 };
 use crate::asserting::{holds, same};
-use actors::Applied;
-use replay::{Counts, Gate, NoGate, Outcome};
+use replay::{Applied, Counts, Gate, NoGate, Outcome};
 use semantics::Caller;
 use std::alloc::Global;
 use std::hint::spin_loop;

@@ -15,7 +15,7 @@ use super::wrong::{WRONG, Wrong, wrong_program};
 use crate::asserting::{holds, same};
 use shard_core::Shard;
 use shard_port::laws::opened_serve;
-use shards::Shards;
+use shards::PlainShards;
 use std::alloc::Global;
 use std::process::Abort;
 use std::test::Fail;
@@ -35,7 +35,7 @@ fn steered(
     seed: u64,
 ) -> Result<(Found, Vec<Shard>), Fail> {
     let mut numbers = Numbers::from(seed);
-    let mut shards = Shards::open(alloc, verified.image(), options())?;
+    let mut shards = PlainShards::open(alloc, verified.image(), options())?;
     opened_serve();
     let mut found = None;
     'cases: for number in 0..TOGETHER {

@@ -10,7 +10,7 @@ use crate::asserting::{holds, same};
 use semantics::Verdict;
 use shard_core::Shard;
 use shard_port::laws::opened_serve;
-use shards::Shards;
+use shards::PlainShards;
 use std::alloc::Global;
 use std::process::Abort;
 use std::test::Fail;
@@ -88,7 +88,7 @@ fn visited(
 ) -> Result<(Verdict, Vec<Shard>), Fail>
     requires { frame.old.headroom ≡ 256 }
 {
-    let mut shards = Shards::open(alloc, verified.image(), options())?;
+    let mut shards = PlainShards::open(alloc, verified.image(), options())?;
     opened_serve();
     let keys = Keys::of(frame.bytes());
     let is_put = put_session(verified.image(), &mut shards, world, &keys);

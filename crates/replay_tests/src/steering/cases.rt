@@ -15,7 +15,7 @@ use crate::asserting::holds;
 use conntrack::{Choice, SteeringMap, choose, index_key, steer};
 use isa::AtomicOp;
 use semantics::{Call, CellRef, Key, Value};
-use shards::Shards;
+use shards::PlainShards;
 use std::alloc::Global;
 use std::process::Abort;
 use std::test::Fail;
@@ -77,7 +77,7 @@ impl Case {
         rt: &impl Abort,
         alloc: Global,
         verified: &Verified,
-        shards: &mut Shards,
+        shards: &mut PlainShards,
     ) -> Result<Option<Difference>, Fail>
         requires options { AreOptions verified.now.maps session_options }
         requires shards { ServesMaps verified.now.maps session_options shards.old }

@@ -6,7 +6,7 @@ use super::sessions::{Record, options, records_session, run_session};
 use crate::asserting::{holds, same, same_bytes};
 use semantics::Verdict;
 use shard_port::laws::opened_serve;
-use shards::Shards;
+use shards::PlainShards;
 use std::alloc::Global;
 use std::process::Abort;
 use std::test::Fail;
@@ -110,7 +110,7 @@ fn steered(
     requires { frame.old.headroom ≡ 256 }
 {
     let (name, records, ..) = row;
-    let mut shards = Shards::open(alloc, verified.image(), options())?;
+    let mut shards = PlainShards::open(alloc, verified.image(), options())?;
     opened_serve();
     let slots = records_session(verified.image(), &mut shards, &SLOTS);
     let others = records_session(verified.image(), &mut shards, records);

@@ -12,7 +12,7 @@ use machine::{Exit, MapPort, Moment, Stop, run};
 use semantics::{JournalFull, Key, Options, Value};
 use shard_port::PlainPort;
 use shard_port::laws::stays_one_port;
-use shards::Shards;
+use shards::PlainShards;
 use verifier::Verified;
 use wire::Frame;
 
@@ -134,7 +134,7 @@ fn put_records(
 /// Puts these records in a session of its own.
 pub(super) fn records_session(
     image: &Image,
-    shards: &mut Shards,
+    shards: &mut PlainShards,
     records: &[Record],
 ) -> Result<bool, JournalFull>
     requires options { AreOptions image.now.maps session_options }
@@ -150,7 +150,7 @@ pub(super) fn records_session(
 /// Puts what the maps hold when a frame with these keys comes, in a session of its own.
 pub(super) fn put_session(
     image: &Image,
-    shards: &mut Shards,
+    shards: &mut PlainShards,
     world: &World,
     keys: &Keys,
 ) -> Result<bool, JournalFull>
@@ -177,7 +177,7 @@ fn run_at(verified: &Verified, frame: &mut Frame, port: &mut PlainPort) -> Resul
 /// One run.
 pub(super) fn run_session(
     verified: &Verified,
-    shards: &mut Shards,
+    shards: &mut PlainShards,
     frame: &mut Frame,
 ) -> Result<Exit, Stop>
     requires options { AreOptions verified.now.maps session_options }

@@ -16,10 +16,10 @@ use Rattle.semantics.specs.ShardPlan.{plan_at}
 use Rattle.semantics.specs.Reclamation.{is_inside}
 use Rattle.semantics.specs.History.{is_outside_worker, is_inside_worker, Meets}
 use Rattle.journal.specs.Entries as entries
-use Rattle.shared_shards.specs.CallerView.{CallerView, BeginsWith, IsServed, IsRefused}
-use Rattle.shared_shards.specs.Passes.{is_inside_of}
-use Rattle.shared_shards.specs.SharedMaps.{ArePlans}
-use Rattle.shared_shards.specs.Asked.{AreServed, IsServedThenRefused}
+use Rattle.shards.specs.CallerView.{CallerView, BeginsWith, IsServed, IsRefused}
+use Rattle.shards.specs.Passes.{is_inside_of}
+use Rattle.shards.specs.SharedMaps.{ArePlans}
+use Rattle.shards.specs.Asked.{AreServed, IsServedThenRefused}
 use Rattle.shard_port.specs.Asking.{enter_by, leave_by, asked_entry}
 use Rattle.shard_port.specs.PortLaws.{both_true}
 use Rattle.shard_port.specs.PassPorts.{is_worker_below, worker_of, entering, inside_own, IsAskedAt, CannotEnterAt, CannotCallAt, IsTurnedAwayAt, IsLeft}

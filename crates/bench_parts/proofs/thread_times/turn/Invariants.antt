@@ -1,5 +1,5 @@
 use Rattle.std.proofs.Common.{length}
-use Rattle.shared_shards.proofs.shared.Names.{table_names, plan_names}
+use Rattle.shards.proofs.shared.Names.{table_names, plan_names}
 use Rattle.bench_parts.proofs.thread_times.turn.Given as goal
 
 abbrev pub ghosts-timed_one : goal.ghosts-timed_one

@@ -1,6 +1,6 @@
 use Rattle.std.proofs.lemmas.Result.{IfOk-weaker, IfErr-weaker}
 use Rattle.shard_port.specs.PassPorts.{worker_of}
-use Rattle.frame_runs.proofs.shared.Untold.{stopped_only}
+use Rattle.runs.proofs.shared.Untold.{stopped_only}
 use Rattle.guarantees.proofs.EventLemmas.{is_among, ran_in_system}
 use Rattle.guarantees.proofs.StopLemmas.{stopped_in_system}
 use Rattle.guarantees.proofs.sharing.shared_run.Goals as goal

@@ -1,5 +1,5 @@
 use Rattle.std.proofs.Common.{length}
-use Rattle.shared_shards.proofs.shared.Names.{table_names, plan_names}
+use Rattle.shards.proofs.shared.Names.{table_names, plan_names}
 use Rattle.pass_tests.proofs.shared_passes.a_call_while_another_shard_is_held.Given as goal
 
 abbrev pub ghosts-held : goal.ghosts-held

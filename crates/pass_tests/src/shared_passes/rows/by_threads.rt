@@ -2,7 +2,7 @@
 
 mod one_key;
 
-ghost use Rattle.shared_shards.specs.NewShards.{IsNamed};
+ghost use Rattle.shards.specs.NewShards.{IsNamed};
 
 use super::{Asked, CONTROLLER, FIRST, HELD_AND_DELETED, RECLAIMER, Row, W0, attempt, opened};
 use crate::asserting::{holds, same};
@@ -11,7 +11,7 @@ use ebpf_decode::MapKind;
 use journals::Journals;
 use one_key::{OneKey, first_value};
 use semantics::{Caller, CellRef, Reply};
-use shared_shards::{Naming, Opened, Pass, Shards};
+use shards::{Naming, Opened, Pass, Shards};
 use std::alloc::{AllocError, Global};
 use std::marker::Brand;
 use std::process::Abort;

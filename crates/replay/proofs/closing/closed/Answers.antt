@@ -2,11 +2,11 @@ use Rattle.std.proofs.Common.{◌≡◌, length, refl, sym, ◌∙◌, subst, ar
 use Rattle.std.proofs.lemmas.List.{length-map}
 use Rattle.std.specs.Prelude.{map}
 use Rattle.machine.specs.Running.{program_of}
-use Rattle.shared_shards.specs.SharedMaps.{ArePlans}
-use Rattle.workers.specs.Accounts.{lists_of, AreRunsOfShares, counts_of, sent_of, sent_frames}
-use Rattle.workers.specs.Shares.{frames_of}
+use Rattle.shards.specs.SharedMaps.{ArePlans}
+use Rattle.replay.specs.Accounts.{lists_of, AreRunsOfShares, counts_of, sent_of, sent_frames}
+use Rattle.replay.specs.Shares.{frames_of}
 use Rattle.replay.specs.Parts.{IsScriptAccounted, rounds_of}
-use Rattle.replay.specs.Runs.{pass_in}
+use Rattle.replay.specs.RunsOverShards.{pass_in}
 use Rattle.replay.specs.Accounted.{IsAccounted}
 use Rattle.replay.specs.declared.outcome.Outcome.{Outcome}
 use Rattle.replay.proofs.Accounts.{shares, work, of_lists, of_read, outcome_is}

@@ -1,5 +1,5 @@
 use Rattle.std.proofs.Common.{length}
-use Rattle.shared_shards.proofs.shared.Names.{table_names, plan_names}
+use Rattle.shards.proofs.shared.Names.{table_names, plan_names}
 use Rattle.replay.proofs.replaying.replay.Given as goal
 
 abbrev pub ghosts-replay_over : goal.ghosts-replay_over

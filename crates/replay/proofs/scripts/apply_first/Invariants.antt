@@ -1,5 +1,5 @@
 use Rattle.std.proofs.Common.{◌≡◌, length}
-use Rattle.workers.specs.Actors.{numbers_from}
+use Rattle.replay.specs.Actors.{numbers_from}
 use Rattle.replay.specs.Parts.{numbers_of}
 use Rattle.replay.proofs.scripts.apply_first.Given as goal
 

@@ -2,9 +2,9 @@ use Rattle.std.proofs.Common.{◌≡◌, ◌+◌, ◌-◌, length, sym, ◌∙�
 use Rattle.std.proofs.lemmas.Result.{IfOk-weaker}
 use Rattle.machine.specs.Running.{program_of}
 use Rattle.semantics.specs.Each.{Each}
-use Rattle.workers.specs.Crews.{IsHandled}
+use Rattle.replay.specs.Crews.{IsHandled}
 use Rattle.replay.specs.Parts.{rounds_of}
-use Rattle.replay.specs.Runs.{IsNewAt, IsRunBy, pass_in}
+use Rattle.replay.specs.RunsOverShards.{IsNewAt, IsRunBy, pass_in}
 use Rattle.replay.proofs.Accounts.{new_is_idle}
 use Rattle.semantics.proofs.shared.EachLemmas.{within}
 use Rattle.replay.proofs.PartLemmas.{script_run, rounds_made}

@@ -1,5 +1,5 @@
 use Rattle.std.proofs.Common.{length}
-use Rattle.shared_shards.proofs.shared.Names.{table_names, plan_names}
+use Rattle.shards.proofs.shared.Names.{table_names, plan_names}
 use Rattle.replay_tests.proofs.acting.reclaimed_in_new.Given as goal
 
 abbrev pub ghosts-reclaimed : goal.ghosts-reclaimed

@@ -1,6 +1,6 @@
 use Rattle.std.proofs.Common.{◌≡◌, ◌∙◌, sym}
 use Rattle.std.proofs.lemmas.Result.{on_err_weaker}
-use Rattle.shared_shards.specs.Passes.{own_at}
+use Rattle.shards.specs.Passes.{own_at}
 use Rattle.shard_port.proofs.shared.PassAskLemmas.{met_inside, refused_inside}
 use Rattle.shard_port.proofs.port.ask_at.Goals as goal
 

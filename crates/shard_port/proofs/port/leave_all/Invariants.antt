@@ -1,5 +1,5 @@
 use Rattle.std.proofs.Common.{◌≡◌, ◌≤◌, ◌<◌, ℕ}
-use Rattle.shared_shards.specs.Passes.{view_at, own_at}
+use Rattle.shards.specs.Passes.{view_at, own_at}
 use Rattle.semantics.specs.Reclamation.{is_inside}
 use Rattle.shard_port.specs.PassPorts.{worker_of, IsLeft}
 use Rattle.shard_port.proofs.port.leave_all.Given as goal

@@ -1,7 +1,7 @@
 use Rattle.std.proofs.Common.{ℕ, List, subst}
 use Rattle.std.proofs.lemmas.Result.{err_from_is_err_and}
 use Rattle.xlb_commands.specs.Refused.{no_audited_image, no_journal_bytes, no_journals, no_verdict, not_legal}
-use Rattle.journal_files.specs.JournalReading.{IsJournalsFile, Refuses}
+use Rattle.journals.specs.JournalReading.{IsJournalsFile, Refuses}
 use Rattle.xlb_commands.proofs.Refusals.{unserved_since, failed_since}
 use Rattle.xlb_commands.proofs.commands.audit_file.Goals as goal
 

@@ -9,7 +9,7 @@ use Rattle.semantics.specs.Program.{Program}
 use Rattle.semantics.specs.Safety.{IsSafeImage}
 use Rattle.semantics.specs.System.{IsInputFrame}
 use Rattle.semantics.specs.declared.verdict.Verdict.{Verdict}
-use Rattle.single_run.specs.SingleRuns.{HasRunAlone, HasStoppedAlone}
+use Rattle.runs.specs.SingleRuns.{HasRunAlone, HasStoppedAlone}
 use Rattle.wire.specs.FrameView.{FrameView}
 use Rattle.command_line.specs.declared.commands.RunFiles.{RunFiles}
 use Rattle.xlb_commands.specs.Files.{FileBytes, AreKept, AreAllKeptBut, IsImageFile}

@@ -2,13 +2,13 @@ use Rattle.std.proofs.Common.{◌≡◌, ◌∙◌, ◌≢◌, ◌<◌, ◌≤�
 use Rattle.ebpf_decode.specs.declared.map.MapDef.{MapDef}
 use Rattle.map_updates.specs.declared.update.MapUpdate.{MapUpdate}
 use Rattle.semantics.specs.ShardPlan.{are_served_options}
-use Rattle.shards.specs.declared.fault.OpenFault.{OpenFault}
-use Rattle.shards.specs.declared.fault.OpenFault.TheVariants.{BadOptions, Memory}
-use Rattle.single_run.specs.declared.fault.RunFault.{RunFault}
-use Rattle.single_run.specs.declared.fault.RunFault.TheVariants.{Open, Refused, Full}
+use Rattle.shards.specs.declared.open_fault.OpenFault.{OpenFault}
+use Rattle.shards.specs.declared.open_fault.OpenFault.TheVariants.{BadOptions, Memory}
+use Rattle.runs.specs.declared.fault.RunFault.{RunFault}
+use Rattle.runs.specs.declared.fault.RunFault.TheVariants.{Open, Refused, Full}
 use Rattle.wire.specs.FrameView.{FrameView}
 use Rattle.control.specs.declared.fault.ControlFault.TheVariants as scripts
-use Rattle.single_run.specs.SingleRuns.{IsWhyNone}
+use Rattle.runs.specs.SingleRuns.{IsWhyNone}
 use Rattle.xlb_commands.specs.declared.fault.Fault.{Fault}
 use Rattle.xlb_commands.specs.declared.fault.Fault.TheVariants as faults
 use Rattle.xlb_commands.specs.Refused.{IsRunFault, not_served, no_map_memory, update_refused, update_full}

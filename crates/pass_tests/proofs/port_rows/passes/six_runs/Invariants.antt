@@ -1,5 +1,5 @@
 use Rattle.std.proofs.Common.{length}
-use Rattle.shared_shards.proofs.shared.Names.{table_names, plan_names}
+use Rattle.shards.proofs.shared.Names.{table_names, plan_names}
 use Rattle.pass_tests.proofs.port_rows.passes.six_runs.Given as goal
 
 abbrev pub ghosts-six : goal.ghosts-six

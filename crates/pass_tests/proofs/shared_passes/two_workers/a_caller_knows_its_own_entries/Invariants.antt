@@ -1,5 +1,5 @@
 use Rattle.std.proofs.Common.{length}
-use Rattle.shared_shards.proofs.shared.Names.{table_names, plan_names}
+use Rattle.shards.proofs.shared.Names.{table_names, plan_names}
 use Rattle.pass_tests.proofs.shared_passes.two_workers.a_caller_knows_its_own_entries.Given as goal
 
 abbrev pub ghosts-row : goal.ghosts-row

@@ -2,8 +2,8 @@ use Rattle.std.proofs.Common.{rules}
 use Rattle.semantics.specs.MachineState.{initial_state}
 use Rattle.machine.specs.Running.{program_of}
 use Rattle.shard_port.specs.PassPorts.{worker_of}
-use Rattle.frame_runs.specs.FrameRuns.{HasStopped}
-use Rattle.frame_runs.proofs.shared.Untold.{stopped_only}
+use Rattle.runs.specs.FrameRuns.{HasStopped}
+use Rattle.runs.proofs.shared.Untold.{stopped_only}
 use Rattle.replay.proofs.shard_runner.ShardRunnerRunnerWorking.run.Goals as goal
 
 pub returns-clause-run : goal.returns-clause-run

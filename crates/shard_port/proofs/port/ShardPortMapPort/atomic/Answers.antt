@@ -1,5 +1,5 @@
 use Rattle.std.proofs.Common.{◌≡◌, ◌<◌, refl, sym, ap, ◌∙◌, rules}
-use Rattle.shared_shards.specs.Passes.{PassView}
+use Rattle.shards.specs.Passes.{PassView}
 use Rattle.shard_port.proofs.shared.MayAskLemmas.{load_of_atomic}
 use Rattle.shard_port.proofs.PassMethods.{Stands, cell_within, met_change, change_given, cell_refused}
 use Rattle.shard_port.proofs.port.ShardPortMapPort.atomic.Goals as goal
@@ -7,7 +7,7 @@ use Rattle.semantics.specs.declared.call.Call.TheVariants.{Atomic}
 use Rattle.isa.specs.InstructionCodes.{atomic_code}
 use Rattle.semantics.specs.declared.call.Reply.TheVariants.{Word}
 use Rattle.shard_port.specs.PassPorts.{worker_of, IsAskedAt, IsTurnedAwayAt}
-use Rattle.shared_shards.specs.Passes.{view_at}
+use Rattle.shards.specs.Passes.{view_at}
 
 pub ask-requires-clause-shard : goal.ask-requires-clause-shard
 ask-requires-clause-shard g c =

@@ -1,5 +1,5 @@
 use Rattle.std.proofs.Common.{length}
-use Rattle.shared_shards.proofs.shared.Names.{table_names, plan_names}
+use Rattle.shards.proofs.shared.Names.{table_names, plan_names}
 use Rattle.pass_tests.proofs.shared_passes.rows.by_threads.on_a_new_shard.Given as goal
 
 abbrev pub ghosts-by_turns : goal.ghosts-by_turns

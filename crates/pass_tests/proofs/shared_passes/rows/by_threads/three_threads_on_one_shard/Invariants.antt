@@ -1,5 +1,5 @@
 use Rattle.std.proofs.Common.{length}
-use Rattle.shared_shards.proofs.shared.Names.{table_names, plan_names}
+use Rattle.shards.proofs.shared.Names.{table_names, plan_names}
 use Rattle.pass_tests.proofs.shared_passes.rows.by_threads.three_threads_on_one_shard.Given as goal
 
 abbrev pub ghosts-freely : goal.ghosts-freely

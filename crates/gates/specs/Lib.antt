@@ -1,2 +1,0 @@
--- The definitions that the contracts of this crate cite.
-pub mod Gates

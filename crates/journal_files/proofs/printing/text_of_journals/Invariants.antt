@@ -1,7 +1,0 @@
-use Rattle.std.proofs.Common.{◌≡◌, ◌++◌, take}
-use Rattle.text_lines.specs.Lines.{ended}
-use Rattle.journal_files.specs.JournalText.{entries_text, all_entries, header_text}
-use Rattle.journal_files.proofs.printing.text_of_journals.Given as goal
-
-abbrev pub invariant-shards : goal.invariant-shards
-invariant-shards l = l.out.items ≡ ended (header_text l.journals.options) ++ entries_text (all_entries (take l.number l.journals.shards))

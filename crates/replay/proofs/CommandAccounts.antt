@@ -1,0 +1,121 @@
+-- The account of a script, and one command more.
+use Rattle.std.proofs.Common.{◌≡◌, ℕ, List, [], ◌∷◌, ◌++◌, refl, sym, ap, ◌∙◌, subst, append_assoc}
+use Rattle.std.specs.Prelude.{Option, Some, None, IfSome, slice_get}
+use Rattle.std.specs.List.{AllByRecursion}
+use Rattle.std.proofs.lemmas.List.{append-nil}
+use Rattle.ebpf_decode.specs.declared.map.MapDef.{MapDef}
+use Rattle.semantics.specs.declared.options.Options.{Options}
+use Rattle.semantics.specs.declared.plan.ShardPlan.{ShardPlan}
+use Rattle.semantics.specs.History.{IsJournalFull}
+use Rattle.shards.specs.CallerView.{CallerView, nothing_seen}
+use Rattle.shards.specs.Passes.{PassView, view_at, own_at, seen_at}
+use Rattle.control.specs.declared.command.Command.{Command}
+use Rattle.control.specs.MapUpdates.{UpdateBytes}
+use Rattle.control.specs.Controlling.{ControllerState}
+use Rattle.replay.specs.declared.applied.Applied.{Applied}
+use Rattle.replay.specs.SharedUpdates.{UpdatesView, shard_of, update_call}
+use Rattle.replay.specs.Commands.{CommandDone, IsDone, AreDone, IsNotedOf, AreNotedOf, made_in, with_updates, IsFullFor, IsMoved, HasEffect, IsAccount, IsCommander, ServesScript, opened_controller}
+use Rattle.replay.proofs.Moving.{with_updates_more}
+use Rattle.replay.proofs.shared.FullStays.{full_stays}
+
+noted_more : (script : List Command) (noted : List Applied) (done : List CommandDone) (one : CommandDone) (last : Applied) →
+    AreNotedOf script noted done → IsNotedOf script last one → AreNotedOf script (noted ++ last ∷ []) (done ++ one ∷ [])
+noted_more script [] [] one last are is = (is, tt)
+noted_more script [] (first ∷ done) one last are is = absurd are
+noted_more script (first ∷ noted) [] one last are is = absurd are
+noted_more script (first ∷ noted) (other ∷ done) one last (known, are) is = (known, noted_more script noted done one last are is)
+
+done_more : (done : List CommandDone) (one : CommandDone) (first state state' : ControllerState) → AreDone first done state → IsDone state one state' →
+    AreDone first (done ++ one ∷ []) state'
+done_more [] one first state state' are is = (state', subst (λ start. IsDone start one state') (sym are) is, refl)
+done_more (other ∷ done) one first state state' (middle, did, are) is = (middle, did, done_more done one middle state state' are is)
+
+made_more : (done : List CommandDone) (one : CommandDone) → made_in (done ++ one ∷ []) ≡ made_in done ++ one.made
+made_more [] one = append-nil one.made
+made_more (first ∷ done) one = ap (λ rest. first.made ++ rest) (made_more done one) ∙ sym (append_assoc first.made (made_in done) one.made)
+
+full_later : (plan : ℕ → ShardPlan) (before after : UpdatesView) (one : CommandDone) → IsMoved before after one.made → (stopped : Option UpdateBytes) →
+    IfSome stopped (IsFullFor plan before.maps before.options before.pass) → IfSome stopped (IsFullFor plan after.maps after.options after.pass)
+full_later plan before after one moved None full = tt
+full_later plan before after one moved (Some update) full =
+    let number : ℕ = shard_of before.maps before.options update in
+    let grown = moved.grows number in
+    let now : IsFullFor plan before.maps before.options after.pass update = record {
+      of_map = full.of_map;
+      full = subst (λ seen. IsJournalFull (plan number) seen (update_call number update)) (sym grown.1)
+          (full_stays (plan number) grown.0 (seen_at before.pass number) (update_call number update) full.full);
+    } in
+    subst (λ options. IsFullFor plan after.maps options after.pass update) (sym moved.options)
+    (subst (λ maps. IsFullFor plan maps before.options after.pass update) (sym moved.maps) now)
+
+all_full_later : (plan : ℕ → ShardPlan) (before after : UpdatesView) (one : CommandDone) (done : List CommandDone) → IsMoved before after one.made →
+    AllByRecursion (λ (other : CommandDone). IfSome other.stopped (IsFullFor plan before.maps before.options before.pass)) done →
+    IfSome one.stopped (IsFullFor plan after.maps after.options after.pass) →
+    AllByRecursion (λ (other : CommandDone). IfSome other.stopped (IsFullFor plan after.maps after.options after.pass)) (done ++ one ∷ [])
+all_full_later plan before after one [] moved full last = (last, tt)
+all_full_later plan before after one (other ∷ done) moved (here, full) last =
+    (full_later plan before after one moved other.stopped here, all_full_later plan before after one done moved full last)
+
+-- the fullness of the last command, in the port's own words
+last_full : (plan : ℕ → ShardPlan) (before after : UpdatesView) (one : CommandDone) → IsMoved before after one.made → (stopped : Option UpdateBytes) →
+    IfSome stopped (IsFullFor plan before.maps before.options after.pass) → IfSome stopped (IsFullFor plan after.maps after.options after.pass)
+last_full plan before after one moved None full = tt
+last_full plan before after one moved (Some update) full =
+    subst (λ options. IsFullFor plan after.maps options after.pass update) (sym moved.options)
+    (subst (λ maps. IsFullFor plan maps before.options after.pass update) (sym moved.maps) full)
+
+own_more : (maps : List MapDef) (options : Options) (before after : UpdatesView) (done : List CommandDone) (one : CommandDone) →
+    before.maps ≡ maps → before.options ≡ options → IsMoved before after one.made →
+    ((number : ℕ) → own_at before.pass number ≡ with_updates maps options number (made_in done) []) → (number : ℕ) →
+    own_at after.pass number ≡ with_updates maps options number (made_in (done ++ one ∷ [])) []
+own_more maps options before after done one same_maps same_options moved own number =
+    moved.own number ∙ ap (λ m. with_updates m before.options number one.made (own_at before.pass number)) same_maps
+    ∙ ap (λ o. with_updates maps o number one.made (own_at before.pass number)) same_options
+    ∙ ap (λ history. with_updates maps options number one.made history) (own number)
+    ∙ sym (with_updates_more maps options number (made_in done) one.made [])
+    ∙ ap (λ made. with_updates maps options number made []) (sym (made_more done one))
+
+pub account_more : (plan : ℕ → ShardPlan) (script : List Command) (size : ℕ) (noted : List Applied) (state state' : ControllerState)
+    (before after : UpdatesView) (command : Command) (last : Applied) →
+    IsAccount plan before.maps before.options script size noted state before.pass → slice_get script last.command ≡ Some command →
+    HasEffect plan state command.action last.fault state' before after →
+    IsAccount plan after.maps after.options script size (noted ++ last ∷ []) state' after.pass
+account_more plan script size noted state state' before after command last account known effect =
+    let one : CommandDone = effect.one in
+    record {
+      done = account.done ++ one ∷ [];
+      are_noted = noted_more script noted account.done one last account.are_noted
+          (record { command = command; known = known; action = effect.action_is; fault = effect.fault_is });
+      are_done = done_more account.done one (opened_controller size) state state' account.are_done effect.done;
+      own = own_more after.maps after.options before after account.done one (sym effect.moved.maps) (sym effect.moved.options) effect.moved
+          (λ number. account.own number ∙ ap (λ m. with_updates m before.options number (made_in account.done) []) (sym effect.moved.maps)
+          ∙ ap (λ o. with_updates after.maps o number (made_in account.done) []) (sym effect.moved.options));
+      full = all_full_later plan before after one account.done effect.moved account.full (last_full plan before after one effect.moved one.stopped effect.full);
+    }
+
+pub account_of_nothing : (plan : ℕ → ShardPlan) (maps : List MapDef) (options : Options) (script : List Command) (size : ℕ) (pass : PassView) →
+    ((number : ℕ) → view_at pass number ≡ nothing_seen) → IsAccount plan maps options script size [] (opened_controller size) pass
+account_of_nothing plan maps options script size pass nothing = record {
+  done = [];
+  are_noted = tt;
+  are_done = refl;
+  own = λ number. ap (λ (view : CallerView). view.own) (nothing number);
+  full = tt;
+}
+
+-- ---- the actor
+
+pub commander_more : (plan : ℕ → ShardPlan) (script : List Command) (noted noted' : List Applied) (state state' : ControllerState)
+    (before after : UpdatesView) (command : Command) (last : Applied) → IsCommander plan script noted state before → noted' ≡ noted ++ last ∷ [] →
+    slice_get script last.command ≡ Some command → HasEffect plan state command.action last.fault state' before after → state'.size ≡ state.size →
+    IsCommander plan script noted' state' after
+commander_more plan script noted noted' state state' before after command last was is known effect size =
+    let account : IsAccount plan after.maps after.options script state.size (noted ++ last ∷ []) state' after.pass =
+    account_more plan script state.size noted state state' before after command last was.account known effect in
+    record {
+      account = subst (λ n. IsAccount plan after.maps after.options script n noted' state' after.pass) (sym size)
+          (subst (λ all. IsAccount plan after.maps after.options script state.size all state' after.pass) (sym is) account);
+      serves = subst (λ maps. ServesScript maps state'.size script) (sym effect.moved.maps)
+          (subst (λ n. ServesScript before.maps n script) (sym size) was.serves);
+      who = effect.moved.who;
+    }

@@ -1,0 +1,138 @@
+-- One round more, shard by shard.
+use Rattle.std.proofs.Common.{◌≡◌, ◌≢◌, ◌<◌, ◌≤◌, ℕ, suc, ◌+◌, Bool, true, false, List, [], ◌∷◌, length, refl, sym, ap, ◌∙◌, subst, arith, inl, inr}
+use Rattle.std.specs.Prelude.{◌==◌}
+use Rattle.std.specs.List.{AllByRecursion}
+use Rattle.std.proofs.lemmas.Bool.Decides.{nat_tests}
+use Rattle.ebpf_decode.specs.declared.map.MapKind.{MapKind}
+use Rattle.ebpf_decode.specs.declared.map.MapKind.TheVariants.{Array, Hash, LruHash}
+use Rattle.semantics.specs.declared.call.Caller.TheVariants.{Reclaimer}
+use Rattle.semantics.specs.declared.call.Call.TheVariants.{Reclaim}
+use Rattle.semantics.specs.declared.call.Reply.TheVariants.{Freed}
+use Rattle.semantics.specs.declared.call.Entry.{Entry}
+use Rattle.semantics.specs.declared.plan.ShardPlan.{ShardPlan}
+use Rattle.semantics.specs.History.{IsJournalFull}
+use Rattle.shards.specs.CallerView.{CallerView, BeginsWith, nothing_seen}
+use Rattle.shards.specs.Passes.{PassView, view_at, own_at, seen_at, IsElsewhereSame}
+use Rattle.shards.specs.Asked.{IsAnswered, IsTurnedAway}
+use Rattle.replay.specs.Rounds.{IsReclaim, IsReclaimed, IsReclaimedBy, IsReclaimedAt, AreReclaimed, IsAsked, is_keyed}
+use Rattle.replay.proofs.shared.FullStays.{full_stays}
+
+-- a round that has come to the shard of this number: those below have had one more than the others
+pub record IsInRound (plan : ℕ → ShardPlan) (count rounds number : ℕ) (pass : PassView) : Type 0 where
+  pub below : (other : ℕ) → other < number → other < count → IsReclaimedAt plan (rounds + 1) pass other
+  pub from : (other : ℕ) → number ≤ other → other < count → IsReclaimedAt plan rounds pass other
+
+later_full : (plan : ShardPlan) (number : ℕ) (after before : List Entry) → BeginsWith after before → IsJournalFull plan before (Reclaim number) →
+    IsJournalFull plan after (Reclaim number)
+later_full plan number after before (later, is) full =
+    subst (λ seen. IsJournalFull plan seen (Reclaim number)) (sym is) (full_stays plan later before (Reclaim number) full)
+
+after_one : (after earlier before : List Entry) (entry : Entry) → after ≡ entry ∷ earlier → BeginsWith earlier before → BeginsWith after before
+after_one after earlier before entry is (later, was) = (entry ∷ later, is ∙ ap (λ rest. entry ∷ rest) was)
+
+served : (plan : ShardPlan) (number rounds : ℕ) (before after : PassView) (freed : ℕ) → before.who ≡ Reclaimer →
+    IsAnswered plan number before after (Reclaim number) (Freed freed) → IsReclaimed plan number rounds (own_at before number) (seen_at before number) →
+    IsReclaimed plan number (rounds + 1) (own_at after number) (seen_at after number)
+served plan number rounds before after freed who answered was =
+    let entry : Entry = record { who = before.who; call = Reclaim number; reply = Freed freed } in
+    let is : own_at after number ≡ entry ∷ own_at before number = answered.own in
+    let long : length (own_at after number) ≡ suc (length (own_at before number)) = ap length is in
+    let most : length (own_at before number) ≤ rounds = was.one_a_round in
+    let grown : BeginsWith (seen_at after number) (seen_at before number) = after_one _ _ _ entry answered.seen answered.begins in
+    record {
+      each = subst (λ own. AllByRecursion (IsReclaim number) own) (sym is)
+          ((freed, ap (λ one. record { who = one; call = Reclaim number; reply = Freed freed }) who), was.each);
+      one_a_round = omega (arith, long, most);
+      fewer_if_full = λ fewer. later_full plan number (seen_at after number) (seen_at before number) grown
+          (was.fewer_if_full (omega (arith, long, fewer)));
+    }
+
+passed_over : (plan : ShardPlan) (number rounds : ℕ) (before after : PassView) → IsTurnedAway plan number before after (Reclaim number) →
+    IsReclaimed plan number rounds (own_at before number) (seen_at before number) →
+    IsReclaimed plan number (rounds + 1) (own_at after number) (seen_at after number)
+passed_over plan number rounds before after refused was =
+    let long : length (own_at after number) ≡ length (own_at before number) = ap length refused.own in
+    let most : length (own_at before number) ≤ rounds = was.one_a_round in
+    record {
+      each = subst (λ own. AllByRecursion (IsReclaim number) own) (sym refused.own) was.each;
+      one_a_round = omega (arith, long, most);
+      fewer_if_full = λ fewer. refused.full;
+    }
+
+asked_once : (plan : ShardPlan) (number rounds : ℕ) (before after : PassView) → before.who ≡ Reclaimer → IsAsked plan number before after →
+    IsReclaimed plan number rounds (own_at before number) (seen_at before number) →
+    IsReclaimed plan number (rounds + 1) (own_at after number) (seen_at after number)
+asked_once plan number rounds before after who (inl (freed, answered)) was = served plan number rounds before after freed who answered was
+asked_once plan number rounds before after who (inr refused) was = passed_over plan number rounds before after refused was
+
+pub keyed_turn : (kind : MapKind) (plan : ShardPlan) (number rounds : ℕ) (before after : PassView) → is_keyed kind ≡ true → before.who ≡ Reclaimer →
+    IsAsked plan number before after → IsReclaimedBy kind plan number rounds (own_at before number) (seen_at before number) →
+    IsReclaimedBy kind plan number (rounds + 1) (own_at after number) (seen_at after number)
+keyed_turn Array plan number rounds before after keyed who asked was = absurd cc
+keyed_turn Hash plan number rounds before after keyed who asked was = asked_once plan number rounds before after who asked was
+keyed_turn LruHash plan number rounds before after keyed who asked was = asked_once plan number rounds before after who asked was
+
+pub array_turn : (kind : MapKind) (plan : ShardPlan) (number rounds : ℕ) (own seen : List Entry) → is_keyed kind ≡ false →
+    IsReclaimedBy kind plan number rounds own seen → IsReclaimedBy kind plan number (rounds + 1) own seen
+array_turn Array plan number rounds own seen keyed was = was
+array_turn Hash plan number rounds own seen keyed was = absurd cc
+array_turn LruHash plan number rounds own seen keyed was = absurd cc
+
+pub same_elsewhere : (number : ℕ) (pass : PassView) → IsElsewhereSame number pass pass
+same_elsewhere number pass = record { who = refl; count = refl; others = λ other apart. refl }
+
+-- ---- the round
+
+same_at : (plan : ℕ → ShardPlan) (rounds number : ℕ) (before after : PassView) → view_at after number ≡ view_at before number →
+    IsReclaimedAt plan rounds before number → IsReclaimedAt plan rounds after number
+same_at plan rounds number before after same was =
+    subst (λ (view : CallerView). IsReclaimedBy (plan number).definition.kind (plan number) number rounds view.own view.seen) (sym same) was
+
+below_test : (other number : ℕ) → other < number + 1 → (other == number) ≡ false → other < number
+below_test other number below apart = grind (arith, nat_tests)
+
+equal_test : (other number : ℕ) → (other == number) ≡ true → number ≡ other
+equal_test other number is = grind (arith, nat_tests)
+
+unequal : (other number : ℕ) → other < number → other ≢ number
+unequal other number below same = omega (arith, below, same)
+
+above : (other number : ℕ) → number + 1 ≤ other → other ≢ number
+above other number up same = omega (arith, up, same)
+
+pub next_turn : (plan : ℕ → ShardPlan) (count rounds number : ℕ) (before after : PassView) → IsInRound plan count rounds number before →
+    number < count → IsElsewhereSame number before after →
+    (IsReclaimedAt plan rounds before number → IsReclaimedAt plan (rounds + 1) after number) → IsInRound plan count rounds (number + 1) after
+next_turn plan count rounds number before after was inside elsewhere turn = record {
+  below = λ other below within. by_test other below within (other == number) refl;
+  from = λ other up within. same_at plan rounds other before after (elsewhere.others other (above other number up)) (was.from other (omega (arith, up)) within);
+}
+  where
+    here : IsReclaimedAt plan (rounds + 1) after number
+    here = turn (was.from number (omega arith) inside)
+
+    by_test : (other : ℕ) → other < number + 1 → other < count → (test : Bool) → (other == number) ≡ test → IsReclaimedAt plan (rounds + 1) after other
+    by_test other below within true is = subst (λ n. IsReclaimedAt plan (rounds + 1) after n) (equal_test other number is) here
+    by_test other below within false is =
+        let lower : other < number = below_test other number below is in
+        same_at plan (rounds + 1) other before after (elsewhere.others other (unequal other number lower)) (was.below other lower within)
+
+pub first_turn : (plan : ℕ → ShardPlan) (count rounds : ℕ) (pass : PassView) → AreReclaimed plan count rounds pass → IsInRound plan count rounds 0 pass
+first_turn plan count rounds pass are = record {
+  below = λ other below within. absurd (omega (arith, below));
+  from = λ other up within. are other within;
+}
+
+pub all_turns : (plan : ℕ → ShardPlan) (count rounds number : ℕ) (pass : PassView) → count ≤ number → IsInRound plan count rounds number pass →
+    AreReclaimed plan count (rounds + 1) pass
+all_turns plan count rounds number pass past was other within = was.below other (omega (arith, past, within)) within
+
+nothing_by : (kind : MapKind) (plan : ShardPlan) (number : ℕ) → IsReclaimedBy kind plan number 0 [] []
+nothing_by Array plan number = refl
+nothing_by Hash plan number = record { each = tt; one_a_round = omega arith; fewer_if_full = λ fewer. absurd (omega (arith, fewer)) }
+nothing_by LruHash plan number = record { each = tt; one_a_round = omega arith; fewer_if_full = λ fewer. absurd (omega (arith, fewer)) }
+
+pub no_round : (plan : ℕ → ShardPlan) (count : ℕ) (pass : PassView) → ((number : ℕ) → view_at pass number ≡ nothing_seen) → AreReclaimed plan count 0 pass
+no_round plan count pass nothing number within =
+    subst (λ (view : CallerView). IsReclaimedBy (plan number).definition.kind (plan number) number 0 view.own view.seen) (sym (nothing number))
+    (nothing_by (plan number).definition.kind (plan number) number)

@@ -1,0 +1,3 @@
+-- Lemmas that other crates cite.
+pub mod AccountLemmas
+pub mod FullStays

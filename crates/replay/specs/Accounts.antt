@@ -1,0 +1,87 @@
+-- What became of each record, by the runs of the workers, and what is counted and sent of it.
+use Rattle.std.specs.Prelude.{◌≡◌, ℕ, zero, suc, ◌+◌, List, [], ◌∷◌, ◌++◌, length, map, Option, Some, None, Vec, slice_index}
+use Rattle.std.specs.Prelude.{slice_index_or, ◌<◌, if◌then◌else◌}
+use Rattle.wire.specs.declared.records.Sent.{Sent}
+use Rattle.replay.specs.declared.counts.Counts.{Counts}
+use Rattle.replay.specs.declared.run_end.RunEnd.{RunEnd}
+use Rattle.replay.specs.declared.run_end.RunEnd.TheVariants.{Stopped, Aborted, Dropped, Passed, Sent as IsSent}
+use Rattle.replay.specs.declared.run_end.Ran.{Ran}
+use Rattle.replay.specs.Shares.{frame_at, is_short, worker_of_frame, share}
+use Rattle.replay.specs.RunJobs.{records_of}
+
+-- ---- what became of a record
+
+-- the runs of each worker
+abbrev pub lists_of : {A : Type 0} → List (Vec Ran A) → List (List Ran)
+lists_of {A} runs = map (λ (list : Vec Ran A). list.items) runs
+
+abbrev pub runs_at : List (List Ran) → ℕ → List Ran
+runs_at runs worker = slice_index_or runs worker []
+
+abbrev pub end_at : List Ran → ℕ → Option RunEnd
+end_at [] place = None
+end_at (ran ∷ later) zero = Some ran.end
+end_at (ran ∷ later) (suc place) = end_at later place
+
+-- a worker's runs are of its records in order, so that of a record stands behind those of its earlier records; a short record has none
+abbrev pub fate_of : List (List ℕ) → ℕ → List (List Ran) → ℕ → Option RunEnd
+fate_of frames workers runs number =
+    if is_short (frame_at frames number) then None
+    else end_at (runs_at runs (worker_of_frame (frame_at frames number) workers))
+    (length (share frames workers (worker_of_frame (frame_at frames number) workers) number))
+
+-- ---- what is counted
+
+abbrev pub no_counts : Counts
+no_counts = record { short = 0; stopped = 0; aborted = 0; drop = 0; pass = 0; tx = 0 }
+
+abbrev pub frames_in : Counts → ℕ
+frames_in c = c.short + c.stopped + c.aborted + c.drop + c.pass + c.tx
+
+-- one record more
+abbrev pub counted : Counts → Option RunEnd → Counts
+counted c None = record c { short = c.short + 1 }
+counted c (Some Stopped) = record c { stopped = c.stopped + 1 }
+counted c (Some Aborted) = record c { aborted = c.aborted + 1 }
+counted c (Some Dropped) = record c { drop = c.drop + 1 }
+counted c (Some Passed) = record c { pass = c.pass + 1 }
+counted c (Some (IsSent sent)) = record c { tx = c.tx + 1 }
+
+-- the first so many records, each counted once
+abbrev pub counts_of : List (List ℕ) → ℕ → List (List Ran) → ℕ → Counts
+counts_of frames workers runs zero = no_counts
+counts_of frames workers runs (suc number) = counted (counts_of frames workers runs number) (fate_of frames workers runs number)
+
+-- ---- what is sent
+
+-- a sent frame by what a capture tells of it
+pub record SentFrame : Type 0 where
+  pub seconds : ℕ
+  pub micros : ℕ
+  pub bytes : List ℕ
+
+abbrev pub sent_frame : Sent → SentFrame
+sent_frame sent = record { seconds = sent.seconds; micros = sent.micros; bytes = sent.bytes.items }
+
+abbrev pub sent_frames : List Sent → List SentFrame
+sent_frames list = map sent_frame list
+
+abbrev pub sent_by : Option RunEnd → List SentFrame
+sent_by (Some (IsSent sent)) = sent_frame sent ∷ []
+sent_by fate = []
+
+-- what is sent of the first so many records, in the capture's order
+abbrev pub sent_of : List (List ℕ) → ℕ → List (List Ran) → ℕ → List SentFrame
+sent_of frames workers runs zero = []
+sent_of frames workers runs (suc number) = sent_of frames workers runs number ++ sent_by (fate_of frames workers runs number)
+
+-- ---- how they are gathered
+
+-- each worker ran its records, in order
+abbrev pub AreRunsOfShares : List (List ℕ) → ℕ → ℕ → List (List Ran) → Type 0
+AreRunsOfShares frames workers count runs = (worker : ℕ) → worker < workers → records_of (runs_at runs worker) ≡ share frames workers worker count
+
+-- of each worker, how many of its records stand before this one
+pub record AreNext (frames : List (List ℕ)) (workers number : ℕ) (next : List ℕ) : Type 0 where
+  pub count : length next ≡ workers
+  pub each : (worker : ℕ) → worker < workers → slice_index next worker ≡ length (share frames workers worker number)

@@ -1,0 +1,36 @@
+-- What the threads of the controller and the reclaimer hand back, against the jobs that they took.
+use Rattle.std.specs.Prelude.{◌≡◌, ℕ, Bool, true, false, List, [], ◌∷◌, ◌++◌, map, replicate}
+use Rattle.rx_queues.specs.declared.job.Job.{Job}
+use Rattle.rx_queues.specs.declared.job.Job.TheVariants.{Command as CommandJob, Note, End}
+use Rattle.semantics.specs.declared.plan.ShardPlan.{ShardPlan}
+use Rattle.shards.specs.Passes.{PassView}
+use Rattle.control.specs.Controlling.{ControllerState}
+use Rattle.replay.specs.declared.applied.Applied.{Applied}
+use Rattle.replay.specs.Commands.{CommanderView, IsAccount}
+use Rattle.replay.specs.Rounds.{AreReclaimed}
+
+-- the jobs that commands were handed over by
+abbrev pub command_jobs : List Applied → List Job
+command_jobs noted = map (λ (one : Applied). CommandJob one.command) noted
+
+-- since these were noted, the commands of the jobs were, each once and in order, and then the end came
+pub record AreCommandsTaken (before after : List Applied) (jobs : List Job) : Type 0 where
+  pub later : List Applied
+  pub noted : after ≡ before ++ later
+  pub each_once : jobs ≡ command_jobs later ++ End ∷ []
+
+-- what was noted since the controller began, with its own entries, is an account of its script
+pub record IsAccounted (plan : ℕ → ShardPlan) (start : CommanderView) (noted : List Applied) (pass : PassView) : Type 0 where
+  pub state : ControllerState
+  pub account : IsAccount plan start.port.maps start.port.options start.script start.controller.size noted state pass
+
+-- a note, or the end
+abbrev pub round_job : Bool → Job
+round_job true = Note
+round_job false = End
+
+-- a round for each note, and then the end came
+pub record AreRoundsMade (plan : ℕ → ShardPlan) (count : ℕ) (jobs : List Job) (pass : PassView) : Type 0 where
+  pub rounds : ℕ
+  pub notes : jobs ≡ replicate rounds Note ++ End ∷ []
+  pub reclaimed : AreReclaimed plan count rounds pass

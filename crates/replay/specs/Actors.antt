@@ -1,0 +1,71 @@
+-- What the controller and the reclaimer are handed beside the workers.
+use Rattle.std.specs.Prelude.{◌≡◌, ◌<◌, ◌≤◌, ◌/◌, ℕ, zero, suc, ◌+◌, List, [], ◌∷◌, ◌++◌, map, length, replicate, slice_index}
+use Rattle.rx_queues.specs.declared.job.Job.{Job}
+use Rattle.rx_queues.specs.declared.job.Job.TheVariants.{Command, Note, End}
+use Rattle.replay.specs.Puts.{ArePut, put_at}
+
+-- so many numbers, from this one on
+abbrev pub numbers_from : ℕ → ℕ → List ℕ
+numbers_from first zero = []
+numbers_from first (suc count) = first ∷ numbers_from (first + 1) count
+
+-- so many commands of the script, from this one on
+abbrev pub commands_from : ℕ → ℕ → List Job
+commands_from first count = map (λ (number : ℕ). Command number) (numbers_from first count)
+
+-- what is so of all commands of the script from this one on
+abbrev pub OfCommandsFrom : ℕ → List ℕ → (List Job → Type 0) → Type 0
+OfCommandsFrom first starts is = (count : ℕ) → first + count ≡ length starts → is (commands_from first count)
+
+-- a round is asked for after every 64 records and once more after them, and then the end comes
+abbrev pub round_jobs : ℕ → List Job
+round_jobs records = replicate (records / 64 + 1) Note ++ End ∷ []
+
+-- the last job is the end
+pub record HasEnded (jobs : List Job) : Type 0 where
+  pub before : List Job
+  pub jobs_are : jobs ≡ before ++ End ∷ []
+
+-- none of the jobs is the end
+abbrev pub HasNoEnd : List Job → Type 0
+HasNoEnd [] = Unit
+HasNoEnd (job ∷ later) = (¬ (job ≡ End)) × HasNoEnd later
+
+-- the last job is the end, and no other one
+pub record EndsOnce (jobs : List Job) : Type 0 where
+  pub before : List Job
+  pub no_end : HasNoEnd before
+  pub jobs_are : jobs ≡ before ++ End ∷ []
+
+-- these jobs were put into the queue at the place, and nothing into another
+pub record ArePutAt (place : ℕ) (jobs : List Job) (before after : List (List Job)) : Type 0 where
+  pub count : length after ≡ length before
+  pub here : place < length before → put_at after place ≡ put_at before place ++ jobs
+  pub elsewhere : (other : ℕ) → ¬ (other ≡ place) → put_at after other ≡ put_at before other
+
+-- commands from one number up to another were handed over
+pub record AreHandedOver (place from end : ℕ) (before after : List (List Job)) : Type 0 where
+  pub count : ℕ
+  pub together : from + count ≡ end
+  pub put : ArePutAt place (commands_from from count) before after
+
+-- how many commands are due: all from this one on that stand behind no more records than were dispatched, up to the first for which it is too early
+pub record AreDue (starts : List ℕ) (from number end : ℕ) : Type 0 where
+  pub up : from ≤ end
+  pub within : end ≤ length starts
+  pub due : (place : ℕ) → from ≤ place → place < end → slice_index starts place ≤ number
+  pub early : end < length starts → number < slice_index starts end
+
+-- so many records were dispatched, the commands up to one were handed over, and a round was asked for after every 64 records
+pub record AreDispatched (frames : List (List ℕ)) (workers number first next : ℕ) (puts : List (List Job)) : Type 0 where
+  pub are_put : ArePut frames workers number puts
+  pub enough : workers + 1 < length puts
+  pub count : ℕ
+  pub together : first + count ≡ next
+  pub commands : put_at puts workers ≡ commands_from first count
+  pub notes : put_at puts (workers + 1) ≡ replicate (number / 64) Note
+
+-- both were told to end
+pub record AreBothEnded (workers : ℕ) (before after : List (List Job)) : Type 0 where
+  pub controller : workers < length before → put_at after workers ≡ put_at before workers ++ End ∷ []
+  pub reclaimer : workers + 1 < length before → put_at after (workers + 1) ≡ put_at before (workers + 1) ++ End ∷ []

@@ -1,0 +1,29 @@
+//! What runs a program for the workers.
+
+ghost use Rattle.std.specs.Prelude.{IfSome};
+
+use crate::run_end::RunEnd;
+use std::alloc::Global;
+use wire::Sent;
+
+/// Runs a program on frames, on whichever thread. A worker has a state of its own, which each of its runs changes.
+pub trait Runner<S> {
+    ghost use Rattle.std.specs.Prelude.{ℕ};
+    ghost use Rattle.wire.specs.declared.records.Sent.{Sent as Record};
+    ghost use Rattle.replay.specs.declared.run_end.RunEnd.{RunEnd as End};
+
+    /// What is known of a worker's state before its first run.
+    ghost is_new: { Self → ℕ → S → Type 0 };
+
+    /// What is known of it between two runs.
+    ghost is_idle: { Self → ℕ → S → Type 0 };
+
+    /// What a run is: the worker, the record, its state before, what became of the frame, and its state after.
+    ghost runs: { Self → ℕ → Record → S → End → S → Type 0 };
+
+    /// Runs the program on a record's frame, for a worker. None where memory was refused, or the record has no Ethernet header.
+    fn run(&self, alloc: Global, worker: u8, sent: &Sent, state: &mut S) -> Option<RunEnd>
+        requires { is_idle self.now worker state.old }
+        ensures idle { is_idle self.now worker state.new }
+        ensures run { IfSome result (λ end. runs self.now worker sent.now state.old end state.new) };
+}

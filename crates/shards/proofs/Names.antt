@@ -1,0 +1,63 @@
+-- The names that a program picks for opened shards fit, and all callers wait for their passes.
+use Rattle.std.proofs.Common.{◌≡◌, ◌<◌, ◌+◌, ◌/◌, ℕ, zero, suc, Bool, false, true≢false, List, [], length, sym, ap, ◌∙◌, subst, arith}
+use Rattle.std.specs.Prelude.{Option, Some, None, replicate, slice_get}
+use Rattle.atomic_table.specs.Seated.{TableId}
+use Rattle.atomic_table.specs.declared.badge.Badge.{Badge}
+use Rattle.ebpf_decode.specs.declared.map.MapDef.{MapDef}
+use Rattle.semantics.specs.declared.options.Options.{Options}
+use Rattle.semantics.specs.declared.plan.ShardPlan.{ShardPlan}
+use Rattle.semantics.specs.ShardPlan.{plan_for_map}
+use Rattle.shards.specs.declared.rule.Known.{Known}
+use Rattle.semantics.specs.Each.{Each}
+use Rattle.shards.specs.NewShards.{NewShardView, no_shard, new_at, IsOpening, IsNamed, IsNamedAt, row_at, is_dealt_at, IsRowOf, IsDealer}
+use Rattle.shards.specs.HeldCells.{room_at, IsRoomOf}
+use Rattle.semantics.proofs.shared.EachLemmas.{within, at_or, each_at, each_start, or_within}
+
+-- a plan has the number that it was asked for
+number_of : (options : Options) (number : ℕ) (plan : ShardPlan) (found : Option MapDef) → plan_for_map options number found ≡ Some plan → plan.number ≡ number
+number_of options number plan None is = absurd (none_is_some is) where
+  none_is_some : None ≡ Some plan → ⊥
+  none_is_some e = subst (λ (o : Option ShardPlan). is_none o) e tt where
+    is_none : Option ShardPlan → Type 0
+    is_none None = Unit {0}
+    is_none (Some p) = ⊥
+number_of options number plan (Some definition) is = sym (ap (λ (o : Option ShardPlan). number_in o) is) where
+  number_in : Option ShardPlan → ℕ
+  number_in (Some p) = p.number
+  number_in None = 0
+
+pub named_each : (count : ℕ) (table : ℕ → TableId) (plan : ℕ → ShardPlan) (maps : List MapDef) (options : Options) (shards : List NewShardView) →
+    IsOpening maps options shards → IsNamed count table plan (record { maps = maps; options = options; shards = shards }) →
+    Each (IsNamedAt table plan) 0 shards
+named_each count table plan maps options shards opening named = each_start (IsNamedAt table plan) shards (λ number new there.
+    let is : new ≡ new_at shards number = at_or shards number new no_shard there in record {
+      table_is = ap (λ (n : NewShardView). n.table) is ∙ sym (named.table_is number);
+      plan_is = ap (λ (n : NewShardView). n.plan) is ∙ sym (named.plan_is number);
+      number_is = ap (λ (n : NewShardView). n.plan.number) is
+          ∙ number_of options number (new_at shards number).plan (slice_get maps (number / options.shards)) (opening.plans number (within shards number new there));
+    })
+
+-- and the reserve of the options
+-- among so many that are not dealt, only the places past the end count as dealt
+below_places : (places place : ℕ) → is_dealt_at (replicate places false) place ≡ false → place < places
+below_places zero place waits = absurd (true≢false waits)
+below_places (suc places) zero waits = omega arith
+below_places (suc places) (suc place) waits = (let rest = below_places places place waits in omega (arith, rest))
+
+pub all_wait : (table : ℕ → TableId) (plan : ℕ → ShardPlan) (count : ℕ) (rooms : List ℕ) (maps : List MapDef) (options : Options) (shards : List NewShardView) (rows : List (List (Badge Known))) (dealt : List Bool) →
+    IsOpening maps options shards → IsNamed count table plan (record { maps = maps; options = options; shards = shards }) → (length rooms ≡ length shards) → Each (IsRoomOf plan) 0 rooms → length rows ≡ length shards → Each (IsRowOf table shards) 0 rows →
+    dealt ≡ replicate (options.workers + 2) false → IsDealer table plan count rooms dealt rows
+all_wait table plan count rooms maps options shards rows dealt opening named as_many fit rows_are_as_many rows_are dealt_is = record {
+  sized = rows_are_as_many ∙ sym named.count_is;
+  waiting = λ number below place waits.
+      let there : number < length rows = (let a = rows_are_as_many in let count_is = named.count_is in omega (arith, a, count_is)) in
+      let row = each_at (IsRowOf table shards) rows number (row_at rows number) rows_are there (or_within rows [] (row_at rows number) number there) in
+      let few = below_places (options.workers + 2) place (ap (λ (d : List Bool). is_dealt_at d place) (sym dealt_is) ∙ waits) in
+      let long : place < length (row_at rows number) =
+      (let a = row.count in let b = opening.places number (let a = rows_are_as_many in omega (arith, a, there)) in omega (arith, a, b, few)) in
+      (long, row.fresh place long);
+  roomed = as_many ∙ sym named.count_is;
+  enough = λ number below.
+      let there : number < length rooms = (let count_is = named.count_is in omega (arith, count_is, below, as_many)) in
+      each_at (IsRoomOf plan) rooms number (room_at rooms number) fit there (or_within rooms 0 (room_at rooms number) number there);
+}

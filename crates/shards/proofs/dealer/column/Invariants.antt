@@ -1,0 +1,18 @@
+use Rattle.std.proofs.Common.{◌≡◌, ◌≢◌, ◌≤◌, ◌<◌, ℕ, length}
+use Rattle.std.specs.Prelude.{vec_capacity}
+use Rattle.shards.specs.NewShards.{row_at}
+use Rattle.shards.specs.Passes.{badge_at}
+use Rattle.shards.proofs.dealer.column.Given as goal
+
+pub record Taken (l : goal.Live-rows) : Type 0 where
+  pub counted : length l.seats.items ≡ l.number
+  pub end_is : l.number-end ≡ length l.fn.rows.items
+  pub same_count : length l.rows.items ≡ length l.fn.rows.items
+  pub room : length l.fn.rows.items ≤ vec_capacity l.seats
+  pub left : (k : ℕ) → l.number ≤ k → row_at l.rows.items k ≡ row_at l.fn.rows.items k
+  pub taken : (k : ℕ) → k < l.number → badge_at l.seats.items k ≡ badge_at (row_at l.fn.rows.items k) l.place
+  pub others : (k other : ℕ) → other ≢ l.place → badge_at (row_at l.rows.items k) other ≡ badge_at (row_at l.fn.rows.items k) other
+  pub lengths : (k : ℕ) → length (row_at l.rows.items k) ≡ length (row_at l.fn.rows.items k)
+
+abbrev pub invariant-rows : goal.invariant-rows
+invariant-rows l = Taken l

@@ -1,0 +1,15 @@
+use Rattle.std.proofs.Common.{rules, sym, subst}
+use Rattle.shards.specs.NewShards.{OpenedShards, IsNamed}
+use Rattle.shards.proofs.Names.{named_each, all_wait}
+use Rattle.shards.proofs.opening.Opened.share.Goals as goal
+
+pub parted-requires : goal.parted-requires
+parted-requires g c =
+    named_each g.B.Naming.count g.B.Naming.table g.B.Naming.plan c.self.inside.maps.items c.self.inside.options c.self.inside.shards.items c.self.invariant
+    (subst (λ (o : OpenedShards). IsNamed g.B.Naming.count g.B.Naming.table g.B.Naming.plan o) (sym c.self.view_is) c.requires.named)
+
+pub invariant_of-dealer : goal.invariant_of-dealer
+invariant_of-dealer g c =
+    all_wait g.B.Naming.table g.B.Naming.plan g.B.Naming.count c.in_ok-desks.rooms.items c.self.inside.maps.items c.self.inside.options c.self.inside.shards.items c.in_ok-desks.rows.items c.in_ok-dealt.dealt.items
+    c.self.invariant (subst (λ (o : OpenedShards). IsNamed g.B.Naming.count g.B.Naming.table g.B.Naming.plan o) (sym c.self.view_is) c.requires.named)
+    c.in_ok-desks.ensures.rooms.0 c.in_ok-desks.ensures.rooms.1 c.in_ok-desks.ensures.rows.0 c.in_ok-desks.ensures.rows.1 (search rules)

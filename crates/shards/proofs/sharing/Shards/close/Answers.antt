@@ -1,0 +1,59 @@
+use Rattle.std.proofs.Common.{◌<◌, ◌+◌, ℕ, List, [], ◌∷◌, length, sym, ap, ◌∙◌, subst, arith, length-append}
+use Rattle.std.specs.Prelude.{slice_index_or}
+use Rattle.semantics.specs.declared.call.Entry.{Entry}
+use Rattle.semantics.specs.History.{IsLegalJournal}
+use Rattle.journals.specs.JournalsView.{JournalsView, entries_at}
+use Rattle.shards.specs.CallerView.{IsSettled}
+use Rattle.shards.specs.Passes.{pass_at, view_at}
+use Rattle.shards.specs.SharedMaps.{IsWordOf}
+use Rattle.semantics.proofs.shared.EachLemmas.{each_at}
+use Rattle.shards.proofs.Settling.{legal_more, settled_more, untouched_less}
+use Rattle.shards.proofs.sharing.Shards.close.Goals as goal
+
+pub settled-journal-requires-clause-word : goal.settled-journal-requires-clause-word
+settled-journal-requires-clause-word g c =
+    let i = c.shards.invariant in
+    let number = c.shards.number in
+    let within : number < length c.self.inside.words.items =
+    (let t = i.together in let e = c.shards-test.true in let w = i.words in omega (arith, t, e, w)) in
+    each_at (λ n w. IsWordOf (g.B.Naming.table n) w) c.self.inside.words.items number c.index.result.now i.words_are within c.index.ensures
+
+pub shards-preserved : goal.shards-preserved
+shards-preserved g c =
+    let i = c.shards.invariant in
+    let old = c.args.passes.items in
+    let now = c.shards.passes.items in
+    let after = c.settled-journal.new.passes.items in
+    let number = c.shards.number in
+    let journals : List (List Entry) = c.shards.journals.items in
+    let journal : List Entry = c.settled-journal.result in
+    let s = c.settled-journal.ensures in
+    let items = c.push_reserved.ensures.items in
+    record {
+      count_is = i.count_is;
+      together = (let t = i.together in let shorter = c.remove.ensures.len in let a = c.shards.desks.ok.0 in let b = c.remove.new.self.ok.0 in let e = c.shards-test.true in omega (arith, t, shorter, a, b, e));
+      small = i.small;
+      words = i.words;
+      words_are = i.words_are;
+      maps = i.maps;
+      options = i.options;
+      maps_are = i.maps_are;
+      options_fit = i.options_fit;
+      one_each = i.one_each;
+      made = ap (λ xs. length xs) items ∙ length-append journals (journal ∷ []) ∙ ap (λ n. n + 1) i.made;
+      room = (let r = i.room in let grown = c.push_reserved.ensures.capacity in omega (arith, r, grown));
+      passes = s.count ∙ i.passes;
+      legal = subst (λ (js : List (List Entry)). (k : ℕ) → k < number + 1 → IsLegalJournal (g.B.Naming.plan k) (slice_index_or js k [])) (sym items)
+          (legal_more old now after journals number journal i.made g.B.Naming.plan s.legal i.legal);
+      callers = λ k. s.callers k ∙ i.callers k;
+      untouched = untouched_less old now after journals number journal i.made i.callers i.untouched i.passes s.others;
+      settled = subst (λ (js : List (List Entry)). (k m : ℕ) → k < length old → m < number + 1 → IsSettled (pass_at old k).who (view_at (pass_at old k) m) (slice_index_or js m [])) (sym items)
+          (settled_more old now after journals number journal i.made i.callers i.untouched i.passes s.settled i.settled);
+    }
+
+pub returns-clause-settled : goal.returns-clause-settled
+returns-clause-settled g c =
+    let i = c.shards.invariant in
+    λ place below number less.
+    subst (λ (js : JournalsView). IsSettled (pass_at c.args.passes.items place).who (view_at (pass_at c.args.passes.items place) number) (entries_at js number)) (sym c.of.ensures)
+    (i.settled place number below (let t = i.together in let e = c.shards-test.false in let n = i.count_is in omega (arith, t, e, n, less)))

@@ -1,0 +1,31 @@
+use Rattle.std.proofs.Common.{◌≡◌, ◌≤◌, ◌<◌, ◌+◌, ◌*◌, ℕ, [], length}
+use Rattle.std.specs.Prelude.{vec_capacity, slice_index_or}
+use Rattle.semantics.specs.ShardPlan.{AreOptions}
+use Rattle.semantics.specs.History.{IsLegalJournal}
+use Rattle.journals.specs.JournalsView.{AreImageMaps}
+use Rattle.shards.specs.CallerView.{IsSettled}
+use Rattle.shards.specs.Passes.{pass_at, view_at}
+use Rattle.shards.specs.SharedMaps.{AreWords}
+use Rattle.shards.proofs.sharing.Shards.close.Given as goal
+
+pub record Closed (g : goal.Over) (l : goal.Live-shards g) : Type 0 where
+  pub count_is : l.count ≡ g.B.Naming.count
+  pub together : l.number + length l.desks.items ≡ l.count
+  pub small : l.count ≤ 128
+  pub words : length l.words.items ≡ l.count
+  pub words_are : AreWords g.B.Naming.table l.words.items
+  pub maps : l.maps.items ≡ l.fn.self.maps
+  pub options : l.options ≡ l.fn.self.options
+  pub maps_are : AreImageMaps l.maps.items
+  pub options_fit : AreOptions l.maps.items l.options
+  pub one_each : l.count ≡ length l.maps.items * l.options.shards
+  pub made : length l.journals.items ≡ l.number
+  pub room : l.count ≤ vec_capacity l.journals
+  pub passes : length l.passes.items ≡ length l.fn.passes.items
+  pub legal : (k : ℕ) → k < l.number → IsLegalJournal (g.B.Naming.plan k) (slice_index_or l.journals.items k [])
+  pub callers : (k : ℕ) → (pass_at l.passes.items k).who ≡ (pass_at l.fn.passes.items k).who
+  pub untouched : (k m : ℕ) → l.number ≤ m → view_at (pass_at l.passes.items k) m ≡ view_at (pass_at l.fn.passes.items k) m
+  pub settled : (k m : ℕ) → k < length l.fn.passes.items → m < l.number → IsSettled (pass_at l.fn.passes.items k).who (view_at (pass_at l.fn.passes.items k) m) (slice_index_or l.journals.items m [])
+
+abbrev pub invariant-shards : goal.invariant-shards
+invariant-shards g l = Closed g l

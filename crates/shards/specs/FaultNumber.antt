@@ -1,8 +1,0 @@
--- The number of each fault, as its text prints it.
-use Rattle.std.specs.Prelude.{ℕ}
-use Rattle.shards.specs.declared.fault.OpenFault.{OpenFault}
-use Rattle.shards.specs.declared.fault.OpenFault.TheVariants.{BadOptions, Memory}
-
-abbrev pub open_fault_number : OpenFault → ℕ
-open_fault_number BadOptions = 51
-open_fault_number Memory = 52

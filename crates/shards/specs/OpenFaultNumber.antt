@@ -1,0 +1,8 @@
+-- The number of each fault, as its text prints it.
+use Rattle.std.specs.Prelude.{ℕ}
+use Rattle.shards.specs.declared.open_fault.OpenFault.{OpenFault}
+use Rattle.shards.specs.declared.open_fault.OpenFault.TheVariants.{BadOptions, Memory}
+
+abbrev pub open_fault_number : OpenFault → ℕ
+open_fault_number BadOptions = 51
+open_fault_number Memory = 52

@@ -1,0 +1,66 @@
+//! The end of all calls.
+
+ghost use Rattle.std.specs.Prelude.{◌≡◌, ◌≢◌, ◌<◌, ℕ, length};
+ghost use Rattle.semantics.specs.History.{IsLegalJournal};
+ghost use Rattle.journals.specs.JournalsView.{entries_at};
+ghost use Rattle.shards.specs.CallerView.{IsSettled};
+ghost use Rattle.shards.specs.Passes.{pass_at, view_at, AreSettled};
+
+use crate::naming::Naming;
+use crate::pass::Pass;
+use crate::rule::Length;
+use crate::sharing::{Desk, Shards};
+use journals::{Journals, ShardJournal};
+use std::sync::Wait;
+
+impl<B: Naming> Shards<B> {
+    /// Ends all calls, and gives the journals, each of which is legal. Of each pass that is handed in, what it saw is a beginning of the
+    /// journal, and its own entries are all that the journal has of its caller. Takes no memory.
+    pub fn close(self, rt: &impl Wait, mut passes: Vec<Pass<B>>) -> Journals
+        ensures maps { result.maps ≡ self.maps }
+        ensures options { result.options ≡ self.options }
+        ensures count { length result.shards ≡ B.count }
+        ensures legal { (number : ℕ) → number < B.count → IsLegalJournal (B.plan number) (entries_at result number) }
+        ensures settled { (place : ℕ) → place < length passes.items → AreSettled B.count result (pass_at passes.items place) }
+    {
+        let Shards {
+            mut desks,
+            words,
+            maps,
+            options,
+            mut journals,
+            ..
+        } = self;
+        let count = desks.len();
+        'shards: for number in 0..count {
+            let desk = desks.remove(0).into_inner();
+            desk.wait_unless(rt, number as u32);
+            let journal = settled(desk, &words[number], number as u32, &mut passes);
+            journals.push_reserved(journal);
+        }
+        Journals::of(maps, options, journals)
+    }
+}
+
+/// The journal of a shard that nobody calls any more, compared with the passes.
+fn settled<B: Naming>(
+    mut desk: Desk<B>,
+    word: &Length,
+    number: u32,
+    passes: &mut Vec<Pass<B>>,
+) -> ShardJournal
+    requires number { (desk.plan.number ≡ number) × (number < B.count) }
+    requires word { (word.now.shared.table_id ≡ B.table number) × (0 < word.now.shared.table_id.words) }
+    ensures legal { IsLegalJournal (B.plan number) result }
+    ensures settled { (place : ℕ) → place < length passes.old.items →
+        IsSettled (pass_at passes.old.items place).who (view_at (pass_at passes.old.items place) number) result }
+    ensures count { length passes.new.items ≡ length passes.old.items }
+    ensures callers { (place : ℕ) → (pass_at passes.new.items place).who ≡ (pass_at passes.old.items place).who }
+    ensures others { (place other : ℕ) → other ≢ number →
+        view_at (pass_at passes.new.items place) other ≡ view_at (pass_at passes.old.items place) other }
+{
+    'passes: for place in 0..passes.len() {
+        passes[place].settle(&mut desk, word, number);
+    }
+    desk.close()
+}

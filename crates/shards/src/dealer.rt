@@ -1,0 +1,102 @@
+//! Who deals the passes.
+
+ghost use Rattle.std.specs.Prelude.{◌≡◌, ◌≢◌, ◌≤◌, ◌<◌, ◌↔◌, ℕ, true, List, [], length, vec_capacity, IfOk, IsErrOf, OnOk, OnErr, slice_set};
+ghost use Rattle.shards.specs.CallerView.{nothing_seen};
+ghost use Rattle.shards.specs.LengthRule.{place_of};
+ghost use Rattle.shards.specs.NewShards.{row_at, is_dealt_at};
+ghost use Rattle.shards.specs.Passes.{badge_at, view_at};
+ghost use Rattle.shards.specs.declared.pass_fault.PassFault.TheVariants.{BadOptions, PassTaken};
+
+use crate::held::none_held;
+use crate::naming::Naming;
+use crate::pass::Pass;
+use crate::pass_fault::PassFault;
+use crate::rule::Known;
+use crate::waiting::Waiting;
+use atomic_table::Badge;
+use semantics::Caller;
+use std::alloc::Global;
+use std::marker::{Model, PhantomData};
+
+/// The right to deal each caller its one pass: what is not dealt yet cannot be shared, so it stands beside the shards. Contracts see which
+/// passes were dealt: the controller's, the reclaimer's, then the workers' by their numbers.
+#[derive(Drop)]
+pub struct Dealer<B: Naming> {
+    /// The seats of each shard.
+    pub(crate) rows: Vec<Waiting>,
+    pub(crate) dealt: Vec<bool>,
+    /// How many cells a worker can hold in each shard.
+    pub(crate) rooms: Vec<usize>,
+    pub(crate) names: PhantomData<B>,
+}
+
+impl<B: Naming> Model for Dealer<B> {
+    ghost use Rattle.std.specs.Prelude.{List, Bool};
+    ghost use Rattle.shards.specs.NewShards.{IsDealer};
+
+    ghost Value = { List Bool };
+
+    ghost view = { λ dealer. dealer.dealt.items };
+
+    ghost invariant = { λ dealer. IsDealer B.table B.plan B.count dealer.rooms.items dealer.dealt.items dealer.rows.items };
+}
+
+impl<B: Naming> Dealer<B> {
+    /// The caller's pass, which has seen nothing. Takes the memory for the cells that a worker can hold. Refused with 51 where there is no
+    /// such worker, with 54 where the pass was dealt before, and with 52 for lack of memory; then nothing is changed.
+    pub fn pass(&mut self, alloc: Global, who: Caller) -> Result<Pass<B>, PassFault>
+        ensures who { IfOk result (λ pass. pass.who ≡ who) }
+        ensures nothing { IfOk result (λ pass. (number : ℕ) → view_at pass number ≡ nothing_seen) }
+        ensures dealt { OnOk result (self.new ≡ slice_set self.old (place_of who) true) }
+        ensures bad_options { IsErrOf result BadOptions ↔ (length self.old ≤ place_of who) }
+        ensures taken { IsErrOf result PassTaken ↔ (place_of who < length self.old) × (is_dealt_at self.old (place_of who) ≡ true) }
+        ensures refused_unchanged { OnErr result (self.new ≡ self.old) }
+    {
+        let place = place_of(who);
+        if place >= self.dealt.len() {
+            return Err(PassFault::BadOptions);
+        }
+        if self.dealt[place] {
+            return Err(PassFault::PassTaken);
+        }
+        let inside = vec![in alloc; false; self.rows.len()]?;
+        let held = none_held(alloc, who, &self.rooms)?;
+        let seats = Vec::with_capacity(alloc, self.rows.len())?;
+        self.dealt[place] = true;
+        let seats = column(&mut self.rows, place, seats);
+        Ok(Pass {
+            who,
+            seats,
+            inside,
+            held,
+            names: PhantomData,
+        })
+    }
+}
+
+/// The caller's place among all.
+fn place_of(who: Caller) -> usize
+    ensures { result ≡ place_of who }
+{
+    match who {
+        Caller::Controller => 0,
+        Caller::Reclaimer => 1,
+        Caller::Worker { number } => number as usize + 2,
+    }
+}
+
+/// Takes the seats of one caller out of all rows.
+fn column(rows: &mut Vec<Waiting>, place: usize, mut seats: Vec<Badge<Known>>) -> Vec<Badge<Known>>
+    requires empty { seats.items ≡ [] }
+    requires room { length rows.old.items ≤ vec_capacity seats }
+    requires within { (number : ℕ) → number < length rows.old.items → place < length (row_at rows.old.items number) }
+    ensures count { (length result.items ≡ length rows.old.items) × (length rows.new.items ≡ length rows.old.items) }
+    ensures taken { (number : ℕ) → number < length rows.old.items → badge_at result.items number ≡ badge_at (row_at rows.old.items number) place }
+    ensures others { (number other : ℕ) → other ≢ place → badge_at (row_at rows.new.items number) other ≡ badge_at (row_at rows.old.items number) other }
+    ensures lengths { (number : ℕ) → length (row_at rows.new.items number) ≡ length (row_at rows.old.items number) }
+{
+    'rows: for number in 0..rows.len() {
+        seats.push_reserved(rows[number].take(place));
+    }
+    seats
+}

@@ -1,5 +1,0 @@
-pub mod UpdateLemmas
-pub mod OpeningLemmas
-pub mod RunLemmas
-pub mod AloneLemmas
-pub mod PushLemmas

@@ -1,9 +1,0 @@
-pub mod shared
-pub mod ListLemmas
-pub mod PutLemmas
-pub mod ShareLemmas
-pub mod RunLemmas
-pub mod PartLemmas
-pub mod HandLemmas
-pub mod DispatchLemmas
-pub mod TakeLemmas

@@ -1,2 +1,0 @@
--- Lemmas that other crates cite.
-pub mod AccountLemmas
