@@ -5,7 +5,7 @@ ghost use Rattle.semantics.specs.History.{meets};
 ghost use Rattle.audit.specs.HeldCells.{AreHeld};
 
 use crate::held_cells::HeldCells;
-use one_thread_map::sections::{Sections, meets};
+use map_rules::sections::{Sections, meets};
 use semantics::{Call, Caller, ShardPlan};
 use shard_core::Shard;
 use std::marker::Model;

@@ -1,2 +1,1 @@
-mod NewestLemmas
 pub mod SizeLemmas

@@ -1,2 +1,1 @@
 pub mod OneThread
-pub mod Standings

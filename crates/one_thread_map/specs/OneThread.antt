@@ -4,7 +4,6 @@ use Rattle.semantics.specs.declared.call.Entry.{Entry}
 use Rattle.semantics.specs.declared.call.Call.{Call}
 use Rattle.semantics.specs.declared.call.Call.TheVariants.{Enter, Leave, Lookup, Load, Store, Atomic, Update, Delete, Reclaim}
 use Rattle.one_thread_map.specs.declared.state.ShardState.{ShardState}
-use Rattle.one_thread_map.specs.declared.answers.Counts.{Counts}
 use Rattle.semantics.specs.declared.plan.ShardPlan.{ShardPlan}
 use Rattle.semantics.specs.PlanLimits.{IsPlan}
 use Rattle.semantics.specs.SequentialShard.{SequentialShard, shard_after}
@@ -22,10 +21,6 @@ with_entry shard entry = record { plan = shard.plan; history = entry ∷ shard.h
 -- the lists that the fields hold
 abbrev pub state_of : ShardState → SequentialShard
 state_of state = record { present = state.present.items; cells = state.cells.items; retired = state.retired.items }
-
--- whatever state has as many keys, and as many retired cells that wait
-abbrev pub AsCounted : Counts → (SequentialShard → Type 0) → Type 0
-AsCounted counts is = (state : SequentialShard) → counts.present ≡ length state.present → counts.waiting ≡ length state.retired → is state
 
 -- the state is what the journal leads to, and the journal is legal
 pub record IsOneThread (plan : ShardPlan) (journal : List Entry) (state : SequentialShard) : Type 0 where

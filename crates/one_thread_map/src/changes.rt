@@ -10,13 +10,14 @@ ghost use Rattle.semantics.specs.SequentialShard.{after_eviction, with_new_key, 
 ghost use Rattle.semantics.specs.SequentialShard.{delete_answer, present_key, shard_after_call};
 
 use crate::answers::{
-    Counts, cell_of_key, changed_by, delete_answer, is_full_of_keys, number_in_cell, update_answer,
+    cell_of_key, changed_by, counts_of, delete_answer, number_in_cell, update_answer,
 };
 use crate::state::{
     ShardState, cell_bytes, least_recently_used, present_key, put_cell, put_present, put_retired,
     remove_present, remove_reclaimable, set_cell,
 };
 use isa::AtomicOp;
+use map_rules::answers::is_full_of_keys;
 use semantics::little_endian::bytes_of_number;
 use semantics::{Call, Entry, Key, PresentKey, RetiredCell, ShardPlan, Value};
 use std::alloc::AllocError;
@@ -59,7 +60,7 @@ fn evict(plan: &ShardPlan, journal: &[Entry], state: &mut ShardState)
     ensures present_len { vec_len state.new.present ≤ vec_len state.old.present }
     ensures present_room { vec_capacity state.new.present ≡ vec_capacity state.old.present }
 {
-    if is_full_of_keys(plan, Counts::of(state)) {
+    if is_full_of_keys(plan, counts_of(state)) {
         if let Some(gone) = least_recently_used(journal, &state.present) {
             retire(state, gone, journal.len() as u64);
         }

@@ -1,4 +1,4 @@
-//! What a journal tells by the places of its entries: who is inside, who holds a cell, when a key was used.
+//! What a journal says by the places of its entries: who is inside, which retired cells may be freed, when a key was used.
 //!
 //! A journal has its oldest entry first; the definitions speak of the history, which has its newest entry first.
 
@@ -6,21 +6,17 @@ ghost use Rattle.std.specs.Prelude.{◌≡◌, ◌==◌, ◌+◌, ◌<◌, ◌^�
 ghost use Rattle.std.specs.Prelude.{vec_len, vec_capacity, ◌++◌, ◌∷◌, [], Some, slice_get};
 ghost use Rattle.semantics.specs.declared.call.Entry.{Entry};
 ghost use Rattle.std.specs.List.{list_all};
-ghost use Rattle.semantics.specs.Reclamation.{is_worker, entered_where, entered_by, entered_at, is_inside, held_change, held_where, held_by, holds};
+ghost use Rattle.semantics.specs.Reclamation.{entered_where, entered_by, entered_at, is_inside};
 ghost use Rattle.semantics.specs.Reclamation.{worker_numbers, inside_count, began_after, is_reclaimable};
 ghost use Rattle.semantics.specs.LeastRecentlyUsed.{last_use};
+ghost use Rattle.semantics.specs.History.{journal_is_full};
 
-use semantics::{Call, Caller, Entry, HeldChange, Key, Reply, RetiredCell, SectionChange};
+use map_rules::conditions::is_full_with;
+use map_rules::held::is_worker;
+use semantics::{Call, Entry, Key, RetiredCell, SectionChange, ShardPlan};
 
 /// The numbers that workers may have.
 const WORKER_NUMBERS: [u8; 8] = [0, 1, 2, 3, 4, 5, 6, 7];
-
-/// Whether the caller is the worker of this number.
-fn is_worker(worker: u8, who: &Caller) -> bool
-    ensures { result ≡ is_worker worker who.now }
-{
-    who.worker() == Some(worker)
-}
 
 /// Where a worker's own call at a place begins or ends a section: where the section then began, if there is one.
 fn entered_by(call: &Call, place: u64) -> Option<Option<u64>>
@@ -73,62 +69,6 @@ fn count_inside(workers: &[u8], journal: &[Entry]) -> usize
         .count()
 }
 
-/// Where a worker's own entry decides whether it then holds the cell: the answer.
-fn held_by(call: &Call, reply: &Reply, cell: u64) -> Option<bool>
-    ensures { (before : Bool) → unwrap_or result before ≡ held_by call.now reply.now cell before }
-{
-    match HeldChange::of(call, reply) {
-        HeldChange::LetsGo => Some(false),
-        HeldChange::Finds { id } => if id == cell { Some(true) } else { None },
-        HeldChange::Stays => None,
-    }
-}
-
-/// Entries by their places, the oldest first.
-pub trait Entries {
-    /// The list of them.
-    ghost entries: { Self → List Entry };
-
-    /// How many there are.
-    fn len(&self) -> usize
-        ensures { result ≡ length (entries self.now) };
-
-    /// The entry at a place, counted from 0.
-    fn entry(&self, place: usize) -> Entry
-        requires { place < length (entries self.now) }
-        ensures { slice_get (entries self.now) place ≡ Some result };
-}
-
-impl Entries for Vec<Entry> {
-    ghost entries = { λ list. list.items };
-
-    fn len(&self) -> usize {
-        self.len()
-    }
-
-    fn entry(&self, place: usize) -> Entry {
-        self[place]
-    }
-}
-
-/// Whether the worker holds the cell: since its last Enter, which no Leave follows, a Lookup of its own found it. Reads the entries from the
-/// newest one back to the worker's Enter or Leave.
-pub fn holds<J: Entries>(worker: u8, cell: u64, journal: &J) -> bool
-    ensures { result ≡ holds worker cell (reverse (J.entries journal.now)) }
-{
-    let mut older = journal.len();
-    'newer: while older > 0 {
-        older -= 1;
-        let entry = journal.entry(older);
-        if is_worker(worker, &entry.who) {
-            if let Some(answer) = held_by(&entry.call, &entry.reply, cell) {
-                return answer;
-            }
-        }
-    }
-    false
-}
-
 /// Whether a section that began at this place, if there is one, began after another place.
 fn began_after(since: u64, entered: Option<u64>) -> bool
     ensures { result ≡ began_after since entered }
@@ -177,4 +117,11 @@ pub(crate) fn put_entry(journal: &mut Vec<Entry>, entry: Entry)
     if journal.extend_from_slice(&[entry]).is_err() {
         unreachable!()
     }
+}
+
+/// Whether the journal is full for this call.
+pub fn journal_is_full(plan: &ShardPlan, journal: &[Entry], call: &Call) -> bool
+    ensures { result ≡ journal_is_full plan.now (reverse journal.now) call.now }
+{
+    is_full_with(plan, journal.len(), inside_count(journal), call)
 }

@@ -8,10 +8,10 @@ ghost use Rattle.one_thread_map.specs.OneThread.{with_entry};
 
 use crate::answers::reply_of;
 use crate::changes::apply;
-use crate::conditions::journal_is_full;
-use crate::history::{holds, is_inside, put_entry};
-use crate::sections::{Sections, meets};
+use crate::history::{is_inside, journal_is_full, put_entry};
 use crate::state::{ShardState, opening_cells};
+use map_rules::held::holds;
+use map_rules::sections::{Sections, meets};
 use semantics::{Call, Caller, Entry, Reply, ShardPlan};
 use std::alloc::{AllocError, Global};
 use std::marker::Model;

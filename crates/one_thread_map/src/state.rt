@@ -11,6 +11,7 @@ ghost use Rattle.semantics.specs.SequentialShard.{opening_cells, cell_of_index, 
 
 use crate::history::{is_reclaimable, last_use};
 use ebpf_decode::MapKind;
+use map_rules::opening::zeros;
 use semantics::{Entry, Key, PresentKey, RetiredCell, ShardPlan, Value};
 use std::alloc::{AllocError, Global};
 
@@ -142,18 +143,6 @@ pub fn set_cell(cells: &mut Vec<Value>, cell: u64, value: Value)
     if cell < cells.len() as u64 {
         cells[cell as usize] = value;
     }
-}
-
-/// So many bytes of zeros.
-pub fn zeros(size: u32) -> Value
-    requires { size ≤ 256 }
-    ensures { result ≡ replicate size 0 }
-{
-    let mut value = Value::empty();
-    for _ in 0..size {
-        value.append(&[0]);
-    }
-    value
 }
 
 /// The cells with which a shard is opened: an array has one of zeros for each of its indices.

@@ -5,7 +5,7 @@ ghost use Rattle.semantics.specs.declared.call.Caller.TheVariants.{Controller};
 ghost use Rattle.replay.specs.SharedUpdates.{HasUpdateOf, shard_of_update};
 
 use control::UpdatePort;
-use one_thread_map::conditions::shard_of_map;
+use map_rules::conditions::shard_of_map;
 use semantics::facts::bytes_have_8_bits;
 use semantics::{JournalFull, Key, UpdateFlags, Value};
 use shards::{Naming, Pass, Shards};

@@ -1,6 +1,6 @@
 -- The numbers of the faults for which no run is made.
 use Rattle.std.specs.Prelude.{ℕ}
-use Rattle.shards.specs.OpenFaultNumber.{open_fault_number}
+use Rattle.map_rules.specs.OpenFaultNumber.{open_fault_number}
 use Rattle.runs.specs.declared.fault.RunFault.{RunFault}
 use Rattle.runs.specs.declared.fault.RunFault.TheVariants.{Open, Refused, Full}
 

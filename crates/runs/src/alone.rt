@@ -4,7 +4,7 @@ ghost use Rattle.std.specs.Prelude.{◌≡◌, ◌⊎◌, ◌≤◌, ◌↔◌, 
 ghost use Rattle.semantics.specs.MachineState.{initial_state};
 ghost use Rattle.semantics.specs.ShardPlan.{are_served_options};
 ghost use Rattle.machine.specs.Running.{program_of};
-ghost use Rattle.shards.specs.declared.open_fault.OpenFault.TheVariants.{BadOptions};
+ghost use Rattle.map_rules.specs.declared.open_fault.OpenFault.TheVariants.{BadOptions};
 ghost use Rattle.map_updates.specs.Misfits.{AreFitting};
 ghost use Rattle.runs.specs.declared.fault.RunFault.TheVariants.{Open};
 ghost use Rattle.runs.specs.SingleRuns.{HasRunAlone, HasStoppedAlone, IsWhyNone};

@@ -47,7 +47,7 @@ impl From<OpenFault> for RunFault {
 
 impl From<AllocError> for RunFault {
     ghost use Rattle.std.specs.Prelude.{◌≡◌};
-    ghost use Rattle.shards.specs.declared.open_fault.OpenFault.TheVariants.{Memory};
+    ghost use Rattle.map_rules.specs.declared.open_fault.OpenFault.TheVariants.{Memory};
     ghost use Rattle.runs.specs.declared.fault.RunFault.TheVariants.{Open};
 
     ghost from_gives = { λ _ fault. fault ≡ Open Memory };

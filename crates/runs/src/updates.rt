@@ -7,7 +7,7 @@ ghost use Rattle.semantics.specs.ShardPlan.{AreOptions};
 ghost use Rattle.shards.specs.Opening.{AreOpened};
 ghost use Rattle.shard_port.specs.PortView.{ServesMaps};
 ghost use Rattle.map_updates.specs.Misfits.{misfit_of, AreFitting};
-ghost use Rattle.shards.specs.declared.open_fault.OpenFault.TheVariants.{BadOptions};
+ghost use Rattle.map_rules.specs.declared.open_fault.OpenFault.TheVariants.{BadOptions};
 ghost use Rattle.runs.specs.declared.fault.RunFault.TheVariants.{Open};
 ghost use Rattle.runs.specs.SingleRuns.{IsWhyNone};
 ghost use Rattle.runs.specs.Updates.{served_by, shard_of_update, AreUpdated, may_update, IsMade, IsFull};
@@ -15,7 +15,7 @@ ghost use Rattle.runs.specs.Updates.{served_by, shard_of_update, AreUpdated, may
 use crate::fault::RunFault;
 use ebpf_decode::{Image, MapDef};
 use map_updates::MapUpdate;
-use one_thread_map::conditions::shard_of_map;
+use map_rules::conditions::shard_of_map;
 use semantics::facts::bytes_have_8_bits;
 use semantics::{Caller, JournalFull, Options, UpdateFlags};
 use shard_port::laws::{calls_keep_serving, opened_serve};

@@ -13,6 +13,6 @@ mod rule;
 
 pub use flow_spread::spread;
 pub use job::Job;
+pub use map_rules::OpenFault;
 pub use passes::{PutPass, Queues, TakePass};
 pub use semantics::Caller;
-pub use shards::OpenFault;

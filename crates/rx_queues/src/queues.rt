@@ -6,14 +6,14 @@ ghost use Rattle.crossbeam_queue.specs.Passes.{view, IsPassOf, ruled_capacity};
 ghost use Rattle.rx_queues.specs.Fifo.{IsTakenInOrder, known};
 ghost use Rattle.rx_queues.specs.Passes.{queue_of, HasQueue, workers_of, jobs_put, jobs_taken, jobs_put_for, with_job_at, IsPutPassOf};
 ghost use Rattle.rx_queues.specs.Passes.{IsTakePassOf, place_taken_from, AreTakePasses, IsPutPassFor, IsTakePassFor, WasFull};
-ghost use Rattle.shards.specs.declared.open_fault.OpenFault.TheVariants.{BadOptions};
+ghost use Rattle.map_rules.specs.declared.open_fault.OpenFault.TheVariants.{BadOptions};
 
 use crate::job::Job;
 use crate::passes::{PutPass, Queues, TakePass};
 use crate::patience::{Bell, Patience, SPINS};
 use crate::rule::{Puts, Queue, QueuePass, Roles, Takes};
+use map_rules::OpenFault;
 use semantics::Caller;
-use shards::OpenFault;
 use std::alloc::{AllocError, Global};
 use std::hint;
 use std::sync::Wait;

@@ -6,7 +6,7 @@ ghost use Rattle.shard_core.specs.JournaledShard.{sequential_reply, with_entry};
 
 use crate::shard::Shard;
 use journal::{AtomicChange, CellRange};
-use one_thread_map::answers::lookup_reply;
+use map_rules::answers::lookup_reply;
 use semantics::{Call, Caller, CellRef, JournalFull, Reply};
 
 impl Shard {

@@ -5,8 +5,8 @@ ghost use Rattle.semantics.specs.Reclamation.{is_inside, holds};
 ghost use Rattle.semantics.specs.History.{meets};
 
 use crate::shard::Shard;
-use one_thread_map::history::{Entries, holds};
-use one_thread_map::sections::{Sections, meets};
+use map_rules::held::{Entries, holds};
+use map_rules::sections::{Sections, meets};
 use semantics::{Call, Caller, Entry, ShardPlan};
 
 impl Shard {

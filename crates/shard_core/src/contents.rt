@@ -9,7 +9,7 @@ ghost use Rattle.shard_core.specs.Contents.{opened_table, filled_table, with_evi
 use crate::keys::KeyTable;
 use ebpf_decode::MapKind;
 use map_cells::Cells;
-use one_thread_map::state::zeros;
+use map_rules::opening::zeros;
 use semantics::ShardPlan;
 use std::alloc::{AllocError, Global};
 

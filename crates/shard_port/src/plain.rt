@@ -12,7 +12,7 @@ ghost use Rattle.std.specs.List.{AllByRecursion};
 use ebpf_decode::Image;
 use isa::AtomicOp;
 use map_port::MapPort;
-use one_thread_map::conditions::shard_of_map;
+use map_rules::conditions::shard_of_map;
 use semantics::{Call, Caller, CellRef, JournalFull, Key, Options, Reply, Value};
 use shard_core::Shard;
 use shards::{PlainShards, maps_of};

@@ -13,7 +13,7 @@ use crate::schedule_hook::{Gate, Tally};
 use isa::AtomicOp;
 use journal::{AtomicChange, CellRange};
 use map_port::MapPort;
-use one_thread_map::conditions::shard_of_map;
+use map_rules::conditions::shard_of_map;
 use semantics::{JournalFull, Key, Value};
 use shards::{Ask, Changes, Deletes, Loads, Looks, Naming, Pass, Shards, Stopped, Stores, Updates};
 use std::sync::Wait;

@@ -1,7 +1,6 @@
 -- The definitions that the contracts of this crate cite, in reading order.
 pub mod Opening
 pub mod Lending
-pub mod OpenFaultNumber
 pub mod CallerView
 pub mod LengthRule
 pub mod EntryCounts

@@ -10,7 +10,6 @@ mod held;
 pub mod laws;
 mod naming;
 mod new_shard;
-mod open_fault;
 mod opening;
 mod pass;
 mod pass_fault;
@@ -25,8 +24,8 @@ pub use asks::{
     Ask, Calls, Changes, Deletes, Enters, Leaves, Loads, Looks, Reclaims, Stores, Updates,
 };
 pub use dealer::Dealer;
+pub use map_rules::OpenFault;
 pub use naming::Naming;
-pub use open_fault::OpenFault;
 pub use opening::Opened;
 pub use pass::Pass;
 pub use pass_fault::PassFault;

@@ -6,11 +6,11 @@ ghost use Rattle.std.specs.List.{AllByRecursion};
 ghost use Rattle.semantics.specs.PlanLimits.{HasImageSizes};
 ghost use Rattle.semantics.specs.ShardPlan.{AreOptions, are_served_options};
 ghost use Rattle.shards.specs.Opening.{AreOpened};
-ghost use Rattle.shards.specs.declared.open_fault.OpenFault.TheVariants.{BadOptions};
+ghost use Rattle.map_rules.specs.declared.open_fault.OpenFault.TheVariants.{BadOptions};
 
-use crate::open_fault::OpenFault;
 use crate::plain_opening::open_each;
 use ebpf_decode::{Image, MapDef};
+use map_rules::OpenFault;
 use shard_core::{Options, Shard};
 use std::alloc::{AllocError, Global};
 use std::marker::Model;

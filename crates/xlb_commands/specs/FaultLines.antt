@@ -16,8 +16,8 @@ use Rattle.wire.specs.declared.frame_buffer.FrameFault.{FrameFault}
 use Rattle.wire.specs.declared.frame_buffer.FrameFault.TheVariants as frame
 use Rattle.wire.specs.declared.capture_fault.CaptureFault.{CaptureFault}
 use Rattle.wire.specs.declared.capture_fault.CaptureFault.TheVariants as capture
-use Rattle.shards.specs.declared.open_fault.OpenFault.{OpenFault}
-use Rattle.shards.specs.declared.open_fault.OpenFault.TheVariants as options
+use Rattle.map_rules.specs.declared.open_fault.OpenFault.{OpenFault}
+use Rattle.map_rules.specs.declared.open_fault.OpenFault.TheVariants as options
 use Rattle.machine.specs.declared.exit.Stop.{Stop}
 use Rattle.machine.specs.declared.exit.Stop.TheVariants as stop
 use Rattle.journals.specs.declared.fault.FileFault.{FileFault}

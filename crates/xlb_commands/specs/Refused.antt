@@ -37,7 +37,7 @@ use Rattle.wire.specs.CaptureFormat.{Refuses as RefusesCapture}
 use Rattle.semantics.specs.declared.options.Options.{Options}
 use Rattle.semantics.specs.declared.verdict.Verdict.{Verdict}
 use Rattle.semantics.specs.ShardPlan.{are_served_options}
-use Rattle.shards.specs.declared.open_fault.OpenFault.TheVariants as opens
+use Rattle.map_rules.specs.declared.open_fault.OpenFault.TheVariants as opens
 use Rattle.machine.specs.declared.exit.Stop.{Stop}
 use Rattle.map_updates.specs.Misfits.{AreFitting}
 use Rattle.map_updates.specs.declared.misfit.Misfit.{Misfit}

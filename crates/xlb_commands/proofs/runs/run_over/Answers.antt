@@ -2,8 +2,8 @@ use Rattle.std.proofs.Common.{◌≡◌, ◌∙◌, ◌≢◌, ◌<◌, ◌≤�
 use Rattle.ebpf_decode.specs.declared.map.MapDef.{MapDef}
 use Rattle.map_updates.specs.declared.update.MapUpdate.{MapUpdate}
 use Rattle.semantics.specs.ShardPlan.{are_served_options}
-use Rattle.shards.specs.declared.open_fault.OpenFault.{OpenFault}
-use Rattle.shards.specs.declared.open_fault.OpenFault.TheVariants.{BadOptions, Memory}
+use Rattle.map_rules.specs.declared.open_fault.OpenFault.{OpenFault}
+use Rattle.map_rules.specs.declared.open_fault.OpenFault.TheVariants.{BadOptions, Memory}
 use Rattle.runs.specs.declared.fault.RunFault.{RunFault}
 use Rattle.runs.specs.declared.fault.RunFault.TheVariants.{Open, Refused, Full}
 use Rattle.wire.specs.FrameView.{FrameView}

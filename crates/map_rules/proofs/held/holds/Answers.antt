@@ -1,8 +1,8 @@
 use Rattle.std.proofs.Common.{◌≡◌, ◌+◌, ◌-◌, reverse, take, arith, sym, ◌∙◌, ap}
 use Rattle.std.proofs.lemmas.Bool.Decides.{nat_tests}
 use Rattle.semantics.specs.Reclamation.{holds}
-use Rattle.one_thread_map.proofs.NewestLemmas.{own_newest, other_newest}
-use Rattle.one_thread_map.proofs.history.holds.Goals as goal
+use Rattle.map_rules.proofs.NewestLemmas.{own_newest, other_newest}
+use Rattle.map_rules.proofs.held.holds.Goals as goal
 
 pub returns-in-Some : goal.returns-in-Some
 returns-in-Some g c =

@@ -6,7 +6,7 @@ ghost use Rattle.semantics.specs.declared.plan.ShardPlan.{ShardPlan};
 ghost use Rattle.semantics.specs.PlanLimits.{IsPlan};
 ghost use Rattle.semantics.specs.Reclamation.{is_inside, holds};
 ghost use Rattle.semantics.specs.History.{meets};
-ghost use Rattle.one_thread_map.specs.Standings.{IsStanding};
+ghost use Rattle.map_rules.specs.Standings.{IsStanding};
 
 use crate::conditions::{Standing, meets_with, worker_of};
 use semantics::{Call, Caller, ShardPlan};

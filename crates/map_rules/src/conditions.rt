@@ -5,7 +5,7 @@ ghost use Rattle.std.specs.Prelude.{not, nat_lt, is_some, slice_get};
 ghost use Rattle.ebpf_decode.specs.declared.map.MapDef.{MapDef};
 ghost use Rattle.semantics.specs.declared.call.Entry.{Entry};
 ghost use Rattle.semantics.specs.declared.plan.ShardPlan.{ShardPlan};
-ghost use Rattle.one_thread_map.specs.Standings.{is_worker_with, is_atomic, IsStanding};
+ghost use Rattle.map_rules.specs.Standings.{is_worker_with, is_atomic, IsStanding};
 ghost use Rattle.semantics.specs.PlanLimits.{IsWithinLimits, IsIndexSize};
 ghost use Rattle.semantics.specs.Reclamation.{is_inside, holds, inside_count};
 ghost use Rattle.semantics.specs.Program.{shard_number_of_key, part_of_key, shard_of_key, shard_in_map};
@@ -14,7 +14,6 @@ ghost use Rattle.semantics.specs.History.{is_own_key, is_value, are_flags, is_lo
 ghost use Rattle.semantics.specs.History.{fits_size, is_expected, meets_part, meets, room_for_leave, room_needed, lacks_room};
 ghost use Rattle.semantics.specs.History.{journal_is_full};
 
-use crate::history::inside_count;
 use ebpf_decode::{MapDef, MapKind};
 use isa::AtomicOp;
 use semantics::little_endian::number_of_bytes;
@@ -282,11 +281,4 @@ pub fn is_full_with(plan: &ShardPlan, entries: usize, inside: usize, call: &Call
         SectionChange::Begins => lacks_room(plan, entries, inside, 1),
         SectionChange::Stays => lacks_room(plan, entries, inside, 0),
     }
-}
-
-/// Whether the journal is full for this call.
-pub fn journal_is_full(plan: &ShardPlan, journal: &[Entry], call: &Call) -> bool
-    ensures { result ≡ journal_is_full plan.now (reverse journal.now) call.now }
-{
-    is_full_with(plan, journal.len(), inside_count(journal), call)
 }

@@ -8,7 +8,7 @@ use Rattle.semantics.specs.Cells.{cell_of_call}
 use Rattle.semantics.specs.declared.call.Entry.{Entry}
 use Rattle.semantics.specs.declared.plan.ShardPlan.{ShardPlan}
 use Rattle.semantics.specs.History.{is_inside_worker, is_holder, is_atomic_size, is_in_cell, is_aligned, fits_size, is_expected}
-use Rattle.one_thread_map.specs.declared.conditions.Standing.{Standing}
+use Rattle.map_rules.specs.declared.conditions.Standing.{Standing}
 
 -- there is a worker, and the test holds of it
 abbrev pub is_worker_with : (ℕ → Bool) → Option ℕ → Bool

@@ -16,7 +16,7 @@ pub enum OpenFault {
 
 impl OpenFault {
     ghost use Rattle.std.specs.Prelude.{◌≡◌};
-    ghost use Rattle.shards.specs.OpenFaultNumber.{open_fault_number};
+    ghost use Rattle.map_rules.specs.OpenFaultNumber.{open_fault_number};
 
     /// The number that the fault's text prints.
     pub fn number(self) -> u8
@@ -31,7 +31,7 @@ impl OpenFault {
 
 impl From<AllocError> for OpenFault {
     ghost use Rattle.std.specs.Prelude.{◌≡◌};
-    ghost use Rattle.shards.specs.declared.open_fault.OpenFault.TheVariants.{Memory};
+    ghost use Rattle.map_rules.specs.declared.open_fault.OpenFault.TheVariants.{Memory};
 
     ghost from_gives = { λ _ fault. fault ≡ Memory };
 
@@ -42,7 +42,7 @@ impl From<AllocError> for OpenFault {
 
 impl<T: Drop> From<AllocFailed<T>> for OpenFault {
     ghost use Rattle.std.specs.Prelude.{◌≡◌};
-    ghost use Rattle.shards.specs.declared.open_fault.OpenFault.TheVariants.{Memory};
+    ghost use Rattle.map_rules.specs.declared.open_fault.OpenFault.TheVariants.{Memory};
 
     ghost from_gives = { λ _ fault. fault ≡ Memory };
 

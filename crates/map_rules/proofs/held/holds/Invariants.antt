@@ -1,6 +1,6 @@
 use Rattle.std.proofs.Common.{◌≡◌, ◌≤◌, length, reverse, take}
 use Rattle.semantics.specs.Reclamation.{holds}
-use Rattle.one_thread_map.proofs.history.holds.Given as goal
+use Rattle.map_rules.proofs.held.holds.Given as goal
 
 abbrev pub invariant-newer : goal.invariant-newer
 invariant-newer g l = record {
