@@ -1,2 +1,4 @@
 mod LayoutLemmas
 mod SendLemmas
+pub mod shared
+mod FlowLemmas

@@ -2,4 +2,7 @@
 pub mod SteeringMaps
 pub mod Layouts
 pub mod SteeringRule
+pub mod Steering
+pub mod Results
+pub mod SteeringLaws
 pub mod FaultNumber

@@ -14,6 +14,14 @@ map_place Backends = 3
 map_place Ctl = 4
 map_place Stats = 5
 
+abbrev pub map_kind : SteeringMap → MapKind
+map_kind Vips = Hash
+map_kind Flows = LruHash
+map_kind Ring = Array
+map_kind Backends = Array
+map_kind Ctl = Array
+map_kind Stats = Array
+
 abbrev pub defined : MapKind → ℕ → ℕ → ℕ → MapDef
 defined kind key_size value_size max_entries =
     record { kind = kind; key_size = key_size; value_size = value_size; max_entries = max_entries }

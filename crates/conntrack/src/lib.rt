@@ -9,6 +9,7 @@
 mod choosing;
 mod fault;
 mod keys;
+pub mod laws;
 mod records;
 mod steering;
 mod steering_maps;

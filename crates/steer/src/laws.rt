@@ -4,6 +4,7 @@ ghost use Rattle.std.specs.Prelude.{IsTrue, ◌≡◌};
 ghost use Rattle.ebpf_decode.specs.InstructionEncoding.{total_slots};
 ghost use Rattle.steer.specs.BlockForm.{are_blocks};
 ghost use Rattle.steer.specs.ShippedProgram.{shipped_blocks, code_of};
+ghost use Rattle.steer.specs.SteeringLaws.{ShippedSteers, ExitedRunsAreResults};
 
 /// The program is a list of blocks of at most 64 instructions, whose jumps leave a block only for the start of a later one; it takes 219 slots.
 pub fn comes_in_blocks(size: u32)
@@ -12,3 +13,10 @@ pub fn comes_in_blocks(size: u32)
 {
     let _ = size;
 }
+
+/// The program carries out the steering rule: on each input frame, worker, time and number of shards, and on all replies that have their calls' form,
+/// its calls, verdict and frame are those of the rule's plan; where the run is over, it is a result of the rule.
+pub fn steers()
+    ensures plan { ShippedSteers }
+    ensures results { ExitedRunsAreResults }
+{}

@@ -1,0 +1,211 @@
+-- What is promised where the blocks of the shipped program begin: what a state is there, and what is still to be done.
+use Rattle.std.proofs.Common.{◌≡◌, ℕ, ◌+◌, ◌*◌, ◌<◌, List, [], ◌∷◌, replicate, drop, length, ◌≤◌, pos}
+use Rattle.std.specs.Prelude.{slice_index}
+use Rattle.ebpf_decode.specs.declared.insn.Insn.{Insn}
+use Rattle.wire.specs.FrameView.{FrameView}
+use Rattle.wire.specs.Fnv.{fnv1a64_of}
+use Rattle.wire.specs.FlowForm.{flow_bytes_of}
+use Rattle.wire.specs.FlowBytes.{be_bytes}
+use Rattle.wire.specs.PlainIpv4.{total_length, type_of_service}
+use Rattle.steer.proofs.Tunnelling.{tunnelled_with}
+use Rattle.block_runs.specs.Plan.{Plan, Ends}
+use Rattle.steer.specs.PartStarts.{place, reg, with_r6, packet_start, any_stack, flow_stack, service_stack, tunnel_stack, long_frame, IsLong}
+use Rattle.block_runs.proofs.shared.Blocks.{Promise, Named, Arrives}
+use Rattle.conntrack.specs.Steering.{Setting, counted, service_bytes_of}
+use Rattle.steer.proofs.Conversation.{sent, by_ring, by_note, by_tunnel, by_service, steered}
+use Rattle.semantics.specs.declared.verdict.Verdict.{Verdict}
+use Rattle.semantics.specs.declared.verdict.Verdict.TheVariants as V
+use Rattle.semantics.specs.LittleEndian.{bytes_of_number, number_of_bytes}
+use Rattle.semantics.specs.RegisterValue.{Number, StackPointer, ContextPointer, PacketPointer}
+use Rattle.semantics.specs.MachineState.{MachineState, Unwritten, initial_registers}
+use Rattle.semantics.specs.Program.{Program}
+use Rattle.semantics.specs.Semantics.{verdict_number}
+use Rattle.conntrack.specs.SteeringMaps.{steering_maps}
+use Rattle.steer.specs.ShippedProgram as B
+
+-- ---- the program
+
+abbrev pub program : Setting → List Insn → Program
+program setting code = record { code = code; maps = steering_maps setting.size; shards = setting.shards }
+
+pub record AtEnd (setting : Setting) (state : MachineState) (plan : Plan) : Type 0 where
+  pub verdict : Verdict
+  pub slot : state.slot ≡ 217
+  pub registers : state.registers ≡ with_r6 (Number (verdict_number verdict)) (reg state.registers 7) (reg state.registers 8) (reg state.registers 9) (reg state.registers)
+  pub plan_is : plan ≡ Ends verdict state.frame
+
+pub record AtCount (setting : Setting) (state : MachineState) (plan : Plan) : Type 0 where
+  pub verdict : Verdict
+  pub slot : state.slot ≡ 208
+  pub registers : state.registers ≡ with_r6 (Number (verdict_number verdict)) (reg state.registers 7) (reg state.registers 8) (reg state.registers 9) (reg state.registers)
+  pub stack : state.stack ≡ any_stack (place state.stack)
+  pub plan_is : plan ≡ counted setting verdict state.frame
+
+-- the verdicts of frames that are not sent
+pub record AtVerdict (start : ℕ) (verdict : Verdict) (setting : Setting) (state : MachineState) (plan : Plan) : Type 0 where
+  pub slot : state.slot ≡ start
+  pub registers : state.registers ≡ with_r6 (reg state.registers 6) (reg state.registers 7) (reg state.registers 8) (reg state.registers 9) (reg state.registers)
+  pub stack : state.stack ≡ any_stack (place state.stack)
+  pub plan_is : plan ≡ counted setting verdict state.frame
+
+pub record AtTunnel (setting : Setting) (state : MachineState) (plan : Plan) : Type 0 where
+  pub source : ℕ
+  pub macs : ℕ
+  pub backend : ℕ
+  pub backend_fits : backend < 18446744073709551616
+  pub slot : state.slot ≡ 153
+  pub registers : state.registers ≡ with_r6 ContextPointer packet_start (reg state.registers 8) (Number backend) (reg state.registers)
+  pub stack : state.stack ≡ tunnel_stack (place state.stack) source macs (flow_bytes_of state.frame.bytes)
+  pub generation : state.generation ≡ 0
+  pub frame : IsLong state.frame
+  pub plan_is : plan ≡ sent setting source macs backend state.frame
+
+-- the new headers stand, but for the checksum
+pub record AtChecksum (setting : Setting) (state : MachineState) (plan : Plan) : Type 0 where
+  pub source : ℕ
+  pub macs : ℕ
+  pub backend : ℕ
+  pub old : FrameView
+  pub slot : state.slot ≡ 185
+  pub registers : state.registers ≡ reg state.registers 0 ∷ PacketPointer 1 (pos 0) ∷ reg state.registers 2 ∷ reg state.registers 3
+      ∷ Number (number_of_bytes (bytes_of_number 4 source)) ∷ reg state.registers 5 ∷ reg state.registers 6
+      ∷ Number (number_of_bytes (be_bytes (total_length old.bytes + 20))) ∷ Number (69 + 256 * type_of_service old.bytes)
+      ∷ Number (number_of_bytes (bytes_of_number 4 backend)) ∷ StackPointer (pos 0) ∷ []
+  pub stack : state.stack ≡ any_stack (place state.stack)
+  pub generation : state.generation ≡ 1
+  pub frame : IsLong old
+  pub first : ℕ
+  pub second : ℕ
+  pub frame_is : state.frame ≡ tunnelled_with (first ∷ second ∷ []) old source macs backend
+  pub plan_is : plan ≡ sent setting source macs backend old
+
+pub record AtRing (setting : Setting) (state : MachineState) (plan : Plan) : Type 0 where
+  pub flags : ℕ
+  pub source : ℕ
+  pub macs : ℕ
+  pub slot : state.slot ≡ 122
+  pub registers : state.registers ≡ Number (fnv1a64_of (flow_bytes_of state.frame.bytes)) ∷ drop 1 (with_r6 ContextPointer packet_start (Number flags) (reg state.registers 9) (reg state.registers))
+  pub stack : state.stack ≡ tunnel_stack (place state.stack) source macs (flow_bytes_of state.frame.bytes)
+  pub generation : state.generation ≡ 0
+  pub frame : IsLong state.frame
+  pub plan_is : plan ≡ by_ring setting flags source macs state.frame
+
+pub record AtHash (setting : Setting) (state : MachineState) (plan : Plan) : Type 0 where
+  pub flags : ℕ
+  pub source : ℕ
+  pub macs : ℕ
+  pub slot : state.slot ≡ 76
+  pub registers : state.registers ≡ with_r6 ContextPointer packet_start (Number flags) (reg state.registers 9) (reg state.registers)
+  pub stack : state.stack ≡ tunnel_stack (place state.stack) source macs (flow_bytes_of state.frame.bytes)
+  pub generation : state.generation ≡ 0
+  pub frame : IsLong state.frame
+  pub plan_is : plan ≡ by_ring setting flags source macs state.frame
+
+pub record AtTracking (setting : Setting) (state : MachineState) (plan : Plan) : Type 0 where
+  pub flags : ℕ
+  pub source : ℕ
+  pub macs : ℕ
+  pub slot : state.slot ≡ 57
+  pub registers : state.registers ≡ with_r6 ContextPointer packet_start (Number flags) (reg state.registers 9) (reg state.registers)
+  pub stack : state.stack ≡ tunnel_stack (place state.stack) source macs (flow_bytes_of state.frame.bytes)
+  pub generation : state.generation ≡ 0
+  pub frame : IsLong state.frame
+  pub plan_is : plan ≡ by_note setting flags source macs state.frame
+
+pub record AtGuards (setting : Setting) (state : MachineState) (plan : Plan) : Type 0 where
+  pub flags : ℕ
+  pub slot : state.slot ≡ 41
+  pub registers : state.registers ≡ with_r6 ContextPointer packet_start (Number flags) (Number (total_length state.frame.bytes)) (reg state.registers)
+  pub stack : state.stack ≡ flow_stack (place state.stack) (flow_bytes_of state.frame.bytes)
+  pub generation : state.generation ≡ 0
+  pub frame : IsLong state.frame
+  pub plan_is : plan ≡ by_tunnel setting flags state.frame
+
+pub record AtVip (setting : Setting) (state : MachineState) (plan : Plan) : Type 0 where
+  pub slot : state.slot ≡ 34
+  pub registers : state.registers ≡ with_r6 ContextPointer packet_start (reg state.registers 8) (Number (total_length state.frame.bytes)) (reg state.registers)
+  pub stack : state.stack ≡ service_stack (place state.stack) (service_bytes_of state.frame.bytes) (flow_bytes_of state.frame.bytes)
+  pub generation : state.generation ≡ 0
+  pub frame : IsLong state.frame
+  pub plan_is : plan ≡ by_service setting state.frame
+
+pub record AtKey (setting : Setting) (state : MachineState) (plan : Plan) : Type 0 where
+  pub slot : state.slot ≡ 23
+  pub registers : state.registers ≡ reg state.registers 0 ∷ reg state.registers 1 ∷ reg state.registers 2 ∷ reg state.registers 3 ∷ Number (slice_index state.frame.bytes 23)
+      ∷ reg state.registers 5 ∷ ContextPointer ∷ packet_start ∷ reg state.registers 8 ∷ Number (total_length state.frame.bytes) ∷ StackPointer (pos 0) ∷ []
+  pub stack : state.stack ≡ any_stack (place state.stack)
+  pub generation : state.generation ≡ 0
+  pub frame : IsLong state.frame
+  pub plan_is : plan ≡ by_service setting state.frame
+
+-- ---- the beginning
+
+pub record AtFlow (setting : Setting) (state : MachineState) (plan : Plan) : Type 0 where
+  pub slot : state.slot ≡ 0
+  pub registers : state.registers ≡ initial_registers
+  pub stack : state.stack ≡ replicate 512 Unwritten
+  pub generation : state.generation ≡ 0
+  pub headroom : state.frame.headroom ≡ 256
+  pub most : length state.frame.bytes ≤ 2048
+  pub are_bytes : (n : ℕ) → slice_index state.frame.bytes n < 256
+  pub plan_is : plan ≡ steered setting state.frame
+
+-- ---- the blocks
+
+pub data Part : Type 0 where
+  Flow Key Vip Guards Tracking Hash Ring Tunnel Checksum Pass Drop Count End : Part
+
+abbrev pub promise : Setting → Part → Promise
+promise setting Flow = AtFlow setting
+promise setting Key = AtKey setting
+promise setting Vip = AtVip setting
+promise setting Guards = AtGuards setting
+promise setting Tracking = AtTracking setting
+promise setting Hash = AtHash setting
+promise setting Ring = AtRing setting
+promise setting Tunnel = AtTunnel setting
+promise setting Checksum = AtChecksum setting
+promise setting Pass = AtVerdict 205 V.Pass setting
+promise setting Drop = AtVerdict 207 V.Drop setting
+promise setting Count = AtCount setting
+promise setting End = AtEnd setting
+
+-- by which slot a part begins
+abbrev pub after_count : Setting → Promise
+after_count setting = Arrives (promise setting) 217 ((End, B.end_block) ∷ [])
+
+abbrev pub from_pass : Setting → List (Named Part)
+from_pass setting = (Pass, B.pass_block) ∷ (Drop, B.drop_block) ∷ (Count, B.count_block) ∷ (End, B.end_block) ∷ []
+
+abbrev pub from_checksum : Setting → List (Named Part)
+from_checksum setting = (Checksum, B.checksum_block) ∷ from_pass setting
+
+abbrev pub from_tunnel : Setting → List (Named Part)
+from_tunnel setting = (Tunnel, B.tunnel_block) ∷ from_checksum setting
+
+abbrev pub from_ring : Setting → List (Named Part)
+from_ring setting = (Ring, B.ring_block setting.size) ∷ from_tunnel setting
+
+abbrev pub from_hash : Setting → List (Named Part)
+from_hash setting = (Hash, B.hash_block) ∷ from_ring setting
+
+abbrev pub from_tracking : Setting → List (Named Part)
+from_tracking setting = (Tracking, B.tracking_block) ∷ from_hash setting
+
+abbrev pub from_guards : Setting → List (Named Part)
+from_guards setting = (Guards, B.guards_block) ∷ from_tracking setting
+
+abbrev pub from_vip : Setting → List (Named Part)
+from_vip setting = (Vip, B.vip_block) ∷ from_guards setting
+
+abbrev pub from_key : Setting → List (Named Part)
+from_key setting = (Key, B.key_block) ∷ from_vip setting
+
+abbrev pub from_flow : Setting → List (Named Part)
+from_flow setting = (Flow, B.flow_block) ∷ from_key setting
+
+abbrev pub came_in : (ℕ → ℕ) → List ℕ → FrameView
+came_in byte rest = record { bytes = long_frame byte rest; headroom = 256 }
+
+pub is_came_in : (frame : FrameView) → IsLong frame → frame ≡ came_in (slice_index frame.bytes) (drop 42 frame.bytes)
+is_came_in frame long i = record { bytes = long.bytes i; headroom = long.headroom i }
