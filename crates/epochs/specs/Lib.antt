@@ -1,1 +1,2 @@
 pub mod EpochCounts
+pub mod EnterPlaces

@@ -15,7 +15,9 @@ pub struct CellRange {
 /// the old value is compared with.
 #[derive(Clone, Copy, Debug, PartialEq, Eq)]
 pub struct AtomicChange {
-    pub op: u64,
+    // `op` is between the other two: were they neighbours, both would be copied by one wide load right after two narrow stores, for which an older
+    // processor waits.
     pub value: u64,
+    pub op: u64,
     pub expected: u64,
 }

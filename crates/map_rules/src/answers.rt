@@ -14,13 +14,13 @@ use semantics::{CellRef, Errno, Reply, ShardPlan, UpdateFlags};
 
 /// How many keys a shard has, and how many of its retired cells wait for their readers.
 #[derive(Clone, Copy, Debug, PartialEq, Eq)]
-pub struct Counts {
+pub struct Occupancy {
     pub present: usize,
     pub waiting: usize,
 }
 
 /// Whether a cell is free for a new key: each key has two, so that a retired one may wait for its readers.
-fn has_free_cell(plan: &ShardPlan, counts: Counts) -> bool
+fn has_free_cell(plan: &ShardPlan, counts: Occupancy) -> bool
     requires { IsWithinLimits plan.now }
     ensures { AsCounted counts (λ state. result ≡ has_free_cell plan.now state) }
 {
@@ -28,7 +28,7 @@ fn has_free_cell(plan: &ShardPlan, counts: Counts) -> bool
 }
 
 /// Whether the shard has as many keys as it may have.
-pub fn is_full_of_keys(plan: &ShardPlan, counts: Counts) -> bool
+pub fn is_full_of_keys(plan: &ShardPlan, counts: Occupancy) -> bool
     requires { IsWithinLimits plan.now }
     ensures { AsCounted counts (λ state. result ≡ is_full_of_keys plan.now state) }
 {
@@ -57,7 +57,7 @@ pub fn array_update_answer(flags: UpdateFlags, cell: Option<u64>) -> i32
 }
 
 /// What an Update of a new key answers: a hash shard may be full of keys, and any may have no free cell.
-fn new_key_answer(plan: &ShardPlan, counts: Counts) -> i32
+fn new_key_answer(plan: &ShardPlan, counts: Occupancy) -> i32
     requires { IsWithinLimits plan.now }
     ensures { AsCounted counts (λ state. result ≡ new_key_answer plan.now state) }
 {
@@ -71,7 +71,7 @@ fn new_key_answer(plan: &ShardPlan, counts: Counts) -> i32
 }
 
 /// What an Update of an absent key answers: that there is no entry, where it must be present, else as a new key.
-fn absent_key_answer(plan: &ShardPlan, counts: Counts, flags: UpdateFlags) -> i32
+fn absent_key_answer(plan: &ShardPlan, counts: Occupancy, flags: UpdateFlags) -> i32
     requires { IsWithinLimits plan.now }
     ensures { AsCounted counts (λ state. result ≡ absent_key_answer plan.now state flags) }
 {
@@ -85,7 +85,7 @@ fn absent_key_answer(plan: &ShardPlan, counts: Counts, flags: UpdateFlags) -> i3
 /// What an Update of a map with keys answers.
 fn keyed_update_answer(
     plan: &ShardPlan,
-    counts: Counts,
+    counts: Occupancy,
     flags: UpdateFlags,
     cell: Option<u64>,
 ) -> i32
@@ -101,7 +101,7 @@ fn keyed_update_answer(
 /// What an Update with known flags answers of a key that has this cell or none, as the map's kind has it.
 pub fn update_answer_of_kind(
     plan: &ShardPlan,
-    counts: Counts,
+    counts: Occupancy,
     flags: UpdateFlags,
     cell: Option<u64>,
 ) -> i32

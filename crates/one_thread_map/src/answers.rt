@@ -13,7 +13,7 @@ ghost use Rattle.semantics.specs.SequentialShard.{delete_answer_of_kind, delete_
 use crate::state::{ShardState, cell_bytes, cell_of_index, cell_of_present, reclaimable_count};
 use ebpf_decode::MapKind;
 use isa::{AtomicOp, Width, atomic};
-use map_rules::answers::{Counts, delete_answer_of_kind, lookup_reply, update_answer_of_kind};
+use map_rules::answers::{Occupancy, delete_answer_of_kind, lookup_reply, update_answer_of_kind};
 use semantics::little_endian::{number_of_bytes, part_at};
 use semantics::{Call, Entry, Errno, Key, Reply, ShardPlan, UpdateFlags};
 
@@ -59,11 +59,11 @@ pub fn changed_by(op: Option<AtomicOp>, size: u64, old: u64, value: u64, expecte
 }
 
 /// How many keys a shard in this state has, and how many retired cells.
-pub fn counts_of(state: &ShardState) -> Counts
+pub fn counts_of(state: &ShardState) -> Occupancy
     ensures present { result.present ≡ length state.now.present.items }
     ensures waiting { result.waiting ≡ length state.now.retired.items }
 {
-    Counts {
+    Occupancy {
         present: state.present.len(),
         waiting: state.retired.len(),
     }

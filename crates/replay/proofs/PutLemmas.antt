@@ -5,7 +5,7 @@ use Rattle.std.proofs.Math.Nat.{mod-lt}
 use Rattle.crossbeam_queue.specs.Passes.{Pass, view}
 use Rattle.rx_queues.specs.declared.passes.Queues.{Queues}
 use Rattle.rx_queues.specs.declared.passes.PutPass.{PutPass}
-use Rattle.rx_queues.specs.declared.rule.Known.{Known}
+use Rattle.rx_queues.specs.declared.rule.JobsKnown.{JobsKnown}
 use Rattle.std.proofs.lemmas.Bool.Decides.{nat_tests}
 use Rattle.rx_queues.specs.declared.job.Job.{Job}
 use Rattle.rx_queues.specs.declared.job.Job.TheVariants.{Frame, End}
@@ -103,7 +103,7 @@ map_length f (x ∷ xs) = ap suc (map_length f xs)
 -- there is a queue for each worker
 pub enough_queues : (queues : Queues) (pass : PutPass) → IsPutPassOf queues pass → workers_of queues < length (jobs_put pass)
 enough_queues queues pass right =
-    let lists = map_length (λ (one : Pass Job Known). (view one).put) pass.passes.items in
+    let lists = map_length (λ (one : Pass Job JobsKnown). (view one).put) pass.passes.items in
     let as_many = right.0 in
     let sized = queues.sized in
     omega (arith, lists, as_many, sized)
@@ -111,7 +111,7 @@ enough_queues queues pass right =
 -- and two more
 pub all_queues : (queues : Queues) (pass : PutPass) → IsPutPassOf queues pass → length (jobs_put pass) ≡ workers_of queues + 2
 all_queues queues pass right =
-    let lists = map_length (λ (one : Pass Job Known). (view one).put) pass.passes.items in
+    let lists = map_length (λ (one : Pass Job JobsKnown). (view one).put) pass.passes.items in
     let as_many = right.0 in
     let sized = queues.sized in
     omega (arith, lists, as_many, sized)

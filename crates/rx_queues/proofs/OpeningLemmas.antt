@@ -4,7 +4,7 @@ use mathlib.Core.Option.{some, some-injective, some-ne-none}
 use lib.ListN.{get_elem?}
 use Rattle.crossbeam_queue.specs.Passes.{Pass, view}
 use Rattle.rx_queues.specs.declared.job.Job.{Job}
-use Rattle.rx_queues.specs.declared.rule.Known.{Known}
+use Rattle.rx_queues.specs.declared.rule.JobsKnown.{JobsKnown}
 use Rattle.rx_queues.specs.declared.passes.TakePass.{TakePass}
 use Rattle.rx_queues.specs.declared.passes.Queues.{Queues}
 use Rattle.rx_queues.specs.Passes.{IsTakePassFor, IsPutPassFor, IsTakePassAt, ArePutPasses, TakeAtTheirPlaces}
@@ -32,7 +32,7 @@ module _ {A : Type 0} where
   within_list (first ∷ others) it (suc at) found = let below = within_list others it at found in omega arith
 
 module _ {Q A : Type 0} where
-  pub put_passes_push : (queues : List (Line Q A)) (passes : List (Pass Job Known)) (queue : Line Q A) (pass : Pass Job Known)
+  pub put_passes_push : (queues : List (Line Q A)) (passes : List (Pass Job JobsKnown)) (queue : Line Q A) (pass : Pass Job JobsKnown)
       → length queues ≡ length passes → ArePutPasses queues passes → IsPutPassFor queue pass
       → ArePutPasses (queues ++ queue ∷ []) (passes ++ pass ∷ [])
   put_passes_push queues passes queue pass as_many rights right at other mine found_queue found_pass =
@@ -43,7 +43,7 @@ module _ {Q A : Type 0} where
       (λ (last : (at ≡ length queues) × (queue ≡ other)). ⊎_elim
       (λ before. absurd (let below = within_list passes mine at before in let here = last.0 in omega arith))
       (λ (here : (at ≡ length passes) × (pass ≡ mine)).
-      subst (λ (pair : Line Q A × Pass Job Known). IsPutPassFor pair.0 pair.1) (λ i. (last.1 i, here.1 i)) right)
+      subst (λ (pair : Line Q A × Pass Job JobsKnown). IsPutPassFor pair.0 pair.1) (λ i. (last.1 i, here.1 i)) right)
       (before_or_last passes pass mine at found_pass))
       (before_or_last queues queue other at found_queue)
 
@@ -74,15 +74,15 @@ module _ {Q A : Type 0} where
       (before_or_last passes pass mine at found)
 
 -- nothing was put through any of these
-abbrev pub HavePutNothing : List (Pass Job Known) → Type 0
+abbrev pub HavePutNothing : List (Pass Job JobsKnown) → Type 0
 HavePutNothing [] = Unit {0}
 HavePutNothing (pass ∷ others) = (put_of pass ≡ []) × HavePutNothing others
 
-pub nothing_put_push : (passes : List (Pass Job Known)) (pass : Pass Job Known) → HavePutNothing passes → put_of pass ≡ [] → HavePutNothing (passes ++ pass ∷ [])
+pub nothing_put_push : (passes : List (Pass Job JobsKnown)) (pass : Pass Job JobsKnown) → HavePutNothing passes → put_of pass ≡ [] → HavePutNothing (passes ++ pass ∷ [])
 nothing_put_push [] pass before nothing = (nothing, tt)
 nothing_put_push (first ∷ others) pass before nothing = (before.0, nothing_put_push others pass before.1 nothing)
 
-pub empty_lists : (passes : List (Pass Job Known)) → HavePutNothing passes → map put_of passes ≡ replicate (length passes) []
+pub empty_lists : (passes : List (Pass Job JobsKnown)) → HavePutNothing passes → map put_of passes ≡ replicate (length passes) []
 empty_lists [] nothing = refl
 empty_lists (pass ∷ others) nothing = (λ i. nothing.0 i ∷ empty_lists others nothing.1 i)
 

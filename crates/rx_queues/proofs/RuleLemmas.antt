@@ -5,24 +5,24 @@ use lib.ListN.{get_elem?}
 use Rattle.crossbeam_queue.specs.Fifo.{Pushes, Pops, Forks, Merges, Learns}
 use Rattle.crossbeam_queue.proofs.Lists.{at_set, at_snoc}
 use Rattle.rx_queues.specs.declared.job.Job.{Job}
-use Rattle.rx_queues.specs.declared.rule.Known.{Known}
+use Rattle.rx_queues.specs.declared.rule.JobsKnown.{JobsKnown}
 use Rattle.rx_queues.specs.Fifo.{known, putter, taker, with_put, with_taken, Knows, IsInOrder, IsTakenInOrder, MayHold}
 
 -- what is found in a list with one more, and not in the list, stands at its end
-found_at_end : (list : List Known) (last it : Known) (at : ℕ) → get_elem? list at ≢ some it → get_elem? (list ++ last ∷ []) at ≡ some it → at ≡ length list
+found_at_end : (list : List JobsKnown) (last it : JobsKnown) (at : ℕ) → get_elem? list at ≢ some it → get_elem? (list ++ last ∷ []) at ≡ some it → at ≡ length list
 found_at_end [] last it zero missed found = refl
 found_at_end [] last it (suc at) missed found = absurd (some-ne-none it (sym found))
 found_at_end (first ∷ others) last it zero missed found = absurd (missed found)
 found_at_end (first ∷ others) last it (suc at) missed found = ap suc (found_at_end others last it at missed found)
 
-abbrev Each : (ℕ → Known → Type 0) → List Known → Type 0
-Each Fact passes = (at : ℕ) (it : Known) → get_elem? passes at ≡ some it → Fact at it
+abbrev Each : (ℕ → JobsKnown → Type 0) → List JobsKnown → Type 0
+Each Fact passes = (at : ℕ) (it : JobsKnown) → get_elem? passes at ≡ some it → Fact at it
 
 -- a fact of each pass, after one of them was changed
-each_set : (Fact : ℕ → Known → Type 0) (passes : List Known) (changed : ℕ) (now : Known) → Fact changed now
-    → ((at : ℕ) (it : Known) → at ≢ changed → get_elem? passes at ≡ some it → Fact at it) → Each Fact (set passes changed now)
+each_set : (Fact : ℕ → JobsKnown → Type 0) (passes : List JobsKnown) (changed : ℕ) (now : JobsKnown) → Fact changed now
+    → ((at : ℕ) (it : JobsKnown) → at ≢ changed → get_elem? passes at ≡ some it → Fact at it) → Each Fact (set passes changed now)
 each_set Fact passes changed now mine others at it found =
-    ⊎_elim (λ (same : (at ≡ changed) × (now ≡ it)). subst (λ (pair : ℕ × Known). Fact pair.0 pair.1) (λ i. (sym same.0 i, same.1 i)) mine)
+    ⊎_elim (λ (same : (at ≡ changed) × (now ≡ it)). subst (λ (pair : ℕ × JobsKnown). Fact pair.0 pair.1) (λ i. (sym same.0 i, same.1 i)) mine)
     (λ (apart : (at ≢ changed) × (get_elem? passes at ≡ some it)). others at it apart.0 apart.1)
     (at_set passes changed at now it found)
 
@@ -37,7 +37,7 @@ begins_in_order = record {
       (λ at it other found. absurd (other (found_at_end [] _ it at (λ none. some-ne-none it (sym none)) found)));
 }
 
-pub put_keeps_order : (room pass : ℕ) (it : Known) (job : Job) → it.puts ≡ true → Pushes IsInOrder room pass it job (λ after. after ≡ with_put it job)
+pub put_keeps_order : (room pass : ℕ) (it : JobsKnown) (job : Job) → it.puts ≡ true → Pushes IsInOrder room pass it job (λ after. after ≡ with_put it job)
 put_keeps_order room pass it job may held passes _ rule found =
     let mine = rule.each pass it found in
     let put = rule.put ++ job ∷ [] in (
@@ -55,7 +55,7 @@ put_keeps_order room pass it job may held passes _ rule found =
       refl,
     )
 
-pub take_keeps_order : (pass : ℕ) (it : Known) → it.takes ≡ true → Pops IsInOrder pass it (λ job after. after ≡ with_taken it job)
+pub take_keeps_order : (pass : ℕ) (it : JobsKnown) → it.takes ≡ true → Pops IsInOrder pass it (λ job after. after ≡ with_taken it job)
 take_keeps_order pass it may job held passes rule found =
     let mine = rule.each pass it found in
     let taken = rule.taken ++ job ∷ [] in (
@@ -73,13 +73,13 @@ take_keeps_order pass it may job held passes rule found =
       refl,
     )
 
-pub split_keeps_order : (pass : ℕ) (it : Known) → it.puts ≡ true → it.takes ≡ true → Forks IsInOrder pass it (putter it.put) (taker it.taken)
+pub split_keeps_order : (pass : ℕ) (it : JobsKnown) → it.puts ≡ true → it.takes ≡ true → Forks IsInOrder pass it (putter it.put) (taker it.taken)
 split_keeps_order pass it puts takes held passes rule found =
     let mine = rule.each pass it found in
-    let left : Known = putter it.put in
-    let right : Known = taker it.taken in
-    let changed : List Known = set passes pass left in
-    let Kept : ℕ → Known → Type 0 = λ at other. (other.puts ≡ true → (at ≡ rule.writer) × (other.put ≡ rule.put)) × (other.takes ≢ true) in
+    let left : JobsKnown = putter it.put in
+    let right : JobsKnown = taker it.taken in
+    let changed : List JobsKnown = set passes pass left in
+    let Kept : ℕ → JobsKnown → Type 0 = λ at other. (other.puts ≡ true → (at ≡ rule.writer) × (other.put ≡ rule.put)) × (other.takes ≢ true) in
     let kept : Each Kept changed = each_set Kept passes pass left ((λ _. mine.0 puts), λ wrong. true≢false (sym wrong))
     (λ at other apart there. ((rule.each at other there).0, λ may. apart (((rule.each at other there).1 may).0 ∙ sym (mine.1 takes).0))) in
     record {
@@ -90,20 +90,20 @@ split_keeps_order pass it puts takes held passes rule found =
       rest = rule.rest;
       each = λ at other there. ⊎_elim (λ before. ((kept at other before).0, λ may. absurd ((kept at other before).1 may)))
           (λ (is : right ≡ other). (
-            (λ may. absurd (true≢false (sym (ap (λ (one : Known). one.puts) is ∙ may)))),
-            λ may. (found_at_end changed right other at (λ before. (kept at other before).1 may) there, ap (λ (one : Known). one.taken) (sym is) ∙ (mine.1 takes).1),
+            (λ may. absurd (true≢false (sym (ap (λ (one : JobsKnown). one.puts) is ∙ may)))),
+            λ may. (found_at_end changed right other at (λ before. (kept at other before).1 may) there, ap (λ (one : JobsKnown). one.taken) (sym is) ∙ (mine.1 takes).1),
           )) (at_snoc changed right other at there);
     }
 
-pub join_keeps_order : (pass : ℕ) (it : Known) (other : ℕ) (theirs : Known) → it.puts ≡ true → theirs.takes ≡ true
+pub join_keeps_order : (pass : ℕ) (it : JobsKnown) (other : ℕ) (theirs : JobsKnown) → it.puts ≡ true → theirs.takes ≡ true
     → Merges IsInOrder pass it other theirs (known true true it.put theirs.taken) (known false false [] [])
 join_keeps_order pass it other theirs puts takes held passes rule found two there =
-    let both : Known = known true true it.put theirs.taken in
+    let both : JobsKnown = known true true it.put theirs.taken in
     let mine = rule.each pass it found in
-    let changed : List Known = set passes pass both in
+    let changed : List JobsKnown = set passes pass both in
     let was : get_elem? passes other ≡ some theirs = ⊎_elim (λ same. absurd (two same.0)) (λ apart. apart.1) (at_set passes pass other both theirs there) in
     let known_there = (rule.each other theirs was).1 takes in
-    let Now : ℕ → Known → Type 0 = λ at one. at ≢ other → Knows rule.writer pass rule.put rule.taken at one in
+    let Now : ℕ → JobsKnown → Type 0 = λ at one. at ≢ other → Knows rule.writer pass rule.put rule.taken at one in
     let now : Each Now changed = each_set Now passes pass both (λ _. ((λ _. mine.0 puts), λ _. (refl, known_there.1)))
     (λ at one _ here apart. ((rule.each at one here).0, λ may. absurd (apart (((rule.each at one here).1 may).0 ∙ sym known_there.0)))) in
     record {
@@ -117,7 +117,7 @@ join_keeps_order pass it other theirs puts takes held passes rule found two ther
     }
 
 -- what a pass learns of what its queue holds
-pub pass_may_hold : (pass : ℕ) (it : Known) → Learns IsInOrder pass it (MayHold it)
+pub pass_may_hold : (pass : ℕ) (it : JobsKnown) → Learns IsInOrder pass it (MayHold it)
 pass_may_hold pass it held passes rule found = record {
   put = rule.put;
   taken = rule.taken;
@@ -127,7 +127,7 @@ pass_may_hold pass it held passes rule found = record {
 }
 
 -- a pass with both rights knows that what was taken is a beginning of what was put
-pub taken_in_order : (it : Known) (held : List Job) → it.puts ≡ true → it.takes ≡ true → MayHold it held → IsTakenInOrder it.taken it.put
+pub taken_in_order : (it : JobsKnown) (held : List Job) → it.puts ≡ true → it.takes ≡ true → MayHold it held → IsTakenInOrder it.taken it.put
 taken_in_order it held puts takes may = record {
   left = held;
   rest = may.all_put puts ∙ may.rest ∙ ap (λ jobs. jobs ++ held) (sym (may.all_taken takes));

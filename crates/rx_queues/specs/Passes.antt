@@ -11,7 +11,7 @@ use Rattle.rx_queues.specs.declared.job.Job.{Job}
 use Rattle.rx_queues.specs.declared.passes.PutPass.{PutPass}
 use Rattle.rx_queues.specs.declared.passes.TakePass.{TakePass}
 use Rattle.rx_queues.specs.declared.passes.Queues.{Queues}
-use Rattle.rx_queues.specs.declared.rule.Known.{Known}
+use Rattle.rx_queues.specs.declared.rule.JobsKnown.{JobsKnown}
 
 -- the queues stand in this order: the workers' by their numbers, the controller's, the reclaimer's
 abbrev pub queue_of : ℕ → Caller → ℕ
@@ -30,28 +30,28 @@ workers_of queues = queues.workers
 
 -- what was put through the pass, queue by queue
 abbrev pub jobs_put : PutPass → List (List Job)
-jobs_put pass = map (λ (one : Pass Job Known). (view one).put) pass.passes.items
+jobs_put pass = map (λ (one : Pass Job JobsKnown). (view one).put) pass.passes.items
 
 -- what was taken through the pass
 abbrev pub jobs_taken : TakePass → List Job
 jobs_taken pass = (view pass.pass).taken
 
 -- the right to put into this queue, which has room for 64 jobs
-abbrev pub IsPutPassFor : {Q A : Type 0} → Slotted (Option Job) (Doing Job Known) Q A → Pass Job Known → Type 0
+abbrev pub IsPutPassFor : {Q A : Type 0} → Slotted (Option Job) (Doing Job JobsKnown) Q A → Pass Job JobsKnown → Type 0
 IsPutPassFor queue pass = IsPassOf queue pass × ((view pass).puts ≡ true) × (ruled_capacity queue ≡ 64)
 
 -- the right to take from this queue
-abbrev pub IsTakePassFor : {Q A : Type 0} → Slotted (Option Job) (Doing Job Known) Q A → Pass Job Known → Type 0
+abbrev pub IsTakePassFor : {Q A : Type 0} → Slotted (Option Job) (Doing Job JobsKnown) Q A → Pass Job JobsKnown → Type 0
 IsTakePassFor queue pass = IsPassOf queue pass × ((view pass).takes ≡ true)
 
 -- the right to put into each of these queues
-abbrev pub ArePutPasses : {Q A : Type 0} → List (Slotted (Option Job) (Doing Job Known) Q A) → List (Pass Job Known) → Type 0
-ArePutPasses {Q} {A} queues passes = (at : ℕ) (queue : Slotted (Option Job) (Doing Job Known) Q A) (pass : Pass Job Known)
+abbrev pub ArePutPasses : {Q A : Type 0} → List (Slotted (Option Job) (Doing Job JobsKnown) Q A) → List (Pass Job JobsKnown) → Type 0
+ArePutPasses {Q} {A} queues passes = (at : ℕ) (queue : Slotted (Option Job) (Doing Job JobsKnown) Q A) (pass : Pass Job JobsKnown)
     → get_elem? queues at ≡ some queue → get_elem? passes at ≡ some pass → IsPutPassFor queue pass
 
 -- the right to take from the queue at this place
-abbrev pub IsTakePassAt : {Q A : Type 0} → List (Slotted (Option Job) (Doing Job Known) Q A) → ℕ → Pass Job Known → Type 0
-IsTakePassAt {Q} {A} queues at pass = (queue : Slotted (Option Job) (Doing Job Known) Q A)
+abbrev pub IsTakePassAt : {Q A : Type 0} → List (Slotted (Option Job) (Doing Job JobsKnown) Q A) → ℕ → Pass Job JobsKnown → Type 0
+IsTakePassAt {Q} {A} queues at pass = (queue : Slotted (Option Job) (Doing Job JobsKnown) Q A)
     → get_elem? queues at ≡ some queue → IsTakePassFor queue pass
 
 -- the pass has the right to put into these queues

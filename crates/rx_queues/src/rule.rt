@@ -7,7 +7,7 @@ use crossbeam_queue::{Pass, RuledArrayQueue};
 use std::collections::LinkedList;
 
 /// What a pass may do, what was put through it and what was taken. No value of it is made: it is what contracts see of a pass.
-pub struct Known {
+pub struct JobsKnown {
     pub puts: bool,
     pub takes: bool,
     pub put: LinkedList<Job>,
@@ -17,7 +17,7 @@ pub struct Known {
 /// Jobs leave in the order in which they came.
 pub struct InOrder;
 
-impl Protocol<Job, Known> for InOrder {
+impl Protocol<Job, JobsKnown> for InOrder {
     ghost use Rattle.std.specs.Prelude.{true, []};
     ghost use Rattle.rx_queues.specs.Fifo.{known, IsInOrder};
 
@@ -29,7 +29,7 @@ impl Protocol<Job, Known> for InOrder {
 /// The two rights to a queue, apart and together again.
 pub struct Roles;
 
-impl Split<Known> for Roles {
+impl Split<JobsKnown> for Roles {
     ghost use Rattle.std.specs.Prelude.{[]};
     ghost use Rattle.rx_queues.specs.Fifo.{putter, taker};
 
@@ -38,7 +38,7 @@ impl Split<Known> for Roles {
     ghost right = { λ both. taker both.taken };
 }
 
-impl Join<Known> for Roles {
+impl Join<JobsKnown> for Roles {
     ghost use Rattle.std.specs.Prelude.{true, false, []};
     ghost use Rattle.rx_queues.specs.Fifo.{known};
 
@@ -50,14 +50,14 @@ impl Join<Known> for Roles {
 /// A put puts the job at the end of what was put.
 pub struct Puts;
 
-impl Outcome<Job, Known> for Puts {
+impl Outcome<Job, JobsKnown> for Puts {
     ghost use Rattle.std.specs.Prelude.{◌≡◌, []};
     ghost use Rattle.rx_queues.specs.Fifo.{with_put};
 
     ghost then = { λ before job after. after ≡ with_put before job };
 }
 
-impl Lesson<Job, Known> for Puts {
+impl Lesson<Job, JobsKnown> for Puts {
     ghost use Rattle.rx_queues.specs.Fifo.{MayHold};
 
     ghost fact = { MayHold };
@@ -66,19 +66,19 @@ impl Lesson<Job, Known> for Puts {
 /// A take puts the job at the end of what was taken.
 pub struct Takes;
 
-impl Outcome<Job, Known> for Takes {
+impl Outcome<Job, JobsKnown> for Takes {
     ghost use Rattle.std.specs.Prelude.{◌≡◌};
     ghost use Rattle.rx_queues.specs.Fifo.{with_taken};
 
     ghost then = { λ before job after. after ≡ with_taken before job };
 }
 
-impl Lesson<Job, Known> for Takes {
+impl Lesson<Job, JobsKnown> for Takes {
     ghost use Rattle.rx_queues.specs.Fifo.{MayHold};
 
     ghost fact = { MayHold };
 }
 
-pub type Queue = RuledArrayQueue<Job, Known, InOrder>;
+pub type Queue = RuledArrayQueue<Job, JobsKnown, InOrder>;
 
-pub type QueuePass = Pass<Job, Known>;
+pub type QueuePass = Pass<Job, JobsKnown>;

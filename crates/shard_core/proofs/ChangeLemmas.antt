@@ -37,7 +37,8 @@ use Rattle.shard_core.specs.declared.keys.KeyTable.{KeyTable}
 use Rattle.shard_core.specs.declared.keys.KeyTable.TheVariants.{Indices, Hashed, Recent}
 use Rattle.shard_core.specs.KeyTables.{cell_in, FitsPlan, IsKeyed, IsRemoved, IsInserted, touched_in, is_full_of, victim_cell, without_victim_in}
 use Rattle.shard_core.specs.Contents.{CanCreate, CanRetire, IsPut, with_evicted}
-use Rattle.shard_core.specs.Sections.{entered_places, floor_of}
+use Rattle.shard_core.specs.Sections.{entered_places}
+use Rattle.epochs.specs.EnterPlaces.{floor_of}
 use Rattle.shard_core.specs.ShardFields.{waiting, IsBalanced, IsContents}
 use Rattle.shard_core.proofs.PlaceLemmas.{floor_tells}
 use Rattle.shard_core.proofs.StateLemmas.{apart_after, key_gone, IsGone}

@@ -12,7 +12,8 @@ use Rattle.semantics.specs.declared.call.Reply.{Reply}
 use Rattle.semantics.specs.declared.call.Entry.{Entry}
 use Rattle.semantics.specs.declared.plan.RetiredCell.{RetiredCell}
 use Rattle.semantics.specs.Reclamation.{is_worker, entered_by, entered_at, worker_numbers, inside_count, began_after, is_reclaimable}
-use Rattle.shard_core.specs.Sections.{entered_places, with_place, earlier, floor_of}
+use Rattle.shard_core.specs.Sections.{entered_places}
+use Rattle.epochs.specs.EnterPlaces.{with_place, earlier, floor_of}
 use Rattle.shard_core.proofs.FlagLemmas.{KeepsSections}
 
 entered_at_kept : (worker : ℕ) (who : Caller) (call : Call) (reply : Reply) (older : List Entry) → KeepsSections call →

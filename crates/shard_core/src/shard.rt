@@ -13,12 +13,12 @@ ghost use Rattle.shard_core.specs.Calls.{atomic_call, update_call, delete_call, 
 
 use crate::contents::{open_cells, put_value, retire_key};
 use crate::keys::KeyTable;
-use crate::places::{Places, count, floor, set};
+use epochs::places::{Places, count, floor, set};
 use crate::ranges::{change_number, number_in, put_number};
 use isa::AtomicOp;
 use journal::{AtomicChange, CellRange, Journal};
 use map_cells::Cells;
-use map_rules::answers::{Counts, delete_answer_of_kind, update_answer_of_kind};
+use map_rules::answers::{Occupancy, delete_answer_of_kind, update_answer_of_kind};
 use map_rules::conditions::{is_full_with, lacks_room};
 use semantics::{Call, Caller, Errno, JournalFull, ShardPlan, UpdateFlags};
 use std::alloc::{AllocError, Global};
@@ -248,7 +248,7 @@ impl Shard {
         requires { length key.now ≡ self.now.plan.definition.key_size }
         ensures { result ≡ update_answer self.now.plan (state_of self.now) key.now flags }
     {
-        let counts = Counts {
+        let counts = Occupancy {
             present: self.keys.len(),
             waiting: self.cells.waiting(),
         };

@@ -1,4 +1,24 @@
-//! The shards that many callers share: each with its lock, what stands under it, and the seats of its length word.
+//! The shards that many callers share: each with its lock, what is under it, and the seats of its length word.
+//!
+//! # What is shared, and who knows what
+//!
+//! A *desk* is what is under a shard's lock: the shard with its journal, and the *keeper*, the lock's own seat at the length word. The *length word* is an
+//! atomic number, the length of the journal. It is no lock: all steps on it are made under the lock. It is there for the proof, which needs one thing that
+//! the lock and every pass refer to, and that only grows.
+//!
+//! A *seat* is a right to make steps on the word, together with what its owner knows (`Known`). The keeper knows the whole history. A caller's seat, which
+//! is in its pass, knows a beginning of the history that the caller has seen, and in it the caller's own entries, which are all that this caller ever made.
+//! Between two calls other callers append entries, so a pass knows a beginning and not all of it.
+//!
+//! A call takes the lock, brings the caller's seat to the keeper's (`join`), makes the call on the shard, notes the new entry (`note`), and parts the two
+//! again (`part`). The rule of the word (`rule`, `specs/LengthRule`) says what each of these steps may change:
+//!
+//! - `Both`: keeper and caller's seat become one and two again. What each knows stays; apart, the caller has seen all that the keeper knows.
+//! - `Sees`: a load of the word while they are one. The word is the history's length and the caller's view is a beginning of it, so it was seen up to here.
+//! - `Adds`: the word grows by one with the shard's newest entry, which the caller made: one more entry of the history, and of the caller's own.
+//! - `Deals`: a seat for a caller that has none. Each caller gets one, once (`dealer`), so that its own entries are all in one place.
+//!
+//! That own entries are *all* of the caller's is what lets a caller know by itself, without a lock, whether it is inside and what it holds.
 
 ghost use Rattle.std.specs.Prelude.{◌≡◌, ◌<◌, ◌+◌, ◌∷◌, ◌^◌, reverse, length, IfOk, IfErr, OnErr};
 ghost use Rattle.semantics.specs.declared.call.Caller.{Caller};

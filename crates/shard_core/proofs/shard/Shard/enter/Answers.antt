@@ -5,7 +5,7 @@ use Rattle.semantics.specs.declared.call.Call.TheVariants.{Enter}
 use Rattle.semantics.specs.declared.call.Reply.TheVariants.{Entered}
 use Rattle.semantics.specs.History.{meets, journal_is_full}
 use Rattle.journal.specs.Entries.{enter_entry}
-use Rattle.shard_core.specs.Sections.{with_place}
+use Rattle.epochs.specs.EnterPlaces.{with_place}
 use Rattle.shard_core.proofs.PlaceLemmas.{entered_begun}
 use Rattle.shard_core.proofs.StepLemmas.{section_taken}
 use Rattle.shard_core.proofs.shard.Shard.enter.Goals as goal

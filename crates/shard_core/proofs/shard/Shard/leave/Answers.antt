@@ -4,7 +4,7 @@ use Rattle.semantics.specs.declared.call.Call.TheVariants.{Leave}
 use Rattle.semantics.specs.declared.call.Reply.TheVariants.{Left}
 use Rattle.semantics.specs.History.{meets}
 use Rattle.journal.specs.Entries.{leave_entry}
-use Rattle.shard_core.specs.Sections.{with_place}
+use Rattle.epochs.specs.EnterPlaces.{with_place}
 use Rattle.shard_core.proofs.RoomLemmas.{served_has_room}
 use Rattle.shard_core.proofs.PlaceLemmas.{entered_ended}
 use Rattle.shard_core.proofs.StepLemmas.{section_taken}

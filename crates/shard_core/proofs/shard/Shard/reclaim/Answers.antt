@@ -4,7 +4,8 @@ use Rattle.semantics.specs.declared.call.Call.TheVariants.{Reclaim}
 use Rattle.semantics.specs.declared.call.Reply.TheVariants.{Freed}
 use Rattle.semantics.specs.History.{meets, journal_is_full}
 use Rattle.std.proofs.lemmas.List.{length-reverse}
-use Rattle.shard_core.specs.Sections.{entered_places, floor_of}
+use Rattle.shard_core.specs.Sections.{entered_places}
+use Rattle.epochs.specs.EnterPlaces.{floor_of}
 use Rattle.journal.specs.Entries.{reclaim_entry}
 use Rattle.shard_core.proofs.ChangeLemmas.{freed_count, contents_reclaimed}
 use Rattle.shard_core.proofs.StepLemmas.{step_taken}
