@@ -1,5 +1,5 @@
--- How rows and bytes make the entries of a journal.
-use Rattle.std.specs.Prelude.{ℕ, ◌+◌, ◌*◌, ◌≤◌, List, length, take, drop, map}
+-- How rows, bytes and words make the entries of a journal.
+use Rattle.std.specs.Prelude.{ℕ, ◌+◌, ◌*◌, ◌<◌, ◌≤◌, ◌^◌, List, length, take, drop, map, slice_index_or}
 use Rattle.std.specs.List.{AllByRecursion}
 use Rattle.semantics.specs.declared.call.Caller.{Caller}
 use Rattle.semantics.specs.declared.call.Call.{Call}
@@ -12,96 +12,125 @@ use Rattle.journal.specs.declared.row.Row.TheVariants.{Entered, Left, Found, Mis
 use Rattle.journal.specs.Journaled.{Journaled}
 use Rattle.semantics.specs.Memory.{cell_ref}
 
--- so many bytes from a place on
+-- this many bytes from a place on
 abbrev pub part : ℕ → ℕ → List ℕ → List ℕ
 part at size bytes = take size (drop at bytes)
+
+-- the number at a place
+abbrev pub word : List ℕ → ℕ → ℕ
+word words at = slice_index_or words at 0
 
 abbrev pub who_of : Row → Caller
 who_of (Entered who) = who
 who_of (Left who) = who
-who_of (Found who at cell) = who
+who_of (Found who at start) = who
 who_of (Missed who at) = who
-who_of (Loaded who size offset cell value) = who
-who_of (Stored who size offset cell value) = who
-who_of (Changed who size op offset cell value expected old) = who
-who_of (Updated who code at flags) = who
+who_of (Loaded who size offset start) = who
+who_of (Stored who size offset start) = who
+who_of (Changed who size op offset start) = who
+who_of (Updated who code start) = who
 who_of (Deleted who code at) = who
-who_of (Reclaimed who count) = who
+who_of (Reclaimed who start) = who
 
--- the call, whose key and value stand in the bytes
-abbrev pub call_of : ℕ → ℕ → ℕ → List ℕ → Row → Call
-call_of shard key_size value_size bytes (Entered who) = Enter shard
-call_of shard key_size value_size bytes (Left who) = Leave shard
-call_of shard key_size value_size bytes (Found who at cell) = Lookup shard (part at key_size bytes)
-call_of shard key_size value_size bytes (Missed who at) = Lookup shard (part at key_size bytes)
-call_of shard key_size value_size bytes (Loaded who size offset cell value) = Load (cell_ref shard cell) offset size
-call_of shard key_size value_size bytes (Stored who size offset cell value) = Store (cell_ref shard cell) offset size value
-call_of shard key_size value_size bytes (Changed who size op offset cell value expected old) =
-    Atomic (cell_ref shard cell) offset size op value expected
-call_of shard key_size value_size bytes (Updated who code at flags) =
-    Update shard (part at key_size bytes) (part (at + key_size) value_size bytes) flags
-call_of shard key_size value_size bytes (Deleted who code at) = Delete shard (part at key_size bytes)
-call_of shard key_size value_size bytes (Reclaimed who count) = Reclaim shard
+-- an Update whose key, with its value behind it, is in the bytes from this place on
+abbrev pub update_at : ℕ → ℕ → ℕ → List ℕ → ℕ → ℕ → Call
+update_at shard key_size value_size bytes at flags = Update shard (part at key_size bytes) (part (at + key_size) value_size bytes) flags
 
-abbrev pub reply_of : ℕ → Row → Reply
-reply_of shard (Entered who) = R.Entered
-reply_of shard (Left who) = R.Left
-reply_of shard (Found who at cell) = R.Cell (cell_ref shard cell)
-reply_of shard (Missed who at) = R.Null
-reply_of shard (Loaded who size offset cell value) = R.Word value
-reply_of shard (Stored who size offset cell value) = R.Done
-reply_of shard (Changed who size op offset cell value expected old) = R.Word old
-reply_of shard (Updated who code at flags) = R.Answer code
-reply_of shard (Deleted who code at) = R.Answer code
-reply_of shard (Reclaimed who count) = R.Freed count
+-- the call, whose key and value are in the bytes, and whose numbers are in the words
+abbrev pub call_of : ℕ → ℕ → ℕ → List ℕ → List ℕ → Row → Call
+call_of shard key_size value_size bytes words (Entered who) = Enter shard
+call_of shard key_size value_size bytes words (Left who) = Leave shard
+call_of shard key_size value_size bytes words (Found who at start) = Lookup shard (part at key_size bytes)
+call_of shard key_size value_size bytes words (Missed who at) = Lookup shard (part at key_size bytes)
+call_of shard key_size value_size bytes words (Loaded who size offset start) = Load (cell_ref shard (word words (start + 0))) offset size
+call_of shard key_size value_size bytes words (Stored who size offset start) =
+    Store (cell_ref shard (word words (start + 0))) offset size (word words (start + 1))
+call_of shard key_size value_size bytes words (Changed who size op offset start) =
+    Atomic (cell_ref shard (word words (start + 0))) offset size op (word words (start + 1)) (word words (start + 2))
+call_of shard key_size value_size bytes words (Updated who code start) =
+    update_at shard key_size value_size bytes (word words (start + 0)) (word words (start + 1))
+call_of shard key_size value_size bytes words (Deleted who code at) = Delete shard (part at key_size bytes)
+call_of shard key_size value_size bytes words (Reclaimed who start) = Reclaim shard
 
--- the entry that a row and the journal's bytes make
-abbrev pub entry_of : ℕ → ℕ → ℕ → List ℕ → Row → Entry
-entry_of shard key_size value_size bytes row =
-    record { who = who_of row; call = call_of shard key_size value_size bytes row; reply = reply_of shard row }
+abbrev pub reply_of : ℕ → List ℕ → Row → Reply
+reply_of shard words (Entered who) = R.Entered
+reply_of shard words (Left who) = R.Left
+reply_of shard words (Found who at start) = R.Cell (cell_ref shard (word words (start + 0)))
+reply_of shard words (Missed who at) = R.Null
+reply_of shard words (Loaded who size offset start) = R.Word (word words (start + 1))
+reply_of shard words (Stored who size offset start) = R.Done
+reply_of shard words (Changed who size op offset start) = R.Word (word words (start + 3))
+reply_of shard words (Updated who code start) = R.Answer code
+reply_of shard words (Deleted who code at) = R.Answer code
+reply_of shard words (Reclaimed who start) = R.Freed (word words (start + 0))
 
--- the row's key and value stand among the first so many bytes
-abbrev pub IsWithin : ℕ → ℕ → ℕ → Row → Type 0
-IsWithin key_size value_size count (Found who at cell) = at + key_size ≤ count
-IsWithin key_size value_size count (Missed who at) = at + key_size ≤ count
-IsWithin key_size value_size count (Updated who code at flags) = at + key_size + value_size ≤ count
-IsWithin key_size value_size count (Deleted who code at) = at + key_size ≤ count
-IsWithin key_size value_size count (Entered who) = Unit {0}
-IsWithin key_size value_size count (Left who) = Unit {0}
-IsWithin key_size value_size count (Loaded who size offset cell value) = Unit {0}
-IsWithin key_size value_size count (Stored who size offset cell value) = Unit {0}
-IsWithin key_size value_size count (Changed who size op offset cell value expected old) = Unit {0}
-IsWithin key_size value_size count (Reclaimed who freed) = Unit {0}
+-- the entry that a row, the journal's bytes and its words make
+abbrev pub entry_of : ℕ → ℕ → ℕ → List ℕ → List ℕ → Row → Entry
+entry_of shard key_size value_size bytes words row =
+    record { who = who_of row; call = call_of shard key_size value_size bytes words row; reply = reply_of shard words row }
 
--- the row has neither key nor value
-abbrev pub HasNoBytes : Row → Type 0
-HasNoBytes (Found who at cell) = ⊥
-HasNoBytes (Missed who at) = ⊥
-HasNoBytes (Updated who code at flags) = ⊥
-HasNoBytes (Deleted who code at) = ⊥
-HasNoBytes (Entered who) = Unit {0}
-HasNoBytes (Left who) = Unit {0}
-HasNoBytes (Loaded who size offset cell value) = Unit {0}
-HasNoBytes (Stored who size offset cell value) = Unit {0}
-HasNoBytes (Changed who size op offset cell value expected old) = Unit {0}
-HasNoBytes (Reclaimed who count) = Unit {0}
+-- the row's words are among these
+abbrev pub AreWordsWithin : List ℕ → Row → Type 0
+AreWordsWithin words (Entered who) = Unit {0}
+AreWordsWithin words (Left who) = Unit {0}
+AreWordsWithin words (Found who at start) = start + 0 < length words
+AreWordsWithin words (Missed who at) = Unit {0}
+AreWordsWithin words (Loaded who size offset start) = start + 1 < length words
+AreWordsWithin words (Stored who size offset start) = start + 1 < length words
+AreWordsWithin words (Changed who size op offset start) = start + 3 < length words
+AreWordsWithin words (Updated who code start) = start + 1 < length words
+AreWordsWithin words (Deleted who code at) = Unit {0}
+AreWordsWithin words (Reclaimed who start) = start + 0 < length words
+
+-- the row's key and value are among the first `count` bytes
+abbrev pub AreBytesWithin : ℕ → ℕ → ℕ → List ℕ → Row → Type 0
+AreBytesWithin key_size value_size count words (Entered who) = Unit {0}
+AreBytesWithin key_size value_size count words (Left who) = Unit {0}
+AreBytesWithin key_size value_size count words (Found who at start) = at + key_size ≤ count
+AreBytesWithin key_size value_size count words (Missed who at) = at + key_size ≤ count
+AreBytesWithin key_size value_size count words (Loaded who size offset start) = Unit {0}
+AreBytesWithin key_size value_size count words (Stored who size offset start) = Unit {0}
+AreBytesWithin key_size value_size count words (Changed who size op offset start) = Unit {0}
+AreBytesWithin key_size value_size count words (Updated who code start) = word words (start + 0) + key_size + value_size ≤ count
+AreBytesWithin key_size value_size count words (Deleted who code at) = at + key_size ≤ count
+AreBytesWithin key_size value_size count words (Reclaimed who start) = Unit {0}
+
+abbrev pub IsWithin : ℕ → ℕ → ℕ → List ℕ → Row → Type 0
+IsWithin key_size value_size count words row = AreWordsWithin words row × AreBytesWithin key_size value_size count words row
+
+-- the row has neither key nor value nor number
+abbrev pub IsBare : Row → Type 0
+IsBare (Entered who) = Unit {0}
+IsBare (Left who) = Unit {0}
+IsBare (Found who at start) = ⊥
+IsBare (Missed who at) = ⊥
+IsBare (Loaded who size offset start) = ⊥
+IsBare (Stored who size offset start) = ⊥
+IsBare (Changed who size op offset start) = ⊥
+IsBare (Updated who code start) = ⊥
+IsBare (Deleted who code at) = ⊥
+IsBare (Reclaimed who start) = ⊥
 
 -- what the fields of a journal stand for
-abbrev pub journaled : ℕ → ℕ → ℕ → ℕ → List Row → List ℕ → Journaled
-journaled shard reserve key_size value_size rows bytes = record {
+abbrev pub journaled : ℕ → ℕ → ℕ → ℕ → List Row → List ℕ → List ℕ → Journaled
+journaled shard reserve key_size value_size rows bytes words = record {
   shard = shard;
   reserve = reserve;
   key_size = key_size;
   value_size = value_size;
-  entries = map (entry_of shard key_size value_size bytes) rows;
+  entries = map (entry_of shard key_size value_size bytes words) rows;
 }
 
--- the rows read within the bytes, and both rooms last for the reserve
-pub record IsKept (reserve key_size value_size : ℕ) (rows : List Row) (row_room : ℕ) (bytes : List ℕ) (byte_room : ℕ) : Type 0 where
-  pub key : key_size ≤ 32
-  pub value : value_size ≤ 256
-  pub within : AllByRecursion (IsWithin key_size value_size (length bytes)) rows
-  -- no row took more bytes than one key and one value
-  pub used : length bytes ≤ length rows * (key_size + value_size)
-  pub rows_fit : reserve ≤ row_room
-  pub bytes_fit : reserve * (key_size + value_size) ≤ byte_room
+-- the rows read within the bytes and the words, and the rooms last for the reserve
+pub record IsKept (reserve key_size value_size : ℕ) (rows : List Row) (row_room : ℕ) (bytes : List ℕ) (byte_room : ℕ) (words : List ℕ) (word_room : ℕ)
+  : Type 0 where
+    pub few : reserve ≤ 2 ^ 20
+    pub key : key_size ≤ 32
+    pub value : value_size ≤ 256
+    pub within : AllByRecursion (IsWithin key_size value_size (length bytes) words) rows
+    -- no row took more bytes than one key and one value, nor more than four words
+    pub used : length bytes ≤ length rows * (key_size + value_size)
+    pub words_used : length words ≤ length rows * 4
+    pub rows_fit : reserve ≤ row_room
+    pub bytes_fit : reserve * (key_size + value_size) ≤ byte_room
+    pub words_fit : reserve * 4 ≤ word_room

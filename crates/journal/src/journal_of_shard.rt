@@ -1,14 +1,14 @@
 //! The journal.
 
-ghost use Rattle.std.specs.Prelude.{◌≡◌, ◌+◌, ◌*◌, ◌<◌, ◌≤◌, ◌∷◌, ◌++◌, [], IfOk, length, vec_len, vec_capacity, slice_get, Some};
+ghost use Rattle.std.specs.Prelude.{◌≡◌, ◌+◌, ◌*◌, ◌<◌, ◌≤◌, ◌^◌, ◌∷◌, ◌++◌, [], IfOk, length, vec_len, vec_capacity, slice_get, Some};
 ghost use Rattle.journal.specs.Journaled.{opened_journal, with_entry};
 ghost use Rattle.journal.specs.Entries.{enter_entry, leave_entry, lookup_entry, load_entry, store_entry, atomic_entry, update_entry};
 ghost use Rattle.journal.specs.Entries.{delete_entry, reclaim_entry};
-ghost use Rattle.journal.specs.Rows.{HasNoBytes, entry_of};
+ghost use Rattle.journal.specs.Rows.{IsBare, entry_of};
 ghost use Rattle.journal.specs.Ranges.{IsShortRange};
 
 use crate::append::{AtomicChange, CellRange};
-use crate::kept_bytes::put_bytes;
+use crate::kept_bytes::{put_bytes, put_words};
 use crate::row::{Row, Shape};
 use semantics::{Caller, Entry};
 use std::alloc::{AllocError, Global};
@@ -23,6 +23,8 @@ pub struct Journal {
     rows: Vec<Row>,
     /// The keys and values of the rows, one after another.
     bytes: Vec<u8>,
+    /// The numbers of the rows, one after another.
+    words: Vec<u64>,
 }
 
 impl Model for Journal {
@@ -32,13 +34,15 @@ impl Model for Journal {
 
     ghost Value = { Journaled };
 
-    ghost view = { λ j. journaled j.shape.shard j.reserve j.shape.key_size j.shape.value_size j.rows.items j.bytes.items };
+    ghost view = { λ j. journaled j.shape.shard j.reserve j.shape.key_size j.shape.value_size j.rows.items j.bytes.items j.words.items };
 
-    ghost invariant = { λ j. IsKept j.reserve j.shape.key_size j.shape.value_size j.rows.items (vec_capacity j.rows) j.bytes.items (vec_capacity j.bytes) };
+    ghost invariant = { λ j. IsKept j.reserve j.shape.key_size j.shape.value_size j.rows.items (vec_capacity j.rows)
+        j.bytes.items (vec_capacity j.bytes) j.words.items (vec_capacity j.words) };
 }
 
 impl Journal {
-    /// An empty journal of a shard, with room for `reserve` entries with keys and values of these sizes in bytes. Fails only for lack of memory.
+    /// An empty journal of a shard, with room for `reserve` entries, at most 1,048,576, with keys and values of these sizes in bytes. Fails only for lack of
+    /// memory.
     pub fn open(
         alloc: Global,
         shard: u32,
@@ -46,6 +50,7 @@ impl Journal {
         key_size: u32,
         value_size: u32,
     ) -> Result<Self, AllocError>
+        requires reserve { reserve ≤ 2 ^ 20 }
         requires key { key_size ≤ 32 }
         requires value { value_size ≤ 256 }
         ensures { IfOk result (λ journal. journal ≡ opened_journal shard reserve key_size value_size) }
@@ -53,6 +58,7 @@ impl Journal {
         let room = reserve as usize * (key_size as usize + value_size as usize);
         let rows = Vec::with_capacity(alloc, reserve as usize)?;
         let bytes = Vec::with_capacity(alloc, room)?;
+        let words = Vec::with_capacity(alloc, reserve as usize * 4)?;
         let shape = Shape {
             shard,
             key_size,
@@ -63,6 +69,7 @@ impl Journal {
             reserve,
             rows,
             bytes,
+            words,
         })
     }
 
@@ -79,14 +86,14 @@ impl Journal {
         ensures { slice_get self.now.entries place ≡ Some result }
     {
         let row = &self.rows[place];
-        row.entry(&self.shape, self.bytes.as_slice())
+        row.entry(&self.shape, self.bytes.as_slice(), self.words.as_slice())
     }
 
-    // A row without key and value behind the others.
+    // A row without key and number behind the others.
     fn put(&mut self, row: Row)
         requires room { length self.old.entries < self.old.reserve }
-        requires plain { HasNoBytes row }
-        ensures { self.new ≡ with_entry self.old (entry_of self.old.shard self.old.key_size self.old.value_size [] row) }
+        requires bare { IsBare row }
+        ensures { self.new ≡ with_entry self.old (entry_of self.old.shard self.old.key_size self.old.value_size [] [] row) }
     {
         put_row(&mut self.rows, row);
     }
@@ -113,10 +120,14 @@ impl Journal {
         requires key { length key.now ≡ self.old.key_size }
         ensures { self.new ≡ with_entry self.old (lookup_entry self.old.shard who key.now found) }
     {
-        let at = self.bytes.len() as u64;
+        let at = self.bytes.len() as u32;
         put_bytes(&mut self.bytes, key);
         match found {
-            Some(cell) => put_row(&mut self.rows, Row::Found { who, at, cell }),
+            Some(cell) => {
+                let start = self.words.len() as u32;
+                put_words(&mut self.words, &[cell]);
+                put_row(&mut self.rows, Row::Found { who, at, start });
+            }
             None => put_row(&mut self.rows, Row::Missed { who, at }),
         }
     }
@@ -127,13 +138,15 @@ impl Journal {
         requires range { IsShortRange range.now }
         ensures { self.new ≡ with_entry self.old (load_entry self.old.shard who range.now value) }
     {
-        self.put(Row::Loaded {
+        let start = self.words.len() as u32;
+        put_words(&mut self.words, &[range.cell, value]);
+        let row = Row::Loaded {
             who,
             size: range.size as u8,
             offset: range.offset as u16,
-            cell: range.cell,
-            value,
-        });
+            start,
+        };
+        put_row(&mut self.rows, row);
     }
 
     /// A Store of a number.
@@ -142,13 +155,15 @@ impl Journal {
         requires range { IsShortRange range.now }
         ensures { self.new ≡ with_entry self.old (store_entry self.old.shard who range.now value) }
     {
-        self.put(Row::Stored {
+        let start = self.words.len() as u32;
+        put_words(&mut self.words, &[range.cell, value]);
+        let row = Row::Stored {
             who,
             size: range.size as u8,
             offset: range.offset as u16,
-            cell: range.cell,
-            value,
-        });
+            start,
+        };
+        put_row(&mut self.rows, row);
     }
 
     /// An Atomic, with what was there before.
@@ -158,16 +173,16 @@ impl Journal {
         requires op { change.now.op < 256 }
         ensures { self.new ≡ with_entry self.old (atomic_entry self.old.shard who range.now change.now old) }
     {
-        self.put(Row::Changed {
+        let start = self.words.len() as u32;
+        put_words(&mut self.words, &[range.cell, change.value, change.expected, old]);
+        let row = Row::Changed {
             who,
             size: range.size as u8,
             op: change.op as u8,
             offset: range.offset as u16,
-            cell: range.cell,
-            value: change.value,
-            expected: change.expected,
-            old,
-        });
+            start,
+        };
+        put_row(&mut self.rows, row);
     }
 
     /// An Update, with its answer.
@@ -180,13 +195,9 @@ impl Journal {
         let at = self.bytes.len() as u64;
         put_bytes(&mut self.bytes, key);
         put_bytes(&mut self.bytes, value);
-        let row = Row::Updated {
-            who,
-            code,
-            at,
-            flags,
-        };
-        put_row(&mut self.rows, row);
+        let start = self.words.len() as u32;
+        put_words(&mut self.words, &[at, flags]);
+        put_row(&mut self.rows, Row::Updated { who, code, start });
     }
 
     /// A Delete, with its answer.
@@ -195,7 +206,7 @@ impl Journal {
         requires key { length key.now ≡ self.old.key_size }
         ensures { self.new ≡ with_entry self.old (delete_entry self.old.shard who key.now code) }
     {
-        let at = self.bytes.len() as u64;
+        let at = self.bytes.len() as u32;
         put_bytes(&mut self.bytes, key);
         put_row(&mut self.rows, Row::Deleted { who, code, at });
     }
@@ -205,7 +216,9 @@ impl Journal {
         requires { length self.old.entries < self.old.reserve }
         ensures { self.new ≡ with_entry self.old (reclaim_entry self.old.shard who count) }
     {
-        self.put(Row::Reclaimed { who, count });
+        let start = self.words.len() as u32;
+        put_words(&mut self.words, &[count]);
+        put_row(&mut self.rows, Row::Reclaimed { who, start });
     }
 }
 

@@ -16,6 +16,17 @@ pub fn put_bytes(bytes: &mut Vec<u8>, more: &[u8])
     }
 }
 
+/// Puts numbers behind the others, for which there is room.
+pub(crate) fn put_words(words: &mut Vec<u64>, more: &[u64])
+    requires { vec_len words.old + length more.now ≤ vec_capacity words.old }
+    ensures items { words.new.items ≡ words.old.items ++ more.now }
+    ensures room { vec_capacity words.old ≤ vec_capacity words.new }
+{
+    if words.extend_from_slice(more).is_err() {
+        unreachable!()
+    }
+}
+
 /// So many bytes from a place on.
 fn part(bytes: &[u8], at: u64, size: u32) -> &[u8]
     requires { at + size ≤ length bytes.now }

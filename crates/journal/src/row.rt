@@ -1,13 +1,13 @@
 //! An entry as a journal keeps it.
 
-ghost use Rattle.std.specs.Prelude.{◌≡◌, ◌+◌, ◌≤◌, length};
-ghost use Rattle.journal.specs.Rows.{who_of, call_of, reply_of, entry_of, IsWithin};
+ghost use Rattle.std.specs.Prelude.{◌≡◌, ◌+◌, ◌<◌, ◌≤◌, length};
+ghost use Rattle.journal.specs.Rows.{word, who_of, call_of, reply_of, entry_of, IsWithin, AreWordsWithin};
 
 use crate::kept_bytes::{key_at, value_at};
 use semantics::{Call, Caller, CellRef, Entry, Reply};
 
-/// A call with its reply. Its key, and behind it its value, stand among the journal's bytes from `at` on; the shard is the
-/// journal's. Small fields stand first, so that no variant has more than 40 bytes.
+/// The head of an entry: kind, caller and small fields. Its numbers are among the journal's words from `start` on, and its key, with its value behind it,
+/// is among the journal's bytes from `at` on; the shard is the journal's. Small fields come first, so that no variant has more than 12 bytes.
 #[derive(Clone, Copy, Debug, PartialEq, Eq)]
 pub(crate) enum Row {
     Entered {
@@ -16,56 +16,54 @@ pub(crate) enum Row {
     Left {
         who: Caller,
     },
-    /// A Lookup that found the key.
+    /// A Lookup that found the key. Word: the cell.
     Found {
         who: Caller,
-        at: u64,
-        cell: u64,
+        at: u32,
+        start: u32,
     },
     /// A Lookup that did not.
     Missed {
         who: Caller,
-        at: u64,
+        at: u32,
     },
+    /// Words: the cell, and what was read.
     Loaded {
         who: Caller,
         size: u8,
         offset: u16,
-        cell: u64,
-        value: u64,
+        start: u32,
     },
+    /// Words: the cell, and what was written.
     Stored {
         who: Caller,
         size: u8,
         offset: u16,
-        cell: u64,
-        value: u64,
+        start: u32,
     },
-    /// An Atomic, with what was there before.
+    /// Words: the cell, the operand, the expected number, and what was there before.
     Changed {
         who: Caller,
         size: u8,
         op: u8,
         offset: u16,
-        cell: u64,
-        value: u64,
-        expected: u64,
-        old: u64,
+        start: u32,
     },
+    /// Words: where the key is among the bytes, and the flags.
     Updated {
         who: Caller,
         code: i32,
-        at: u64,
-        flags: u64,
+        start: u32,
     },
     Deleted {
         who: Caller,
         code: i32,
-        at: u64,
+        at: u32,
     },
+    /// Word: how many cells were freed.
     Reclaimed {
         who: Caller,
-        count: u64,
+        start: u32,
     },
 }
 
@@ -77,18 +75,26 @@ pub(crate) struct Shape {
     pub value_size: u32,
 }
 
+/// The word at a place.
+fn word(words: &[u64], at: u32, more: u32) -> u64
+    requires { at + more < length words.now }
+    ensures { result ≡ word words.now (at + more) }
+{
+    words[at as usize + more as usize]
+}
+
 impl Row {
-    /// The entry that the row and the journal's bytes make.
-    pub(crate) fn entry(&self, shape: &Shape, bytes: &[u8]) -> Entry
-        requires within { IsWithin shape.now.key_size shape.now.value_size (length bytes.now) self.now }
+    /// The entry that the row, the journal's bytes and its words make.
+    pub(crate) fn entry(&self, shape: &Shape, bytes: &[u8], words: &[u64]) -> Entry
+        requires within { IsWithin shape.now.key_size shape.now.value_size (length bytes.now) words.now self.now }
         requires key { shape.now.key_size ≤ 32 }
         requires value { shape.now.value_size ≤ 256 }
-        ensures { result ≡ entry_of shape.now.shard shape.now.key_size shape.now.value_size bytes.now self.now }
+        ensures { result ≡ entry_of shape.now.shard shape.now.key_size shape.now.value_size bytes.now words.now self.now }
     {
         Entry {
             who: self.who(),
-            call: self.call(shape, bytes),
-            reply: self.reply(shape.shard),
+            call: self.call(shape, bytes, words),
+            reply: self.reply(shape.shard, words),
         }
     }
 
@@ -111,50 +117,54 @@ impl Row {
     }
 
     #[rattlefmt::skip]
-    fn reply(&self, shard: u32) -> Reply
-        ensures { result ≡ reply_of shard self.now }
+    fn reply(&self, shard: u32, words: &[u64]) -> Reply
+        requires { AreWordsWithin words.now self.now }
+        ensures { result ≡ reply_of shard words.now self.now }
     {
         match self {
             Row::Entered { .. } => Reply::Entered,
             Row::Left { .. } => Reply::Left,
-            Row::Found { cell, .. } => Reply::Cell { cell: CellRef { shard, id: *cell } },
+            Row::Found { start, .. } => Reply::Cell { cell: CellRef { shard, id: word(words, *start, 0) } },
             Row::Missed { .. } => Reply::Null,
-            Row::Loaded { value, .. } => Reply::Word { value: *value },
+            Row::Loaded { start, .. } => Reply::Word { value: word(words, *start, 1) },
             Row::Stored { .. } => Reply::Done,
-            Row::Changed { old, .. } => Reply::Word { value: *old },
+            Row::Changed { start, .. } => Reply::Word { value: word(words, *start, 3) },
             Row::Updated { code, .. } => Reply::Answer { code: *code },
             Row::Deleted { code, .. } => Reply::Answer { code: *code },
-            Row::Reclaimed { count, .. } => Reply::Freed { count: *count },
+            Row::Reclaimed { start, .. } => Reply::Freed { count: word(words, *start, 0) },
         }
     }
 
     #[rattlefmt::skip]
-    fn call(&self, shape: &Shape, bytes: &[u8]) -> Call
-        requires within { IsWithin shape.now.key_size shape.now.value_size (length bytes.now) self.now }
+    fn call(&self, shape: &Shape, bytes: &[u8], words: &[u64]) -> Call
+        requires within { IsWithin shape.now.key_size shape.now.value_size (length bytes.now) words.now self.now }
         requires key { shape.now.key_size ≤ 32 }
         requires value { shape.now.value_size ≤ 256 }
-        ensures { result ≡ call_of shape.now.shard shape.now.key_size shape.now.value_size bytes.now self.now }
+        ensures { result ≡ call_of shape.now.shard shape.now.key_size shape.now.value_size bytes.now words.now self.now }
     {
         let Shape { shard, key_size, value_size } = *shape;
         match self {
             Row::Entered { .. } => Call::Enter { shard },
             Row::Left { .. } => Call::Leave { shard },
-            Row::Found { at, .. } => Call::Lookup { shard, key: key_at(bytes, *at, key_size) },
-            Row::Missed { at, .. } => Call::Lookup { shard, key: key_at(bytes, *at, key_size) },
-            Row::Loaded { size, offset, cell, .. } => Call::Load {
-                cell: CellRef { shard, id: *cell }, offset: u64::from(*offset), size: u64::from(*size),
+            Row::Found { at, .. } => Call::Lookup { shard, key: key_at(bytes, u64::from(*at), key_size) },
+            Row::Missed { at, .. } => Call::Lookup { shard, key: key_at(bytes, u64::from(*at), key_size) },
+            Row::Loaded { size, offset, start, .. } => Call::Load {
+                cell: CellRef { shard, id: word(words, *start, 0) }, offset: u64::from(*offset), size: u64::from(*size),
             },
-            Row::Stored { size, offset, cell, value, .. } => Call::Store {
-                cell: CellRef { shard, id: *cell }, offset: u64::from(*offset), size: u64::from(*size), value: *value,
+            Row::Stored { size, offset, start, .. } => Call::Store {
+                cell: CellRef { shard, id: word(words, *start, 0) }, offset: u64::from(*offset), size: u64::from(*size), value: word(words, *start, 1),
             },
-            Row::Changed { size, op, offset, cell, value, expected, .. } => Call::Atomic {
-                cell: CellRef { shard, id: *cell }, offset: u64::from(*offset), size: u64::from(*size), op: u64::from(*op),
-                value: *value, expected: *expected,
+            Row::Changed { size, op, offset, start, .. } => Call::Atomic {
+                cell: CellRef { shard, id: word(words, *start, 0) }, offset: u64::from(*offset), size: u64::from(*size), op: u64::from(*op),
+                value: word(words, *start, 1), expected: word(words, *start, 2),
             },
-            Row::Updated { at, flags, .. } => Call::Update {
-                shard, key: key_at(bytes, *at, key_size), value: value_at(bytes, *at + u64::from(key_size), value_size), flags: *flags,
-            },
-            Row::Deleted { at, .. } => Call::Delete { shard, key: key_at(bytes, *at, key_size) },
+            Row::Updated { start, .. } => {
+                let at = word(words, *start, 0);
+                Call::Update {
+                    shard, key: key_at(bytes, at, key_size), value: value_at(bytes, at + u64::from(key_size), value_size), flags: word(words, *start, 1),
+                }
+            }
+            Row::Deleted { at, .. } => Call::Delete { shard, key: key_at(bytes, u64::from(*at), key_size) },
             Row::Reclaimed { .. } => Call::Reclaim { shard },
         }
     }
