@@ -2,3 +2,4 @@ mod LayoutLemmas
 mod SendLemmas
 pub mod shared
 mod FlowLemmas
+mod WrongRuns

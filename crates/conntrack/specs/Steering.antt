@@ -146,12 +146,15 @@ read_tunnel setting frame vip records =
     (finish setting frame (record records { tunnel = Some (tunnel_of (replicate 16 0 ++ bytes_of_number 8 state)) }))))
     (finish setting frame records)
 
+-- a packet that can go through the tunnel gets on
+abbrev pub pass_guard : Setting → FrameView → VipRecord → Plan
+pass_guard setting frame vip =
+    either (fits_tunnel frame.bytes) (read_tunnel setting frame vip (record no_records { vip = Some vip }))
+    (finish setting frame (record no_records { vip = Some vip }))
+
 abbrev pub read_service : Setting → FrameView → Plan
 read_service setting frame =
-    record_of setting Vips (service_bytes_of frame.bytes)
-    (λ word. (λ (vip : VipRecord). either (fits_tunnel frame.bytes)
-    (read_tunnel setting frame vip (record no_records { vip = Some vip }))
-    (finish setting frame (record no_records { vip = Some vip }))) (vip_of (bytes_of_number 8 word)))
+    record_of setting Vips (service_bytes_of frame.bytes) (λ word. pass_guard setting frame (vip_of (bytes_of_number 8 word)))
     (finish setting frame no_records)
 
 -- the whole rule: a frame without a flow reads nothing

@@ -4,6 +4,8 @@ use Rattle.wire.specs.declared.flow.FlowKey.{FlowKey}
 use Rattle.wire.specs.FlowBytes.{flow_key_bytes}
 use Rattle.wire.specs.FlowForm.{HasFlow, flow_bytes_of}
 use Rattle.wire.specs.FrameView.{FrameView}
+use Rattle.semantics.specs.declared.call.Call.{Call}
+use Rattle.semantics.specs.declared.call.Call.TheVariants.{Store}
 use Rattle.semantics.specs.declared.call.CellRef.{CellRef}
 use Rattle.semantics.specs.declared.call.Reply.{Reply}
 use Rattle.semantics.specs.declared.call.Reply.TheVariants.{Cell, Word}
@@ -18,7 +20,7 @@ use Rattle.conntrack.specs.declared.choosing.Choice.TheVariants.{Tx}
 use Rattle.conntrack.specs.Layouts.{service_of, service_key, vip_of, flow_of, backend_of, tunnel_of}
 use Rattle.conntrack.specs.SteeringRule.{IsSteered, fits_tunnel}
 use Rattle.conntrack.specs.Steering.{Setting, steering, ending, choice_in, service_bytes_of}
-use Rattle.conntrack.specs.Results.{IsResult}
+use Rattle.conntrack.specs.Results.{IsResult, count_lookup}
 
 -- the plan chooses by the records that it has read as the rule does, for every frame and all records
 abbrev pub FollowsRule : Type 0
@@ -36,6 +38,28 @@ FinishedRunsAreResults =
     (setting : Setting) (frame : FrameView) (exchanges : List Exchange) (verdict : Verdict) (left : FrameView) →
     plan_outcome (steering setting frame) (replies_in exchanges) ≡ record { calls = calls_in exchanges; ending = Ended verdict left } →
     IsResult setting frame exchanges verdict left
+
+-- ---- wrong counts
+
+-- the call is among the exchanges
+pub record Asked (call : Call) (exchanges : List Exchange) : Type 0 where
+  pub front : List Exchange
+  pub reply : Reply
+  pub back : List Exchange
+  pub place : exchanges ≡ front ++ (record { call = call; reply = reply }) ∷ back
+
+-- a run that does not look its verdict's count up, as one that counts nothing where it drops, is no result of the rule
+abbrev pub UncountedRunsAreNoResults : Type 0
+UncountedRunsAreNoResults =
+    (setting : Setting) (frame : FrameView) (exchanges : List Exchange) (verdict : Verdict) (left : FrameView) →
+    ¬ Asked (count_lookup setting verdict) exchanges → ¬ IsResult setting frame exchanges verdict left
+
+-- nor is a run that stores, as one that counts by a Load and a Store
+abbrev pub StoringRunsAreNoResults : Type 0
+StoringRunsAreNoResults =
+    (setting : Setting) (frame : FrameView) (exchanges : List Exchange) (verdict : Verdict) (left : FrameView)
+    (cell : CellRef) (offset size value : ℕ) →
+    Asked (Store cell offset size value) exchanges → ¬ IsResult setting frame exchanges verdict left
 
 -- ---- sticky flows
 

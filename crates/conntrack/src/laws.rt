@@ -1,6 +1,7 @@
 //! What holds of the steering rule as a plan, as contracts of functions that do nothing.
 
 ghost use Rattle.conntrack.specs.SteeringLaws.{FollowsRule, AsksForTheService, FinishedRunsAreResults, FlowsStick};
+ghost use Rattle.conntrack.specs.SteeringLaws.{UncountedRunsAreNoResults, StoringRunsAreNoResults};
 
 /// The plan of reading chooses by the rule that `choose` follows, for every frame and all records; it looks the service up under the key of the
 /// frame's flow.
@@ -18,4 +19,10 @@ pub fn finished_runs_are_results()
 /// frame to that backend and leaves the note as it is.
 pub fn flows_stick()
     ensures { FlowsStick }
+{}
+
+/// The definition of a result refuses wrong counts: a run that counts nothing where it drops, and one that counts by a Load and a Store.
+pub fn wrong_counts_are_no_results()
+    ensures uncounted { UncountedRunsAreNoResults }
+    ensures storing { StoringRunsAreNoResults }
 {}

@@ -53,7 +53,7 @@ count_from setting code verdict r p frame generation worker now steps = (
 pub count_meets : (setting : Setting) (code : List Insn) (state : MachineState) (plan : Plan) → AtCount setting state plan →
     Meets (after_count setting) (program setting code) count_block state plan
 count_meets setting code state plan at =
-    as_spelled (Meets (after_count setting) (program setting code) count_block) state plan _ 208 _ _ _ at.slot at.registers at.stack refl at.plan_is
+    as_spelled (Meets (after_count setting) (program setting code) count_block) state plan _ 208 _ _ _ at.here.slot at.here.registers at.here.stack refl at.plan_is
     (count_from setting code at.verdict (reg state.registers) (place state.stack) state.frame state.generation state.worker state.now state.steps)
 
 -- ---- the verdicts
@@ -64,7 +64,7 @@ drop_from : (setting : Setting) (code : List Insn) (r : ℕ → RegisterValue) (
     (spelled 207 (with_r6 (r 6) (r 7) (r 8) (r 9) r) (any_stack p) frame generation worker now steps) (counted setting V.Drop frame)
 unfolding slot_count
 drop_from setting code r p frame generation worker now steps =
-    record { verdict = V.Drop; slot = refl; registers = refl; stack = refl; plan_is = refl }
+    record { verdict = V.Drop; here = record { slot = refl; registers = refl; stack = refl }; plan_is = refl }
 
 pass_from : (setting : Setting) (code : List Insn) (r : ℕ → RegisterValue) (p : ℕ → StackByte) (frame : FrameView)
     (generation worker now steps : ℕ) →
@@ -72,18 +72,18 @@ pass_from : (setting : Setting) (code : List Insn) (r : ℕ → RegisterValue) (
     (spelled 205 (with_r6 (r 6) (r 7) (r 8) (r 9) r) (any_stack p) frame generation worker now steps) (counted setting V.Pass frame)
 unfolding slot_count
 pass_from setting code r p frame generation worker now steps =
-    record { verdict = V.Pass; slot = refl; registers = refl; stack = refl; plan_is = refl }
+    record { verdict = V.Pass; here = record { slot = refl; registers = refl; stack = refl }; plan_is = refl }
 
 pub drop_meets : (setting : Setting) (code : List Insn) (state : MachineState) (plan : Plan) → AtVerdict 207 V.Drop setting state plan →
     Meets (Arrives (promise setting) 208 ((Count, count_block) ∷ (End, end_block) ∷ [])) (program setting code) drop_block state plan
 drop_meets setting code state plan at =
     as_spelled (Meets (Arrives (promise setting) 208 ((Count, count_block) ∷ (End, end_block) ∷ [])) (program setting code) drop_block) state plan _ 207 _ _ _
-    at.slot at.registers at.stack refl at.plan_is
+    at.here.slot at.here.registers at.here.stack refl at.plan_is
     (drop_from setting code (reg state.registers) (place state.stack) state.frame state.generation state.worker state.now state.steps)
 
 pub pass_meets : (setting : Setting) (code : List Insn) (state : MachineState) (plan : Plan) → AtVerdict 205 V.Pass setting state plan →
     Meets (Arrives (promise setting) 207 ((Drop, drop_block) ∷ (Count, count_block) ∷ (End, end_block) ∷ [])) (program setting code) pass_block state plan
 pass_meets setting code state plan at =
     as_spelled (Meets (Arrives (promise setting) 207 ((Drop, drop_block) ∷ (Count, count_block) ∷ (End, end_block) ∷ [])) (program setting code) pass_block) state plan _ 205 _ _ _
-    at.slot at.registers at.stack refl at.plan_is
+    at.here.slot at.here.registers at.here.stack refl at.plan_is
     (pass_from setting code (reg state.registers) (place state.stack) state.frame state.generation state.worker state.now state.steps)

@@ -52,21 +52,25 @@ module _ (setting : Setting) (code : List Insn) (worker now : ℕ) (byte : ℕ �
   flow_20 steps two three short facts =
       tests _ _ _ _ _ _ _
       (λ tcp. record {
-        slot = refl;
-        registers = ninth _ _ _ _ _ _ _ _ _ _ _ _ (flow.total_is byte rest are);
-        stack = refl;
-        generation = refl;
-        frame = long short;
+        here = record {
+          slot = refl;
+          registers = ninth _ _ _ _ _ _ _ _ _ _ _ _ (flow.total_is byte rest are);
+          stack = refl;
+          generation = refl;
+          frame = long short;
+        };
         plan_is = serves setting byte rest (facts (flow.tcp byte rest are tcp));
       })
       (λ not_tcp. tests _ _ _ _ _ _ _
-      (λ other. record { slot = refl; registers = refl; stack = refl; plan_is = passes setting byte rest (flow.no_transport byte rest are not_tcp other) })
+      (λ other. record { here = record { slot = refl; registers = refl; stack = refl }; plan_is = passes setting byte rest (flow.no_transport byte rest are not_tcp other) })
       (λ udp. record {
-        slot = refl;
-        registers = ninth _ _ _ _ _ _ _ _ _ _ _ _ (flow.total_is byte rest are);
-        stack = refl;
-        generation = refl;
-        frame = long short;
+        here = record {
+          slot = refl;
+          registers = ninth _ _ _ _ _ _ _ _ _ _ _ _ (flow.total_is byte rest are);
+          stack = refl;
+          generation = refl;
+          frame = long short;
+        };
         plan_is = serves setting byte rest (facts (flow.udp byte rest are not_tcp udp));
       }))
 
@@ -75,8 +79,8 @@ module _ (setting : Setting) (code : List Insn) (worker now : ℕ) (byte : ℕ �
       FlowRest setting code worker now steps byte rest 14 (looked two three (Number (flow.total byte rest are)))
   unfolding slot_count
   flow_14 steps two three high low version least small =
-      tests _ _ _ _ _ _ _ (λ cut. record { slot = refl; registers = refl; stack = refl; plan_is = passes setting byte rest (flow.not_whole byte rest are small cut) })
-      (λ whole. tests _ _ _ _ _ _ _ (λ part. record { slot = refl; registers = refl; stack = refl; plan_is = passes setting byte rest (flow.a_fragment byte rest are part) })
+      tests _ _ _ _ _ _ _ (λ cut. record { here = record { slot = refl; registers = refl; stack = refl }; plan_is = passes setting byte rest (flow.not_whole byte rest are small cut) })
+      (λ whole. tests _ _ _ _ _ _ _ (λ part. record { here = record { slot = refl; registers = refl; stack = refl }; plan_is = passes setting byte rest (flow.a_fragment byte rest are part) })
       (λ one. flow_20 _ _ _ (flow.at_most byte rest are small) (λ transport. record {
         type_high = high;
         type_low = low;
@@ -91,15 +95,15 @@ module _ (setting : Setting) (code : List Insn) (worker now : ℕ) (byte : ℕ �
       FlowRest setting code worker now steps byte rest 10 (looked two three nine)
   unfolding slot_count
   flow_10 steps two three nine high low version =
-      tests _ _ _ _ _ _ _ (λ short. record { slot = refl; registers = refl; stack = refl; plan_is = passes setting byte rest (flow.too_short byte rest are short) })
-      (λ enough. tests _ _ _ _ _ _ _ (λ above. record { slot = refl; registers = refl; stack = refl; plan_is = passes setting byte rest (flow.too_long byte rest are most above) })
+      tests _ _ _ _ _ _ _ (λ short. record { here = record { slot = refl; registers = refl; stack = refl }; plan_is = passes setting byte rest (flow.too_short byte rest are short) })
+      (λ enough. tests _ _ _ _ _ _ _ (λ above. record { here = record { slot = refl; registers = refl; stack = refl }; plan_is = passes setting byte rest (flow.too_long byte rest are most above) })
       (λ small. flow_14 _ two three high low version (flow.long_enough byte rest are enough) small))
 
   flow_6 : (steps : ℕ) (two three nine : RegisterValue) → FlowRest setting code worker now steps byte rest 6 (looked two three nine)
   unfolding slot_count
   flow_6 steps two three nine =
-      tests _ _ _ _ _ _ _ (λ other. record { slot = refl; registers = refl; stack = refl; plan_is = passes setting byte rest (flow.other_type byte rest are other) })
-      (λ ipv4. tests _ _ _ _ _ _ _ (λ other. record { slot = refl; registers = refl; stack = refl; plan_is = passes setting byte rest (flow.other_version byte rest are other) })
+      tests _ _ _ _ _ _ _ (λ other. record { here = record { slot = refl; registers = refl; stack = refl }; plan_is = passes setting byte rest (flow.other_type byte rest are other) })
+      (λ ipv4. tests _ _ _ _ _ _ _ (λ other. record { here = record { slot = refl; registers = refl; stack = refl }; plan_is = passes setting byte rest (flow.other_version byte rest are other) })
       (λ version. flow_10 _ two _ nine (flow.ipv4_high byte rest are ipv4) (flow.ipv4_low byte rest are ipv4) (flow.version_4 byte rest are version)))
 
   pub long_from : (steps : ℕ) → FlowFrom setting code worker now steps (came_in byte rest)
@@ -113,9 +117,11 @@ unfolding slot_count
 short_from setting code worker now steps frame short =
     jumps_by _ _ _ _ _ _ _ (ap not short)
     (record {
-      slot = refl;
-      registers = refl;
-      stack = refl;
+      here = record {
+        slot = refl;
+        registers = refl;
+        stack = refl;
+      };
       plan_is =
           ap (λ t. either t (by_service setting frame) (counted setting V.Pass frame)) (flow.short_has_none frame.bytes short);
     })
@@ -151,5 +157,5 @@ pub flow_meets : (setting : Setting) (code : List Insn) (state : MachineState) (
 unfolding IsInput
 flow_meets setting code state plan at =
     as_spelled (Meets (Arrives (promise setting) 23 (from_key setting)) (program setting code) flow_block) state plan _ 0 _ _ 0
-    at.slot at.registers at.stack at.generation at.plan_is
-    (flow_from setting code state.worker state.now state.steps state.frame (at.headroom, at.most, at.are_bytes) (reaches 42 state.frame.bytes) refl)
+    at.here.slot at.here.registers at.here.stack at.here.generation at.plan_is
+    (flow_from setting code state.worker state.now state.steps state.frame (at.here.headroom, at.here.most, at.here.are_bytes) (reaches 42 state.frame.bytes) refl)

@@ -41,11 +41,13 @@ key_from setting code r p worker now steps byte rest are long =
     ap (bytes_of_number 4) (port_word (byte 34) (byte 35) (byte 36) (byte 37) (byte 23) (are 34) (are 35) (are 36) (are 37) (are 23))
     ∙ bytes_back (byte 36 ∷ byte 37 ∷ byte 23 ∷ 0 ∷ []) (are 36, (are 37, (are 23, (zero_small, tt)))) in
     record {
-      slot = refl;
-      registers = refl;
-      stack = (λ i. cells 0 488 p ++ (as_written (upper i) ++ (as_written (port i) ++ (as_written (eight i) ++ (as_written (four i) ++ as_written (protocol i))))));
-      generation = refl;
-      frame = long;
+      here = record {
+        slot = refl;
+        registers = refl;
+        stack = (λ i. cells 0 488 p ++ (as_written (upper i) ++ (as_written (port i) ++ (as_written (eight i) ++ (as_written (four i) ++ as_written (protocol i))))));
+        generation = refl;
+        frame = long;
+      };
       plan_is = refl;
     }
 
@@ -53,7 +55,7 @@ pub key_meets : (setting : Setting) (code : List Insn) (state : MachineState) (p
     Meets (Arrives (promise setting) 34 (from_vip setting)) (program setting code) key_block state plan
 key_meets setting code state plan at =
     as_spelled (Meets (Arrives (promise setting) 34 (from_vip setting)) (program setting code) key_block) state plan _ 23 _ _ 0
-    at.slot at.registers at.stack at.generation at.plan_is
-    (subst (KeyFrom setting code (reg state.registers) (place state.stack) state.worker state.now state.steps) (sym (is_came_in state.frame at.frame))
+    at.here.slot at.here.registers at.here.stack at.here.generation at.plan_is
+    (subst (KeyFrom setting code (reg state.registers) (place state.stack) state.worker state.now state.steps) (sym (is_came_in state.frame at.here.frame))
     (key_from setting code (reg state.registers) (place state.stack) state.worker state.now state.steps (slice_index state.frame.bytes) (drop 42 state.frame.bytes)
-    at.frame.are_bytes (subst IsLong (is_came_in state.frame at.frame) at.frame)))
+    at.here.frame.are_bytes (subst IsLong (is_came_in state.frame at.here.frame) at.here.frame)))

@@ -41,8 +41,8 @@ unfolding slot_count
 vip_from setting code r p worker now steps byte rest long = (
   refl,
   (
-    λ id. falls _ _ _ _ _ _ (refl, λ word fits. record { flags = word; slot = refl; registers = refl; stack = refl; generation = refl; frame = long; plan_is = refl }),
-    jumps _ _ _ _ _ _ (record { slot = refl; registers = refl; stack = refl; plan_is = refl }),
+    λ id. falls _ _ _ _ _ _ (refl, λ word fits. record { flags = word; here = record { slot = refl; registers = refl; stack = refl; generation = refl; frame = long }; plan_is = refl }),
+    jumps _ _ _ _ _ _ (record { here = record { slot = refl; registers = refl; stack = refl }; plan_is = refl }),
   ),
 )
 
@@ -50,10 +50,10 @@ pub vip_meets : (setting : Setting) (code : List Insn) (state : MachineState) (p
     Meets (Arrives (promise setting) 41 (from_guards setting)) (program setting code) vip_block state plan
 vip_meets setting code state plan at =
     as_spelled (Meets (Arrives (promise setting) 41 (from_guards setting)) (program setting code) vip_block) state plan _ 34 _ _ 0
-    at.slot at.registers at.stack at.generation at.plan_is
-    (subst (VipFrom setting code (reg state.registers) (place state.stack) state.worker state.now state.steps) (sym (is_came_in state.frame at.frame))
+    at.here.slot at.here.registers at.here.stack at.here.generation at.plan_is
+    (subst (VipFrom setting code (reg state.registers) (place state.stack) state.worker state.now state.steps) (sym (is_came_in state.frame at.here.frame))
     (vip_from setting code (reg state.registers) (place state.stack) state.worker state.now state.steps (slice_index state.frame.bytes) (drop 42 state.frame.bytes)
-    (subst IsLong (is_came_in state.frame at.frame) at.frame)))
+    (subst IsLong (is_came_in state.frame at.here.frame) at.here.frame)))
 
 not_not : (b : Bool) → not (not b) ≡ b
 not_not true = refl
@@ -72,25 +72,25 @@ guards_from : (setting : Setting) (code : List Insn) (flags : ℕ) (r : ℕ → 
     IsLong (came_in byte rest) → GuardsFrom setting code flags r p worker now steps (came_in byte rest)
 unfolding slot_count
 guards_from setting code flags r p worker now steps byte rest long =
-    forks _ _ _ _ _ _ _ _ _ refl (λ dead. record { slot = refl; registers = refl; stack = refl; plan_is = refl })
-    (λ alive. forks _ _ _ _ _ _ _ _ _ refl (λ long_packet. record { slot = refl; registers = refl; stack = refl; plan_is = refl })
+    forks _ _ _ _ _ _ _ _ _ refl (λ dead. record { here = record { slot = refl; registers = refl; stack = refl }; plan_is = refl })
+    (λ alive. forks _ _ _ _ _ _ _ _ _ refl (λ long_packet. record { here = record { slot = refl; registers = refl; stack = refl }; plan_is = refl })
     (λ fits. (
       refl,
       (
         λ id. falls _ _ _ _ _ _ (
           refl,
           λ state state_fits. turns _ _ _ _ _ _ _ _ _ (not_not (state % 2 ^ 32 == 1))
-              (λ not_ready. record { slot = refl; registers = refl; stack = refl; plan_is = refl })
+              (λ not_ready. record { here = record { slot = refl; registers = refl; stack = refl }; plan_is = refl })
               (λ ready. (
                 refl,
                 λ source source_fits. (
                   refl,
                   λ macs macs_fits.
-                      record { flags = flags; source = source; macs = macs; slot = refl; registers = refl; stack = refl; generation = refl; frame = long; plan_is = refl },
+                      record { flags = flags; source = source; macs = macs; here = record { slot = refl; registers = refl; stack = refl; generation = refl; frame = long }; plan_is = refl },
                 ),
               )),
         ),
-        jumps _ _ _ _ _ _ (record { slot = refl; registers = refl; stack = refl; plan_is = refl }),
+        jumps _ _ _ _ _ _ (record { here = record { slot = refl; registers = refl; stack = refl }; plan_is = refl }),
       ),
     )))
 
@@ -98,10 +98,10 @@ pub guards_meets : (setting : Setting) (code : List Insn) (state : MachineState)
     Meets (Arrives (promise setting) 57 (from_tracking setting)) (program setting code) guards_block state plan
 guards_meets setting code state plan at =
     as_spelled (Meets (Arrives (promise setting) 57 (from_tracking setting)) (program setting code) guards_block) state plan _ 41 _ _ 0
-    at.slot at.registers at.stack at.generation at.plan_is
-    (subst (GuardsFrom setting code at.flags (reg state.registers) (place state.stack) state.worker state.now state.steps) (sym (is_came_in state.frame at.frame))
+    at.here.slot at.here.registers at.here.stack at.here.generation at.plan_is
+    (subst (GuardsFrom setting code at.flags (reg state.registers) (place state.stack) state.worker state.now state.steps) (sym (is_came_in state.frame at.here.frame))
     (guards_from setting code at.flags (reg state.registers) (place state.stack) state.worker state.now state.steps (slice_index state.frame.bytes) (drop 42 state.frame.bytes)
-    (subst IsLong (is_came_in state.frame at.frame) at.frame)))
+    (subst IsLong (is_came_in state.frame at.here.frame) at.here.frame)))
 
 -- ---- tracking
 
@@ -117,7 +117,7 @@ tracking_from : (setting : Setting) (code : List Insn) (flags source macs : ℕ)
 unfolding slot_count
 tracking_from setting code flags source macs r p worker now steps byte rest long =
     forks _ _ _ _ _ _ _ _ _ refl
-    (λ notrack. record { flags = flags; source = source; macs = macs; slot = refl; registers = refl; stack = refl; generation = refl; frame = long; plan_is = refl })
+    (λ notrack. record { flags = flags; source = source; macs = macs; here = record { slot = refl; registers = refl; stack = refl; generation = refl; frame = long }; plan_is = refl })
     (λ tracked. (
       refl,
       (
@@ -129,14 +129,14 @@ tracking_from setting code flags source macs r p worker now steps byte rest long
               λ place. falls _ _ _ _ _ _ (
                 refl,
                 λ backend backend_fits. forks _ _ _ _ _ _ _ _ _ refl
-                    (λ up. record { source = source; macs = macs; backend = backend; backend_fits = backend_fits; slot = refl; registers = refl; stack = refl; generation = refl; frame = long; plan_is = refl })
-                    (λ down. record { flags = flags; source = source; macs = macs; slot = refl; registers = refl; stack = refl; generation = refl; frame = long; plan_is = refl }),
+                    (λ up. record { source = source; macs = macs; backend = backend; backend_fits = backend_fits; here = record { slot = refl; registers = refl; stack = refl; generation = refl; frame = long }; plan_is = refl })
+                    (λ down. record { flags = flags; source = source; macs = macs; here = record { slot = refl; registers = refl; stack = refl; generation = refl; frame = long }; plan_is = refl }),
               ),
-              jumps _ _ _ _ _ _ (record { flags = flags; source = source; macs = macs; slot = refl; registers = refl; stack = refl; generation = refl; frame = long; plan_is = refl }),
+              jumps _ _ _ _ _ _ (record { flags = flags; source = source; macs = macs; here = record { slot = refl; registers = refl; stack = refl; generation = refl; frame = long }; plan_is = refl }),
             ),
           ),
         ),
-        jumps _ _ _ _ _ _ (record { flags = flags; source = source; macs = macs; slot = refl; registers = refl; stack = refl; generation = refl; frame = long; plan_is = refl }),
+        jumps _ _ _ _ _ _ (record { flags = flags; source = source; macs = macs; here = record { slot = refl; registers = refl; stack = refl; generation = refl; frame = long }; plan_is = refl }),
       ),
     ))
 
@@ -144,11 +144,11 @@ pub tracking_meets : (setting : Setting) (code : List Insn) (state : MachineStat
     Meets (Arrives (promise setting) 76 (from_hash setting)) (program setting code) tracking_block state plan
 tracking_meets setting code state plan at =
     as_spelled (Meets (Arrives (promise setting) 76 (from_hash setting)) (program setting code) tracking_block) state plan _ 57 _ _ 0
-    at.slot at.registers at.stack at.generation at.plan_is
-    (subst (TrackingFrom setting code at.flags at.source at.macs (reg state.registers) (place state.stack) state.worker state.now state.steps) (sym (is_came_in state.frame at.frame))
+    at.here.slot at.here.registers at.here.stack at.here.generation at.plan_is
+    (subst (TrackingFrom setting code at.flags at.source at.macs (reg state.registers) (place state.stack) state.worker state.now state.steps) (sym (is_came_in state.frame at.here.frame))
     (tracking_from setting code at.flags at.source at.macs (reg state.registers) (place state.stack) state.worker state.now state.steps
     (slice_index state.frame.bytes) (drop 42 state.frame.bytes)
-    (subst IsLong (is_came_in state.frame at.frame) at.frame)))
+    (subst IsLong (is_came_in state.frame at.here.frame) at.here.frame)))
 
 -- ---- the flow's hash
 
@@ -184,11 +184,13 @@ hash_from setting code flags source macs r p worker now steps byte rest long =
       flags = flags;
       source = source;
       macs = macs;
-      slot = refl;
-      registers = first_number _ _ _ (three_zero_bytes _);
-      stack = refl;
-      generation = refl;
-      frame = long;
+      here = record {
+        slot = refl;
+        registers = first_number _ _ _ (three_zero_bytes _);
+        stack = refl;
+        generation = refl;
+        frame = long;
+      };
       plan_is = refl;
     }
 
@@ -196,11 +198,11 @@ pub hash_meets : (setting : Setting) (code : List Insn) (state : MachineState) (
     Meets (Arrives (promise setting) 122 (from_ring setting)) (program setting code) hash_block state plan
 hash_meets setting code state plan at =
     as_spelled (Meets (Arrives (promise setting) 122 (from_ring setting)) (program setting code) hash_block) state plan _ 76 _ _ 0
-    at.slot at.registers at.stack at.generation at.plan_is
-    (subst (HashFrom setting code at.flags at.source at.macs (reg state.registers) (place state.stack) state.worker state.now state.steps) (sym (is_came_in state.frame at.frame))
+    at.here.slot at.here.registers at.here.stack at.here.generation at.plan_is
+    (subst (HashFrom setting code at.flags at.source at.macs (reg state.registers) (place state.stack) state.worker state.now state.steps) (sym (is_came_in state.frame at.here.frame))
     (hash_from setting code at.flags at.source at.macs (reg state.registers) (place state.stack) state.worker state.now state.steps
     (slice_index state.frame.bytes) (drop 42 state.frame.bytes)
-    (subst IsLong (is_came_in state.frame at.frame) at.frame)))
+    (subst IsLong (is_came_in state.frame at.here.frame) at.here.frame)))
 
 -- ---- the owner of the slot
 
@@ -233,27 +235,27 @@ ring_from setting code flags source macs r p worker now steps byte rest long som
     λ id. falls _ _ _ _ _ _ (
       refl,
       λ owner owner_fits. forks _ _ _ _ _ _ _ _ _ refl
-          (λ none. record { slot = refl; registers = refl; stack = refl; plan_is = refl })
+          (λ none. record { here = record { slot = refl; registers = refl; stack = refl }; plan_is = refl })
           (λ some. (
             same_key 3 Array setting.shards _ _ (one_less owner owner_fits some),
             (
               λ place. falls _ _ _ _ _ _ (
                 refl,
                 λ backend backend_fits. turns _ _ _ _ _ _ _ _ _ (not_not (is_up backend))
-                    (λ down. record { slot = refl; registers = refl; stack = refl; plan_is = refl })
+                    (λ down. record { here = record { slot = refl; registers = refl; stack = refl }; plan_is = refl })
                     (λ up. forks _ _ _ _ _ _ _ _ _ refl
-                    (λ notrack. record { source = source; macs = macs; backend = backend; backend_fits = backend_fits; slot = refl; registers = refl; stack = refl; generation = refl; frame = long; plan_is = refl })
+                    (λ notrack. record { source = source; macs = macs; backend = backend; backend_fits = backend_fits; here = record { slot = refl; registers = refl; stack = refl; generation = refl; frame = long }; plan_is = refl })
                     (λ tracked. (
                       same_value _ _ _ _ (one_less owner owner_fits some),
                       λ answer answer_fits.
-                          record { source = source; macs = macs; backend = backend; backend_fits = backend_fits; slot = refl; registers = refl; stack = refl; generation = refl; frame = long; plan_is = refl },
+                          record { source = source; macs = macs; backend = backend; backend_fits = backend_fits; here = record { slot = refl; registers = refl; stack = refl; generation = refl; frame = long }; plan_is = refl },
                     ))),
               ),
-              jumps _ _ _ _ _ _ (record { slot = refl; registers = refl; stack = refl; plan_is = refl }),
+              jumps _ _ _ _ _ _ (record { here = record { slot = refl; registers = refl; stack = refl }; plan_is = refl }),
             ),
           )),
     ),
-    jumps _ _ _ _ _ _ (record { slot = refl; registers = refl; stack = refl; plan_is = refl }),
+    jumps _ _ _ _ _ _ (record { here = record { slot = refl; registers = refl; stack = refl }; plan_is = refl }),
   ),
 )
 
@@ -261,8 +263,8 @@ pub ring_meets : (setting : Setting) (code : List Insn) → (setting.size == 0) 
     Meets (Arrives (promise setting) 153 (from_tunnel setting)) (program setting code) (ring_block setting.size) state plan
 ring_meets setting code some state plan at =
     as_spelled (Meets (Arrives (promise setting) 153 (from_tunnel setting)) (program setting code) (ring_block setting.size)) state plan _ 122 _ _ 0
-    at.slot at.registers at.stack at.generation at.plan_is
-    (subst (RingFrom setting code at.flags at.source at.macs (reg state.registers) (place state.stack) state.worker state.now state.steps) (sym (is_came_in state.frame at.frame))
+    at.here.slot at.here.registers at.here.stack at.here.generation at.plan_is
+    (subst (RingFrom setting code at.flags at.source at.macs (reg state.registers) (place state.stack) state.worker state.now state.steps) (sym (is_came_in state.frame at.here.frame))
     (ring_from setting code at.flags at.source at.macs (reg state.registers) (place state.stack) state.worker state.now state.steps
     (slice_index state.frame.bytes) (drop 42 state.frame.bytes)
-    (subst IsLong (is_came_in state.frame at.frame) at.frame) some))
+    (subst IsLong (is_came_in state.frame at.here.frame) at.here.frame) some))

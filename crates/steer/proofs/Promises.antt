@@ -9,7 +9,7 @@ use Rattle.wire.specs.FlowBytes.{be_bytes}
 use Rattle.wire.specs.PlainIpv4.{total_length, type_of_service}
 use Rattle.steer.proofs.Tunnelling.{tunnelled_with}
 use Rattle.block_runs.specs.Plan.{Plan, Ends}
-use Rattle.steer.specs.PartStarts.{place, reg, with_r6, packet_start, any_stack, flow_stack, service_stack, tunnel_stack, long_frame, IsLong}
+use Rattle.steer.specs.PartStarts.{place, reg, with_r6, packet_start, any_stack, tunnel_stack, long_frame, IsLong, IsAt, FlowStart, VipStart, GuardsStart, TrackingStart, RingStart, TunnelStart, VerdictStart, CountStart}
 use Rattle.block_runs.proofs.shared.Blocks.{Promise, Named, Arrives}
 use Rattle.conntrack.specs.Steering.{Setting, counted, service_bytes_of}
 use Rattle.steer.proofs.Conversation.{sent, by_ring, by_note, by_tunnel, by_service, steered}
@@ -36,16 +36,12 @@ pub record AtEnd (setting : Setting) (state : MachineState) (plan : Plan) : Type
 
 pub record AtCount (setting : Setting) (state : MachineState) (plan : Plan) : Type 0 where
   pub verdict : Verdict
-  pub slot : state.slot ≡ 208
-  pub registers : state.registers ≡ with_r6 (Number (verdict_number verdict)) (reg state.registers 7) (reg state.registers 8) (reg state.registers 9) (reg state.registers)
-  pub stack : state.stack ≡ any_stack (place state.stack)
+  pub here : CountStart verdict state
   pub plan_is : plan ≡ counted setting verdict state.frame
 
 -- the verdicts of frames that are not sent
 pub record AtVerdict (start : ℕ) (verdict : Verdict) (setting : Setting) (state : MachineState) (plan : Plan) : Type 0 where
-  pub slot : state.slot ≡ start
-  pub registers : state.registers ≡ with_r6 (reg state.registers 6) (reg state.registers 7) (reg state.registers 8) (reg state.registers 9) (reg state.registers)
-  pub stack : state.stack ≡ any_stack (place state.stack)
+  pub here : VerdictStart start state
   pub plan_is : plan ≡ counted setting verdict state.frame
 
 pub record AtTunnel (setting : Setting) (state : MachineState) (plan : Plan) : Type 0 where
@@ -53,14 +49,10 @@ pub record AtTunnel (setting : Setting) (state : MachineState) (plan : Plan) : T
   pub macs : ℕ
   pub backend : ℕ
   pub backend_fits : backend < 18446744073709551616
-  pub slot : state.slot ≡ 153
-  pub registers : state.registers ≡ with_r6 ContextPointer packet_start (reg state.registers 8) (Number backend) (reg state.registers)
-  pub stack : state.stack ≡ tunnel_stack (place state.stack) source macs (flow_bytes_of state.frame.bytes)
-  pub generation : state.generation ≡ 0
-  pub frame : IsLong state.frame
+  pub here : TunnelStart source macs backend state
   pub plan_is : plan ≡ sent setting source macs backend state.frame
 
--- the new headers stand, but for the checksum
+-- the new headers are written, all but the checksum
 pub record AtChecksum (setting : Setting) (state : MachineState) (plan : Plan) : Type 0 where
   pub source : ℕ
   pub macs : ℕ
@@ -83,71 +75,46 @@ pub record AtRing (setting : Setting) (state : MachineState) (plan : Plan) : Typ
   pub flags : ℕ
   pub source : ℕ
   pub macs : ℕ
-  pub slot : state.slot ≡ 122
-  pub registers : state.registers ≡ Number (fnv1a64_of (flow_bytes_of state.frame.bytes)) ∷ drop 1 (with_r6 ContextPointer packet_start (Number flags) (reg state.registers 9) (reg state.registers))
-  pub stack : state.stack ≡ tunnel_stack (place state.stack) source macs (flow_bytes_of state.frame.bytes)
-  pub generation : state.generation ≡ 0
-  pub frame : IsLong state.frame
+  pub here :
+      IsAt 122 (Number (fnv1a64_of (flow_bytes_of state.frame.bytes))
+      ∷ drop 1 (with_r6 ContextPointer packet_start (Number flags) (reg state.registers 9) (reg state.registers)))
+      (tunnel_stack (place state.stack) source macs (flow_bytes_of state.frame.bytes)) state
   pub plan_is : plan ≡ by_ring setting flags source macs state.frame
 
 pub record AtHash (setting : Setting) (state : MachineState) (plan : Plan) : Type 0 where
   pub flags : ℕ
   pub source : ℕ
   pub macs : ℕ
-  pub slot : state.slot ≡ 76
-  pub registers : state.registers ≡ with_r6 ContextPointer packet_start (Number flags) (reg state.registers 9) (reg state.registers)
-  pub stack : state.stack ≡ tunnel_stack (place state.stack) source macs (flow_bytes_of state.frame.bytes)
-  pub generation : state.generation ≡ 0
-  pub frame : IsLong state.frame
+  pub here : RingStart flags source macs state
   pub plan_is : plan ≡ by_ring setting flags source macs state.frame
 
 pub record AtTracking (setting : Setting) (state : MachineState) (plan : Plan) : Type 0 where
   pub flags : ℕ
   pub source : ℕ
   pub macs : ℕ
-  pub slot : state.slot ≡ 57
-  pub registers : state.registers ≡ with_r6 ContextPointer packet_start (Number flags) (reg state.registers 9) (reg state.registers)
-  pub stack : state.stack ≡ tunnel_stack (place state.stack) source macs (flow_bytes_of state.frame.bytes)
-  pub generation : state.generation ≡ 0
-  pub frame : IsLong state.frame
+  pub here : TrackingStart flags source macs state
   pub plan_is : plan ≡ by_note setting flags source macs state.frame
 
 pub record AtGuards (setting : Setting) (state : MachineState) (plan : Plan) : Type 0 where
   pub flags : ℕ
-  pub slot : state.slot ≡ 41
-  pub registers : state.registers ≡ with_r6 ContextPointer packet_start (Number flags) (Number (total_length state.frame.bytes)) (reg state.registers)
-  pub stack : state.stack ≡ flow_stack (place state.stack) (flow_bytes_of state.frame.bytes)
-  pub generation : state.generation ≡ 0
-  pub frame : IsLong state.frame
+  pub here : GuardsStart flags state
   pub plan_is : plan ≡ by_tunnel setting flags state.frame
 
 pub record AtVip (setting : Setting) (state : MachineState) (plan : Plan) : Type 0 where
-  pub slot : state.slot ≡ 34
-  pub registers : state.registers ≡ with_r6 ContextPointer packet_start (reg state.registers 8) (Number (total_length state.frame.bytes)) (reg state.registers)
-  pub stack : state.stack ≡ service_stack (place state.stack) (service_bytes_of state.frame.bytes) (flow_bytes_of state.frame.bytes)
-  pub generation : state.generation ≡ 0
-  pub frame : IsLong state.frame
+  pub here : VipStart state
   pub plan_is : plan ≡ by_service setting state.frame
 
 pub record AtKey (setting : Setting) (state : MachineState) (plan : Plan) : Type 0 where
-  pub slot : state.slot ≡ 23
-  pub registers : state.registers ≡ reg state.registers 0 ∷ reg state.registers 1 ∷ reg state.registers 2 ∷ reg state.registers 3 ∷ Number (slice_index state.frame.bytes 23)
-      ∷ reg state.registers 5 ∷ ContextPointer ∷ packet_start ∷ reg state.registers 8 ∷ Number (total_length state.frame.bytes) ∷ StackPointer (pos 0) ∷ []
-  pub stack : state.stack ≡ any_stack (place state.stack)
-  pub generation : state.generation ≡ 0
-  pub frame : IsLong state.frame
+  pub here :
+      IsAt 23 (reg state.registers 0 ∷ reg state.registers 1 ∷ reg state.registers 2 ∷ reg state.registers 3 ∷ Number (slice_index state.frame.bytes 23)
+      ∷ reg state.registers 5 ∷ ContextPointer ∷ packet_start ∷ reg state.registers 8 ∷ Number (total_length state.frame.bytes) ∷ StackPointer (pos 0) ∷ [])
+      (any_stack (place state.stack)) state
   pub plan_is : plan ≡ by_service setting state.frame
 
 -- ---- the beginning
 
 pub record AtFlow (setting : Setting) (state : MachineState) (plan : Plan) : Type 0 where
-  pub slot : state.slot ≡ 0
-  pub registers : state.registers ≡ initial_registers
-  pub stack : state.stack ≡ replicate 512 Unwritten
-  pub generation : state.generation ≡ 0
-  pub headroom : state.frame.headroom ≡ 256
-  pub most : length state.frame.bytes ≤ 2048
-  pub are_bytes : (n : ℕ) → slice_index state.frame.bytes n < 256
+  pub here : FlowStart state
   pub plan_is : plan ≡ steered setting state.frame
 
 -- ---- the blocks

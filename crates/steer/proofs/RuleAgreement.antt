@@ -23,8 +23,8 @@ use Rattle.conntrack.specs.Layouts.{vip_of, flow_of, backend_of, tunnel_of, owne
 use Rattle.conntrack.specs.SteeringRule.{fits_tunnel, tracked_choice, ring_choice, tunnel_to}
 use Rattle.conntrack.specs.declared.steering_maps.SteeringMap.TheVariants as M
 use Rattle.block_runs.specs.Plan.{Plan, Asks, either}
-use Rattle.conntrack.specs.Steering.{Setting, look, read, record_of, counted, has_flow, steering, finish, ending, choice_in, no_records, read_service, read_tunnel, read_note, read_slot, read_owner, unless_tracked}
-use Rattle.steer.proofs.Conversation.{dropped, sent, noted, by_ring, by_note, by_service, steered, is_up, is_ready, is_notrack}
+use Rattle.conntrack.specs.Steering.{Setting, look, read, record_of, counted, has_flow, steering, finish, ending, choice_in, no_records, read_service, pass_guard, read_tunnel, read_note, read_slot, read_owner, unless_tracked}
+use Rattle.steer.proofs.Conversation.{dropped, sent, noted, by_ring, by_note, by_service, by_tunnel, steered, is_up, is_ready, is_notrack}
 use Rattle.block_runs.proofs.shared.Agreement.{Agrees, agrees_same, agree_forks}
 use Rattle.steer.proofs.RecordLemmas.{notrack_is, up_is, ready_is, note_key, fits_is, same_frame, note_bytes}
 
@@ -43,10 +43,10 @@ leaf program setting frame plan records choice is same = agrees_same program pla
 
 module _ (setting : Setting) (frame : FrameView) (program : Program) where
   -- what holds from the tunnel on
-  record Served (vip : VipRecord) (tunnel : TunnelRecord) : Type 0 where
-    flow : has_flow frame.bytes ≡ true
-    fits : fits_tunnel frame.bytes ≡ true
-    ready : tunnel.is_ready ≡ true
+  pub record Served (vip : VipRecord) (tunnel : TunnelRecord) : Type 0 where
+    pub flow : has_flow frame.bytes ≡ true
+    pub fits : fits_tunnel frame.bytes ≡ true
+    pub ready : tunnel.is_ready ≡ true
 
   abbrev by_rule : VipRecord → Records → Choice
   by_rule vip records = unwrap_or (tracked_choice vip records) (unwrap_or (ring_choice vip records) C.Drop)
@@ -61,17 +61,17 @@ module _ (setting : Setting) (frame : FrameView) (program : Program) where
   -- ---- the owner of the slot
 
   module _ (flags source macs state : ℕ) where
-    abbrev vip : VipRecord
+    abbrev pub vip : VipRecord
     vip = vip_of (bytes_of_number 8 flags)
 
-    abbrev tunnel : TunnelRecord
+    abbrev pub tunnel : TunnelRecord
     tunnel = tunnel_of (bytes_of_number 8 source ++ (bytes_of_number 8 macs ++ bytes_of_number 8 state))
 
-    abbrev with_slot : Option Assigned → Option Assigned → Records
+    abbrev pub with_slot : Option Assigned → Option Assigned → Records
     with_slot tracked slot = record { vip = Some vip; tunnel = Some tunnel; tracked = tracked; slot = slot }
 
     -- nobody was noted who is up
-    abbrev NotTracked : Option Assigned → Type 0
+    abbrev pub NotTracked : Option Assigned → Type 0
     NotTracked tracked = (slot : Option Assigned) → tracked_choice vip (with_slot tracked slot) ≡ None
 
     ring_rule : (tracked slot : Option Assigned) → Served vip tunnel → NotTracked tracked →
@@ -88,7 +88,7 @@ module _ (setting : Setting) (frame : FrameView) (program : Program) where
     abbrev noted_as : List ℕ → Plan → Plan
     noted_as note onward = Asks (Update (shard_of_key 1 LruHash setting.shards (flow_bytes_of frame.bytes)) (flow_bytes_of frame.bytes) note 0) (λ reply. onward)
 
-    sent_is : (backend : ℕ) → sent setting source macs backend frame ≡
+    pub sent_is : (backend : ℕ) → sent setting source macs backend frame ≡
         counted setting V.Tx (encapsulated_frame (tunnel_to tunnel (backend_of (bytes_of_number 8 backend)).address) frame)
     sent_is backend = ap (counted setting V.Tx) (sym (same_frame frame source macs state backend))
 
@@ -151,7 +151,7 @@ module _ (setting : Setting) (frame : FrameView) (program : Program) where
             (dropped setting frame))
             (dropped setting frame)
 
-    ring_agrees : (tracked : Option Assigned) → Served vip tunnel → NotTracked tracked →
+    pub ring_agrees : (tracked : Option Assigned) → Served vip tunnel → NotTracked tracked →
         Agrees program (by_ring setting flags source macs frame) (read_slot setting frame (with_slot tracked None))
     ring_agrees tracked served none =
         (refl, ((λ id. (refl, λ word fits. after_slot tracked word served none fits)), no_owner tracked served none))
@@ -190,7 +190,7 @@ module _ (setting : Setting) (frame : FrameView) (program : Program) where
         ∙ ap (λ c. unwrap_or c (unwrap_or (ring_choice vip (with_slot (as_noted note (Some (backend_of (bytes_of_number 8 backend)))) None)) C.Drop)) tracked)
         (sent_is backend))
 
-    note_agrees : Served vip tunnel → Agrees program (by_note setting flags source macs frame) (read_note setting frame vip (with_slot None None))
+    pub note_agrees : Served vip tunnel → Agrees program (by_note setting flags source macs frame) (read_note setting frame vip (with_slot None None))
     note_agrees served =
         agree_forks program (is_notrack flags) vip.is_notrack _ _ _ _ (notrack_is flags)
         (λ notrack. ring_agrees None served (λ slot. ap (λ t. if_tracked t None) notrack))
@@ -219,7 +219,7 @@ module _ (setting : Setting) (frame : FrameView) (program : Program) where
 
   -- ---- the tunnel
 
-  abbrev vip_by : ℕ → VipRecord
+  abbrev pub vip_by : ℕ → VipRecord
   vip_by flags = vip_of (bytes_of_number 8 flags)
 
   abbrev with_vip : ℕ → Option TunnelRecord → Records
@@ -264,16 +264,17 @@ module _ (setting : Setting) (frame : FrameView) (program : Program) where
   guards_by false false true drop go other_drop other_go is on_fit on_none = on_fit refl
   guards_by false false false drop go other_drop other_go is on_fit on_none = absurd cc
 
-  service_agrees : has_flow frame.bytes ≡ true → Agrees program (by_service setting frame) (read_service setting frame)
+  pub guard_agrees : (flags : ℕ) → has_flow frame.bytes ≡ true → Agrees program (by_tunnel setting flags frame) (pass_guard setting frame (vip_by flags))
+  guard_agrees flags flow =
+      guards_by (time_to_live frame.bytes == 0) (nat_lt 1480 (total_length frame.bytes)) (fits_tunnel frame.bytes) _ _ _ _ (fits_is frame.bytes)
+      (λ fits. tunnel_agrees flags flow fits)
+      (λ unfit. leaf program setting frame _ (with_vip flags None) C.Drop (λ i. by_guards (flow i) (unfit i) false (by_rule (vip_by flags) (with_vip flags None))) refl)
+
+  pub service_agrees : has_flow frame.bytes ≡ true → Agrees program (by_service setting frame) (read_service setting frame)
   service_agrees flow = (
     refl,
     (
-      (λ id. (
-        refl,
-        λ flags flags_fit. guards_by (time_to_live frame.bytes == 0) (nat_lt 1480 (total_length frame.bytes)) (fits_tunnel frame.bytes) _ _ _ _ (fits_is frame.bytes)
-            (λ fits. tunnel_agrees flags flow fits)
-            (λ unfit. leaf program setting frame _ (with_vip flags None) C.Drop (λ i. by_guards (flow i) (unfit i) false (by_rule (vip_by flags) (with_vip flags None))) refl),
-      )),
+      (λ id. (refl, λ flags flags_fit. guard_agrees flags flow)),
       leaf program setting frame _ no_records C.Pass (ap (λ t. if t then C.Pass else C.Pass) flow) refl,
     ),
   )

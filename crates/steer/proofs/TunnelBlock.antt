@@ -67,11 +67,11 @@ pub tunnel_meets : (setting : Setting) (code : List Insn) (state : MachineState)
     Meets (Arrives (promise setting) 185 (from_checksum setting)) (program setting code) tunnel_block state plan
 tunnel_meets setting code state plan at =
     as_spelled (Meets (Arrives (promise setting) 185 (from_checksum setting)) (program setting code) tunnel_block) state plan _ 153 _ _ 0
-    at.slot at.registers at.stack at.generation at.plan_is
-    (subst (TunnelFrom setting code at.source at.macs at.backend (reg state.registers) (place state.stack) state.worker state.now state.steps) (sym (is_came_in state.frame at.frame))
+    at.here.slot at.here.registers at.here.stack at.here.generation at.plan_is
+    (subst (TunnelFrom setting code at.source at.macs at.backend (reg state.registers) (place state.stack) state.worker state.now state.steps) (sym (is_came_in state.frame at.here.frame))
     (tunnel_from setting code at.source at.macs at.backend (reg state.registers) (place state.stack) state.worker state.now state.steps
-    (slice_index state.frame.bytes) (drop 42 state.frame.bytes) at.frame.are_bytes
-    (subst IsLong (is_came_in state.frame at.frame) at.frame)))
+    (slice_index state.frame.bytes) (drop 42 state.frame.bytes) at.here.frame.are_bytes
+    (subst IsLong (is_came_in state.frame at.here.frame) at.here.frame)))
 
 -- ---- the checksum
 
@@ -93,9 +93,11 @@ unfolding slot_count ChecksumFrom
 checksum_from setting code source macs backend old first second r p worker now steps long =
     record {
       verdict = V.Tx;
-      slot = refl;
-      registers = refl;
-      stack = refl;
+      here = record {
+        slot = refl;
+        registers = refl;
+        stack = refl;
+      };
       plan_is = ap (λ check. counted setting V.Tx (tunnelled_with check old source macs backend)) (sym written);
     }
   where

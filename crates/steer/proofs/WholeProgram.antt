@@ -1,61 +1,66 @@
--- The shipped program carries out the conversation.
+-- The blocks together: from each part's start the shipped program does what is left of the rule's plan, and so from the beginning of a run the whole.
 use Rattle.std.proofs.Common.{◌≡◌, ◌⊎◌, inl, inr, ◌≤◌, ◌<◌, ◌==◌, ℕ, zero, suc, false, List, [], ◌∷◌, refl, sym, ap, subst, ◌∙◌, arith, length}
-use Rattle.std.specs.Prelude.{All, slice_index}
+use Rattle.std.specs.Prelude.{All, slice_index, None}
 use Rattle.std.proofs.lemmas.Bool.{cases_lt}
 use Rattle.std.proofs.lemmas.List.Elements.{All-get_or}
 use Rattle.ebpf_decode.specs.declared.insn.Insn.{Insn}
 use Rattle.ebpf_decode.specs.InstructionEncoding.{slot_count}
-use Rattle.wire.specs.FrameView.{FrameView}
+use Rattle.semantics.specs.declared.verdict.Verdict.TheVariants as V
+use Rattle.semantics.specs.LittleEndian.{bytes_of_number}
 use Rattle.semantics.specs.MachineState.{MachineState, initial_state}
 use Rattle.semantics.specs.System.{input_frame}
-use Rattle.semantics.specs.RunTrace.{trace_of, RunTrace}
-use Rattle.semantics.specs.declared.call.Reply.{Reply}
-use Rattle.block_runs.specs.Plan.{Plan, Asks, Ends, Does, AreAnswers, RunOutcome, outcome_of, plan_outcome}
-use Rattle.conntrack.specs.Steering.{steering, Setting}
-use Rattle.block_runs.proofs.shared.Agreement.{same_outcome, Fitting}
-use Rattle.steer.proofs.RuleAgreement.{steering_agrees}
-use Rattle.block_runs.proofs.shared.Blocks.{BlocksMeet, Arrives, code_of, longest_of}
-use Rattle.steer.specs.SteeringLaws.{ShippedSteers, ExitedRunsAreResults, shipped_program, of_size, whole_trace}
+use Rattle.semantics.specs.RunTrace.{RunTrace}
+use Rattle.maglev.specs.RingSize.{IsRingSize}
+use Rattle.ipip.specs.Encapsulation.{encapsulated_frame}
+use Rattle.map_port.specs.Exchanges.{calls_in, replies_in}
+use Rattle.block_runs.specs.Plan.{Plan, AreAnswers, outcome_of}
+use Rattle.block_runs.proofs.shared.Blocks.{Promise, BlocksMeet, Arrives, code_of}
+use Rattle.block_runs.proofs.shared.BlockLaw.{blocks_join, does_more}
+use Rattle.block_runs.proofs.shared.Agreement.{does_agreeing, agrees_same}
+use Rattle.conntrack.specs.Layouts.{backend_of}
+use Rattle.conntrack.specs.SteeringRule.{tunnel_to}
+use Rattle.conntrack.specs.Steering.{Setting, steering, read_service, pass_guard, read_note, read_slot, counted}
+use Rattle.conntrack.proofs.shared.RuleLemmas.{passes_test}
 use Rattle.conntrack.proofs.shared.ResultLemmas.{finished_runs}
-use Rattle.map_port.specs.Exchanges.{replies_in}
-use Rattle.steer.proofs.Conversation.{steered}
-use Rattle.steer.proofs.Promises.{program, promise, from_flow}
-use Rattle.block_runs.proofs.shared.BlockLaw.{blocks_join}
+use Rattle.steer.specs.ShippedProgram.{shipped_image}
+use Rattle.steer.specs.SteeringLaws.{ShippedSteers, ExitedRunsAreResults, shipped_program, of_size, whole_trace}
+use Rattle.steer.specs.PartLaws.{DoesFrom, vip_in, tunnel_in, records_in, FlowDoesItsPart, VipDoesItsPart, GuardsDoTheirPart, TrackingDoesItsPart}
+use Rattle.steer.specs.PartLaws.{RingDoesItsPart, TunnelDoesItsPart, CountDoesItsPart, PassIsCounted, DropIsCounted}
+use Rattle.steer.proofs.Conversation.{steered, by_service, by_tunnel, by_note, by_ring, sent}
+use Rattle.steer.proofs.Promises.{program, promise, from_flow, AtFlow, AtVip, AtGuards, AtTracking, AtHash, AtTunnel, AtVerdict, AtCount}
+use Rattle.steer.proofs.RuleAgreement.{steering_agrees, service_agrees, guard_agrees, note_agrees, ring_agrees, sent_is}
 use Rattle.steer.proofs.CountBlock.{end_meets, count_meets, drop_meets, pass_meets}
 use Rattle.steer.proofs.LookBlocks.{vip_meets, guards_meets, tracking_meets, hash_meets, ring_meets}
 use Rattle.steer.proofs.KeyBlock.{key_meets}
 use Rattle.steer.proofs.FlowBlock.{flow_meets}
 use Rattle.steer.proofs.TunnelBlock.{tunnel_meets, checksum_meets}
-use Rattle.steer.specs.ShippedProgram.{shipped_image}
-use Rattle.maglev.specs.RingSize.{IsRingSize}
-use Rattle.semantics.specs.Program.{Program}
 
 blocks_meet : (setting : Setting) (code : List Insn) → (setting.size == 0) ≡ false → BlocksMeet (promise setting) (program setting code) 0 (from_flow setting)
 unfolding slot_count
 blocks_meet setting code some = (
-  λ state plan at. (at.slot, flow_meets setting code state plan at),
+  λ state plan at. (at.here.slot, flow_meets setting code state plan at),
   (
-    λ state plan at. (at.slot, key_meets setting code state plan at),
+    λ state plan at. (at.here.slot, key_meets setting code state plan at),
     (
-      λ state plan at. (at.slot, vip_meets setting code state plan at),
+      λ state plan at. (at.here.slot, vip_meets setting code state plan at),
       (
-        λ state plan at. (at.slot, guards_meets setting code state plan at),
+        λ state plan at. (at.here.slot, guards_meets setting code state plan at),
         (
-          λ state plan at. (at.slot, tracking_meets setting code state plan at),
+          λ state plan at. (at.here.slot, tracking_meets setting code state plan at),
           (
-            λ state plan at. (at.slot, hash_meets setting code state plan at),
+            λ state plan at. (at.here.slot, hash_meets setting code state plan at),
             (
-              λ state plan at. (at.slot, ring_meets setting code some state plan at),
+              λ state plan at. (at.here.slot, ring_meets setting code some state plan at),
               (
-                λ state plan at. (at.slot, tunnel_meets setting code state plan at),
+                λ state plan at. (at.here.slot, tunnel_meets setting code state plan at),
                 (
                   λ state plan at. (at.slot, checksum_meets setting code state plan at),
                   (
-                    λ state plan at. (at.slot, pass_meets setting code state plan at),
+                    λ state plan at. (at.here.slot, pass_meets setting code state plan at),
                     (
-                      λ state plan at. (at.slot, drop_meets setting code state plan at),
+                      λ state plan at. (at.here.slot, drop_meets setting code state plan at),
                       (
-                        λ state plan at. (at.slot, count_meets setting code state plan at),
+                        λ state plan at. (at.here.slot, count_meets setting code state plan at),
                         (λ state plan at. (at.slot, end_meets (Arrives (promise setting) 219 []) setting code state plan at), tt),
                       ),
                     ),
@@ -70,19 +75,11 @@ blocks_meet setting code some = (
   ),
 )
 
-pub shipped_does : (setting : Setting) → (setting.size == 0) ≡ false → (frame : FrameView) (worker now : ℕ) →
-    frame.headroom ≡ 256 → length frame.bytes ≤ 2048 → ((n : ℕ) → slice_index frame.bytes n < 256) →
-    Does (longest_of (from_flow setting)) (program setting (code_of (from_flow setting))) (initial_state frame worker now) (steered setting frame)
-shipped_does setting some frame worker now headroom most are =
-    blocks_join _ (promise setting) (program setting (code_of (from_flow setting))) (from_flow setting) refl (blocks_meet setting (code_of (from_flow setting)) some)
-    (initial_state frame worker now) (steered setting frame)
-    (record { slot = refl; registers = refl; stack = refl; generation = refl; headroom = headroom; most = most; are_bytes = are; plan_is = refl })
-
 -- by the list of blocks as it is told
 same_code : (setting : Setting) → code_of (from_flow setting) ≡ (shipped_image setting.size).code
 same_code setting = refl
 
-has_size : (size : ℕ) → IsRingSize size → (size == 0) ≡ false
+pub has_size : (size : ℕ) → IsRingSize size → (size == 0) ≡ false
 has_size size (zero, below, is) = subst (λ n. (n == 0) ≡ false) is refl
 has_size size (suc zero, below, is) = subst (λ n. (n == 0) ≡ false) is refl
 has_size size (suc (suc zero), below, is) = subst (λ n. (n == 0) ≡ false) is refl
@@ -101,25 +98,88 @@ bytes_below bytes all n = by (cases_lt n (length bytes))
     by (inl within) = All-get_or (λ (byte : ℕ). byte < 256) bytes n 0 within all
     by (inr past) = subst (λ (b : ℕ). b < 256) (sym (beyond bytes n past)) (let none : 0 < 256 = omega arith in none)
 
--- the plan's own calls are answered
-answered : (program : Program) (plan : Plan) (replies : List Reply) → AreAnswers program (plan_outcome plan replies).calls replies → Fitting program plan replies
-answered program (Ends verdict frame) replies are = tt
-answered program (Asks call onward) [] are = tt
-answered program (Asks call onward) (reply ∷ replies) are = (are.0, answered program (onward reply) replies are.1)
+-- ---- from the start of a part
+
+moved : (state : MachineState) (start : ℕ) → state.slot ≡ start → state ≡ record state { slot = start }
+moved state start is = (λ i. record state { slot = is i })
+
+-- the rest of the program does what is promised there
+from_part : (setting : Setting) → IsRingSize setting.size → (state : MachineState) (plan : Plan) →
+    Arrives (promise setting) 0 (from_flow setting) state plan → DoesFrom setting state plan
+unfolding slot_count
+from_part setting is state plan arrives =
+    does_more 209 219 (let more : 209 ≤ 219 = omega arith in more) (shipped_program setting) state plan
+    (blocks_join _ (promise setting) (program setting (code_of (from_flow setting))) (from_flow setting) refl
+    (blocks_meet setting (code_of (from_flow setting)) (has_size setting.size is)) state plan arrives)
+
+-- of a part that starts at this slot
+starting : (setting : Setting) → IsRingSize setting.size → (state : MachineState) (plan : Plan) (start : ℕ) (promised : Promise) → state.slot ≡ start →
+    promised state plan → (promised (record state { slot = start }) plan → Arrives (promise setting) 0 (from_flow setting) (record state { slot = start }) plan) →
+    DoesFrom setting state plan
+starting setting is state plan start promised slot at arrives =
+    from_part setting is state plan
+    (subst (λ (s : MachineState). Arrives (promise setting) 0 (from_flow setting) s plan) (sym (moved state start slot))
+    (arrives (subst (λ (s : MachineState). promised s plan) (moved state start slot) at)))
+
+pub flow_part : FlowDoesItsPart
+unfolding slot_count
+flow_part setting is state here =
+    does_agreeing 219 (shipped_program setting) state (steered setting state.frame) (steering setting state.frame) (steering_agrees setting state.frame (shipped_program setting))
+    (starting setting is state (steered setting state.frame) 0 (AtFlow setting) here.slot (record { here = here; plan_is = refl }) (λ at. at))
+
+pub vip_part : VipDoesItsPart
+unfolding slot_count
+vip_part setting is state here flow =
+    does_agreeing 219 (shipped_program setting) state (by_service setting state.frame) (read_service setting state.frame) (service_agrees setting state.frame (shipped_program setting) (passes_test state.frame.bytes flow))
+    (starting setting is state (by_service setting state.frame) 34 (AtVip setting) here.slot (record { here = here; plan_is = refl }) (λ at. at))
+
+pub guards_part : GuardsDoTheirPart
+unfolding slot_count
+guards_part setting is flags state here flow =
+    does_agreeing 219 (shipped_program setting) state (by_tunnel setting flags state.frame) (pass_guard setting state.frame (vip_in flags)) (guard_agrees setting state.frame (shipped_program setting) flags (passes_test state.frame.bytes flow))
+    (starting setting is state (by_tunnel setting flags state.frame) 41 (AtGuards setting) here.slot (record { flags = flags; here = here; plan_is = refl }) (λ at. at))
+
+pub tracking_part : TrackingDoesItsPart
+unfolding slot_count
+tracking_part setting is flags source macs word state here past =
+    does_agreeing 219 (shipped_program setting) state (by_note setting flags source macs state.frame) (read_note setting state.frame (vip_in flags) (records_in flags source macs word None)) (note_agrees setting state.frame (shipped_program setting) flags source macs word (record { flow = passes_test state.frame.bytes past.flow; fits = past.fits; ready = past.ready }))
+    (starting setting is state (by_note setting flags source macs state.frame) 57 (AtTracking setting) here.slot (record { flags = flags; source = source; macs = macs; here = here; plan_is = refl }) (λ at. at))
+
+pub ring_part : RingDoesItsPart
+unfolding slot_count
+ring_part setting is flags source macs word tracked state here past none =
+    does_agreeing 219 (shipped_program setting) state (by_ring setting flags source macs state.frame) (read_slot setting state.frame (records_in flags source macs word tracked)) (ring_agrees setting state.frame (shipped_program setting) flags source macs word tracked (record { flow = passes_test state.frame.bytes past.flow; fits = past.fits; ready = past.ready }) (λ slot. none))
+    (starting setting is state (by_ring setting flags source macs state.frame) 76 (AtHash setting) here.slot (record { flags = flags; source = source; macs = macs; here = here; plan_is = refl }) (λ at. at))
+
+pub tunnel_part : TunnelDoesItsPart
+unfolding slot_count
+tunnel_part setting is source macs word backend fits state here =
+    does_agreeing 219 (shipped_program setting) state (sent setting source macs backend state.frame) (counted setting V.Tx (encapsulated_frame (tunnel_to (tunnel_in source macs word) (backend_of (bytes_of_number 8 backend)).address) state.frame)) (agrees_same (shipped_program setting) _ _ (sent_is setting state.frame (shipped_program setting) 0 source macs word backend))
+    (starting setting is state (sent setting source macs backend state.frame) 153 (AtTunnel setting) here.slot (record { source = source; macs = macs; backend = backend; backend_fits = fits; here = here; plan_is = refl }) (λ at. at))
+
+pub count_part : CountDoesItsPart
+unfolding slot_count
+count_part setting is verdict state here =
+    starting setting is state (counted setting verdict state.frame) 208 (AtCount setting) here.slot (record { verdict = verdict; here = here; plan_is = refl }) (λ at. at)
+
+pub pass_part : PassIsCounted
+unfolding slot_count
+pass_part setting is state here =
+    starting setting is state (counted setting V.Pass state.frame) 205 (AtVerdict 205 V.Pass setting) here.slot (record { here = here; plan_is = refl }) (λ at. at)
+
+pub drop_part : DropIsCounted
+unfolding slot_count
+drop_part setting is state here =
+    starting setting is state (counted setting V.Drop state.frame) 207 (AtVerdict 207 V.Drop setting) here.slot (record { here = here; plan_is = refl }) (λ at. at)
+
+-- ---- from the beginning of a run
 
 pub shipped_steers : ShippedSteers
 unfolding slot_count
 shipped_steers size shards is frame input worker now replies are =
-    let setting : Setting = of_size shards size in
-    let start : MachineState = initial_state (input_frame frame) worker now in
-    let done : outcome_of (trace_of 219 (shipped_program setting) start replies) ≡ plan_outcome (steered setting (input_frame frame)) replies =
-    shipped_does setting (has_size size is) (input_frame frame) worker now refl input.greatest (bytes_below frame input.bytes) 219
-    (let more : 209 ≤ 219 = omega arith in more) replies are in
-    let own : AreAnswers (shipped_program setting) (plan_outcome (steered setting (input_frame frame)) replies).calls replies =
-    subst (λ (outcome : RunOutcome). AreAnswers (shipped_program setting) outcome.calls replies) done are in
-    done ∙ same_outcome (shipped_program setting) (steered setting (input_frame frame)) (steering setting (input_frame frame))
-    (steering_agrees setting (input_frame frame) (shipped_program setting)) replies
-    (answered (shipped_program setting) (steered setting (input_frame frame)) replies own)
+    flow_part (of_size shards size) is (initial_state (input_frame frame) worker now)
+    (record { slot = refl; registers = refl; stack = refl; generation = refl; headroom = refl; most = input.greatest; are_bytes = bytes_below frame input.bytes })
+    219 (let same : 219 ≤ 219 = omega arith in same) replies are
 
 pub exited_runs : ExitedRunsAreResults
 exited_runs size shards is frame input worker now exchanges verdict last are trace =

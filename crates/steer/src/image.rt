@@ -6,6 +6,7 @@ ghost use Rattle.conntrack.specs.declared.fault.SteerFault.TheVariants.{BadSize}
 ghost use Rattle.steer.specs.ShippedProgram.{shipped_image, code_of, shipped_blocks};
 
 use crate::blocks;
+use crate::layout::{Block, put};
 use conntrack::{SteerFault, maps};
 use ebpf_decode::{Image, Insn, Version};
 use maglev::is_ring_size;
@@ -36,18 +37,18 @@ fn code(alloc: Global, size: u32) -> Result<Vec<Insn>, SteerFault>
     ensures memory_alone { ¬ IsErrOf result BadSize }
 {
     let mut code = Vec::new(alloc);
-    code.extend_from_slice(&blocks::FLOW)?;
-    code.extend_from_slice(&blocks::KEY)?;
-    code.extend_from_slice(&blocks::vip_block())?;
-    code.extend_from_slice(&blocks::guards_block())?;
-    code.extend_from_slice(&blocks::tracking_block())?;
+    put(&mut code, Block::Flow, &blocks::flow_lines())?;
+    put(&mut code, Block::Key, &blocks::key_lines())?;
+    put(&mut code, Block::Vip, &blocks::vip_lines())?;
+    put(&mut code, Block::Guards, &blocks::guards_lines())?;
+    put(&mut code, Block::Tracking, &blocks::tracking_lines())?;
     blocks::put_hash(&mut code)?;
-    code.extend_from_slice(&blocks::ring_block(size))?;
-    code.extend_from_slice(&blocks::tunnel_block())?;
-    code.extend_from_slice(&blocks::CHECKSUM)?;
-    code.extend_from_slice(&blocks::PASS)?;
-    code.extend_from_slice(&blocks::DROP)?;
-    code.extend_from_slice(&blocks::count_block())?;
-    code.extend_from_slice(&blocks::END)?;
+    put(&mut code, Block::Ring, &blocks::ring_lines(size))?;
+    put(&mut code, Block::Tunnel, &blocks::tunnel_lines())?;
+    put(&mut code, Block::Checksum, &blocks::checksum_lines())?;
+    put(&mut code, Block::Pass, &blocks::pass_lines())?;
+    put(&mut code, Block::Drop, &blocks::drop_lines())?;
+    put(&mut code, Block::Count, &blocks::count_lines())?;
+    put(&mut code, Block::End, &blocks::end_lines())?;
     Ok(code)
 }

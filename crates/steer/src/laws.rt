@@ -4,6 +4,8 @@ ghost use Rattle.std.specs.Prelude.{IsTrue, ◌≡◌};
 ghost use Rattle.ebpf_decode.specs.InstructionEncoding.{total_slots};
 ghost use Rattle.steer.specs.BlockForm.{are_blocks};
 ghost use Rattle.steer.specs.ShippedProgram.{shipped_blocks, code_of};
+ghost use Rattle.steer.specs.PartLaws.{FlowDoesItsPart, VipDoesItsPart, GuardsDoTheirPart, TrackingDoesItsPart};
+ghost use Rattle.steer.specs.PartLaws.{RingDoesItsPart, TunnelDoesItsPart, CountDoesItsPart, PassIsCounted, DropIsCounted};
 ghost use Rattle.steer.specs.SteeringLaws.{ShippedSteers, ExitedRunsAreResults};
 
 /// The program is a list of blocks of at most 64 instructions, whose jumps leave a block only for the start of a later one; it takes 219 slots.
@@ -19,4 +21,17 @@ pub fn comes_in_blocks(size: u32)
 pub fn steers()
     ensures plan { ShippedSteers }
     ensures results { ExitedRunsAreResults }
+{}
+
+/// What each of the program's seven parts does: from its start on, the program does what is left there of the rule's plan.
+pub fn parts_do_their_share()
+    ensures flow { FlowDoesItsPart }
+    ensures vip { VipDoesItsPart }
+    ensures guards { GuardsDoTheirPart }
+    ensures tracking { TrackingDoesItsPart }
+    ensures ring { RingDoesItsPart }
+    ensures tunnel { TunnelDoesItsPart }
+    ensures count { CountDoesItsPart }
+    ensures count_of_pass { PassIsCounted }
+    ensures count_of_drop { DropIsCounted }
 {}

@@ -4,5 +4,7 @@
 mod blocks;
 mod image;
 pub mod laws;
+mod layout;
+mod names;
 
 pub use image::shipped;

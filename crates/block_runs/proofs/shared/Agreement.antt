@@ -1,13 +1,14 @@
 -- Plans that no run can tell apart, as long as replies have their calls' form, have the same outcomes.
-use Rattle.std.proofs.Common.{◌≡◌, Bool, true, false, List, [], ◌∷◌, refl, sym, subst}
+use Rattle.std.proofs.Common.{◌≡◌, ◌∙◌, ℕ, Bool, true, false, List, [], ◌∷◌, refl, sym, subst}
 use Rattle.semantics.specs.declared.call.Call.{Call}
 use Rattle.semantics.specs.declared.call.Call.TheVariants.{Lookup, Load, Atomic, Update}
 use Rattle.semantics.specs.declared.call.Reply.{Reply}
 use Rattle.semantics.specs.declared.call.Reply.TheVariants.{Cell, Null, Word, Answer}
+use Rattle.semantics.specs.MachineState.{MachineState}
 use Rattle.semantics.specs.Memory.{cell_ref}
 use Rattle.semantics.specs.Program.{Program}
-use Rattle.semantics.specs.RunTrace.{IsReplyTo}
-use Rattle.block_runs.specs.Plan.{Plan, Asks, Ends, plan_outcome, asked, Ended, Waiting, either}
+use Rattle.semantics.specs.RunTrace.{IsReplyTo, trace_of}
+use Rattle.block_runs.specs.Plan.{Plan, Asks, Ends, plan_outcome, asked, Ended, Waiting, AreAnswers, Does, RunOutcome, outcome_of, either}
 use Rattle.block_runs.proofs.shared.Blocks.{ForReplies}
 use Rattle.block_runs.proofs.shared.BlockLaw.{every_reply}
 
@@ -52,3 +53,17 @@ same_outcome program (Asks call onward) (Asks other on) agree [] fit = (λ i. re
 same_outcome program (Asks call onward) (Asks other on) agree (reply ∷ replies) fit =
     let later = same_outcome program (onward reply) (on reply) (every_reply program call (λ r. Agrees program (onward r) (on r)) agree.1 reply fit.0) replies fit.1 in
     (λ i. asked (agree.0 i) (later i))
+
+-- the plan's own calls are answered
+pub answered : (program : Program) (plan : Plan) (replies : List Reply) → AreAnswers program (plan_outcome plan replies).calls replies → Fitting program plan replies
+answered program (Ends verdict frame) replies are = tt
+answered program (Asks call onward) [] are = tt
+answered program (Asks call onward) (reply ∷ replies) are = (are.0, answered program (onward reply) replies are.1)
+
+-- what does a plan does each plan that agrees with it
+pub does_agreeing : (most : ℕ) (program : Program) (state : MachineState) (plan other : Plan) → Agrees program plan other →
+    Does most program state plan → Does most program state other
+does_agreeing most program state plan other agree does count enough replies fit =
+    let done : outcome_of (trace_of count program state replies) ≡ plan_outcome plan replies = does count enough replies fit in
+    let own : AreAnswers program (plan_outcome plan replies).calls replies = subst (λ (outcome : RunOutcome). AreAnswers program outcome.calls replies) done fit in
+    done ∙ same_outcome program plan other agree replies (answered program plan replies own)

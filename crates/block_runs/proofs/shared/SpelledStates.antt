@@ -1,24 +1,10 @@
--- Machine states spelled out: registers and stack as lists whose places have names, so that instructions compute on them.
-use Rattle.std.proofs.Common.{◌≡◌, ℕ, zero, suc, ◌+◌, List, [], ◌∷◌, sym, subst}
-use Rattle.std.specs.Prelude.{slice_index_or}
+-- Machine states spelled out, so that instructions compute on them.
+use Rattle.std.proofs.Common.{◌≡◌, ℕ, List, sym, subst}
 use Rattle.wire.specs.FrameView.{FrameView}
-use Rattle.semantics.specs.RegisterValue.{RegisterValue, Uninitialized}
-use Rattle.semantics.specs.MachineState.{MachineState, StackByte, Unwritten}
+use Rattle.semantics.specs.RegisterValue.{RegisterValue}
+use Rattle.semantics.specs.MachineState.{MachineState, StackByte}
 use Rattle.block_runs.specs.Plan.{Plan}
 use Rattle.block_runs.proofs.shared.Blocks.{Promise}
-
--- so many places by their numbers
-abbrev pub cells : {A : Type 0} → ℕ → ℕ → (ℕ → A) → List A
-cells from zero cell = []
-cells from (suc count) cell = cell from ∷ cells (from + 1) count cell
-
-abbrev pub place : List StackByte → ℕ → StackByte
-place stack n = slice_index_or stack n Unwritten
-
-abbrev pub reg : List RegisterValue → ℕ → RegisterValue
-reg registers n = slice_index_or registers n Uninitialized
-
--- ---- states
 
 abbrev pub spelled : ℕ → List RegisterValue → List StackByte → FrameView → ℕ → ℕ → ℕ → ℕ → MachineState
 spelled slot registers stack frame generation worker now steps = record {
