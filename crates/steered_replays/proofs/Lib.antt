@@ -1,0 +1,12 @@
+-- Lemmas of this crate.
+-- counts
+mod CountLemmas
+mod CallerSums
+mod ResultCounts
+mod SessionCounts
+-- runs and replays
+mod SteeredLemmas
+mod RunSums
+mod ControllerShards
+mod TotalLemmas
+mod ReplayLemmas

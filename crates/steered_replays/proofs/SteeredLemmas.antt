@@ -1,0 +1,189 @@
+-- Runs of the shipped program follow the rule, and so do all runs of a replay.
+use Rattle.std.proofs.Common.{◌≡◌, ℕ, zero, suc, ◌≤◌, ◌==◌, Bool, true, false, not, ◌&&◌, List, [], ◌∷◌, ◌++◌, length, refl, sym, ◌∙◌, ap, subst, arith}
+use Rattle.std.specs.Prelude.{Some, slice_get, if◌then◌else◌}
+use Rattle.std.specs.List.{AllByRecursion}
+use Rattle.std.proofs.lemmas.Bool.{false≢true}
+use Rattle.std.proofs.lemmas.Bool.Decides.{nat_tests}
+use Rattle.wire.specs.FrameView.{FrameView}
+use Rattle.wire.specs.declared.records.Sent.{Sent}
+use Rattle.semantics.specs.declared.call.Call.{Call}
+use Rattle.semantics.specs.declared.plan.ShardPlan.{ShardPlan}
+use Rattle.semantics.specs.MachineState.{initial_state}
+use Rattle.semantics.specs.Program.{Program}
+use Rattle.semantics.specs.RunTrace.{RunTrace}
+use Rattle.semantics.specs.System.{IsInputFrame, input_frame}
+use Rattle.maglev.specs.RingSize.{IsRingSize}
+use Rattle.map_port.specs.Exchanges.{Exchange, calls_in, replies_in}
+use Rattle.block_runs.specs.Plan.{AreAnswers, Ended, outcome_of, plan_outcome}
+use Rattle.conntrack.specs.Steering.{Setting, steering}
+use Rattle.conntrack.specs.Results.{IsResult}
+use Rattle.steer.specs.SteeringLaws.{of_size, shipped_program, whole_trace, ShippedSteers, ExitedRunsAreResults}
+use Rattle.journals.specs.JournalsView.{JournalsView}
+use Rattle.shards.specs.Passes.{PassView}
+use Rattle.runs.specs.FrameRuns.{AreFormed}
+use Rattle.machine.specs.declared.exit.Stop.{Stop}
+use Rattle.machine.specs.declared.exit.Stop.TheVariants.{JournalFull}
+use Rattle.replay.specs.declared.run_end.Ran.{Ran}
+use Rattle.replay.specs.declared.run_end.RunEnd.{RunEnd}
+use Rattle.replay.specs.declared.run_end.RunEnd.TheVariants.{Stopped, Aborted, Dropped, Passed, Sent as IsSent}
+use Rattle.replay.specs.Accounts.{runs_at}
+use Rattle.replay.specs.RunJobs.{records_of}
+use Rattle.replay.specs.RunsInOrder.{IsRunAt, IsChainOfRuns}
+use Rattle.replay.specs.RunsOverShards.{IsRunIn, IsExit, StopsFor}
+use Rattle.replay.specs.Shares.{frames_of, frame_at, is_short, worker_of_frame, is_handed, share}
+use Rattle.steered_replays.specs.SteeredRuns.{IsSteeredExit, IsSteeredStop, IsSteeredRun, IsOfCapture}
+use Rattle.steered_replays.specs.SteeredRuns.{RunsAreSteered, RefusedRunsAreSteered, ReplaysAreSteered}
+use Rattle.steered_replays.proofs.ResultCounts.{all_both}
+
+-- ---- one run
+
+all_answered : (program : Program) (exchanges : List Exchange) → AreFormed program exchanges → AreAnswers program (calls_in exchanges) (replies_in exchanges)
+all_answered program [] formed = tt
+all_answered program (exchange ∷ later) formed = (formed.0, all_answered program later formed.1)
+
+before_answered : (program : Program) (exchanges : List Exchange) (next : Call) → AreFormed program exchanges →
+    AreAnswers program (calls_in exchanges ++ next ∷ []) (replies_in exchanges)
+before_answered program [] next formed = tt
+before_answered program (exchange ∷ later) next formed = (formed.0, before_answered program later next formed.1)
+
+pub runs_are_steered : ShippedSteers → ExitedRunsAreResults → RunsAreSteered
+runs_are_steered steers results size shards is frame input told now count worker before after verdict steps left run =
+    let setting : Setting = of_size shards size in
+    let program : Program = shipped_program setting in
+    let answers : AreAnswers program (calls_in run.exchanges) (replies_in run.exchanges) = all_answered program run.exchanges run.formed in
+    let own : AreAnswers program (whole_trace program (initial_state (input_frame frame) told now) (replies_in run.exchanges)).calls (replies_in run.exchanges) =
+    subst (λ (t : RunTrace). AreAnswers program t.calls (replies_in run.exchanges)) (sym run.trace) answers in
+    let done : plan_outcome (steering setting (input_frame frame)) (replies_in run.exchanges)
+    ≡ record { calls = calls_in run.exchanges; ending = Ended verdict run.last.frame } =
+    sym (steers size shards is frame input told now (replies_in run.exchanges) own) ∙ ap outcome_of run.trace in
+    record {
+      plan = done ∙ ap (λ (f : FrameView). record { calls = calls_in run.exchanges; ending = Ended verdict f }) (sym run.sent);
+      result = subst (λ (f : FrameView). IsResult setting (input_frame frame) run.exchanges verdict f) (sym run.sent)
+          (results size shards is frame input told now run.exchanges verdict run.last answers run.trace);
+    }
+
+pub refused_runs_are_steered : ShippedSteers → RefusedRunsAreSteered
+refused_runs_are_steered steers size shards is frame input told now plan count worker before after left shard was =
+    let setting : Setting = of_size shards size in
+    let program : Program = shipped_program setting in
+    let answers = before_answered program was.exchanges was.refused was.formed in
+    let own : AreAnswers program (whole_trace program (initial_state (input_frame frame) told now) (replies_in was.exchanges)).calls (replies_in was.exchanges) =
+    subst (λ (t : RunTrace). AreAnswers program t.calls (replies_in was.exchanges)) (sym was.trace) answers in
+    sym (steers size shards is frame input told now (replies_in was.exchanges) own) ∙ ap outcome_of was.trace
+
+-- ---- the frames of a worker's share
+
+abbrev IsInputAt : List Sent → ℕ → Type 0
+IsInputAt records number = (captured : Sent) → slice_get records number ≡ Some captured → IsInputFrame captured.bytes.items
+
+record_of : (records : List Sent) (number : ℕ) (captured : Sent) → slice_get records number ≡ Some captured → AllByRecursion IsOfCapture records →
+    IsOfCapture captured × (frame_at (frames_of records) number ≡ captured.bytes.items)
+record_of [] number captured known all = absurd cc
+record_of (first ∷ later) zero captured known all =
+    let same : first ≡ captured = cc known in (subst IsOfCapture same all.0, ap (λ (one : Sent). one.bytes.items) same)
+record_of (first ∷ later) (suc number) captured known all = record_of later number captured known all.1
+
+long_of : (short own : Bool) → (not short && own) ≡ true → short ≡ false
+long_of true own held = absurd (false≢true held)
+long_of false own held = refl
+
+fourteen : (bytes : List ℕ) → is_short bytes ≡ false → 14 ≤ length bytes
+fourteen bytes long = grind (arith, nat_tests)
+
+input_at : (records : List Sent) → AllByRecursion IsOfCapture records → (workers worker number : ℕ) → is_handed (frames_of records) workers worker number ≡ true →
+    IsInputAt records number
+input_at records all workers worker number handed captured known =
+    let one = record_of records number captured known all in
+    let long : is_short (frame_at (frames_of records) number) ≡ false =
+    long_of (is_short (frame_at (frames_of records) number)) (worker_of_frame (frame_at (frames_of records) number) workers == worker) handed in
+    record { least = fourteen captured.bytes.items (ap is_short (sym one.1) ∙ long); greatest = one.0.short; bytes = one.0.bytes }
+
+with_last : (records : List Sent) (shared : List ℕ) (number : ℕ) → AllByRecursion (IsInputAt records) shared → (test : Bool) →
+    (test ≡ true → IsInputAt records number) → AllByRecursion (IsInputAt records) (if test then shared ++ number ∷ [] else shared)
+with_last records shared number before true last = all_both (IsInputAt records) shared (number ∷ []) before (last refl, tt)
+with_last records shared number before false last = before
+
+inputs_in : (records : List Sent) → AllByRecursion IsOfCapture records → (workers worker count : ℕ) →
+    AllByRecursion (IsInputAt records) (share (frames_of records) workers worker count)
+inputs_in records all workers worker zero = tt
+inputs_in records all workers worker (suc count) =
+    with_last records (share (frames_of records) workers worker count) count (inputs_in records all workers worker count)
+    (is_handed (frames_of records) workers worker count) (input_at records all workers worker count)
+
+inputs_of : (records : List Sent) (runs : List Ran) → AllByRecursion (IsInputAt records) (records_of runs) →
+    AllByRecursion (λ (ran : Ran). IsInputAt records ran.number) runs
+inputs_of records [] all = tt
+inputs_of records (ran ∷ later) all = (all.0, inputs_of records later all.1)
+
+-- ---- a worker's runs
+
+module _ (steers : ShippedSteers) (results : ExitedRunsAreResults) (size shards : ℕ) (is : IsRingSize size) (plan : ℕ → ShardPlan) (count worker : ℕ)
+    (journals : JournalsView) where
+  abbrev setting : Setting
+  setting = of_size shards size
+
+  abbrev program : Program
+  program = shipped_program setting
+
+  exit_steered : (captured : Sent) → IsInputFrame captured.bytes.items → (before : PassView) (end : RunEnd) (after : PassView) →
+      IsExit count program worker captured before end after → IsSteeredExit setting count worker captured before end after
+  exit_steered captured input before end after exit = record {
+    exchanges = exit.run.exchanges;
+    verdict = exit.verdict;
+    frame = exit.frame;
+    sessions = exit.run.sessions;
+    by_rule = runs_are_steered steers results size shards is captured.bytes.items input worker _ count worker before after exit.verdict exit.steps exit.frame exit.run;
+    told = exit.told;
+  }
+
+  stop_steered : (captured : Sent) → IsInputFrame captured.bytes.items → (before after : PassView) (frame : FrameView) (stop : Stop) →
+      StopsFor plan count program worker journals captured before after frame stop → IsSteeredStop plan setting count worker captured before after
+  stop_steered captured input before after frame (JournalFull shard) stops =
+      let was = stops.0 in
+      record {
+        exchanges = was.exchanges;
+        refused = was.refused;
+        sessions = was.sessions;
+        by_rule = refused_runs_are_steered steers size shards is captured.bytes.items input worker _ plan count worker before after frame shard was;
+      }
+
+  run_steered : (captured : Sent) → IsInputFrame captured.bytes.items → (before : PassView) (end : RunEnd) (after : PassView) →
+      IsRunIn plan count program worker journals captured before end after → IsSteeredRun plan count setting worker captured before end after
+  run_steered captured input before Stopped after run = stop_steered captured input before after run.frame run.stop run.run
+  run_steered captured input before Aborted after run = exit_steered captured input before Aborted after run
+  run_steered captured input before Dropped after run = exit_steered captured input before Dropped after run
+  run_steered captured input before Passed after run = exit_steered captured input before Passed after run
+  run_steered captured input before (IsSent sent) after run = exit_steered captured input before (IsSent sent) after run
+
+  pub chain_steered : (records : List Sent) (before : PassView) (runs : List Ran) (after : PassView) →
+      AllByRecursion (λ (ran : Ran). IsInputAt records ran.number) runs →
+      IsChainOfRuns (IsRunAt (IsRunIn plan count program worker journals) records) before runs after →
+      IsChainOfRuns (IsRunAt (IsSteeredRun plan count setting worker) records) before runs after
+  chain_steered records before [] after inputs chain = chain
+  chain_steered records before (ran ∷ later) after inputs chain =
+      let run = chain.1 in (
+        chain.0,
+        record { sent = run.sent; known = run.known; run = run_steered run.sent (inputs.0 run.sent run.known) before ran.end chain.0 run.run },
+        chain_steered records chain.0 later after inputs.1 chain.2,
+      )
+
+pub replays_are_steered : ShippedSteers → ExitedRunsAreResults → ReplaysAreSteered
+replays_are_steered steers results size is script options records outcome captured accounted = record {
+  accounted = accounted;
+  work = λ worker below.
+      let work = accounted.work worker below in
+      let handled = work.handled in
+      let inputs = inputs_of records (runs_at accounted.runs worker) (subst (λ (l : List ℕ). AllByRecursion (IsInputAt records) l) (sym handled.records_are)
+      (inputs_in records captured options.workers worker (length records))) in
+      record {
+        after = work.after;
+        handled = record {
+          records_are = handled.records_are;
+          before = handled.before;
+          is_new = handled.is_new;
+          chain = chain_steered steers results size options.shards is accounted.plan accounted.count worker outcome.journals records handled.before (runs_at accounted.runs worker) work.after
+              inputs handled.chain;
+        };
+        own = work.own;
+      };
+}

@@ -1,0 +1,4 @@
+-- The definitions that the contracts of this crate cite, in reading order.
+pub mod Counting
+pub mod SteeredRuns
+pub mod Totals

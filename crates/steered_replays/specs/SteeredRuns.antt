@@ -1,0 +1,104 @@
+-- Runs of the shipped program as a replay makes them. On the replies that stand among its worker's entries a run makes the calls of the steering rule's plan
+-- (conntrack's Steering) and ends with the plan's verdict and frame, which are a result of the rule (conntrack's Results); a run that a full journal stopped
+-- made a beginning of these calls.
+use Rattle.std.specs.Prelude.{◌≡◌, ℕ, ◌≤◌, ◌<◌, List, [], ◌∷◌, ◌++◌, length, All}
+use Rattle.std.specs.List.{AllByRecursion}
+use Rattle.wire.specs.FrameView.{FrameView}
+use Rattle.wire.specs.declared.records.Sent.{Sent}
+use Rattle.semantics.specs.declared.call.Call.{Call}
+use Rattle.semantics.specs.declared.options.Options.{Options}
+use Rattle.semantics.specs.declared.plan.ShardPlan.{ShardPlan}
+use Rattle.semantics.specs.declared.verdict.Verdict.{Verdict}
+use Rattle.semantics.specs.MachineState.{initial_state}
+use Rattle.semantics.specs.System.{IsInputFrame, input_frame}
+use Rattle.maglev.specs.RingSize.{IsRingSize}
+use Rattle.map_port.specs.Exchanges.{Exchange, calls_in, replies_in}
+use Rattle.block_runs.specs.Plan.{Ended, Waiting, plan_outcome}
+use Rattle.conntrack.specs.Steering.{Setting, steering}
+use Rattle.conntrack.specs.Results.{IsResult}
+use Rattle.steer.specs.SteeringLaws.{of_size, shipped_program}
+use Rattle.shards.specs.Passes.{PassView}
+use Rattle.shard_port.specs.PassSessions.{HasSessions, HasRefusedSessions}
+use Rattle.runs.specs.FrameRuns.{HasRun, WasRefused}
+use Rattle.control.specs.declared.command.Command.{Command}
+use Rattle.replay.specs.declared.outcome.Outcome.{Outcome}
+use Rattle.replay.specs.declared.run_end.RunEnd.{RunEnd}
+use Rattle.replay.specs.declared.run_end.RunEnd.TheVariants.{Stopped}
+use Rattle.replay.specs.Accounted.{IsAccounted, IsWorkOf}
+use Rattle.replay.specs.Accounts.{runs_at}
+use Rattle.replay.specs.RunsInOrder.{IsRunAt}
+use Rattle.replay.specs.RunsOverShards.{IsTold}
+use Rattle.replay.specs.Shares.{frames_of, share}
+
+-- ---- runs
+
+-- on these calls and replies the rule's plan ends so, and that is a result of the rule
+pub record EndsByRule (setting : Setting) (frame : FrameView) (exchanges : List Exchange) (verdict : Verdict) (left : FrameView) : Type 0 where
+  pub plan : plan_outcome (steering setting frame) (replies_in exchanges) ≡ record { calls = calls_in exchanges; ending = Ended verdict left }
+  pub result : IsResult setting frame exchanges verdict left
+
+-- after these calls and replies the rule's plan makes this call, and waits
+abbrev pub WaitsByRule : Setting → FrameView → List Exchange → Call → Type 0
+WaitsByRule setting frame exchanges next =
+    plan_outcome (steering setting frame) (replies_in exchanges) ≡ record { calls = calls_in exchanges ++ next ∷ []; ending = Waiting }
+
+-- a run on a record ended: what it asked and was answered, which stands among its worker's entries session by session, is what the rule asks; and what
+-- became of the record's frame is what the rule's verdict says of it
+pub record IsSteeredExit (setting : Setting) (count worker : ℕ) (captured : Sent) (before : PassView) (end : RunEnd) (after : PassView) : Type 0 where
+  pub exchanges : List Exchange
+  pub verdict : Verdict
+  pub frame : FrameView
+  pub sessions : HasSessions count worker exchanges before after
+  pub by_rule : EndsByRule setting (input_frame captured.bytes.items) exchanges verdict frame
+  pub told : IsTold captured verdict frame end
+
+-- a run on a record was stopped, since a journal was full for the rule's next call
+pub record IsSteeredStop (plan : ℕ → ShardPlan) (setting : Setting) (count worker : ℕ) (captured : Sent) (before after : PassView) : Type 0 where
+  pub exchanges : List Exchange
+  pub refused : Call
+  pub sessions : HasRefusedSessions plan count worker exchanges refused before after
+  pub by_rule : WaitsByRule setting (input_frame captured.bytes.items) exchanges refused
+
+abbrev pub IsSteeredRun : (ℕ → ShardPlan) → ℕ → Setting → ℕ → Sent → PassView → RunEnd → PassView → Type 0
+IsSteeredRun plan count setting worker captured before Stopped after = IsSteeredStop plan setting count worker captured before after
+IsSteeredRun plan count setting worker captured before end after = IsSteeredExit setting count worker captured before end after
+
+-- ---- replays
+
+-- a record as a capture has it
+pub record IsOfCapture (captured : Sent) : Type 0 where
+  pub short : length captured.bytes.items ≤ 2048
+  pub bytes : All (λ byte. byte < 256) captured.bytes.items
+
+-- each worker made its runs by the rule, one after the other, and its entries in the journals are those of these runs
+pub record IsSteeredReplay (size : ℕ) (script : List Command) (options : Options) (records : List Sent) (outcome : Outcome) : Type 0 where
+  pub accounted : IsAccounted (shipped_program (of_size options.shards size)) script options records outcome
+  pub work :
+      (worker : ℕ) → worker < options.workers →
+      IsWorkOf (IsRunAt (IsSteeredRun accounted.plan accounted.count (of_size options.shards size) worker) records)
+      (share (frames_of records) options.workers worker (length records)) worker (runs_at accounted.runs worker) accounted.count outcome.journals
+
+-- ---- the laws
+
+-- a run of the shipped program over a worker's pass ends by the rule
+abbrev pub RunsAreSteered : Type 0
+RunsAreSteered =
+    (size shards : ℕ) → IsRingSize size → (frame : List ℕ) → IsInputFrame frame → (told now count worker : ℕ) (before after : PassView)
+    (verdict : Verdict) (steps : ℕ) (left : FrameView)
+    (run : HasRun (shipped_program (of_size shards size)) (initial_state (input_frame frame) told now) count worker before after verdict steps left) →
+    EndsByRule (of_size shards size) (input_frame frame) run.exchanges verdict left
+
+-- and one that was refused a call waits by the rule
+abbrev pub RefusedRunsAreSteered : Type 0
+RefusedRunsAreSteered =
+    (size shards : ℕ) → IsRingSize size → (frame : List ℕ) → IsInputFrame frame → (told now : ℕ) (plan : ℕ → ShardPlan) (count worker : ℕ)
+    (before after : PassView) (left : FrameView) (shard : ℕ)
+    (was : WasRefused (shipped_program (of_size shards size)) (initial_state (input_frame frame) told now) plan count worker before after left shard) →
+    WaitsByRule (of_size shards size) (input_frame frame) was.exchanges was.refused
+
+-- so all runs of a replay are
+abbrev pub ReplaysAreSteered : Type 0
+ReplaysAreSteered =
+    (size : ℕ) → IsRingSize size → (script : List Command) (options : Options) (records : List Sent) (outcome : Outcome) →
+    AllByRecursion IsOfCapture records → IsAccounted (shipped_program (of_size options.shards size)) script options records outcome →
+    IsSteeredReplay size script options records outcome

@@ -1,0 +1,40 @@
+//! What holds of counts, of runs of the shipped program and of its replays, as contracts of functions that do nothing.
+
+ghost use Rattle.steered_replays.specs.Counting.{CountsAreExact, LookupsOfArraysFind};
+ghost use Rattle.steered_replays.specs.SteeredRuns.{RunsAreSteered, RefusedRunsAreSteered, ReplaysAreSteered};
+ghost use Rattle.steered_replays.specs.Totals.{TotalsAreExact};
+
+use steer::laws::steers;
+
+/// In an array's shard of which nothing was asked but to find, read and raise counts, each cell holds how often it was raised; and each lookup of an
+/// index that the array has finds that index's cell.
+pub fn counts_are_exact()
+    ensures counts { CountsAreExact }
+    ensures lookups { LookupsOfArraysFind }
+{}
+
+/// A run of the shipped program over a worker's pass makes the calls of the steering rule's plan, on the replies that stand among the worker's own
+/// entries, and ends with the plan's verdict and frame, which are a result of the rule. A run that a full journal stopped made a beginning of these calls.
+pub fn runs_are_steered()
+    ensures ended { RunsAreSteered }
+    ensures refused { RefusedRunsAreSteered }
+{
+    steers();
+}
+
+/// So all runs of a replay of the shipped program follow the rule: each on the records that its worker's entries say it read. What is sent, dropped
+/// or passed is what the rule says of these.
+pub fn replays_are_steered()
+    ensures { ReplaysAreSteered }
+{
+    steers();
+}
+
+/// Where a replay of the shipped program stopped no run, the counts in its maps are the report's: in the state to which the journals lead the
+/// one-thread map, the verdicts' counts are how many frames were aborted, dropped, passed and sent.
+pub fn totals_are_exact()
+    ensures { TotalsAreExact }
+{
+    counts_are_exact();
+    replays_are_steered();
+}

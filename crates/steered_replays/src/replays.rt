@@ -1,0 +1,69 @@
+//! The replay of which the laws on the shipped program speak, made.
+
+ghost use Rattle.std.specs.Prelude.{◌≡◌, ◌⊎◌, ◌<◌, ◌≤◌, ◌↔◌, length, IfOk, IsErrOf, IsFalse};
+ghost use Rattle.std.specs.List.{AllByRecursion};
+ghost use Rattle.maglev.specs.RingSize.{IsRingSize};
+ghost use Rattle.semantics.specs.ShardPlan.{are_served_options};
+ghost use Rattle.steer.specs.ShippedProgram.{shipped_image};
+ghost use Rattle.replay.specs.Parts.{HasNoTable};
+ghost use Rattle.replay.specs.declared.fault.ReplayFault.TheVariants.{BadOptions};
+ghost use Rattle.steered_replays.specs.SteeredRuns.{IsOfCapture, IsSteeredReplay};
+ghost use Rattle.steered_replays.specs.Totals.{AreTotals};
+
+use crate::laws::{replays_are_steered, totals_are_exact};
+use control::Script;
+use replay::{Outcome, ReplayFault, replay};
+use semantics::Options;
+use semantics::facts::bytes_have_8_bits;
+use shard_port::Gate;
+use std::alloc::Global;
+use std::sync::Wait;
+use std::thread::Threads;
+use verifier::Verified;
+use wire::{Capture, Sent};
+
+/// A record with no more bytes than a captured frame may have is one that a capture has.
+fn is_of_capture(sent: &Sent)
+    requires { length sent.now.bytes.items ≤ 2048 }
+    ensures { IsOfCapture sent.now }
+{
+    bytes_have_8_bits(&sent.bytes);
+}
+
+/// Each record of a capture is one that a capture has: the type of each says so.
+fn all_are_of_capture(capture: &Capture)
+    ensures { AllByRecursion IsOfCapture capture.now.records.items }
+{
+    'records: for number in 0..capture.records.len() {
+        is_of_capture(&capture.records[number]);
+    }
+}
+
+/// `replay` of the shipped program for a lookup table of `size` slots. Each run of a worker follows the steering rule, on the replies that stand among the
+/// worker's entries; and where no run was stopped, the counts in the maps are those of the outcome. It shows that what `replays_are_steered` and
+/// `totals_are_exact` ask for is what `replay` gives. Refused as `replay` is.
+pub fn shipped_replay<R: Threads + Wait + Sync, G: Gate + Sync>(
+    rt: &R,
+    alloc: Global,
+    verified: &Verified,
+    size: u32,
+    capture: &Capture,
+    script: &Script,
+    options: Options,
+    gate: &G,
+) -> Result<Outcome, ReplayFault>
+    requires size { IsRingSize size }
+    requires maps { verified.now.maps ≡ (shipped_image size).maps }
+    requires code { verified.now.code ≡ (shipped_image size).code }
+    ensures steered { IfOk result (IsSteeredReplay size script.now options capture.now.records.items) }
+    ensures totals { IfOk result (λ outcome. outcome.counts.stopped ≡ 0 → AreTotals outcome) }
+    ensures bad_options { IsErrOf result BadOptions ↔ (IsFalse (are_served_options verified.now.maps options) ⊎ HasNoTable verified.now.maps script.now) }
+{
+    replays_are_steered();
+    totals_are_exact();
+    all_are_of_capture(capture);
+    let outcome = replay(rt, alloc, verified, capture, script, options, gate)?;
+    let _ = outcome.journals.options();
+    let _ = size;
+    Ok(outcome)
+}
