@@ -1,10 +1,20 @@
+pub mod LegalEntries
 pub mod JournalLemmas
 pub mod RunLemmas
 pub mod SameSteps
 pub mod ReaderTraces
 pub mod MoveLemmas
+pub mod ListedSteps
 pub mod EventLemmas
 pub mod StopLemmas
+pub mod SharedRuns
+pub mod BackToTraces
+pub mod OneOutcome
+pub mod RowRuns
+pub mod MergeEvents
+pub mod Merge
+pub mod OneWorker
+pub mod PlaceLemmas
 pub mod ReadSteps
 pub mod ReadCalls
 pub mod QuietShards
@@ -15,3 +25,4 @@ pub mod Callers
 pub mod NoneStopped
 pub mod OpenedRuns
 pub mod OpenedReplays
+pub mod HeadlineRuns

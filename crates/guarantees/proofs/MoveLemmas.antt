@@ -16,9 +16,10 @@ use Rattle.semantics.specs.Semantics.{next_step}
 use Rattle.semantics.specs.declared.plan.ShardPlan.{ShardPlan}
 use Rattle.semantics.specs.ShardPlan.{plan_for_map, plan_at}
 use Rattle.semantics.specs.History.{shard_of_call}
-use Rattle.semantics.specs.System.{Setting, program_of, SystemState, CallsShard, LeavesShard, WorkerState, Idle, Runs, Leaves, worker_state, with_worker, with_entry, is_entered, IsInputFrame, input_frame, is_local, calls_map, DoesNext, MayLeave, run_over, without_shard, after_local, after_instruction, entry_for, after_run_call, after_asking, after_shard_call, after_leaving}
-use Rattle.shard_port.specs.Asking.{enter_by, leave_by, asked_entry}
-use Rattle.guarantees.specs.SystemRuns.{Asked, Writes, Refused, Answers, TurnsAway, Move, IsMove, does, begins}
+use Rattle.semantics.specs.System.{Setting, program_of, SystemState, WorkerState, Idle, Runs, Leaves, worker_state, with_worker, with_entry, is_entered, IsInputFrame, input_frame, is_local, calls_map, DoesNext, MayLeave, run_over, without_shard, after_local, after_instruction, entry_for, after_run_call, after_asking, after_shard_call, after_leaving}
+use Rattle.shard_port.specs.Asking.{enter_by, asked_entry}
+use Rattle.guarantees.specs.Steps.{Writes, Refused, does, begins, asks, leave, RunBegins, RunGoesOn, RunEnds, CallIsServed, ShardIsEntered, CallIsRefused, EnterIsRefused, ShardIsLeft}
+use Rattle.guarantees.specs.Moves.{Answers, TurnsAway, IsMove, StepsAreMoves}
 
 -- ---- by a plan of the setting
 
@@ -28,7 +29,7 @@ numbered_by options number (Some definition) plan is =
     let same : (record { number = number; part = number % options.shards; parts = options.shards; definition = definition; workers = options.workers; reserve = options.journal }) ≡ plan = cc
     in sym (ap (λ (one : ShardPlan). one.number) same)
 
-numbered : (setting : Setting) (number : ℕ) (plan : ShardPlan) → plan_at setting.maps setting.options number ≡ Some plan → plan.number ≡ number
+pub numbered : (setting : Setting) (number : ℕ) (plan : ShardPlan) → plan_at setting.maps setting.options number ≡ Some plan → plan.number ≡ number
 numbered setting number plan is = numbered_by setting.options number (slice_get setting.maps (number / setting.options.shards)) plan is
 
 answered : (setting : Setting) (system : SystemState) (worker : ℕ) (call : Call) (reply : Reply) (entered : List ℕ) (next : Reply → WorkerState) →
@@ -61,13 +62,7 @@ turned_away setting system worker call entered next turns =
 own_event : (worker : ℕ) → IsTrue (worker == worker)
 own_event worker = grind (arith, nat_tests)
 
-abbrev pub asks : ℕ → Asked → Move
-asks worker asked = record { event = CallsShard worker; asked = asked }
-
-abbrev pub leave : ℕ → ℕ → Move
-leave worker shard = record { event = LeavesShard worker shard; asked = Writes (leave_by worker shard) }
-
-pub begins_so : (setting : Setting) (worker now told : ℕ) (frame : List ℕ) → worker < setting.options.workers → IsInputFrame frame →
+begins_so : (setting : Setting) (worker now told : ℕ) (frame : List ℕ) → worker < setting.options.workers → IsInputFrame frame →
     now < 2 ^ 64 → told < 8 →
     IsMove setting worker Idle (begins worker frame now told) (Runs (initial_state (input_frame frame) told now) [])
 begins_so setting worker now told frame few input early low = record {
@@ -76,7 +71,7 @@ begins_so setting worker now told frame few input early low = record {
   leads = λ system stands asked. refl;
 }
 
-pub goes_on : (setting : Setting) (worker : ℕ) (state next : MachineState) (entered : List ℕ) →
+goes_on : (setting : Setting) (worker : ℕ) (state next : MachineState) (entered : List ℕ) →
     next_step (program_of setting) state ≡ Continues next → IsMove setting worker (Runs state entered) (does worker) (Runs next entered)
 goes_on setting worker state next entered is = record {
   own = own_event worker;
@@ -86,7 +81,7 @@ goes_on setting worker state next entered is = record {
       ∙ ap (λ step. with_worker system worker (after_local step entered (Runs state entered))) is;
 }
 
-pub ends : (setting : Setting) (worker : ℕ) (state last : MachineState) (verdict : Verdict) (entered : List ℕ) →
+ends : (setting : Setting) (worker : ℕ) (state last : MachineState) (verdict : Verdict) (entered : List ℕ) →
     next_step (program_of setting) state ≡ Exits verdict last → IsMove setting worker (Runs state entered) (does worker) (run_over entered)
 ends setting worker state last verdict entered is = record {
   own = own_event worker;
@@ -118,7 +113,7 @@ can_ask : (setting : Setting) (system : SystemState) (worker : ℕ) (state : Mac
 can_ask setting system worker state entered call next stands is =
     subst (λ one. DoesNext setting one calls_map) (sym stands) (ap calls_map is)
 
-pub calls : (setting : Setting) (worker : ℕ) (state : MachineState) (entered : List ℕ) (call : Call) (next : Reply → MachineState)
+calls : (setting : Setting) (worker : ℕ) (state : MachineState) (entered : List ℕ) (call : Call) (next : Reply → MachineState)
     (reply : Reply) → next_step (program_of setting) state ≡ CallsMap call next → is_entered (shard_of_call call) entered ≡ true →
     IsMove setting worker (Runs state entered) (asks worker (Writes (asked_entry worker call reply))) (Runs (next reply) entered)
 calls setting worker state entered call next reply is inside = record {
@@ -129,7 +124,7 @@ calls setting worker state entered call next reply is inside = record {
       ∙ answered setting system worker call reply entered (λ one. Runs (next one) entered) answers;
 }
 
-pub enters : (setting : Setting) (worker : ℕ) (state : MachineState) (entered : List ℕ) (call : Call) (next : Reply → MachineState) →
+enters : (setting : Setting) (worker : ℕ) (state : MachineState) (entered : List ℕ) (call : Call) (next : Reply → MachineState) →
     next_step (program_of setting) state ≡ CallsMap call next → is_entered (shard_of_call call) entered ≡ false →
     IsMove setting worker (Runs state entered) (asks worker (Writes (enter_by worker (shard_of_call call))))
     (Runs state (shard_of_call call ∷ entered))
@@ -141,7 +136,7 @@ enters setting worker state entered call next is outside = record {
       ∙ answered setting system worker (Enter (shard_of_call call)) Entered entered (λ one. Runs state (shard_of_call call ∷ entered)) answers;
 }
 
-pub is_refused : (setting : Setting) (worker : ℕ) (state : MachineState) (entered : List ℕ) (call : Call) (next : Reply → MachineState) →
+is_refused : (setting : Setting) (worker : ℕ) (state : MachineState) (entered : List ℕ) (call : Call) (next : Reply → MachineState) →
     next_step (program_of setting) state ≡ CallsMap call next → is_entered (shard_of_call call) entered ≡ true →
     IsMove setting worker (Runs state entered) (asks worker (Refused call)) (run_over entered)
 is_refused setting worker state entered call next is inside = record {
@@ -152,7 +147,7 @@ is_refused setting worker state entered call next is inside = record {
       ∙ turned_away setting system worker call entered (λ one. Runs (next one) entered) turns;
 }
 
-pub cannot_enter : (setting : Setting) (worker : ℕ) (state : MachineState) (entered : List ℕ) (call : Call) (next : Reply → MachineState) →
+cannot_enter : (setting : Setting) (worker : ℕ) (state : MachineState) (entered : List ℕ) (call : Call) (next : Reply → MachineState) →
     next_step (program_of setting) state ≡ CallsMap call next → is_entered (shard_of_call call) entered ≡ false →
     IsMove setting worker (Runs state entered) (asks worker (Refused (Enter (shard_of_call call)))) (run_over entered)
 cannot_enter setting worker state entered call next is outside = record {
@@ -163,7 +158,7 @@ cannot_enter setting worker state entered call next is outside = record {
       ∙ turned_away setting system worker (Enter (shard_of_call call)) entered (λ one. Runs state (shard_of_call call ∷ entered)) turns;
 }
 
-pub leaves_one : (setting : Setting) (worker shard : ℕ) (entered : List ℕ) → is_entered shard entered ≡ true →
+leaves_one : (setting : Setting) (worker shard : ℕ) (entered : List ℕ) → is_entered shard entered ≡ true →
     IsMove setting worker (Leaves entered) (leave worker shard) (run_over (without_shard shard entered))
 leaves_one setting worker shard entered inside = record {
   own = own_event worker;
@@ -172,3 +167,20 @@ leaves_one setting worker shard entered inside = record {
       ap (after_leaving setting system worker shard) stands
       ∙ answered setting system worker (Leave shard) Left entered (λ one. run_over (without_shard shard entered)) answers;
 }
+
+-- ---- each step is a move
+
+pub steps_are_moves : StepsAreMoves
+steps_are_moves setting count worker before move after (RunBegins frame now told few input early low) =
+    begins_so setting worker now told frame few input early low
+steps_are_moves setting count worker before move after (RunGoesOn state next entered is) = goes_on setting worker state next entered is
+steps_are_moves setting count worker before move after (RunEnds state last verdict entered is) = ends setting worker state last verdict entered is
+steps_are_moves setting count worker before move after (CallIsServed state entered call next reply is within inside formed) =
+    calls setting worker state entered call next reply is inside
+steps_are_moves setting count worker before move after (ShardIsEntered state entered call next is within outside) =
+    enters setting worker state entered call next is outside
+steps_are_moves setting count worker before move after (CallIsRefused state entered call next is within inside) =
+    is_refused setting worker state entered call next is inside
+steps_are_moves setting count worker before move after (EnterIsRefused state entered call next is within outside) =
+    cannot_enter setting worker state entered call next is outside
+steps_are_moves setting count worker before move after (ShardIsLeft shard entered within inside) = leaves_one setting worker shard entered inside

@@ -1,5 +1,5 @@
 -- A replay of a program that only reads: what is sent is what the runs over maps in which nothing has happened send.
-use Rattle.std.proofs.Common.{◌≡◌, ℕ, zero, suc, ◌+◌, ◌<◌, ◌≤◌, Bool, true, false, List, [], ◌∷◌, ◌++◌, length, refl, sym, ◌∙◌, ap, subst, arith}
+use Rattle.std.proofs.Common.{◌≡◌, ℕ, zero, suc, ◌<◌, ◌≤◌, Bool, true, false, List, [], ◌∷◌, ◌++◌, length, refl, sym, ◌∙◌, ap, subst, arith}
 use Rattle.std.specs.Prelude.{Option, Some, None, IsTrue, reverse, map, slice_get, ◌%◌, ◌/◌, if◌then◌else◌}
 use Rattle.std.specs.List.{AllByRecursion}
 use Rattle.std.proofs.Math.Nat.{mod-lt}
@@ -45,7 +45,7 @@ use Rattle.guarantees.proofs.ShareOrder.{run_there, share_at}
 
 -- ---- records
 
-record_of : (records : List Sent) (number : ℕ) (captured : Sent) → slice_get records number ≡ Some captured → AllByRecursion IsCaptured records →
+pub record_of : (records : List Sent) (number : ℕ) (captured : Sent) → slice_get records number ≡ Some captured → AllByRecursion IsCaptured records →
     IsCaptured captured × (frame_at (frames_of records) number ≡ captured.bytes.items)
 record_of [] number captured known all = absurd cc
 record_of (first ∷ later) zero captured known all =

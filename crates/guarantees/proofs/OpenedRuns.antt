@@ -16,7 +16,6 @@ use Rattle.semantics.specs.declared.call.Entry.{Entry}
 use Rattle.semantics.specs.declared.options.Options.{Options}
 use Rattle.semantics.specs.declared.plan.ShardPlan.{ShardPlan}
 use Rattle.semantics.specs.declared.verdict.Verdict.{Verdict}
-use Rattle.semantics.specs.declared.verdict.Verdict.TheVariants as verdicts
 use Rattle.semantics.specs.Program.{Program}
 use Rattle.semantics.specs.History.{shard_of_call}
 use Rattle.semantics.specs.RunTrace.{RunStand, RunTrace, HasExited, Waits, HasTrapped, GoesOn, trace_of}

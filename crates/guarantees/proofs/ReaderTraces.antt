@@ -1,5 +1,5 @@
 -- Runs of a program that only reads are the same on whichever worker.
-use Rattle.std.proofs.Common.{◌≡◌, ℕ, zero, suc, true, false, not, List, [], ◌∷◌, Option, Ok, IsTrue, refl, sym, ◌∙◌, ap, subst, inl, inr, arith}
+use Rattle.std.proofs.Common.{◌≡◌, ℕ, zero, suc, true, not, List, [], ◌∷◌, Option, Ok, IsTrue, refl, sym, ◌∙◌, ap, subst, inl, inr, arith}
 use Rattle.std.proofs.lemmas.Bool.{false≢true}
 use Rattle.isa.specs.declared.operation.Register.{Register}
 use Rattle.ebpf_decode.specs.declared.insn.Insn.{Insn}

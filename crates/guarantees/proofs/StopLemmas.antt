@@ -3,9 +3,6 @@ use Rattle.std.proofs.Common.{◌≡◌, ◌≢◌, ◌⊎◌, inl, inr, ⊎_eli
 use Rattle.std.specs.Prelude.{IsTrue, if◌then◌else◌}
 use Rattle.std.proofs.lemmas.Bool.{cases_eq, ne_eqb}
 use Rattle.std.proofs.lemmas.Bool.Decides.{nat_tests}
-use Rattle.wire.specs.FrameView.{FrameView}
-use Rattle.ebpf_decode.specs.InstructionEncoding.{total_slots}
-use Rattle.semantics.specs.declared.options.Options.{Options}
 use Rattle.semantics.specs.declared.plan.ShardPlan.{ShardPlan}
 use Rattle.semantics.specs.declared.call.Call.{Call}
 use Rattle.semantics.specs.declared.call.Call.TheVariants.{Enter}
@@ -22,21 +19,16 @@ use Rattle.semantics.specs.Reclamation.{inside_count}
 use Rattle.semantics.specs.History.{shard_of_call, lacks_room, room_for_leave, IsJournalFull}
 use Rattle.semantics.specs.System.{Setting, Runs, is_entered, run_over, IsInputFrame, input_frame}
 use Rattle.semantics.specs.System as model
-use Rattle.verifier.specs.Verified.{Verified}
-use Rattle.machine.specs.declared.exit.Stop.{Stop}
-use Rattle.machine.specs.declared.exit.Stop.TheVariants.{JournalFull}
-use Rattle.machine.specs.declared.moment.Moment.{Moment}
-use Rattle.machine.specs.Running.{program_of, whole_trace}
 use Rattle.map_port.specs.Exchanges.{Exchange, calls_in, replies_in}
 use Rattle.shards.specs.Passes.{PassView, own_at}
 use Rattle.shard_port.specs.Asking.{enter_by, leave_by}
 use Rattle.shard_port.specs.Sessions.{entries_at}
-use Rattle.shard_port.specs.PassSessions.{session_at, IsKeptOut, IsVisitedAt, HasRefusedSessions}
-use Rattle.runs.specs.FrameRuns.{HasStopped}
-use Rattle.guarantees.specs.SystemRuns.{Writes, Move, IsMove, AreMoves, entries_on, HaveGrown, IsStoppedInSystem, setting_of, HasStoppedInSystem}
-use Rattle.guarantees.specs.Guarantees.{StoppedRunsAreOfTheSystem}
-use Rattle.guarantees.proofs.MoveLemmas.{asks, begins_so, enters, is_refused, cannot_enter}
-use Rattle.guarantees.proofs.EventLemmas.{is_some_entry, IsDistinct, leaving_of, all_leave, leaves_on, append_on, since, nothing_since, or_false, Reaches, reach_on, reach_here, whole_session}
+use Rattle.shard_port.specs.PassSessions.{session_at, AreWithin, IsKeptOut, IsVisitedAt, HasRefusedSessions}
+use Rattle.runs.specs.FrameRuns.{AreFormed}
+use Rattle.guarantees.specs.Steps.{Writes, Move, asks, IsStep, RunBegins, ShardIsEntered, CallIsRefused, EnterIsRefused, InRun, running, AreStepsOfRun, beginning, leavings, entries_on}
+use Rattle.guarantees.specs.SystemRuns.{HaveGrown, IsStoppedInSystem}
+use Rattle.guarantees.specs.SystemLaws.{StoppedRunsAreOfTheSystem}
+use Rattle.guarantees.proofs.EventLemmas.{is_some_entry, AreEntered, all_leave, leaves_on, append_on, since, nothing_since, or_false, Reaches, reach_on, reach_here, whole_session}
 
 -- ---- to the state in which the run waits
 
@@ -46,22 +38,24 @@ record WaitsFor (setting : Setting) (call : Call) (waiting ending : MachineState
   next : Reply → MachineState
   asks_it : next_step (model.program_of setting) waiting ≡ CallsMap call next
 
-abbrev IsLed : Setting → ℕ → ℕ → Call → MachineState → Type 0
-IsLed setting worker count call waiting =
-    (state : MachineState) (entered : List ℕ) (exchanges : List Exchange) → IsDistinct entered →
-    trace_of count (model.program_of setting) state (replies_in exchanges)
+abbrev IsLed : Setting → ℕ → ℕ → ℕ → Call → MachineState → Type 0
+IsLed setting count worker steps call waiting =
+    (state : MachineState) (entered : List ℕ) (exchanges : List Exchange) → AreEntered count entered → AreWithin count exchanges →
+    AreFormed (model.program_of setting) exchanges →
+    trace_of steps (model.program_of setting) state (replies_in exchanges)
     ≡ record { calls = calls_in exchanges ++ call ∷ []; stand = Waits waiting } →
-    Reaches (WaitsFor setting call waiting) setting worker state entered exchanges
+    Reaches (WaitsFor setting call waiting) setting count worker state entered exchanges
 
-by_step : (setting : Setting) (worker count : ℕ) (call : Call) (waiting : MachineState) → IsLed setting worker count call waiting →
-    (state : MachineState) (entered : List ℕ) (exchanges : List Exchange) → IsDistinct entered →
-    (step : Step) → next_step (model.program_of setting) state ≡ step →
-    trace_from (trace_of count (model.program_of setting)) state step (replies_in exchanges)
+by_step : (setting : Setting) (count worker steps : ℕ) (call : Call) (waiting : MachineState) → IsLed setting count worker steps call waiting →
+    (state : MachineState) (entered : List ℕ) (exchanges : List Exchange) → AreEntered count entered → AreWithin count exchanges →
+    AreFormed (model.program_of setting) exchanges → (step : Step) → next_step (model.program_of setting) state ≡ step →
+    trace_from (trace_of steps (model.program_of setting)) state step (replies_in exchanges)
     ≡ record { calls = calls_in exchanges ++ call ∷ []; stand = Waits waiting } →
-    Reaches (WaitsFor setting call waiting) setting worker state entered exchanges
-by_step setting worker count call waiting later state entered exchanges distinct (Continues next) is trace =
-    reach_on (WaitsFor setting call waiting) setting worker state next entered exchanges is (later next entered exchanges distinct trace)
-by_step setting worker count call waiting later state entered [] distinct (CallsMap made next) is trace =
+    Reaches (WaitsFor setting call waiting) setting count worker state entered exchanges
+by_step setting count worker steps call waiting later state entered exchanges distinct within formed (Continues next) is trace =
+    reach_on (WaitsFor setting call waiting) setting count worker state next entered exchanges is
+    (later next entered exchanges distinct within formed trace)
+by_step setting count worker steps call waiting later state entered [] distinct within formed (CallsMap made next) is trace =
     let calls_are : made ∷ [] ≡ call ∷ [] = ap (λ (one : RunTrace). one.calls) trace in
     let stands : Waits state ≡ Waits waiting = ap (λ (one : RunTrace). one.stand) trace in
     let same : made ≡ call = cc in
@@ -81,32 +75,32 @@ by_step setting worker count call waiting later state entered [] distinct (Calls
       writes = λ number. nothing_since worker number (is_entered number entered);
       stays = λ number. sym (or_false (is_entered number entered));
     }
-by_step setting worker count call waiting later state entered (exchange ∷ more) distinct (CallsMap made next) is trace =
-    let rest : RunTrace = trace_of count (model.program_of setting) (next exchange.reply) (replies_in more) in
+by_step setting count worker steps call waiting later state entered (exchange ∷ more) distinct within formed (CallsMap made next) is trace =
+    let rest : RunTrace = trace_of steps (model.program_of setting) (next exchange.reply) (replies_in more) in
     let calls_made : made ∷ rest.calls ≡ exchange.call ∷ (calls_in more ++ call ∷ []) = ap (λ (one : RunTrace). one.calls) trace in
     let stands : rest.stand ≡ Waits waiting = ap (λ (one : RunTrace). one.stand) trace in
     let same : made ≡ exchange.call = cc in
     let calls_are : rest.calls ≡ calls_in more ++ call ∷ [] = cc in
     let whole : rest ≡ record { calls = calls_in more ++ call ∷ []; stand = Waits waiting } = rw (sym calls_are, sym stands) refl in
-    reach_here (WaitsFor setting call waiting) setting worker state next entered exchange more
-    (is_entered (shard_of_call exchange.call) entered) (is ∙ ap (λ (one : Call). CallsMap one next) same) refl distinct
-    (λ now fine. later (next exchange.reply) now more fine whole)
-by_step setting worker count call waiting later state entered exchanges distinct (Exits verdict last) is trace =
+    reach_here (WaitsFor setting call waiting) setting count worker state next entered exchange more
+    (is_entered (shard_of_call exchange.call) entered) (is ∙ ap (λ (one : Call). CallsMap one next) same) within.0 formed.0 refl distinct
+    (λ now fine. later (next exchange.reply) now more fine within.1 formed.1 whole)
+by_step setting count worker steps call waiting later state entered exchanges distinct within formed (Exits verdict last) is trace =
     absurd (ended (ap (λ (one : RunTrace). one.stand) trace))
   where
     ended : HasExited verdict last ≡ Waits waiting → ⊥
     ended stands = cc
-by_step setting worker count call waiting later state entered exchanges distinct (Traps cause) is trace =
+by_step setting count worker steps call waiting later state entered exchanges distinct within formed (Traps cause) is trace =
     absurd (trapped (ap (λ (one : RunTrace). one.stand) trace))
   where
     trapped : HasTrapped cause ≡ Waits waiting → ⊥
     trapped stands = cc
 
-led : (setting : Setting) (worker count : ℕ) (call : Call) (waiting : MachineState) → IsLed setting worker count call waiting
-led setting worker zero call waiting state entered exchanges distinct trace =
+led : (setting : Setting) (count worker steps : ℕ) (call : Call) (waiting : MachineState) → IsLed setting count worker steps call waiting
+led setting count worker zero call waiting state entered exchanges distinct within formed trace =
     absurd (let stands : GoesOn ≡ Waits waiting = ap (λ (one : RunTrace). one.stand) trace in cc)
-led setting worker (suc count) call waiting state entered exchanges distinct trace =
-    by_step setting worker count call waiting (led setting worker count call waiting) state entered exchanges distinct
+led setting count worker (suc steps) call waiting state entered exchanges distinct within formed trace =
+    by_step setting count worker steps call waiting (led setting count worker steps call waiting) state entered exchanges distinct within formed
     (next_step (model.program_of setting) state) refl trace
 
 -- ---- the refusal, and leaving
@@ -117,12 +111,12 @@ none_there (first ∷ later) none = absurd cc
 
 -- what the pass has more, where every session is whole
 all_written : (setting : Setting) (worker : ℕ) (state : MachineState) (plan : ℕ → ShardPlan) (count : ℕ) (before after : PassView)
-    (exchanges : List Exchange) (call : Call) (said : MachineState → Type 0) (reaches : Reaches said setting worker state [] exchanges) →
+    (exchanges : List Exchange) (call : Call) (said : MachineState → Type 0) (reaches : Reaches said setting count worker state [] exchanges) →
     ((number : ℕ) → number < count → own_at after number ≡ reverse (session_at worker number exchanges) ++ own_at before number) →
-    HaveGrown count (reaches.run ++ leaving_of worker reaches.after) before after
+    HaveGrown count (reaches.run ++ leavings worker reaches.after) before after
 all_written setting worker state plan count before after exchanges call said reaches written = λ number within.
     written number within
-    ∙ ap (λ (list : List Entry). reverse list ++ own_at before number) (sym (whole_session said setting worker state exchanges reaches number))
+    ∙ ap (λ (list : List Entry). reverse list ++ own_at before number) (sym (whole_session said setting count worker state exchanges reaches number))
 
 -- an Enter asks for more room than any call that a journal can refuse
 full_for_enter : (plan : ShardPlan) (history : List Entry) (shard : ℕ) (call : Call) → IsJournalFull plan history call →
@@ -153,31 +147,31 @@ call_is_full plan full_at worker exchanges call shard before after in_there (inr
 two_more : (xs : List Entry) (a b : Entry) → xs ≡ a ∷ b ∷ xs → ⊥
 two_more xs a b same = let longer : length xs ≡ length (a ∷ b ∷ xs) = ap length same in omega (arith, longer)
 
+led_there : (setting : Setting) (count worker told now : ℕ) (frame : List ℕ) (call : Call) (waiting : MachineState) (exchanges : List Exchange)
+    (reaches : Reaches (WaitsFor setting call waiting) setting count worker (initial_state (input_frame frame) told now) [] exchanges) →
+    AreStepsOfRun setting count worker (beginning frame told now) reaches.run (record { state = waiting; entered = reaches.after })
+led_there setting count worker told now frame call waiting exchanges reaches =
+    subst (λ (one : MachineState). AreStepsOfRun setting count worker (beginning frame told now) reaches.run (record { state = one; entered = reaches.after }))
+    reaches.ended.is reaches.runs
+
 -- the call's shard has a session already: the call was refused inside
 inside_stop : (setting : Setting) (worker told now : ℕ) (frame : List ℕ) (plan : ℕ → ShardPlan) (count : ℕ) (before after : PassView)
     (exchanges : List Exchange) (call : Call) (waiting : MachineState) → worker < setting.options.workers → IsInputFrame frame →
     now < 2 ^ 64 → told < 8 → HasRefusedSessions plan count worker exchanges call before after →
-    (reaches : Reaches (WaitsFor setting call waiting) setting worker (initial_state (input_frame frame) told now) [] exchanges) →
+    (reaches : Reaches (WaitsFor setting call waiting) setting count worker (initial_state (input_frame frame) told now) [] exchanges) →
     is_entered (shard_of_call call) reaches.after ≡ true → IsStoppedInSystem setting worker told now frame plan count before after call waiting
 inside_stop setting worker told now frame plan count before after exchanges call waiting few input early low sessions reaches inside = record {
+  begins_so = RunBegins frame now told few input early low;
   run = reaches.run;
   entered = reaches.after;
-  leaving = leaving_of worker reaches.after;
+  goes_on = led_there setting count worker told now frame call waiting exchanges reaches;
+  next = reaches.ended.next;
+  waits = reaches.ended.asks_it;
   refused = call;
   refused_is = inl refl;
-  next = reaches.ended.next;
-  runs = (
-    Runs (initial_state (input_frame frame) told now) [],
-    begins_so setting worker now told frame few input early low,
-    subst (λ (one : MachineState). AreMoves setting worker (Runs (initial_state (input_frame frame) told now) []) reaches.run
-        (Runs one reaches.after)) reaches.ended.is reaches.runs,
-  );
-  waits = reaches.ended.asks_it;
-  leaves = (
-    run_over reaches.after,
-    is_refused setting worker waiting reaches.after call reaches.ended.next reaches.ended.asks_it inside,
-    all_leave setting worker reaches.after reaches.distinct,
-  );
+  refuses = CallIsRefused waiting reaches.after call reaches.ended.next reaches.ended.asks_it sessions.refused_within inside;
+  left = reaches.after;
+  leaves = all_leave setting count worker reaches.after reaches.distinct;
   full_at = sessions.full_at;
   full_seen = sessions.full_seen;
   full = call_is_full (plan (shard_of_call call)) sessions.full_at worker exchanges call (shard_of_call call)
@@ -208,29 +202,22 @@ inside_stop setting worker told now frame plan count before after exchanges call
 outside_stop : (setting : Setting) (worker told now : ℕ) (frame : List ℕ) (plan : ℕ → ShardPlan) (count : ℕ) (before after : PassView)
     (exchanges : List Exchange) (call : Call) (waiting : MachineState) → worker < setting.options.workers → IsInputFrame frame →
     now < 2 ^ 64 → told < 8 → HasRefusedSessions plan count worker exchanges call before after →
-    (reaches : Reaches (WaitsFor setting call waiting) setting worker (initial_state (input_frame frame) told now) [] exchanges) →
+    (reaches : Reaches (WaitsFor setting call waiting) setting count worker (initial_state (input_frame frame) told now) [] exchanges) →
     is_entered (shard_of_call call) reaches.after ≡ false →
     ((number : ℕ) → number < count → own_at after number ≡ reverse (session_at worker number exchanges) ++ own_at before number) →
     IsStoppedInSystem setting worker told now frame plan count before after call waiting
 outside_stop setting worker told now frame plan count before after exchanges call waiting few input early low sessions reaches outside written = record {
+  begins_so = RunBegins frame now told few input early low;
   run = reaches.run;
   entered = reaches.after;
-  leaving = leaving_of worker reaches.after;
+  goes_on = led_there setting count worker told now frame call waiting exchanges reaches;
+  next = reaches.ended.next;
+  waits = reaches.ended.asks_it;
   refused = Enter (shard_of_call call);
   refused_is = inr refl;
-  next = reaches.ended.next;
-  runs = (
-    Runs (initial_state (input_frame frame) told now) [],
-    begins_so setting worker now told frame few input early low,
-    subst (λ (one : MachineState). AreMoves setting worker (Runs (initial_state (input_frame frame) told now) []) reaches.run
-        (Runs one reaches.after)) reaches.ended.is reaches.runs,
-  );
-  waits = reaches.ended.asks_it;
-  leaves = (
-    run_over reaches.after,
-    cannot_enter setting worker waiting reaches.after call reaches.ended.next reaches.ended.asks_it outside,
-    all_leave setting worker reaches.after reaches.distinct,
-  );
+  refuses = EnterIsRefused waiting reaches.after call reaches.ended.next reaches.ended.asks_it sessions.refused_within outside;
+  left = reaches.after;
+  leaves = all_leave setting count worker reaches.after reaches.distinct;
   full_at = sessions.full_at;
   full_seen = sessions.full_seen;
   full = enter_is_full (plan (shard_of_call call)) sessions.full_at worker exchanges call (shard_of_call call)
@@ -241,52 +228,53 @@ outside_stop setting worker told now frame plan count before after exchanges cal
 
 -- ---- entered for the refused call alone
 
--- moves of which the last one is told apart
-moves_end : (setting : Setting) (worker : ℕ) (before between after : model.WorkerState) (moves : List Move) (last : Move) →
-    AreMoves setting worker before moves between → IsMove setting worker between last after → AreMoves setting worker before (moves ++ last ∷ []) after
-moves_end setting worker before between after [] last are ends =
-    (after, subst (λ one. IsMove setting worker one last after) (sym are) ends, refl)
-moves_end setting worker before between after (move ∷ moves) last are ends =
-    (are.0, are.1, moves_end setting worker are.0 between after moves last are.2 ends)
+-- steps of which the last one is told apart
+steps_end : (setting : Setting) (count worker : ℕ) (before between after : InRun) (moves : List Move) (last : Move) →
+    AreStepsOfRun setting count worker before moves between → IsStep setting count worker (running between) last (running after) →
+    AreStepsOfRun setting count worker before (moves ++ last ∷ []) after
+steps_end setting count worker before between after [] last are ends =
+    (after, subst (λ (one : InRun). IsStep setting count worker (running one) last (running after)) (sym are) ends, refl)
+steps_end setting count worker before between after (move ∷ moves) last are ends =
+    (are.0, are.1, steps_end setting count worker are.0 between after moves last are.2 ends)
 
 -- what the moves write where the run entered a shard at its end
-visit_writes : (said : MachineState → Type 0) (setting : Setting) (worker shard number : ℕ) (state : MachineState) (exchanges : List Exchange)
-    (reaches : Reaches said setting worker state [] exchanges) (here : Bool) → (shard == number) ≡ here →
-    entries_on number ((reaches.run ++ asks worker (Writes (enter_by worker shard)) ∷ []) ++ leaving_of worker (shard ∷ reaches.after))
+visit_writes : (said : MachineState → Type 0) (setting : Setting) (count worker shard number : ℕ) (state : MachineState) (exchanges : List Exchange)
+    (reaches : Reaches said setting count worker state [] exchanges) (here : Bool) → (shard == number) ≡ here →
+    entries_on number ((reaches.run ++ asks worker (Writes (enter_by worker shard)) ∷ []) ++ leavings worker (shard ∷ reaches.after))
     ≡ (entries_on number reaches.run ++ (if here then enter_by worker shard ∷ [] else []))
-    ++ (if here then leave_by worker shard ∷ entries_on number (leaving_of worker reaches.after)
-    else entries_on number (leaving_of worker reaches.after))
-visit_writes said setting worker shard number state exchanges reaches here is =
-    append_on number (reaches.run ++ asks worker (Writes (enter_by worker shard)) ∷ []) (leaving_of worker (shard ∷ reaches.after))
-    ∙ ap (λ (list : List Entry). list ++ entries_on number (leaving_of worker (shard ∷ reaches.after)))
+    ++ (if here then leave_by worker shard ∷ entries_on number (leavings worker reaches.after)
+    else entries_on number (leavings worker reaches.after))
+visit_writes said setting count worker shard number state exchanges reaches here is =
+    append_on number (reaches.run ++ asks worker (Writes (enter_by worker shard)) ∷ []) (leavings worker (shard ∷ reaches.after))
+    ∙ ap (λ (list : List Entry). list ++ entries_on number (leavings worker (shard ∷ reaches.after)))
     (append_on number reaches.run (asks worker (Writes (enter_by worker shard)) ∷ []))
     ∙ ap (λ (test : Bool). (entries_on number reaches.run ++ (if test then enter_by worker shard ∷ [] else []))
-    ++ (if test then leave_by worker shard ∷ entries_on number (leaving_of worker reaches.after)
-    else entries_on number (leaving_of worker reaches.after))) is
+    ++ (if test then leave_by worker shard ∷ entries_on number (leavings worker reaches.after)
+    else entries_on number (leavings worker reaches.after))) is
 
-visit_elsewhere : (said : MachineState → Type 0) (setting : Setting) (worker shard number : ℕ) (state : MachineState) (exchanges : List Exchange)
-    (reaches : Reaches said setting worker state [] exchanges) → (shard == number) ≡ false →
-    entries_on number ((reaches.run ++ asks worker (Writes (enter_by worker shard)) ∷ []) ++ leaving_of worker (shard ∷ reaches.after))
+visit_elsewhere : (said : MachineState → Type 0) (setting : Setting) (count worker shard number : ℕ) (state : MachineState) (exchanges : List Exchange)
+    (reaches : Reaches said setting count worker state [] exchanges) → (shard == number) ≡ false →
+    entries_on number ((reaches.run ++ asks worker (Writes (enter_by worker shard)) ∷ []) ++ leavings worker (shard ∷ reaches.after))
     ≡ session_at worker number exchanges
-visit_elsewhere said setting worker shard number state exchanges reaches is =
-    visit_writes said setting worker shard number state exchanges reaches false is
-    ∙ ap (λ (list : List Entry). list ++ entries_on number (leaving_of worker reaches.after)) (append-nil (entries_on number reaches.run))
-    ∙ sym (append_on number reaches.run (leaving_of worker reaches.after))
-    ∙ whole_session said setting worker state exchanges reaches number
+visit_elsewhere said setting count worker shard number state exchanges reaches is =
+    visit_writes said setting count worker shard number state exchanges reaches false is
+    ∙ ap (λ (list : List Entry). list ++ entries_on number (leavings worker reaches.after)) (append-nil (entries_on number reaches.run))
+    ∙ sym (append_on number reaches.run (leavings worker reaches.after))
+    ∙ whole_session said setting count worker state exchanges reaches number
 
-visit_there : (said : MachineState → Type 0) (setting : Setting) (worker shard number : ℕ) (state : MachineState) (exchanges : List Exchange)
-    (reaches : Reaches said setting worker state [] exchanges) → (shard == number) ≡ true → is_entered number reaches.after ≡ false →
+visit_there : (said : MachineState → Type 0) (setting : Setting) (count worker shard number : ℕ) (state : MachineState) (exchanges : List Exchange)
+    (reaches : Reaches said setting count worker state [] exchanges) → (shard == number) ≡ true → is_entered number reaches.after ≡ false →
     entries_at worker number exchanges ≡ [] →
-    entries_on number ((reaches.run ++ asks worker (Writes (enter_by worker shard)) ∷ []) ++ leaving_of worker (shard ∷ reaches.after))
+    entries_on number ((reaches.run ++ asks worker (Writes (enter_by worker shard)) ∷ []) ++ leavings worker (shard ∷ reaches.after))
     ≡ enter_by worker shard ∷ leave_by worker shard ∷ []
-visit_there said setting worker shard number state exchanges reaches is outside none =
+visit_there said setting count worker shard number state exchanges reaches is outside none =
     let before : entries_on number reaches.run ≡ [] =
     reaches.writes number ∙ ap (λ (list : List Entry). since false worker number list) none in
-    let after : entries_on number (leaving_of worker reaches.after) ≡ [] =
-    leaves_on worker number reaches.after reaches.distinct
+    let after : entries_on number (leavings worker reaches.after) ≡ [] =
+    leaves_on count worker number reaches.after reaches.distinct
     ∙ ap (λ (test : Bool). if test then leave_by worker number ∷ [] else []) outside in
-    visit_writes said setting worker shard number state exchanges reaches true is
-    ∙ ap (λ (list : List Entry). (list ++ enter_by worker shard ∷ []) ++ leave_by worker shard ∷ entries_on number (leaving_of worker reaches.after)) before
+    visit_writes said setting count worker shard number state exchanges reaches true is
+    ∙ ap (λ (list : List Entry). (list ++ enter_by worker shard ∷ []) ++ leave_by worker shard ∷ entries_on number (leavings worker reaches.after)) before
     ∙ ap (λ (list : List Entry). enter_by worker shard ∷ leave_by worker shard ∷ list) after
 
 apart_from : (shard number : ℕ) → number ≢ shard → (shard == number) ≡ false
@@ -295,7 +283,7 @@ apart_from shard number apart = ne_eqb shard number (λ same. apart (sym same))
 visit_stop : (setting : Setting) (worker told now : ℕ) (frame : List ℕ) (plan : ℕ → ShardPlan) (count : ℕ) (before after : PassView)
     (exchanges : List Exchange) (call : Call) (waiting : MachineState) → worker < setting.options.workers → IsInputFrame frame →
     now < 2 ^ 64 → told < 8 → HasRefusedSessions plan count worker exchanges call before after →
-    (reaches : Reaches (WaitsFor setting call waiting) setting worker (initial_state (input_frame frame) told now) [] exchanges) →
+    (reaches : Reaches (WaitsFor setting call waiting) setting count worker (initial_state (input_frame frame) told now) [] exchanges) →
     is_entered (shard_of_call call) reaches.after ≡ false →
     IsVisitedAt worker exchanges call (shard_of_call call) (own_at before (shard_of_call call)) (own_at after (shard_of_call call)) →
     IsStoppedInSystem setting worker told now frame plan count before after call waiting
@@ -304,28 +292,22 @@ visit_stop setting worker told now frame plan count before after exchanges call 
     let start : MachineState = initial_state (input_frame frame) told now in
     let same : (shard == shard) ≡ true = grind (arith, nat_tests) in
     let first : is_entered shard (shard ∷ reaches.after) ≡ true = ap (λ (test : Bool). test || is_entered shard reaches.after) same in
-    let led_to : AreMoves setting worker (Runs start []) reaches.run (Runs waiting reaches.after) =
-    subst (λ (one : MachineState). AreMoves setting worker (Runs start []) reaches.run (Runs one reaches.after)) reaches.ended.is reaches.runs in
+    let there : AreStepsOfRun setting count worker (beginning frame told now) reaches.run (record { state = waiting; entered = reaches.after }) =
+    led_there setting count worker told now frame call waiting exchanges reaches in
     record {
+      begins_so = RunBegins frame now told few input early low;
       run = reaches.run ++ asks worker (Writes (enter_by worker shard)) ∷ [];
       entered = shard ∷ reaches.after;
-      leaving = leaving_of worker (shard ∷ reaches.after);
+      goes_on = steps_end setting count worker (beginning frame told now) (record { state = waiting; entered = reaches.after })
+          (record { state = waiting; entered = shard ∷ reaches.after }) reaches.run (asks worker (Writes (enter_by worker shard))) there
+          (ShardIsEntered waiting reaches.after call reaches.ended.next reaches.ended.asks_it sessions.refused_within outside);
+      next = reaches.ended.next;
+      waits = reaches.ended.asks_it;
       refused = call;
       refused_is = inl refl;
-      next = reaches.ended.next;
-      runs = (
-        Runs start [],
-        begins_so setting worker now told frame few input early low,
-        moves_end setting worker (Runs start []) (Runs waiting reaches.after) (Runs waiting (shard ∷ reaches.after)) reaches.run
-            (asks worker (Writes (enter_by worker shard))) led_to
-            (enters setting worker waiting reaches.after call reaches.ended.next reaches.ended.asks_it outside),
-      );
-      waits = reaches.ended.asks_it;
-      leaves = (
-        run_over (shard ∷ reaches.after),
-        is_refused setting worker waiting (shard ∷ reaches.after) call reaches.ended.next reaches.ended.asks_it first,
-        all_leave setting worker (shard ∷ reaches.after) (outside, reaches.distinct),
-      );
+      refuses = CallIsRefused waiting (shard ∷ reaches.after) call reaches.ended.next reaches.ended.asks_it sessions.refused_within first;
+      left = shard ∷ reaches.after;
+      leaves = all_leave setting count worker (shard ∷ reaches.after) (outside, sessions.refused_within, reaches.distinct);
       full_at = sessions.full_at;
       full_seen = sessions.full_seen;
       full = call_is_full (plan shard) sessions.full_at worker exchanges call shard (own_at before shard) (own_at after shard)
@@ -336,13 +318,13 @@ visit_stop setting worker told now frame plan count before after exchanges call 
           (λ (apart : number ≢ shard).
           elsewhere_own number within apart
           ∙ ap (λ (list : List Entry). reverse list ++ own_at before number)
-          (sym (visit_elsewhere (WaitsFor setting call waiting) setting worker shard number start exchanges reaches (apart_from shard number apart))))
+          (sym (visit_elsewhere (WaitsFor setting call waiting) setting count worker shard number start exchanges reaches (apart_from shard number apart))))
           (cases_eq number shard);
     }
   where
     visited_own : (number : ℕ) → number ≡ shard_of_call call →
         own_at after number ≡ reverse (entries_on number ((reaches.run ++ asks worker (Writes (enter_by worker (shard_of_call call))) ∷ [])
-        ++ leaving_of worker (shard_of_call call ∷ reaches.after))) ++ own_at before number
+        ++ leavings worker (shard_of_call call ∷ reaches.after))) ++ own_at before number
     visited_own number here =
         let there : (shard_of_call call == number) ≡ true = grind (arith, nat_tests) in
         let out : is_entered number reaches.after ≡ false = subst (λ (one : ℕ). is_entered one reaches.after ≡ false) (sym here) outside in
@@ -352,7 +334,7 @@ visit_stop setting worker told now frame plan count before after exchanges call 
         subst (λ (one : ℕ). own_at after one ≡ leave_by worker (shard_of_call call) ∷ enter_by worker (shard_of_call call) ∷ own_at before one)
         (sym here) visited.written in
         own ∙ ap (λ (list : List Entry). reverse list ++ own_at before number)
-        (sym (visit_there (WaitsFor setting call waiting) setting worker (shard_of_call call) number (initial_state (input_frame frame) told now)
+        (sym (visit_there (WaitsFor setting call waiting) setting count worker (shard_of_call call) number (initial_state (input_frame frame) told now)
         exchanges reaches there out none))
 
     elsewhere_own : (number : ℕ) → number < count → number ≢ shard_of_call call →
@@ -375,7 +357,7 @@ all_sessions plan count worker before after exchanges call sessions own number w
 by_inside : (setting : Setting) (worker told now : ℕ) (frame : List ℕ) (plan : ℕ → ShardPlan) (count : ℕ) (before after : PassView)
     (exchanges : List Exchange) (call : Call) (waiting : MachineState) → worker < setting.options.workers → IsInputFrame frame →
     now < 2 ^ 64 → told < 8 → HasRefusedSessions plan count worker exchanges call before after →
-    (reaches : Reaches (WaitsFor setting call waiting) setting worker (initial_state (input_frame frame) told now) [] exchanges) →
+    (reaches : Reaches (WaitsFor setting call waiting) setting count worker (initial_state (input_frame frame) told now) [] exchanges) →
     (inside : Bool) → is_entered (shard_of_call call) reaches.after ≡ inside →
     IsStoppedInSystem setting worker told now frame plan count before after call waiting
 by_inside setting worker told now frame plan count before after exchanges call waiting few input early low sessions reaches true is =
@@ -390,28 +372,8 @@ by_inside setting worker told now frame plan count before after exchanges call w
     (sessions.written (shard_of_call call) sessions.refused_within)
 
 pub stopped_is_of_system : StoppedRunsAreOfTheSystem
-stopped_is_of_system setting worker told now frame plan count steps before after exchanges call waiting few input early low trace sessions =
-    let reaches : Reaches (WaitsFor setting call waiting) setting worker (initial_state (input_frame frame) told now) [] exchanges =
-    led setting worker steps call waiting (initial_state (input_frame frame) told now) [] exchanges tt trace in
+stopped_is_of_system setting worker told now frame plan count steps before after exchanges call waiting few input early low trace formed sessions =
+    let reaches : Reaches (WaitsFor setting call waiting) setting count worker (initial_state (input_frame frame) told now) [] exchanges =
+    led setting count worker steps call waiting (initial_state (input_frame frame) told now) [] exchanges tt sessions.within formed trace in
     by_inside setting worker told now frame plan count before after exchanges call waiting few input early low sessions reaches
     (is_entered (shard_of_call call) reaches.after) refl
-
--- by what a run over shared shards ensures
-pub stopped_in_system : StoppedRunsAreOfTheSystem → (verified : Verified) (options : Options) (moment : Moment) (frame : FrameView)
-    (plan : ℕ → ShardPlan) (count worker : ℕ) (before after : PassView) (sent : FrameView) (stop : Stop) →
-    worker < options.workers → IsInputFrame frame.bytes → frame.headroom ≡ 256 → moment.now_ns < 2 ^ 64 → moment.worker < 8 →
-    HasStopped (program_of verified options.shards) (initial_state frame moment.worker moment.now_ns) plan count worker before after sent stop →
-    HasStoppedInSystem (setting_of verified options) worker moment frame.bytes plan count before after sent stop
-stopped_in_system stops verified options moment frame plan count worker before after sent (JournalFull shard) few input headroom early low was =
-    let same : frame ≡ input_frame frame.bytes = ap (λ (room : ℕ). record { bytes = frame.bytes; headroom = room }) headroom in
-    record {
-      call = was.refused;
-      named = was.named;
-      waiting = was.waiting;
-      of_system = stops (setting_of verified options) worker moment.worker moment.now_ns frame.bytes plan count (total_slots verified.code)
-          before after was.exchanges was.refused was.waiting few input early low
-          (subst (λ (one : FrameView). whole_trace (program_of verified options.shards) (initial_state one moment.worker moment.now_ns)
-          (replies_in was.exchanges) ≡ record { calls = calls_in was.exchanges ++ was.refused ∷ []; stand = Waits was.waiting }) same was.trace)
-          was.sessions;
-      kept_is = was.kept_back;
-    }

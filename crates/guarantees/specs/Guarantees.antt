@@ -1,16 +1,12 @@
 -- What xlb promises, one statement for each guarantee. Each is the contract of a function of src/lib.rt.
-use Rattle.std.specs.Prelude.{◌≡◌, ℕ, ◌==◌, ◌<◌, ◌^◌, List, [], ◌∷◌, ◌++◌, reverse, Some, slice_get, IsFalse}
+use Rattle.std.specs.Prelude.{◌≡◌, ℕ, ◌==◌, List, ◌∷◌, ◌++◌, reverse, Some, slice_get, IsFalse}
 use Rattle.ebpf_decode.specs.declared.map.MapDef.{MapDef}
 use Rattle.wire.specs.FrameView.{FrameView}
-use Rattle.semantics.specs.declared.call.Call.{Call}
 use Rattle.semantics.specs.declared.call.Entry.{Entry}
 use Rattle.semantics.specs.declared.options.Options.{Options}
 use Rattle.semantics.specs.declared.plan.ShardPlan.{ShardPlan}
 use Rattle.semantics.specs.ShardPlan.{plan_at}
-use Rattle.semantics.specs.MachineState.{MachineState, initial_state}
-use Rattle.semantics.specs.RunTrace.{HasExited, Waits, trace_of}
-use Rattle.semantics.specs.System.{Setting, SystemState, history_of, IsInputFrame, input_frame}
-use Rattle.semantics.specs.System as model
+use Rattle.semantics.specs.System.{Setting, SystemState, history_of}
 use Rattle.semantics.specs.declared.verdict.Verdict.{Verdict}
 use Rattle.semantics.specs.History.{shard_of_call, IsLegalJournal, IsSequentialStep}
 use Rattle.verifier.specs.Verified.{Verified}
@@ -18,11 +14,8 @@ use Rattle.shard_core.specs.JournaledShard.{JournaledShard}
 use Rattle.shards.specs.Opening.{AreOpened}
 use Rattle.shard_port.specs.Asking.{is_in}
 use Rattle.shard_port.specs.PortView.{ServesMaps}
-use Rattle.map_port.specs.Exchanges.{Exchange, calls_in, replies_in}
-use Rattle.shards.specs.Passes.{PassView}
-use Rattle.shard_port.specs.PassSessions.{HasSessions, HasRefusedSessions}
 use Rattle.machine.specs.Running.{program_of}
-use Rattle.guarantees.specs.SystemRuns.{Answers, IsRunOfSystem, IsStoppedInSystem}
+use Rattle.guarantees.specs.Moves.{Answers}
 use Rattle.guarantees.specs.Runs.{IsOutside, AreLegal, Start, Ran, WasStopped, IsTheMeaning, IsTheBeginning}
 
 -- a run over shards in which its worker was not inside is the meaning of its program on the replies that stand in the journals
@@ -60,29 +53,6 @@ RunsLeaveOthersAlone =
     IsOutside start.worker before → Ran verified options start before after verdict steps frame →
     (other number : ℕ) (old new : JournaledShard) → IsFalse (start.worker == other) →
     slice_get before number ≡ Some old → slice_get after number ≡ Some new → is_in other new ≡ is_in other old
-
--- a run that ended, over shards that other threads called meanwhile, is a list of its worker's events in the system of all workers, from idle
--- to idle: what `run` ensures (the trace on the replies) and what the port's sessions are (the worker's own entries) meet there
-abbrev pub RunsAreOfTheSystem : Type 0
-RunsAreOfTheSystem =
-    (setting : Setting) (worker told now : ℕ) (frame : List ℕ) (count steps : ℕ) (before after : PassView) (exchanges : List Exchange)
-    (verdict : Verdict) (last : MachineState) →
-    worker < setting.options.workers → IsInputFrame frame → now < 2 ^ 64 → told < 8 →
-    trace_of steps (model.program_of setting) (initial_state (input_frame frame) told now) (replies_in exchanges)
-    ≡ record { calls = calls_in exchanges; stand = HasExited verdict last } →
-    HasSessions count worker exchanges before after →
-    IsRunOfSystem setting worker told now frame count before after verdict last
-
--- and so is a run that a full journal stopped
-abbrev pub StoppedRunsAreOfTheSystem : Type 0
-StoppedRunsAreOfTheSystem =
-    (setting : Setting) (worker told now : ℕ) (frame : List ℕ) (plan : ℕ → ShardPlan) (count steps : ℕ) (before after : PassView)
-    (exchanges : List Exchange) (call : Call) (waiting : MachineState) →
-    worker < setting.options.workers → IsInputFrame frame → now < 2 ^ 64 → told < 8 →
-    trace_of steps (model.program_of setting) (initial_state (input_frame frame) told now) (replies_in exchanges)
-    ≡ record { calls = calls_in exchanges ++ call ∷ []; stand = Waits waiting } →
-    HasRefusedSessions plan count worker exchanges call before after →
-    IsStoppedInSystem setting worker told now frame plan count before after call waiting
 
 -- in a legal journal each entry is answered at its own place: where the history of its shard is what stands before it, its event can happen
 abbrev pub EntriesAreAnswered : Type 0

@@ -1,6 +1,14 @@
+pub mod Steps
+pub mod Moves
+pub mod SystemRuns
+pub mod Headline
+pub mod SystemLaws
+pub mod StepLaws
+pub mod RunRows
+pub mod Merging
+pub mod Places
 pub mod Runs
 pub mod Guarantees
 pub mod SameRuns
-pub mod SystemRuns
 pub mod ReaderRuns
 pub mod ReaderReplays

@@ -1,6 +1,7 @@
 -- What the calls of one run give, and what a run over shards comes to.
 use Rattle.std.specs.Prelude.{◌≡◌, ◌⊎◌, ℕ, ◌<◌, ◌≤◌, List, [], ◌∷◌, ◌++◌, length, reverse, Some, slice_get, IsFalse}
 use Rattle.ebpf_decode.specs.InstructionEncoding.{total_slots}
+use Rattle.ebpf_decode.specs.declared.map.MapDef.{MapDef}
 use Rattle.wire.specs.FrameView.{FrameView}
 use Rattle.semantics.specs.declared.call.Call.{Call}
 use Rattle.semantics.specs.declared.options.Options.{Options}
@@ -17,10 +18,12 @@ use Rattle.shard_port.specs.PortView.{ServesMaps}
 use Rattle.shard_port.specs.declared.plain.PlainPort.{PlainPort}
 use Rattle.shard_port.specs.PlainPorts.{PortGives, PortRefuses}
 use Rattle.shard_port.specs.Sessions.{with_entries, begun, session, entries_at}
+use Rattle.shard_port.specs.PassSessions.{AreWithin}
 use Rattle.machine.specs.declared.exit.Stop.{Stop}
 use Rattle.machine.specs.declared.exit.Stop.TheVariants.{JournalFull}
 use Rattle.machine.specs.declared.moment.Moment.{Moment}
 use Rattle.machine.specs.Running.{program_of, whole_trace, Ends, Stops}
+use Rattle.runs.specs.FrameRuns.{AreFormed}
 
 -- ---- the shards between runs
 
@@ -46,7 +49,8 @@ state_at start = initial_state start.frame start.worker start.now
 
 -- ---- what the calls of a run ensure: `PlainPort::over` made the port before, `run` left the port after, `finish` left the shards
 
-pub record IsPortOver (options : Options) (worker : ℕ) (shards : List JournaledShard) (port : PlainPort) : Type 0 where
+pub record IsPortOver (maps : List MapDef) (options : Options) (worker : ℕ) (shards : List JournaledShard) (port : PlainPort) : Type 0 where
+  pub same_maps : port.image.now.maps ≡ maps
   pub same_shards : port.shards.now ≡ shards
   pub same_options : port.options ≡ options
   pub same_worker : port.worker ≡ worker
@@ -59,7 +63,7 @@ pub record IsFinished (options : Options) (port : PlainPort) (shards : List Jour
 pub record Ran (verified : Verified) (options : Options) (start : Start) (before after : List JournaledShard) (verdict : Verdict)
     (steps : ℕ) (frame : FrameView) : Type 0 where
   pub port : PlainPort
-  pub over : IsPortOver options start.worker before port
+  pub over : IsPortOver verified.maps options start.worker before port
   pub later : PlainPort
   pub ended : Ends PortGives (program_of verified options.shards) (state_at start) port later verdict steps frame
   pub finished : IsFinished options later after
@@ -68,7 +72,7 @@ pub record Ran (verified : Verified) (options : Options) (start : Start) (before
 pub record WasStopped (verified : Verified) (options : Options) (start : Start) (before after : List JournaledShard) (shard : ℕ)
     (frame : FrameView) : Type 0 where
   pub port : PlainPort
-  pub over : IsPortOver options start.worker before port
+  pub over : IsPortOver verified.maps options start.worker before port
   pub later : PlainPort
   pub stopped : Stops PortGives PortRefuses (program_of verified options.shards) (state_at start) port later frame shard
   pub finished : IsFinished options later after
@@ -89,13 +93,15 @@ AreWrittenBut call worker exchanges before after =
     ⊎ ((shard_of_call call ≡ number) × (entries_at worker number exchanges ≡ []) × (slice_get after number ≡ Some
     (with_entries shard (enter_by worker shard.plan.number ∷ leave_by worker shard.plan.number ∷ []))))
 
--- after what the run had asked of the call's shard, which stood so before it, the journal had no room for the worker's Enter, or for the call
+-- after what the run had asked of the call's shard, which stood so before it, the journal had no room for the worker's Enter, or for the
+-- call
 abbrev pub WasFull : Call → ℕ → List Exchange → JournaledShard → Type 0
 WasFull call worker exchanges shard =
     let here : JournaledShard = with_entries shard (begun worker shard.plan.number (entries_at worker (shard_of_call call) exchanges)) in
     IsFalse (can_enter worker here) ⊎ IsJournalFull here.plan (reverse (entered worker here).journal) call
 
--- the run is the meaning of its program on the replies that stand in the journals, which are legal; and it left every shard
+-- the run is the meaning of its program on replies of their calls' form, each to a call on one of the shards; they stand in the journals,
+-- which are legal; and it left every shard
 pub record IsTheMeaning (program : Program) (start : Start) (before after : List JournaledShard) (verdict : Verdict) (steps : ℕ)
     (frame : FrameView) : Type 0 where
   pub exchanges : List Exchange
@@ -103,6 +109,8 @@ pub record IsTheMeaning (program : Program) (start : Start) (before after : List
   pub trace :
       whole_trace program (state_at start) (replies_in exchanges) ≡
       record { calls = calls_in exchanges; stand = HasExited verdict last }
+  pub formed : AreFormed program exchanges
+  pub within : AreWithin (length before) exchanges
   pub counted : steps ≡ last.steps
   pub bounded : steps ≤ total_slots program.code
   pub sent : frame ≡ last.frame
@@ -110,9 +118,10 @@ pub record IsTheMeaning (program : Program) (start : Start) (before after : List
   pub legal : ∥ AreLegal after ∥₁
   pub outside : IsOutside start.worker after
 
--- the run made the calls of its program up to the refused one, which no journal has, and for which, or for the Enter before it, its shard's journal
--- was full; the frame is that of the state in which it waits for the reply; and it left every shard
-pub record IsTheBeginning (program : Program) (start : Start) (before after : List JournaledShard) (shard : ℕ) (frame : FrameView) : Type 0 where
+-- the run made the calls of its program up to the refused one, which no journal has, and for which, or for the Enter before it, its
+-- shard's journal was full; the frame is that of the state in which it waits for the reply; and it left every shard
+pub record IsTheBeginning (program : Program) (start : Start) (before after : List JournaledShard) (shard : ℕ) (frame : FrameView) : Type
+    0 where
   pub exchanges : List Exchange
   pub refused : Call
   pub named : shard ≡ shard_of_call refused
@@ -120,6 +129,8 @@ pub record IsTheBeginning (program : Program) (start : Start) (before after : Li
   pub trace :
       whole_trace program (state_at start) (replies_in exchanges) ≡
       record { calls = calls_in exchanges ++ refused ∷ []; stand = Waits waiting }
+  pub formed : AreFormed program exchanges
+  pub within : AreWithin (length before) exchanges
   pub kept_back : frame ≡ waiting.frame
   pub refused_within : shard < length before
   pub full : (one : JournaledShard) → slice_get before shard ≡ Some one → WasFull refused start.worker exchanges one

@@ -1,34 +1,55 @@
-//! The guarantees of xlb that are composed of several calls, on one page: each has a law here, the contract of a function that does
-//! nothing, composed from what the public calls of the crates below ensure. What a single call promises by itself is that call's contract:
-//! robustness, functional correctness, and what is said of queues, of journals at `Shards::close`, of `run_alone` and of `replay`.
-//! docs/GUARANTEES.md says where these stand. The definitions that a law names are those of docs/DEFINITIONS.md.
+//! The guarantees of xlb that are composed of several calls. Each is a law: the contract of a function that does nothing, composed from
+//! what the public calls of the crates below ensure. What a single call promises by itself is that call's contract; docs/GUARANTEES.md
+//! says where.
 //!
-//! *Whatever frames arrive and however the shared steps of workers, controller and reclaimer interleave, a run of an image that
-//! `verify` accepted reaches no trap and ends within as many instructions as the image has slots*: `accepted_images_are_safe`.
-//! *It gives the verdict and frame of RFC 9669's tables on the replies that it was handed, each the reply of a one-thread map at the
-//! run's own place in its shard's one legal history*: `runs_are_their_meaning` with `entries_are_steps`, for runs of one worker after
-//! the other over shards without locks; and `sharing::shared_run` with `entries_are_answered`, for runs over shards that other threads call
-//! meanwhile, as events of the system of which the first sentence speaks.
+//! `headline` comes first. To read its whole statement, read the definitions from the top down: `specs/Headline.antt` here;
+//! `specs/SystemRuns.antt` and `specs/Steps.antt` here (runs and steps of the system); `Safety`, `System`, `RunTrace` and `History` of
+//! crates/semantics/specs; `specs/Accounted.antt` of crates/replay and `specs/FrameRuns.antt` of crates/frame_runs. The other laws of
+//! this page say what these definitions come to. The laws of `step_laws` show that they are not empty, those of `place_laws` that a
+//! worker is inside and holds a cell by places in the history alone. `one_caller` speaks of runs one after the other without locks,
+//! `readers` of programs that only read.
 #![tactic(auto)]
 
+pub mod one_caller;
+pub mod place_laws;
+pub mod readers;
 pub mod replays;
 pub mod running;
 pub mod sharing;
+pub mod step_laws;
 
 ghost use Rattle.semantics.specs.Safety.{IsSafeImage};
-ghost use Rattle.verifier.specs.Readers.{IsReader};
-ghost use Rattle.guarantees.specs.SameRuns.{RunsTheSame};
-ghost use Rattle.guarantees.specs.ReaderRuns.{OnlyReads, QuietShardsAreAsOpened};
-ghost use Rattle.guarantees.specs.ReaderReplays.{SendsAsAtOpening};
-ghost use Rattle.guarantees.specs.Guarantees.{RunsAreTheirMeaning, StoppedRunsAreBeginnings, EntriesAreSteps, OpenedShardsAreReady};
-ghost use Rattle.guarantees.specs.Guarantees.{RunsLeaveOthersAlone, RunsAreOfTheSystem, StoppedRunsAreOfTheSystem, EntriesAreAnswered};
+ghost use Rattle.guarantees.specs.Headline.{ReplaysKeepIt};
+ghost use Rattle.guarantees.specs.Guarantees.{EntriesAreSteps, EntriesAreAnswered};
+ghost use Rattle.guarantees.specs.SystemLaws.{RunsAreOfTheSystem, StoppedRunsAreOfTheSystem};
+ghost use Rattle.guarantees.specs.Merging.{OneOrderIsOneList, OneWorkerIsOneList, RunAloneIsOneList};
 
-use shard_port::laws::{
-    finish_leaves, journals_after_a_refusal, journals_have_the_calls, leaves_others_alone,
-    opened_are_outside, opened_serve, stays_one_port,
+pub use one_caller::{
+    opened_shards_are_ready, runs_are_their_meaning, runs_leave_others_alone,
+    stopped_runs_are_beginnings,
+};
+pub use readers::{
+    quiet_shards_are_as_opened, readers_only_read, readers_run_the_same, readers_send_as_at_opening,
 };
 use verifier::Verified;
 use verifier::laws::accepted_is_safe;
+
+/// **The headline**, of a verified image and of what `replay` returns for it. The image is safe: whatever frames arrive and however the
+/// shared steps of workers, controller and reclaimer interleave, no run traps, and each ends within as many instructions as the image has
+/// slots. Each shard has one legal history, its journal, in which each reply is the one-thread map's at the entry's own place. Each
+/// worker ran its records one after the other; each run is a list of steps of the system around this image, from idle to idle, and its
+/// calls, verdict, frame and number of instructions are the run trace on its replies, or, where a full journal stopped it, a beginning of
+/// that.
+///
+/// That the workers' lists of steps make one list of events is the law `one_order_is_one_list`, for an order of all entries that fits every
+/// shard and every caller. That there is such an order for shards that threads share is not proved.
+pub fn headline(verified: &Verified)
+    ensures { ReplaysKeepIt verified.now }
+{
+    accepted_images_are_safe(verified);
+    runs_are_of_the_system();
+    stopped_runs_are_of_the_system();
+}
 
 /// A `Verified` stands for a safe image: for all options with which its maps can be opened and after any list of events of all
 /// actors, no run's next instruction traps, and each run that goes on has done fewer instructions than the image has slots.
@@ -40,65 +61,21 @@ pub fn accepted_images_are_safe(verified: &Verified)
     verified.encodable();
 }
 
-/// A run of an accepted program that only reads (`Verified::is_reader`) is the same on whichever worker: on the same frame at the same
-/// time, where it is given the same replies, it makes the same calls, ends with the same verdict after as many instructions, and
-/// leaves the same frame.
-pub fn readers_run_the_same(verified: &Verified)
-    requires reads { IsReader verified.now.code verified.now.states }
-    ensures { RunsTheSame verified.now.maps verified.now.code }
-{
-    let _ = verified.image();
-    verified.encodable();
-}
-
-/// A run of an accepted program that only reads asks maps for nothing but lookups and loads.
-pub fn readers_only_read(verified: &Verified)
-    requires reads { IsReader verified.now.code verified.now.states }
-    ensures { OnlyReads verified.now.maps verified.now.code }
-{
-    let _ = verified.image();
-    verified.encodable();
-}
-
-/// A shard of which nothing was asked but that workers enter and leave it, lookups, loads and Reclaims is as it was opened, and each lookup and load
-/// in its legal history has the reply that it would have had then.
-pub fn quiet_shards_are_as_opened()
-    ensures { QuietShardsAreAsOpened }
+/// A run over shards that other threads call meanwhile is a list of its worker's steps in the system of all workers, from idle to idle.
+/// Where `run` ensures a trace that ends, on replies of their calls' form that stand in the port's sessions: the worker begins its run on
+/// the frame; each step leads from where the one before it left the worker; the last instruction ends the run with this verdict and
+/// state; then the worker leaves every shard that it entered. What these steps write on each shard is what the worker's own entries there
+/// have more. The order in which it leaves the shards is one of many.
+pub fn runs_are_of_the_system()
+    ensures { RunsAreOfTheSystem }
 {}
 
-/// What a replay of an accepted program that only reads sends, where there is no command and no run was stopped: frame by frame what the program's run
-/// over maps in which nothing has happened sends. So it is the same for every number of workers.
-pub fn readers_send_as_at_opening(verified: &Verified)
-    requires reads { IsReader verified.now.code verified.now.states }
-    ensures { SendsAsAtOpening verified.now.maps verified.now.code }
-{
-    readers_only_read(verified);
-    readers_run_the_same(verified);
-}
-
-/// A worker's run: `PlainPort::over` makes its port over shards that it is not inside of, `run` ends, and `finish` leaves the shards.
-/// Then verdict, frame and number of instructions are the trace of the program on some replies, which makes just the calls that
-/// they answer; each shard's journal has these calls with these replies more, in order, between one Enter and one Leave, and nothing
-/// where it was not asked; all journals are legal; and the worker is outside every shard, so that the next run can begin.
-pub fn runs_are_their_meaning()
-    ensures { RunsAreTheirMeaning }
-{
-    journals_have_the_calls();
-    stays_one_port();
-    finish_leaves();
-}
-
-/// The same of a run that stopped because a shard's journal was full: its calls are those that the trace makes up to the refused one,
-/// and they stand in the journals. The refused call stands in none; its shard's journal was full for it, or for the Enter before it, and may have an
-/// Enter and a Leave with no call between. The frame is that of the state in which the run waits for the reply.
-pub fn stopped_runs_are_beginnings()
-    ensures { StoppedRunsAreBeginnings }
-{
-    journals_have_the_calls();
-    journals_after_a_refusal();
-    stays_one_port();
-    finish_leaves();
-}
+/// The same of a run that a full journal stopped: its worker's steps lead to the state in which the run waits for the reply to its next
+/// call; the step in which it asks meets a full journal, for the call or for the Enter before it; then the worker leaves every shard that
+/// it entered.
+pub fn stopped_runs_are_of_the_system()
+    ensures { StoppedRunsAreOfTheSystem }
+{}
 
 /// Each entry of a legal journal is a call that its caller could make there, and its reply is that of the one-thread map in the state
 /// that the entries before it lead to.
@@ -106,43 +83,32 @@ pub fn entries_are_steps()
     ensures { EntriesAreSteps }
 {}
 
-/// Shards as `Shards::open` gives them serve their maps, their journals are legal, and nobody is inside: so what is said of runs holds
-/// from the first one on.
-pub fn opened_shards_are_ready()
-    ensures { OpenedShardsAreReady }
-{
-    opened_serve();
-    opened_are_outside();
-}
-
-/// A run leaves every other worker inside or outside each shard, as it was: so what is said of runs holds of several workers' runs, one
-/// after the other over the same shards.
-pub fn runs_leave_others_alone()
-    ensures { RunsLeaveOthersAlone }
-{
-    runs_are_their_meaning();
-    leaves_others_alone();
-}
-
-/// A run over shards that other threads call meanwhile is a list of its worker's events in the system of all workers, from idle to idle.
-/// Where `run` ensures a trace that ends, on replies that stand in the port's sessions: the worker begins its run on the frame; each event
-/// after it can happen, and leads to what is said, in every state of the system in which the worker stands so and the shard's journal has
-/// room and gives this reply; the last instruction ends the run with this verdict and state; then the worker leaves every shard that it
-/// entered. What these events write on each shard is what the worker's own entries there have more. The order in which it leaves the
-/// shards is one of many.
-pub fn runs_are_of_the_system()
-    ensures { RunsAreOfTheSystem }
-{}
-
-/// The same of a run that a full journal stopped: its worker's events lead to the state in which the run waits for the reply to its next
-/// call; the event in which it asks can happen in every state of the system in which the worker stands so and the shard's journal has no
-/// room, for the call or for the Enter before it; then the worker leaves every shard that it entered.
-pub fn stopped_runs_are_of_the_system()
-    ensures { StoppedRunsAreOfTheSystem }
-{}
-
 /// Each entry of a legal journal has its answer: where the history of the shard is what stands before the entry, the journal has room for
-/// the call, and the reply is the one-thread map's. So at the entries' own places the events of `runs_are_of_the_system` can happen.
+/// the call, and the reply is the one-thread map's. So at the entries' own places the steps of `runs_are_of_the_system` can happen.
 pub fn entries_are_answered()
     ensures { EntriesAreAnswered }
 {}
+
+/// One order of what all callers did makes one list of events. If a list of entries, and of looks at full journals, is shard by shard the
+/// shard's legal journal and caller by caller what that caller did, and each worker's own steps lead from idle to idle, then one list of
+/// events of the system can all happen from the opening on; it has each worker's own events in their order; after it the histories are the
+/// journals, and every worker is idle.
+pub fn one_order_is_one_list()
+    ensures { OneOrderIsOneList }
+{}
+
+/// One worker behind what the controller set: these entries and then the worker's steps from idle to idle, one run after the other, are one
+/// list of events of the system, where they are a legal journal of each shard. So what `one_order_is_one_list` asks for can be met.
+pub fn one_worker_is_one_list()
+    ensures { OneWorkerIsOneList }
+{
+    one_order_is_one_list();
+}
+
+/// One run behind what the controller set, as `run_alone` makes it, is one list of events of the system: from what its journals have (the
+/// updates, and then the run's sessions) and from its program's trace on these replies.
+pub fn run_alone_is_one_list()
+    ensures { RunAloneIsOneList }
+{
+    one_worker_is_one_list();
+}

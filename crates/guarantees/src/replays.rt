@@ -1,15 +1,19 @@
-//! The replay of which the law on programs that only read speaks, made.
+//! The replay of which the headline speaks, and the law on programs that only read, made.
 
-ghost use Rattle.std.specs.Prelude.{◌≡◌, ◌<◌, ◌≤◌, ◌↔◌, [], length, IfOk, IsErrOf, IsFalse};
+ghost use Rattle.std.specs.Prelude.{◌≡◌, ◌⊎◌, ◌<◌, ◌≤◌, ◌↔◌, [], length, IfOk, IsErrOf, IsFalse};
 ghost use Rattle.std.specs.List.{AllByRecursion};
 ghost use Rattle.verifier.specs.Readers.{IsReader};
 ghost use Rattle.machine.specs.Running.{program_of};
 ghost use Rattle.semantics.specs.ShardPlan.{are_served_options};
 ghost use Rattle.replay.specs.Accounts.{sent_frames};
 ghost use Rattle.replay.specs.declared.fault.ReplayFault.TheVariants.{BadOptions};
+ghost use Rattle.replay.specs.Accounted.{IsAccounted};
+ghost use Rattle.replay.specs.Parts.{HasNoTable};
+ghost use Rattle.guarantees.specs.Headline.{Headline};
 ghost use Rattle.guarantees.specs.ReaderReplays.{IsCaptured, all_sent_at_opening};
 
-use crate::readers_send_as_at_opening;
+use crate::headline;
+use crate::readers::readers_send_as_at_opening;
 use control::Script;
 use replay::{Outcome, ReplayFault, replay};
 use semantics::Options;
@@ -38,6 +42,28 @@ fn all_are_captured(capture: &Capture)
     }
 }
 
+/// `replay`, with `headline` applied to what it ensures.
+pub fn headline_replay<R: Threads + Wait + Sync, G: Gate + Sync>(
+    rt: &R,
+    alloc: Global,
+    verified: &Verified,
+    capture: &Capture,
+    script: &Script,
+    options: Options,
+    gate: &G,
+) -> Result<Outcome, ReplayFault>
+    ensures accounted { IfOk result (IsAccounted (program_of verified.now options.shards) script.now options capture.now.records.items) }
+    ensures headline { IfOk result (Headline verified.now options capture.now.records.items) }
+    ensures bad_options { IsErrOf result BadOptions ↔
+        (IsFalse (are_served_options verified.now.maps options) ⊎ HasNoTable verified.now.maps script.now) }
+{
+    headline(verified);
+    all_are_captured(capture);
+    let replayed = replay(rt, alloc, verified, capture, script, options, gate)?;
+    let _ = replayed.journals.options();
+    Ok(replayed)
+}
+
 /// `replay`, for a program that only reads and a script without commands: where no run was stopped, what is sent is frame by frame what the
 /// program's run over maps in which nothing has happened sends, and so the same for every number of workers. It shows that what
 /// `readers_send_as_at_opening` asks for is what `replay` gives.
@@ -52,6 +78,7 @@ pub fn reader_replay<R: Threads + Wait + Sync, G: Gate + Sync>(
 ) -> Result<Outcome, ReplayFault>
     requires reads { IsReader verified.now.code verified.now.states }
     requires no_commands { script.now ≡ [] }
+    ensures accounted { IfOk result (IsAccounted (program_of verified.now options.shards) script.now options capture.now.records.items) }
     ensures sent { IfOk result (λ outcome. outcome.counts.stopped ≡ 0 →
         sent_frames outcome.sent.items ≡ all_sent_at_opening (program_of verified.now options.shards) capture.now.records.items
         (length capture.now.records.items)) }

@@ -6,7 +6,7 @@ ghost use Rattle.machine.specs.Running.{program_of};
 ghost use Rattle.shard_port.specs.PortView.{ServesMaps};
 ghost use Rattle.guarantees.specs.Runs.{IsOutside, start_of, IsTheMeaning, IsStoppedBeginning};
 
-use crate::{runs_are_their_meaning, stopped_runs_are_beginnings};
+use crate::one_caller::{runs_are_their_meaning, stopped_runs_are_beginnings};
 use machine::{Exit, Moment, Stop};
 use runs::plain_run::run_at;
 use semantics::Options;

@@ -15,9 +15,9 @@ use std::sync::Wait;
 use verifier::Verified;
 use wire::Frame;
 
-/// `run_frame`, said of the system: where the run ends, it is a list of its worker's events from idle to idle, and what they write is what
-/// the worker's own entries have more. So it is where a full journal stopped it (60), up to the call that was refused. Either way the next run
-/// can begin with the pass.
+/// `run_frame`, said of the system: where the run ends, it is a list of its worker's events from idle to idle, and what they write is
+/// what the worker's own entries have more. So it is where a full journal stopped it (60), up to the call that was refused. Either way
+/// the next run can begin with the pass.
 pub fn shared_run<B: Naming, W: Wait, G: Gate>(
     rt: &W,
     verified: &Verified,

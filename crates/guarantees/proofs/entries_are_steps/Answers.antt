@@ -1,4 +1,4 @@
-use Rattle.guarantees.proofs.JournalLemmas.{entry_is_step}
+use Rattle.guarantees.proofs.LegalEntries.{entry_is_step}
 use Rattle.guarantees.proofs.entries_are_steps.Goals as goal
 
 pub returns : goal.returns

@@ -7,8 +7,9 @@ use Rattle.guarantees.proofs.running.worker_run.Goals as goal
 pub returns-clause-exit : goal.returns-clause-exit
 returns-clause-exit c =
     let verified = c.args.verified.now in
-    let over : IsPortOver c.args.options c.args.moment.now.worker c.args.shards.now c.over-port.result =
+    let over : IsPortOver verified.maps c.args.options c.args.moment.now.worker c.args.shards.now c.over-port.result =
     record {
+      same_maps = search rules;
       same_shards = c.over-port.ensures.shards;
       same_options = c.over-port.ensures.options;
       same_worker =
@@ -23,8 +24,9 @@ returns-clause-exit c =
 pub returns-clause-stop : goal.returns-clause-stop
 returns-clause-stop c =
     let verified = c.args.verified.now in
-    let over : IsPortOver c.args.options c.args.moment.now.worker c.args.shards.now c.over-port.result =
+    let over : IsPortOver verified.maps c.args.options c.args.moment.now.worker c.args.shards.now c.over-port.result =
     record {
+      same_maps = search rules;
       same_shards = c.over-port.ensures.shards;
       same_options = c.over-port.ensures.options;
       same_worker =

@@ -1,8 +1,7 @@
 use Rattle.std.proofs.lemmas.Result.{IfOk-weaker, IfErr-weaker}
 use Rattle.shard_port.specs.PassPorts.{worker_of}
 use Rattle.runs.proofs.shared.Untold.{stopped_only}
-use Rattle.guarantees.proofs.EventLemmas.{is_among, ran_in_system}
-use Rattle.guarantees.proofs.StopLemmas.{stopped_in_system}
+use Rattle.guarantees.proofs.SharedRuns.{is_among, ran_in_system, stopped_in_system}
 use Rattle.guarantees.proofs.sharing.shared_run.Goals as goal
 
 pub returns-clause-exit : goal.returns-clause-exit

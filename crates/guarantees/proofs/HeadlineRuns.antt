@@ -1,0 +1,172 @@
+-- The runs of a replay as runs of the system around its image.
+use Rattle.std.proofs.Common.{◌≡◌, ℕ, zero, suc, ◌<◌, ◌≤◌, Bool, true, false, nat_lt, List, [], ◌∷◌, ◌++◌, length, refl, sym, ◌∙◌, ap, subst, arith}
+use Rattle.std.specs.Prelude.{if◌then◌else◌}
+use Rattle.std.specs.List.{AllByRecursion}
+use Rattle.std.proofs.lemmas.Bool.Decides.{nat_tests}
+use Rattle.wire.specs.FrameView.{FrameView}
+use Rattle.wire.specs.declared.records.Sent.{Sent}
+use Rattle.semantics.specs.declared.options.Options.{Options}
+use Rattle.semantics.specs.declared.plan.ShardPlan.{ShardPlan}
+use Rattle.semantics.specs.System.{IsInputFrame}
+use Rattle.semantics.specs.History.{IsLegalJournal}
+use Rattle.semantics.specs.Safety.{IsSafeImage}
+use Rattle.verifier.specs.Verified.{Verified}
+use Rattle.machine.specs.declared.exit.Stop.{Stop}
+use Rattle.machine.specs.declared.exit.Stop.TheVariants.{JournalFull}
+use Rattle.machine.specs.Running.{program_of}
+use Rattle.journals.specs.JournalsView.{JournalsView}
+use Rattle.shards.specs.Passes.{PassView}
+use Rattle.runs.specs.FrameRuns.{HasStopped}
+use Rattle.replay.specs.declared.run_end.RunEnd.{RunEnd}
+use Rattle.replay.specs.declared.run_end.RunEnd.TheVariants.{Stopped, Aborted, Dropped, Passed, Sent as IsSent}
+use Rattle.replay.specs.declared.run_end.Ran.{Ran}
+use Rattle.replay.specs.Accounts.{runs_at}
+use Rattle.replay.specs.RunJobs.{records_of}
+use Rattle.replay.specs.RunsInOrder.{IsRunAt, IsChainOfRuns}
+use Rattle.replay.specs.Shares.{frames_of, frame_at, is_short, is_handed, share}
+use Rattle.replay.specs.Accounted.{IsWorkOf}
+use Rattle.replay.specs.RunsOverShards.{start_of, IsExit, IsStopIn, StopsFor, IsRunIn}
+use Rattle.guarantees.specs.ReaderReplays.{IsCaptured}
+use Rattle.guarantees.specs.SystemLaws.{RunsAreOfTheSystem, StoppedRunsAreOfTheSystem}
+use Rattle.guarantees.specs.Headline.{moment_of, IsRunOfImage, IsStopOfImage, IsEitherOfImage, ReplaysKeepIt}
+use Rattle.guarantees.proofs.EveryEntry.{all_both}
+use Rattle.guarantees.proofs.LegalEntries.{entry_is_step}
+use Rattle.guarantees.proofs.NoneStopped.{is_long}
+use Rattle.guarantees.proofs.OpenedReplays.{record_of}
+use Rattle.guarantees.proofs.SharedRuns.{ran_in_system, stopped_in_system}
+
+-- ---- the records that are run have a whole header
+
+long_if : (frames : List (List ℕ)) (workers worker count : ℕ) (handed : Bool) → is_handed frames workers worker count ≡ handed →
+    AllByRecursion (λ (number : ℕ). is_short (frame_at frames number) ≡ false) (share frames workers worker count) →
+    AllByRecursion (λ (number : ℕ). is_short (frame_at frames number) ≡ false)
+    (if handed then share frames workers worker count ++ count ∷ [] else share frames workers worker count)
+long_if frames workers worker count true is all =
+    all_both (λ (number : ℕ). is_short (frame_at frames number) ≡ false) (share frames workers worker count) (count ∷ []) all
+    (is_long frames workers worker count is, tt)
+long_if frames workers worker count false is all = all
+
+all_long : (frames : List (List ℕ)) (workers worker count : ℕ) →
+    AllByRecursion (λ (number : ℕ). is_short (frame_at frames number) ≡ false) (share frames workers worker count)
+all_long frames workers worker zero = tt
+all_long frames workers worker (suc count) =
+    long_if frames workers worker count (is_handed frames workers worker count) refl (all_long frames workers worker count)
+
+of_runs : (P : ℕ → Type 0) (runs : List Ran) → AllByRecursion P (records_of runs) → AllByRecursion (λ (ran : Ran). P ran.number) runs
+of_runs P [] all = tt
+of_runs P (ran ∷ later) all = (all.0, of_runs P later all.1)
+
+-- ---- chains of runs
+
+same_chain : (One Other : PassView → Ran → PassView → Type 0) (P : Ran → Type 0) →
+    ((before : PassView) (ran : Ran) (after : PassView) → P ran → One before ran after → Other before ran after) → (runs : List Ran) →
+    AllByRecursion P runs → (before after : PassView) → IsChainOfRuns One before runs after → IsChainOfRuns Other before runs after
+same_chain One Other P turns [] all before after chain = chain
+same_chain One Other P turns (ran ∷ later) all before after chain =
+    (chain.0, turns before ran chain.0 all.0 chain.1, same_chain One Other P turns later all.1 chain.0 after chain.2)
+
+-- ---- one run
+
+was_stopped : (plan : ℕ → ShardPlan) (count worker : ℕ) (verified : Verified) (options : Options) (journals : JournalsView) (captured : Sent)
+    (before after : PassView) (frame : FrameView) (stop : Stop) →
+    StopsFor plan count (program_of verified options.shards) worker journals captured before after frame stop →
+    HasStopped (program_of verified options.shards) (start_of captured worker) plan count worker before after frame stop
+was_stopped plan count worker verified options journals captured before after frame (JournalFull shard) stops = stops.0
+
+module _ (ran : RunsAreOfTheSystem) (stopped : StoppedRunsAreOfTheSystem) (verified : Verified) (options : Options) (few : options.workers ≤ 8)
+    (plan : ℕ → ShardPlan) (count worker : ℕ) (below : worker < options.workers) (journals : JournalsView) (captured : Sent)
+    (is : IsCaptured captured) (long : is_short captured.bytes.items ≡ false) (before after : PassView) where
+  input : IsInputFrame captured.bytes.items
+  input = record {
+    least = (let test : nat_lt (length captured.bytes.items) 14 ≡ false = long in grind (arith, nat_tests));
+    greatest = is.short;
+    bytes = is.bytes;
+  }
+
+  early : worker < 8
+  early = omega (arith, below, few)
+
+  exits : (end : RunEnd) → IsExit count (program_of verified options.shards) worker captured before end after →
+      IsRunOfImage verified options count worker captured before end after
+  exits end exit = record {
+    verdict = exit.verdict;
+    steps = exit.steps;
+    frame = exit.frame;
+    trace = exit.run;
+    of_system = ran_in_system ran verified options (moment_of captured worker) (record { bytes = captured.bytes.items; headroom = 256 }) count worker before after
+        exit.verdict exit.steps exit.frame below input refl is.time early exit.run;
+    told = exit.told;
+  }
+
+  stops : IsStopIn plan count (program_of verified options.shards) worker journals captured before after →
+      IsStopOfImage verified options plan count worker captured before after
+  stops stop =
+      let was = was_stopped plan count worker verified options journals captured before after stop.frame stop.stop stop.run in
+      record {
+        frame = stop.frame;
+        stop = stop.stop;
+        trace = was;
+        of_system = stopped_in_system stopped verified options (moment_of captured worker) (record { bytes = captured.bytes.items; headroom = 256 }) plan
+            count worker before after stop.frame stop.stop below input refl is.time early was;
+      }
+
+  pub either : (end : RunEnd) → IsRunIn plan count (program_of verified options.shards) worker journals captured before end after →
+      IsEitherOfImage verified options plan count worker captured before end after
+  either Stopped run = stops run
+  either Aborted run = exits Aborted run
+  either Dropped run = exits Dropped run
+  either Passed run = exits Passed run
+  either (IsSent sent) run = exits (IsSent sent) run
+
+-- ---- all runs of a worker
+
+work_of : RunsAreOfTheSystem → StoppedRunsAreOfTheSystem → (verified : Verified) (options : Options) → options.workers ≤ 8 →
+    (plan : ℕ → ShardPlan) (count worker : ℕ) → worker < options.workers → (journals : JournalsView) (records : List Sent) →
+    AllByRecursion IsCaptured records → (runs : List Ran) →
+    IsWorkOf (IsRunAt (IsRunIn plan count (program_of verified options.shards) worker journals) records)
+    (share (frames_of records) options.workers worker (length records)) worker runs count journals →
+    IsWorkOf (IsRunAt (IsEitherOfImage verified options plan count worker) records)
+    (share (frames_of records) options.workers worker (length records)) worker runs count journals
+work_of ran stopped verified options few plan count worker below journals records captured runs work =
+    let IsLong : Ran → Type 0 = λ (one : Ran). is_short (frame_at (frames_of records) one.number) ≡ false in
+    let all : AllByRecursion IsLong runs =
+    of_runs (λ (number : ℕ). is_short (frame_at (frames_of records) number) ≡ false) runs
+    (subst (λ (list : List ℕ). AllByRecursion (λ (number : ℕ). is_short (frame_at (frames_of records) number) ≡ false) list)
+    (sym work.handled.records_are) (all_long (frames_of records) options.workers worker (length records))) in
+    record {
+      after = work.after;
+      handled = record {
+        records_are = work.handled.records_are;
+        before = work.handled.before;
+        is_new = work.handled.is_new;
+        chain = same_chain (IsRunAt (IsRunIn plan count (program_of verified options.shards) worker journals) records)
+            (IsRunAt (IsEitherOfImage verified options plan count worker) records) IsLong
+            (λ before one after long run.
+            let known = record_of records one.number run.sent run.known captured in
+            record {
+              sent = run.sent;
+              known = run.known;
+              run = either ran stopped verified options few plan count worker below journals run.sent known.0 (ap is_short (sym known.1) ∙ long) before
+                  after one.end run.run;
+            })
+            runs all work.handled.before work.after work.handled.chain;
+      };
+      own = work.own;
+    }
+
+pub replays_keep_it : RunsAreOfTheSystem → StoppedRunsAreOfTheSystem → (verified : Verified) → IsSafeImage verified.maps verified.code →
+    ReplaysKeepIt verified
+replays_keep_it ran stopped verified safe script options records outcome fit captured accounted = record {
+  safe = safe;
+  count = accounted.count;
+  count_is = accounted.count_is;
+  plan = accounted.plan;
+  plans = accounted.plans;
+  legal = accounted.legal;
+  own_place = λ number below earlier later entry place. entry_is_step (accounted.plan number) earlier later entry
+      (subst (IsLegalJournal (accounted.plan number)) place (accounted.legal number below));
+  runs = accounted.runs;
+  work = λ worker below. work_of ran stopped verified options fit.at_most_eight accounted.plan accounted.count worker below outcome.journals records
+      captured (runs_at accounted.runs worker) (accounted.work worker below);
+  sent = accounted.sent;
+}

@@ -1,0 +1,459 @@
+-- One order of all callers' deeds makes one list of events: by induction on the order, in which each deed is one event of its caller, after the
+-- instructions that its worker does before it. Other workers stay where they are.
+use Rattle.std.proofs.Common.{◌≡◌, ◌≢◌, ℕ, zero, suc, ◌*◌, ◌<◌, ◌≤◌, ◌==◌, ◌&&◌, Bool, true, false, cond, List, [], ◌∷◌, ◌++◌, length, reverse, Some, refl, sym, ◌∙◌, ap, subst, arith, append_assoc, append-nil, ⊎_elim}
+use Rattle.std.specs.Prelude.{filter, IsTrue, slice_index_or, if◌then◌else◌}
+use Rattle.std.specs.List.{AllByRecursion}
+use Rattle.std.proofs.lemmas.Bool.{cases_eq, ne_eqb}
+use Rattle.std.proofs.lemmas.Bool.Decides.{nat_tests}
+use Rattle.std.proofs.lemmas.List.{reverse-append, reverse-reverse, length-set, length-replicate}
+use Rattle.std.proofs.lemmas.List.Elements.{filter-append}
+use Rattle.semantics.specs.declared.call.Caller.{Caller}
+use Rattle.semantics.specs.declared.call.Caller.TheVariants.{Worker, Controller, Reclaimer}
+use Rattle.semantics.specs.declared.call.Call.{Call}
+use Rattle.semantics.specs.declared.call.Call.TheVariants.{Enter, Leave, Lookup, Load, Store, Atomic, Update, Delete, Reclaim}
+use Rattle.semantics.specs.declared.call.Entry.{Entry}
+use Rattle.semantics.specs.declared.call.Reply.{Reply}
+use Rattle.semantics.specs.declared.plan.ShardPlan.{ShardPlan}
+use Rattle.semantics.specs.Reclamation.{is_worker}
+use Rattle.semantics.specs.ShardPlan.{plan_at}
+use Rattle.semantics.specs.History.{shard_of_call, meets, IsJournalFull, IsLegalJournal, IsLegalStep}
+use Rattle.semantics.specs.System.{Setting, SystemState, SystemEvent, Controls, Reclaims, WorkerState, Idle, worker_state, history_of, with_entry, entry_for, after_call, MayCall, is_key_change, CanHappen, after_event, opening_system}
+use Rattle.semantics.proofs.shared.SystemSteps.{history_there, history_elsewhere, same_everywhere}
+use Rattle.guarantees.specs.Steps.{Asked, Nothing, Writes, Refused, Move, AreSteps, is_of_shard}
+use Rattle.guarantees.specs.Moves.{Answers, IsAskedSo, after_asked, is_event_of}
+use Rattle.guarantees.specs.Merging.{Deed, Wrote, MetFull, shard_of_deed, is_deed_of, deeds_asked, deeds_in, entries_made, made_on, IsOneOrder, events_of, OneOrderIsOneList}
+use Rattle.guarantees.proofs.LegalEntries.{entry_is_legal}
+use Rattle.guarantees.proofs.MoveLemmas.{numbered}
+use Rattle.guarantees.proofs.MergeEvents.{HappenFrom, then_happen, IsListed, listed, AreOwn, own_stay, own_go, one_of_eight, Advance, advance, RunsOut, runs_out}
+
+-- ---- what is left to do, by worker
+
+abbrev put : ℕ → List Move → (ℕ → List Move) → ℕ → List Move
+put worker moves rest other = if other == worker then moves else rest other
+
+put_there : (worker : ℕ) (moves : List Move) (rest : ℕ → List Move) → put worker moves rest worker ≡ moves
+put_there worker moves rest =
+    let same : (worker == worker) ≡ true = grind (arith, nat_tests) in
+    ap (λ (test : Bool). cond test moves (rest worker)) same
+
+put_other : (worker other : ℕ) (moves : List Move) (rest : ℕ → List Move) → other ≢ worker → put worker moves rest other ≡ rest other
+put_other worker other moves rest apart = ap (λ (test : Bool). cond test moves (rest other)) (ne_eqb other worker apart)
+
+-- ---- the entries of deeds
+
+entries_append : (first second : List Deed) → entries_made (first ++ second) ≡ entries_made first ++ entries_made second
+entries_append [] second = refl
+entries_append (Wrote entry ∷ first) second = ap (λ (list : List Entry). entry ∷ list) (entries_append first second)
+entries_append (MetFull worker call ∷ first) second = entries_append first second
+
+made_append : (number : ℕ) (first second : List Deed) → made_on number (first ++ second) ≡ made_on number first ++ made_on number second
+made_append number first second =
+    ap (filter (is_of_shard number)) (entries_append first second) ∙ filter-append (is_of_shard number) (entries_made first) (entries_made second)
+
+-- ---- where the order has come to
+
+record Stands (setting : Setting) (count : ℕ) (deeds earlier later : List Deed) (system : SystemState) (rest : ℕ → List Move) : Type 0 where
+  split : deeds ≡ earlier ++ later
+  within : AllByRecursion (λ (deed : Deed). shard_of_deed deed < count) later
+  eight : length system.workers ≡ 8
+  shards : length system.histories ≡ count
+  histories : (number : ℕ) → number < count → history_of system number ≡ reverse (made_on number earlier)
+  steps : (worker : ℕ) → AreSteps setting count worker (worker_state system worker) (rest worker) Idle
+  own : (worker : ℕ) → deeds_in worker (rest worker) ≡ filter (is_deed_of worker) later
+
+record Merged (setting : Setting) (count : ℕ) (deeds : List Deed) (system : SystemState) (rest : ℕ → List Move) : Type 0 where
+  events : List SystemEvent
+  last : SystemState
+  happen : HappenFrom setting system events last
+  of_each : (worker : ℕ) → filter (is_event_of worker) events ≡ events_of (rest worker)
+  histories : (number : ℕ) → number < count → history_of last number ≡ reverse (made_on number deeds)
+  idle : (worker : ℕ) → worker_state last worker ≡ Idle
+
+-- events of one worker, and then the rest
+go_on : (setting : Setting) (count worker : ℕ) (deeds : List Deed) (system after : SystemState) (rest : ℕ → List Move) (moves : List Move)
+    (done : List SystemEvent) → HappenFrom setting system done after → AreOwn worker done →
+    events_of (rest worker) ≡ done ++ events_of moves → Merged setting count deeds after (put worker moves rest) → Merged setting count deeds system rest
+go_on setting count worker deeds system after rest moves done happen own parts merged = record {
+  events = done ++ merged.events;
+  last = merged.last;
+  happen = then_happen setting system after merged.last done merged.events happen merged.happen;
+  of_each = λ other. filter-append (is_event_of other) done merged.events
+      ∙ ap (λ (list : List SystemEvent). filter (is_event_of other) done ++ list) (merged.of_each other)
+      ∙ ⊎_elim
+      (λ same.
+      subst (λ (one : ℕ). filter (is_event_of one) done ++ events_of (put worker moves rest one) ≡ events_of (rest one)) (sym same)
+      (ap (λ (list : List SystemEvent). list ++ events_of (put worker moves rest worker)) (own_stay worker done own)
+      ∙ ap (λ (list : List Move). done ++ events_of list) (put_there worker moves rest) ∙ sym parts))
+      (λ apart.
+      ap (λ (list : List SystemEvent). list ++ events_of (put worker moves rest other)) (own_go worker other done apart own)
+      ∙ ap events_of (put_other worker other moves rest apart))
+      (cases_eq other worker);
+  histories = merged.histories;
+  idle = merged.idle;
+}
+
+-- an event of no worker, and then the rest
+go_by : (setting : Setting) (count : ℕ) (deeds : List Deed) (system : SystemState) (rest : ℕ → List Move) (event : SystemEvent) →
+    CanHappen setting system event → ((worker : ℕ) → is_event_of worker event ≡ false) →
+    Merged setting count deeds (after_event setting system event) rest → Merged setting count deeds system rest
+go_by setting count deeds system rest event can nobody merged = record {
+  events = event ∷ merged.events;
+  last = merged.last;
+  happen = (can, merged.happen);
+  of_each = λ worker.
+      ap (λ (test : Bool). cond test (event ∷ filter (is_event_of worker) merged.events) (filter (is_event_of worker) merged.events)) (nobody worker)
+      ∙ merged.of_each worker;
+  histories = merged.histories;
+  idle = merged.idle;
+}
+
+-- ---- at the end of the order the workers do their last instructions, one worker after the other
+
+steps_at : (setting : Setting) (count worker other : ℕ) (before after : SystemState) (moves : List Move) (rest : ℕ → List Move) →
+    AreSteps setting count worker (worker_state after worker) moves Idle →
+    ((one : ℕ) → one ≢ worker → worker_state after one ≡ worker_state before one) →
+    ((one : ℕ) → AreSteps setting count one (worker_state before one) (rest one) Idle) →
+    AreSteps setting count other (worker_state after other) (put worker moves rest other) Idle
+steps_at setting count worker other before after moves rest here others steps = ⊎_elim
+    (λ same. subst (λ (one : ℕ). AreSteps setting count one (worker_state after one) (put worker moves rest one) Idle) (sym same)
+    (subst (λ (list : List Move). AreSteps setting count worker (worker_state after worker) list Idle) (sym (put_there worker moves rest)) here))
+    (λ apart. subst (λ (list : List Move). AreSteps setting count other (worker_state after other) list Idle) (sym (put_other worker other moves rest apart))
+    (subst (λ (state : WorkerState). AreSteps setting count other state (rest other) Idle) (sym (others other apart)) (steps other)))
+    (cases_eq other worker)
+
+abbrev OnlyBelow : ℕ → (ℕ → List Move) → Type 0
+OnlyBelow most rest = (worker : ℕ) → most ≤ worker → rest worker ≡ []
+
+finish : (setting : Setting) (count : ℕ) (deeds : List Deed) (most : ℕ) → most ≤ 8 → (system : SystemState) (rest : ℕ → List Move) →
+    Stands setting count deeds deeds [] system rest → OnlyBelow most rest → Merged setting count deeds system rest
+finish setting count deeds zero fits system rest stands none = record {
+  events = [];
+  last = system;
+  happen = refl;
+  of_each = λ worker. ap events_of (sym (none worker (omega arith)));
+  histories = stands.histories;
+  idle = λ worker. subst (λ (list : List Move). AreSteps setting count worker (worker_state system worker) list Idle) (none worker (omega arith))
+      (stands.steps worker);
+}
+finish setting count deeds (suc most) fits system rest stands none =
+    let eight : length system.workers ≡ 8 = stands.eight in
+    let few : most < length system.workers = omega (arith, fits, eight) in
+    let out : RunsOut setting most system (rest most) = runs_out setting count most (rest most) system few (stands.own most) (stands.steps most) in
+    go_on setting count most deeds system out.after rest [] (events_of (rest most)) out.happen out.own (sym (append-nil (events_of (rest most))))
+    (finish setting count deeds most (omega (arith, fits)) out.after (put most [] rest)
+    (record {
+      split = stands.split;
+      within = tt;
+      eight = out.eight ∙ stands.eight;
+      shards = ap length out.histories ∙ stands.shards;
+      histories = λ number within. ap (λ list. slice_index_or list number []) out.histories ∙ stands.histories number within;
+      steps = λ other. steps_at setting count most other system out.after [] rest out.idle out.others stands.steps;
+      own = λ other. ⊎_elim
+          (λ same. subst (λ (one : ℕ). deeds_in one (put most [] rest one) ≡ []) (sym same) (ap (deeds_in most) (put_there most [] rest)))
+          (λ apart. ap (deeds_in other) (put_other most other [] rest apart) ∙ stands.own other)
+          (cases_eq other most);
+    })
+    (λ worker past. ⊎_elim
+    (λ same. subst (λ (one : ℕ). put most [] rest one ≡ []) (sym same) (put_there most [] rest))
+    (λ apart. put_other most worker [] rest apart ∙ none worker (further most worker past apart))
+    (cases_eq worker most)))
+  where
+    further : (most worker : ℕ) → most ≤ worker → worker ≢ most → suc most ≤ worker
+    further most worker past apart = grind (arith, past, apart)
+
+none_past : (setting : Setting) (count worker : ℕ) (system : SystemState) (moves : List Move) → setting.options.workers ≤ 8 →
+    length system.workers ≡ 8 → 8 ≤ worker → AreSteps setting count worker (worker_state system worker) moves Idle → moves ≡ []
+none_past setting count worker system [] most eight past steps = refl
+none_past setting count worker system (move ∷ moves) most eight past steps =
+    let few : worker < length system.workers = one_of_eight setting count worker system move moves most eight steps in
+    absurd (omega (arith, few, eight, past))
+
+-- ---- the histories after one deed
+
+made_there : (entry : Entry) → made_on (shard_of_call entry.call) (Wrote entry ∷ []) ≡ entry ∷ []
+made_there entry =
+    let same : (shard_of_call entry.call == shard_of_call entry.call) ≡ true = grind (arith, nat_tests) in
+    ap (λ (test : Bool). cond test (entry ∷ []) []) same
+
+made_elsewhere : (entry : Entry) (number : ℕ) → number ≢ shard_of_call entry.call → made_on number (Wrote entry ∷ []) ≡ []
+made_elsewhere entry number apart =
+    ap (λ (test : Bool). cond test (entry ∷ []) []) (ne_eqb (shard_of_call entry.call) number (λ same. apart (sym same)))
+
+abbrev HaveHistories : ℕ → List Deed → SystemState → Type 0
+HaveHistories count deeds system = (number : ℕ) → number < count → history_of system number ≡ reverse (made_on number deeds)
+
+after_entry : (count : ℕ) (earlier : List Deed) (system after : SystemState) (entry : Entry) → length system.histories ≡ count →
+    shard_of_call entry.call < count → HaveHistories count earlier system →
+    after.histories ≡ (with_entry system (shard_of_call entry.call) entry).histories → HaveHistories count (earlier ++ Wrote entry ∷ []) after
+after_entry count earlier system after entry shards within histories same number below =
+    let shard : ℕ = shard_of_call entry.call in
+    let room : shard < length system.histories = subst (λ (n : ℕ). shard < n) (sym shards) within in
+    ⊎_elim
+    (λ at. subst (λ (one : ℕ). history_of after one ≡ reverse (made_on one (earlier ++ Wrote entry ∷ []))) (sym at)
+    (ap (λ list. slice_index_or list shard []) same ∙ history_there system shard entry room
+    ∙ ap (λ (list : List Entry). entry ∷ list) (histories shard within)
+    ∙ sym (reverse-append (made_on shard earlier) (entry ∷ []))
+    ∙ ap (λ (list : List Entry). reverse (made_on shard earlier ++ list)) (sym (made_there entry))
+    ∙ ap reverse (sym (made_append shard earlier (Wrote entry ∷ [])))))
+    (λ apart. ap (λ list. slice_index_or list number []) same ∙ history_elsewhere system shard number entry apart ∙ histories number below
+    ∙ ap reverse (sym (append-nil (made_on number earlier))
+    ∙ ap (λ (list : List Entry). made_on number earlier ++ list) (sym (made_elsewhere entry number apart))
+    ∙ sym (made_append number earlier (Wrote entry ∷ []))))
+    (cases_eq number shard)
+
+after_look : (count : ℕ) (earlier : List Deed) (system after : SystemState) (worker : ℕ) (call : Call) → HaveHistories count earlier system →
+    after.histories ≡ system.histories → HaveHistories count (earlier ++ MetFull worker call ∷ []) after
+after_look count earlier system after worker call histories same number below =
+    ap (λ list. slice_index_or list number []) same ∙ histories number below
+    ∙ ap reverse (sym (append-nil (made_on number earlier)) ∙ sym (made_append number earlier (MetFull worker call ∷ [])))
+
+-- ---- a worker's deed
+
+some_of_eight : (setting : Setting) (count worker : ℕ) (system : SystemState) (moves : List Move) (deed : Deed) (later : List Deed) →
+    setting.options.workers ≤ 8 → length system.workers ≡ 8 → deeds_in worker moves ≡ deed ∷ later →
+    AreSteps setting count worker (worker_state system worker) moves Idle → worker < length system.workers
+some_of_eight setting count worker system [] deed later most eight made steps = absurd cc
+some_of_eight setting count worker system (move ∷ moves) deed later most eight made steps =
+    one_of_eight setting count worker system move moves most eight steps
+
+asked_shards : (system : SystemState) (asked : Asked) → length (after_asked system asked).histories ≡ length system.histories
+asked_shards system Nothing = refl
+asked_shards system (Writes entry) =
+    length-set system.histories (shard_of_call entry.call) (entry ∷ history_of system (shard_of_call entry.call))
+asked_shards system (Refused call) = refl
+
+abbrev MergesFrom : Setting → ℕ → List Deed → List Deed → List Deed → Type 0
+MergesFrom setting count deeds earlier later =
+    (system : SystemState) (rest : ℕ → List Move) → Stands setting count deeds earlier later system rest → Merged setting count deeds system rest
+
+by_worker : (setting : Setting) (count worker : ℕ) (deeds earlier later : List Deed) (deed : Deed) (asked : Asked) (system : SystemState)
+    (rest : ℕ → List Move) → setting.options.workers ≤ 8 → Stands setting count deeds earlier (deed ∷ later) system rest →
+    deeds_asked worker asked ≡ deed ∷ [] → is_deed_of worker deed ≡ true →
+    ((other : ℕ) → other ≢ worker → is_deed_of other deed ≡ false) → IsAskedSo setting system asked →
+    ((after : SystemState) → after.histories ≡ (after_asked system asked).histories → HaveHistories count (earlier ++ deed ∷ []) after) →
+    MergesFrom setting count deeds (earlier ++ deed ∷ []) later → Merged setting count deeds system rest
+by_worker setting count worker deeds earlier later deed asked system rest most stands one own_deed not_others asks histories onward =
+    let made : deeds_in worker (rest worker) ≡ deed ∷ filter (is_deed_of worker) later =
+    stands.own worker
+    ∙ ap (λ (test : Bool). cond test (deed ∷ filter (is_deed_of worker) later) (filter (is_deed_of worker) later)) own_deed in
+    let few : worker < length system.workers =
+    some_of_eight setting count worker system (rest worker) deed (filter (is_deed_of worker) later) most stands.eight made (stands.steps worker) in
+    let ahead : Advance setting count worker system (rest worker) asked (filter (is_deed_of worker) later) =
+    advance setting count worker asked deed (filter (is_deed_of worker) later) (rest worker) system few one asks made (stands.steps worker) in
+    go_on setting count worker deeds system ahead.after rest ahead.rest (events_of ahead.done) ahead.happen ahead.own ahead.parts
+    (onward ahead.after (put worker ahead.rest rest)
+    (record {
+      split = stands.split ∙ sym (append_assoc earlier (deed ∷ []) later);
+      within = stands.within.1;
+      eight = ahead.eight ∙ stands.eight;
+      shards = ap length ahead.histories ∙ asked_shards system asked ∙ stands.shards;
+      histories = histories ahead.after ahead.histories;
+      steps = λ other. steps_at setting count worker other system ahead.after ahead.rest rest ahead.steps ahead.others stands.steps;
+      own = λ other. ⊎_elim
+          (λ same. subst (λ (n : ℕ). deeds_in n (put worker ahead.rest rest n) ≡ filter (is_deed_of n) later) (sym same)
+          (ap (deeds_in worker) (put_there worker ahead.rest rest) ∙ ahead.deeds))
+          (λ apart. ap (deeds_in other) (put_other worker other ahead.rest rest apart) ∙ stands.own other
+          ∙ ap (λ (test : Bool). cond test (deed ∷ filter (is_deed_of other) later) (filter (is_deed_of other) later)) (not_others other apart))
+          (cases_eq other worker);
+    }))
+
+-- ---- what a deed meets at its own place
+
+record IsAtPlace (setting : Setting) (plan : ShardPlan) (system : SystemState) (entry : Entry) : Type 0 where
+  known : plan_at setting.maps setting.options (shard_of_call entry.call) ≡ Some plan
+  step : IsLegalStep plan (history_of system plan.number) entry
+
+at_place : (setting : Setting) (plan : ℕ → ShardPlan) (count : ℕ) (journal : ℕ → List Entry) (moves : ℕ → List Move) (deeds earlier later : List Deed)
+    (entry : Entry) (system : SystemState) (rest : ℕ → List Move) → IsOneOrder setting plan count journal moves deeds →
+    Stands setting count deeds earlier (Wrote entry ∷ later) system rest →
+    IsAtPlace setting (plan (shard_of_call entry.call)) system entry
+at_place setting plan count journal moves deeds earlier later entry system rest order stands =
+    let shard : ℕ = shard_of_call entry.call in
+    let within : shard < count = stands.within.0 in
+    let same : (shard == shard) ≡ true = grind (arith, nat_tests) in
+    let parts : made_on shard deeds ≡ made_on shard earlier ++ entry ∷ made_on shard later =
+    ap (made_on shard) stands.split ∙ made_append shard earlier (Wrote entry ∷ later)
+    ∙ ap (λ (test : Bool). made_on shard earlier ++ cond test (entry ∷ made_on shard later) (made_on shard later)) same in
+    let legal : IsLegalJournal (plan shard) (made_on shard earlier ++ entry ∷ made_on shard later) =
+    subst (IsLegalJournal (plan shard)) (sym (order.journals shard within) ∙ parts) (order.legal shard within) in
+    let step : IsLegalStep (plan shard) (reverse (made_on shard earlier)) entry =
+    entry_is_legal (plan shard) (made_on shard earlier) (made_on shard later) entry legal in
+    let known : plan_at setting.maps setting.options shard ≡ Some (plan shard) = order.plans shard within in
+    let history : history_of system (plan shard).number ≡ reverse (made_on shard earlier) =
+    ap (history_of system) (numbered setting shard (plan shard) known) ∙ stands.histories shard within in
+    record { known = known; step = subst (λ (list : List Entry). IsLegalStep (plan shard) list entry) (sym history) step }
+
+answers_at : (setting : Setting) (plan : ShardPlan) (system : SystemState) (entry : Entry) → IsAtPlace setting plan system entry →
+    Answers setting system entry
+answers_at setting plan system entry place =
+    record { plan = plan; known = place.known; room = place.step.room; replied = place.step.step.replied }
+
+-- ---- a deed of the controller or the reclaimer
+
+and_false : (test : Bool) → (test && false) ≡ true → ⊥
+and_false true is = cc
+and_false false is = cc
+
+controller_changes_keys : (plan : ShardPlan) (history : List Entry) (call : Call) → IsTrue (meets plan history Controller call) → is_key_change call ≡ true
+controller_changes_keys plan history (Enter shard) met = absurd (and_false (shard == plan.number) met)
+controller_changes_keys plan history (Leave shard) met = absurd (and_false (shard == plan.number) met)
+controller_changes_keys plan history (Lookup shard key) met = absurd (and_false (shard == plan.number) met)
+controller_changes_keys plan history (Load cell offset size) met = absurd (and_false (cell.shard == plan.number) met)
+controller_changes_keys plan history (Store cell offset size value) met = absurd (and_false (cell.shard == plan.number) met)
+controller_changes_keys plan history (Atomic cell offset size op value expected) met = absurd (and_false (cell.shard == plan.number) met)
+controller_changes_keys plan history (Update shard key value flags) met = refl
+controller_changes_keys plan history (Delete shard key) met = refl
+controller_changes_keys plan history (Reclaim shard) met = absurd (and_false (shard == plan.number) met)
+
+reclaimer_reclaims : (plan : ShardPlan) (history : List Entry) (call : Call) → IsTrue (meets plan history Reclaimer call) →
+    call ≡ Reclaim (shard_of_call call)
+reclaimer_reclaims plan history (Enter shard) met = absurd (and_false (shard == plan.number) met)
+reclaimer_reclaims plan history (Leave shard) met = absurd (and_false (shard == plan.number) met)
+reclaimer_reclaims plan history (Lookup shard key) met = absurd (and_false (shard == plan.number) met)
+reclaimer_reclaims plan history (Load cell offset size) met = absurd (and_false (cell.shard == plan.number) met)
+reclaimer_reclaims plan history (Store cell offset size value) met = absurd (and_false (cell.shard == plan.number) met)
+reclaimer_reclaims plan history (Atomic cell offset size op value expected) met = absurd (and_false (cell.shard == plan.number) met)
+reclaimer_reclaims plan history (Update shard key value flags) met = absurd (and_false (shard == plan.number) met)
+reclaimer_reclaims plan history (Delete shard key) met = absurd (and_false (shard == plan.number) met)
+reclaimer_reclaims plan history (Reclaim shard) met = refl
+
+-- where such a call leads
+served : (setting : Setting) (plan : ShardPlan) (system : SystemState) (entry : Entry) (who : Caller) → entry.who ≡ who →
+    IsAtPlace setting plan system entry →
+    after_call (plan_at setting.maps setting.options (shard_of_call entry.call)) system who entry.call
+    ≡ with_entry system (shard_of_call entry.call) entry
+served setting plan system entry who is place =
+    let number : plan.number ≡ shard_of_call entry.call = numbered setting (shard_of_call entry.call) plan place.known in
+    ap (λ found. after_call found system who entry.call) place.known
+    ∙ ap (λ (full : Bool). if full then system else with_entry system plan.number (entry_for plan system who entry.call)) place.step.room
+    ∙ ap (λ (reply : Reply). with_entry system plan.number (record { who = who; call = entry.call; reply = reply })) (sym place.step.step.replied)
+    ∙ ap (λ (one : Caller). with_entry system plan.number (record { who = one; call = entry.call; reply = entry.reply })) (sym is)
+    ∙ ap (λ (one : ℕ). with_entry system one entry) number
+
+may_call : (setting : Setting) (plan : ShardPlan) (system : SystemState) (entry : Entry) (who : Caller) → entry.who ≡ who →
+    IsAtPlace setting plan system entry → MayCall (plan_at setting.maps setting.options (shard_of_call entry.call)) system who entry.call
+may_call setting plan system entry who is place =
+    subst (λ found. MayCall found system who entry.call) (sym place.known)
+    (subst (λ (one : Caller). IsTrue (meets plan (history_of system plan.number) one entry.call)) is place.step.step.met)
+
+by_nobody : (setting : Setting) (count : ℕ) (deeds earlier later : List Deed) (entry : Entry) (event : SystemEvent) (system : SystemState)
+    (rest : ℕ → List Move) → Stands setting count deeds earlier (Wrote entry ∷ later) system rest → CanHappen setting system event →
+    after_event setting system event ≡ with_entry system (shard_of_call entry.call) entry → ((worker : ℕ) → is_event_of worker event ≡ false) →
+    ((worker : ℕ) → is_deed_of worker (Wrote entry) ≡ false) →
+    MergesFrom setting count deeds (earlier ++ Wrote entry ∷ []) later → Merged setting count deeds system rest
+by_nobody setting count deeds earlier later entry event system rest stands can leads nobody not_theirs onward =
+    let after : SystemState = with_entry system (shard_of_call entry.call) entry in
+    go_by setting count deeds system rest event can nobody
+    (subst (λ (here : SystemState). Merged setting count deeds here rest) (sym leads)
+    (onward after rest
+    (record {
+      split = stands.split ∙ sym (append_assoc earlier (Wrote entry ∷ []) later);
+      within = stands.within.1;
+      eight = stands.eight;
+      shards = asked_shards system (Writes entry) ∙ stands.shards;
+      histories = after_entry count earlier system after entry stands.shards stands.within.0 stands.histories refl;
+      steps = stands.steps;
+      own = λ worker. stands.own worker
+          ∙ ap (λ (test : Bool). cond test (Wrote entry ∷ filter (is_deed_of worker) later) (filter (is_deed_of worker) later)) (not_theirs worker);
+    })))
+
+-- ---- every deed
+
+wrote : (setting : Setting) (plan : ℕ → ShardPlan) (count : ℕ) (journal : ℕ → List Entry) (moves : ℕ → List Move) (deeds earlier later : List Deed)
+    (entry : Entry) (system : SystemState) (rest : ℕ → List Move) → IsOneOrder setting plan count journal moves deeds →
+    Stands setting count deeds earlier (Wrote entry ∷ later) system rest → MergesFrom setting count deeds (earlier ++ Wrote entry ∷ []) later →
+    (who : Caller) → entry.who ≡ who → Merged setting count deeds system rest
+wrote setting plan count journal moves deeds earlier later entry system rest order stands onward (Worker worker) is =
+    let place = at_place setting plan count journal moves deeds earlier later entry system rest order stands in
+    let same : (worker == worker) ≡ true = grind (arith, nat_tests) in
+    by_worker setting count worker deeds earlier later (Wrote entry) (Writes entry) system rest order.options.at_most_eight stands refl
+    (ap (is_worker worker) is ∙ same)
+    (λ other apart. ap (is_worker other) is ∙ ne_eqb worker other (λ same. apart (sym same)))
+    (answers_at setting (plan (shard_of_call entry.call)) system entry place)
+    (λ after same. after_entry count earlier system after entry stands.shards stands.within.0 stands.histories same)
+    onward
+wrote setting plan count journal moves deeds earlier later entry system rest order stands onward Controller is =
+    let place = at_place setting plan count journal moves deeds earlier later entry system rest order stands in
+    by_nobody setting count deeds earlier later entry (Controls entry.call) system rest stands (
+      controller_changes_keys (plan (shard_of_call entry.call)) (history_of system (plan (shard_of_call entry.call)).number) entry.call
+          (subst (λ (one : Caller). IsTrue (meets (plan (shard_of_call entry.call)) (history_of system (plan (shard_of_call entry.call)).number) one entry.call))
+          is place.step.step.met),
+      may_call setting (plan (shard_of_call entry.call)) system entry Controller is place,
+    )
+    (served setting (plan (shard_of_call entry.call)) system entry Controller is place)
+    (λ worker. refl) (λ worker. ap (is_worker worker) is) onward
+wrote setting plan count journal moves deeds earlier later entry system rest order stands onward Reclaimer is =
+    let place = at_place setting plan count journal moves deeds earlier later entry system rest order stands in
+    let shard : ℕ = shard_of_call entry.call in
+    let reclaims : entry.call ≡ Reclaim shard =
+    reclaimer_reclaims (plan shard) (history_of system (plan shard).number) entry.call
+    (subst (λ (one : Caller). IsTrue (meets (plan shard) (history_of system (plan shard).number) one entry.call)) is place.step.step.met) in
+    by_nobody setting count deeds earlier later entry (Reclaims shard) system rest stands
+    (subst (λ (call : Call). MayCall (plan_at setting.maps setting.options shard) system Reclaimer call) reclaims
+    (may_call setting (plan shard) system entry Reclaimer is place))
+    (ap (λ (call : Call). after_call (plan_at setting.maps setting.options shard) system Reclaimer call) (sym reclaims)
+    ∙ served setting (plan shard) system entry Reclaimer is place)
+    (λ worker. refl) (λ worker. ap (is_worker worker) is) onward
+
+met_full : (setting : Setting) (plan : ℕ → ShardPlan) (count : ℕ) (journal : ℕ → List Entry) (moves : ℕ → List Move) (deeds earlier later : List Deed)
+    (worker : ℕ) (call : Call) (system : SystemState) (rest : ℕ → List Move) → IsOneOrder setting plan count journal moves deeds →
+    Stands setting count deeds earlier (MetFull worker call ∷ later) system rest →
+    MergesFrom setting count deeds (earlier ++ MetFull worker call ∷ []) later → Merged setting count deeds system rest
+met_full setting plan count journal moves deeds earlier later worker call system rest order stands onward =
+    let shard : ℕ = shard_of_call call in
+    let same : (worker == worker) ≡ true = grind (arith, nat_tests) in
+    let known : plan_at setting.maps setting.options shard ≡ Some (plan shard) = order.plans shard stands.within.0 in
+    let history : history_of system (plan shard).number ≡ reverse (made_on shard earlier) =
+    ap (history_of system) (numbered setting shard (plan shard) known) ∙ stands.histories shard stands.within.0 in
+    by_worker setting count worker deeds earlier later (MetFull worker call) (Refused call) system rest order.options.at_most_eight stands refl same
+    (λ other apart. ne_eqb worker other (λ same. apart (sym same)))
+    (record {
+      plan = plan shard;
+      known = known;
+      full = subst (λ (list : List Entry). IsJournalFull (plan shard) list call) (sym history) (order.full earlier later worker call stands.split);
+    })
+    (λ after same. after_look count earlier system after worker call stands.histories same)
+    onward
+
+merge : (setting : Setting) (plan : ℕ → ShardPlan) (count : ℕ) (journal : ℕ → List Entry) (moves : ℕ → List Move) (deeds : List Deed) →
+    IsOneOrder setting plan count journal moves deeds → (later earlier : List Deed) → MergesFrom setting count deeds earlier later
+merge setting plan count journal moves deeds order [] earlier system rest stands =
+    let all : earlier ≡ deeds = sym (stands.split ∙ append-nil earlier) in
+    finish setting count deeds 8 (omega arith) system rest
+    (subst (λ (list : List Deed). Stands setting count deeds list [] system rest) all stands)
+    (λ worker past. none_past setting count worker system (rest worker) order.options.at_most_eight stands.eight past (stands.steps worker))
+merge setting plan count journal moves deeds order (Wrote entry ∷ later) earlier system rest stands =
+    wrote setting plan count journal moves deeds earlier later entry system rest order stands
+    (merge setting plan count journal moves deeds order later (earlier ++ Wrote entry ∷ [])) entry.who refl
+merge setting plan count journal moves deeds order (MetFull worker call ∷ later) earlier system rest stands =
+    met_full setting plan count journal moves deeds earlier later worker call system rest order stands
+    (merge setting plan count journal moves deeds order later (earlier ++ MetFull worker call ∷ []))
+
+-- ---- from the opening on
+
+pub one_order_is_one_list : OneOrderIsOneList
+one_order_is_one_list setting plan count journal moves deeds order =
+    let opening : SystemState = opening_system setting in
+    let merged : Merged setting count deeds opening moves =
+    merge setting plan count journal moves deeds order deeds [] opening moves
+    (record {
+      split = refl;
+      within = order.within;
+      eight = length-replicate 8 Idle;
+      shards = length-replicate (length setting.maps * setting.options.shards) [] ∙ sym order.count_is;
+      histories = λ number below. same_everywhere (length setting.maps * setting.options.shards) number [];
+      steps = λ worker. subst (λ (state : WorkerState). AreSteps setting count worker state (moves worker) Idle) (sym (same_everywhere 8 worker Idle))
+          (order.steps worker);
+      own = order.own;
+    }) in
+    let all = listed setting [] merged.events merged.last tt merged.happen in
+    let same : reverse merged.events ++ [] ≡ reverse merged.events = append-nil (reverse merged.events) in
+    let whole = subst (λ (list : List SystemEvent). IsListed setting list merged.last) same all in
+    record {
+      events = merged.events;
+      can = whole.0;
+      of_each = merged.of_each;
+      histories = λ number below. ap (λ (system : SystemState). reverse (history_of system number)) whole.1
+          ∙ ap reverse (merged.histories number below) ∙ reverse-reverse (made_on number deeds) ∙ order.journals number below;
+      idle = λ worker. ap (λ (system : SystemState). worker_state system worker) whole.1 ∙ merged.idle worker;
+    }

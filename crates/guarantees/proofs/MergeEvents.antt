@@ -1,0 +1,294 @@
+-- Events of one worker, and of no worker, from a state of the system on.
+use Rattle.std.proofs.Common.{◌≡◌, ◌≢◌, ℕ, ◌<◌, ◌≤◌, ◌==◌, Bool, true, false, cond, List, [], ◌∷◌, ◌++◌, length, reverse, refl, sym, ◌∙◌, ap, subst, arith, append_assoc, ⊎_elim}
+use Rattle.std.specs.Prelude.{filter}
+use Rattle.std.specs.List.{AllByRecursion}
+use Rattle.std.proofs.lemmas.Bool.{cases_lt, ne_eqb, eqb-true}
+use Rattle.std.proofs.lemmas.List.{reverse-append, get_or_past, length-set}
+use Rattle.semantics.specs.System.{Setting, SystemState, SystemEvent, BeginsRun, DoesInstruction, CallsShard, LeavesShard, Controls, Reclaims, WorkerState, Idle, worker_state, with_worker, CanHappen, after_event, system_after, CanAllHappen}
+use Rattle.semantics.proofs.shared.SystemSteps.{state_there, state_elsewhere}
+use Rattle.guarantees.specs.Steps.{Asked, Nothing, Writes, Refused, Move, IsStep, RunBegins, RunGoesOn, RunEnds, CallIsServed, ShardIsEntered, CallIsRefused, EnterIsRefused, ShardIsLeft, AreSteps}
+use Rattle.guarantees.specs.Moves.{IsMove, IsAskedSo, after_asked, is_event_of}
+use Rattle.guarantees.specs.Merging.{Deed, Wrote, MetFull, deeds_asked, deeds_in, events_of}
+use Rattle.guarantees.proofs.MoveLemmas.{steps_are_moves}
+
+-- ---- lists of events, the oldest first
+
+abbrev pub HappenFrom : Setting → SystemState → List SystemEvent → SystemState → Type 0
+HappenFrom setting before [] after = before ≡ after
+HappenFrom setting before (event ∷ later) after =
+    CanHappen setting before event × HappenFrom setting (after_event setting before event) later after
+
+pub then_happen : (setting : Setting) (one two three : SystemState) (first second : List SystemEvent) → HappenFrom setting one first two →
+    HappenFrom setting two second three → HappenFrom setting one (first ++ second) three
+then_happen setting one two three [] second happen more = subst (λ here. HappenFrom setting here second three) (sym happen) more
+then_happen setting one two three (event ∷ first) second happen more =
+    (happen.0, then_happen setting (after_event setting one event) two three first second happen.1 more)
+
+abbrev pub IsListed : Setting → List SystemEvent → SystemState → Type 0
+IsListed setting events last = CanAllHappen setting events × (system_after setting events ≡ last)
+
+pub listed : (setting : Setting) (earlier events : List SystemEvent) (last : SystemState) → CanAllHappen setting earlier →
+    HappenFrom setting (system_after setting earlier) events last → IsListed setting (reverse events ++ earlier) last
+listed setting earlier [] last can happen = (can, happen)
+listed setting earlier (event ∷ events) last can happen =
+    let same : reverse events ++ (event ∷ earlier) ≡ reverse (event ∷ events) ++ earlier =
+    sym (ap (λ (list : List SystemEvent). list ++ earlier) (reverse-append (event ∷ []) events) ∙ append_assoc (reverse events) (event ∷ []) earlier) in
+    subst (λ (list : List SystemEvent). IsListed setting list last) same (listed setting (event ∷ earlier) events last (happen.0, can) happen.1)
+
+-- ---- events of one worker
+
+abbrev pub AreOwn : ℕ → List SystemEvent → Type 0
+AreOwn worker events = AllByRecursion (λ (event : SystemEvent). is_event_of worker event ≡ true) events
+
+pub own_stay : (worker : ℕ) (events : List SystemEvent) → AreOwn worker events → filter (is_event_of worker) events ≡ events
+own_stay worker [] own = refl
+own_stay worker (event ∷ events) own =
+    ap (λ (test : Bool). cond test (event ∷ filter (is_event_of worker) events) (filter (is_event_of worker) events)) own.0
+    ∙ ap (λ (list : List SystemEvent). event ∷ list) (own_stay worker events own.1)
+
+another : (worker other one : ℕ) → other ≢ worker → (one == worker) ≡ true → (one == other) ≡ false
+another worker other one apart is =
+    ne_eqb one other (λ same. apart (sym same ∙ eqb-true one worker is))
+
+not_anothers : (worker other : ℕ) (event : SystemEvent) → other ≢ worker → is_event_of worker event ≡ true → is_event_of other event ≡ false
+not_anothers worker other (BeginsRun one frame now told) apart is = another worker other one apart is
+not_anothers worker other (DoesInstruction one) apart is = another worker other one apart is
+not_anothers worker other (CallsShard one) apart is = another worker other one apart is
+not_anothers worker other (LeavesShard one shard) apart is = another worker other one apart is
+not_anothers worker other (Controls call) apart is = refl
+not_anothers worker other (Reclaims shard) apart is = refl
+
+pub own_go : (worker other : ℕ) (events : List SystemEvent) → other ≢ worker → AreOwn worker events → filter (is_event_of other) events ≡ []
+own_go worker other [] apart own = refl
+own_go worker other (event ∷ events) apart own =
+    ap (λ (test : Bool). cond test (event ∷ filter (is_event_of other) events) (filter (is_event_of other) events))
+    (not_anothers worker other event apart own.0)
+    ∙ own_go worker other events apart own.1
+
+-- ---- who takes a step is one of eight
+
+begins_few : (setting : Setting) (count worker : ℕ) (before : WorkerState) (move : Move) (after : WorkerState) →
+    IsStep setting count worker before move after → before ≡ Idle → worker < setting.options.workers
+begins_few setting count worker before move after (RunBegins frame now told few input early low) idle = few
+begins_few setting count worker before move after (RunGoesOn state next entered is) idle = absurd cc
+begins_few setting count worker before move after (RunEnds state last verdict entered is) idle = absurd cc
+begins_few setting count worker before move after (CallIsServed state entered call next reply is within inside formed) idle = absurd cc
+begins_few setting count worker before move after (ShardIsEntered state entered call next is within outside) idle = absurd cc
+begins_few setting count worker before move after (CallIsRefused state entered call next is within inside) idle = absurd cc
+begins_few setting count worker before move after (EnterIsRefused state entered call next is within outside) idle = absurd cc
+begins_few setting count worker before move after (ShardIsLeft shard entered within inside) idle = absurd cc
+
+pub one_of_eight : (setting : Setting) (count worker : ℕ) (system : SystemState) (move : Move) (moves : List Move) →
+    setting.options.workers ≤ 8 → length system.workers ≡ 8 → AreSteps setting count worker (worker_state system worker) (move ∷ moves) Idle →
+    worker < length system.workers
+one_of_eight setting count worker system move moves most eight steps = ⊎_elim
+    (λ below. below)
+    (λ past.
+    let few : worker < setting.options.workers =
+    begins_few setting count worker (worker_state system worker) move steps.0 steps.1 (get_or_past system.workers worker Idle past) in
+    omega (arith, few, most, eight))
+    (cases_lt worker (length system.workers))
+
+-- ---- what is asked of a shard changes no worker
+
+pub asked_workers : (system : SystemState) (asked : Asked) → (after_asked system asked).workers ≡ system.workers
+asked_workers system Nothing = refl
+asked_workers system (Writes entry) = refl
+asked_workers system (Refused call) = refl
+
+asked_histories : (system : SystemState) (worker : ℕ) (now : WorkerState) (asked : Asked) →
+    (after_asked (with_worker system worker now) asked).histories ≡ (after_asked system asked).histories
+asked_histories system worker now Nothing = refl
+asked_histories system worker now (Writes entry) = refl
+asked_histories system worker now (Refused call) = refl
+
+asked_with : (setting : Setting) (system : SystemState) (worker : ℕ) (now : WorkerState) (asked : Asked) → IsAskedSo setting system asked →
+    IsAskedSo setting (with_worker system worker now) asked
+asked_with setting system worker now Nothing is = tt
+asked_with setting system worker now (Writes entry) is = record { plan = is.plan; known = is.known; room = is.room; replied = is.replied }
+asked_with setting system worker now (Refused call) is = record { plan = is.plan; known = is.known; full = is.full }
+
+same_asked : (worker : ℕ) (one other : Asked) (deed : Deed) → deeds_asked worker one ≡ deed ∷ [] → deeds_asked worker other ≡ deed ∷ [] → one ≡ other
+same_asked worker Nothing other deed is also = absurd cc
+same_asked worker (Writes entry) Nothing deed is also = absurd cc
+same_asked worker (Writes entry) (Writes another) deed is also =
+    let first : Wrote entry ≡ deed = cc in let second : Wrote another ≡ deed = cc in let same : entry ≡ another = cc in ap Writes same
+same_asked worker (Writes entry) (Refused call) deed is also =
+    let first : Wrote entry ≡ deed = cc in let second : MetFull worker call ≡ deed = cc in absurd cc
+same_asked worker (Refused call) Nothing deed is also = absurd cc
+same_asked worker (Refused call) (Writes entry) deed is also =
+    let first : MetFull worker call ≡ deed = cc in let second : Wrote entry ≡ deed = cc in absurd cc
+same_asked worker (Refused call) (Refused another) deed is also =
+    let first : MetFull worker call ≡ deed = cc in let second : MetFull worker another ≡ deed = cc in let same : call ≡ another = cc in
+    ap Refused same
+
+-- ---- up to a worker's next deed
+
+pub record Advance (setting : Setting) (count worker : ℕ) (before : SystemState) (moves : List Move) (asked : Asked) (later : List Deed) : Type 0
+  where
+    pub done : List Move
+    pub rest : List Move
+    pub parts : events_of moves ≡ events_of done ++ events_of rest
+    pub own : AreOwn worker (events_of done)
+    pub after : SystemState
+    pub happen : HappenFrom setting before (events_of done) after
+    pub histories : after.histories ≡ (after_asked before asked).histories
+    pub eight : length after.workers ≡ length before.workers
+    pub others : (other : ℕ) → other ≢ worker → worker_state after other ≡ worker_state before other
+    pub steps : AreSteps setting count worker (worker_state after worker) rest Idle
+    pub deeds : deeds_in worker rest ≡ later
+
+-- an event that asks nothing, and then the rest
+over_one : (setting : Setting) (count worker : ℕ) (before : SystemState) (move : Move) (moves : List Move) (asked : Asked) (later : List Deed)
+    (next : WorkerState) → move.asked ≡ Nothing → worker < length before.workers → IsMove setting worker (worker_state before worker) move next →
+    Advance setting count worker (with_worker before worker next) moves asked later → Advance setting count worker before (move ∷ moves) asked later
+over_one setting count worker before move moves asked later next none few means rest =
+    let quiet : IsAskedSo setting before move.asked = subst (λ (one : Asked). IsAskedSo setting before one) (sym none) tt in
+    let leads : after_event setting before move.event ≡ with_worker before worker next =
+    means.leads before refl quiet ∙ ap (λ (one : Asked). with_worker (after_asked before one) worker next) none in
+    record {
+      done = move ∷ rest.done;
+      rest = rest.rest;
+      parts = ap (λ (list : List SystemEvent). move.event ∷ list) rest.parts;
+      own = (means.own, rest.own);
+      after = rest.after;
+      happen = (
+        means.can before refl quiet,
+        subst (λ here. HappenFrom setting here (events_of rest.done) rest.after) (sym leads) rest.happen,
+      );
+      histories = rest.histories ∙ asked_histories before worker next asked;
+      eight = rest.eight ∙ length-set before.workers worker next;
+      others = λ other apart. rest.others other apart ∙ state_elsewhere before worker other next apart;
+      steps = rest.steps;
+      deeds = rest.deeds;
+    }
+
+-- the event that does the deed
+the_deed : (setting : Setting) (count worker : ℕ) (before : SystemState) (move : Move) (moves : List Move) (asked : Asked) (later : List Deed)
+    (next : WorkerState) → move.asked ≡ asked → worker < length before.workers → IsMove setting worker (worker_state before worker) move next →
+    IsAskedSo setting before asked → AreSteps setting count worker next moves Idle → deeds_in worker moves ≡ later →
+    Advance setting count worker before (move ∷ moves) asked later
+the_deed setting count worker before move moves asked later next same few means asks steps deeds =
+    let so : IsAskedSo setting before move.asked = subst (λ (one : Asked). IsAskedSo setting before one) (sym same) asks in
+    let workers : (after_asked before asked).workers ≡ before.workers = asked_workers before asked in
+    let leads : after_event setting before move.event ≡ with_worker (after_asked before asked) worker next =
+    means.leads before refl so ∙ ap (λ (one : Asked). with_worker (after_asked before one) worker next) same in
+    let room : worker < length (after_asked before asked).workers = subst (λ list. worker < length list) (sym workers) few in
+    record {
+      done = move ∷ [];
+      rest = moves;
+      parts = refl;
+      own = (means.own, tt);
+      after = with_worker (after_asked before asked) worker next;
+      happen = (means.can before refl so, leads);
+      histories = refl;
+      eight = length-set (after_asked before asked).workers worker next ∙ ap length workers;
+      others = λ other apart. state_elsewhere (after_asked before asked) worker other next apart
+          ∙ ap (λ list. worker_state (record { workers = list; histories = before.histories }) other) workers;
+      steps = subst (λ here. AreSteps setting count worker here moves Idle) (sym (state_there (after_asked before asked) worker next room)) steps;
+      deeds = deeds;
+    }
+
+abbrev AdvancesFrom : Setting → ℕ → ℕ → Asked → Deed → List Deed → List Move → SystemState → Type 0
+AdvancesFrom setting count worker asked deed later moves before =
+    worker < length before.workers → deeds_asked worker asked ≡ deed ∷ [] → IsAskedSo setting before asked →
+    deeds_in worker moves ≡ deed ∷ later → AreSteps setting count worker (worker_state before worker) moves Idle →
+    Advance setting count worker before moves asked later
+
+advance_by : (setting : Setting) (count worker : ℕ) (asked : Asked) (deed : Deed) (later : List Deed) (move : Move) (moves : List Move)
+    (before : SystemState) → ((onward : SystemState) → AdvancesFrom setting count worker asked deed later moves onward) →
+    worker < length before.workers → deeds_asked worker asked ≡ deed ∷ [] → IsAskedSo setting before asked →
+    deeds_in worker (move ∷ moves) ≡ deed ∷ later → (steps : AreSteps setting count worker (worker_state before worker) (move ∷ moves) Idle) →
+    (own : Asked) → move.asked ≡ own → Advance setting count worker before (move ∷ moves) asked later
+advance_by setting count worker asked deed later move moves before onward few one asks made steps Nothing is =
+    over_one setting count worker before move moves asked later steps.0 is few
+    (steps_are_moves setting count worker (worker_state before worker) move steps.0 steps.1)
+    (onward (with_worker before worker steps.0)
+    (subst (λ (n : ℕ). worker < n) (sym (length-set before.workers worker steps.0)) few) one
+    (asked_with setting before worker steps.0 asked asks)
+    (ap (λ (own : Asked). deeds_asked worker own ++ deeds_in worker moves) (sym is) ∙ made)
+    (subst (λ here. AreSteps setting count worker here moves Idle) (sym (state_there before worker steps.0 few)) steps.2))
+advance_by setting count worker asked deed later move moves before onward few one asks made steps (Writes entry) is =
+    let all : Wrote entry ∷ deeds_in worker moves ≡ deed ∷ later =
+    ap (λ (own : Asked). deeds_asked worker own ++ deeds_in worker moves) (sym is) ∙ made in
+    let same : Wrote entry ≡ deed = cc in
+    let rest : deeds_in worker moves ≡ later = cc in
+    the_deed setting count worker before move moves asked later steps.0
+    (is ∙ same_asked worker (Writes entry) asked deed (ap (λ (one : Deed). one ∷ []) same) one) few
+    (steps_are_moves setting count worker (worker_state before worker) move steps.0 steps.1) asks steps.2 rest
+advance_by setting count worker asked deed later move moves before onward few one asks made steps (Refused call) is =
+    let all : MetFull worker call ∷ deeds_in worker moves ≡ deed ∷ later =
+    ap (λ (own : Asked). deeds_asked worker own ++ deeds_in worker moves) (sym is) ∙ made in
+    let same : MetFull worker call ≡ deed = cc in
+    let rest : deeds_in worker moves ≡ later = cc in
+    the_deed setting count worker before move moves asked later steps.0
+    (is ∙ same_asked worker (Refused call) asked deed (ap (λ (one : Deed). one ∷ []) same) one) few
+    (steps_are_moves setting count worker (worker_state before worker) move steps.0 steps.1) asks steps.2 rest
+
+pub advance : (setting : Setting) (count worker : ℕ) (asked : Asked) (deed : Deed) (later : List Deed) (moves : List Move) (before : SystemState) →
+    AdvancesFrom setting count worker asked deed later moves before
+advance setting count worker asked deed later [] before few one asks made steps = absurd cc
+advance setting count worker asked deed later (move ∷ moves) before few one asks made steps =
+    advance_by setting count worker asked deed later move moves before
+    (λ onward. advance setting count worker asked deed later moves onward) few one asks made steps move.asked refl
+
+-- ---- a worker without further deeds
+
+pub record RunsOut (setting : Setting) (worker : ℕ) (before : SystemState) (moves : List Move) : Type 0 where
+  pub own : AreOwn worker (events_of moves)
+  pub after : SystemState
+  pub happen : HappenFrom setting before (events_of moves) after
+  pub histories : after.histories ≡ before.histories
+  pub eight : length after.workers ≡ length before.workers
+  pub others : (other : ℕ) → other ≢ worker → worker_state after other ≡ worker_state before other
+  pub idle : worker_state after worker ≡ Idle
+
+abbrev RunsOutFrom : Setting → ℕ → ℕ → List Move → SystemState → Type 0
+RunsOutFrom setting count worker moves before =
+    worker < length before.workers → deeds_in worker moves ≡ [] → AreSteps setting count worker (worker_state before worker) moves Idle →
+    RunsOut setting worker before moves
+
+out_by : (setting : Setting) (count worker : ℕ) (move : Move) (moves : List Move) (before : SystemState) →
+    ((onward : SystemState) → RunsOutFrom setting count worker moves onward) → worker < length before.workers →
+    deeds_in worker (move ∷ moves) ≡ [] → (steps : AreSteps setting count worker (worker_state before worker) (move ∷ moves) Idle) →
+    (own : Asked) → move.asked ≡ own → RunsOut setting worker before (move ∷ moves)
+out_by setting count worker move moves before onward few none steps Nothing is =
+    let means : IsMove setting worker (worker_state before worker) move steps.0 =
+    steps_are_moves setting count worker (worker_state before worker) move steps.0 steps.1 in
+    let quiet : IsAskedSo setting before move.asked = subst (λ (one : Asked). IsAskedSo setting before one) (sym is) tt in
+    let leads : after_event setting before move.event ≡ with_worker before worker steps.0 =
+    means.leads before refl quiet ∙ ap (λ (one : Asked). with_worker (after_asked before one) worker steps.0) is in
+    let rest : RunsOut setting worker (with_worker before worker steps.0) moves =
+    onward (with_worker before worker steps.0)
+    (subst (λ (n : ℕ). worker < n) (sym (length-set before.workers worker steps.0)) few)
+    (ap (λ (own : Asked). deeds_asked worker own ++ deeds_in worker moves) (sym is) ∙ none)
+    (subst (λ here. AreSteps setting count worker here moves Idle) (sym (state_there before worker steps.0 few)) steps.2) in
+    record {
+      own = (means.own, rest.own);
+      after = rest.after;
+      happen = (means.can before refl quiet, subst (λ here. HappenFrom setting here (events_of moves) rest.after) (sym leads) rest.happen);
+      histories = rest.histories;
+      eight = rest.eight ∙ length-set before.workers worker steps.0;
+      others = λ other apart. rest.others other apart ∙ state_elsewhere before worker other steps.0 apart;
+      idle = rest.idle;
+    }
+out_by setting count worker move moves before onward few none steps (Writes entry) is =
+    let some : Wrote entry ∷ deeds_in worker moves ≡ [] = ap (λ (own : Asked). deeds_asked worker own ++ deeds_in worker moves) (sym is) ∙ none in
+    absurd cc
+out_by setting count worker move moves before onward few none steps (Refused call) is =
+    let some : MetFull worker call ∷ deeds_in worker moves ≡ [] =
+    ap (λ (own : Asked). deeds_asked worker own ++ deeds_in worker moves) (sym is) ∙ none in
+    absurd cc
+
+pub runs_out : (setting : Setting) (count worker : ℕ) (moves : List Move) (before : SystemState) → RunsOutFrom setting count worker moves before
+runs_out setting count worker [] before few none steps = record {
+  own = tt;
+  after = before;
+  happen = refl;
+  histories = refl;
+  eight = refl;
+  others = λ other apart. refl;
+  idle = steps;
+}
+runs_out setting count worker (move ∷ moves) before few none steps =
+    out_by setting count worker move moves before (λ onward. runs_out setting count worker moves onward) few none steps move.asked refl

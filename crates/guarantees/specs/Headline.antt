@@ -1,0 +1,98 @@
+-- What a replay of a verified image promises, in the order of the sentence: the image is safe; each shard has one legal history, in which
+-- each reply is the one-thread map's at its own place; each run is a list of steps of the system around this image, with the verdict, the
+-- frame and the number of instructions of its program's trace on the replies that it was given.
+use Rattle.std.specs.Prelude.{◌≡◌, ℕ, ◌<◌, List, ◌∷◌, ◌++◌, length, reverse}
+use Rattle.std.specs.List.{AllByRecursion}
+use Rattle.wire.specs.FrameView.{FrameView}
+use Rattle.wire.specs.declared.records.Sent.{Sent}
+use Rattle.semantics.specs.declared.call.Entry.{Entry}
+use Rattle.semantics.specs.declared.options.Options.{Options}
+use Rattle.semantics.specs.declared.plan.ShardPlan.{ShardPlan}
+use Rattle.semantics.specs.declared.verdict.Verdict.{Verdict}
+use Rattle.semantics.specs.ShardPlan.{AreOptions}
+use Rattle.semantics.specs.History.{IsLegalJournal, IsSequentialStep}
+use Rattle.semantics.specs.Safety.{IsSafeImage}
+use Rattle.verifier.specs.Verified.{Verified}
+use Rattle.machine.specs.declared.exit.Stop.{Stop}
+use Rattle.machine.specs.declared.moment.Moment.{Moment}
+use Rattle.machine.specs.Running.{program_of}
+use Rattle.journals.specs.JournalsView.{entries_at}
+use Rattle.shards.specs.Passes.{PassView}
+use Rattle.shards.specs.SharedMaps.{ArePlans}
+use Rattle.runs.specs.FrameRuns.{HasRun, HasStopped}
+use Rattle.replay.specs.declared.run_end.RunEnd.{RunEnd}
+use Rattle.replay.specs.declared.run_end.RunEnd.TheVariants.{Stopped}
+use Rattle.replay.specs.declared.run_end.Ran.{Ran}
+use Rattle.replay.specs.Accounts.{runs_at, sent_of, sent_frames}
+use Rattle.replay.specs.RunsInOrder.{IsRunAt}
+use Rattle.replay.specs.Shares.{frames_of, share}
+use Rattle.control.specs.declared.command.Command.{Command}
+use Rattle.replay.specs.declared.outcome.Outcome.{Outcome}
+use Rattle.replay.specs.Accounted.{IsWorkOf, IsAccounted}
+use Rattle.replay.specs.RunsOverShards.{time_of, start_of, IsTold}
+use Rattle.guarantees.specs.SystemRuns.{setting_of, RanInSystem, HasStoppedInSystem}
+use Rattle.guarantees.specs.ReaderReplays.{IsCaptured}
+
+-- when a worker runs a record's frame
+abbrev pub moment_of : Sent → ℕ → Moment
+moment_of captured worker = record { now_ns = time_of captured; worker = worker }
+
+-- a run that ended: its program's trace on the replies that stand among its worker's entries, and steps of the system from idle to idle
+pub record IsRunOfImage (verified : Verified) (options : Options) (count worker : ℕ) (captured : Sent) (before : PassView) (end : RunEnd)
+    (after : PassView) : Type 0 where
+  pub verdict : Verdict
+  pub steps : ℕ
+  pub frame : FrameView
+  pub trace : HasRun (program_of verified options.shards) (start_of captured worker) count worker before after verdict steps frame
+  pub of_system :
+      RanInSystem (setting_of verified options) worker (moment_of captured worker) captured.bytes.items count before after verdict steps
+      frame
+  pub told : IsTold captured verdict frame end
+
+-- a run that a full journal stopped: a beginning of that
+pub record IsStopOfImage (verified : Verified) (options : Options) (plan : ℕ → ShardPlan) (count worker : ℕ) (captured : Sent)
+    (before after : PassView) : Type 0 where
+  pub frame : FrameView
+  pub stop : Stop
+  pub trace : HasStopped (program_of verified options.shards) (start_of captured worker) plan count worker before after frame stop
+  pub of_system :
+      HasStoppedInSystem (setting_of verified options) worker (moment_of captured worker) captured.bytes.items plan count before after
+      frame stop
+
+abbrev pub IsEitherOfImage : Verified → Options → (ℕ → ShardPlan) → ℕ → ℕ → Sent → PassView → RunEnd → PassView → Type 0
+IsEitherOfImage verified options plan count worker captured before Stopped after =
+    IsStopOfImage verified options plan count worker captured before after
+IsEitherOfImage verified options plan count worker captured before end after = IsRunOfImage verified options count worker captured before
+    end after
+
+-- the promise
+pub record Headline (verified : Verified) (options : Options) (records : List Sent) (outcome : Outcome) : Type 0 where
+  -- whatever frames arrive and however the shared steps interleave, no run traps, and each ends within as many instructions as the image
+  -- has slots
+  pub safe : IsSafeImage verified.maps verified.code
+  -- each shard has one legal history: its journal
+  pub count : ℕ
+  pub count_is : length outcome.journals.shards ≡ count
+  pub plan : ℕ → ShardPlan
+  pub plans : ArePlans verified.maps options count plan
+  pub legal : (number : ℕ) → number < count → IsLegalJournal (plan number) (entries_at outcome.journals number)
+  -- each reply in it is that of the one-thread map at the entry's own place
+  pub own_place :
+      (number : ℕ) → number < count → (earlier later : List Entry) (entry : Entry) →
+      entries_at outcome.journals number ≡ earlier ++ entry ∷ later → IsSequentialStep (plan number) (reverse earlier) entry
+  -- each worker ran its records, one after the other, and in each journal its entries are those of its runs; each run is one of the
+  -- system around this image, and has the verdict, the frame and the number of instructions of its program's trace on its replies
+  pub runs : List (List Ran)
+  pub work :
+      (worker : ℕ) → worker < options.workers →
+      IsWorkOf (IsRunAt (IsEitherOfImage verified options plan count worker) records)
+      (share (frames_of records) options.workers worker (length records)) worker (runs_at runs worker) count outcome.journals
+  -- the frames that were sent are those of these runs
+  pub sent : sent_frames outcome.sent.items ≡ sent_of (frames_of records) options.workers runs (length records)
+
+-- it holds of every replay that accounts for its records, as `replay` ensures it
+abbrev pub ReplaysKeepIt : Verified → Type 0
+ReplaysKeepIt verified =
+    (script : List Command) (options : Options) (records : List Sent) (outcome : Outcome) → AreOptions verified.maps options →
+    AllByRecursion IsCaptured records → IsAccounted (program_of verified options.shards) script options records outcome →
+    Headline verified options records outcome

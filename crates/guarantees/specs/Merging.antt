@@ -1,0 +1,165 @@
+-- One order of what all callers did on the shards, and the one list of events that it makes.
+use Rattle.std.specs.Prelude.{◌≡◌, ℕ, ◌<◌, ◌*◌, ◌==◌, ◌^◌, Bool, true, false, List, [], ◌∷◌, ◌++◌}
+use Rattle.std.specs.Prelude.{length, reverse, filter, map, Some, if◌then◌else◌, IsFalse}
+use Rattle.std.specs.List.{AllByRecursion}
+use Rattle.semantics.specs.declared.call.Caller.TheVariants.{Controller}
+use Rattle.semantics.specs.declared.call.Call.{Call}
+use Rattle.semantics.specs.declared.verdict.Verdict.{Verdict}
+use Rattle.semantics.specs.MachineState.{MachineState, initial_state}
+use Rattle.semantics.specs.RunTrace.{HasExited, trace_of}
+use Rattle.map_port.specs.Exchanges.{Exchange, calls_in, replies_in}
+use Rattle.shard_port.specs.PassSessions.{session_at, AreWithin}
+use Rattle.runs.specs.FrameRuns.{AreFormed}
+use Rattle.semantics.specs.declared.call.Entry.{Entry}
+use Rattle.semantics.specs.declared.plan.ShardPlan.{ShardPlan}
+use Rattle.semantics.specs.ShardPlan.{plan_at, AreOptions}
+use Rattle.semantics.specs.Reclamation.{is_worker}
+use Rattle.semantics.specs.History.{shard_of_call, IsJournalFull, IsLegalJournal}
+use Rattle.semantics.specs.System.{Setting, program_of, IsInputFrame, input_frame, SystemEvent, Idle}
+use Rattle.semantics.specs.System.{worker_state, history_of, system_after, CanAllHappen}
+use Rattle.guarantees.specs.Steps.{Asked, Nothing, Writes, Refused, Move, AreSteps, is_of_shard, entries_on, begins}
+use Rattle.guarantees.specs.Moves.{is_event_of}
+
+-- what a caller did on a shard
+pub data Deed : Type 0 where
+  -- it made this entry
+  Wrote : (entry : Entry) → Deed
+  -- it is a worker, and its call met a full journal
+  MetFull : (worker : ℕ) → (call : Call) → Deed
+
+abbrev pub shard_of_deed : Deed → ℕ
+shard_of_deed (Wrote entry) = shard_of_call entry.call
+shard_of_deed (MetFull worker call) = shard_of_call call
+
+abbrev pub is_deed_of : ℕ → Deed → Bool
+is_deed_of worker (Wrote entry) = is_worker worker entry.who
+is_deed_of worker (MetFull one call) = one == worker
+
+-- what a worker's moves do on shards, in order
+abbrev pub deeds_asked : ℕ → Asked → List Deed
+deeds_asked worker Nothing = []
+deeds_asked worker (Writes entry) = Wrote entry ∷ []
+deeds_asked worker (Refused call) = MetFull worker call ∷ []
+
+abbrev pub is_refusal : Asked → Bool
+is_refusal (Refused call) = true
+is_refusal asked = false
+
+abbrev pub deeds_in : ℕ → List Move → List Deed
+deeds_in worker [] = []
+deeds_in worker (move ∷ later) = deeds_asked worker move.asked ++ deeds_in worker later
+
+-- the entries of deeds, in order, and those on the shard of a number
+abbrev pub entries_made : List Deed → List Entry
+entries_made [] = []
+entries_made (Wrote entry ∷ later) = entry ∷ entries_made later
+entries_made (MetFull worker call ∷ later) = entries_made later
+
+abbrev pub made_on : ℕ → List Deed → List Entry
+made_on number deeds = filter (is_of_shard number) (entries_made deeds)
+
+-- each deed of a full journal met one: after the entries that stand before it in the order
+abbrev pub MeetFullJournals : (ℕ → ShardPlan) → List Deed → Type 0
+MeetFullJournals plan deeds =
+    (earlier later : List Deed) (worker : ℕ) (call : Call) → deeds ≡ earlier ++ MetFull worker call ∷ later →
+    IsJournalFull (plan (shard_of_call call)) (reverse (made_on (shard_of_call call) earlier)) call
+
+-- The deeds of all callers in one order. Shard by shard they are its journal, which is legal; caller by caller they are what its own
+-- moves did, which lead a worker from idle to idle.
+pub record IsOneOrder (setting : Setting) (plan : ℕ → ShardPlan) (count : ℕ) (journal : ℕ → List Entry) (moves : ℕ →
+    List Move) (deeds : List Deed) :
+    Type 0 where
+  pub options : AreOptions setting.maps setting.options
+  pub count_is : count ≡ length setting.maps * setting.options.shards
+  pub plans : (number : ℕ) → number < count → plan_at setting.maps setting.options number ≡ Some (plan number)
+  pub within : AllByRecursion (λ (deed : Deed). shard_of_deed deed < count) deeds
+  pub journals : (number : ℕ) → number < count → made_on number deeds ≡ journal number
+  pub legal : (number : ℕ) → number < count → IsLegalJournal (plan number) (journal number)
+  pub full : MeetFullJournals plan deeds
+  pub own : (worker : ℕ) → deeds_in worker (moves worker) ≡ filter (is_deed_of worker) deeds
+  pub steps : (worker : ℕ) → AreSteps setting count worker Idle (moves worker) Idle
+
+abbrev pub events_of : List Move → List SystemEvent
+events_of moves = map (λ (move : Move). move.event) moves
+
+-- one list of events, which can all happen from the opening on; of each worker it has the worker's own events, in their order; after it the
+-- histories are the journals, and every worker is idle
+pub record IsOneList (setting : Setting) (count : ℕ) (journal : ℕ → List Entry) (moves : ℕ → List Move) : Type 0 where
+  pub events : List SystemEvent
+  pub can : CanAllHappen setting (reverse events)
+  pub of_each : (worker : ℕ) → filter (is_event_of worker) events ≡ events_of (moves worker)
+  pub histories : (number : ℕ) → number < count → reverse (history_of (system_after setting (reverse events)) number) ≡ journal number
+  pub idle : (worker : ℕ) → worker_state (system_after setting (reverse events)) worker ≡ Idle
+
+-- the law
+abbrev pub OneOrderIsOneList : Type 0
+OneOrderIsOneList =
+    (setting : Setting) (plan : ℕ → ShardPlan) (count : ℕ) (journal : ℕ → List Entry) (moves : ℕ → List Move) (deeds : List Deed) →
+    IsOneOrder setting plan count journal moves deeds → IsOneList setting count journal moves
+
+-- ---- one worker, behind what the controller set
+
+-- the controller made the entry, on one of the shards
+pub record IsSetBefore (count : ℕ) (entry : Entry) : Type 0 where
+  pub who : entry.who ≡ Controller
+  pub within : shard_of_call entry.call < count
+
+-- no move meets a full journal
+abbrev pub NoneRefused : List Move → Type 0
+NoneRefused moves = AllByRecursion (λ (move : Move). IsFalse (is_refusal move.asked)) moves
+
+-- one worker moves, and the others do nothing
+abbrev pub moves_of : ℕ → List Move → ℕ → List Move
+moves_of worker moves other = if other == worker then moves else []
+
+-- the controller's entries on the shard of a number, and then the worker's
+abbrev pub set_and_done : List Entry → List Move → ℕ → List Entry
+set_and_done set moves number = filter (is_of_shard number) set ++ entries_on number moves
+
+-- what the controller set, and then a worker's steps from idle to idle, one run after the other: where that is a legal journal of each
+-- shard, it is one list of events of the system
+abbrev pub OneWorkerIsOneList : Type 0
+OneWorkerIsOneList =
+    (setting : Setting) (plan : ℕ → ShardPlan) (count worker : ℕ) (set : List Entry) (moves : List Move) →
+    AreOptions setting.maps setting.options → count ≡ length setting.maps * setting.options.shards →
+    ((number : ℕ) → number < count → plan_at setting.maps setting.options number ≡ Some (plan number)) →
+    AllByRecursion (IsSetBefore count) set → AreSteps setting count worker Idle moves Idle → NoneRefused moves →
+    ((number : ℕ) → number < count → IsLegalJournal (plan number) (set_and_done set moves number)) →
+    IsOneList setting count (set_and_done set moves) (moves_of worker moves)
+
+-- the run of one worker behind that, by its trace
+pub record IsRunAlone (setting : Setting) (count worker told now : ℕ) (frame : List ℕ) (exchanges : List Exchange) (verdict : Verdict)
+    (last : MachineState) : Type 0 where
+  pub few : worker < setting.options.workers
+  pub input : IsInputFrame frame
+  pub early : now < 2 ^ 64
+  pub low : told < 8
+  pub instructions : ℕ
+  pub trace :
+      trace_of instructions (program_of setting) (initial_state (input_frame frame) told now) (replies_in exchanges)
+      ≡ record { calls = calls_in exchanges; stand = HasExited verdict last }
+  pub formed : AreFormed (program_of setting) exchanges
+  pub within : AreWithin count exchanges
+
+-- the journal of a shard, which has what the controller set, and then the run's session
+abbrev pub set_and_run : List Entry → ℕ → List Exchange → ℕ → List Entry
+set_and_run set worker exchanges number = filter (is_of_shard number) set ++ session_at worker number exchanges
+
+-- that run's moves, which are one list of events with what was set before
+pub record IsListOfOne (setting : Setting) (count worker told now : ℕ) (frame : List ℕ) (set : List Entry) (exchanges : List Exchange) :
+    Type 0 where
+  pub run : List Move
+  pub moves : List Move
+  pub begins_so : moves ≡ begins worker frame now told ∷ run
+  pub list : IsOneList setting count (set_and_run set worker exchanges) (moves_of worker moves)
+
+-- journals that have what the controller set and then one run, as `run_alone` makes them, are one list of events of the system
+abbrev pub RunAloneIsOneList : Type 0
+RunAloneIsOneList =
+    (setting : Setting) (plan : ℕ → ShardPlan) (count worker told now : ℕ) (frame : List ℕ) (set : List Entry) (exchanges : List Exchange)
+    (verdict : Verdict) (last : MachineState) →
+    AreOptions setting.maps setting.options → count ≡ length setting.maps * setting.options.shards →
+    ((number : ℕ) → number < count → plan_at setting.maps setting.options number ≡ Some (plan number)) →
+    AllByRecursion (IsSetBefore count) set → IsRunAlone setting count worker told now frame exchanges verdict last →
+    ((number : ℕ) → number < count → IsLegalJournal (plan number) (set_and_run set worker exchanges number)) →
+    IsListOfOne setting count worker told now frame set exchanges

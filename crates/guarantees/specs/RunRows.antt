@@ -1,0 +1,49 @@
+-- One run of the system, by computation, and what is none: with another verdict, on another frame, without one of its entries.
+use Rattle.std.specs.Prelude.{◌≡◌, ℕ, List, [], ◌∷◌}
+use Rattle.ebpf_decode.specs.declared.map.MapKind.TheVariants.{Array}
+use Rattle.semantics.specs.declared.call.Caller.TheVariants.{Worker}
+use Rattle.semantics.specs.declared.call.Call.TheVariants.{Enter, Leave, Lookup, Load}
+use Rattle.semantics.specs.declared.call.Reply.TheVariants.{Entered, Left, Cell, Word}
+use Rattle.semantics.specs.declared.call.Entry.{Entry}
+use Rattle.semantics.specs.declared.verdict.Verdict.{Verdict}
+use Rattle.semantics.specs.declared.verdict.Verdict.TheVariants.{Tx}
+use Rattle.semantics.specs.MachineState.{MachineState}
+use Rattle.semantics.specs.System.{Setting}
+use Rattle.semantics.specs.SystemRows.{setting_over, first_path, frame_of, by_worker, key_of, cell_at}
+use Rattle.shards.specs.Passes.{PassView}
+use Rattle.guarantees.specs.SystemRuns.{IsRunOfSystem}
+
+-- a program that adds the frame's last byte and a map's number, and has the sum as its verdict
+abbrev pub row_setting : Setting
+row_setting = setting_over Array first_path
+
+-- a pass of worker 0 which has these entries on shard 0, the newest first
+abbrev pub pass_with : List Entry → PassView
+pass_with entries = record { who = Worker 0; views = (record { seen = entries; own = entries }) ∷ [] }
+
+abbrev pub lookup_entry : Entry
+lookup_entry = by_worker (Lookup 0 (key_of 0)) (Cell (cell_at 0))
+
+abbrev pub load_entry : Entry
+load_entry = by_worker (Load (cell_at 0) 0 8) (Word 0)
+
+-- worker 0 runs the program on a frame whose last byte is this, and has these entries then
+abbrev pub IsRow : ℕ → List Entry → Verdict → MachineState → Type 0
+IsRow byte entries verdict last = IsRunOfSystem row_setting 0 0 0 (frame_of byte) 1 (pass_with []) (pass_with entries) verdict last
+
+abbrev pub row_entries : List Entry
+row_entries = by_worker (Leave 0) Left ∷ load_entry ∷ lookup_entry ∷ by_worker (Enter 0) Entered ∷ []
+
+pub record RunRows : Type 0 where
+  -- on a frame that ends with byte 3 the run sends it
+  pub last : MachineState
+  pub runs : IsRow 3 row_entries Tx last
+  -- with any other verdict or last state it is no run
+  pub one_verdict : (verdict : Verdict) (other : MachineState) → IsRow 3 row_entries verdict other → (verdict ≡ Tx) × (other ≡ last)
+  -- on a frame that ends with byte 2 it is none
+  pub other_frame : (other : MachineState) → ¬ IsRow 2 row_entries Tx other
+  -- without its Load it is none, with whatever verdict, and without all of its entries
+  pub other_entries :
+      (verdict : Verdict) (other : MachineState) →
+      ¬ IsRow 3 (by_worker (Leave 0) Left ∷ lookup_entry ∷ by_worker (Enter 0) Entered ∷ []) verdict other
+  pub no_entries : (verdict : Verdict) (other : MachineState) → ¬ IsRow 3 [] verdict other

@@ -1,0 +1,37 @@
+//! That steps and runs of the system say something: what can come next, what cannot, and that a run of the system is its program's trace.
+
+ghost use Rattle.guarantees.specs.Moves.{StepsAreMoves};
+ghost use Rattle.guarantees.specs.RunRows.{RunRows};
+ghost use Rattle.guarantees.specs.StepLaws.{StepsAreListed, MovesLeadToOne, RunsAreTraces, RunsHaveOneOutcome};
+
+/// Each step is an event that can happen, and leads to what the step says, in every state of the system in which its worker stands so and
+/// the shard answers so.
+pub fn steps_are_moves()
+    ensures { StepsAreMoves }
+{}
+
+/// What can come next is listed. An idle worker begins a run. A run whose next instruction calls nothing does that instruction. One that
+/// calls a shard which it has entered is served, with some reply, or refused; one that it has not entered it enters, or its Enter is
+/// refused. A worker whose run is over leaves one of the shards that it entered. One move leads to one state.
+pub fn steps_are_listed()
+    ensures listed { StepsAreListed }
+    ensures one { MovesLeadToOne }
+{}
+
+/// A run of the system is the trace of its program on its frame, at its time and with the worker's number that it was told, on replies of
+/// the calls' form that stand session by session among its worker's own entries: as much as `run_frame` ensures of a run.
+pub fn runs_are_traces()
+    ensures { RunsAreTraces }
+{}
+
+/// Two runs on one frame at one moment that wrote the same have one verdict and one last state. So with another verdict, another last frame
+/// or another number of instructions it is no run of the system.
+pub fn runs_have_one_outcome()
+    ensures { RunsHaveOneOutcome }
+{}
+
+/// One run of the system, computed: a program whose verdict is the frame's last byte. With another verdict or another last state it is no
+/// run, on a frame with another last byte it is none, nor without one of its entries, nor without all of them.
+pub fn runs_are_computed()
+    ensures { RunRows }
+{}
