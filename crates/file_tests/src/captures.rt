@@ -228,3 +228,29 @@ fn are_told(rt: &impl Abort, alloc: Global, rows: &[(CaptureFault, u8, &str)]) -
 fn capture_fault_texts(rt: HostRuntime) -> Result<(), Fail> {
     are_told(&rt, rt.alloc(), &FAULTS)
 }
+
+/// How many bytes a stream gives in all, and how many of its calls fail.
+fn drained(bytes: &[u8]) -> (u64, u64) {
+    let mut source = StreamSource::new(bytes);
+    let mut buffer = [0; 4096];
+    let mut count: u64 = 0;
+    'reading: for _ in 0..1_000 {
+        match source.read(&mut buffer) {
+            Ok(0) | Err(_) => return (count, source.failures()),
+            Ok(taken) => count = count.wrapping_add(taken as u64),
+        }
+    }
+    (count, source.failures())
+}
+
+#[test]
+fn a_stream_of_two_million_bytes(rt: HostRuntime) -> Result<(), Fail> {
+    let bytes = vec![in rt.alloc(); 7u8; 2_000_000]?;
+    same(
+        &rt,
+        "bytes, and failures",
+        &drained(&bytes),
+        &(2_000_000, 0),
+    );
+    Ok(())
+}

@@ -244,3 +244,42 @@ fn a_full_queue_gives_the_job_back(rt: HostRuntime) -> Result<(), OpenFault> {
     }
     Ok(())
 }
+
+// Puts a frame and takes it again, so many times. Gives how often it came at once.
+fn in_lockstep<R: Wait>(
+    rt: &R,
+    queues: &Queues,
+    who: Caller,
+    put: &mut PutPass,
+    take: &mut TakePass,
+    count: usize,
+) -> usize
+    requires queue { HasQueue (workers_of queues.now) who }
+    requires put { IsPutPassOf queues.now put.old }
+    requires take { IsTakePassOf queues.now take.old }
+    ensures put { IsPutPassOf queues.now put.new }
+    ensures take { IsTakePassOf queues.now take.new }
+{
+    'turns: for number in 0..count {
+        if queues.put(rt, who, Job::Frame(number), put).is_err() {
+            return number;
+        }
+        match queues.take(rt, take) {
+            Some(Job::Frame(taken)) if taken == number => {}
+            _ => return number,
+        }
+    }
+    count
+}
+
+/// No question for a job, whichever it is, is answered with none while there is one.
+#[test]
+fn each_of_300_takes_finds_the_job(rt: HostRuntime) -> Result<(), OpenFault> {
+    let (queues, mut put, mut takes) = Queues::open(rt.alloc(), 2)?;
+    'queues: while let Some(mut take) = last_of(&queues, &mut takes) {
+        let who = caller_at(2, takes.len());
+        let count = in_lockstep(&rt, &queues, who, &mut put, &mut take, 300);
+        same(&rt, "jobs in lockstep", &count, &300);
+    }
+    Ok(())
+}

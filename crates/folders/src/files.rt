@@ -12,6 +12,12 @@ use std::{fs, io};
 /// The most bytes that are read of a file: one that gives more has no end.
 const MOST: u64 = 1 << 40;
 
+/// The longest name that the system takes.
+const LONGEST_NAME: usize = 4096;
+
+/// What stands behind the name of a file that is not finished.
+const UNFINISHED: &str = ".unfinished";
+
 /// What was done with a file when its device failed.
 #[derive(Clone, Copy, Debug, PartialEq, Eq)]
 enum Step {
@@ -134,8 +140,8 @@ fn put_all<K: Write>(writer: &mut K, bytes: &[u8]) -> Result<(), Failure> {
     Ok(())
 }
 
-/// Makes a file of the bytes.
-fn make<R: Files>(rt: &R, name: &str, bytes: &[u8]) -> Result<(), Failure> {
+/// Makes a file of the bytes under its own name.
+fn make_in_place<R: Files>(rt: &R, name: &str, bytes: &[u8]) -> Result<(), Failure> {
     match fs::create(rt, name) {
         Ok(mut file) => put_all(&mut file, bytes),
         Err(error) => Err(Failure {
@@ -143,6 +149,82 @@ fn make<R: Files>(rt: &R, name: &str, bytes: &[u8]) -> Result<(), Failure> {
             error,
         }),
     }
+}
+
+/// Whether a name is that of nothing, or of an ordinary file that may be written: a device or a link stays what it is.
+fn may_be_replaced<R: Files>(rt: &R, name: &str) -> bool {
+    match fs::symlink_metadata(rt, name) {
+        Ok(found) => found.is_file() && !found.permissions().readonly(),
+        Err(error) => error.kind() == ErrorKind::NotFound,
+    }
+}
+
+/// Gives an unfinished file the permissions of the file that it replaces, where there is one.
+fn take_permissions<R: Files>(rt: &R, unfinished: &str, name: &str) -> io::Result<()> {
+    match fs::symlink_metadata(rt, name) {
+        Ok(found) => fs::set_permissions(rt, unfinished, found.permissions()),
+        Err(_) => Ok(()),
+    }
+}
+
+/// Gives an unfinished file the bytes, and then the name. Where that fails, it is removed.
+fn finish<R: Files>(
+    rt: &R,
+    mut file: R::File,
+    unfinished: &str,
+    name: &str,
+    bytes: &[u8],
+) -> Result<(), Failure> {
+    let done = match put_all(&mut file, bytes) {
+        Ok(()) => named(rt, unfinished, name),
+        Err(failure) => Err(failure),
+    };
+    if done.is_err() {
+        let _ = fs::remove_file(rt, unfinished);
+    }
+    done
+}
+
+/// Gives a file another name, in place of a file that has it.
+fn named<R: Files>(rt: &R, unfinished: &str, name: &str) -> Result<(), Failure> {
+    let done = match take_permissions(rt, unfinished, name) {
+        Ok(()) => fs::rename(rt, unfinished, name),
+        Err(error) => Err(error),
+    };
+    match done {
+        Ok(()) => Ok(()),
+        Err(error) => Err(Failure {
+            step: Step::Making,
+            error,
+        }),
+    }
+}
+
+/// Makes a file of the bytes: beside its name, so that whoever finds the name finds all bytes; or under its name, where that is no ordinary file's or no
+/// new file can be made beside it. Takes no memory.
+fn make<R: Files>(rt: &R, name: &str, bytes: &[u8]) -> Result<(), Failure> {
+    let mut room = [0; LONGEST_NAME];
+    let Some(unfinished) = unfinished_name(&mut room, name) else {
+        return make_in_place(rt, name, bytes);
+    };
+    if !may_be_replaced(rt, name) {
+        return make_in_place(rt, name, bytes);
+    }
+    match fs::File::create_new(rt, unfinished) {
+        Ok(file) => finish(rt, file, unfinished, name, bytes),
+        Err(_) => make_in_place(rt, name, bytes),
+    }
+}
+
+/// The name of a file while it is unfinished, if it has room.
+fn unfinished_name<'a>(room: &'a mut [u8; LONGEST_NAME], name: &str) -> Option<&'a str> {
+    let end = name.len();
+    if end > LONGEST_NAME - UNFINISHED.len() {
+        return None;
+    }
+    room[..end].copy_from_slice(name.as_bytes());
+    room[end..end + UNFINISHED.len()].copy_from_slice(UNFINISHED.as_bytes());
+    str::from_utf8(&room[..end + UNFINISHED.len()]).ok()
 }
 
 impl<R> FileFolder<'_, R> {

@@ -1,6 +1,7 @@
 //! What no clause says: that shards are opened and passes dealt with memory, and that calls by threads return.
 
 mod holding;
+mod many_shards;
 mod rows;
 mod two_workers;
 

@@ -37,7 +37,7 @@ const STRUCTURE: [Row; 5] = [
 const KINDS: [Row; 18] = [
     (V1, "exit\n", "  slot 0: exit\n  r0: unset\n  nothing is written to the register on a path that leads here from slot 0\n"),
     (V1, "mov r2, 1\nmov r0, r2\nadd r0, r7\nexit\n", "  slot 2: add r0, r7\n  r0: number 1\n  r7: unset\n  nothing is written to the register on a path"),
-    (V1, "mov r2, 1\ncall 5\nmov r3, 1\nmov r0, r2\nexit\n", "  slot 3: mov r0, r2\n  r2: unset\n  slot 1: a call leaves r1 to r5 unset"),
+    (V1, "mov r2, 1\ncall 5\nmov r3, 1\nmov r0, r2\nexit\n", "  slot 3: mov r0, r2\n  r2: unset\n  slot 1: a call leaves r1 to r5 unset, and helper 44 every pointer into the packet\n  remedy: keep what is needed later in r6 to r9 or on the stack; after helper 44 load the packet and its end again, and test anew\n"),
     (V1, "call 5\nmov r2, r1\nmov r0, 2\nexit\n", "  slot 1: mov r2, r1\n  r1: unset\n  slot 0: a call leaves r1 to r5 unset"),
     (LOOKUP, "jeq r0, 0, +0\nldxdw r3, [r0+0]\nmov r0, 2\nexit\n",
         "  slot 7: ldxdw r3, [r0+0]\n  r0: unset\n  slot 6: both edges of this jump lead to one slot"),
@@ -85,7 +85,7 @@ const PACKETS: [Row; 9] = [
 
 #[rattlefmt::skip]
 const MEMORY: [Row; 19] = [
-    (V1, "stw [r10+0], 0\nmov r0, 2\nexit\n", "  slot 0: stw [r10+0], 0\n  r10: stack r10-0\n  the stack has the 512 bytes"),
+    (V1, "stw [r10+0], 0\nmov r0, 2\nexit\n", "  slot 0: stw [r10+0], 0\n  r10: stack r10-0\n  the stack has the 512 bytes from r10-512 up to r10\n  remedy: use an offset from -512 to -1 that leaves room for the access\n"),
     (V1, "mov r2, r10\nadd r2, 1\nmov r0, 2\nexit\n", "  slot 1: add r2, 1\n  r2: stack r10-0\n  a stack pointer stays from"),
     ("version 1\nmap array 4 8 1\n", "mov r2, r10\nldmap r1, 0\ncall 1\nmov r0, 2\nexit\n",
         "  slot 3: call 1\n  r1: map 0\n  r2: stack r10-0\n  the key or the value leaves the stack\n"),
@@ -109,7 +109,7 @@ const MEMORY: [Row; 19] = [
     (V1, "ldxw r0, [r1+8]\nexit\n", "  slot 0: ldxw r0, [r1+8]\n  r1: context\n  the context has words of four bytes"),
     (V1, "stw [r10-4], 0\nmov r2, r10\nadd r2, -4\ncall 1\nexit\n", "  slot 3: call 1\n  r1: context\n  r2: stack r10-4\n  r1 of this helper is a map\n"),
     ("version 1\nmap array 4 8 1\n", "mov r2, 5\nldmap r1, 0\ncall 1\nexit\n", "  slot 3: call 1\n  r1: map 0\n  r2: number 5\n  keys and values are passed on the stack\n"),
-    (V1, "mov r2, r1\ncall 44\nexit\n", "  slot 1: call 44\n  r1: context\n  r2: context\n  this argument is a number\n"),
+    (V1, "mov r2, r1\ncall 44\nexit\n", "  slot 1: call 44\n  r1: context\n  r2: context\n  this argument is a number\n  remedy: put a number into the register (flags: 0 any, 1 new key, 2 old key)\n"),
     (V1, "stxdw [r10-8], r1\nldxw r2, [r10-8]\nmov r0, 2\nexit\n",
         "  slot 1: ldxw r2, [r10-8]\n  r10: stack r10-0\n  stack r10-8: spilled context\n  a pointer is stored and loaded only as a whole"),
     ("version 2\nmap hash 4 8 1\n", "ldval r6, 0, 0\nmov r0, 2\nexit\n", "  slot 0: ldval r6, 0, 0\n  an address in a value is loaded from arrays alone\n"),

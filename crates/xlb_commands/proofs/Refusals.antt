@@ -2,7 +2,7 @@
 use Rattle.std.proofs.Common.{◌≡◌, ℕ, List, Option, Some, None, arith}
 use Rattle.xlb_commands.specs.declared.fault.Fault.{Fault}
 use Rattle.xlb_commands.specs.Files.{FileBytes, AreKept}
-use Rattle.xlb_commands.specs.Refused.{HasFailed, IsUnserved, device_failed, lacks_memory, IsUnwritten, not_written, no_room, IsUnreported, unwritten, no_journal_room, IsFrameRefusal, no_frame_bytes, too_long, too_short, no_frame_memory}
+use Rattle.xlb_commands.specs.Refused.{HasFailed, IsUnserved, device_failed, lacks_memory, IsUnwritten, not_written, no_room, AreUnwritten, IsFrameRefusal, no_frame_bytes, too_long, too_short, no_frame_memory}
 use Rattle.xlb_commands.specs.Refused.{IsScriptRefusal, no_script_bytes, no_script, IsCaptureRefusal, no_capture_bytes, no_capture}
 
 -- one failure more, counted from before a call that did not fail
@@ -17,10 +17,10 @@ pub unwritten_since : (failed since : Type 0) (fault : Fault) → (failed → si
 unwritten_since failed since fault so (not_written unserved) = not_written (unserved_since failed since fault so unserved)
 unwritten_since failed since fault so (no_room is) = no_room is
 
-pub unreported_since : (journals : Option (List ℕ)) (failed since : Type 0) (fault : Fault) → (failed → since) → IsUnreported journals failed fault
-    → IsUnreported journals since fault
-unreported_since journals failed since fault so (unwritten is) = unwritten (unwritten_since failed since fault so is)
-unreported_since journals failed since fault so (no_journal_room name named is) = no_journal_room name named is
+pub unfiled_since : (journals : Option (List ℕ)) (failed since : Type 0) (fault : Fault) → (failed → since) → AreUnwritten journals failed fault
+    → AreUnwritten journals since fault
+unfiled_since journals failed since fault so is =
+    record { name = is.name; named = is.named; unserved = unserved_since failed since fault so is.unserved }
 
 pub frame_refusal_before : (before after : FileBytes) (failed since : Type 0) (name : List ℕ) (fault : Fault) → AreKept before after → (failed → since)
     → IsFrameRefusal after failed name fault → IsFrameRefusal before since name fault

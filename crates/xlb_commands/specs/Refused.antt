@@ -33,7 +33,7 @@ use Rattle.ebpf_decode.specs.declared.map.MapDef.{MapDef}
 use Rattle.wire.specs.FrameView.{FrameView}
 use Rattle.wire.specs.declared.records.Sent.{Sent}
 use Rattle.wire.specs.declared.capture_fault.CaptureFault.{CaptureFault}
-use Rattle.wire.specs.CaptureFormat.{Refuses as RefusesCapture}
+use Rattle.wire.specs.CaptureFormat.{Refuses as RefusesCapture, capture_bytes}
 use Rattle.semantics.specs.declared.options.Options.{Options}
 use Rattle.semantics.specs.declared.verdict.Verdict.{Verdict}
 use Rattle.semantics.specs.ShardPlan.{are_served_options}
@@ -64,7 +64,7 @@ use Rattle.command_line.specs.declared.commands.Settings.{Settings}
 use Rattle.command_line.specs.declared.commands.Settings.TheVariants.{Check, Run, Disasm, Audit, Explain, Asm, Shipped, Replay}
 use Rattle.xlb_commands.specs.declared.fault.Fault.{Fault}
 use Rattle.xlb_commands.specs.declared.fault.Fault.TheVariants as faults
-use Rattle.xlb_commands.specs.Files.{FileBytes, AreKept, IsImageFile}
+use Rattle.xlb_commands.specs.Files.{FileBytes, AreKept, AreOthersKept, IsImageFile}
 use Rattle.xlb_commands.specs.FaultLines.{fault_line, mistake_text}
 use Rattle.xlb_commands.specs.Replays.{IsProgramOf, IsScriptOf, IsCaptureOf, program_of_replay}
 use Rattle.xlb_commands.specs.Results.{IsDone, IsDoneInPart, IsReported, IsMistake, run_options, program_of_run, start_of_run}
@@ -183,11 +183,17 @@ pub data IsAuditRefusal (files : FileBytes) (failed : Type 0) (name journals : L
   no_verdict : (told : JournalsView) → AreJournalsOf files name journals told → AreLegal told → fault ≡ faults.Memory
       → IsAuditRefusal files failed name journals fault
 
--- What a run or a replay leaves was not written or not told. Where a file is named for the journals, memory may have been refused for their bytes, which
--- has the fault of journals.
-pub data IsUnreported (journals : Option (List ℕ)) (failed : Type 0) (fault : Fault) : Type 0 where
-  unwritten : IsUnwritten failed fault → IsUnreported journals failed fault
-  no_journal_room : (name : List ℕ) → journals ≡ Some name → fault ≡ faults.Journals journal_faults.Memory → IsUnreported journals failed fault
+-- Memory was refused for what a run or a replay is to write or to print. Where a file is named for the journals, it may have been refused for their bytes,
+-- which has the fault of journals.
+pub data LacksRoom (journals : Option (List ℕ)) (fault : Fault) : Type 0 where
+  no_report_room : fault ≡ faults.Memory → LacksRoom journals fault
+  no_journal_room : (name : List ℕ) → journals ≡ Some name → fault ≡ faults.Journals journal_faults.Memory → LacksRoom journals fault
+
+-- a file is named for the journals, and was not written
+pub record AreUnwritten (journals : Option (List ℕ)) (failed : Type 0) (fault : Fault) : Type 0 where
+  pub name : List ℕ
+  pub named : journals ≡ Some name
+  pub unserved : IsUnserved failed fault
 
 -- ---- runs
 
@@ -229,8 +235,8 @@ pub record IsEndedRun (program : Contents) (bytes : List ℕ) (now worker : ℕ)
   pub journals : JournalsView
   pub ended : HasRunAlone (program_of_run program) (start_of_run bytes worker now) run_options worker updates verdict steps frame journals
 
--- xlb run: no program that may run; no frame; a worker that there is not; no run; one that was stopped, and until then no file changed; or one that came to
--- its end, whose journals were not written or for whose lines memory was refused
+-- xlb run: no program that may run; no frame; a worker that there is not; no run; one that was stopped; one that came to its end, and memory was refused
+-- for its journals or its lines; until then no file changed; or its journals were not written
 pub data IsRunRefusal (files after : FileBytes) (failed : Type 0) (run : RunFiles) (now worker : ℕ) (updates : List MapUpdate) (fault : Fault) : Type 0 where
   no_run_program : AreKept files after → IsProgramRefusal files failed run.image.now fault → IsRunRefusal files after failed run now worker updates fault
   no_run_frame : AreKept files after → IsFittingProgram files run.image.now updates → IsFrameRefusal files failed run.frame.now fault
@@ -241,9 +247,11 @@ pub data IsRunRefusal (files after : FileBytes) (failed : Type 0) (run : RunFile
       → IsRunFault program.maps updates fault → IsRunRefusal files after failed run now worker updates fault
   stopped : (program : Contents) (bytes : List ℕ) (stop : Stop) → AreKept files after → AreRunInputs files run updates program bytes → worker < 8
       → IsStoppedRun program bytes now worker updates stop → fault ≡ faults.Run stop → IsRunRefusal files after failed run now worker updates fault
-  not_told : (program : Contents) (bytes : List ℕ) → AreRunInputs files run updates program bytes → worker < 8
-      → IsEndedRun program bytes now worker updates → IsUnreported (text_of run.journals) failed fault →
-      IsRunRefusal files after failed run now worker updates fault
+  not_told : (program : Contents) (bytes : List ℕ) → AreKept files after → AreRunInputs files run updates program bytes → worker < 8
+      → IsEndedRun program bytes now worker updates → LacksRoom (text_of run.journals) fault → IsRunRefusal files after failed run now worker updates fault
+  not_filed : (program : Contents) (bytes : List ℕ) → AreRunInputs files run updates program bytes → worker < 8
+      → IsEndedRun program bytes now worker updates → AreUnwritten (text_of run.journals) failed fault
+      → IsRunRefusal files after failed run now worker updates fault
 
 -- ---- replays
 
@@ -307,8 +315,15 @@ pub record AreReplayInputs (files : FileBytes) (names : ReplayFiles) (ring : ℕ
 abbrev pub IsGivenUp : List MapDef → List Command → Options → ReplayFault → Type 0
 IsGivenUp maps script options why = (why ≡ replays.BadOptions) ↔ (IsFalse (are_served_options maps options) ⊎ HasNoTable maps script)
 
--- xlb replay: no program that may run; no script; no capture; a replay that was given up, and until then no file changed; or one that was made, whose sent
--- frames or journals were not written or for whose report memory was refused
+-- The files of a replay were not written: that of the sent frames, and no other file changed; or that of the journals, and the sent frames stand in theirs,
+-- unless both have one name.
+pub data AreUnfiled (before after : FileBytes) (failed : Type 0) (names : ReplayFiles) (sent : List ℕ) (fault : Fault) : Type 0 where
+  no_sent_file : AreOthersKept before after names.sent.now → IsUnserved failed fault → AreUnfiled before after failed names sent fault
+  no_journals_file : (text_of names.journals ≢ Some names.sent.now → after names.sent.now sent) → AreUnwritten (text_of names.journals) failed fault
+      → AreUnfiled before after failed names sent fault
+
+-- xlb replay: no program that may run; no script; no capture; a replay that was given up; one that was made, and memory was refused for its sent frames,
+-- its journals or its report; until then no file changed; or its files were not written
 pub data IsReplayRefusal (files after : FileBytes) (failed : Type 0) (names : ReplayFiles) (options : Options) (ring : ℕ) (fault : Fault) : Type 0 where
   no_replay_program : AreKept files after → IsReplayProgramRefusal files failed (text_of names.image) ring fault
       → IsReplayRefusal files after failed names options ring fault
@@ -320,9 +335,12 @@ pub data IsReplayRefusal (files after : FileBytes) (failed : Type 0) (names : Re
   given_up : (program : Contents) (script : List Command) (records : List Sent) (why : ReplayFault) → AreKept files after
       → AreReplayInputs files names ring program script records → IsGivenUp program.maps script options why → fault ≡ faults.Replay why
       → IsReplayRefusal files after failed names options ring fault
+  not_reported : (program : Contents) (script : List Command) (records : List Sent) (outcome : Outcome) → AreKept files after
+      → AreReplayInputs files names ring program script records → IsAccounted (program_of_replay program options) script options records outcome
+      → LacksRoom (text_of names.journals) fault → IsReplayRefusal files after failed names options ring fault
   not_written_down : (program : Contents) (script : List Command) (records : List Sent) (outcome : Outcome)
       → AreReplayInputs files names ring program script records → IsAccounted (program_of_replay program options) script options records outcome
-      → IsUnreported (text_of names.journals) failed fault → IsReplayRefusal files after failed names options ring fault
+      → AreUnfiled files after failed names (capture_bytes outcome.sent.items) fault → IsReplayRefusal files after failed names options ring fault
 
 -- ---- commands
 

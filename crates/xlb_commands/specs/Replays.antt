@@ -49,10 +49,14 @@ pub record IsCaptureOf (files : FileBytes) (name : List ℕ) (records : List Sen
 
 -- ---- what is written
 
+-- the file has these bytes, where one is named
+abbrev pub HasBytes : FileBytes → Option (List ℕ) → List ℕ → Type 0
+HasBytes files (Some name) bytes = files name bytes
+HasBytes files None bytes = Unit {0}
+
 -- the file has the text of the journals, where one is named
 abbrev pub AreWritten : FileBytes → Option (List ℕ) → JournalsView → Type 0
-AreWritten files (Some name) journals = files name (journals_text journals)
-AreWritten files None journals = Unit {0}
+AreWritten files name journals = HasBytes files name (journals_text journals)
 
 -- ---- the report
 

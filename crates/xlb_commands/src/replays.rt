@@ -1,6 +1,6 @@
 //! What `xlb replay` does with its files.
 
-ghost use Rattle.std.specs.Prelude.{◌≡◌, ◌==◌, ◌↔◌, ◌+◌, ◌-◌, ◌<◌, ◌≤◌, ◌^◌, ℕ, [], true, false, List, IfErr, IfOk, OnOk, length, string_bytes};
+ghost use Rattle.std.specs.Prelude.{◌≡◌, ◌≢◌, ◌==◌, ◌↔◌, ◌+◌, ◌++◌, ◌-◌, ◌<◌, ◌≤◌, ◌^◌, ℕ, [], true, false, List, Some, IfErr, IfOk, OnOk, length, string_bytes};
 ghost use Rattle.semantics.specs.Safety.{IsSafeImage};
 ghost use Rattle.wire.specs.CaptureFormat.{IsCaptureFile, capture_bytes};
 ghost use Rattle.control.specs.ScriptText.{IsScriptText};
@@ -9,23 +9,25 @@ ghost use Rattle.control.specs.declared.command.Command.{Command};
 ghost use Rattle.control.specs.declared.fault.ControlFault.{ControlFault};
 ghost use Rattle.control.specs.declared.fault.ControlFault.TheVariants as scripts;
 ghost use Rattle.replay.specs.declared.applied.Applied.{Applied as Noted};
+ghost use Rattle.replay.specs.Accounts.{frames_in};
+ghost use Rattle.journals.specs.JournalText.{journals_text};
 ghost use Rattle.command_line.specs.Reading.{text_of};
-ghost use Rattle.xlb_commands.specs.Files.{AreKept, AreOthersKept, AreAllButKept};
-ghost use Rattle.xlb_commands.specs.Refused.{HasFailed, IsUnwritten, IsReplayProgramRefusal, IsScriptFileRefusal, IsScriptRefusal};
+ghost use Rattle.xlb_commands.specs.Files.{AreKept, AreAllButKept};
+ghost use Rattle.xlb_commands.specs.Refused.{HasFailed, LacksRoom, AreUnfiled, IsReplayProgramRefusal, IsScriptFileRefusal, IsScriptRefusal};
 ghost use Rattle.xlb_commands.specs.Refused.{IsNoCapture, IsCaptureRefusal, IsReplayRefusal};
-ghost use Rattle.xlb_commands.specs.Replays.{IsProgramOf, IsScriptOf, IsScriptFile, IsCaptureOf, IsReplayed};
+ghost use Rattle.xlb_commands.specs.Replays.{IsProgramOf, IsScriptOf, IsScriptFile, IsCaptureOf, IsReplayed, HasBytes, counts_text, refusals_text};
 
-use crate::commands::{bytes_of, judged_of, unserved};
+use crate::commands::{bytes_of, judged_of};
 use crate::fault::{Fault, Refusal};
 use crate::hints;
 use crate::progress::{Progress, Rounds};
 use crate::report::{Report, replayed};
 use crate::shipping::shipped_program;
-use crate::written::write_journals_to;
+use crate::written::{journal_bytes, write_journals_to, write_to};
 use command_line::ReplayFiles;
 use control::{Script, parse_script};
 use folders::Folder;
-use replay::replay;
+use replay::{Outcome, replay};
 use semantics::Options;
 use std::alloc::{AllocError, Global};
 use std::sync::Wait;
@@ -151,28 +153,59 @@ fn bytes_of_frames(alloc: Global, frames: &[Sent]) -> Result<MemorySink, AllocEr
     }
 }
 
-/// Writes the sent frames to their file.
-fn write_sent<D: Folder>(
+/// What a replay leaves, in memory: the bytes of its files, and its report.
+#[derive(Drop)]
+struct Leavings {
+    sent: MemorySink,
+    journals: MemorySink,
+    report: Report,
+}
+
+/// What a replay of so many frames leaves. The bytes of the journals are made where a file is named for them.
+fn left_of(
+    alloc: Global,
+    frames: usize,
+    outcome: &Outcome,
+    journals: Option<&str>,
+) -> Result<Leavings, Refusal>
+    requires { frames ≡ frames_in outcome.now.counts }
+    ensures sent { IfOk result (λ left. left.sent.bytes ≡ capture_bytes outcome.now.sent.items) }
+    ensures journals { IfOk result (λ left. (file : List ℕ) → text_of journals.entry ≡ Some file → left.journals.bytes ≡ journals_text outcome.now.journals) }
+    ensures text { IfOk result (λ left. string_bytes left.report.text ≡ counts_text outcome.now.counts ++ refusals_text outcome.now.refused.items) }
+    ensures whole { IfOk result (λ left. (outcome.now.refused.items ≡ []) ↔ (left.report.is_refused ≡ false)) }
+    ensures refused { IfErr result (λ refusal. LacksRoom (text_of journals.entry) refusal.fault) }
+{
+    let sent = bytes_of_frames(alloc, &outcome.sent)?;
+    let journals = journal_bytes(alloc, journals, &outcome.journals)?;
+    let report = replayed(alloc, frames, outcome.counts, &outcome.refused)?;
+    Ok(Leavings {
+        sent,
+        journals,
+        report,
+    })
+}
+
+/// Writes the files of a replay: the sent frames, and after them the journals, where a file is named for them.
+fn write_files<D: Folder>(
     alloc: Global,
     folder: &mut D,
-    name: &str,
-    frames: &[Sent],
+    files: &ReplayFiles<'_>,
+    left: &Leavings,
 ) -> Result<(), Refusal>
     requires { D.failure_count folder.old < 2 ^ 64 - 1 }
-    ensures written { OnOk result (D.holds folder.new name.now (capture_bytes frames.now)) }
-    ensures others { AreOthersKept (D.holds folder.old) (D.holds folder.new) name.now }
-    ensures steady { OnOk result (D.failure_count folder.new ≡ D.failure_count folder.old) }
-    ensures refused { IfErr result (λ refusal. IsUnwritten (HasFailed (D.failure_count folder.old) (D.failure_count folder.new)) refusal.fault) }
+    ensures sent { OnOk result (text_of files.now.journals ≢ Some files.now.sent.now → D.holds folder.new files.now.sent.now left.now.sent.bytes) }
+    ensures journals { OnOk result (HasBytes (D.holds folder.new) (text_of files.now.journals) left.now.journals.bytes) }
+    ensures others { AreAllButKept (D.holds folder.old) (D.holds folder.new) files.now.sent.now (text_of files.now.journals) }
+    ensures refused { IfErr result (λ refusal. AreUnfiled (D.holds folder.old) (D.holds folder.new)
+        (HasFailed (D.failure_count folder.old) (D.failure_count folder.new)) files.now left.now.sent.bytes refusal.fault) }
 {
-    let file = bytes_of_frames(alloc, frames)?;
-    match folder.write(alloc, name, file.bytes()) {
-        Ok(()) => Ok(()),
-        Err(fault) => Err(unserved(alloc, folder, name, fault)),
-    }
+    write_to(alloc, folder, files.sent, &left.sent)?;
+    write_journals_to(alloc, folder, files.journals, &left.journals)
 }
 
 /// Runs the frames of a capture, and writes those that are sent, the journals where a file is named for them, and a report. All input is read and
-/// checked before anything starts: the image, the script, the capture, then the options. No file is made where one is refused.
+/// checked before anything starts: the image, the script, the capture, then the options. No file is made where one is refused, nor where memory is
+/// refused for anything that is written or printed.
 pub fn replay_files<R: Threads + Wait + Sync, D: Folder, P: Progress + Sync>(
     rt: &R,
     alloc: Global,
@@ -198,8 +231,7 @@ pub fn replay_files<R: Threads + Wait + Sync, D: Folder, P: Progress + Sync>(
         Ok(outcome) => outcome,
         Err(fault) => return Err(Refusal::from(Fault::Replay(fault))),
     };
-    write_sent(alloc, folder, files.sent, &outcome.sent)?;
-    write_journals_to(alloc, folder, files.journals, &outcome.journals)?;
-    let frames = capture.records.len();
-    Ok(replayed(alloc, frames, outcome.counts, &outcome.refused)?)
+    let left = left_of(alloc, capture.records.len(), &outcome, files.journals)?;
+    write_files(alloc, folder, files, &left)?;
+    Ok(left.report)
 }

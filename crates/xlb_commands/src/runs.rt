@@ -12,7 +12,7 @@ ghost use Rattle.xlb_commands.specs.Refused.{HasFailed, IsRunFault, IsRunRefusal
 use crate::commands::{frame_of, judged_of};
 use crate::fault::{Fault, Refusal};
 use crate::report::outcome;
-use crate::written::write_journals_to;
+use crate::written::{journal_bytes, write_journals_to};
 use command_line::RunFiles;
 use control::ControlFault;
 use ebpf_decode::MapDef;
@@ -88,8 +88,10 @@ pub fn run_once<D: Folder>(
         Ok(exit) => exit,
         Err(stop) => return Err(Refusal::from(Fault::Run(stop))),
     };
-    write_journals_to(alloc, folder, files.journals, &journals)?;
-    Ok(RunAnswer::Printed(outcome(alloc, exit, &frame)?))
+    let file = journal_bytes(alloc, files.journals, &journals)?;
+    let text = outcome(alloc, exit, &frame)?;
+    write_journals_to(alloc, folder, files.journals, &file)?;
+    Ok(RunAnswer::Printed(text))
 }
 
 /// The maps of an accepted image.

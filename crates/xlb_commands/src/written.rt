@@ -1,12 +1,12 @@
 //! Journals, written to a file.
 
-ghost use Rattle.std.specs.Prelude.{◌≡◌, ◌==◌, ◌-◌, ◌<◌, ◌^◌, Some, IfErr, IfOk, OnOk};
+ghost use Rattle.std.specs.Prelude.{◌≡◌, ◌-◌, ◌<◌, ◌^◌, List, ℕ, Some, IfErr, IfOk, OnOk};
 ghost use Rattle.journals.specs.JournalText.{journals_text};
 ghost use Rattle.journals.specs.declared.fault.FileFault.TheVariants as no_room;
 ghost use Rattle.command_line.specs.Reading.{text_of};
 ghost use Rattle.xlb_commands.specs.Files.{AreAllKeptBut, AreOthersKept};
-ghost use Rattle.xlb_commands.specs.Refused.{HasFailed, IsUnreported};
-ghost use Rattle.xlb_commands.specs.Replays.{AreWritten};
+ghost use Rattle.xlb_commands.specs.Refused.{HasFailed, IsUnserved, AreUnwritten, LacksRoom};
+ghost use Rattle.xlb_commands.specs.Replays.{HasBytes};
 
 use crate::commands::unserved;
 use crate::fault::{Fault, Refusal};
@@ -27,41 +27,55 @@ fn bytes_of_journals(alloc: Global, journals: &Journals) -> Result<MemorySink, R
     }
 }
 
-/// Writes the journals to their file.
-fn write_to<D: Folder>(
+/// The bytes of the file of these journals, where one is named; else none.
+pub(crate) fn journal_bytes(
+    alloc: Global,
+    name: Option<&str>,
+    journals: &Journals,
+) -> Result<MemorySink, Refusal>
+    ensures bytes { IfOk result (λ sink. (file : List ℕ) → text_of name.entry ≡ Some file → sink.bytes ≡ journals_text journals.now) }
+    ensures refused { IfErr result (λ refusal. LacksRoom (text_of name.entry) refusal.fault) }
+{
+    match name {
+        Some(_) => bytes_of_journals(alloc, journals),
+        None => Ok(MemorySink::new(alloc)),
+    }
+}
+
+/// Writes a file.
+pub(crate) fn write_to<D: Folder>(
     alloc: Global,
     folder: &mut D,
     name: &str,
-    journals: &Journals,
+    file: &MemorySink,
 ) -> Result<(), Refusal>
     requires { D.failure_count folder.old < 2 ^ 64 - 1 }
-    ensures written { OnOk result (D.holds folder.new name.now (journals_text journals.now)) }
+    ensures written { OnOk result (D.holds folder.new name.now file.now.bytes) }
     ensures others { AreOthersKept (D.holds folder.old) (D.holds folder.new) name.now }
-    ensures refused { IfErr result (λ refusal. IsUnreported (Some name.now) (HasFailed (D.failure_count folder.old)
-        (D.failure_count folder.new)) refusal.fault) }
+    ensures steady { OnOk result (D.failure_count folder.new ≡ D.failure_count folder.old) }
+    ensures refused { IfErr result (λ refusal. IsUnserved (HasFailed (D.failure_count folder.old) (D.failure_count folder.new)) refusal.fault) }
 {
-    let file = bytes_of_journals(alloc, journals)?;
     match folder.write(alloc, name, file.bytes()) {
         Ok(()) => Ok(()),
         Err(fault) => Err(unserved(alloc, folder, name, fault)),
     }
 }
 
-/// Writes the journals, where a file is named for them.
+/// Writes the file of the journals, where one is named.
 pub(crate) fn write_journals_to<D: Folder>(
     alloc: Global,
     folder: &mut D,
     name: Option<&str>,
-    journals: &Journals,
+    file: &MemorySink,
 ) -> Result<(), Refusal>
     requires { D.failure_count folder.old < 2 ^ 64 - 1 }
-    ensures written { OnOk result (AreWritten (D.holds folder.new) (text_of name.entry) journals.now) }
+    ensures written { OnOk result (HasBytes (D.holds folder.new) (text_of name.entry) file.now.bytes) }
     ensures others { AreAllKeptBut (D.holds folder.old) (D.holds folder.new) (text_of name.entry) }
-    ensures refused { IfErr result (λ refusal. IsUnreported (text_of name.entry)
+    ensures refused { IfErr result (λ refusal. AreUnwritten (text_of name.entry)
         (HasFailed (D.failure_count folder.old) (D.failure_count folder.new)) refusal.fault) }
 {
     match name {
-        Some(name) => write_to(alloc, folder, name, journals),
+        Some(name) => write_to(alloc, folder, name, file),
         None => Ok(()),
     }
 }

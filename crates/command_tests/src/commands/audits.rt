@@ -69,7 +69,7 @@ const CELLS: [Row; 20] = [
 
 /// Numbers of the right form that no map serves, and shards of a map in parts.
 #[rattlefmt::skip]
-const NUMBERS: [Row; 14] = [
+const NUMBERS: [Row; 15] = [
     ("a load off its alignment",      "array 4 8 1", "1 1 16", "0 w0 enter ok\n0 w0 lookup 00000000 cell 0\n0 w0 load 0 3 4 word 0\n", ""),
     ("three bytes",                   "array 4 8 1", "1 1 16", "0 w0 enter ok\n0 w0 lookup 00000000 cell 0\n0 w0 load 0 0 3 word 0\n", "0 place 2"),
     ("past the value",                "array 4 8 1", "1 1 16", "0 w0 enter ok\n0 w0 lookup 00000000 cell 0\n0 w0 load 0 5 4 word 0\n", "0 place 2"),
@@ -83,6 +83,7 @@ const NUMBERS: [Row; 14] = [
     ("two parts",                     "array 4 8 2", "1 2 16", "0 w0 enter ok\n0 w0 lookup 00000000 cell 0\n1 w0 enter ok\n1 w0 lookup 01000000 cell 0\n", ""),
     ("a key of the other part",       "array 4 8 2", "1 2 16", "0 w0 enter ok\n0 w0 lookup 00000000 cell 0\n1 w0 enter ok\n1 w0 lookup 00000000 cell 0\n", "1 place 1"),
     ("the second shard's first",      "array 4 8 2", "1 2 16", "1 w0 leave ok\n", "1 place 0"),
+    ("the most journals",             "hash 4 8 8\nmap hash 4 8 8\nmap hash 4 8 8\nmap hash 4 8 8\nmap hash 4 8 8\nmap hash 4 8 8\nmap hash 4 8 8\nmap hash 4 8 8\nmap hash 4 8 8\nmap hash 4 8 8\nmap hash 4 8 8\nmap hash 4 8 8\nmap hash 4 8 8\nmap hash 4 8 8\nmap hash 4 8 8\nmap hash 4 8 8", "1 8 16", "127 w0 enter ok\n", ""),
     ("the first shard's goes before", "array 4 8 2", "1 2 16", "0 w0 enter ok\n0 w0 enter ok\n1 w0 leave ok\n", "0 place 1"),
 ];
 

@@ -1,31 +1,34 @@
-use Rattle.std.proofs.Common.{◌≡◌, ◌≢◌, ◌↔◌, ℕ, List, Option, Some, None, Result, Err, ap, sym, subst}
+use Rattle.std.proofs.Common.{◌≡◌, ◌≢◌, ◌↔◌, ℕ, List, Option, Some, None, Result, Err, ap, refl, subst}
 use Rattle.std.proofs.lemmas.Result.{err_from_is_err_and}
 use Rattle.ebpf_decode.specs.ImageContents.{Contents}
-use Rattle.wire.specs.CaptureFormat.{capture_bytes}
 use Rattle.wire.specs.declared.records.Sent.{Sent}
 use Rattle.control.specs.declared.command.Command.{Command}
+use Rattle.journals.specs.JournalsView.{JournalsView}
+use Rattle.journals.specs.JournalText.{journals_text}
 use Rattle.replay.specs.declared.fault.ReplayFault.{ReplayFault}
 use Rattle.command_line.specs.declared.commands.ReplayFiles.{ReplayFiles}
 use Rattle.command_line.specs.Reading.{text_of}
-use Rattle.xlb_commands.specs.Replays.{IsScriptOf, IsCaptureOf}
-use Rattle.xlb_commands.specs.Refused.{IsReplayProgram, AreReplayInputs, no_replay_program, no_replay_script, no_replay_capture, given_up, not_written_down, unwritten, no_room}
-use Rattle.xlb_commands.proofs.Refusals.{kept_twice, failed_since, unwritten_since, unreported_since, script_refusal_before, capture_refusal_before}
+use Rattle.xlb_commands.specs.declared.fault.Fault.{Fault}
+use Rattle.xlb_commands.specs.Replays.{IsScriptOf, IsCaptureOf, HasBytes, AreWritten}
+use Rattle.xlb_commands.specs.Refused.{IsReplayProgram, AreReplayInputs, no_replay_program, no_replay_script, no_replay_capture, given_up, not_reported, not_written_down}
+use Rattle.xlb_commands.specs.Refused.{AreUnfiled, no_sent_file, no_journals_file}
+use Rattle.xlb_commands.proofs.Refusals.{kept_twice, failed_since, unserved_since, unfiled_since, script_refusal_before, capture_refusal_before}
 use Rattle.xlb_commands.specs.Files.{FileBytes, AreKept, AreOthersKept, AreAllButKept}
 use Rattle.xlb_commands.proofs.replays.replay_files.Goals as goal
 
--- after three readings and a writing
+-- after three readings and what is written
+all_but_kept : (a b c d e : FileBytes) (sent : List ℕ) (journals : Option (List ℕ)) → AreKept a b → AreKept b c → AreKept c d
+    → AreAllButKept d e sent journals → AreAllButKept a e sent journals
+all_but_kept a b c d e sent journals first second third last = λ name bytes not_sent not_journals. (
+  (λ had. (last name bytes not_sent not_journals).0 ((third name bytes).0 ((second name bytes).0 ((first name bytes).0 had)))),
+  (λ has. (first name bytes).1 ((second name bytes).1 ((third name bytes).1 ((last name bytes not_sent not_journals).1 has)))),
+)
+
+-- the same of one name alone
 others_kept : (a b c d e : FileBytes) (sent : List ℕ) → AreKept a b → AreKept b c → AreKept c d → AreOthersKept d e sent → AreOthersKept a e sent
 others_kept a b c d e sent first second third last = λ name bytes other. (
   (λ had. (last name bytes other).0 ((third name bytes).0 ((second name bytes).0 ((first name bytes).0 had)))),
   (λ has. (first name bytes).1 ((second name bytes).1 ((third name bytes).1 ((last name bytes other).1 has)))),
-)
-
--- and after one more
-all_but_kept : (a b c : FileBytes) (sent : List ℕ) (journals : Option (List ℕ)) → AreOthersKept a b sent
-    → ((file bytes : List ℕ) → journals ≢ Some file → (b file bytes ↔ c file bytes)) → AreAllButKept a c sent journals
-all_but_kept a b c sent journals before later = λ name bytes not_sent not_journals. (
-  (λ had. (later name bytes not_journals).0 ((before name bytes not_sent).0 had)),
-  (λ has. (before name bytes not_sent).1 ((later name bytes not_journals).1 has)),
 )
 
 -- what was read after others is what stood there before
@@ -37,55 +40,49 @@ capture_before : (a b c : FileBytes) → AreKept a b → AreKept b c → (name :
 capture_before a b c first second name records is =
     record { bytes = is.bytes; read = (first name is.bytes).1 ((second name is.bytes).1 is.read); spelled = is.spelled }
 
--- before it
-others_are_all_but_kept : (a b : FileBytes) (sent : List ℕ) (journals : Option (List ℕ)) → AreOthersKept a b sent → AreAllButKept a b sent journals
-others_are_all_but_kept a b sent journals before = λ name bytes not_sent not_journals. before name bytes not_sent
+-- where a file is named for the journals, it has their text
+written : (files : FileBytes) (name : Option (List ℕ)) (bytes : List ℕ) (journals : JournalsView)
+    → ((file : List ℕ) → name ≡ Some file → bytes ≡ journals_text journals) → HasBytes files name bytes → AreWritten files name journals
+written files None bytes journals same has = has
+written files (Some file) bytes journals same has = subst (λ (it : List ℕ). files file it) (same file refl) has
 
-pub returns-in_err-write_sent-clause-kept : goal.returns-in_err-write_sent-clause-kept
-returns-in_err-write_sent-clause-kept g c =
-    others_are_all_but_kept _ _ _ _
-    (others_kept _ _ _ _ _ _ c.program_of.ensures.kept c.script_of.ensures.kept c.capture_of.ensures.kept c.write_sent.ensures.others)
+-- of the files that were not written it does not matter what stood there before the readings
+unfiled_before : (a b c d e : FileBytes) (failed since : Type 0) (names : ReplayFiles) (sent : List ℕ) (fault : Fault) → AreKept a b → AreKept b c
+    → AreKept c d → (failed → since) → AreUnfiled d e failed names sent fault → AreUnfiled a e since names sent fault
+unfiled_before a b c d e failed since names sent fault first second third so (no_sent_file others unserved) =
+    no_sent_file (others_kept a b c d e names.sent.now first second third others) (unserved_since failed since fault so unserved)
+unfiled_before a b c d e failed since names sent fault first second third so (no_journals_file stands unwritten) =
+    no_journals_file stands (unfiled_since (text_of names.journals) failed since fault so unwritten)
 
-pub returns-in_err-write_journals_to-clause-kept : goal.returns-in_err-write_journals_to-clause-kept
-returns-in_err-write_journals_to-clause-kept g c =
-    all_but_kept _ _ _ _ _
-    (others_kept _ _ _ _ _ _ c.program_of.ensures.kept c.script_of.ensures.kept c.capture_of.ensures.kept c.write_sent.ensures.others)
-    c.write_journals_to.ensures.others
-
-pub returns-in_err-replayed-clause-kept : goal.returns-in_err-replayed-clause-kept
-returns-in_err-replayed-clause-kept g c =
-    all_but_kept _ _ _ _ _
-    (others_kept _ _ _ _ _ _ c.program_of.ensures.kept c.script_of.ensures.kept c.capture_of.ensures.kept c.write_sent.ensures.others)
-    c.write_journals_to.ensures.others
+pub returns-in_err-write_files-clause-kept : goal.returns-in_err-write_files-clause-kept
+returns-in_err-write_files-clause-kept g c =
+    all_but_kept _ _ _ _ _ _ _ c.program_of.ensures.kept c.script_of.ensures.kept c.capture_of.ensures.kept c.write_files.ensures.others
 
 pub returns-clause-done : goal.returns-clause-done
-returns-clause-done g c =
-    let sent = subst (λ (frames : List Sent). g.D.Folder.holds c.write_sent.new.folder c.args.files.now.sent.now (capture_bytes frames)) c.deref.ensures.value
-    c.in_ok-write_sent.ensures.written in (
-      c.deref-2.result.now,
-      record {
-        program = record { version = c.in_ok-verified.verified.version; maps = c.in_ok-verified.verified.maps; code = c.in_ok-verified.verified.code };
-        program_is = c.in_ok-verified.ensures.program;
-        safe = c.in_ok-verified.ensures.safe;
-        script = c.in_ok-script.script;
-        script_is = script_before _ _ c.program_of.ensures.kept _ _ c.in_ok-script.ensures.script;
-        records = c.in_ok-capture.capture.records.items;
-        capture = capture_before _ _ _ c.program_of.ensures.kept c.script_of.ensures.kept _ _ c.in_ok-capture.ensures.capture;
-        outcome = c.in-Ok.outcome;
-        accounted = c.in-Ok.ensures.accounted;
-        refused_are = sym c.deref-2.ensures.value;
-        sent = λ other. (c.write_journals_to.ensures.others _ _ other).0 sent;
-        journals = c.in_ok-write_journals_to.ensures.written;
-        lines = c.in_ok-replayed.ensures.text;
-      },
-      c.in_ok-replayed.ensures.refused,
-    )
+returns-clause-done g c = (
+  c.in-Ok.outcome.refused.items,
+  record {
+    program = record { version = c.in_ok-verified.verified.version; maps = c.in_ok-verified.verified.maps; code = c.in_ok-verified.verified.code };
+    program_is = c.in_ok-verified.ensures.program;
+    safe = c.in_ok-verified.ensures.safe;
+    script = c.in_ok-script.script;
+    script_is = script_before _ _ c.program_of.ensures.kept _ _ c.in_ok-script.ensures.script;
+    records = c.in_ok-capture.capture.records.items;
+    capture = capture_before _ _ _ c.program_of.ensures.kept c.script_of.ensures.kept _ _ c.in_ok-capture.ensures.capture;
+    outcome = c.in-Ok.outcome;
+    accounted = c.in-Ok.ensures.accounted;
+    refused_are = refl;
+    sent = λ other. subst (λ (it : List ℕ). g.D.Folder.holds c.write_files.new.folder c.args.files.now.sent.now it) c.in_ok-left.ensures.sent
+        (c.in_ok-write_files.ensures.sent other);
+    journals = written _ _ _ _ c.in_ok-left.ensures.journals c.in_ok-write_files.ensures.journals;
+    lines = c.in_ok-left.ensures.text;
+  },
+  c.in_ok-left.ensures.whole,
+)
 
 pub returns-clause-kept : goal.returns-clause-kept
 returns-clause-kept g c =
-    all_but_kept _ _ _ _ _
-    (others_kept _ _ _ _ _ _ c.program_of.ensures.kept c.script_of.ensures.kept c.capture_of.ensures.kept c.write_sent.ensures.others)
-    c.write_journals_to.ensures.others
+    all_but_kept _ _ _ _ _ _ _ c.program_of.ensures.kept c.script_of.ensures.kept c.capture_of.ensures.kept c.write_files.ensures.others
 
 -- what was read: the program, and after it the script and the capture
 inputs : (a b c : FileBytes) (names : ReplayFiles) (ring : ℕ) (program : Contents) (script : List Command) (records : List Sent) → AreKept a b → AreKept b c
@@ -144,45 +141,30 @@ returns-in-Err-clause-refused g c =
     ((λ e. why.0 (ap (λ (fault : ReplayFault). Err fault) e)), (λ broken. same_fault _ _ (why.1 broken)))
     c.from.ensures
 
-pub returns-in_err-write_sent-clause-refused : goal.returns-in_err-write_sent-clause-refused
-returns-in_err-write_sent-clause-refused g c =
+pub returns-in_err-left-clause-refused : goal.returns-in_err-left-clause-refused
+returns-in_err-left-clause-refused g c =
     let program : Contents =
     record { version = c.in_ok-verified.verified.version; maps = c.in_ok-verified.verified.maps; code = c.in_ok-verified.verified.code } in
-    let p = err_from_is_err_and c.from_residual-in_err-write_sent.result c.from_residual-in_err-write_sent.ensures.1 in
+    let p = err_from_is_err_and c.from_residual-in_err-left.result c.from_residual-in_err-left.ensures.1 in
+    rw (p.1, p.2)
+    (not_reported program c.in_ok-script.script c.in_ok-capture.capture.records.items c.in-Ok.outcome
+    (kept_twice _ _ _ (kept_twice _ _ _ c.program_of.ensures.kept c.script_of.ensures.kept) c.capture_of.ensures.kept)
+    (inputs _ _ _ c.args.files.now c.args.ring program _ _ c.program_of.ensures.kept c.script_of.ensures.kept
+    (record { is = c.in_ok-verified.ensures.program; safe = c.in_ok-verified.ensures.safe }) c.in_ok-script.ensures.script c.in_ok-capture.ensures.capture)
+    c.in-Ok.ensures.accounted c.in_err-left.ensures.refused)
+
+pub returns-in_err-write_files-clause-refused : goal.returns-in_err-write_files-clause-refused
+returns-in_err-write_files-clause-refused g c =
+    let program : Contents =
+    record { version = c.in_ok-verified.verified.version; maps = c.in_ok-verified.verified.maps; code = c.in_ok-verified.verified.code } in
+    let p = err_from_is_err_and c.from_residual-in_err-write_files.result c.from_residual-in_err-write_files.ensures.1 in
     rw (p.1, p.2)
     (not_written_down program c.in_ok-script.script c.in_ok-capture.capture.records.items c.in-Ok.outcome
     (inputs _ _ _ c.args.files.now c.args.ring program _ _ c.program_of.ensures.kept c.script_of.ensures.kept
     (record { is = c.in_ok-verified.ensures.program; safe = c.in_ok-verified.ensures.safe }) c.in_ok-script.ensures.script c.in_ok-capture.ensures.capture)
     c.in-Ok.ensures.accounted
-    (unwritten
-    (unwritten_since _ _ _
+    (subst (λ (it : List ℕ). AreUnfiled _ _ _ _ it _) c.in_ok-left.ensures.sent
+    (unfiled_before _ _ _ _ _ _ _ _ _ _ c.program_of.ensures.kept c.script_of.ensures.kept c.capture_of.ensures.kept
     (λ failed. failed_since _ _ _ c.in_ok-verified.ensures.steady
     (failed_since _ _ _ c.in_ok-script.ensures.steady (failed_since _ _ _ c.in_ok-capture.ensures.steady failed)))
-    c.in_err-write_sent.ensures.refused)))
-
-pub returns-in_err-write_journals_to-clause-refused : goal.returns-in_err-write_journals_to-clause-refused
-returns-in_err-write_journals_to-clause-refused g c =
-    let program : Contents =
-    record { version = c.in_ok-verified.verified.version; maps = c.in_ok-verified.verified.maps; code = c.in_ok-verified.verified.code } in
-    let p = err_from_is_err_and c.from_residual-in_err-write_journals_to.result c.from_residual-in_err-write_journals_to.ensures.1 in
-    rw (p.1, p.2)
-    (not_written_down program c.in_ok-script.script c.in_ok-capture.capture.records.items c.in-Ok.outcome
-    (inputs _ _ _ c.args.files.now c.args.ring program _ _ c.program_of.ensures.kept c.script_of.ensures.kept
-    (record { is = c.in_ok-verified.ensures.program; safe = c.in_ok-verified.ensures.safe }) c.in_ok-script.ensures.script c.in_ok-capture.ensures.capture)
-    c.in-Ok.ensures.accounted
-    (unreported_since _ _ _ _
-    (λ failed. failed_since _ _ _ c.in_ok-verified.ensures.steady
-    (failed_since _ _ _ c.in_ok-script.ensures.steady
-    (failed_since _ _ _ c.in_ok-capture.ensures.steady (failed_since _ _ _ c.in_ok-write_sent.ensures.steady failed))))
-    c.in_err-write_journals_to.ensures.refused))
-
-pub returns-in_err-replayed-clause-refused : goal.returns-in_err-replayed-clause-refused
-returns-in_err-replayed-clause-refused g c =
-    let program : Contents =
-    record { version = c.in_ok-verified.verified.version; maps = c.in_ok-verified.verified.maps; code = c.in_ok-verified.verified.code } in
-    let p = err_from_is_err_and c.from_residual-in_err-replayed.result c.from_residual-in_err-replayed.ensures.1 in
-    rw p.1
-    (not_written_down program c.in_ok-script.script c.in_ok-capture.capture.records.items c.in-Ok.outcome
-    (inputs _ _ _ c.args.files.now c.args.ring program _ _ c.program_of.ensures.kept c.script_of.ensures.kept
-    (record { is = c.in_ok-verified.ensures.program; safe = c.in_ok-verified.ensures.safe }) c.in_ok-script.ensures.script c.in_ok-capture.ensures.capture)
-    c.in-Ok.ensures.accounted (unwritten (no_room p.2)))
+    c.in_err-write_files.ensures.refused)))

@@ -13,9 +13,9 @@ use Rattle.runs.specs.SingleRuns.{HasRunAlone, HasStoppedAlone}
 use Rattle.wire.specs.FrameView.{FrameView}
 use Rattle.command_line.specs.declared.commands.RunFiles.{RunFiles}
 use Rattle.xlb_commands.specs.Files.{FileBytes, AreKept, AreAllKeptBut, IsImageFile}
-use Rattle.xlb_commands.specs.Refused.{IsFittingProgram, AreRunInputs, IsEndedRun, unwritten, no_room, no_run_program, no_run_frame, no_worker, not_run, stopped, not_told}
+use Rattle.xlb_commands.specs.Refused.{IsFittingProgram, AreRunInputs, IsEndedRun, no_report_room, no_run_program, no_run_frame, no_worker, not_run, stopped, not_told, not_filed}
 use Rattle.xlb_commands.specs.Results.{run_options, program_of_run, start_of_run}
-use Rattle.xlb_commands.proofs.Refusals.{kept_twice, frame_refusal_before, failed_since, unreported_since}
+use Rattle.xlb_commands.proofs.Refusals.{kept_twice, frame_refusal_before, failed_since, unfiled_since}
 use Rattle.xlb_commands.proofs.runs.run_once.Goals as goal
 
 -- after two readings and a writing
@@ -27,10 +27,6 @@ kept_but a b c d written first second last = λ name bytes other. (
 
 pub returns-in_err-write_journals_to-clause-kept : goal.returns-in_err-write_journals_to-clause-kept
 returns-in_err-write_journals_to-clause-kept g c =
-    kept_but _ _ _ _ _ c.judged_of.ensures.kept c.frame_of.ensures.kept c.write_journals_to.ensures.others
-
-pub returns-in_err-outcome-clause-kept : goal.returns-in_err-outcome-clause-kept
-returns-in_err-outcome-clause-kept g c =
     kept_but _ _ _ _ _ c.judged_of.ensures.kept c.frame_of.ensures.kept c.write_journals_to.ensures.others
 
 pub returns-clause-kept : goal.returns-clause-kept
@@ -140,13 +136,13 @@ returns-in_err-write_journals_to-clause-refused g c =
     } in
     let p = err_from_is_err_and c.from_residual-in_err-write_journals_to.result c.from_residual-in_err-write_journals_to.ensures.1 in
     rw (p.1, p.2)
-    (not_told program c.in_ok-frame.frame.bytes read below ended
-    (unreported_since _ _ _ _
+    (not_filed program c.in_ok-frame.frame.bytes read below ended
+    (unfiled_since _ _ _ _
     (λ failed. failed_since _ _ _ c.in_ok-verified.ensures.steady (failed_since _ _ _ c.in_ok-frame.ensures.steady failed))
     c.in_err-write_journals_to.ensures.refused))
 
-pub returns-in_err-outcome-clause-refused : goal.returns-in_err-outcome-clause-refused
-returns-in_err-outcome-clause-refused g c =
+pub returns-in_err-file-clause-refused : goal.returns-in_err-file-clause-refused
+returns-in_err-file-clause-refused g c =
     let program : Contents =
     record { version = c.in_ok-verified.verified.version; maps = c.in_ok-verified.verified.maps; code = c.in_ok-verified.verified.code } in
     let fits : AreFitting c.in_ok-verified.verified.maps c.args.updates.now = search rules in
@@ -162,5 +158,28 @@ returns-in_err-outcome-clause-refused g c =
       journals = c.in_ok-ended.journals;
       ended = ended_so _ _ _ _ _ _ _ _ _ _ _ c.in_ok-moment.ensures.given.1 c.in_ok-moment.ensures.given.0 at;
     } in
-    let p = err_from_is_err_and c.from_residual-in_err-outcome.result c.from_residual-in_err-outcome.ensures.1 in
-    rw p.1 (not_told program c.in_ok-frame.frame.bytes read below ended (unwritten (no_room p.2)))
+    let p = err_from_is_err_and c.from_residual-in_err-file.result c.from_residual-in_err-file.ensures.1 in
+    rw (p.1, p.2)
+    (not_told program c.in_ok-frame.frame.bytes (kept_twice _ _ _ c.judged_of.ensures.kept c.frame_of.ensures.kept) read below ended
+    c.in_err-file.ensures.refused)
+
+pub returns-in_err-text-clause-refused : goal.returns-in_err-text-clause-refused
+returns-in_err-text-clause-refused g c =
+    let program : Contents =
+    record { version = c.in_ok-verified.verified.version; maps = c.in_ok-verified.verified.maps; code = c.in_ok-verified.verified.code } in
+    let fits : AreFitting c.in_ok-verified.verified.maps c.args.updates.now = search rules in
+    let read = inputs _ _ c.args.files.now _ program c.in_ok-frame.frame.bytes c.in_ok-verified.ensures.kept c.in_ok-verified.ensures.file
+    c.in_ok-verified.ensures.safe fits c.in_ok-frame.ensures.read c.in_ok-frame.ensures.size in
+    let below : c.args.worker < 8 = omega (arith, c.in_ok-moment.ensures.given.1, c.in_ok-moment.ensures.below) in
+    let at : HasRunAlone (program_of_run program) (start_of_run c.in_ok-frame.frame.bytes c.in_ok-moment.moment.worker c.in_ok-moment.moment.now_ns) run_options
+    c.in_ok-moment.moment.worker c.args.updates.now c.in-Ok.exit.verdict c.in-Ok.exit.steps c.run_over.new.frame c.in_ok-ended.journals = search rules in
+    let ended : IsEndedRun program c.in_ok-frame.frame.bytes c.args.now c.args.worker c.args.updates.now = record {
+      verdict = c.in-Ok.exit.verdict;
+      steps = c.in-Ok.exit.steps;
+      frame = c.run_over.new.frame;
+      journals = c.in_ok-ended.journals;
+      ended = ended_so _ _ _ _ _ _ _ _ _ _ _ c.in_ok-moment.ensures.given.1 c.in_ok-moment.ensures.given.0 at;
+    } in
+    let p = err_from_is_err_and c.from_residual-in_err-text.result c.from_residual-in_err-text.ensures.1 in
+    rw p.1 (not_told program c.in_ok-frame.frame.bytes (kept_twice _ _ _ c.judged_of.ensures.kept c.frame_of.ensures.kept) read below ended
+    (no_report_room p.2))
