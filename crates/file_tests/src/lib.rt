@@ -1,4 +1,4 @@
-//! Tests of the public calls of `wire`, `journal_files`, `maglev`, `ipip`, `conntrack`, `control`, `rx_queues` and `workers`.
+//! Tests of the public calls of `wire`, `journals`, `maglev`, `ipip`, `conntrack`, `control`, `rx_queues` and `replay`.
 #![tactic(auto)]
 
 #[cfg(test)]

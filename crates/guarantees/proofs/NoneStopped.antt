@@ -4,10 +4,10 @@ use Rattle.std.specs.Prelude.{Option, Some, None, slice_get}
 use Rattle.std.specs.List.{AllByRecursion}
 use Rattle.std.proofs.lemmas.Bool.{false≢true}
 use Rattle.std.proofs.lemmas.Bool.Decides.{nat_tests}
-use Rattle.replay.specs.declared.counts.Counts.{Counts}
-use Rattle.replay.specs.declared.run_end.Ran.{Ran}
-use Rattle.replay.specs.declared.run_end.RunEnd.{RunEnd}
-use Rattle.replay.specs.declared.run_end.RunEnd.TheVariants.{Stopped, Aborted, Dropped, Passed, Sent as IsSent}
+use Rattle.replay.specs.declared.account.Counts.{Counts}
+use Rattle.replay.specs.declared.runner.Ran.{Ran}
+use Rattle.replay.specs.declared.runner.RunEnd.{RunEnd}
+use Rattle.replay.specs.declared.runner.RunEnd.TheVariants.{Stopped, Aborted, Dropped, Passed, Sent as IsSent}
 use Rattle.replay.specs.Accounts.{counted, counts_of, fate_of, runs_at, end_at}
 use Rattle.replay.specs.RunJobs.{records_of}
 use Rattle.replay.specs.Shares.{frame_at, is_short, is_handed, worker_of_frame, share}

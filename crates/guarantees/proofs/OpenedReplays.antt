@@ -20,13 +20,13 @@ use Rattle.semantics.specs.ShardPlan.{plan_for_map}
 use Rattle.journals.specs.JournalsView.{JournalsView, entries_at}
 use Rattle.shards.specs.CallerView.{CallerView}
 use Rattle.shards.specs.Passes.{PassView, own_at}
-use Rattle.replay.specs.declared.applied.Applied.{Applied}
+use Rattle.replay.specs.declared.outcome.Applied.{Applied}
 use Rattle.replay.specs.Commands.{CommandDone, AreNotedOf, made_in, with_updates}
 use Rattle.replay.specs.Rounds.{IsReclaim, IsReclaimedBy}
-use Rattle.replay.specs.declared.run_end.Ran.{Ran}
-use Rattle.replay.specs.declared.run_end.RunEnd.{RunEnd}
-use Rattle.replay.specs.declared.run_end.RunEnd.TheVariants.{Stopped, Aborted, Dropped, Passed, Sent as IsSent}
-use Rattle.replay.specs.declared.counts.Counts.{Counts}
+use Rattle.replay.specs.declared.runner.Ran.{Ran}
+use Rattle.replay.specs.declared.runner.RunEnd.{RunEnd}
+use Rattle.replay.specs.declared.runner.RunEnd.TheVariants.{Stopped, Aborted, Dropped, Passed, Sent as IsSent}
+use Rattle.replay.specs.declared.account.Counts.{Counts}
 use Rattle.replay.specs.Accounts.{SentFrame, counts_of, sent_by, sent_of, sent_frames, runs_at, fate_of}
 use Rattle.replay.specs.RunsInOrder.{IsRunAt, IsChainOfRuns}
 use Rattle.replay.specs.Shares.{frames_of, frame_at, is_short, has_flow, worker_of_frame, is_handed, share}

@@ -26,8 +26,8 @@ use Rattle.shards.specs.Passes.{PassView, own_at}
 use Rattle.shard_port.specs.PassSessions.{session_at, AreWithin}
 use Rattle.shard_port.specs.Sessions.{entry_of, entries_at}
 use Rattle.runs.specs.FrameRuns.{AreFormed}
-use Rattle.replay.specs.declared.run_end.RunEnd.{RunEnd}
-use Rattle.replay.specs.declared.run_end.RunEnd.TheVariants.{Stopped, Aborted, Dropped, Passed, Sent as IsSent}
+use Rattle.replay.specs.declared.runner.RunEnd.{RunEnd}
+use Rattle.replay.specs.declared.runner.RunEnd.TheVariants.{Stopped, Aborted, Dropped, Passed, Sent as IsSent}
 use Rattle.replay.specs.Accounts.{sent_by}
 use Rattle.replay.specs.Shares.{is_short}
 use Rattle.replay.specs.RunsOverShards.{IsTold, IsExit, start_of, time_of}

@@ -20,9 +20,9 @@ use Rattle.journals.specs.JournalsView.{entries_at}
 use Rattle.shards.specs.Passes.{PassView}
 use Rattle.shards.specs.SharedMaps.{ArePlans}
 use Rattle.runs.specs.FrameRuns.{HasRun, HasStopped}
-use Rattle.replay.specs.declared.run_end.RunEnd.{RunEnd}
-use Rattle.replay.specs.declared.run_end.RunEnd.TheVariants.{Stopped}
-use Rattle.replay.specs.declared.run_end.Ran.{Ran}
+use Rattle.replay.specs.declared.runner.RunEnd.{RunEnd}
+use Rattle.replay.specs.declared.runner.RunEnd.TheVariants.{Stopped}
+use Rattle.replay.specs.declared.runner.Ran.{Ran}
 use Rattle.replay.specs.Accounts.{runs_at, sent_of, sent_frames}
 use Rattle.replay.specs.RunsInOrder.{IsRunAt}
 use Rattle.replay.specs.Shares.{frames_of, share}

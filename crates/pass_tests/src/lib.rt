@@ -1,4 +1,4 @@
-//! Tests of the public calls of `shared_shards` and `shard_port`.
+//! Tests of the public calls of `shards` and `shard_port`.
 #![tactic(auto)]
 
 #[cfg(test)]

@@ -25,11 +25,11 @@ use Rattle.journals.specs.JournalsView.{JournalsView, entries_at}
 use Rattle.shards.specs.Passes.{PassView, own_at, seen_at, pass_at, AreSettled}
 use Rattle.shard_port.specs.PassSessions.{IsKeptOut}
 use Rattle.replay.proofs.shared.FullStays.{full_stays}
-use Rattle.replay.specs.declared.counts.Counts.{Counts}
+use Rattle.replay.specs.declared.account.Counts.{Counts}
 use Rattle.replay.specs.declared.crew.Handled.{Handled}
-use Rattle.replay.specs.declared.run_end.Ran.{Ran}
-use Rattle.replay.specs.declared.run_end.RunEnd.{RunEnd}
-use Rattle.replay.specs.declared.run_end.RunEnd.TheVariants.{Stopped, Aborted, Dropped, Passed, Sent as IsSent}
+use Rattle.replay.specs.declared.runner.Ran.{Ran}
+use Rattle.replay.specs.declared.runner.RunEnd.{RunEnd}
+use Rattle.replay.specs.declared.runner.RunEnd.TheVariants.{Stopped, Aborted, Dropped, Passed, Sent as IsSent}
 use Rattle.replay.specs.Accounts.{lists_of, runs_at, AreRunsOfShares}
 use Rattle.semantics.specs.Each.{Each}
 use Rattle.replay.specs.Crews.{IsHandled, IsPart}

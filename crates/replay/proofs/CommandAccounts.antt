@@ -12,7 +12,7 @@ use Rattle.shards.specs.Passes.{PassView, view_at, own_at, seen_at}
 use Rattle.control.specs.declared.command.Command.{Command}
 use Rattle.control.specs.MapUpdates.{UpdateBytes}
 use Rattle.control.specs.Controlling.{ControllerState}
-use Rattle.replay.specs.declared.applied.Applied.{Applied}
+use Rattle.replay.specs.declared.outcome.Applied.{Applied}
 use Rattle.replay.specs.SharedUpdates.{UpdatesView, shard_of, update_call}
 use Rattle.replay.specs.Commands.{CommandDone, IsDone, AreDone, IsNotedOf, AreNotedOf, made_in, with_updates, IsFullFor, IsMoved, HasEffect, IsAccount, IsCommander, ServesScript, opened_controller}
 use Rattle.replay.proofs.Moving.{with_updates_more}

@@ -7,7 +7,7 @@ use Rattle.rx_queues.specs.declared.job.Job.TheVariants.{Command as CommandJob, 
 use Rattle.semantics.specs.declared.plan.ShardPlan.{ShardPlan}
 use Rattle.shards.specs.CallerView.{nothing_seen}
 use Rattle.shards.specs.Passes.{PassView, view_at}
-use Rattle.replay.specs.declared.applied.Applied.{Applied}
+use Rattle.replay.specs.declared.outcome.Applied.{Applied}
 use Rattle.replay.specs.ActorJobs.{command_jobs, AreCommandsTaken, AreRoundsMade}
 use Rattle.replay.specs.Rounds.{AreReclaimed}
 use Rattle.replay.proofs.RoundLemmas.{no_round}

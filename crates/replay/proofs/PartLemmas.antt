@@ -23,7 +23,7 @@ use Rattle.rx_queues.specs.declared.job.Job.{Job}
 use Rattle.rx_queues.specs.declared.job.Job.TheVariants.{Frame, Command as CommandJob, Note, End}
 use Rattle.control.specs.declared.command.Command.{Command}
 use Rattle.control.specs.MapUpdates.{UpdateBytes}
-use Rattle.replay.specs.declared.applied.Applied.{Applied}
+use Rattle.replay.specs.declared.outcome.Applied.{Applied}
 use Rattle.replay.specs.SharedUpdates.{shard_of, update_call}
 use Rattle.replay.specs.Commands.{CommanderView, CommandDone, IsAccount, IsFullFor, ServesScript}
 use Rattle.replay.specs.ActorJobs.{command_jobs}

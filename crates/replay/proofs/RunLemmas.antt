@@ -6,9 +6,9 @@ use Rattle.rx_queues.specs.declared.job.Job.{Job}
 use Rattle.rx_queues.specs.declared.job.Job.TheVariants.{Frame, End}
 use Rattle.rx_queues.specs.declared.passes.Queues.{Queues}
 use Rattle.rx_queues.specs.Fifo.{IsTakenInOrder}
-use Rattle.replay.specs.declared.lane.Lane.{Lane}
-use Rattle.replay.specs.declared.run_end.RunEnd.{RunEnd}
-use Rattle.replay.specs.declared.run_end.Ran.{Ran}
+use Rattle.replay.specs.declared.worker.Lane.{Lane}
+use Rattle.replay.specs.declared.runner.RunEnd.{RunEnd}
+use Rattle.replay.specs.declared.runner.Ran.{Ran}
 use Rattle.replay.specs.Crews.{IsLane}
 use Rattle.replay.specs.RunJobs.{jobs_of, records_of}
 use Rattle.replay.specs.Puts.{frame_jobs}

@@ -10,7 +10,7 @@ use Rattle.semantics.specs.Program.{Program}
 use Rattle.journals.specs.JournalsView.{JournalsView, entries_at}
 use Rattle.shards.specs.Passes.{PassView, own_at}
 use Rattle.shards.specs.SharedMaps.{ArePlans}
-use Rattle.replay.specs.declared.run_end.Ran.{Ran}
+use Rattle.replay.specs.declared.runner.Ran.{Ran}
 use Rattle.replay.specs.Accounts.{runs_at, counts_of, frames_in, sent_of, sent_frames}
 use Rattle.replay.specs.RunsInOrder.{IsRunAt, HasHandled}
 use Rattle.replay.specs.Shares.{frames_of, share}

@@ -2,10 +2,10 @@
 use Rattle.std.specs.Prelude.{◌≡◌, ℕ, zero, suc, ◌+◌, List, [], ◌∷◌, ◌++◌, length, map, Option, Some, None, Vec, slice_index}
 use Rattle.std.specs.Prelude.{slice_index_or, ◌<◌, if◌then◌else◌}
 use Rattle.wire.specs.declared.records.Sent.{Sent}
-use Rattle.replay.specs.declared.counts.Counts.{Counts}
-use Rattle.replay.specs.declared.run_end.RunEnd.{RunEnd}
-use Rattle.replay.specs.declared.run_end.RunEnd.TheVariants.{Stopped, Aborted, Dropped, Passed, Sent as IsSent}
-use Rattle.replay.specs.declared.run_end.Ran.{Ran}
+use Rattle.replay.specs.declared.account.Counts.{Counts}
+use Rattle.replay.specs.declared.runner.RunEnd.{RunEnd}
+use Rattle.replay.specs.declared.runner.RunEnd.TheVariants.{Stopped, Aborted, Dropped, Passed, Sent as IsSent}
+use Rattle.replay.specs.declared.runner.Ran.{Ran}
 use Rattle.replay.specs.Shares.{frame_at, is_short, worker_of_frame, share}
 use Rattle.replay.specs.RunJobs.{records_of}
 

@@ -5,7 +5,7 @@ use Rattle.rx_queues.specs.declared.job.Job.TheVariants.{Command as CommandJob, 
 use Rattle.semantics.specs.declared.plan.ShardPlan.{ShardPlan}
 use Rattle.shards.specs.Passes.{PassView}
 use Rattle.control.specs.Controlling.{ControllerState}
-use Rattle.replay.specs.declared.applied.Applied.{Applied}
+use Rattle.replay.specs.declared.outcome.Applied.{Applied}
 use Rattle.replay.specs.Commands.{CommanderView, IsAccount}
 use Rattle.replay.specs.Rounds.{AreReclaimed}
 

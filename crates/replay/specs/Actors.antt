@@ -1,5 +1,5 @@
 -- What the controller and the reclaimer are handed beside the workers.
-use Rattle.std.specs.Prelude.{◌≡◌, ◌<◌, ◌≤◌, ◌/◌, ℕ, zero, suc, ◌+◌, List, [], ◌∷◌, ◌++◌, map, length, replicate, slice_index}
+use Rattle.std.specs.Prelude.{◌≡◌, ◌⊎◌, ◌<◌, ◌≤◌, ◌/◌, ℕ, zero, suc, ◌+◌, List, [], ◌∷◌, ◌++◌, map, length, replicate, slice_index}
 use Rattle.rx_queues.specs.declared.job.Job.{Job}
 use Rattle.rx_queues.specs.declared.job.Job.TheVariants.{Command, Note, End}
 use Rattle.replay.specs.Puts.{ArePut, put_at}
@@ -56,14 +56,20 @@ pub record AreDue (starts : List ℕ) (from number end : ℕ) : Type 0 where
   pub due : (place : ℕ) → from ≤ place → place < end → slice_index starts place ≤ number
   pub early : end < length starts → number < slice_index starts end
 
--- so many records were dispatched, the commands up to one were handed over, and a round was asked for after every 64 records
-pub record AreDispatched (frames : List (List ℕ)) (workers number first next : ℕ) (puts : List (List Job)) : Type 0 where
+-- In time: no command was handed over before as many records as its number were dispatched, unless all were; and none is left whose number has gone by.
+pub record AreInTime (starts : List ℕ) (records number first next : ℕ) : Type 0 where
+  pub not_early : (place : ℕ) → first ≤ place → place < next → (slice_index starts place ≤ number) ⊎ (number ≡ records)
+  pub not_late : next < length starts → number ≤ slice_index starts next
+
+-- so many records were dispatched, the commands up to one were handed over in time, and a round was asked for after every 64 records
+pub record AreDispatched (frames : List (List ℕ)) (starts : List ℕ) (workers number first next : ℕ) (puts : List (List Job)) : Type 0 where
   pub are_put : ArePut frames workers number puts
   pub enough : workers + 1 < length puts
   pub count : ℕ
   pub together : first + count ≡ next
   pub commands : put_at puts workers ≡ commands_from first count
   pub notes : put_at puts (workers + 1) ≡ replicate (number / 64) Note
+  pub in_time : AreInTime starts (length frames) number first next
 
 -- both were told to end
 pub record AreBothEnded (workers : ℕ) (before after : List (List Job)) : Type 0 where

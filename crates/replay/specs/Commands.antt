@@ -20,7 +20,7 @@ use Rattle.control.specs.declared.fault.ControlFault.TheVariants.{BadSize, BadLi
 use Rattle.control.specs.declared.update.Update.{Update as Change}
 use Rattle.control.specs.MapUpdates.{UpdateBytes, map_update}
 use Rattle.control.specs.Controlling.{ControllerState, IsTable, refusal_of, first_updates, up_after, updates_of}
-use Rattle.replay.specs.declared.applied.Applied.{Applied}
+use Rattle.replay.specs.declared.outcome.Applied.{Applied}
 use Rattle.replay.specs.SharedUpdates.{UpdatesView, shard_of, update_call}
 
 -- ---- updates with their answers

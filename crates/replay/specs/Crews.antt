@@ -7,9 +7,9 @@ use Rattle.wire.specs.declared.records.Sent.{Sent}
 use Rattle.wire.specs.declared.records.Capture.{Capture}
 use Rattle.rx_queues.specs.declared.passes.Queues.{Queues}
 use Rattle.replay.specs.declared.crew.Handled.{Handled}
-use Rattle.replay.specs.declared.lane.Lane.{Lane}
-use Rattle.replay.specs.declared.run_end.RunEnd.{RunEnd}
-use Rattle.replay.specs.declared.run_end.Ran.{Ran}
+use Rattle.replay.specs.declared.worker.Lane.{Lane}
+use Rattle.replay.specs.declared.runner.RunEnd.{RunEnd}
+use Rattle.replay.specs.declared.runner.Ran.{Ran}
 use Rattle.replay.specs.Accounts.{runs_at}
 use Rattle.replay.specs.RunsInOrder.{IsRunAt, HasHandled}
 use Rattle.replay.specs.Shares.{frames_of, share}

@@ -15,7 +15,7 @@ use Rattle.conntrack.specs.SteeringMaps.{steering_maps}
 use Rattle.control.specs.declared.command.Command.{Command}
 use Rattle.control.specs.Controlling.{ControllerState}
 use Rattle.control.specs.MapUpdates.{UpdateBytes}
-use Rattle.replay.specs.declared.applied.Applied.{Applied}
+use Rattle.replay.specs.declared.outcome.Applied.{Applied}
 use Rattle.replay.specs.SharedUpdates.{shard_of, update_call}
 use Rattle.replay.specs.Commands.{CommanderView, CommandDone, AreNotedOf, AreDone, IsAccount, ServesScript, opened_controller, made_in, with_updates}
 use Rattle.replay.specs.ActorJobs.{AreCommandsTaken, AreRoundsMade, IsAccounted as IsControllersAccount}

@@ -4,8 +4,8 @@ use Rattle.wire.specs.declared.records.Sent.{Sent}
 use Rattle.rx_queues.specs.declared.job.Job.{Job}
 use Rattle.rx_queues.specs.declared.job.Job.TheVariants.{End}
 use Rattle.rx_queues.specs.Passes.{jobs_taken}
-use Rattle.replay.specs.declared.run_end.RunEnd.{RunEnd}
-use Rattle.replay.specs.declared.run_end.Ran.{Ran}
+use Rattle.replay.specs.declared.runner.RunEnd.{RunEnd}
+use Rattle.replay.specs.declared.runner.Ran.{Ran}
 use Rattle.replay.specs.declared.worker.WorkerEnded.{WorkerEnded}
 use Rattle.replay.specs.RunJobs.{jobs_of, records_of}
 

@@ -19,8 +19,8 @@ use Rattle.runs.specs.FrameRuns.{HasRun, WasRefused, HasStopped}
 use Rattle.shards.specs.CallerView.{nothing_seen}
 use Rattle.shards.specs.Passes.{PassView, view_at, own_at}
 use Rattle.shard_port.specs.PassSessions.{IsOutsideAt}
-use Rattle.replay.specs.declared.run_end.RunEnd.{RunEnd}
-use Rattle.replay.specs.declared.run_end.RunEnd.TheVariants.{Stopped, Aborted, Dropped, Passed, Sent as IsSent}
+use Rattle.replay.specs.declared.runner.RunEnd.{RunEnd}
+use Rattle.replay.specs.declared.runner.RunEnd.TheVariants.{Stopped, Aborted, Dropped, Passed, Sent as IsSent}
 use Rattle.replay.specs.declared.shard_runner.Working.{Working}
 
 -- ---- a worker's pass

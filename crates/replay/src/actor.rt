@@ -1,10 +1,15 @@
-//! What takes jobs beside the workers.
+//! What takes jobs beside the workers: the controller and the reclaimer, each on a thread.
 
-ghost use Rattle.std.specs.Prelude.{◌≡◌, false};
+ghost use Rattle.std.specs.Prelude.{◌≡◌, true, false, [], IfSome};
+ghost use Rattle.rx_queues.specs.Passes.{IsPutPassOf, IsTakePassOf, place_taken_from, jobs_taken, jobs_put};
+ghost use Rattle.replay.specs.Actors.{HasEnded, EndsOnce};
+ghost use Rattle.replay.specs.Puts.{put_at};
 
-use rx_queues::{Queues, TakePass};
+use rx_queues::{PutPass, Queues, TakePass};
 use std::alloc::Global;
+use std::snapshot::Snapshot;
 use std::sync::Wait;
+use std::thread::{Promise, PromisedHandle, Scope, Threads};
 
 /// What an actor's thread hands back: its right to take, what it made of its jobs, and whether it was refused memory.
 #[derive(Drop)]
@@ -38,5 +43,100 @@ pub trait Actor<E: Drop> {
         requires take { IsTakePassOf queues.now take × (jobs_taken take ≡ []) }
         requires ready { is_ready self }
         ensures take { IsTakePassOf queues.now result.take × (place_taken_from result.take ≡ place_taken_from take) }
-        ensures given { (result.is_refused ≡ false) → HasEnded (jobs_taken result.take) × gives self (jobs_taken result.take) result.given };
+        ensures ended { HasEnded (jobs_taken result.take) }
+        ensures given { (result.is_refused ≡ false) → gives self (jobs_taken result.take) result.given };
+}
+
+/// What an actor's thread is to do.
+#[derive(Drop)]
+pub struct Part<'a, C> {
+    pub queues: &'a Queues,
+    pub place: usize,
+    pub actor: Snapshot<C>,
+}
+
+impl<'a, E: Drop, C: Actor<E>> Promise<ActorEnded<E>> for Part<'a, C> {
+    ghost use Rattle.std.specs.Prelude.{◌≡◌, false};
+    ghost use Rattle.rx_queues.specs.Passes.{IsTakePassOf, place_taken_from, jobs_taken};
+    ghost use Rattle.replay.specs.Actors.{HasEnded};
+
+    ghost kept_by = { λ part ended. IsTakePassOf part.queues.now ended.take × (place_taken_from ended.take ≡ part.place)
+        × HasEnded (jobs_taken ended.take) × ((ended.is_refused ≡ false) → C.gives part.actor.value (jobs_taken ended.take) ended.given) };
+}
+
+/// The thread of an actor, and what it promises.
+pub(crate) type ActorThread<'a, E, C> = PromisedHandle<ActorEnded<E>, Part<'a, C>>;
+
+/// Starts an actor on the queue at a place. None where no thread can be made.
+pub(crate) fn start_actor<
+    's,
+    X,
+    E: Drop + Send + 's,
+    C: Actor<E> + Drop + Send + 's,
+    R: Wait + Sync,
+>(
+    scope: &Scope<'s, X>,
+    rt: &'s R,
+    alloc: Global,
+    queues: &'s Queues,
+    actor: C,
+    place: usize,
+    take: TakePass,
+) -> Option<ActorThread<'s, E, C>>
+    requires take { IsTakePassOf queues.now take × (place_taken_from take ≡ place) × (jobs_taken take ≡ []) }
+    requires ready { C.is_ready actor }
+    ensures { IfSome result (λ thread. (thread.promise.queues.now ≡ queues.now) × (thread.promise.place ≡ place) × (thread.promise.actor.value ≡ actor)) }
+{
+    let part = Part {
+        queues,
+        place,
+        actor: Snapshot::of(&actor),
+    };
+    scope
+        .spawn_with(
+            part,
+            move || -> ActorEnded<E>
+                requires take { IsTakePassOf queues.now take × (jobs_taken take ≡ []) }
+                requires ready { C.is_ready actor }
+                ensures take { IsTakePassOf queues.entry.now result.take × (place_taken_from result.take ≡ place_taken_from take) }
+                ensures ended { HasEnded (jobs_taken result.take) }
+                ensures given { (result.is_refused ≡ false) → C.gives actor (jobs_taken result.take) result.given }
+            { actor.until_end(rt, alloc, queues, take) },
+        )
+        .ok()
+}
+
+/// Joins an actor, and holds what it took against what was put for it. None where it was refused memory.
+pub(crate) fn settled_actor<E: Drop, C: Actor<E>, R: Threads + Wait>(
+    rt: &R,
+    queues: &Queues,
+    put: &mut PutPass,
+    thread: ActorThread<E, C>,
+) -> Option<E>
+    requires queues { thread.promise.queues.now ≡ queues.now }
+    requires put { IsPutPassOf queues.now put.old }
+    requires ends { EndsOnce (put_at (jobs_put put.old) thread.promise.place) }
+    ensures put { IsPutPassOf queues.now put.new × (jobs_put put.new ≡ jobs_put put.old) }
+    ensures given { IfSome result (λ given. C.gives thread.entry.promise.actor.value (put_at (jobs_put put.old) thread.entry.promise.place) given) }
+{
+    let ActorEnded {
+        take,
+        given,
+        is_refused,
+    } = thread.join(rt);
+    queues.settle(put, take);
+    if is_refused {
+        return None;
+    }
+    Some(given)
+}
+
+/// Waits for ever where the condition does not hold: a queue does not tell by its type which jobs come, and whoever goes on knows.
+pub(crate) fn wait_unless<W: Wait>(rt: &W, condition: bool)
+    ensures { condition ≡ true }
+{
+    if !condition {
+        'never: for _ in rt.forever() {}
+        unreachable!()
+    }
 }

@@ -1,6 +1,6 @@
-//! The end of a replay.
+//! The end of a replay: the shards closed, and everything accounted for.
 
-ghost use Rattle.std.specs.Prelude.{◌≡◌, ◌<◌, length, IfOk};
+ghost use Rattle.std.specs.Prelude.{◌≡◌, ◌<◌, ◌∷◌, ◌++◌, [], length, map, IfOk};
 ghost use Rattle.semantics.specs.declared.call.Caller.TheVariants.{Reclaimer};
 ghost use Rattle.machine.specs.Running.{program_of};
 ghost use Rattle.maglev.specs.RingSize.{IsRingSize};
@@ -9,16 +9,12 @@ ghost use Rattle.replay.specs.Rounds.{AreReclaimed};
 ghost use Rattle.replay.specs.Crews.{AreHandled};
 ghost use Rattle.replay.specs.Accounted.{IsAccounted};
 ghost use Rattle.replay.specs.Parts.{IsScriptRun, rounds_of, refused_of};
-ghost use Rattle.replay.specs.RunsOverShards.{IsNewAt, IsRunBy};
+ghost use Rattle.replay.specs.RunsOverShards.{IsNewAt, IsRunBy, pass_in};
 
-use crate::accounting::account;
-use crate::actor_parts::Commanded;
-use crate::applied::Applied;
-use crate::counts::Counts;
+use crate::account::{Counts, account};
+use crate::controller::Commanded;
 use crate::crew::{Handled, parted};
-use crate::outcome::Outcome;
-use crate::passes::all_passes;
-use crate::scripts::refused;
+use crate::outcome::{Applied, Outcome};
 use crate::shard_runner::Working;
 use control::Script;
 use journals::Journals;
@@ -28,7 +24,46 @@ use std::sync::Wait;
 use verifier::Verified;
 use wire::{Capture, Sent};
 
-/// What a replay tells: of the commands those that were refused.
+/// The commands that were refused.
+pub(crate) fn refused(mut noted: Vec<Applied>) -> Vec<Applied>
+    ensures { result.items ≡ refused_of noted.items }
+{
+    noted.retain(|one| one.fault.is_some());
+    noted
+}
+
+/// The workers' passes.
+fn passes_of<B: Naming>(
+    alloc: Global,
+    mut working: Vec<Working<B>>,
+) -> Result<Vec<Pass<B>>, AllocError>
+    ensures passes { IfOk result (λ passes. passes.items ≡ map pass_in working.items) }
+{
+    let count = working.len();
+    let mut passes = Vec::with_capacity(alloc, count)?;
+    'workers: for _worker in 0..count {
+        let Working { pass, .. } = working.remove(0);
+        passes.push_reserved(pass);
+    }
+    Ok(passes)
+}
+
+/// The workers' passes, then the controller's and the reclaimer's.
+pub(crate) fn all_passes<B: Naming>(
+    alloc: Global,
+    working: Vec<Working<B>>,
+    controller: Pass<B>,
+    reclaimer: Pass<B>,
+) -> Result<Vec<Pass<B>>, AllocError>
+    ensures { IfOk result (λ passes. passes.items ≡ map pass_in working.items ++ controller ∷ reclaimer ∷ []) }
+{
+    let mut passes = passes_of(alloc, working)?;
+    passes.push(controller)?;
+    passes.push(reclaimer)?;
+    Ok(passes)
+}
+
+/// What a replay returns: of the commands those that were refused.
 fn outcome_of(counts: Counts, noted: Vec<Applied>, sent: Vec<Sent>, journals: Journals) -> Outcome
     ensures counts { result.counts ≡ counts }
     ensures refused { result.refused.items ≡ refused_of noted.items }

@@ -1,6 +1,6 @@
 //! All workers.
 
-ghost use Rattle.std.specs.Prelude.{◌≡◌, ◌<◌, ◌≤◌, ◌++◌, ◌∷◌, [], length, IfOk, IfSome, IsSome};
+ghost use Rattle.std.specs.Prelude.{◌≡◌, ◌<◌, ◌≤◌, ◌++◌, ◌∷◌, [], length, IfOk, IfErr, IfSome, IsSome};
 ghost use Rattle.rx_queues.specs.declared.job.Job.TheVariants.{End};
 ghost use Rattle.rx_queues.specs.Passes.{IsPutPassOf, TakeAtTheirPlaces, workers_of, jobs_put};
 ghost use Rattle.replay.specs.Accounts.{lists_of};
@@ -9,13 +9,12 @@ ghost use Rattle.replay.specs.Crews.{IsReadyAt, IsLane, AreHandled, IsPart};
 ghost use Rattle.replay.specs.Puts.{AreAllPut, put_at, frame_jobs};
 ghost use Rattle.replay.specs.RunsInOrder.{IsRunAt, HasHandled};
 ghost use Rattle.replay.specs.Shares.{frames_of, share};
+ghost use Rattle.replay.specs.declared.fault.ReplayFault.TheVariants.{BadOptions};
 
-use crate::crew_fault::CrewFault;
-use crate::dispatching::end_all;
-use crate::lane::{Lane, start};
-use crate::run_end::Ran;
-use crate::runner::Runner;
-use crate::worker::WorkerEnded;
+use crate::dispatch::end_all;
+use crate::fault::ReplayFault;
+use crate::runner::{Ran, Runner};
+use crate::worker::{Lane, WorkerEnded, start};
 use rx_queues::{PutPass, Queues, TakePass};
 use std::alloc::{AllocError, Global};
 use std::sync::Wait;
@@ -45,12 +44,13 @@ pub(crate) fn start_all<
     runner: &'s W,
     mut takes: Vec<TakePass>,
     mut states: Vec<S>,
-) -> Result<Vec<Lane<'s, S, W>>, (CrewFault, Vec<Lane<'s, S, W>>)>
+) -> Result<Vec<Lane<'s, S, W>>, (ReplayFault, Vec<Lane<'s, S, W>>)>
     requires few { length states.items ≤ 8 }
     requires takes { (length states.items ≤ length takes.items) × TakeAtTheirPlaces queues.now takes.items }
     requires states { Each (IsReadyAt (W.is_new runner.now) (W.is_idle runner.now)) 0 states.items }
     ensures count { IfOk result (λ lanes. length lanes.items ≡ length states.items) }
     ensures lanes { IfOk result (λ lanes. Each (IsLane queues.now capture.now runner.now) 0 lanes.items) }
+    ensures fault { IfErr result (λ it. ¬ (it.0 ≡ BadOptions)) }
 {
     let count = states.len();
     let mut lanes = Vec::new(alloc);
@@ -58,7 +58,7 @@ pub(crate) fn start_all<
         let take = takes.remove(0);
         let state = states.remove(0);
         if lanes.reserve(1).is_err() {
-            return Err((CrewFault::Memory, lanes));
+            return Err((ReplayFault::Memory, lanes));
         }
         match start(
             scope,
@@ -72,7 +72,7 @@ pub(crate) fn start_all<
             state,
         ) {
             Some(lane) => lanes.push_reserved(lane),
-            None => return Err((CrewFault::NoThread, lanes)),
+            None => return Err((ReplayFault::NoThread, lanes)),
         }
     }
     Ok(lanes)
@@ -170,7 +170,7 @@ pub(crate) fn finish_all<S: Drop, W: Runner<S>, R: Threads + Wait>(
 }
 
 /// What each worker made and its state, apart.
-pub fn parted<S: Drop>(
+pub(crate) fn parted<S: Drop>(
     alloc: Global,
     mut handled: Vec<Handled<S>>,
 ) -> Result<(Vec<Vec<Ran>>, Vec<S>), AllocError>

@@ -1,7 +1,7 @@
 //! What a replay gives.
 
-use crate::applied::Applied;
-use crate::counts::Counts;
+use crate::account::Counts;
+use control::ControlFault;
 use journals::Journals;
 use wire::Sent;
 
@@ -15,4 +15,13 @@ pub struct Outcome {
     pub sent: Vec<Sent>,
     /// Of each shard, all that was called.
     pub journals: Journals,
+}
+
+/// What came of a command of the script.
+#[derive(Clone, Copy, Debug, PartialEq, Eq)]
+pub struct Applied {
+    /// Which command of the script it is, counted from 0.
+    pub command: usize,
+    /// Why it was refused, if it was.
+    pub fault: Option<ControlFault>,
 }

@@ -10,15 +10,14 @@ ghost use Rattle.replay.specs.Accounted.{IsAccounted};
 ghost use Rattle.replay.specs.Parts.{HasNoTable};
 ghost use Rattle.replay.specs.declared.fault.ReplayFault.TheVariants.{BadOptions};
 
-use crate::all_run::AllEnded;
 use crate::closing::closed;
-use crate::crew_fault::CrewFault;
 use crate::fault::ReplayFault;
 use crate::outcome::Outcome;
-use crate::passes::new_workers;
-use crate::scripts::{starts_of, table_for};
+use crate::setting::{
+    new_controller, new_reclaimer, new_workers, run_threads, starts_of, table_for,
+};
 use crate::shard_runner::ShardRunner;
-use crate::threads::{new_controller, new_reclaimer, run_threads};
+use crate::threads::AllEnded;
 use control::Script;
 use rx_queues::Queues;
 use semantics::Options;
@@ -39,17 +38,6 @@ fn fault_of(fault: OpenFault) -> ReplayFault
     match fault {
         OpenFault::BadOptions => ReplayFault::BadOptions,
         OpenFault::Memory => ReplayFault::Memory,
-    }
-}
-
-/// Why the workers gave up, as a replay has it.
-fn crew_fault_of(fault: CrewFault) -> ReplayFault
-    ensures options { ¬ (result ≡ BadOptions) }
-    ensures memory { (result ≡ ReplayFault.Memory) ↔ (fault ≡ CrewFault.Memory) }
-{
-    match fault {
-        CrewFault::Memory => ReplayFault::Memory,
-        CrewFault::NoThread => ReplayFault::NoThread,
     }
 }
 
@@ -77,7 +65,8 @@ fn replay_over<B: Naming + Send + Sync, R: Threads + Wait + Sync, G: Gate + Sync
     let workers = options.workers as usize;
     let (shards, mut dealer) = opened.share::<B>(alloc)?;
     let states = new_workers(alloc, &mut dealer, workers)?;
-    let starts = starts_of(alloc, script.commands())?;
+    let list = starts_of(alloc, script.commands())?;
+    let starts: &[u32] = &list;
     let (queues, put, takes) = match Queues::open(alloc, workers) {
         Ok(opened) => opened,
         Err(fault) => return Err(fault_of(fault)),
@@ -88,10 +77,19 @@ fn replay_over<B: Naming + Send + Sync, R: Threads + Wait + Sync, G: Gate + Sync
         verified,
         shards: &shards,
     };
-    let (controller, first) = new_controller(alloc, rt, &shards, &mut dealer, gate, script, size)?;
+    let (controller, first) = new_controller(
+        alloc,
+        rt,
+        &shards,
+        &mut dealer,
+        gate,
+        script,
+        starts,
+        size,
+    )?;
     let reclaimer = new_reclaimer(alloc, rt, &shards, &mut dealer, gate)?;
     match run_threads(
-        rt, alloc, &queues, capture, script, size, &starts, first, &runner, controller, reclaimer,
+        rt, alloc, &queues, capture, script, size, starts, first, &runner, controller, reclaimer,
         put, takes, states,
     ) {
         Ok(
@@ -103,7 +101,7 @@ fn replay_over<B: Naming + Send + Sync, R: Threads + Wait + Sync, G: Gate + Sync
         ) => Ok(closed(
             rt, alloc, verified, capture, script, size, shards, handled, controller, reclaimer,
         )?),
-        Err(fault) => Err(crew_fault_of(fault)),
+        Err(fault) => Err(fault),
     }
 }
 

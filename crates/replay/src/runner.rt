@@ -1,8 +1,7 @@
-//! What runs a program for the workers.
+//! What runs a program for the workers, and what became of a frame.
 
 ghost use Rattle.std.specs.Prelude.{IfSome};
 
-use crate::run_end::RunEnd;
 use std::alloc::Global;
 use wire::Sent;
 
@@ -10,7 +9,7 @@ use wire::Sent;
 pub trait Runner<S> {
     ghost use Rattle.std.specs.Prelude.{ℕ};
     ghost use Rattle.wire.specs.declared.records.Sent.{Sent as Record};
-    ghost use Rattle.replay.specs.declared.run_end.RunEnd.{RunEnd as End};
+    ghost use Rattle.replay.specs.declared.runner.RunEnd.{RunEnd as End};
 
     /// What is known of a worker's state before its first run.
     ghost is_new: { Self → ℕ → S → Type 0 };
@@ -26,4 +25,26 @@ pub trait Runner<S> {
         requires { is_idle self.now worker state.old }
         ensures idle { is_idle self.now worker state.new }
         ensures run { IfSome result (λ end. runs self.now worker sent.now state.old end state.new) };
+}
+
+/// What became of a frame that was run.
+#[derive(Debug, Drop)]
+pub enum RunEnd {
+    /// A journal was full for the run's next call: the calls before it stand, and the frame is not sent.
+    Stopped,
+    /// The program answered a number that is no verdict.
+    Aborted,
+    Dropped,
+    /// It goes on to the host.
+    Passed,
+    /// It is sent so, with the moment at which it was captured.
+    Sent { sent: Sent },
+}
+
+/// A run that a worker made.
+#[derive(Debug, Drop)]
+pub struct Ran {
+    /// The record of the capture, counted from 0.
+    pub number: usize,
+    pub end: RunEnd,
 }

@@ -4,8 +4,7 @@ ghost use Rattle.std.specs.Prelude.{◌≡◌, ◌<◌, ◌≤◌, IfOk};
 ghost use Rattle.machine.specs.Running.{program_of};
 ghost use Rattle.replay.specs.RunsOverShards.{IsIdle, IsSentOf, IsTold, IsRunOf, time_of};
 
-use crate::run_end::RunEnd;
-use crate::runner::Runner;
+use crate::runner::{RunEnd, Runner};
 use machine::Moment;
 use runs::run_frame;
 use semantics::Verdict;

@@ -1,111 +1,302 @@
-//! The threads of a replay.
+//! All threads from their start to their end.
 
-ghost use Rattle.std.specs.Prelude.{◌≡◌, ◌<◌, ◌≤◌, ◌+◌, [], ℕ, length, replicate, IfOk};
-ghost use Rattle.semantics.specs.declared.call.Caller.TheVariants.{Reclaimer};
-ghost use Rattle.maglev.specs.RingSize.{IsRingSize};
-ghost use Rattle.machine.specs.Running.{program_of};
-ghost use Rattle.rx_queues.specs.Passes.{IsPutPassOf, AreTakePasses, workers_of, jobs_put};
-ghost use Rattle.shards.specs.CallerView.{nothing_seen};
-ghost use Rattle.shards.specs.Passes.{view_at};
-ghost use Rattle.replay.specs.Commands.{ServesScript};
-ghost use Rattle.replay.specs.Rounds.{AreReclaimed};
+ghost use Rattle.std.specs.Prelude.{◌≡◌, ◌<◌, ◌≤◌, ◌+◌, ◌/◌, ◌∷◌, ◌++◌, [], length, replicate, IfOk, IsErrOf, IfSome};
+ghost use Rattle.rx_queues.specs.declared.job.Job.TheVariants.{Note, End};
+ghost use Rattle.rx_queues.specs.Passes.{IsPutPassOf, IsTakePassOf, TakeAtTheirPlaces, AreTakePasses, place_taken_from, jobs_taken, workers_of, jobs_put};
+ghost use Rattle.replay.specs.Actors.{HasNoEnd, OfCommandsFrom, round_jobs};
 ghost use Rattle.semantics.specs.Each.{Each};
-ghost use Rattle.replay.specs.Crews.{AreHandled};
-ghost use Rattle.replay.specs.Parts.{IsStarted, IsScriptRun, rounds_of};
-ghost use Rattle.replay.specs.RunsOverShards.{IsNewAt, IsRunBy};
+ghost use Rattle.replay.specs.Crews.{IsReadyAt, AreHandled};
+ghost use Rattle.replay.specs.Puts.{put_at};
+ghost use Rattle.replay.specs.declared.fault.ReplayFault.TheVariants.{BadOptions};
 
-use crate::actor_parts::{Commanded, Commanding, Rounding};
-use crate::all_run::{AllEnded, run_all};
-use crate::commander::Commander;
-use crate::crew_fault::CrewFault;
-use crate::passes::new_pass;
-use crate::reclaiming::Reclaiming;
-use crate::scripts::apply_first;
-use crate::shard_runner::{ShardRunner, Working};
-use control::Script;
+use crate::actor::{Actor, ActorThread, settled_actor, start_actor};
+use crate::crew::{Handled, abandon, finish_all, start_all};
+use crate::dispatch::{Dispatch, ask_round, end_all, end_both};
+use crate::fault::ReplayFault;
+use crate::runner::Runner;
 use rx_queues::{PutPass, Queues, TakePass};
-use semantics::Caller;
-use shard_port::Gate;
-use shards::{Dealer, Naming, Pass, Shards};
-use std::alloc::{AllocError, Global};
+use std::alloc::Global;
 use std::sync::Wait;
-use std::thread::Threads;
+use std::thread;
+use std::thread::{Scope, Threads};
 use wire::Capture;
 
-/// The controller, which has applied the commands before the first frame, and how many they are.
-pub(crate) fn new_controller<'x, B: Naming, R: Wait, G: Gate>(
-    alloc: Global,
-    rt: &'x R,
-    shards: &'x Shards<B>,
-    dealer: &mut Dealer<B>,
-    gate: &'x G,
-    script: &'x Script,
-    size: u32,
-) -> Result<(Commanding<'x, B, R, G>, usize), AllocError>
-    requires size { IsRingSize size }
-    requires script { ServesScript shards.now.maps size script.now }
-    ensures { IfOk result (λ made. IsStarted shards.now.maps shards.now.options script.now size made.0.commander made.1) }
-{
-    let pass = new_pass(alloc, dealer, Caller::Controller)?;
-    let mut commander = Commander::over(alloc, rt, shards, pass, gate, script.commands(), size);
-    let first = apply_first(alloc, &mut commander)?;
-    Ok((Commanding { commander }, first))
+/// What all workers did, and what the controller and the reclaimer handed back.
+#[derive(Drop)]
+pub struct AllEnded<S: Drop, E: Drop, F: Drop> {
+    pub workers: Vec<Handled<S>>,
+    pub controller: E,
+    pub reclaimer: F,
 }
 
-/// The reclaimer.
-pub(crate) fn new_reclaimer<'x, B: Naming, R: Wait, G: Gate>(
-    alloc: Global,
-    rt: &'x R,
-    shards: &'x Shards<B>,
-    dealer: &mut Dealer<B>,
-    gate: &'x G,
-) -> Result<Rounding<'x, B, R, G>, AllocError>
-    ensures { IfOk result (λ rounding. (number : ℕ) → view_at rounding.reclaiming number ≡ nothing_seen) }
+/// The controller's and the reclaimer's rights to take, away from the workers'.
+fn last_two(queues: &Queues, takes: &mut Vec<TakePass>, workers: usize) -> (TakePass, TakePass)
+    requires workers { (workers_of queues.now ≡ workers) × (workers ≤ 8) }
+    requires takes { AreTakePasses queues.now takes.old.items }
+    ensures workers { (length takes.new.items ≡ workers) × TakeAtTheirPlaces queues.now takes.new.items }
+    ensures controller { IsTakePassOf queues.now result.0 × (place_taken_from result.0 ≡ workers) × (jobs_taken result.0 ≡ []) }
+    ensures reclaimer { IsTakePassOf queues.now result.1 × (place_taken_from result.1 ≡ workers + 1) × (jobs_taken result.1 ≡ []) }
 {
-    let pass = new_pass(alloc, dealer, Caller::Reclaimer)?;
-    Ok(Rounding {
-        reclaiming: Reclaiming::over(rt, shards, pass, gate),
-    })
+    let _ = queues;
+    let reclaimer = takes.remove(workers + 1);
+    let controller = takes.remove(workers);
+    (controller, reclaimer)
 }
 
-/// Runs all threads, from their start to their end.
-pub(crate) fn run_threads<'x, B: Naming + Send + Sync, R: Threads + Wait + Sync, G: Gate + Sync>(
+/// Starts the controller and the reclaimer. None where one of them can't be started; then none runs.
+fn start_both<
+    's,
+    X,
+    E: Drop + Send + 's,
+    F: Drop + Send + 's,
+    C: Actor<E> + Drop + Send + 's,
+    D: Actor<F> + Drop + Send + 's,
+    R: Threads + Wait + Sync,
+>(
+    scope: &Scope<'s, X>,
+    rt: &'s R,
+    alloc: Global,
+    queues: &'s Queues,
+    put: &mut PutPass,
+    controller: C,
+    reclaimer: D,
+    workers: usize,
+    takes: (TakePass, TakePass),
+) -> Option<(ActorThread<'s, E, C>, ActorThread<'s, F, D>)>
+    requires workers { workers ≤ 8 }
+    requires put { IsPutPassOf queues.now put.old }
+    requires of_controller { IsTakePassOf queues.now takes.0 × (place_taken_from takes.0 ≡ workers) × (jobs_taken takes.0 ≡ []) }
+    requires of_reclaimer { IsTakePassOf queues.now takes.1 × (place_taken_from takes.1 ≡ workers + 1) × (jobs_taken takes.1 ≡ []) }
+    requires ready { C.is_ready controller × D.is_ready reclaimer }
+    ensures put { IsPutPassOf queues.now put.new }
+    ensures puts { IfSome result (λ both. jobs_put put.new ≡ jobs_put put.old) }
+    ensures controller { IfSome result (λ both. (both.0.promise.queues.now ≡ queues.now) × (both.0.promise.place ≡ workers) ×
+        (both.0.promise.actor.value ≡ controller)) }
+    ensures reclaimer { IfSome result (λ both. (both.1.promise.queues.now ≡ queues.now) × (both.1.promise.place ≡ workers + 1) ×
+        (both.1.promise.actor.value ≡ reclaimer)) }
+{
+    let (of_controller, of_reclaimer) = takes;
+    let commanding = start_actor(scope, rt, alloc, queues, controller, workers, of_controller)?;
+    match start_actor(
+        scope,
+        rt,
+        alloc,
+        queues,
+        reclaimer,
+        workers + 1,
+        of_reclaimer,
+    ) {
+        Some(reclaiming) => Some((commanding, reclaiming)),
+        None => {
+            end_both(rt, queues, put);
+            commanding.join(rt);
+            None
+        }
+    }
+}
+
+/// Asks for the last round, ends the controller and the reclaimer and joins them. None where one was refused memory.
+fn close_both<E: Drop, F: Drop, C: Actor<E>, D: Actor<F>, R: Threads + Wait>(
+    rt: &R,
+    queues: &Queues,
+    put: &mut PutPass,
+    commanding: ActorThread<E, C>,
+    reclaiming: ActorThread<F, D>,
+) -> Option<(E, F)>
+    requires put { IsPutPassOf queues.now put.old }
+    requires controller { (commanding.promise.queues.now ≡ queues.now) × (commanding.promise.place ≡ workers_of queues.now) ×
+        HasNoEnd (put_at (jobs_put put.old) (workers_of queues.now)) }
+    requires reclaimer { (reclaiming.promise.queues.now ≡ queues.now) × (reclaiming.promise.place ≡ workers_of queues.now + 1) ×
+        HasNoEnd (put_at (jobs_put put.old) (workers_of queues.now + 1)) }
+    ensures controller { IfSome result (λ given. C.gives commanding.entry.promise.actor.value
+        (put_at (jobs_put put.old) (workers_of queues.now) ++ End ∷ []) given.0) }
+    ensures reclaimer { IfSome result (λ given. D.gives reclaiming.entry.promise.actor.value
+        (put_at (jobs_put put.old) (workers_of queues.now + 1) ++ Note ∷ End ∷ []) given.1) }
+{
+    ask_round(rt, queues, put);
+    end_both(rt, queues, put);
+    let of_controller = settled_actor(rt, queues, put, commanding);
+    let of_reclaimer = settled_actor(rt, queues, put, reclaiming);
+    Some((of_controller?, of_reclaimer?))
+}
+
+/// Starts the workers, hands everything over, ends the workers and joins them.
+fn work_all<'s, X, S: Drop + Send + 's, W: Runner<S> + Sync + 's, R: Threads + Wait + Sync>(
+    scope: &Scope<'s, X>,
+    rt: &'s R,
+    alloc: Global,
+    queues: &'s Queues,
+    capture: &'s Capture,
+    starts: &[u32],
+    first: usize,
+    runner: &'s W,
+    put: &mut PutPass,
+    takes: Vec<TakePass>,
+    states: Vec<S>,
+) -> Result<Vec<Handled<S>>, ReplayFault>
+    requires workers { (workers_of queues.now ≡ length states.items) × (0 < length states.items) × (length states.items ≤ 8) }
+    requires first { first ≤ length starts.now }
+    requires put { IsPutPassOf queues.now put.old × (jobs_put put.old ≡ replicate (length states.items + 2) []) }
+    requires takes { (length states.items ≤ length takes.items) × TakeAtTheirPlaces queues.now takes.items }
+    requires states { Each (IsReadyAt (W.is_new runner.now) (W.is_idle runner.now)) 0 states.items }
+    ensures put { IsPutPassOf queues.now put.new }
+    ensures count { IfOk result (λ all. length all.items ≡ length states.items) }
+    ensures handled { IfOk result (λ all. AreHandled (W.is_new runner.now) (W.runs runner.now) capture.now.records.items (length states.items) all.items) }
+    ensures commands { IfOk result (λ all. OfCommandsFrom first starts.now (λ jobs. put_at (jobs_put put.new) (workers_of queues.now) ≡ jobs)) }
+    ensures notes { IfOk result (λ all. put_at (jobs_put put.new) (workers_of queues.now + 1) ≡ replicate (length capture.now.records.items / 64) Note) }
+    ensures served { ¬ IsErrOf result BadOptions }
+{
+    let workers = states.len();
+    match start_all(scope, rt, alloc, queues, capture, runner, takes, states) {
+        Ok(lanes) => {
+            let dispatch = Dispatch {
+                queues,
+                capture,
+                starts,
+                first,
+                workers,
+            };
+            dispatch.hand_all(rt, put);
+            end_all(rt, queues, put, workers);
+            match finish_all(rt, alloc, queues, capture, runner, put, lanes) {
+                Some(all) => Ok(all),
+                None => Err(ReplayFault::Memory),
+            }
+        }
+        Err((fault, lanes)) => {
+            abandon(rt, queues, put, lanes, workers);
+            Err(fault)
+        }
+    }
+}
+
+/// Starts all threads in a scope, hands everything over, ends the threads and joins them.
+fn run_all_in<
+    's,
+    X,
+    S: Drop + Send + 's,
+    E: Drop + Send + 's,
+    F: Drop + Send + 's,
+    W: Runner<S> + Sync + 's,
+    C: Actor<E> + Drop + Send + 's,
+    D: Actor<F> + Drop + Send + 's,
+    R: Threads + Wait + Sync,
+>(
+    scope: &Scope<'s, X>,
+    rt: &'s R,
+    alloc: Global,
+    queues: &'s Queues,
+    capture: &'s Capture,
+    starts: &[u32],
+    first: usize,
+    runner: &'s W,
+    controller: C,
+    reclaimer: D,
+    mut put: PutPass,
+    mut takes: Vec<TakePass>,
+    states: Vec<S>,
+) -> Result<AllEnded<S, E, F>, ReplayFault>
+    requires workers { (workers_of queues.now ≡ length states.items) × (0 < length states.items) × (length states.items ≤ 8) }
+    requires first { first ≤ length starts.now }
+    requires put { IsPutPassOf queues.now put × (jobs_put put ≡ replicate (length states.items + 2) []) }
+    requires takes { AreTakePasses queues.now takes.items }
+    requires states { Each (IsReadyAt (W.is_new runner.now) (W.is_idle runner.now)) 0 states.items }
+    requires ready { C.is_ready controller × D.is_ready reclaimer }
+    ensures count { IfOk result (λ it. length it.workers.items ≡ length states.items) }
+    ensures handled { IfOk result (λ it. AreHandled (W.is_new runner.now) (W.runs runner.now) capture.now.records.items
+        (length states.items) it.workers.items) }
+    ensures controller { IfOk result (λ it. OfCommandsFrom first starts.now (λ jobs. C.gives controller (jobs ++ End ∷ []) it.controller)) }
+    ensures reclaimer { IfOk result (λ it. D.gives reclaimer (round_jobs (length capture.now.records.items)) it.reclaimer) }
+    ensures served { ¬ IsErrOf result BadOptions }
+{
+    let workers = states.len();
+    let last = last_two(queues, &mut takes, workers);
+    let Some((commanding, reclaiming)) = start_both(
+        scope, rt, alloc, queues, &mut put, controller, reclaimer, workers, last,
+    ) else {
+        return Err(ReplayFault::NoThread);
+    };
+    match work_all(
+        scope, rt, alloc, queues, capture, starts, first, runner, &mut put, takes, states,
+    ) {
+        Ok(handled) => match close_both(rt, queues, &mut put, commanding, reclaiming) {
+            Some((controller, reclaimer)) => Ok(AllEnded {
+                workers: handled,
+                controller,
+                reclaimer,
+            }),
+            None => Err(ReplayFault::Memory),
+        },
+        Err(fault) => {
+            end_both(rt, queues, &mut put);
+            commanding.join(rt);
+            reclaiming.join(rt);
+            Err(fault)
+        }
+    }
+}
+
+/// Runs all records of a capture, each by the worker of its flow, on a thread for each of the workers' states, and beside them the controller and the
+/// reclaimer, each on a thread of its own. The controller is handed the commands from `first` on, each once as many records as `starts` says of it were
+/// dispatched and no later than after the last one; the reclaimer is asked for a round after every 64 records, and for one more after the workers' end.
+/// Where a thread can't be started or one of them is refused memory, those that were started have ended too.
+pub fn run_all<
+    'x,
+    S: Drop + Send + 'x,
+    E: Drop + Send + 'x,
+    F: Drop + Send + 'x,
+    W: Runner<S> + Sync + 'x,
+    C: Actor<E> + Drop + Send + 'x,
+    D: Actor<F> + Drop + Send + 'x,
+    R: Threads + Wait + Sync + 'x,
+>(
     rt: &'x R,
     alloc: Global,
     queues: &'x Queues,
     capture: &'x Capture,
-    script: &'x Script,
-    size: u32,
     starts: &'x [u32],
     first: usize,
-    runner: &'x ShardRunner<'x, B, R, G>,
-    controller: Commanding<'x, B, R, G>,
-    reclaimer: Rounding<'x, B, R, G>,
+    runner: &'x W,
+    controller: C,
+    reclaimer: D,
     put: PutPass,
     takes: Vec<TakePass>,
-    states: Vec<Working<B>>,
-) -> Result<AllEnded<Working<B>, Commanded<B>, Pass<B>>, CrewFault>
+    states: Vec<S>,
+) -> Result<AllEnded<S, E, F>, ReplayFault>
     requires workers { (workers_of queues.now ≡ length states.items) × (0 < length states.items) × (length states.items ≤ 8) }
-    requires options { runner.now.shards.now.options.workers ≡ length states.items }
+    requires first { first ≤ length starts.now }
     requires put { IsPutPassOf queues.now put × (jobs_put put ≡ replicate (length states.items + 2) []) }
     requires takes { AreTakePasses queues.now takes.items }
-    requires states { Each IsNewAt 0 states.items }
-    requires starts { length starts.now ≡ length script.now }
-    requires started { IsStarted runner.now.shards.now.maps runner.now.shards.now.options script.now size controller.commander first }
-    requires nothing { (number : ℕ) → view_at reclaimer.reclaiming number ≡ nothing_seen }
-    ensures count { IfOk result (λ it. length it.workers.items ≡ runner.now.shards.now.options.workers) }
-    ensures handled { IfOk result (λ it. AreHandled IsNewAt
-        (IsRunBy B.count B.plan (program_of runner.now.verified.now runner.now.shards.now.options.shards)) capture.now.records.items
-        runner.now.shards.now.options.workers it.workers.items) }
-    ensures script { IfOk result (λ it. IsScriptRun B.plan runner.now.shards.now.maps runner.now.shards.now.options script.now size
-        it.controller.noted.items it.controller.pass) }
-    ensures rounds { IfOk result (λ it. AreReclaimed B.plan B.count (rounds_of (length capture.now.records.items)) it.reclaimer ×
-        (it.reclaimer.who ≡ Reclaimer)) }
+    requires states { Each (IsReadyAt (W.is_new runner.now) (W.is_idle runner.now)) 0 states.items }
+    requires ready { C.is_ready controller × D.is_ready reclaimer }
+    ensures count { IfOk result (λ it. length it.workers.items ≡ length states.items) }
+    ensures handled { IfOk result (λ it. AreHandled (W.is_new runner.now) (W.runs runner.now) capture.now.records.items
+        (length states.items) it.workers.items) }
+    ensures controller { IfOk result (λ it. OfCommandsFrom first starts.now (λ jobs. C.gives controller (jobs ++ End ∷ []) it.controller)) }
+    ensures reclaimer { IfOk result (λ it. D.gives reclaimer (round_jobs (length capture.now.records.items)) it.reclaimer) }
+    ensures served { ¬ IsErrOf result BadOptions }
 {
-    let _ = script;
-    let _ = size;
-    run_all(
-        rt, alloc, queues, capture, starts, first, runner, controller, reclaimer, put, takes,
-        states,
+    thread::scope(
+        thread::scope_env(),
+        rt,
+        |scope| -> Result<AllEnded<S, E, F>, ReplayFault>
+            requires workers { (workers_of queues.now ≡ length states.items) × (0 < length states.items) × (length states.items ≤ 8) }
+            requires first { first ≤ length starts.now }
+            requires put { IsPutPassOf queues.now put × (jobs_put put ≡ replicate (length states.items + 2) []) }
+            requires takes { AreTakePasses queues.now takes.items }
+            requires states { Each (IsReadyAt (W.is_new runner.now) (W.is_idle runner.now)) 0 states.items }
+            requires ready { C.is_ready controller × D.is_ready reclaimer }
+            ensures count { IfOk result (λ it. length it.workers.items ≡ length states.items) }
+            ensures handled { IfOk result (λ it. AreHandled (W.is_new runner.entry.now) (W.runs runner.entry.now)
+                capture.entry.now.records.items (length states.items) it.workers.items) }
+            ensures controller { IfOk result (λ it. OfCommandsFrom first starts.entry.now (λ jobs. C.gives controller (jobs ++ End ∷ []) it.controller)) }
+            ensures reclaimer { IfOk result (λ it. D.gives reclaimer (round_jobs (length capture.entry.now.records.items)) it.reclaimer) }
+            ensures served { ¬ IsErrOf result BadOptions }
+        {
+            run_all_in(
+                scope, rt, alloc, queues, capture, starts, first, runner, controller, reclaimer,
+                put, takes, states,
+            )
+        },
     )
 }

@@ -9,7 +9,7 @@ use conntrack::{maps, table_size};
 use control::{ControlFault, parse_script};
 use ebpf_decode::{Image, Insn, Version};
 use journals::Journals;
-use replay::{Applied, Commander, Reclaiming, commands_until_end, rounds_until_end};
+use replay::{Actor, Applied, Commander, Reclaiming};
 use rx_queues::{Job, OpenFault, Queues, TakePass};
 use semantics::{Caller, Options};
 use shard_port::{Gate, NoGate};
@@ -317,15 +317,15 @@ fn commanded<B: Naming, R: Abort + Wait>(
     let count = script.commands().len();
     let (queues, take) = filled(rt, alloc, Caller::Controller, 1, count)?;
     let commander = Commander::over(alloc, rt, &shards, pass, &NoGate, script.commands(), size);
-    let ended = commands_until_end(rt, alloc, &queues, take, commander);
-    let are_so = !ended.is_refused && faults_are(&ended.noted, row.faults);
+    let ended = commander.until_end(rt, alloc, &queues, take);
+    let are_so = !ended.is_refused && faults_are(&ended.given.noted, row.faults);
     holds(
         rt,
         row.name,
         "the faults, with memory for each note",
         are_so,
     );
-    close(rt, alloc, shards, ended.pass, row)
+    close(rt, alloc, shards, ended.given.pass, row)
 }
 
 #[test]
@@ -354,8 +354,8 @@ fn asked<B: Naming, R: Abort + Wait>(
     let pass = dealer.pass(alloc, Caller::Reclaimer)?;
     let (queues, take) = filled(rt, alloc, Caller::Reclaimer, 2, row.rounds)?;
     let reclaiming = Reclaiming::over(rt, &shards, pass, &NoGate);
-    let ended = rounds_until_end(rt, &queues, take, reclaiming);
-    close(rt, alloc, shards, ended.pass, row)
+    let ended = reclaiming.until_end(rt, alloc, &queues, take);
+    close(rt, alloc, shards, ended.given, row)
 }
 
 #[test]

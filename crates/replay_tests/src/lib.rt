@@ -1,4 +1,4 @@
-//! Tests of the public calls of `actors`, `single_run`, `replay`, `steer` and `guarantees`.
+//! Tests of the public calls of `replay`, `runs`, `steer` and `guarantees`.
 #![tactic(auto)]
 
 #[cfg(test)]

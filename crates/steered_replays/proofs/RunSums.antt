@@ -10,10 +10,10 @@ use Rattle.semantics.specs.declared.verdict.Verdict.TheVariants as verdicts
 use Rattle.semantics.specs.Semantics.{verdict_number}
 use Rattle.wire.specs.FrameView.{FrameView}
 use Rattle.wire.specs.declared.records.Sent.{Sent}
-use Rattle.replay.specs.declared.counts.Counts.{Counts}
-use Rattle.replay.specs.declared.run_end.Ran.{Ran}
-use Rattle.replay.specs.declared.run_end.RunEnd.{RunEnd}
-use Rattle.replay.specs.declared.run_end.RunEnd.TheVariants.{Stopped, Aborted, Dropped, Passed, Sent as IsSent}
+use Rattle.replay.specs.declared.account.Counts.{Counts}
+use Rattle.replay.specs.declared.runner.Ran.{Ran}
+use Rattle.replay.specs.declared.runner.RunEnd.{RunEnd}
+use Rattle.replay.specs.declared.runner.RunEnd.TheVariants.{Stopped, Aborted, Dropped, Passed, Sent as IsSent}
 use Rattle.replay.specs.Accounts.{no_counts, counted, counts_of, fate_of, runs_at, end_at}
 use Rattle.replay.specs.RunJobs.{records_of}
 use Rattle.replay.specs.RunsOverShards.{IsTold}

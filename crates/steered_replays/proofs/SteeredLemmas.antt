@@ -23,9 +23,9 @@ use Rattle.shards.specs.Passes.{PassView}
 use Rattle.runs.specs.FrameRuns.{AreFormed}
 use Rattle.machine.specs.declared.exit.Stop.{Stop}
 use Rattle.machine.specs.declared.exit.Stop.TheVariants.{JournalFull}
-use Rattle.replay.specs.declared.run_end.Ran.{Ran}
-use Rattle.replay.specs.declared.run_end.RunEnd.{RunEnd}
-use Rattle.replay.specs.declared.run_end.RunEnd.TheVariants.{Stopped, Aborted, Dropped, Passed, Sent as IsSent}
+use Rattle.replay.specs.declared.runner.Ran.{Ran}
+use Rattle.replay.specs.declared.runner.RunEnd.{RunEnd}
+use Rattle.replay.specs.declared.runner.RunEnd.TheVariants.{Stopped, Aborted, Dropped, Passed, Sent as IsSent}
 use Rattle.replay.specs.Accounts.{runs_at}
 use Rattle.replay.specs.RunJobs.{records_of}
 use Rattle.replay.specs.RunsInOrder.{IsRunAt, IsChainOfRuns}

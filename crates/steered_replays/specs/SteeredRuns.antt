@@ -22,8 +22,8 @@ use Rattle.shard_port.specs.PassSessions.{HasSessions, HasRefusedSessions}
 use Rattle.runs.specs.FrameRuns.{HasRun, WasRefused}
 use Rattle.control.specs.declared.command.Command.{Command}
 use Rattle.replay.specs.declared.outcome.Outcome.{Outcome}
-use Rattle.replay.specs.declared.run_end.RunEnd.{RunEnd}
-use Rattle.replay.specs.declared.run_end.RunEnd.TheVariants.{Stopped}
+use Rattle.replay.specs.declared.runner.RunEnd.{RunEnd}
+use Rattle.replay.specs.declared.runner.RunEnd.TheVariants.{Stopped}
 use Rattle.replay.specs.Accounted.{IsAccounted, IsWorkOf}
 use Rattle.replay.specs.Accounts.{runs_at}
 use Rattle.replay.specs.RunsInOrder.{IsRunAt}

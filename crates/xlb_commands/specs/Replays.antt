@@ -14,9 +14,9 @@ use Rattle.control.specs.FaultNumber.{control_fault_number}
 use Rattle.control.specs.ScriptText.{IsScriptText}
 use Rattle.journals.specs.JournalsView.{JournalsView}
 use Rattle.journals.specs.JournalText.{journals_text}
-use Rattle.replay.specs.declared.counts.Counts.{Counts}
+use Rattle.replay.specs.declared.account.Counts.{Counts}
 use Rattle.replay.specs.Accounts.{frames_in}
-use Rattle.replay.specs.declared.applied.Applied.{Applied}
+use Rattle.replay.specs.declared.outcome.Applied.{Applied}
 use Rattle.replay.specs.declared.outcome.Outcome.{Outcome}
 use Rattle.replay.specs.Accounted.{IsAccounted}
 use Rattle.command_line.specs.declared.commands.ReplayFiles.{ReplayFiles}

@@ -8,7 +8,7 @@ ghost use Rattle.control.specs.ScriptReading.{Explains};
 ghost use Rattle.control.specs.declared.command.Command.{Command};
 ghost use Rattle.control.specs.declared.fault.ControlFault.{ControlFault};
 ghost use Rattle.control.specs.declared.fault.ControlFault.TheVariants as scripts;
-ghost use Rattle.replay.specs.declared.applied.Applied.{Applied as Noted};
+ghost use Rattle.replay.specs.declared.outcome.Applied.{Applied as Noted};
 ghost use Rattle.replay.specs.Accounts.{frames_in};
 ghost use Rattle.journals.specs.JournalText.{journals_text};
 ghost use Rattle.command_line.specs.Reading.{text_of};

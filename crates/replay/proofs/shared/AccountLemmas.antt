@@ -4,7 +4,7 @@ use Rattle.wire.specs.declared.records.Sent.{Sent}
 use Rattle.std.specs.Prelude.{Vec, Some, slice_index}
 use Rattle.std.proofs.lemmas.Bool.Decides.{nat_tests}
 use Rattle.semantics.proofs.shared.EachLemmas.{or_set_here, or_set_else, set_count, found_or}
-use Rattle.replay.specs.declared.run_end.Ran.{Ran}
+use Rattle.replay.specs.declared.runner.Ran.{Ran}
 use Rattle.replay.specs.Shares.{frames_of, frame_at, is_short, worker_of_frame, is_handed, share}
 use Rattle.replay.specs.RunJobs.{records_of}
 use Rattle.replay.specs.Accounts.{lists_of, runs_at, end_at, fate_of, AreRunsOfShares, AreNext}

@@ -1,5 +1,5 @@
 use Rattle.std.proofs.Common.{◌<◌, ◌∷◌, ◌++◌, [], List, length, refl, ap, ◌∙◌, arith}
-use Rattle.replay.specs.declared.run_end.Ran.{Ran}
+use Rattle.replay.specs.declared.runner.Ran.{Ran}
 use Rattle.semantics.proofs.shared.EachLemmas.{got_there}
 use Rattle.replay.proofs.worker.ran.Goals as goal
 
@@ -7,7 +7,7 @@ pub returns-in-Some-clause-ran : goal.returns-in-Some-clause-ran
 returns-in-Some-clause-ran g c = λ _.
     let ran : Ran = record { number = c.args.number; end = c.in-Some.end } in
     let below : c.args.number < length c.args.capture.now.records.items =
-    (let test = c.if-number-len.false in let ok = c.args.capture.now.records.ok.0 in let len = c.len.ensures in omega (arith, test, ok, len)) in
+    c.requires.number in
     record {
       ran = ran;
       number_is = refl;

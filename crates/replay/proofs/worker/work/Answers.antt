@@ -13,9 +13,9 @@ not_true false e = absurd (true≢false e)
 pub jobs-preserved-then-not-is_refused : goal.jobs-preserved-then-not-is_refused
 jobs-preserved-then-not-is_refused g c =
     let i = c.jobs.invariant in (
-      c.take_waiting.ensures.pass.0,
-      c.take_waiting.ensures.pass.1 ∙ i.1,
+      c.next_record.ensures.take.0,
+      c.next_record.ensures.take.1 ∙ i.1,
       c.ran-is_refused.ensures.state,
-      λ ok. one_run _ _ _ _ c.in-Frame.number _ _ _ _ (i.3 c.if-not-is_refused.true) c.in-Frame.ensures.taken
+      λ ok. one_run _ _ _ _ c.in-Some-next_record.number _ _ _ _ (i.3 c.if-not-is_refused.true) c.in-Some-next_record.ensures.taken.1
           (c.ran-is_refused.ensures.ran (not_true _ ok)),
     )

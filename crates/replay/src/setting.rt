@@ -1,0 +1,195 @@
+//! What a replay begins with: the table and the numbers of its script, the passes, the controller and the reclaimer, and all of it together.
+
+ghost use Rattle.std.specs.Prelude.{◌≡◌, ◌<◌, ◌≤◌, ◌+◌, [], ℕ, length, map, replicate, IfOk, IsErrOf, IfSome, IsNone};
+ghost use Rattle.machine.specs.Running.{program_of};
+ghost use Rattle.maglev.specs.RingSize.{IsRingSize};
+ghost use Rattle.control.specs.declared.command.Command.{Command as Line};
+ghost use Rattle.semantics.specs.declared.call.Caller.TheVariants.{Reclaimer};
+ghost use Rattle.semantics.specs.Each.{Each};
+ghost use Rattle.rx_queues.specs.Passes.{IsPutPassOf, AreTakePasses, workers_of, jobs_put};
+ghost use Rattle.shards.specs.CallerView.{nothing_seen};
+ghost use Rattle.shards.specs.Passes.{view_at};
+ghost use Rattle.replay.specs.Actors.{AreDue, numbers_from};
+ghost use Rattle.replay.specs.Commands.{ServesScript, StaysOf};
+ghost use Rattle.replay.specs.Crews.{AreHandled};
+ghost use Rattle.replay.specs.Parts.{HasNoTable, IsStarted, IsScriptRun, numbers_of, rounds_of};
+ghost use Rattle.replay.specs.Rounds.{AreReclaimed};
+ghost use Rattle.replay.specs.RunsOverShards.{IsNewAt, IsRunBy};
+ghost use Rattle.replay.specs.declared.fault.ReplayFault.TheVariants.{BadOptions};
+
+use crate::controller::{Commanded, Commander};
+use crate::dispatch::due;
+use crate::fault::ReplayFault;
+use crate::reclaimer::Reclaiming;
+use crate::shard_runner::{ShardRunner, Working};
+use crate::threads::{AllEnded, run_all};
+use conntrack::table_size;
+use control::{Command, Script};
+use ebpf_decode::MapDef;
+use rx_queues::{PutPass, Queues, TakePass};
+use semantics::Caller;
+use shard_port::Gate;
+use shards::{Dealer, Naming, Pass, Shards};
+use std::alloc::{AllocError, Global};
+use std::sync::Wait;
+use std::thread::Threads;
+use wire::Capture;
+
+/// The smallest lookup table: that of a replay without commands, which has none.
+const SMALLEST: u32 = 7;
+
+/// The size of the lookup table that the maps are for; without commands any will do. None where there are commands and the maps are for no table.
+pub(crate) fn table_for(maps: &[MapDef], script: &[Command]) -> Option<u32>
+    ensures size { IfSome result (λ size. IsRingSize size × ServesScript maps.now size script.now) }
+    ensures none { IsNone result → HasNoTable maps.now script.now }
+{
+    if script.is_empty() {
+        return Some(SMALLEST);
+    }
+    table_size(maps)
+}
+
+/// The frame number of each command.
+pub(crate) fn starts_of(alloc: Global, script: &[Command]) -> Result<Vec<u32>, AllocError>
+    ensures { IfOk result (λ starts. starts.items ≡ map (λ (line : Line). line.frame) script.now) }
+{
+    script.iter().map(|line| line.frame).collect(alloc)
+}
+
+/// Applies the commands of frame 0, which come before the first record, and returns how many they are.
+fn apply_first<B: Naming, W: Wait, G: Gate>(
+    alloc: Global,
+    commander: &mut Commander<'_, B, W, G>,
+    starts: &[u32],
+) -> Result<usize, AllocError>
+    requires nothing { commander.old.noted ≡ [] }
+    requires each { length starts.now ≡ length commander.old.script }
+    ensures first { IfOk result (λ first. (numbers_of commander.new.noted ≡ numbers_from 0 first) × (first ≤ length commander.new.script)) }
+    ensures due { IfOk result (λ first. AreDue starts.now 0 0 first) }
+    ensures same { StaysOf commander.old commander.new }
+{
+    let first = due(starts, 0, 0);
+    'commands: for number in 0..first {
+        commander.apply(alloc, number)?;
+    }
+    Ok(first)
+}
+
+/// What each worker begins with: its pass, and no reply yet.
+pub(crate) fn new_workers<B: Naming>(
+    alloc: Global,
+    dealer: &mut Dealer<B>,
+    workers: usize,
+) -> Result<Vec<Working<B>>, AllocError>
+    requires { workers ≤ 8 }
+    ensures count { IfOk result (λ all. length all.items ≡ workers) }
+    ensures passes { IfOk result (λ all. Each IsNewAt 0 all.items) }
+{
+    let mut all = Vec::with_capacity(alloc, workers)?;
+    'workers: for worker in 0..workers {
+        let caller = Caller::Worker {
+            number: worker as u8,
+        };
+        match dealer.pass(alloc, caller) {
+            Ok(pass) => all.push_reserved(Working { pass, replies: 0 }),
+            Err(_) => return Err(AllocError),
+        }
+    }
+    Ok(all)
+}
+
+/// The pass of the controller or of the reclaimer.
+pub(crate) fn new_pass<B: Naming>(
+    alloc: Global,
+    dealer: &mut Dealer<B>,
+    who: Caller,
+) -> Result<Pass<B>, AllocError>
+    ensures who { IfOk result (λ pass. pass.who ≡ who) }
+    ensures nothing { IfOk result (λ pass. (number : ℕ) → view_at pass number ≡ nothing_seen) }
+{
+    match dealer.pass(alloc, who) {
+        Ok(pass) => Ok(pass),
+        Err(_) => Err(AllocError),
+    }
+}
+
+/// The controller, which has applied the commands before the first frame, and how many they are.
+pub(crate) fn new_controller<'x, B: Naming, R: Wait, G: Gate>(
+    alloc: Global,
+    rt: &'x R,
+    shards: &'x Shards<B>,
+    dealer: &mut Dealer<B>,
+    gate: &'x G,
+    script: &'x Script,
+    starts: &[u32],
+    size: u32,
+) -> Result<(Commander<'x, B, R, G>, usize), AllocError>
+    requires size { IsRingSize size }
+    requires script { ServesScript shards.now.maps size script.now }
+    requires each { length starts.now ≡ length script.now }
+    ensures due { IfOk result (λ made. AreDue starts.now 0 0 made.1) }
+    ensures started { IfOk result (λ made. IsStarted shards.now.maps shards.now.options script.now size made.0 made.1) }
+{
+    let pass = new_pass(alloc, dealer, Caller::Controller)?;
+    let mut commander = Commander::over(alloc, rt, shards, pass, gate, script.commands(), size);
+    let first = apply_first(alloc, &mut commander, starts)?;
+    Ok((commander, first))
+}
+
+/// The reclaimer.
+pub(crate) fn new_reclaimer<'x, B: Naming, R: Wait, G: Gate>(
+    alloc: Global,
+    rt: &'x R,
+    shards: &'x Shards<B>,
+    dealer: &mut Dealer<B>,
+    gate: &'x G,
+) -> Result<Reclaiming<'x, B, R, G>, AllocError>
+    ensures { IfOk result (λ reclaiming. (number : ℕ) → view_at reclaiming number ≡ nothing_seen) }
+{
+    let pass = new_pass(alloc, dealer, Caller::Reclaimer)?;
+    Ok(Reclaiming::over(rt, shards, pass, gate))
+}
+
+/// Runs all threads, from their start to their end.
+pub(crate) fn run_threads<'x, B: Naming + Send + Sync, R: Threads + Wait + Sync, G: Gate + Sync>(
+    rt: &'x R,
+    alloc: Global,
+    queues: &'x Queues,
+    capture: &'x Capture,
+    script: &'x Script,
+    size: u32,
+    starts: &'x [u32],
+    first: usize,
+    runner: &'x ShardRunner<'x, B, R, G>,
+    controller: Commander<'x, B, R, G>,
+    reclaimer: Reclaiming<'x, B, R, G>,
+    put: PutPass,
+    takes: Vec<TakePass>,
+    states: Vec<Working<B>>,
+) -> Result<AllEnded<Working<B>, Commanded<B>, Pass<B>>, ReplayFault>
+    requires workers { (workers_of queues.now ≡ length states.items) × (0 < length states.items) × (length states.items ≤ 8) }
+    requires options { runner.now.shards.now.options.workers ≡ length states.items }
+    requires put { IsPutPassOf queues.now put × (jobs_put put ≡ replicate (length states.items + 2) []) }
+    requires takes { AreTakePasses queues.now takes.items }
+    requires states { Each IsNewAt 0 states.items }
+    requires starts { length starts.now ≡ length script.now }
+    requires begun { AreDue starts.now 0 0 first }
+    requires started { IsStarted runner.now.shards.now.maps runner.now.shards.now.options script.now size controller first }
+    requires nothing { (number : ℕ) → view_at reclaimer number ≡ nothing_seen }
+    ensures count { IfOk result (λ it. length it.workers.items ≡ runner.now.shards.now.options.workers) }
+    ensures handled { IfOk result (λ it. AreHandled IsNewAt
+        (IsRunBy B.count B.plan (program_of runner.now.verified.now runner.now.shards.now.options.shards)) capture.now.records.items
+        runner.now.shards.now.options.workers it.workers.items) }
+    ensures script { IfOk result (λ it. IsScriptRun B.plan runner.now.shards.now.maps runner.now.shards.now.options script.now size
+        it.controller.noted.items it.controller.pass) }
+    ensures served { ¬ IsErrOf result BadOptions }
+    ensures rounds { IfOk result (λ it. AreReclaimed B.plan B.count (rounds_of (length capture.now.records.items)) it.reclaimer ×
+        (it.reclaimer.who ≡ Reclaimer)) }
+{
+    let _ = script;
+    let _ = size;
+    run_all(
+        rt, alloc, queues, capture, starts, first, runner, controller, reclaimer, put, takes,
+        states,
+    )
+}
