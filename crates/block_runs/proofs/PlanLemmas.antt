@@ -1,10 +1,10 @@
 -- More replies: the calls that were made stay, and a run that is over stays.
-use Rattle.std.proofs.Common.{◌≡◌, List, [], ◌∷◌, ◌++◌, refl, ap}
+use Rattle.std.proofs.Common.{◌≡◌, List, [], ◌∷◌, refl, ap}
 use Rattle.wire.specs.FrameView.{FrameView}
 use Rattle.semantics.specs.declared.call.Call.{Call}
 use Rattle.semantics.specs.declared.call.Reply.{Reply}
 use Rattle.semantics.specs.declared.verdict.Verdict.{Verdict}
-use Rattle.block_runs.specs.Plan.{Plan, Asks, Ends, Ended, asked, plan_outcome}
+use Rattle.block_runs.specs.Plan.{Asks, Ends, Ended, asked, plan_outcome}
 use Rattle.block_runs.specs.PlanLaws.{OutcomesGrow, EndedRunsNeedNoMore, PlansGoOn}
 
 pub outcomes_grow : OutcomesGrow

@@ -1,6 +1,6 @@
--- A plan: what a run calls the maps for, one call after the other by the replies that it gets, and with which verdict and frame it ends. A plan says
--- nothing of instructions, registers or memory, so the meaning of a program can be stated by one. The outcome of a plan is what it does on a list of
--- replies; a program does a plan where its runs have the same outcomes.
+-- A plan: what a run calls the maps for, one call after the other by the replies that it gets, and with which verdict and frame it ends.
+-- A plan says nothing of instructions, registers or memory, so the meaning of a program can be stated by one. The outcome of a plan is
+-- what it does on a list of replies; a program does a plan where its runs have the same outcomes.
 use Rattle.std.specs.Prelude.{◌≡◌, ℕ, ◌≤◌, Bool, true, false, List, [], ◌∷◌}
 use Rattle.wire.specs.FrameView.{FrameView}
 use Rattle.semantics.specs.declared.call.Call.{Call}

@@ -1,4 +1,5 @@
--- Laws of plans: how one instruction more makes a program do a longer plan, and that more replies leave what was done on the first of them.
+-- Laws of plans: how one instruction more makes a program do a longer plan, and that more replies leave what was done on the first of
+-- them.
 use Rattle.std.specs.Prelude.{◌≡◌, ℕ, suc, List, ◌++◌, take, length}
 use Rattle.wire.specs.FrameView.{FrameView}
 use Rattle.semantics.specs.declared.call.Call.{Call}

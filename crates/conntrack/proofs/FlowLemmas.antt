@@ -1,10 +1,10 @@
 -- A flow stays with the backend that was noted for it; and the service is looked up under the flow's key.
-use Rattle.std.proofs.Common.{◌≡◌, ℕ, ◌++◌, ◌&&◌, Bool, true, false, not, List, [], ◌∷◌, refl, sym, ap, subst, ◌∙◌, length}
+use Rattle.std.proofs.Common.{◌≡◌, ℕ, ◌++◌, Bool, true, false, not, List, [], ◌∷◌, sym, ap, ◌∙◌, length}
 use Rattle.std.specs.Prelude.{Option, Some, None, if◌then◌else◌, replicate, take, drop}
 use Rattle.std.specs.Option.{unwrap_or}
 use Rattle.wire.specs.declared.flow.FlowKey.{FlowKey}
-use Rattle.wire.specs.FlowBytes.{flow_key_bytes, be_bytes, protocol_number}
-use Rattle.wire.specs.FlowForm.{HasFlow, flow_bytes_of}
+use Rattle.wire.specs.FlowBytes.{flow_key_bytes}
+use Rattle.wire.specs.FlowForm.{flow_bytes_of}
 use Rattle.wire.specs.FrameView.{FrameView}
 use Rattle.semantics.specs.declared.call.CellRef.{CellRef}
 use Rattle.semantics.specs.declared.call.Reply.{Reply}
@@ -19,8 +19,9 @@ use Rattle.conntrack.specs.declared.choosing.Records.{Records}
 use Rattle.conntrack.specs.declared.choosing.Choice.{Choice}
 use Rattle.conntrack.specs.declared.choosing.Choice.TheVariants as C
 use Rattle.conntrack.specs.Layouts.{vip_of, flow_of, backend_of, tunnel_of, service_of, service_key}
-use Rattle.conntrack.specs.SteeringRule.{choice_for_service, fits_tunnel, tracked_choice, ring_choice, is_set_up}
-use Rattle.conntrack.specs.Steering.{Setting, steering, ending, choice_in, has_flow, service_bytes_of, read_service, read_tunnel, read_note, read_slot, read_backend, unless_tracked, finish, no_records, record_of, read}
+use Rattle.conntrack.specs.SteeringRule.{fits_tunnel, tracked_choice, ring_choice}
+use Rattle.conntrack.specs.Steering.{Setting, steering, ending, choice_in, has_flow, service_bytes_of, read_service, read_tunnel}
+use Rattle.conntrack.specs.Steering.{read_note, read_slot, read_backend, unless_tracked, finish, no_records, record_of, read}
 use Rattle.conntrack.specs.declared.steering_maps.SteeringMap.TheVariants.{Flows}
 use Rattle.conntrack.specs.SteeringLaws.{FlowsStick, FindsNote, AsksForTheService}
 use Rattle.conntrack.proofs.shared.RuleLemmas.{passes_test}

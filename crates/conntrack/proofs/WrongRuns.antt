@@ -2,13 +2,12 @@
 use Rattle.std.proofs.Common.{◌≡◌, inl, inr, ℕ, ◌++◌, List, [], ◌∷◌, refl, sym, ap, subst, ◌∙◌}
 use Rattle.std.specs.Prelude.{◌⊎◌, Option, Some, None}
 use Rattle.semantics.specs.declared.call.Call.{Call}
-use Rattle.semantics.specs.declared.call.Call.TheVariants.{Store, Lookup, Load}
-use Rattle.semantics.specs.declared.call.CellRef.{CellRef}
+use Rattle.semantics.specs.declared.call.Call.TheVariants.{Store}
 use Rattle.semantics.specs.declared.verdict.Verdict.{Verdict}
 use Rattle.map_port.specs.Exchanges.{Exchange}
 use Rattle.conntrack.specs.Steering.{Setting}
 use Rattle.conntrack.specs.Results.{change_of, changes_in, note_call, IsRaised, IsNotFound}
-use Rattle.conntrack.specs.SteeringLaws.{Asked, UncountedRunsAreNoResults, StoringRunsAreNoResults}
+use Rattle.conntrack.specs.SteeringLaws.{UncountedRunsAreNoResults, StoringRunsAreNoResults}
 
 pub uncounted_runs : UncountedRunsAreNoResults
 uncounted_runs setting frame exchanges verdict left none result = by result.counted

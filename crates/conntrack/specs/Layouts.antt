@@ -1,5 +1,7 @@
--- How keys and records of the steering maps stand in bytes. Numbers are little-endian; a service's port stands as in a frame, high byte first.
-use Rattle.std.specs.Prelude.{ℕ, suc, zero, ◌+◌, ◌%◌, ◌==◌, Bool, true, false, List, [], ◌∷◌, ◌++◌, Option, Some, None, take, drop, slice_index}
+-- How keys and records of the steering maps stand in bytes. Numbers are little-endian; a service's port stands as in a frame, high byte
+-- first.
+use Rattle.std.specs.Prelude.{ℕ, suc, zero, ◌+◌, ◌%◌, ◌==◌, Bool, true, false, List, [], ◌∷◌, ◌++◌, Option, Some, None, take, drop}
+use Rattle.std.specs.Prelude.{slice_index}
 use Rattle.wire.specs.declared.flow.FlowKey.{FlowKey}
 use Rattle.wire.specs.FlowBytes.{protocol_number, be_bytes}
 use Rattle.semantics.specs.LittleEndian.{number_of_bytes, bytes_of_number}

@@ -1,8 +1,10 @@
--- The result of a finished run by the steering rule: verdict, frame, and what it asked of the maps. By some records the rule chose something; verdict and
--- frame are those of the choice. The calls that are neither Lookup nor Load are one Update of the flows, with the flag ANY, where the rule notes the flow,
--- and one atomic add of 1 to the verdict's count, which is looked up and raised last. The flows are looked up once where the frame gets past the guards
--- (the rule's first four cases) and its service is tracked, and else never. Which call each record was read by is said by the plan (Steering).
-use Rattle.std.specs.Prelude.{◌≡◌, ◌⊎◌, ℕ, ◌+◌, ◌==◌, ◌&&◌, Bool, false, not, List, [], ◌∷◌, ◌++◌, length, Option, Some, None, if◌then◌else◌}
+-- The result of a finished run by the steering rule: verdict, frame, and what it asked of the maps. By some records the rule chose
+-- something; verdict and frame are those of the choice. The calls that are neither Lookup nor Load are one Update of the flows, with the
+-- flag ANY, where the rule notes the flow, and one atomic add of 1 to the verdict's count, which is looked up and raised last. The flows
+-- are looked up once where the frame gets past the guards (the rule's first four cases) and its service is tracked, and else never. Which
+-- call each record was read by is said by the plan (Steering).
+use Rattle.std.specs.Prelude.{◌≡◌, ◌⊎◌, ℕ, ◌+◌, ◌==◌, ◌&&◌, Bool, false, not, List, [], ◌∷◌, ◌++◌, length, Option, Some, None}
+use Rattle.std.specs.Prelude.{if◌then◌else◌}
 use Rattle.wire.specs.FrameView.{FrameView}
 use Rattle.semantics.specs.declared.call.Call.{Call}
 use Rattle.semantics.specs.declared.call.Call.TheVariants.{Lookup, Load, Update}
@@ -52,7 +54,8 @@ pub record IsRaised (setting : Setting) (verdict : Verdict) (exchanges : List Ex
   pub cell : CellRef
   pub old : Reply
   pub calls :
-      exchanges ≡ (record { call = count_lookup setting verdict; reply = Cell cell }) ∷ (record { call = count_call cell; reply = old }) ∷ []
+      exchanges ≡
+      (record { call = count_lookup setting verdict; reply = Cell cell }) ∷ (record { call = count_call cell; reply = old }) ∷ []
 
 abbrev pub IsNoCell : Reply → Type 0
 IsNoCell (Cell cell) = ⊥
@@ -88,7 +91,8 @@ flow_lookups_due frame records = if gets_to_note frame records then 1 else 0
 
 -- ---- the result
 
-pub record IsResult (setting : Setting) (frame : FrameView) (exchanges : List Exchange) (verdict : Verdict) (left : FrameView) : Type 0 where
+pub record IsResult (setting : Setting) (frame : FrameView) (exchanges : List Exchange) (verdict : Verdict) (left : FrameView) :
+    Type 0 where
   -- the rule chose this by these records
   pub records : Records
   pub choice : Choice

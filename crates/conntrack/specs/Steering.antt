@@ -1,9 +1,11 @@
--- The steering rule as a plan: which records a run reads, one after the other, and then what the rule (SteeringRule) makes of those that it read.
--- In the rule's order: a frame without a flow reads nothing (1); the service's record, and without one no more (2); a packet that cannot go through the
--- tunnel reads no more (3); the tunnel's record, and where it is not set up no more (4); the flow's note and the noted backend's record, left out for a
--- service without tracking (5); unless that backend gets the frame, the slot of the flow's hash and its owner's record (6). At each end the rule's choice
--- is carried out: the note where the rule says so, the verdict's count, and the frame in the tunnel (7).
-use Rattle.std.specs.Prelude.{ℕ, ◌+◌, ◌%◌, ◌==◌, List, [], ◌∷◌, ◌++◌, Bool, ◌&&◌, ◌||◌, nat_le, Option, Some, None, if◌then◌else◌, replicate, bit_and, slice_index, length}
+-- The steering rule as a plan: which records a run reads, one after the other, and then what the rule (SteeringRule) makes of those that
+-- it read. In the rule's order: a frame without a flow reads nothing (1); the service's record, and without one no more (2); a packet
+-- that cannot go through the tunnel reads no more (3); the tunnel's record, and where it is not set up no more (4); the flow's note and
+-- the noted backend's record, left out for a service without tracking (5); unless that backend gets the frame, the slot of the flow's
+-- hash and its owner's record (6). At each end the rule's choice is carried out: the note where the rule says so, the verdict's count,
+-- and the frame in the tunnel (7).
+use Rattle.std.specs.Prelude.{ℕ, ◌+◌, ◌%◌, ◌==◌, List, [], ◌∷◌, ◌++◌, Bool, ◌&&◌, ◌||◌, nat_le, Option, Some, None, if◌then◌else◌}
+use Rattle.std.specs.Prelude.{replicate, bit_and, slice_index, length}
 use Rattle.wire.specs.FrameView.{FrameView}
 use Rattle.wire.specs.Fnv.{fnv1a64_of}
 use Rattle.wire.specs.FlowForm.{bytes_at, flow_bytes_of, be_word_at}
@@ -80,7 +82,9 @@ count_call cell = Atomic cell 0 8 0 1 0
 
 -- the verdict's count is raised by one, and the run ends
 abbrev pub counted : Setting → Verdict → FrameView → Plan
-counted setting verdict frame = look setting Stats (bytes_of_number 4 (verdict_number verdict)) (λ cell. Asks (count_call cell) (λ reply. Ends verdict frame)) (Ends verdict frame)
+counted setting verdict frame =
+    look setting Stats (bytes_of_number 4 (verdict_number verdict))
+    (λ cell. Asks (count_call cell) (λ reply. Ends verdict frame)) (Ends verdict frame)
 
 -- the rule's choice for a frame with these records
 abbrev pub choice_in : List ℕ → Records → Choice
@@ -114,7 +118,8 @@ read_backend setting number on =
 -- the owner of the flow's slot
 abbrev pub read_owner : Setting → FrameView → Records → Option ℕ → Plan
 read_owner setting frame records None = finish setting frame records
-read_owner setting frame records (Some number) = read_backend setting number (λ assigned. finish setting frame (record records { slot = Some assigned }))
+read_owner setting frame records (Some number) =
+    read_backend setting number (λ assigned. finish setting frame (record records { slot = Some assigned }))
 
 abbrev pub read_slot : Setting → FrameView → Records → Plan
 read_slot setting frame records =
@@ -132,7 +137,8 @@ read_note setting frame vip records =
     either vip.is_notrack (read_slot setting frame records)
     (record_of setting Flows (flow_bytes_of frame.bytes)
     (λ word. read_backend setting (flow_of (bytes_of_number 8 word)).backend (λ assigned.
-    unless_tracked setting frame (record records { tracked = Some assigned }) (tracked_choice vip (record records { tracked = Some assigned }))))
+    unless_tracked setting frame (record records { tracked = Some assigned })
+    (tracked_choice vip (record records { tracked = Some assigned }))))
     (read_slot setting frame records))
 
 -- the tunnel's record: first whether it is ready, and then its addresses
@@ -142,7 +148,8 @@ read_tunnel setting frame vip records =
     (λ cell. read cell 16 8 (λ state.
     either (tunnel_of (replicate 16 0 ++ bytes_of_number 8 state)).is_ready
     (read cell 0 8 (λ source. read cell 8 8 (λ macs.
-    read_note setting frame vip (record records { tunnel = Some (tunnel_of (bytes_of_number 8 source ++ (bytes_of_number 8 macs ++ bytes_of_number 8 state))) }))))
+    read_note setting frame vip
+    (record records { tunnel = Some (tunnel_of (bytes_of_number 8 source ++ (bytes_of_number 8 macs ++ bytes_of_number 8 state))) }))))
     (finish setting frame (record records { tunnel = Some (tunnel_of (replicate 16 0 ++ bytes_of_number 8 state)) }))))
     (finish setting frame records)
 

@@ -1,4 +1,5 @@
--- Laws of the steering rule as a plan: its choice is the rule's, its finished runs are results of the rule, and a flow stays with its backend.
+-- Laws of the steering rule as a plan: its choice is the rule's, its finished runs are results of the rule, and a flow stays with its
+-- backend.
 use Rattle.std.specs.Prelude.{◌≡◌, ℕ, true, false, List, [], ◌∷◌, ◌++◌, length, Some}
 use Rattle.wire.specs.declared.flow.FlowKey.{FlowKey}
 use Rattle.wire.specs.FlowBytes.{flow_key_bytes}
@@ -63,7 +64,8 @@ StoringRunsAreNoResults =
 
 -- ---- sticky flows
 
--- by these replies a run has found its service, which is tracked, the tunnel's record, a backend noted for the flow, and that backend's record
+-- by these replies a run has found its service, which is tracked, the tunnel's record, a backend noted for the flow, and that backend's
+-- record
 pub record FindsNote (tunnel : TunnelRecord) (number : ℕ) (backend : BackendRecord) (replies : List Reply) : Type 0 where
   pub service_cell : CellRef
   pub flags : ℕ
@@ -86,7 +88,8 @@ pub record FindsNote (tunnel : TunnelRecord) (number : ℕ) (backend : BackendRe
   pub number_is : number ≡ (flow_of (bytes_of_number 8 note)).backend
   pub backend_is : backend ≡ backend_of (bytes_of_number 8 word)
 
--- a run that gets past the guards and finds a backend that is up noted for its flow sends the frame to that backend, and does not change the note
+-- a run that gets past the guards and finds a backend that is up noted for its flow sends the frame to that backend, and does not change
+-- the note
 abbrev pub FlowsStick : Type 0
 FlowsStick =
     (setting : Setting) (frame : FrameView) (tunnel : TunnelRecord) (number : ℕ) (backend : BackendRecord) (replies : List Reply) →

@@ -3,20 +3,21 @@
 ghost use Rattle.conntrack.specs.SteeringLaws.{FollowsRule, AsksForTheService, FinishedRunsAreResults, FlowsStick};
 ghost use Rattle.conntrack.specs.SteeringLaws.{UncountedRunsAreNoResults, StoringRunsAreNoResults};
 
-/// The plan of reading chooses by the rule that `choose` follows, for every frame and all records; it looks the service up under the key of the
-/// frame's flow.
+/// The plan of reading chooses by the rule that `choose` follows, for every frame and all records; it looks the service up under the key
+/// of the frame's flow.
 pub fn reads_follow_the_rule()
     ensures rule { FollowsRule }
     ensures service { AsksForTheService }
 {}
 
-/// A run of the plan that is over is a result of the rule: verdict, frame, one note at most, the count last, and no lookup of the flows too many.
+/// A run of the plan that is over is a result of the rule: verdict, frame, one note at most, the count last, and no lookup of the flows
+/// too many.
 pub fn finished_runs_are_results()
     ensures { FinishedRunsAreResults }
 {}
 
-/// A flow stays with its backend: each of its runs that gets past the guards of a tracked service, finds the note, and finds the noted backend up, sends the
-/// frame to that backend and leaves the note as it is.
+/// A flow stays with its backend: each of its runs that gets past the guards of a tracked service, finds the note, and finds the noted
+/// backend up, sends the frame to that backend and leaves the note as it is.
 pub fn flows_stick()
     ensures { FlowsStick }
 {}

@@ -1,5 +1,6 @@
 -- The first block: a frame without a flow passes.
-use Rattle.std.proofs.Common.{◌≡◌, ℕ, ◌+◌, ◌*◌, List, [], ◌∷◌, refl, sym, subst, ap, ◌<◌, ◌≤◌, ◌==◌, true, false, Bool, drop, not, length, replicate}
+use Rattle.std.proofs.Common.{◌≡◌, ℕ, ◌+◌, ◌*◌, List, [], ◌∷◌, refl, sym, subst, ap, ◌<◌, ◌≤◌, ◌==◌, true, false, Bool, drop, not, length}
+use Rattle.std.proofs.Common.{replicate}
 use Rattle.std.specs.Prelude.{slice_index, nat_lt, ◌||◌, pos}
 use Rattle.ebpf_decode.specs.declared.insn.Insn.{Insn}
 use Rattle.ebpf_decode.specs.InstructionEncoding.{slot_count}

@@ -1,5 +1,6 @@
 -- The tests of the flow block, against what a flow is.
-use Rattle.std.proofs.Common.{◌≡◌, ℕ, ◌+◌, ◌*◌, ◌&&◌, List, refl, sym, ap, ◌∙◌, pos, ◌<◌, ◌≤◌, ◌%◌, ◌==◌, true, false, Bool, arith, not, length}
+use Rattle.std.proofs.Common.{◌≡◌, ℕ, ◌+◌, ◌*◌, ◌&&◌, List, refl, sym, ap, ◌∙◌, pos, ◌<◌, ◌≤◌, ◌%◌, ◌==◌, true, false, Bool, arith, not}
+use Rattle.std.proofs.Common.{length}
 use Rattle.std.specs.Prelude.{bit_and, nat_le, nat_lt, ◌||◌, ◌+ℤ◌}
 use Rattle.std.specs.Int.{swap_bytes, w16}
 use Rattle.std.proofs.lemmas.Bool.Decides.{nat_tests}

@@ -1,5 +1,6 @@
 -- The blocks that look records up.
-use Rattle.std.proofs.Common.{◌≡◌, ℕ, ◌+◌, ◌-◌, ◌*◌, List, ◌∷◌, refl, sym, subst, ap, ◌∙◌, ◌<◌, ◌^◌, ◌%◌, ◌==◌, true, false, Bool, arith, drop, not}
+use Rattle.std.proofs.Common.{◌≡◌, ℕ, ◌+◌, ◌-◌, ◌*◌, List, ◌∷◌, refl, sym, subst, ap, ◌∙◌, ◌<◌, ◌^◌, ◌%◌, ◌==◌, true, false, Bool, arith}
+use Rattle.std.proofs.Common.{drop, not}
 use Rattle.std.specs.Prelude.{slice_index, bit_xor, if◌then◌else◌}
 use Rattle.std.specs.Int.Bits.{xor_zero_r}
 use Rattle.std.proofs.lemmas.Bool.Decides.{nat_tests}
@@ -20,7 +21,8 @@ use Rattle.block_runs.specs.Plan.{Plan}
 use Rattle.block_runs.proofs.shared.Blocks.{Meets, Arrives}
 use Rattle.conntrack.specs.Steering.{Setting, service_bytes_of}
 use Rattle.steer.proofs.Conversation.{by_service, by_tunnel, by_note, by_ring, is_up}
-use Rattle.steer.proofs.Promises.{AtVip, AtGuards, AtTracking, AtHash, AtRing, program, promise, came_in, is_came_in, from_guards, from_tracking, from_hash, from_ring, from_tunnel}
+use Rattle.steer.proofs.Promises.{AtVip, AtGuards, AtTracking, AtHash, AtRing, program, promise, came_in, is_came_in, from_guards}
+use Rattle.steer.proofs.Promises.{from_tracking, from_hash, from_ring, from_tunnel}
 use Rattle.steer.specs.PartStarts.{IsLong, with_r6, packet_start, service_stack, flow_stack, tunnel_stack, reg, place}
 use Rattle.block_runs.proofs.shared.SpelledStates.{spelled, as_spelled}
 use Rattle.block_runs.proofs.shared.BlockTests.{jumps, falls, forks, turns}

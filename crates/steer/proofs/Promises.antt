@@ -1,5 +1,5 @@
 -- What is promised where the blocks of the shipped program begin: what a state is there, and what is still to be done.
-use Rattle.std.proofs.Common.{◌≡◌, ℕ, ◌+◌, ◌*◌, ◌<◌, List, [], ◌∷◌, replicate, drop, length, ◌≤◌, pos}
+use Rattle.std.proofs.Common.{◌≡◌, ℕ, ◌+◌, ◌*◌, ◌<◌, List, [], ◌∷◌, drop, pos}
 use Rattle.std.specs.Prelude.{slice_index}
 use Rattle.ebpf_decode.specs.declared.insn.Insn.{Insn}
 use Rattle.wire.specs.FrameView.{FrameView}
@@ -9,15 +9,16 @@ use Rattle.wire.specs.FlowBytes.{be_bytes}
 use Rattle.wire.specs.PlainIpv4.{total_length, type_of_service}
 use Rattle.steer.proofs.Tunnelling.{tunnelled_with}
 use Rattle.block_runs.specs.Plan.{Plan, Ends}
-use Rattle.steer.specs.PartStarts.{place, reg, with_r6, packet_start, any_stack, tunnel_stack, long_frame, IsLong, IsAt, FlowStart, VipStart, GuardsStart, TrackingStart, RingStart, TunnelStart, VerdictStart, CountStart}
+use Rattle.steer.specs.PartStarts.{place, reg, with_r6, packet_start, any_stack, tunnel_stack, long_frame, IsLong, IsAt, FlowStart}
+use Rattle.steer.specs.PartStarts.{VipStart, GuardsStart, TrackingStart, RingStart, TunnelStart, VerdictStart, CountStart}
 use Rattle.block_runs.proofs.shared.Blocks.{Promise, Named, Arrives}
-use Rattle.conntrack.specs.Steering.{Setting, counted, service_bytes_of}
+use Rattle.conntrack.specs.Steering.{Setting, counted}
 use Rattle.steer.proofs.Conversation.{sent, by_ring, by_note, by_tunnel, by_service, steered}
 use Rattle.semantics.specs.declared.verdict.Verdict.{Verdict}
 use Rattle.semantics.specs.declared.verdict.Verdict.TheVariants as V
 use Rattle.semantics.specs.LittleEndian.{bytes_of_number, number_of_bytes}
 use Rattle.semantics.specs.RegisterValue.{Number, StackPointer, ContextPointer, PacketPointer}
-use Rattle.semantics.specs.MachineState.{MachineState, Unwritten, initial_registers}
+use Rattle.semantics.specs.MachineState.{MachineState}
 use Rattle.semantics.specs.Program.{Program}
 use Rattle.semantics.specs.Semantics.{verdict_number}
 use Rattle.conntrack.specs.SteeringMaps.{steering_maps}

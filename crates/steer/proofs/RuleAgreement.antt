@@ -1,5 +1,6 @@
 -- The conversation that the blocks carry out agrees with what the steering rule makes of the records that were read.
-use Rattle.std.proofs.Common.{◌≡◌, ℕ, zero, suc, ◌-◌, ◌^◌, ◌<◌, ◌==◌, ◌++◌, ◌&&◌, not, Bool, true, false, List, refl, sym, ap, subst, arith, ◌∙◌, replicate}
+use Rattle.std.proofs.Common.{◌≡◌, ℕ, zero, suc, ◌-◌, ◌^◌, ◌<◌, ◌==◌, ◌++◌, ◌&&◌, not, Bool, true, false, List, refl, sym, ap, subst}
+use Rattle.std.proofs.Common.{arith, ◌∙◌, replicate}
 use Rattle.std.specs.Prelude.{Option, Some, None, if◌then◌else◌, nat_lt}
 use Rattle.std.specs.Option.{unwrap_or}
 use Rattle.std.proofs.lemmas.Bool.Decides.{nat_tests}
@@ -23,7 +24,8 @@ use Rattle.conntrack.specs.Layouts.{vip_of, flow_of, backend_of, tunnel_of, owne
 use Rattle.conntrack.specs.SteeringRule.{fits_tunnel, tracked_choice, ring_choice, tunnel_to}
 use Rattle.conntrack.specs.declared.steering_maps.SteeringMap.TheVariants as M
 use Rattle.block_runs.specs.Plan.{Plan, Asks, either}
-use Rattle.conntrack.specs.Steering.{Setting, look, read, record_of, counted, has_flow, steering, finish, ending, choice_in, no_records, read_service, pass_guard, read_tunnel, read_note, read_slot, read_owner, unless_tracked}
+use Rattle.conntrack.specs.Steering.{Setting, look, read, record_of, counted, has_flow, steering, finish, ending, choice_in, no_records}
+use Rattle.conntrack.specs.Steering.{read_service, pass_guard, read_tunnel, read_note, read_slot, read_owner, unless_tracked}
 use Rattle.steer.proofs.Conversation.{dropped, sent, noted, by_ring, by_note, by_service, by_tunnel, steered, is_up, is_ready, is_notrack}
 use Rattle.block_runs.proofs.shared.Agreement.{Agrees, agrees_same, agree_forks}
 use Rattle.steer.proofs.RecordLemmas.{notrack_is, up_is, ready_is, note_key, fits_is, same_frame, note_bytes}

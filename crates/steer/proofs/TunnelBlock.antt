@@ -19,7 +19,8 @@ use Rattle.steer.proofs.Conversation.{sent}
 use Rattle.steer.proofs.Promises.{AtTunnel, AtChecksum, program, promise, came_in, is_came_in, from_checksum, from_pass}
 use Rattle.steer.specs.PartStarts.{IsLong, packet_start, with_r6, tunnel_stack, any_stack, long_frame, reg, place}
 use Rattle.block_runs.proofs.shared.SpelledStates.{spelled, as_spelled}
-use Rattle.steer.proofs.NumberLemmas.{bytes_back, small_number, low_four, low_four_bytes, service_word, service_bytes, total_word, total_bytes}
+use Rattle.steer.proofs.NumberLemmas.{bytes_back, small_number, low_four, low_four_bytes, service_word, service_bytes, total_word}
+use Rattle.steer.proofs.NumberLemmas.{total_bytes}
 use Rattle.block_runs.proofs.shared.BlockTests.{falls}
 use Rattle.steer.proofs.ChecksumLemmas.{checksum_field, added, fold_once}
 use Rattle.steer.specs.ShippedProgram.{tunnel_block, checksum_block}

@@ -1,5 +1,7 @@
--- The blocks together: from each part's start the shipped program does what is left of the rule's plan, and so from the beginning of a run the whole.
-use Rattle.std.proofs.Common.{◌≡◌, ◌⊎◌, inl, inr, ◌≤◌, ◌<◌, ◌==◌, ℕ, zero, suc, false, List, [], ◌∷◌, refl, sym, ap, subst, ◌∙◌, arith, length}
+-- The blocks together: from each part's start the shipped program does what is left of the rule's plan, and so from the beginning of a
+-- run the whole.
+use Rattle.std.proofs.Common.{◌≡◌, ◌⊎◌, inl, inr, ◌≤◌, ◌<◌, ◌==◌, ℕ, zero, suc, false, List, [], ◌∷◌, refl, sym, ap, subst, ◌∙◌, arith}
+use Rattle.std.proofs.Common.{length}
 use Rattle.std.specs.Prelude.{All, slice_index, None}
 use Rattle.std.proofs.lemmas.Bool.{cases_lt}
 use Rattle.std.proofs.lemmas.List.Elements.{All-get_or}
@@ -12,7 +14,7 @@ use Rattle.semantics.specs.System.{input_frame}
 use Rattle.semantics.specs.RunTrace.{RunTrace}
 use Rattle.maglev.specs.RingSize.{IsRingSize}
 use Rattle.ipip.specs.Encapsulation.{encapsulated_frame}
-use Rattle.map_port.specs.Exchanges.{calls_in, replies_in}
+use Rattle.map_port.specs.Exchanges.{replies_in}
 use Rattle.block_runs.specs.Plan.{Plan, AreAnswers, outcome_of}
 use Rattle.block_runs.proofs.shared.Blocks.{Promise, BlocksMeet, Arrives, code_of}
 use Rattle.block_runs.proofs.shared.BlockLaw.{blocks_join, does_more}
@@ -24,7 +26,8 @@ use Rattle.conntrack.proofs.shared.RuleLemmas.{passes_test}
 use Rattle.conntrack.proofs.shared.ResultLemmas.{finished_runs}
 use Rattle.steer.specs.ShippedProgram.{shipped_image}
 use Rattle.steer.specs.SteeringLaws.{ShippedSteers, ExitedRunsAreResults, shipped_program, of_size, whole_trace}
-use Rattle.steer.specs.PartLaws.{DoesFrom, vip_in, tunnel_in, records_in, FlowDoesItsPart, VipDoesItsPart, GuardsDoTheirPart, TrackingDoesItsPart}
+use Rattle.steer.specs.PartLaws.{DoesFrom, vip_in, tunnel_in, records_in, FlowDoesItsPart, VipDoesItsPart, GuardsDoTheirPart}
+use Rattle.steer.specs.PartLaws.{TrackingDoesItsPart}
 use Rattle.steer.specs.PartLaws.{RingDoesItsPart, TunnelDoesItsPart, CountDoesItsPart, PassIsCounted, DropIsCounted}
 use Rattle.steer.proofs.Conversation.{steered, by_service, by_tunnel, by_note, by_ring, sent}
 use Rattle.steer.proofs.Promises.{program, promise, from_flow, AtFlow, AtVip, AtGuards, AtTracking, AtHash, AtTunnel, AtVerdict, AtCount}

@@ -1,6 +1,7 @@
--- When a list of blocks has the form in which a program can be read and proved block by block: no block is long, and control leaves a block only
--- past its end or for the start of a later one.
-use Rattle.std.specs.Prelude.{ℕ, ◌+◌, ◌==◌, Bool, true, false, ◌&&◌, ◌||◌, nat_lt, nat_le, ℤ, pos, negsuc, List, [], ◌∷◌, length, Option, Some, None}
+-- When a list of blocks has the form in which a program can be read and proved block by block: no block is long, and control leaves a
+-- block only past its end or for the start of a later one.
+use Rattle.std.specs.Prelude.{ℕ, ◌+◌, ◌==◌, Bool, true, false, ◌&&◌, ◌||◌, nat_lt, nat_le, ℤ, pos, negsuc, List, [], ◌∷◌, length, Option}
+use Rattle.std.specs.Prelude.{Some, None}
 use Rattle.ebpf_decode.specs.declared.insn.Insn.{Insn}
 use Rattle.ebpf_decode.specs.InstructionEncoding.{slot_count, total_slots}
 use Rattle.ebpf_decode.specs.Jumps.{jump_distance}

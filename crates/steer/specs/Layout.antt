@@ -1,4 +1,5 @@
--- How blocks are laid out: a line is an instruction, or a jump to the start of a block, which becomes a jump by the distance from the slot after it.
+-- How blocks are laid out: a line is an instruction, or a jump to the start of a block, which becomes a jump by the distance from the
+-- slot after it.
 use Rattle.std.specs.Prelude.{ℕ, ◌+◌, ◌-◌, List, [], ◌∷◌, pos}
 use Rattle.ebpf_decode.specs.declared.insn.Insn.{Insn}
 use Rattle.ebpf_decode.specs.declared.insn.Insn.TheVariants.{Ja, JumpIf}

@@ -1,5 +1,5 @@
--- The shares of the program's seven parts in the steering rule: from a part's start on, the program does what is left there of the rule's plan. So a
--- part's own share is what its plan asks and decides before it comes to the plan of the next part.
+-- The shares of the program's seven parts in the steering rule: from a part's start on, the program does what is left there of the rule's
+-- plan. So a part's own share is what its plan asks and decides before it comes to the plan of the next part.
 use Rattle.std.specs.Prelude.{◌≡◌, ℕ, ◌<◌, ◌^◌, ◌++◌, true, List, Option, Some, None}
 use Rattle.ebpf_decode.specs.InstructionEncoding.{total_slots}
 use Rattle.wire.specs.FlowForm.{HasFlow}
@@ -47,7 +47,8 @@ pub record IsPastGuards (frame : List ℕ) (tunnel : TunnelRecord) : Type 0 wher
 -- flow: does the frame have one? Else it passes
 abbrev pub FlowDoesItsPart : Type 0
 FlowDoesItsPart =
-    (setting : Setting) → IsRingSize setting.size → (state : MachineState) → FlowStart state → DoesFrom setting state (steering setting state.frame)
+    (setting : Setting) → IsRingSize setting.size → (state : MachineState) → FlowStart state →
+    DoesFrom setting state (steering setting state.frame)
 
 -- vip: is the flow for a service? Else it passes
 abbrev pub VipDoesItsPart : Type 0
@@ -58,7 +59,8 @@ VipDoesItsPart =
 -- guards: can the packet be tunnelled, and is the tunnel set up? Else it is dropped
 abbrev pub GuardsDoTheirPart : Type 0
 GuardsDoTheirPart =
-    (setting : Setting) → IsRingSize setting.size → (flags : ℕ) (state : MachineState) → GuardsStart flags state → HasFlow state.frame.bytes →
+    (setting : Setting) → IsRingSize setting.size → (flags : ℕ) (state : MachineState) → GuardsStart flags state →
+    HasFlow state.frame.bytes →
     DoesFrom setting state (pass_guard setting state.frame (vip_in flags))
 
 -- tracking: the backend that was noted for the flow, if it is up and the service is tracked

@@ -1,7 +1,9 @@
--- Where the seven parts of the shipped program begin, and what the state is there: the slot, the registers, the stack and the frame. A register or a byte of
--- the stack that a part does not read may be anything. R6 has the context, R7 the packet's start, R8 the service's flags, R9 the packet's length and later the
--- chosen backend's record, R10 the stack's upper end. The stack's last sixteen bytes have the flow's key.
-use Rattle.std.specs.Prelude.{◌≡◌, ◌≤◌, ◌<◌, ℕ, zero, suc, ◌+◌, ◌++◌, List, [], ◌∷◌, drop, length, pos, replicate, slice_index, slice_index_or}
+-- Where the seven parts of the shipped program begin, and what the state is there: the slot, the registers, the stack and the frame. A
+-- register or a byte of the stack that a part does not read may be anything. R6 has the context, R7 the packet's start, R8 the service's
+-- flags, R9 the packet's length and later the chosen backend's record, R10 the stack's upper end. The stack's last sixteen bytes have the
+-- flow's key.
+use Rattle.std.specs.Prelude.{◌≡◌, ◌≤◌, ◌<◌, ℕ, zero, suc, ◌+◌, ◌++◌, List, [], ◌∷◌, drop, length, pos, replicate, slice_index}
+use Rattle.std.specs.Prelude.{slice_index_or}
 use Rattle.wire.specs.FrameView.{FrameView}
 use Rattle.wire.specs.FlowForm.{flow_bytes_of}
 use Rattle.wire.specs.PlainIpv4.{total_length}
@@ -51,7 +53,8 @@ service_stack place service flow = cells 0 488 place ++ (as_written service ++ a
 -- at -48 the first two words of the tunnel's record
 abbrev pub tunnel_stack : (ℕ → StackByte) → ℕ → ℕ → List ℕ → List StackByte
 tunnel_stack place source macs flow =
-    cells 0 464 place ++ (as_written (bytes_of_number 8 source) ++ (as_written (bytes_of_number 8 macs) ++ (cells 480 16 place ++ as_written flow)))
+    cells 0 464 place
+    ++ (as_written (bytes_of_number 8 source) ++ (as_written (bytes_of_number 8 macs) ++ (cells 480 16 place ++ as_written flow)))
 
 -- ---- frames
 
@@ -125,9 +128,12 @@ TunnelStart source macs backend state =
 -- at one of the two blocks that fix a verdict, whatever R6 to R9 are
 abbrev pub VerdictStart : ℕ → MachineState → Type 0
 VerdictStart start state =
-    IsDecided start (with_r6 (reg state.registers 6) (reg state.registers 7) (reg state.registers 8) (reg state.registers 9) (reg state.registers)) state
+    IsDecided start
+    (with_r6 (reg state.registers 6) (reg state.registers 7) (reg state.registers 8) (reg state.registers 9) (reg state.registers)) state
 
 -- with the verdict in R6
 abbrev pub CountStart : Verdict → MachineState → Type 0
 CountStart verdict state =
-    IsDecided 208 (with_r6 (Number (verdict_number verdict)) (reg state.registers 7) (reg state.registers 8) (reg state.registers 9) (reg state.registers)) state
+    IsDecided 208
+    (with_r6 (Number (verdict_number verdict)) (reg state.registers 7) (reg state.registers 8) (reg state.registers 9)
+    (reg state.registers)) state

@@ -1,4 +1,5 @@
--- The shipped program: the steering rule over the six maps of steering, as a list of blocks. A jump leads from its block to the start of a later one.
+-- The shipped program: the steering rule over the six maps of steering, as a list of blocks. A jump leads from its block to the start of
+-- a later one.
 use Rattle.std.specs.Prelude.{ℕ, ◌+◌, zero, suc, ℤ, pos, negsuc, List, [], ◌∷◌, ◌++◌, map}
 use Rattle.std.specs.List.{flat_map}
 use Rattle.isa.specs.declared.operation.Register.TheVariants.{R0, R1, R2, R3, R4, R6, R7, R8, R9, R10}

@@ -1,5 +1,6 @@
--- What the shipped program does: for every input frame, worker, time and number of shards, and for all replies that have their calls' form, a run of
--- it has the outcome of the steering rule's plan (conntrack's Steering), and a run that is over is a result of the rule (conntrack's Results).
+-- What the shipped program does: for every input frame, worker, time and number of shards, and for all replies that have their calls'
+-- form, a run of it has the outcome of the steering rule's plan (conntrack's Steering), and a run that is over is a result of the rule
+-- (conntrack's Results).
 use Rattle.std.specs.Prelude.{◌≡◌, ℕ, List}
 use Rattle.ebpf_decode.specs.InstructionEncoding.{total_slots}
 use Rattle.semantics.specs.declared.call.Reply.{Reply}
@@ -24,10 +25,11 @@ whole_trace program state replies = trace_of (total_slots program.code) program 
 
 -- the shipped program over so many shards to a map
 abbrev pub shipped_program : Setting → Program
-shipped_program setting = record { code = (shipped_image setting.size).code; maps = (shipped_image setting.size).maps; shards = setting.shards }
+shipped_program setting =
+    record { code = (shipped_image setting.size).code; maps = (shipped_image setting.size).maps; shards = setting.shards }
 
--- on every frame that comes in, on any worker at any time, and on all replies that have their calls' form, the outcome of the shipped program is
--- that of the steering rule, within as many instructions as the program has slots
+-- on every frame that comes in, on any worker at any time, and on all replies that have their calls' form, the outcome of the shipped
+-- program is that of the steering rule, within as many instructions as the program has slots
 abbrev pub ShippedSteers : Type 0
 ShippedSteers =
     (size shards : ℕ) → IsRingSize size → (frame : List ℕ) → IsInputFrame frame → (worker now : ℕ) (replies : List Reply) →

@@ -5,8 +5,10 @@
 //! key (8 at -24), an index (4 at -28), the tunnel's record (the first 16 bytes at -48), the chosen backend's number (8 at -56).
 
 ghost use Rattle.std.specs.Prelude.{◌≡◌, ◌≤◌, ◌++◌, OnOk};
-ghost use Rattle.steer.specs.ShippedProgram.{call_of, of_map, decided, hash_block, hash_byte, flow_lines, key_lines, vip_lines, guards_lines};
-ghost use Rattle.steer.specs.ShippedProgram.{tracking_lines, ring_lines, tunnel_lines, checksum_lines, pass_lines, drop_lines, count_lines, end_lines};
+ghost use Rattle.steer.specs.ShippedProgram.{call_of, of_map, decided, hash_block, hash_byte, flow_lines, key_lines, vip_lines};
+ghost use Rattle.steer.specs.ShippedProgram.{guards_lines};
+ghost use Rattle.steer.specs.ShippedProgram.{tracking_lines, ring_lines, tunnel_lines, checksum_lines, pass_lines, drop_lines};
+ghost use Rattle.steer.specs.ShippedProgram.{count_lines, end_lines};
 
 use crate::layout::Block;
 use crate::layout::Line;
@@ -322,7 +324,8 @@ pub(crate) fn put_hash(code: &mut Vec<Insn>) -> Result<(), AllocError>
     code.extend_from_slice(&HASH_ZERO)
 }
 
-/// The owner of the flow's slot, if it is up, else the frame is dropped. It is noted for the flow, unless the service is without tracking.
+/// The owner of the flow's slot, if it is up, else the frame is dropped. It is noted for the flow, unless the service is without
+/// tracking.
 #[rattlefmt::skip]
 pub(crate) fn ring_lines(size: u32) -> [Line; 28]
     requires { size ≤ 65537 }

@@ -8,7 +8,8 @@ ghost use Rattle.steer.specs.PartLaws.{FlowDoesItsPart, VipDoesItsPart, GuardsDo
 ghost use Rattle.steer.specs.PartLaws.{RingDoesItsPart, TunnelDoesItsPart, CountDoesItsPart, PassIsCounted, DropIsCounted};
 ghost use Rattle.steer.specs.SteeringLaws.{ShippedSteers, ExitedRunsAreResults};
 
-/// The program is a list of blocks of at most 64 instructions, whose jumps leave a block only for the start of a later one; it takes 219 slots.
+/// The program is a list of blocks of at most 64 instructions, whose jumps leave a block only for the start of a later one; it takes 219
+/// slots.
 pub fn comes_in_blocks(size: u32)
     ensures blocks { IsTrue (are_blocks 0 (shipped_blocks size)) }
     ensures slots { total_slots (code_of (shipped_blocks size)) ≡ 219 }
@@ -16,8 +17,8 @@ pub fn comes_in_blocks(size: u32)
     let _ = size;
 }
 
-/// The program carries out the steering rule: on each input frame, worker, time and number of shards, and on all replies that have their calls' form,
-/// its calls, verdict and frame are those of the rule's plan; where the run is over, it is a result of the rule.
+/// The program carries out the steering rule: on each input frame, worker, time and number of shards, and on all replies that have their
+/// calls' form, its calls, verdict and frame are those of the rule's plan; where the run is over, it is a result of the rule.
 pub fn steers()
     ensures plan { ShippedSteers }
     ensures results { ExitedRunsAreResults }

@@ -1,5 +1,6 @@
 -- Blocks that do their parts do the whole.
-use Rattle.std.proofs.Common.{◌≡◌, ◌≤◌, ℕ, zero, suc, ◌+◌, ◌==◌, ◌++◌, Bool, true, false, not, List, [], ◌∷◌, refl, sym, ap, subst, arith, ℤ, ◌∙◌}
+use Rattle.std.proofs.Common.{◌≡◌, ◌≤◌, ℕ, zero, suc, ◌+◌, ◌==◌, ◌++◌, Bool, true, false, List, [], ◌∷◌, refl, sym, ap, subst, arith, ℤ}
+use Rattle.std.proofs.Common.{◌∙◌}
 use Rattle.std.specs.Prelude.{Some, Ok, Err}
 use Rattle.std.proofs.lemmas.Bool.{eqb-true}
 use Rattle.ebpf_decode.specs.declared.insn.Insn.{Insn}
@@ -18,8 +19,9 @@ use Rattle.semantics.specs.Comparison.{jump_outcome}
 use Rattle.semantics.specs.Memory.{cell_ref}
 use Rattle.semantics.specs.RunTrace.{IsReplyTo, trace_of, trace_from}
 use Rattle.semantics.specs.Semantics.{instruction_step, next_step, step_of, jump_step, branch_step, at_next_slot}
-use Rattle.block_runs.specs.Plan.{Plan, Asks, Ends, Does, AreAnswers, outcome_of, plan_outcome, asked, RunOutcome, Waiting, Ended, either}
-use Rattle.block_runs.proofs.shared.Blocks.{Promise, Named, BlocksMeet, Arrives, Meets, MeetsStep, MeetsTest, MeetsJump, AsksThis, EndsThis, ForReplies, by_test, comes, slot_after, code_of, longest, longest_of, BlocksJoin}
+use Rattle.block_runs.specs.Plan.{Plan, Asks, Ends, Does, AreAnswers, outcome_of, plan_outcome, asked, RunOutcome, Waiting, Ended}
+use Rattle.block_runs.proofs.shared.Blocks.{Promise, Named, BlocksMeet, Arrives, Meets, MeetsStep, MeetsTest, MeetsJump, AsksThis}
+use Rattle.block_runs.proofs.shared.Blocks.{EndsThis, ForReplies, by_test, comes, slot_after, code_of, longest, longest_of, BlocksJoin}
 
 -- ---- one step
 

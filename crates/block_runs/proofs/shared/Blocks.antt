@@ -1,5 +1,5 @@
--- What is to be shown of a block of instructions, computed by running it from a state: a plain statement about the tests that it makes, the calls that it
--- asks and the states in which it leaves.
+-- What is to be shown of a block of instructions, computed by running it from a state: a plain statement about the tests that it makes,
+-- the calls that it asks and the states in which it leaves.
 use Rattle.std.specs.Prelude.{◌≡◌, ℕ, ◌+◌, ◌<◌, ◌^◌, ◌==◌, Bool, true, false, ℤ, FitsSigned, List, [], ◌∷◌, ◌++◌, Ok, Err, suc}
 use Rattle.std.specs.Int.{w32}
 use Rattle.ebpf_decode.specs.declared.insn.Insn.{Insn}
@@ -95,7 +95,8 @@ Arrives promise start [] state plan = ⊥
 Arrives promise start (block ∷ blocks) state plan =
     by_test (state.slot == start) (promise block.0 state plan) (Arrives promise (slot_after start block.1) blocks state plan)
 
--- each block, from any state that is promised at its start, does the front of its plan and leaves as is promised at the start of a later one
+-- each block, from any state that is promised at its start, does the front of its plan and leaves as is promised at the start of a later
+-- one
 abbrev pub BlocksMeet : {Part : Type 0} → (Part → Promise) → Program → ℕ → List (Named Part) → Type 0
 BlocksMeet promise program start [] = Unit {0}
 BlocksMeet promise program start (block ∷ blocks) =

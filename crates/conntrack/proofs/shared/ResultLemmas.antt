@@ -1,5 +1,6 @@
 -- Every end of the rule's plan is a result of the rule.
-use Rattle.std.proofs.Common.{◌≡◌, inl, inr, ℕ, ◌+◌, ◌++◌, ◌%◌, ◌&&◌, Bool, true, false, not, List, [], ◌∷◌, refl, sym, ap, subst, arith, ◌∙◌}
+use Rattle.std.proofs.Common.{◌≡◌, inl, inr, ℕ, ◌+◌, ◌++◌, ◌%◌, ◌&&◌, Bool, true, false, not, List, [], ◌∷◌, refl, sym, ap, subst, arith}
+use Rattle.std.proofs.Common.{◌∙◌}
 use Rattle.std.specs.Prelude.{Option, Some, None, replicate, if◌then◌else◌, ◌⊎◌}
 use Rattle.wire.specs.FrameView.{FrameView}
 use Rattle.wire.specs.Fnv.{fnv1a64_of}
@@ -14,7 +15,7 @@ use Rattle.semantics.specs.Cells.{word_in}
 use Rattle.semantics.specs.LittleEndian.{bytes_of_number}
 use Rattle.map_port.specs.Exchanges.{Exchange}
 use Rattle.block_runs.specs.Plan.{Plan, either}
-use Rattle.block_runs.proofs.shared.PlanEnds.{Said, AtEnds, at_end, weaker, at_either}
+use Rattle.block_runs.proofs.shared.PlanEnds.{AtEnds, at_end, weaker, at_either}
 use Rattle.conntrack.specs.declared.steering_maps.SteeringMap.{SteeringMap}
 use Rattle.conntrack.specs.declared.steering_maps.SteeringMap.TheVariants.{Vips, Flows, Ring, Backends, Ctl}
 use Rattle.conntrack.specs.declared.records.VipRecord.{VipRecord}
@@ -23,9 +24,12 @@ use Rattle.conntrack.specs.declared.choosing.Assigned.{Assigned}
 use Rattle.conntrack.specs.declared.choosing.Records.{Records}
 use Rattle.conntrack.specs.declared.choosing.Choice.{Choice}
 use Rattle.conntrack.specs.Layouts.{vip_of, flow_of, backend_of, tunnel_of, owner_of}
-use Rattle.conntrack.specs.SteeringRule.{IsSteered, tracked_choice, fits_tunnel, is_set_up, flow_update, frame_after, verdict_of_choice}
-use Rattle.conntrack.specs.Steering.{Setting, shard_of, look, read, found_or, counted, has_flow, service_bytes_of, steering, finish, noting, choice_in, no_records, read_service, read_tunnel, read_note, read_slot, read_owner, read_backend, unless_tracked}
-use Rattle.conntrack.specs.Results.{change_of, changes_in, note_call, IsRaised, IsNotFound, flow_lookups, lookups_of_flows, is_tracked, flow_lookups_due, IsResult}
+use Rattle.conntrack.specs.SteeringRule.{IsSteered, tracked_choice, fits_tunnel, flow_update, frame_after, verdict_of_choice}
+use Rattle.conntrack.specs.Steering.{Setting, shard_of, look, read, found_or, counted, has_flow, service_bytes_of, steering, finish}
+use Rattle.conntrack.specs.Steering.{noting, choice_in, no_records, read_service, read_tunnel, read_note, read_slot, read_owner}
+use Rattle.conntrack.specs.Steering.{read_backend, unless_tracked}
+use Rattle.conntrack.specs.Results.{change_of, changes_in, note_call, IsRaised, IsNotFound, flow_lookups, lookups_of_flows}
+use Rattle.conntrack.specs.Results.{flow_lookups_due, IsResult}
 use Rattle.conntrack.specs.SteeringLaws.{FinishedRunsAreResults}
 use Rattle.conntrack.proofs.shared.RuleLemmas.{follows_rule}
 

@@ -1,4 +1,4 @@
-use Rattle.std.proofs.Common.{◌≡◌, ◌∙◌, Err, ap, subst}
+use Rattle.std.proofs.Common.{◌∙◌, Err, ap, subst}
 use Rattle.conntrack.specs.SteeringRule.{IsSteered}
 use Rattle.conntrack.proofs.SendLemmas.{sent_can_go, never_refused}
 use Rattle.conntrack.proofs.steering.steer.Goals as goal
