@@ -166,6 +166,7 @@ replays_keep_it ran stopped verified safe script options records outcome fit cap
   own_place = λ number below earlier later entry place. entry_is_step (accounted.plan number) earlier later entry
       (subst (IsLegalJournal (accounted.plan number)) place (accounted.legal number below));
   runs = accounted.runs;
+  workers = accounted.workers;
   work = λ worker below. work_of ran stopped verified options fit.at_most_eight accounted.plan accounted.count worker below outcome.journals records
       captured (runs_at accounted.runs worker) (accounted.work worker below);
   sent = accounted.sent;

@@ -1,5 +1,5 @@
 -- The row of a run of the system, computed, and what is no run.
-use Rattle.std.proofs.Common.{◌≡◌, ℕ, zero, suc, ◌<◌, ◌≤◌, List, [], ◌∷◌, ◌++◌, length, reverse, refl, sym, ◌∙◌, ap, subst, arith}
+use Rattle.std.proofs.Common.{◌≡◌, inl, inr, ℕ, zero, suc, ◌<◌, ◌≤◌, List, [], ◌∷◌, ◌++◌, length, reverse, refl, sym, ◌∙◌, ap, subst, arith}
 use Rattle.std.specs.Prelude.{All}
 use Rattle.ebpf_decode.specs.InstructionEncoding.{slot_count}
 use Rattle.semantics.specs.declared.call.Call.{Call}
@@ -21,8 +21,10 @@ use Rattle.semantics.proofs.shared.ConditionLemmas.{tested_bytes}
 use Rattle.map_port.specs.Exchanges.{Exchange, calls_in, replies_in}
 use Rattle.shards.specs.Passes.{own_at, seen_at}
 use Rattle.shard_port.specs.Sessions.{entry_of, entries_at}
-use Rattle.shard_port.specs.PassSessions.{session_at, AreWithin, HasSessions}
-use Rattle.guarantees.specs.RunRows.{row_setting, pass_with, lookup_entry, row_entries, IsRow, RunRows}
+use Rattle.shard_port.specs.PassSessions.{session_at, AreWithin, HasSessions, HasRefusedSessions}
+use Rattle.guarantees.specs.RunRows.{row_setting, pass_with, lookup_entry, row_entries, IsRow, row_plan, full_history, pass_that_saw, RunRows}
+use Rattle.guarantees.specs.SystemRuns.{IsStoppedInSystem}
+use Rattle.guarantees.proofs.StopLemmas.{stopped_is_of_system}
 use Rattle.guarantees.specs.StepLaws.{IsOwnTrace}
 use Rattle.guarantees.proofs.EventLemmas.{run_is_of_system}
 use Rattle.guarantees.proofs.BackToTraces.{runs_are_traces}
@@ -157,6 +159,30 @@ without_all : (verdict : Verdict) (last : MachineState) → IsRow 3 [] verdict l
 unfolding slot_count
 without_all verdict last run = no_run [] [] tt refl (state_of (stand_at 3 [])) refl verdict last run
 
+-- ---- a run that stops
+
+stopped_sessions : HasRefusedSessions (λ number. row_plan) 1 0 [] (Lookup 0 (key_of 0)) (pass_with []) (pass_that_saw full_history)
+stopped_sessions = record {
+  same_caller = refl;
+  within = tt;
+  refused_within = omega arith;
+  written = only_zero _ (inl refl);
+  seen_on = only_zero (λ number. (later : List Entry) × (seen_at (pass_that_saw full_history) number ≡ later ++ seen_at (pass_with []) number))
+      (full_history, refl);
+  outside = only_zero _ refl;
+  full_at = full_history;
+  full_seen = ([], refl);
+  full = inr (record { first_call = refl; nothing = refl; full = refl });
+}
+
+row_stops : IsStoppedInSystem row_setting 0 0 0 (frame_of 3) (λ number. row_plan) 1 (pass_with []) (pass_that_saw full_history)
+    (Lookup 0 (key_of 0)) (state_of (stand_at 3 []))
+unfolding slot_count
+row_stops =
+    stopped_is_of_system row_setting 0 0 0 (frame_of 3) (λ number. row_plan) 1 17 (pass_with []) (pass_that_saw full_history) [] (Lookup 0 (key_of 0))
+    (state_of (stand_at 3 [])) (omega arith) (input_of (frame_of 3) (omega arith) (omega arith) (tested_bytes (frame_of 3) refl)) (omega arith)
+    (omega arith) refl tt stopped_sessions
+
 pub run_rows : RunRows
 run_rows = record {
   last = state_of (stand_at 3 row_exchanges);
@@ -170,6 +196,8 @@ run_rows = record {
       not_both outcome.0;
   other_entries = without_load;
   no_entries = without_all;
+  waiting = state_of (stand_at 3 []);
+  stops = row_stops;
 }
   where
     not_both : Tx ≡ Pass → ⊥

@@ -45,8 +45,8 @@ pub record IsRunOfImage (verified : Verified) (options : Options) (count worker 
   pub frame : FrameView
   pub trace : HasRun (program_of verified options.shards) (start_of captured worker) count worker before after verdict steps frame
   pub of_system :
-      RanInSystem (setting_of verified options) worker (moment_of captured worker) captured.bytes.items count before after verdict steps
-      frame
+      RanInSystem (setting_of verified options) worker (moment_of captured worker) captured.bytes.items count before after
+      verdict steps frame
   pub told : IsTold captured verdict frame end
 
 -- a run that a full journal stopped: a beginning of that
@@ -62,8 +62,8 @@ pub record IsStopOfImage (verified : Verified) (options : Options) (plan : ℕ �
 abbrev pub IsEitherOfImage : Verified → Options → (ℕ → ShardPlan) → ℕ → ℕ → Sent → PassView → RunEnd → PassView → Type 0
 IsEitherOfImage verified options plan count worker captured before Stopped after =
     IsStopOfImage verified options plan count worker captured before after
-IsEitherOfImage verified options plan count worker captured before end after = IsRunOfImage verified options count worker captured before
-    end after
+IsEitherOfImage verified options plan count worker captured before end after =
+    IsRunOfImage verified options count worker captured before end after
 
 -- the promise
 pub record Headline (verified : Verified) (options : Options) (records : List Sent) (outcome : Outcome) : Type 0 where
@@ -83,6 +83,7 @@ pub record Headline (verified : Verified) (options : Options) (records : List Se
   -- each worker ran its records, one after the other, and in each journal its entries are those of its runs; each run is one of the
   -- system around this image, and has the verdict, the frame and the number of instructions of its program's trace on its replies
   pub runs : List (List Ran)
+  pub workers : length runs ≡ options.workers
   pub work :
       (worker : ℕ) → worker < options.workers →
       IsWorkOf (IsRunAt (IsEitherOfImage verified options plan count worker) records)

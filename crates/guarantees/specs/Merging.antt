@@ -66,9 +66,8 @@ MeetFullJournals plan deeds =
 
 -- The deeds of all callers in one order. Shard by shard they are its journal, which is legal; caller by caller they are what its own
 -- moves did, which lead a worker from idle to idle.
-pub record IsOneOrder (setting : Setting) (plan : ℕ → ShardPlan) (count : ℕ) (journal : ℕ → List Entry) (moves : ℕ →
-    List Move) (deeds : List Deed) :
-    Type 0 where
+pub record IsOneOrder (setting : Setting) (plan : ℕ → ShardPlan) (count : ℕ) (journal : ℕ → List Entry)
+    (moves : ℕ → List Move) (deeds : List Deed) : Type 0 where
   pub options : AreOptions setting.maps setting.options
   pub count_is : count ≡ length setting.maps * setting.options.shards
   pub plans : (number : ℕ) → number < count → plan_at setting.maps setting.options number ≡ Some (plan number)

@@ -1,17 +1,19 @@
--- One run of the system, by computation, and what is none: with another verdict, on another frame, without one of its entries.
-use Rattle.std.specs.Prelude.{◌≡◌, ℕ, List, [], ◌∷◌}
+-- One run of the system, by computation, and what is none: with another verdict, on another frame, without one of its entries; and one
+-- run that a full journal stopped.
+use Rattle.std.specs.Prelude.{◌≡◌, ℕ, pos, List, [], ◌∷◌, replicate}
 use Rattle.ebpf_decode.specs.declared.map.MapKind.TheVariants.{Array}
 use Rattle.semantics.specs.declared.call.Caller.TheVariants.{Worker}
-use Rattle.semantics.specs.declared.call.Call.TheVariants.{Enter, Leave, Lookup, Load}
-use Rattle.semantics.specs.declared.call.Reply.TheVariants.{Entered, Left, Cell, Word}
+use Rattle.semantics.specs.declared.call.Call.TheVariants.{Enter, Leave, Lookup, Load, Update}
+use Rattle.semantics.specs.declared.call.Reply.TheVariants.{Entered, Left, Cell, Word, Answer}
 use Rattle.semantics.specs.declared.call.Entry.{Entry}
+use Rattle.semantics.specs.declared.plan.ShardPlan.{ShardPlan}
 use Rattle.semantics.specs.declared.verdict.Verdict.{Verdict}
 use Rattle.semantics.specs.declared.verdict.Verdict.TheVariants.{Tx}
 use Rattle.semantics.specs.MachineState.{MachineState}
 use Rattle.semantics.specs.System.{Setting}
-use Rattle.semantics.specs.SystemRows.{setting_over, first_path, frame_of, by_worker, key_of, cell_at}
+use Rattle.semantics.specs.SystemRows.{setting_over, first_path, frame_of, by_worker, by_controller, key_of, value_of, cell_at}
 use Rattle.shards.specs.Passes.{PassView}
-use Rattle.guarantees.specs.SystemRuns.{IsRunOfSystem}
+use Rattle.guarantees.specs.SystemRuns.{IsRunOfSystem, IsStoppedInSystem}
 
 -- a program that adds the frame's last byte and a map's number, and has the sum as its verdict
 abbrev pub row_setting : Setting
@@ -34,6 +36,23 @@ IsRow byte entries verdict last = IsRunOfSystem row_setting 0 0 0 (frame_of byte
 abbrev pub row_entries : List Entry
 row_entries = by_worker (Leave 0) Left ∷ load_entry ∷ lookup_entry ∷ by_worker (Enter 0) Entered ∷ []
 
+-- the shard of its map, and a journal of it with 15 entries: a run that is not inside has no room there
+abbrev pub row_plan : ShardPlan
+row_plan = record {
+  number = 0;
+  part = 0;
+  parts = 1;
+  definition = record { kind = Array; key_size = 4; value_size = 8; max_entries = 1 };
+  workers = 1;
+  reserve = 16;
+}
+
+abbrev pub full_history : List Entry
+full_history = replicate 15 (by_controller (Update 0 (key_of 0) (value_of 5) 0) (Answer (pos 0)))
+
+abbrev pub pass_that_saw : List Entry → PassView
+pass_that_saw entries = record { who = Worker 0; views = (record { seen = entries; own = [] }) ∷ [] }
+
 pub record RunRows : Type 0 where
   -- on a frame that ends with byte 3 the run sends it
   pub last : MachineState
@@ -47,3 +66,8 @@ pub record RunRows : Type 0 where
       (verdict : Verdict) (other : MachineState) →
       ¬ IsRow 3 (by_worker (Leave 0) Left ∷ lookup_entry ∷ by_worker (Enter 0) Entered ∷ []) verdict other
   pub no_entries : (verdict : Verdict) (other : MachineState) → ¬ IsRow 3 [] verdict other
+  -- where the journal has 15 of its 16 entries, the run stops at its Lookup, and has written nothing
+  pub waiting : MachineState
+  pub stops :
+      IsStoppedInSystem row_setting 0 0 0 (frame_of 3) (λ number. row_plan) 1 (pass_with []) (pass_that_saw full_history)
+      (Lookup 0 (key_of 0)) waiting

@@ -120,8 +120,8 @@ pub record IsTheMeaning (program : Program) (start : Start) (before after : List
 
 -- the run made the calls of its program up to the refused one, which no journal has, and for which, or for the Enter before it, its
 -- shard's journal was full; the frame is that of the state in which it waits for the reply; and it left every shard
-pub record IsTheBeginning (program : Program) (start : Start) (before after : List JournaledShard) (shard : ℕ) (frame : FrameView) : Type
-    0 where
+pub record IsTheBeginning (program : Program) (start : Start) (before after : List JournaledShard) (shard : ℕ)
+    (frame : FrameView) : Type 0 where
   pub exchanges : List Exchange
   pub refused : Call
   pub named : shard ≡ shard_of_call refused

@@ -35,8 +35,8 @@ pub record BeginsOne (setting : Setting) (worker : ℕ) (move : Move) (after : W
   pub low : told < 8
 
 -- of a run whose next instruction calls a shard that it has entered: the call is served, with some reply, or it is refused
-pub record GoesOnBy (worker : ℕ) (entered : List ℕ) (call : Call) (next : Reply →
-    MachineState) (move : Move) (after : WorkerState) : Type 0 where
+pub record GoesOnBy (worker : ℕ) (entered : List ℕ) (call : Call) (next : Reply → MachineState) (move : Move)
+    (after : WorkerState) : Type 0 where
   pub reply : Reply
   pub move_is : move ≡ asks worker (Writes (asked_entry worker call reply))
   pub after_is : after ≡ Runs (next reply) entered
@@ -69,8 +69,8 @@ pub record LeavesOne (worker : ℕ) (entered : List ℕ) (move : Move) (after : 
 
 abbrev pub IsListedNext : Setting → ℕ → WorkerState → Move → WorkerState → Type 0
 IsListedNext setting worker Idle move after = BeginsOne setting worker move after
-IsListedNext setting worker (Runs state entered) move after = IsNextOf worker state entered (next_step (program_of setting) state) move
-    after
+IsListedNext setting worker (Runs state entered) move after =
+    IsNextOf worker state entered (next_step (program_of setting) state) move after
 IsListedNext setting worker (Leaves entered) move after = LeavesOne worker entered move after
 
 abbrev pub StepsAreListed : Type 0
@@ -100,8 +100,8 @@ pub record IsOwnTrace (setting : Setting) (worker told now : ℕ) (frame : List 
 
 abbrev pub RunsAreTraces : Type 0
 RunsAreTraces =
-    (setting : Setting) (worker told now : ℕ) (frame : List ℕ) (count : ℕ) (before after : PassView) (verdict : Verdict) (last :
-    MachineState) →
+    (setting : Setting) (worker told now : ℕ) (frame : List ℕ) (count : ℕ) (before after : PassView) (verdict : Verdict)
+    (last : MachineState) →
     IsRunOfSystem setting worker told now frame count before after verdict last →
     IsOwnTrace setting worker told now frame count before after verdict last
 

@@ -31,9 +31,8 @@ HaveGrown count moves before after =
 
 -- The worker is idle, and begins a run on the frame; steps of this one run lead to the instruction that ends it with this verdict and
 -- this last state; then the worker leaves the shards that it entered, and is idle. What these steps wrote is what its pass has more.
-pub record IsRunOfSystem (setting : Setting) (worker told now : ℕ) (frame : List ℕ) (count : ℕ) (before after : PassView) (verdict :
-    Verdict)
-    (last : MachineState) : Type 0 where
+pub record IsRunOfSystem (setting : Setting) (worker told now : ℕ) (frame : List ℕ) (count : ℕ) (before after : PassView)
+    (verdict : Verdict) (last : MachineState) : Type 0 where
   pub begins_so : IsStep setting count worker Idle (begins worker frame now told) (running (beginning frame told now))
   pub run : List Move
   pub ending : InRun

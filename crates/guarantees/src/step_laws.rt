@@ -19,7 +19,7 @@ pub fn steps_are_listed()
 {}
 
 /// A run of the system is the trace of its program on its frame, at its time and with the worker's number that it was told, on replies of
-/// the calls' form that stand session by session among its worker's own entries: as much as `run_frame` ensures of a run.
+/// the calls' form that stand session by session among its worker's own entries: what `run_frame` ensures of a run's calls and replies.
 pub fn runs_are_traces()
     ensures { RunsAreTraces }
 {}
@@ -30,8 +30,9 @@ pub fn runs_have_one_outcome()
     ensures { RunsHaveOneOutcome }
 {}
 
-/// One run of the system, computed: a program whose verdict is the frame's last byte. With another verdict or another last state it is no
-/// run, on a frame with another last byte it is none, nor without one of its entries, nor without all of them.
+/// One run of the system, computed: its program's verdict is the sum of the frame's last byte and a number in a map. With another verdict
+/// or another last state it is no run, on a frame with another last byte it is none, nor without one of its entries, nor without all of
+/// them. And one run that a full journal stopped.
 pub fn runs_are_computed()
     ensures { RunRows }
 {}

@@ -2,7 +2,8 @@
 
 ghost use Rattle.std.specs.Prelude.{◌≡◌, ◌<◌, ◌≤◌, ◌+◌, ◌++◌, ℕ, length, option_map, IfOk, OnOk, ◌^◌};
 ghost use Rattle.replay.specs.Shares.{frames_of, share};
-ghost use Rattle.replay.specs.Accounts.{lists_of, fate_of, counts_of, frames_in, sent_of, sent_by, sent_frame, sent_frames, AreRunsOfShares, AreNext, no_counts, counted};
+ghost use Rattle.replay.specs.Accounts.{lists_of, fate_of, counts_of, frames_in, sent_of, sent_by};
+ghost use Rattle.replay.specs.Accounts.{sent_frame, sent_frames, AreRunsOfShares, AreNext, no_counts, counted};
 
 use crate::dispatch::{is_short, worker_of};
 use crate::runner::{Ran, RunEnd};
@@ -43,10 +44,12 @@ fn next_fate<'a>(
 ) -> Option<&'a RunEnd>
     requires number { number < length capture.now.records.items }
     requires workers { 0 < length runs.now }
-    requires runs { AreRunsOfShares (frames_of capture.now.records.items) (length runs.now) (length capture.now.records.items) (lists_of runs.now) }
+    requires runs { AreRunsOfShares (frames_of capture.now.records.items) (length runs.now) (length capture.now.records.items)
+        (lists_of runs.now) }
     requires next { AreNext (frames_of capture.now.records.items) (length runs.now) number next.old.items }
     ensures next { AreNext (frames_of capture.now.records.items) (length runs.now) (number + 1) next.new.items }
-    ensures fate { option_map (λ end. end.now) result ≡ fate_of (frames_of capture.now.records.items) (length runs.now) (lists_of runs.now) number }
+    ensures fate { option_map (λ end. end.now) result ≡ fate_of (frames_of capture.now.records.items) (length runs.now) (lists_of
+        runs.now) number }
 {
     let sent = &capture.records[number];
     if is_short(sent) {
@@ -67,11 +70,14 @@ pub(crate) fn account(
     runs: &[Vec<Ran>],
 ) -> Result<(Counts, Vec<Sent>), AllocError>
     requires workers { 0 < length runs.now }
-    requires runs { AreRunsOfShares (frames_of capture.now.records.items) (length runs.now) (length capture.now.records.items) (lists_of runs.now) }
-    ensures counts { IfOk result (λ account. account.0 ≡ counts_of (frames_of capture.now.records.items) (length runs.now) (lists_of runs.now)
+    requires runs { AreRunsOfShares (frames_of capture.now.records.items) (length runs.now) (length capture.now.records.items)
+        (lists_of runs.now) }
+    ensures counts { IfOk result (λ account. account.0 ≡ counts_of (frames_of capture.now.records.items) (length runs.now) (lists_of
+        runs.now)
         (length capture.now.records.items)) }
     ensures frames { IfOk result (λ account. frames_in account.0 ≡ length capture.now.records.items) }
-    ensures sent { IfOk result (λ account. sent_frames account.1.items ≡ sent_of (frames_of capture.now.records.items) (length runs.now) (lists_of runs.now)
+    ensures sent { IfOk result (λ account. sent_frames account.1.items ≡ sent_of (frames_of capture.now.records.items) (length
+        runs.now) (lists_of runs.now)
         (length capture.now.records.items)) }
 {
     let mut next = vec![in alloc; 0; runs.len()]?;

@@ -85,7 +85,8 @@ pub(crate) fn start_actor<
 ) -> Option<ActorThread<'s, E, C>>
     requires take { IsTakePassOf queues.now take × (place_taken_from take ≡ place) × (jobs_taken take ≡ []) }
     requires ready { C.is_ready actor }
-    ensures { IfSome result (λ thread. (thread.promise.queues.now ≡ queues.now) × (thread.promise.place ≡ place) × (thread.promise.actor.value ≡ actor)) }
+    ensures { IfSome result (λ thread. (thread.promise.queues.now ≡ queues.now) × (thread.promise.place ≡ place) ×
+        (thread.promise.actor.value ≡ actor)) }
 {
     let part = Part {
         queues,
@@ -117,7 +118,8 @@ pub(crate) fn settled_actor<E: Drop, C: Actor<E>, R: Threads + Wait>(
     requires put { IsPutPassOf queues.now put.old }
     requires ends { EndsOnce (put_at (jobs_put put.old) thread.promise.place) }
     ensures put { IsPutPassOf queues.now put.new × (jobs_put put.new ≡ jobs_put put.old) }
-    ensures given { IfSome result (λ given. C.gives thread.entry.promise.actor.value (put_at (jobs_put put.old) thread.entry.promise.place) given) }
+    ensures given { IfSome result (λ given. C.gives thread.entry.promise.actor.value (put_at (jobs_put put.old)
+        thread.entry.promise.place) given) }
 {
     let ActorEnded {
         take,

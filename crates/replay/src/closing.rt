@@ -100,7 +100,8 @@ pub(crate) fn closed<B: Naming, R: Wait>(
     requires serves { ServesScript shards.maps size script.now }
     requires script { IsScriptRun B.plan shards.maps shards.options script.now size commanded.noted.items commanded.pass }
     requires rounds { AreReclaimed B.plan B.count (rounds_of (length capture.now.records.items)) reclaimed × (reclaimed.who ≡ Reclaimer) }
-    ensures accounted { IfOk result (IsAccounted (program_of verified.now shards.options.shards) script.now shards.options capture.now.records.items) }
+    ensures accounted { IfOk result (IsAccounted (program_of verified.now shards.options.shards) script.now shards.options
+        capture.now.records.items) }
 {
     let _ = verified;
     let _ = script;

@@ -25,8 +25,8 @@ use std::alloc::{AllocError, Global};
 use std::marker::Model;
 use std::sync::Wait;
 
-/// The controller of a replay: it applies commands of a script to shards that it shares with others, and notes what came of each. Contracts see the
-/// script, what was noted, the controller and its port; what the type keeps is `has_account`.
+/// The controller of a replay: it applies commands of a script to shards that it shares with others, and notes what came of each.
+/// Contracts see the script, what was noted, the controller and its port; what the type keeps is `has_account`.
 #[derive(Drop)]
 pub struct Commander<'a, B: Naming, W: Wait, G: Gate> {
     script: &'a [Command],
@@ -46,8 +46,8 @@ impl<'a, B: Naming, W: Wait, G: Gate> Model for Commander<'a, B, W, G> {
 }
 
 impl<'a, B: Naming, W: Wait, G: Gate> Commander<'a, B, W, G> {
-    /// The controller of a script that has applied nothing, with a pass that has seen nothing: for a lookup table of `size` slots, which the shards'
-    /// maps have, or for an empty script. The gate is told of each answer.
+    /// The controller of a script that has applied nothing, with a pass that has seen nothing: for a lookup table of `size` slots,
+    /// which the shards' maps have, or for an empty script. The gate is told of each answer.
     pub fn over(
         alloc: Global,
         rt: &'a W,
@@ -96,11 +96,15 @@ impl<'a, B: Naming, W: Wait, G: Gate> Commander<'a, B, W, G> {
         self.script
     }
 
-    /// Applies the script's command of this number, counted from 0, and notes whether it was refused. Fails only where memory is refused for the note; then
-    /// nothing is changed.
+    /// Applies the script's command of this number, counted from 0, and notes whether it was refused. Fails only where memory is
+    /// refused for the note; then nothing is changed.
     pub fn apply(&mut self, alloc: Global, number: usize) -> Result<(), AllocError>
         requires { number < length self.old.script }
-        ensures noted { OnOk result ((fault : Option Fault) × (self.new.noted ≡ self.old.noted ++ (record { command = number; fault = fault }) ∷ [])) }
+        ensures noted { OnOk result ((fault : Option Fault) × (self.new.noted ≡ self.old.noted ++ (record {
+          command = number;
+          fault =
+              fault;
+        }) ∷ [])) }
         ensures same { StaysOf self.old self.new }
         ensures unchanged { OnErr result (self.new ≡ self.old) }
     {
@@ -181,8 +185,9 @@ impl<'a, B: Naming, W: Wait, G: Gate> Actor<Commanded<B>> for Commander<'a, B, W
     }
 }
 
-/// Applies the commands that the controller is handed, in order, until the end. Where memory is refused for a note, that command and the later ones are
-/// taken and not applied. Waits while the queue is empty, and for ever where another job than a command of the script or the end comes.
+/// Applies the commands that the controller is handed, in order, until the end. Where memory is refused for a note, that command and
+/// the later ones are taken and not applied. Waits while the queue is empty, and for ever where another job than a command of the
+/// script or the end comes.
 fn commands_until_end<B: Naming, W: Wait, G: Gate, R: Wait>(
     rt: &R,
     alloc: Global,

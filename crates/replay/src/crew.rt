@@ -112,7 +112,8 @@ fn settled<S: Drop, W: Runner<S>, R: Threads + Wait>(
     requires jobs { put_at (jobs_put put.old) worker ≡
         frame_jobs (share (frames_of capture.now.records.items) workers worker (length capture.now.records.items)) ++ End ∷ [] }
     ensures put { IsPutPassOf queues.now put.new × (jobs_put put.new ≡ jobs_put put.old) }
-    ensures handled { IfSome result (λ it. HasHandled (W.is_new runner.now worker) (IsRunAt (W.runs runner.now worker) capture.now.records.items)
+    ensures handled { IfSome result (λ it. HasHandled (W.is_new runner.now worker) (IsRunAt (W.runs runner.now worker)
+        capture.now.records.items)
         (share (frames_of capture.now.records.items) workers worker (length capture.now.records.items)) it.runs.items it.state) }
 {
     let _ = capture;
@@ -134,7 +135,8 @@ fn settled<S: Drop, W: Runner<S>, R: Threads + Wait>(
 
 /// One more, where all were.
 fn added<T: Drop>(all: Option<Vec<T>>, one: Option<T>) -> Option<Vec<T>>
-    ensures { IfSome result (λ now. IfSome all (λ before. IfSome one (λ it. now.items ≡ before.items ++ it ∷ [])) × IsSome all × IsSome one) }
+    ensures { IfSome result (λ now. IfSome all (λ before. IfSome one (λ it. now.items ≡ before.items ++ it ∷ [])) × IsSome all × IsSome
+        one) }
 {
     let mut all = all?;
     all.push(one?).ok()?;
@@ -153,7 +155,8 @@ pub(crate) fn finish_all<S: Drop, W: Runner<S>, R: Threads + Wait>(
 ) -> Option<Vec<Handled<S>>>
     requires lanes { Each (IsLane queues.now capture.now runner.now) 0 lanes.items }
     requires put { IsPutPassOf queues.now put.old }
-    requires jobs { AreAllPut (frames_of capture.now.records.items) (length lanes.items) (length capture.now.records.items) (jobs_put put.old) }
+    requires jobs { AreAllPut (frames_of capture.now.records.items) (length lanes.items) (length capture.now.records.items) (jobs_put
+        put.old) }
     ensures put { IsPutPassOf queues.now put.new × (jobs_put put.new ≡ jobs_put put.old) }
     ensures count { IfSome result (λ all. length all.items ≡ length lanes.entry.items) }
     ensures handled { IfSome result (λ all. AreHandled (W.is_new runner.now) (W.runs runner.now) capture.now.records.items

@@ -1,4 +1,5 @@
-//! What the dispatcher hands to whom: each record to the worker of its flow, and between the records commands to the controller and notes to the reclaimer.
+//! What the dispatcher hands to whom: each record to the worker of its flow, and between the records commands to the controller and
+//! notes to the reclaimer.
 
 ghost use Rattle.std.specs.Prelude.{◌≡◌, ◌<◌, ◌≤◌, ◌+◌, ◌++◌, ◌∷◌, [], length, ◌%◌, ◌==◌, slice_index, if◌then◌else◌};
 ghost use Rattle.rx_queues.specs.Passes.{IsPutPassOf, workers_of, jobs_put};
@@ -107,9 +108,9 @@ fn ask_due_round<R: Wait>(rt: &R, queues: &Queues, put: &mut PutPass, number: us
     }
 }
 
-/// What is dispatched, in which order: the records of a capture, each to the worker of its flow, and the commands from `first` on, each to the controller
-/// once as many records as `starts` says were dispatched. What is handed over comes through three methods. Each takes and leaves what was dispatched so
-/// far (`AreDispatched`), in which no command is early and none is late.
+/// What is dispatched, in which order: the records of a capture, each to the worker of its flow, and the commands from `first` on, each
+/// to the controller once as many records as `starts` says were dispatched. What is handed over comes through three methods. Each takes
+/// and leaves what was dispatched so far (`AreDispatched`), in which no command is early and none is late.
 #[derive(Drop)]
 pub(crate) struct Dispatch<'a> {
     pub queues: &'a Queues,

@@ -19,8 +19,8 @@ use std::alloc::Global;
 use std::marker::Model;
 use std::sync::Wait;
 
-/// The reclaimer of a replay: in each round it asks every hash and LRU shard once to free the retired cells that no run can hold. Contracts see the maps,
-/// the options and the reclaimer's pass.
+/// The reclaimer of a replay: in each round it asks every hash and LRU shard once to free the retired cells that no run can hold.
+/// Contracts see the maps, the options and the reclaimer's pass.
 #[derive(Drop)]
 pub struct Reclaiming<'a, B: Naming, W: Wait, G: Gate> {
     rt: &'a W,
@@ -144,8 +144,8 @@ impl<'a, B: Naming, W: Wait, G: Gate> Actor<Pass<B>> for Reclaiming<'a, B, W, G>
     }
 }
 
-/// Makes a round for each note that the reclaimer is handed, until the end. Waits while the queue is empty, and for ever where another job than a note or
-/// the end comes.
+/// Makes a round for each note that the reclaimer is handed, until the end. Waits while the queue is empty, and for ever where another
+/// job than a note or the end comes.
 fn rounds_until_end<B: Naming, W: Wait, G: Gate, R: Wait>(
     rt: &R,
     queues: &Queues,

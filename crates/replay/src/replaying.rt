@@ -105,22 +105,22 @@ fn replay_over<B: Naming + Send + Sync, R: Threads + Wait + Sync, G: Gate + Sync
     }
 }
 
-/// Runs the program of an accepted image on the frames of a capture, by as many workers on threads as the options say, over shared maps in
-/// which nothing has happened. A controller on a thread of its own applies the commands of a script: those at frame 0 before the first record, and each
-/// other one when as many records as its frame number were dispatched, no later than after the last; and a reclaimer frees what no run can hold,
-/// in a round after every 64 records and one after the workers' end.
+/// Runs the program of an accepted image on the frames of a capture, by as many workers on threads as the options say, over shared maps
+/// in which nothing has happened. A controller on a thread of its own applies the commands of a script: those at frame 0 before the
+/// first record, and each other one when as many records as its frame number were dispatched, no later than after the last; and a
+/// reclaimer frees what no run can hold, in a round after every 64 records and one after the workers' end.
 ///
-/// Each record is counted once: as short where it has fewer than 14 bytes, and else by its run, which the worker of its flow makes, in the
-/// capture's order. Verdict and frame of a run are the program's own on the replies that stand among its worker's entries; these are, run
-/// after run, Enter, its calls with their replies, and Leave, on each shard that it called; and every journal is legal. A run is stopped only where the
-/// journal of the shard of its next call is full for good. The controller's entries are the updates of the script's commands, in order, and the reclaimer's
-/// are those of its rounds. What is sent stands in the capture's order.
+/// Each record is counted once: as short where it has fewer than 14 bytes, and else by its run, which the worker of its flow makes, in
+/// the capture's order. Verdict and frame of a run are the program's own on the replies that stand among its worker's entries; these
+/// are, run after run, Enter, its calls with their replies, and Leave, on each shard that it called; and every journal is legal. A run
+/// is stopped only where the journal of the shard of its next call is full for good. The controller's entries are the updates of the
+/// script's commands, in order, and the reclaimer's are those of its rounds. What is sent stands in the capture's order.
 ///
 /// The gate is told of each reply of a run, of the controller and of the reclaimer, by the actor that has it, which holds no lock then.
 ///
 /// Refused with 51 where no shards of the image's maps can be opened with the options, or where there are commands and the image's maps
-/// are not those of steering; with 52 for lack of memory; with 56 where a thread could not be started. Then nothing is left, and every thread that was
-/// started has ended.
+/// are not those of steering; with 52 for lack of memory; with 56 where a thread could not be started. Then nothing is left, and every
+/// thread that was started has ended.
 pub fn replay<R: Threads + Wait + Sync, G: Gate + Sync>(
     rt: &R,
     alloc: Global,
@@ -131,7 +131,8 @@ pub fn replay<R: Threads + Wait + Sync, G: Gate + Sync>(
     gate: &G,
 ) -> Result<Outcome, ReplayFault>
     ensures accounted { IfOk result (IsAccounted (program_of verified.now options.shards) script.now options capture.now.records.items) }
-    ensures bad_options { IsErrOf result BadOptions ↔ (IsFalse (are_served_options verified.now.maps options) ⊎ HasNoTable verified.now.maps script.now) }
+    ensures bad_options { IsErrOf result BadOptions ↔ (IsFalse (are_served_options verified.now.maps options) ⊎ HasNoTable
+        verified.now.maps script.now) }
 {
     let image = verified.image();
     let Some(size) = table_for(image.maps(), script.commands()) else {

@@ -1,4 +1,5 @@
-//! What a replay begins with: the table and the numbers of its script, the passes, the controller and the reclaimer, and all of it together.
+//! What a replay begins with: the table and the numbers of its script, the passes, the controller and the reclaimer, and all of it
+//! together.
 
 ghost use Rattle.std.specs.Prelude.{◌≡◌, ◌<◌, ◌≤◌, ◌+◌, [], ℕ, length, map, replicate, IfOk, IsErrOf, IfSome, IsNone};
 ghost use Rattle.machine.specs.Running.{program_of};
@@ -38,7 +39,8 @@ use wire::Capture;
 /// The smallest lookup table: that of a replay without commands, which has none.
 const SMALLEST: u32 = 7;
 
-/// The size of the lookup table that the maps are for; without commands any will do. None where there are commands and the maps are for no table.
+/// The size of the lookup table that the maps are for; without commands any will do. None where there are commands and the maps are for
+/// no table.
 pub(crate) fn table_for(maps: &[MapDef], script: &[Command]) -> Option<u32>
     ensures size { IfSome result (λ size. IsRingSize size × ServesScript maps.now size script.now) }
     ensures none { IsNone result → HasNoTable maps.now script.now }

@@ -2,7 +2,8 @@
 
 ghost use Rattle.std.specs.Prelude.{◌≡◌, ◌<◌, ◌≤◌, ◌+◌, ◌/◌, ◌∷◌, ◌++◌, [], length, replicate, IfOk, IsErrOf, IfSome};
 ghost use Rattle.rx_queues.specs.declared.job.Job.TheVariants.{Note, End};
-ghost use Rattle.rx_queues.specs.Passes.{IsPutPassOf, IsTakePassOf, TakeAtTheirPlaces, AreTakePasses, place_taken_from, jobs_taken, workers_of, jobs_put};
+ghost use Rattle.rx_queues.specs.Passes.{IsPutPassOf, IsTakePassOf, TakeAtTheirPlaces, AreTakePasses};
+ghost use Rattle.rx_queues.specs.Passes.{place_taken_from, jobs_taken, workers_of, jobs_put};
 ghost use Rattle.replay.specs.Actors.{HasNoEnd, OfCommandsFrom, round_jobs};
 ghost use Rattle.semantics.specs.Each.{Each};
 ghost use Rattle.replay.specs.Crews.{IsReadyAt, AreHandled};
@@ -141,9 +142,12 @@ fn work_all<'s, X, S: Drop + Send + 's, W: Runner<S> + Sync + 's, R: Threads + W
     requires states { Each (IsReadyAt (W.is_new runner.now) (W.is_idle runner.now)) 0 states.items }
     ensures put { IsPutPassOf queues.now put.new }
     ensures count { IfOk result (λ all. length all.items ≡ length states.items) }
-    ensures handled { IfOk result (λ all. AreHandled (W.is_new runner.now) (W.runs runner.now) capture.now.records.items (length states.items) all.items) }
-    ensures commands { IfOk result (λ all. OfCommandsFrom first starts.now (λ jobs. put_at (jobs_put put.new) (workers_of queues.now) ≡ jobs)) }
-    ensures notes { IfOk result (λ all. put_at (jobs_put put.new) (workers_of queues.now + 1) ≡ replicate (length capture.now.records.items / 64) Note) }
+    ensures handled { IfOk result (λ all. AreHandled (W.is_new runner.now) (W.runs runner.now) capture.now.records.items (length
+        states.items) all.items) }
+    ensures commands { IfOk result (λ all. OfCommandsFrom first starts.now (λ jobs. put_at (jobs_put put.new) (workers_of queues.now) ≡
+        jobs)) }
+    ensures notes { IfOk result (λ all. put_at (jobs_put put.new) (workers_of queues.now + 1) ≡ replicate (length
+        capture.now.records.items / 64) Note) }
     ensures served { ¬ IsErrOf result BadOptions }
 {
     let workers = states.len();
@@ -236,10 +240,11 @@ fn run_all_in<
     }
 }
 
-/// Runs all records of a capture, each by the worker of its flow, on a thread for each of the workers' states, and beside them the controller and the
-/// reclaimer, each on a thread of its own. The controller is handed the commands from `first` on, each once as many records as `starts` says of it were
-/// dispatched and no later than after the last one; the reclaimer is asked for a round after every 64 records, and for one more after the workers' end.
-/// Where a thread can't be started or one of them is refused memory, those that were started have ended too.
+/// Runs all records of a capture, each by the worker of its flow, on a thread for each of the workers' states, and beside them the
+/// controller and the reclaimer, each on a thread of its own. The controller is handed the commands from `first` on, each once as many
+/// records as `starts` says of it were dispatched and no later than after the last one; the reclaimer is asked for a round after every
+/// 64 records, and for one more after the workers' end. Where a thread can't be started or one of them is refused memory, those that
+/// were started have ended too.
 pub fn run_all<
     'x,
     S: Drop + Send + 'x,
@@ -289,7 +294,8 @@ pub fn run_all<
             ensures count { IfOk result (λ it. length it.workers.items ≡ length states.items) }
             ensures handled { IfOk result (λ it. AreHandled (W.is_new runner.entry.now) (W.runs runner.entry.now)
                 capture.entry.now.records.items (length states.items) it.workers.items) }
-            ensures controller { IfOk result (λ it. OfCommandsFrom first starts.entry.now (λ jobs. C.gives controller (jobs ++ End ∷ []) it.controller)) }
+            ensures controller { IfOk result (λ it. OfCommandsFrom first starts.entry.now (λ jobs. C.gives controller (jobs ++ End ∷
+                []) it.controller)) }
             ensures reclaimer { IfOk result (λ it. D.gives reclaimer (round_jobs (length capture.entry.now.records.items)) it.reclaimer) }
             ensures served { ¬ IsErrOf result BadOptions }
         {

@@ -112,7 +112,8 @@ impl<'a, U: UpdatePort, G: Gate> UpdatePort for GatedUpdates<'a, U, G> {
 
     ghost stays = { λ before after update refused. U.stays before.port after.port update refused.refused_within };
 
-    ghost arrays_answer = { λ before after update answer stands given. U.arrays_answer before.port after.port update answer stands given.given_within };
+    ghost arrays_answer = { λ before after update answer stands given. U.arrays_answer before.port after.port update answer stands
+        given.given_within };
 
     fn update(&mut self, map: u32, key: &Key, value: &Value) -> Result<i32, JournalFull> {
         let answer = self.port.update(map, key, value)?;

@@ -2,6 +2,7 @@
 use Rattle.std.proofs.Common.{◌≡◌, ℕ, List, ◌∙◌, ap, subst}
 use Rattle.ebpf_decode.specs.declared.insn.Insn.{Insn}
 use Rattle.ebpf_decode.specs.declared.map.MapDef.{MapDef}
+use Rattle.ebpf_decode.specs.ImageContents.{Contents}
 use Rattle.wire.specs.declared.records.Sent.{Sent}
 use Rattle.semantics.specs.declared.options.Options.{Options}
 use Rattle.semantics.specs.Program.{Program}
@@ -19,6 +20,10 @@ use Rattle.replay.specs.Accounted.{IsAccounted}
 pub record IsShipped (verified : Verified) (size : ℕ) : Type 0 where
   pub maps : verified.maps ≡ (shipped_image size).maps
   pub code : verified.code ≡ (shipped_image size).code
+
+pub shipped_of : (verified : Verified) (size : ℕ) →
+    record { version = verified.version; maps = verified.maps; code = verified.code } ≡ shipped_image size → IsShipped verified size
+shipped_of verified size is = record { maps = ap (λ (image : Contents). image.maps) is; code = ap (λ (image : Contents). image.code) is }
 
 program_is : (verified : Verified) (size shards : ℕ) → IsShipped verified size → program_of verified shards ≡ shipped_program (of_size shards size)
 program_is verified size shards shipped =

@@ -1,9 +1,12 @@
 -- Runs of the shipped program follow the rule, and so do all runs of a replay.
-use Rattle.std.proofs.Common.{◌≡◌, ℕ, zero, suc, ◌≤◌, ◌==◌, Bool, true, false, not, ◌&&◌, List, [], ◌∷◌, ◌++◌, length, refl, sym, ◌∙◌, ap, subst, arith}
-use Rattle.std.specs.Prelude.{Some, slice_get, if◌then◌else◌}
+use Rattle.std.proofs.Common.{◌≡◌, ◌<◌, ℕ, zero, suc, ◌≤◌, ◌==◌, Bool, true, false, not, ◌&&◌, List, [], ◌∷◌, ◌++◌, length, refl, sym, ◌∙◌, ap, subst, arith}
+use Rattle.std.specs.Prelude.{◌%◌, Option, Some, None, slice_get, if◌then◌else◌}
 use Rattle.std.specs.List.{AllByRecursion}
+use Rattle.std.proofs.Math.Nat.{mod-lt}
 use Rattle.std.proofs.lemmas.Bool.{false≢true}
 use Rattle.std.proofs.lemmas.Bool.Decides.{nat_tests}
+use Rattle.wire.specs.Fnv.{fnv1a64_of}
+use Rattle.wire.specs.FlowForm.{flow_bytes_of}
 use Rattle.wire.specs.FrameView.{FrameView}
 use Rattle.wire.specs.declared.records.Sent.{Sent}
 use Rattle.semantics.specs.declared.call.Call.{Call}
@@ -26,12 +29,13 @@ use Rattle.machine.specs.declared.exit.Stop.TheVariants.{JournalFull}
 use Rattle.replay.specs.declared.runner.Ran.{Ran}
 use Rattle.replay.specs.declared.runner.RunEnd.{RunEnd}
 use Rattle.replay.specs.declared.runner.RunEnd.TheVariants.{Stopped, Aborted, Dropped, Passed, Sent as IsSent}
-use Rattle.replay.specs.Accounts.{runs_at}
+use Rattle.replay.specs.Accounted.{IsWorkOf}
+use Rattle.replay.specs.Accounts.{runs_at, end_at, fate_of}
 use Rattle.replay.specs.RunJobs.{records_of}
 use Rattle.replay.specs.RunsInOrder.{IsRunAt, IsChainOfRuns}
 use Rattle.replay.specs.RunsOverShards.{IsRunIn, IsExit, StopsFor}
-use Rattle.replay.specs.Shares.{frames_of, frame_at, is_short, worker_of_frame, is_handed, share}
-use Rattle.steered_replays.specs.SteeredRuns.{IsSteeredExit, IsSteeredStop, IsSteeredRun, IsOfCapture}
+use Rattle.replay.specs.Shares.{frames_of, frame_at, is_short, has_flow, worker_of_frame, is_handed, share}
+use Rattle.steered_replays.specs.SteeredRuns.{IsSteeredFate, IsSteeredExit, IsSteeredStop, IsSteeredRun, IsOfCapture}
 use Rattle.steered_replays.specs.SteeredRuns.{RunsAreSteered, RefusedRunsAreSteered, ReplaysAreSteered}
 use Rattle.steered_replays.proofs.ResultCounts.{all_both}
 
@@ -115,18 +119,65 @@ inputs_of : (records : List Sent) (runs : List Ran) → AllByRecursion (IsInputA
 inputs_of records [] all = tt
 inputs_of records (ran ∷ later) all = (all.0, inputs_of records later all.1)
 
+-- ---- where a record stands in its worker's share
+
+known_below : (records : List Sent) (number : ℕ) (captured : Sent) → slice_get records number ≡ Some captured → number < length records
+known_below [] number captured known = absurd cc
+known_below (first ∷ later) zero captured known = omega arith
+known_below (first ∷ later) (suc number) captured known = (let below = known_below later number captured known in omega (arith, below))
+
+same_test : (n : ℕ) → (n == n) ≡ true
+same_test n = grind (arith, nat_tests)
+
+still_there : (xs : List ℕ) (y x k : ℕ) → slice_get xs k ≡ Some x → slice_get (xs ++ y ∷ []) k ≡ Some x
+still_there [] y x k there = absurd cc
+still_there (first ∷ xs) y x zero there = there
+still_there (first ∷ xs) y x (suc k) there = still_there xs y x k there
+
+last_there : (xs : List ℕ) (y : ℕ) → slice_get (xs ++ y ∷ []) (length xs) ≡ Some y
+last_there [] y = refl
+last_there (first ∷ xs) y = last_there xs y
+
+if_handed : (shared : List ℕ) (count number k : ℕ) → (test : Bool) → slice_get shared k ≡ Some number →
+    slice_get (if test then shared ++ count ∷ [] else shared) k ≡ Some number
+if_handed shared count number k true there = still_there shared count number k there
+if_handed shared count number k false there = there
+
+last_or_before : (frames : List (List ℕ)) (workers worker number count : ℕ) → is_handed frames workers worker number ≡ true → number < suc count →
+    (number < count → slice_get (share frames workers worker count) (length (share frames workers worker number)) ≡ Some number) →
+    (test : Bool) → (number == count) ≡ test →
+    slice_get (share frames workers worker (suc count)) (length (share frames workers worker number)) ≡ Some number
+last_or_before frames workers worker number count handed below before true is =
+    let same : number ≡ count = grind (arith, nat_tests) in
+    let last : is_handed frames workers worker count ≡ true = ap (is_handed frames workers worker) (sym same) ∙ handed in
+    ap (λ (test : Bool). slice_get (if test then share frames workers worker count ++ count ∷ [] else share frames workers worker count)
+    (length (share frames workers worker number))) last
+    ∙ ap (λ (n : ℕ). slice_get (share frames workers worker count ++ count ∷ []) (length (share frames workers worker n))) same
+    ∙ last_there (share frames workers worker count) count
+    ∙ ap Some (sym same)
+last_or_before frames workers worker number count handed below before false is =
+    let other : number ≡ count → ⊥ = (λ same. grind (arith, nat_tests)) in
+    if_handed (share frames workers worker count) count number (length (share frames workers worker number)) (is_handed frames workers worker count)
+    (before (omega (arith, below, other)))
+
+share_at : (frames : List (List ℕ)) (workers worker number count : ℕ) → is_handed frames workers worker number ≡ true → number < count →
+    slice_get (share frames workers worker count) (length (share frames workers worker number)) ≡ Some number
+share_at frames workers worker number zero handed below = absurd (omega (arith, below))
+share_at frames workers worker number (suc count) handed below =
+    last_or_before frames workers worker number count handed below (λ earlier. share_at frames workers worker number count handed earlier) (number == count) refl
+
 -- ---- a worker's runs
 
 module _ (steers : ShippedSteers) (results : ExitedRunsAreResults) (size shards : ℕ) (is : IsRingSize size) (plan : ℕ → ShardPlan) (count worker : ℕ)
     (journals : JournalsView) where
-  abbrev setting : Setting
-  setting = of_size shards size
+  abbrev ruled : Setting
+  ruled = of_size shards size
 
   abbrev program : Program
-  program = shipped_program setting
+  program = shipped_program ruled
 
   exit_steered : (captured : Sent) → IsInputFrame captured.bytes.items → (before : PassView) (end : RunEnd) (after : PassView) →
-      IsExit count program worker captured before end after → IsSteeredExit setting count worker captured before end after
+      IsExit count program worker captured before end after → IsSteeredExit ruled count worker captured before end after
   exit_steered captured input before end after exit = record {
     exchanges = exit.run.exchanges;
     verdict = exit.verdict;
@@ -137,7 +188,7 @@ module _ (steers : ShippedSteers) (results : ExitedRunsAreResults) (size shards 
   }
 
   stop_steered : (captured : Sent) → IsInputFrame captured.bytes.items → (before after : PassView) (frame : FrameView) (stop : Stop) →
-      StopsFor plan count program worker journals captured before after frame stop → IsSteeredStop plan setting count worker captured before after
+      StopsFor plan count program worker journals captured before after frame stop → IsSteeredStop plan ruled count worker captured before after
   stop_steered captured input before after frame (JournalFull shard) stops =
       let was = stops.0 in
       record {
@@ -148,7 +199,7 @@ module _ (steers : ShippedSteers) (results : ExitedRunsAreResults) (size shards 
       }
 
   run_steered : (captured : Sent) → IsInputFrame captured.bytes.items → (before : PassView) (end : RunEnd) (after : PassView) →
-      IsRunIn plan count program worker journals captured before end after → IsSteeredRun plan count setting worker captured before end after
+      IsRunIn plan count program worker journals captured before end after → IsSteeredRun plan count ruled worker captured before end after
   run_steered captured input before Stopped after run = stop_steered captured input before after run.frame run.stop run.run
   run_steered captured input before Aborted after run = exit_steered captured input before Aborted after run
   run_steered captured input before Dropped after run = exit_steered captured input before Dropped after run
@@ -158,7 +209,7 @@ module _ (steers : ShippedSteers) (results : ExitedRunsAreResults) (size shards 
   pub chain_steered : (records : List Sent) (before : PassView) (runs : List Ran) (after : PassView) →
       AllByRecursion (λ (ran : Ran). IsInputAt records ran.number) runs →
       IsChainOfRuns (IsRunAt (IsRunIn plan count program worker journals) records) before runs after →
-      IsChainOfRuns (IsRunAt (IsSteeredRun plan count setting worker) records) before runs after
+      IsChainOfRuns (IsRunAt (IsSteeredRun plan count ruled worker) records) before runs after
   chain_steered records before [] after inputs chain = chain
   chain_steered records before (ran ∷ later) after inputs chain =
       let run = chain.1 in (
@@ -167,23 +218,100 @@ module _ (steers : ShippedSteers) (results : ExitedRunsAreResults) (size shards 
         chain_steered records chain.0 later after inputs.1 chain.2,
       )
 
+-- ---- what became of each record
+
+-- the run is one of the record by the rule
+record IsSteeredOne (plan : ℕ → ShardPlan) (count : ℕ) (setting : Setting) (worker : ℕ) (records : List Sent) (ran : Ran) : Type 0 where
+  captured : Sent
+  known : slice_get records ran.number ≡ Some captured
+  before : PassView
+  after : PassView
+  run : IsSteeredRun plan count setting worker captured before ran.end after
+
+each_steered : (plan : ℕ → ShardPlan) (count : ℕ) (setting : Setting) (worker : ℕ) (records : List Sent) (before : PassView) (runs : List Ran) (after : PassView) →
+    IsChainOfRuns (IsRunAt (IsSteeredRun plan count setting worker) records) before runs after → AllByRecursion (IsSteeredOne plan count setting worker records) runs
+each_steered plan count setting worker records before [] after chain = tt
+each_steered plan count setting worker records before (ran ∷ later) after chain =
+    let run = chain.1 in (
+      record { captured = run.sent; known = run.known; before = before; after = chain.0; run = run.run },
+      each_steered plan count setting worker records chain.0 later after chain.2,
+    )
+
+-- a fate is that of the run at the record's place
+fate_there : (plan : ℕ → ShardPlan) (count : ℕ) (setting : Setting) (worker : ℕ) (records : List Sent) (captured : Sent) (number : ℕ) →
+    slice_get records number ≡ Some captured → (runs : List Ran) (place : ℕ) → AllByRecursion (IsSteeredOne plan count setting worker records) runs →
+    slice_get (records_of runs) place ≡ Some number → IsSteeredFate plan count setting worker captured (end_at runs place)
+fate_there plan count setting worker records captured number known [] place all there = absurd cc
+fate_there plan count setting worker records captured number known (ran ∷ later) zero all there =
+    let same : ran.number ≡ number = cc there in
+    let one : all.0.captured ≡ captured = cc (sym all.0.known ∙ ap (slice_get records) same ∙ known) in
+    (all.0.before, all.0.after, subst (λ (c : Sent). IsSteeredRun plan count setting worker c all.0.before ran.end all.0.after) one all.0.run)
+fate_there plan count setting worker records captured number known (ran ∷ later) (suc place) all there =
+    fate_there plan count setting worker records captured number known later place all.1 there
+
+flow_below : (flow : Bool) (hash workers : ℕ) → 0 < workers → (if flow then hash % workers else 0) < workers
+flow_below true hash workers some = mod-lt hash some
+flow_below false hash workers some = some
+
+module _ (plan : ℕ → ShardPlan) (count : ℕ) (setting : Setting) (workers : ℕ) (some : 0 < workers) (records : List Sent) (runs : List (List Ran))
+    (in_order : (worker : ℕ) → worker < workers → records_of (runs_at runs worker) ≡ share (frames_of records) workers worker (length records))
+    (steered : (worker : ℕ) → worker < workers → AllByRecursion (IsSteeredOne plan count setting worker records) (runs_at runs worker)) where
+  fate_by_length : (number : ℕ) (captured : Sent) → slice_get records number ≡ Some captured → number < length records → (short : Bool) →
+      is_short (frame_at (frames_of records) number) ≡ short → frame_at (frames_of records) number ≡ captured.bytes.items →
+      IsSteeredFate plan count setting (worker_of_frame (frame_at (frames_of records) number) workers) captured (fate_of (frames_of records) workers runs number)
+  fate_by_length number captured known below true is same =
+      let fate : fate_of (frames_of records) workers runs number ≡ None = rw is refl in
+      subst (λ (f : Option RunEnd). IsSteeredFate plan count setting (worker_of_frame (frame_at (frames_of records) number) workers) captured f) (sym fate)
+      (ap is_short (sym same) ∙ is)
+  fate_by_length number captured known below false is same =
+      let worker : ℕ = worker_of_frame (frame_at (frames_of records) number) workers in
+      let few : worker < workers =
+      flow_below (has_flow (frame_at (frames_of records) number)) (fnv1a64_of (flow_bytes_of (frame_at (frames_of records) number))) workers some in
+      let own : (worker_of_frame (frame_at (frames_of records) number) workers == worker) ≡ true = same_test worker in
+      let handed : is_handed (frames_of records) workers worker number ≡ true = rw (is, own) refl in
+      let fate : fate_of (frames_of records) workers runs number
+      ≡ end_at (runs_at runs worker) (length (share (frames_of records) workers worker number)) = rw is refl in
+      subst (λ (f : Option RunEnd). IsSteeredFate plan count setting worker captured f) (sym fate)
+      (fate_there plan count setting worker records captured number known (runs_at runs worker) (length (share (frames_of records) workers worker number))
+      (steered worker few)
+      (ap (λ (l : List ℕ). slice_get l (length (share (frames_of records) workers worker number))) (in_order worker few)
+      ∙ share_at (frames_of records) workers worker number (length records) handed below))
+
+  fate_steered : (number : ℕ) (captured : Sent) → slice_get records number ≡ Some captured → AllByRecursion IsOfCapture records →
+      IsSteeredFate plan count setting (worker_of_frame captured.bytes.items workers) captured (fate_of (frames_of records) workers runs number)
+  fate_steered number captured known all =
+      let same : frame_at (frames_of records) number ≡ captured.bytes.items = (record_of records number captured known all).1 in
+      subst (λ (bytes : List ℕ). IsSteeredFate plan count setting (worker_of_frame bytes workers) captured (fate_of (frames_of records) workers runs number)) same
+      (fate_by_length number captured known (known_below records number captured known) (is_short (frame_at (frames_of records) number)) refl same)
+
 pub replays_are_steered : ShippedSteers → ExitedRunsAreResults → ReplaysAreSteered
-replays_are_steered steers results size is script options records outcome captured accounted = record {
+replays_are_steered steers results size is script options records outcome fit captured accounted = record {
   accounted = accounted;
-  work = λ worker below.
-      let work = accounted.work worker below in
-      let handled = work.handled in
-      let inputs = inputs_of records (runs_at accounted.runs worker) (subst (λ (l : List ℕ). AllByRecursion (IsInputAt records) l) (sym handled.records_are)
-      (inputs_in records captured options.workers worker (length records))) in
-      record {
-        after = work.after;
-        handled = record {
-          records_are = handled.records_are;
-          before = handled.before;
-          is_new = handled.is_new;
-          chain = chain_steered steers results size options.shards is accounted.plan accounted.count worker outcome.journals records handled.before (runs_at accounted.runs worker) work.after
-              inputs handled.chain;
-        };
-        own = work.own;
-      };
+  work = works;
+  fates = λ number one known.
+      fate_steered accounted.plan accounted.count (of_size options.shards size) options.workers fit.some_worker records accounted.runs
+      (λ worker below. (works worker below).handled.records_are)
+      (λ worker below. each_steered accounted.plan accounted.count (of_size options.shards size) worker records (works worker below).handled.before
+      (runs_at accounted.runs worker) (works worker below).after (works worker below).handled.chain)
+      number one known captured;
 }
+  where
+    works : (worker : ℕ) → worker < options.workers →
+        IsWorkOf (IsRunAt (IsSteeredRun accounted.plan accounted.count (of_size options.shards size) worker) records)
+        (share (frames_of records) options.workers worker (length records)) worker (runs_at accounted.runs worker) accounted.count outcome.journals
+    works worker below =
+        let work = accounted.work worker below in
+        let handled = work.handled in
+        let inputs = inputs_of records (runs_at accounted.runs worker) (subst (λ (l : List ℕ). AllByRecursion (IsInputAt records) l) (sym handled.records_are)
+        (inputs_in records captured options.workers worker (length records))) in
+        record {
+          after = work.after;
+          handled = record {
+            records_are = handled.records_are;
+            before = handled.before;
+            is_new = handled.is_new;
+            chain = chain_steered steers results size options.shards is accounted.plan accounted.count worker outcome.journals records handled.before
+                (runs_at accounted.runs worker) work.after inputs handled.chain;
+          };
+          own = work.own;
+        }

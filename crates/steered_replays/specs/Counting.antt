@@ -1,5 +1,5 @@
--- A shard of counts: an array of which nothing was asked but to find counts, to read them, and to add one to one of them. What its cells then hold is how
--- often each was raised.
+-- A shard of counts: an array of which nothing was asked but to find counts, to read them, and to add one to one of them. What its cells
+-- then hold is how often each was raised.
 use Rattle.std.specs.Prelude.{◌≡◌, ◌⊎◌, ℕ, ◌+◌, ◌/◌, ◌<◌, ◌^◌, ◌==◌, List, [], ◌∷◌, if◌then◌else◌}
 use Rattle.std.specs.List.{AllByRecursion}
 use Rattle.ebpf_decode.specs.declared.map.MapKind.TheVariants.{Array}
@@ -47,8 +47,9 @@ raised cell (entry ∷ older) = raised_by cell entry.call + raised cell older
 -- in a shard of counts each cell holds how often it was raised
 abbrev pub CountsAreExact : Type 0
 CountsAreExact =
-    (plan : ShardPlan) (history : List Entry) (cell : ℕ) → plan.definition.kind ≡ Array → plan.definition.value_size ≡ 8 → cell < capacity plan →
-    plan.reserve < 2 ^ 64 → IsLegalHistory plan history → AreCounting history →
+    (plan : ShardPlan) (history : List Entry) (cell : ℕ) →
+    plan.definition.kind ≡ Array → plan.definition.value_size ≡ 8 → cell < capacity plan → plan.reserve < 2 ^ 64 →
+    IsLegalHistory plan history → AreCounting history →
     number_in_cell (shard_after plan history) cell 0 8 ≡ raised cell history
 
 -- an array's shard answers each lookup of an index below its entries with that index's cell

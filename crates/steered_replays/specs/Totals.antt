@@ -48,4 +48,5 @@ abbrev pub TotalsAreExact : Type 0
 TotalsAreExact =
     (size : ℕ) → IsRingSize size → (script : List Command) (options : Options) (records : List Sent) (outcome : Outcome) →
     AreOptions (steering_maps size) options → AllByRecursion IsOfCapture records →
-    IsAccounted (shipped_program (of_size options.shards size)) script options records outcome → outcome.counts.stopped ≡ 0 → AreTotals outcome
+    IsAccounted (shipped_program (of_size options.shards size)) script options records outcome →
+    outcome.counts.stopped ≡ 0 → AreTotals outcome

@@ -6,15 +6,16 @@ ghost use Rattle.steered_replays.specs.Totals.{TotalsAreExact};
 
 use steer::laws::steers;
 
-/// In an array's shard of which nothing was asked but to find, read and raise counts, each cell holds how often it was raised; and each lookup of an
-/// index that the array has finds that index's cell.
+/// In an array's shard of which nothing was asked but to find, read and raise counts, each cell holds how often it was raised; and each
+/// lookup of an index that the array has finds that index's cell.
 pub fn counts_are_exact()
     ensures counts { CountsAreExact }
     ensures lookups { LookupsOfArraysFind }
 {}
 
-/// A run of the shipped program over a worker's pass makes the calls of the steering rule's plan, on the replies that stand among the worker's own
-/// entries, and ends with the plan's verdict and frame, which are a result of the rule. A run that a full journal stopped made a beginning of these calls.
+/// A run of the shipped program over a worker's pass makes the calls of the steering rule's plan, on the replies that stand among the
+/// worker's own entries, and ends with the plan's verdict and frame, which are a result of the rule. A run that a full journal stopped made
+/// a beginning of these calls.
 pub fn runs_are_steered()
     ensures ended { RunsAreSteered }
     ensures refused { RefusedRunsAreSteered }
@@ -22,16 +23,16 @@ pub fn runs_are_steered()
     steers();
 }
 
-/// So all runs of a replay of the shipped program follow the rule: each on the records that its worker's entries say it read. What is sent, dropped
-/// or passed is what the rule says of these.
+/// So all runs of a replay of the shipped program follow the rule: each on the records that its worker's entries say it read. Each record
+/// is counted, and its frame is sent or not, by the end of such a run, if it is not short.
 pub fn replays_are_steered()
     ensures { ReplaysAreSteered }
 {
     steers();
 }
 
-/// Where a replay of the shipped program stopped no run, the counts in its maps are the report's: in the state to which the journals lead the
-/// one-thread map, the verdicts' counts are how many frames were aborted, dropped, passed and sent.
+/// Where a replay of the shipped program stopped no run, the counts in its maps are the report's: in the state to which the journals lead
+/// the one-thread map, the verdicts' counts are how many frames were aborted, dropped, passed and sent.
 pub fn totals_are_exact()
     ensures { TotalsAreExact }
 {

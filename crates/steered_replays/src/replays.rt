@@ -2,9 +2,11 @@
 
 ghost use Rattle.std.specs.Prelude.{◌≡◌, ◌⊎◌, ◌<◌, ◌≤◌, ◌↔◌, length, IfOk, IsErrOf, IsFalse};
 ghost use Rattle.std.specs.List.{AllByRecursion};
+ghost use Rattle.machine.specs.Running.{program_of};
 ghost use Rattle.maglev.specs.RingSize.{IsRingSize};
 ghost use Rattle.semantics.specs.ShardPlan.{are_served_options};
 ghost use Rattle.steer.specs.ShippedProgram.{shipped_image};
+ghost use Rattle.replay.specs.Accounted.{IsAccounted};
 ghost use Rattle.replay.specs.Parts.{HasNoTable};
 ghost use Rattle.replay.specs.declared.fault.ReplayFault.TheVariants.{BadOptions};
 ghost use Rattle.steered_replays.specs.SteeredRuns.{IsOfCapture, IsSteeredReplay};
@@ -39,9 +41,9 @@ fn all_are_of_capture(capture: &Capture)
     }
 }
 
-/// `replay` of the shipped program for a lookup table of `size` slots. Each run of a worker follows the steering rule, on the replies that stand among the
-/// worker's entries; and where no run was stopped, the counts in the maps are those of the outcome. It shows that what `replays_are_steered` and
-/// `totals_are_exact` ask for is what `replay` gives. Refused as `replay` is.
+/// `replay` of the shipped program for a lookup table of `size` slots, with what holds of this program besides. Each run of a worker follows
+/// the steering rule, on the replies that stand among the worker's entries; and where no run was stopped, the counts in the maps are those
+/// of the outcome. It shows that what `replays_are_steered` and `totals_are_exact` ask for is what `replay` gives. Refused as `replay` is.
 pub fn shipped_replay<R: Threads + Wait + Sync, G: Gate + Sync>(
     rt: &R,
     alloc: Global,
@@ -53,11 +55,12 @@ pub fn shipped_replay<R: Threads + Wait + Sync, G: Gate + Sync>(
     gate: &G,
 ) -> Result<Outcome, ReplayFault>
     requires size { IsRingSize size }
-    requires maps { verified.now.maps ≡ (shipped_image size).maps }
-    requires code { verified.now.code ≡ (shipped_image size).code }
+    requires image { record { version = verified.now.version; maps = verified.now.maps; code = verified.now.code } ≡ shipped_image size }
+    ensures accounted { IfOk result (IsAccounted (program_of verified.now options.shards) script.now options capture.now.records.items) }
     ensures steered { IfOk result (IsSteeredReplay size script.now options capture.now.records.items) }
     ensures totals { IfOk result (λ outcome. outcome.counts.stopped ≡ 0 → AreTotals outcome) }
-    ensures bad_options { IsErrOf result BadOptions ↔ (IsFalse (are_served_options verified.now.maps options) ⊎ HasNoTable verified.now.maps script.now) }
+    ensures bad_options { IsErrOf result BadOptions ↔
+        (IsFalse (are_served_options verified.now.maps options) ⊎ HasNoTable verified.now.maps script.now) }
 {
     replays_are_steered();
     totals_are_exact();

@@ -1,7 +1,10 @@
 -- What a refusal by a later call says of the files as they stood before the earlier ones.
-use Rattle.std.proofs.Common.{◌≡◌, ℕ, List, Option, Some, None, arith}
+use Rattle.std.proofs.Common.{◌≡◌, ℕ, List, Option, Some, None, arith, refl, subst}
+use Rattle.journals.specs.JournalsView.{JournalsView}
+use Rattle.journals.specs.JournalText.{journals_text}
 use Rattle.xlb_commands.specs.declared.fault.Fault.{Fault}
 use Rattle.xlb_commands.specs.Files.{FileBytes, AreKept}
+use Rattle.xlb_commands.specs.Replays.{HasBytes, AreWritten}
 use Rattle.xlb_commands.specs.Refused.{HasFailed, IsUnserved, device_failed, lacks_memory, IsUnwritten, not_written, no_room, AreUnwritten, IsFrameRefusal, no_frame_bytes, too_long, too_short, no_frame_memory}
 use Rattle.xlb_commands.specs.Refused.{IsScriptRefusal, no_script_bytes, no_script, IsCaptureRefusal, no_capture_bytes, no_capture}
 
@@ -50,3 +53,9 @@ pub capture_refusal_before : (before after : FileBytes) (failed since : Type 0) 
 capture_refusal_before before after failed since name fault kept so (no_capture_bytes unserved) =
     no_capture_bytes (unserved_since failed since fault so unserved)
 capture_refusal_before before after failed since name fault kept so (no_capture bytes read is) = no_capture bytes ((kept name bytes).1 read) is
+
+-- where a file is named for the journals, it has their text
+pub written_down : (files : FileBytes) (name : Option (List ℕ)) (bytes : List ℕ) (journals : JournalsView)
+    → ((file : List ℕ) → name ≡ Some file → bytes ≡ journals_text journals) → HasBytes files name bytes → AreWritten files name journals
+written_down files None bytes journals same has = has
+written_down files (Some file) bytes journals same has = subst (λ (it : List ℕ). files file it) (same file refl) has

@@ -200,7 +200,8 @@ fn write_files<D: Folder>(
         (HasFailed (D.failure_count folder.old) (D.failure_count folder.new)) files.now left.now.sent.bytes refusal.fault) }
 {
     write_to(alloc, folder, files.sent, &left.sent)?;
-    write_journals_to(alloc, folder, files.journals, &left.journals)
+    write_journals_to(alloc, folder, files.journals, &left.journals)?;
+    Ok(())
 }
 
 /// Runs the frames of a capture, and writes those that are sent, the journals where a file is named for them, and a report. All input is read and

@@ -2,7 +2,6 @@
 
 ghost use Rattle.std.specs.Prelude.{◌≡◌, ◌-◌, ◌<◌, ◌^◌, List, ℕ, Some, IfErr, IfOk, OnOk};
 ghost use Rattle.journals.specs.JournalText.{journals_text};
-ghost use Rattle.journals.specs.declared.fault.FileFault.TheVariants as no_room;
 ghost use Rattle.command_line.specs.Reading.{text_of};
 ghost use Rattle.xlb_commands.specs.Files.{AreAllKeptBut, AreOthersKept};
 ghost use Rattle.xlb_commands.specs.Refused.{HasFailed, IsUnserved, AreUnwritten, LacksRoom};
@@ -15,10 +14,10 @@ use journals::{FileFault, Journals, write_journals};
 use std::alloc::Global;
 use wire::MemorySink;
 
-/// The bytes of the file of these journals; else 52, since writing to memory fails for lack of memory alone.
-fn bytes_of_journals(alloc: Global, journals: &Journals) -> Result<MemorySink, Refusal>
+/// The bytes of the file of this name, of these journals; else 52, since writing to memory fails for lack of memory alone.
+fn bytes_of_journals(alloc: Global, name: &str, journals: &Journals) -> Result<MemorySink, Refusal>
     ensures bytes { IfOk result (λ sink. sink.bytes ≡ journals_text journals.now) }
-    ensures refused { IfErr result (λ refusal. refusal.fault ≡ Fault.Journals no_room.Memory) }
+    ensures refused { IfErr result (λ refusal. LacksRoom (Some name.now) refusal.fault) }
 {
     let mut sink = MemorySink::new(alloc);
     match write_journals(alloc, &mut sink, journals) {
@@ -37,7 +36,7 @@ pub(crate) fn journal_bytes(
     ensures refused { IfErr result (λ refusal. LacksRoom (text_of name.entry) refusal.fault) }
 {
     match name {
-        Some(_) => bytes_of_journals(alloc, journals),
+        Some(name) => bytes_of_journals(alloc, name, journals),
         None => Ok(MemorySink::new(alloc)),
     }
 }

@@ -1,4 +1,4 @@
-use Rattle.std.proofs.Common.{◌<◌, ◌∷◌, ◌++◌, [], List, length, refl, ap, ◌∙◌, arith}
+use Rattle.std.proofs.Common.{◌<◌, ◌∷◌, ◌++◌, [], List, length, refl, ap, ◌∙◌}
 use Rattle.replay.specs.declared.runner.Ran.{Ran}
 use Rattle.semantics.proofs.shared.EachLemmas.{got_there}
 use Rattle.replay.proofs.worker.ran.Goals as goal

@@ -1,4 +1,4 @@
-use Rattle.std.proofs.Common.{◌≡◌, ◌+◌, ◌⊎◌, inl, inr, refl, ap, subst, Err, ℕ, List, arith}
+use Rattle.std.proofs.Common.{◌≡◌, ◌+◌, ◌⊎◌, inl, inr, ap, subst, Err, ℕ, List, arith}
 use Rattle.wire.specs.declared.capture_fault.CaptureFault.{CaptureFault}
 use Rattle.wire.specs.declared.capture_fault.CaptureFault.TheVariants.{Device}
 use Rattle.wire.specs.CaptureFormat.{Refuses}

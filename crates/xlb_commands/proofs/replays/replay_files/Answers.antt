@@ -1,18 +1,16 @@
-use Rattle.std.proofs.Common.{◌≡◌, ◌≢◌, ◌↔◌, ℕ, List, Option, Some, None, Result, Err, ap, refl, subst}
+use Rattle.std.proofs.Common.{◌≡◌, ℕ, List, Option, Some, None, Result, Err, ap, refl, subst}
 use Rattle.std.proofs.lemmas.Result.{err_from_is_err_and}
 use Rattle.ebpf_decode.specs.ImageContents.{Contents}
 use Rattle.wire.specs.declared.records.Sent.{Sent}
 use Rattle.control.specs.declared.command.Command.{Command}
-use Rattle.journals.specs.JournalsView.{JournalsView}
-use Rattle.journals.specs.JournalText.{journals_text}
 use Rattle.replay.specs.declared.fault.ReplayFault.{ReplayFault}
 use Rattle.command_line.specs.declared.commands.ReplayFiles.{ReplayFiles}
 use Rattle.command_line.specs.Reading.{text_of}
 use Rattle.xlb_commands.specs.declared.fault.Fault.{Fault}
-use Rattle.xlb_commands.specs.Replays.{IsScriptOf, IsCaptureOf, HasBytes, AreWritten}
+use Rattle.xlb_commands.specs.Replays.{IsScriptOf, IsCaptureOf}
 use Rattle.xlb_commands.specs.Refused.{IsReplayProgram, AreReplayInputs, no_replay_program, no_replay_script, no_replay_capture, given_up, not_reported, not_written_down}
 use Rattle.xlb_commands.specs.Refused.{AreUnfiled, no_sent_file, no_journals_file}
-use Rattle.xlb_commands.proofs.Refusals.{kept_twice, failed_since, unserved_since, unfiled_since, script_refusal_before, capture_refusal_before}
+use Rattle.xlb_commands.proofs.Refusals.{kept_twice, failed_since, unserved_since, unfiled_since, written_down, script_refusal_before, capture_refusal_before}
 use Rattle.xlb_commands.specs.Files.{FileBytes, AreKept, AreOthersKept, AreAllButKept}
 use Rattle.xlb_commands.proofs.replays.replay_files.Goals as goal
 
@@ -40,19 +38,14 @@ capture_before : (a b c : FileBytes) → AreKept a b → AreKept b c → (name :
 capture_before a b c first second name records is =
     record { bytes = is.bytes; read = (first name is.bytes).1 ((second name is.bytes).1 is.read); spelled = is.spelled }
 
--- where a file is named for the journals, it has their text
-written : (files : FileBytes) (name : Option (List ℕ)) (bytes : List ℕ) (journals : JournalsView)
-    → ((file : List ℕ) → name ≡ Some file → bytes ≡ journals_text journals) → HasBytes files name bytes → AreWritten files name journals
-written files None bytes journals same has = has
-written files (Some file) bytes journals same has = subst (λ (it : List ℕ). files file it) (same file refl) has
-
 -- of the files that were not written it does not matter what stood there before the readings
-unfiled_before : (a b c d e : FileBytes) (failed since : Type 0) (names : ReplayFiles) (sent : List ℕ) (fault : Fault) → AreKept a b → AreKept b c
-    → AreKept c d → (failed → since) → AreUnfiled d e failed names sent fault → AreUnfiled a e since names sent fault
-unfiled_before a b c d e failed since names sent fault first second third so (no_sent_file others unserved) =
+unfiled_before : (a b c d e : FileBytes) (failed since : Type 0) (names : ReplayFiles) (made sent : List ℕ) (fault : Fault) → AreKept a b → AreKept b c
+    → AreKept c d → (failed → since) → made ≡ sent → AreUnfiled d e failed names made fault → AreUnfiled a e since names sent fault
+unfiled_before a b c d e failed since names made sent fault first second third so same (no_sent_file others unserved) =
     no_sent_file (others_kept a b c d e names.sent.now first second third others) (unserved_since failed since fault so unserved)
-unfiled_before a b c d e failed since names sent fault first second third so (no_journals_file stands unwritten) =
-    no_journals_file stands (unfiled_since (text_of names.journals) failed since fault so unwritten)
+unfiled_before a b c d e failed since names made sent fault first second third so same (no_journals_file stands unwritten) =
+    no_journals_file (λ other. subst (λ (it : List ℕ). e names.sent.now it) same (stands other))
+    (unfiled_since (text_of names.journals) failed since fault so unwritten)
 
 pub returns-in_err-write_files-clause-kept : goal.returns-in_err-write_files-clause-kept
 returns-in_err-write_files-clause-kept g c =
@@ -74,7 +67,8 @@ returns-clause-done g c = (
     refused_are = refl;
     sent = λ other. subst (λ (it : List ℕ). g.D.Folder.holds c.write_files.new.folder c.args.files.now.sent.now it) c.in_ok-left.ensures.sent
         (c.in_ok-write_files.ensures.sent other);
-    journals = written _ _ _ _ c.in_ok-left.ensures.journals c.in_ok-write_files.ensures.journals;
+    journals = written_down (g.D.Folder.holds c.write_files.new.folder) (text_of c.args.files.now.journals) c.in_ok-left.left.journals.bytes
+        c.in-Ok.outcome.journals c.in_ok-left.ensures.journals c.in_ok-write_files.ensures.journals;
     lines = c.in_ok-left.ensures.text;
   },
   c.in_ok-left.ensures.whole,
@@ -163,8 +157,7 @@ returns-in_err-write_files-clause-refused g c =
     (inputs _ _ _ c.args.files.now c.args.ring program _ _ c.program_of.ensures.kept c.script_of.ensures.kept
     (record { is = c.in_ok-verified.ensures.program; safe = c.in_ok-verified.ensures.safe }) c.in_ok-script.ensures.script c.in_ok-capture.ensures.capture)
     c.in-Ok.ensures.accounted
-    (subst (λ (it : List ℕ). AreUnfiled _ _ _ _ it _) c.in_ok-left.ensures.sent
-    (unfiled_before _ _ _ _ _ _ _ _ _ _ c.program_of.ensures.kept c.script_of.ensures.kept c.capture_of.ensures.kept
+    (unfiled_before _ _ _ _ _ _ _ _ _ _ _ c.program_of.ensures.kept c.script_of.ensures.kept c.capture_of.ensures.kept
     (λ failed. failed_since _ _ _ c.in_ok-verified.ensures.steady
     (failed_since _ _ _ c.in_ok-script.ensures.steady (failed_since _ _ _ c.in_ok-capture.ensures.steady failed)))
-    c.in_err-write_files.ensures.refused)))
+    c.in_ok-left.ensures.sent c.in_err-write_files.ensures.refused))

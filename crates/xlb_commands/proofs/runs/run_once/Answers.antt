@@ -11,11 +11,12 @@ use Rattle.semantics.specs.System.{IsInputFrame}
 use Rattle.semantics.specs.declared.verdict.Verdict.{Verdict}
 use Rattle.runs.specs.SingleRuns.{HasRunAlone, HasStoppedAlone}
 use Rattle.wire.specs.FrameView.{FrameView}
+use Rattle.command_line.specs.Reading.{text_of}
 use Rattle.command_line.specs.declared.commands.RunFiles.{RunFiles}
 use Rattle.xlb_commands.specs.Files.{FileBytes, AreKept, AreAllKeptBut, IsImageFile}
 use Rattle.xlb_commands.specs.Refused.{IsFittingProgram, AreRunInputs, IsEndedRun, no_report_room, no_run_program, no_run_frame, no_worker, not_run, stopped, not_told, not_filed}
 use Rattle.xlb_commands.specs.Results.{run_options, program_of_run, start_of_run}
-use Rattle.xlb_commands.proofs.Refusals.{kept_twice, frame_refusal_before, failed_since, unfiled_since}
+use Rattle.xlb_commands.proofs.Refusals.{kept_twice, frame_refusal_before, failed_since, unfiled_since, written_down}
 use Rattle.xlb_commands.proofs.runs.run_once.Goals as goal
 
 -- after two readings and a writing
@@ -56,6 +57,31 @@ ended_so : (program : Program) (bytes : List ℕ) (updates : List MapUpdate) (ve
 ended_so program bytes updates verdict steps frame journals worker now made_worker made_now same_worker same_now is =
     subst (λ (it : ℕ). HasRunAlone program (start_of_run bytes it now) run_options it updates verdict steps frame journals) same_worker
     (subst (λ (it : ℕ). HasRunAlone program (start_of_run bytes made_worker it) run_options made_worker updates verdict steps frame journals) same_now is)
+
+pub returns-clause-done : goal.returns-clause-done
+returns-clause-done g c =
+    let program : Contents =
+    record { version = c.in_ok-verified.verified.version; maps = c.in_ok-verified.verified.maps; code = c.in_ok-verified.verified.code } in
+    let below : c.args.worker < 8 = omega (arith, c.in_ok-moment.ensures.given.1, c.in_ok-moment.ensures.below) in
+    let at : HasRunAlone (program_of_run program) (start_of_run c.in_ok-frame.frame.bytes c.in_ok-moment.moment.worker c.in_ok-moment.moment.now_ns) run_options
+    c.in_ok-moment.moment.worker c.args.updates.now c.in-Ok.exit.verdict c.in-Ok.exit.steps c.run_over.new.frame c.in_ok-ended.field-0.journals = search rules in
+    record {
+      program = program;
+      file = c.in_ok-verified.ensures.file;
+      safe = c.in_ok-verified.ensures.safe;
+      bytes = c.in_ok-frame.frame.bytes;
+      read = (c.in_ok-verified.ensures.kept _ _).1 c.in_ok-frame.ensures.read;
+      size = c.in_ok-frame.ensures.size;
+      worker_is = below;
+      verdict = c.in-Ok.exit.verdict;
+      steps = c.in-Ok.exit.steps;
+      left = c.run_over.new.frame;
+      journals = c.in_ok-ended.field-0.journals;
+      run = ended_so _ _ _ _ _ _ _ _ _ _ _ c.in_ok-moment.ensures.given.1 c.in_ok-moment.ensures.given.0 at;
+      written = written_down (g.D.Folder.holds c.write_journals_to.new.folder) (text_of c.args.files.now.journals) c.in_ok-file.file.bytes
+          c.in_ok-ended.field-0.journals c.in_ok-file.ensures.bytes c.in_ok-write_journals_to.ensures.written;
+      lines = c.in_ok-text.ensures;
+    }
 
 pub returns-in_err-verified-clause-refused : goal.returns-in_err-verified-clause-refused
 returns-in_err-verified-clause-refused g c =

@@ -1,4 +1,4 @@
-use Rattle.std.proofs.Common.{length, subst}
+use Rattle.std.proofs.Common.{subst}
 use Rattle.rx_queues.specs.Passes.{jobs_put}
 use Rattle.replay.specs.Actors.{AreHandedOver}
 use Rattle.replay.specs.Shares.{frames_of}

@@ -1,4 +1,4 @@
-use Rattle.std.proofs.Common.{◌+◌, ◌<◌, ◌%◌, ◌==◌, length, map, sym, subst, if◌then◌else◌, [], ◌∷◌}
+use Rattle.std.proofs.Common.{◌+◌, ◌<◌, ◌%◌, ◌==◌, sym, subst, if◌then◌else◌, [], ◌∷◌}
 use Rattle.std.proofs.lemmas.List.{length-map}
 use Rattle.wire.specs.declared.records.Sent.{Sent}
 use Rattle.rx_queues.specs.declared.job.Job.TheVariants.{Note}
