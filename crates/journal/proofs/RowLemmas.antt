@@ -93,9 +93,10 @@ bytes_within key value count count' words later (Missed who at) more within = (t
 bytes_within key value count count' words later (Loaded who size offset start) more within = (omega (arith, within.0, length-append words later), tt)
 bytes_within key value count count' words later (Stored who size offset start) more within = (omega (arith, within.0, length-append words later), tt)
 bytes_within key value count count' words later (Changed who size op offset start) more within = (omega (arith, within.0, length-append words later), tt)
-bytes_within key value count count' words later (Updated who code start) more within =
-    (omega (arith, within.0, length-append words later),
-    omega (arith, within.1, more, word_kept words later (start + 0) (omega (arith, within.0))))
+bytes_within key value count count' words later (Updated who code start) more within = (
+  omega (arith, within.0, length-append words later),
+  omega (arith, within.1, more, word_kept words later (start + 0) (omega (arith, within.0))),
+)
 bytes_within key value count count' words later (Deleted who code at) more within = (tt, omega (arith, within.1, more))
 bytes_within key value count count' words later (Reclaimed who start) more within = (omega (arith, within.0, length-append words later), tt)
 
@@ -193,7 +194,7 @@ stored_more shard reserve ks vs bytes words rows who range start value within th
 pub changed_more : (shard reserve ks vs : ℕ) (bytes words : List ℕ) (rows : List Row) (who : Caller) (range : CellRange) (change : AtomicChange) (start old : ℕ)
     → AllByRecursion (IsWithin ks vs (length bytes) words) rows → start ≡ length words
     → journaled shard reserve ks vs (rows ++ Changed who range.size change.op range.offset start ∷ []) bytes
-      (words ++ range.cell ∷ change.value ∷ change.expected ∷ old ∷ [])
+    (words ++ range.cell ∷ change.value ∷ change.expected ∷ old ∷ [])
     ≡ with_entry (journaled shard reserve ks vs rows bytes words) (atomic_entry shard who range change old)
 changed_more shard reserve ks vs bytes words rows who range change start old within there =
     let later : List ℕ = range.cell ∷ change.value ∷ change.expected ∷ old ∷ [] in

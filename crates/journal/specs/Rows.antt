@@ -123,14 +123,14 @@ journaled shard reserve key_size value_size rows bytes words = record {
 
 -- the rows read within the bytes and the words, and the rooms last for the reserve
 pub record IsKept (reserve key_size value_size : ℕ) (rows : List Row) (row_room : ℕ) (bytes : List ℕ) (byte_room : ℕ) (words : List ℕ) (word_room : ℕ)
-  : Type 0 where
-    pub few : reserve ≤ 2 ^ 20
-    pub key : key_size ≤ 32
-    pub value : value_size ≤ 256
-    pub within : AllByRecursion (IsWithin key_size value_size (length bytes) words) rows
-    -- no row took more bytes than one key and one value, nor more than four words
-    pub used : length bytes ≤ length rows * (key_size + value_size)
-    pub words_used : length words ≤ length rows * 4
-    pub rows_fit : reserve ≤ row_room
-    pub bytes_fit : reserve * (key_size + value_size) ≤ byte_room
-    pub words_fit : reserve * 4 ≤ word_room
+    : Type 0 where
+  pub few : reserve ≤ 2 ^ 20
+  pub key : key_size ≤ 32
+  pub value : value_size ≤ 256
+  pub within : AllByRecursion (IsWithin key_size value_size (length bytes) words) rows
+  -- no row took more bytes than one key and one value, nor more than four words
+  pub used : length bytes ≤ length rows * (key_size + value_size)
+  pub words_used : length words ≤ length rows * 4
+  pub rows_fit : reserve ≤ row_room
+  pub bytes_fit : reserve * (key_size + value_size) ≤ byte_room
+  pub words_fit : reserve * 4 ≤ word_room

@@ -174,7 +174,10 @@ impl Journal {
         ensures { self.new ≡ with_entry self.old (atomic_entry self.old.shard who range.now change.now old) }
     {
         let start = self.words.len() as u32;
-        put_words(&mut self.words, &[range.cell, change.value, change.expected, old]);
+        put_words(
+            &mut self.words,
+            &[range.cell, change.value, change.expected, old],
+        );
         let row = Row::Changed {
             who,
             size: range.size as u8,

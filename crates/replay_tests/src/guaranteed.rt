@@ -3,4 +3,4 @@
 mod addresses;
 mod programs;
 mod replays;
-mod runs;
+mod worker_runs;

@@ -7,7 +7,7 @@ mod cases;
 mod endings;
 mod frames;
 mod numbers;
-mod runs;
+mod program_runs;
 mod sessions;
 mod worlds;
 mod wrong;

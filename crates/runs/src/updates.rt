@@ -14,8 +14,8 @@ ghost use Rattle.runs.specs.Updates.{served_by, shard_of_update, AreUpdated, may
 
 use crate::fault::RunFault;
 use ebpf_decode::{Image, MapDef};
-use map_updates::MapUpdate;
 use map_rules::conditions::shard_of_map;
+use map_updates::MapUpdate;
 use semantics::facts::bytes_have_8_bits;
 use semantics::{Caller, JournalFull, Options, UpdateFlags};
 use shard_port::laws::{calls_keep_serving, opened_serve};

@@ -13,8 +13,8 @@ ghost use Rattle.shard_core.specs.Calls.{atomic_call, update_call, delete_call, 
 
 use crate::contents::{open_cells, put_value, retire_key};
 use crate::keys::KeyTable;
-use epochs::places::{Places, count, floor, set};
 use crate::ranges::{change_number, number_in, put_number};
+use epochs::places::{Places, count, floor, set};
 use isa::AtomicOp;
 use journal::{AtomicChange, CellRange, Journal};
 use map_cells::Cells;

@@ -29,8 +29,8 @@ use Rattle.command_line.specs.Reading.{text_of}
 use Rattle.map_updates.specs.Misfits.{IsFirstMisfit}
 use Rattle.map_updates.specs.declared.misfit.Misfit.{Misfit}
 use Rattle.map_updates.specs.declared.update.MapUpdate.{MapUpdate}
-use Rattle.xlb_commands.specs.declared.runs.RunAnswer.{RunAnswer}
-use Rattle.xlb_commands.specs.declared.runs.RunAnswer.TheVariants.{Printed, Mistaken}
+use Rattle.xlb_commands.specs.declared.one_run.RunAnswer.{RunAnswer}
+use Rattle.xlb_commands.specs.declared.one_run.RunAnswer.TheVariants.{Printed, Mistaken}
 use Rattle.xlb_commands.specs.declared.serving.CommandAnswer.{CommandAnswer}
 use Rattle.xlb_commands.specs.declared.serving.CommandAnswer.TheVariants as answers
 use Rattle.xlb_commands.specs.Files.{FileBytes, AreKept, AreOthersKept, AreAllButKept, AreAllKeptBut, IsImageFile}

@@ -13,10 +13,10 @@ use crate::commands::{
 };
 use crate::fault::{Fault, Refusal};
 use crate::fault_lines::fault_line;
+use crate::one_run::{RunAnswer, run_once};
 use crate::progress::Progress;
 use crate::replays::replay_files;
 use crate::report::Report;
-use crate::runs::{RunAnswer, run_once};
 use crate::shipping::write_shipped;
 use command_line::Settings;
 use explanations::refusal_text;

@@ -1,7 +1,7 @@
 //! Programs of version 2 that name addresses of values themselves, and what they leave in the journals.
 
 use super::programs::{EXIT, ONE_ENTRY, OPTIONS, Program, add, alu, copy, jump_if, load, mov, put};
-use super::runs::{Run, enter, exit, found, leave, lookup, program_leaves};
+use super::worker_runs::{Run, enter, exit, found, leave, lookup, program_leaves};
 use ebpf_decode::{Insn, MapDef, Version};
 use isa::Register::{R0, R1, R2, R3, R4, R5, R6};
 use isa::{AluOp, AtomicOp, Register, Size, Source, Test, Width};

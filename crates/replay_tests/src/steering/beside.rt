@@ -9,7 +9,7 @@ ghost use Rattle.replay_tests.specs.SessionOptions.{session_options};
 use super::asked::AllAsked;
 use super::cases::{Case, Difference};
 use super::numbers::Numbers;
-use super::runs::program;
+use super::program_runs::program;
 use super::sessions::options;
 use super::wrong::{WRONG, Wrong, wrong_program};
 use crate::asserting::{holds, same};

@@ -3,7 +3,7 @@
 ghost use Rattle.std.specs.Prelude.{◌≡◌, ◌<◌, length};
 
 use super::asked::AllAsked;
-use super::runs::{changed, program};
+use super::program_runs::{changed, program};
 use super::sessions::{options, put_session, run_session};
 use super::worlds::{Keys, World};
 use crate::asserting::{holds, same};

@@ -11,9 +11,10 @@ invariant_of-self c =
     let sized : length c.args.key.now ≡ c.self.inside.shape.key_size = rw (← c.self.view_is) at c.requires.key in
     rw (c.put_row.ensures.items, c.put_words.ensures.items, c.put_bytes.ensures.items)
     (kept_more _ _ _ c.self.inside.rows.items _ c.self.inside.bytes.items c.args.key.now _ c.self.inside.words.items (c.in-Some.cell ∷ []) _
-    (Found c.args.who c.len-at.result c.len-start.result) _ _ _ c.self.invariant (omega (arith, sized)) (omega arith)
-    (omega (arith, there, length-append c.self.inside.words.items (c.in-Some.cell ∷ [])),
-    omega (arith, here, sized, length-append c.self.inside.bytes.items c.args.key.now))
+    (Found c.args.who c.len-at.result c.len-start.result) _ _ _ c.self.invariant (omega (arith, sized)) (omega arith) (
+      omega (arith, there, length-append c.self.inside.words.items (c.in-Some.cell ∷ [])),
+      omega (arith, here, sized, length-append c.self.inside.bytes.items c.args.key.now),
+    )
     c.put_row.ensures.room c.put_bytes.ensures.room c.put_words.ensures.room)
 
 pub invariant_of-self-in-None : goal.invariant_of-self-in-None

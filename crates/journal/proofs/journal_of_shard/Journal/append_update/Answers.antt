@@ -21,10 +21,18 @@ invariant_of-self c =
       append_assoc c.self.inside.bytes.items c.args.key.now c.args.value.now,
     )
     (kept_more _ _ _ c.self.inside.rows.items _ c.self.inside.bytes.items (c.args.key.now ++ c.args.value.now) _ c.self.inside.words.items
-    (c.len-at.result ∷ c.args.flags ∷ []) _ _ _ _ _ c.self.invariant (omega (arith, key_sized, value_sized, both)) (omega arith)
-    (omega (arith, there, length-append c.self.inside.words.items (c.len-at.result ∷ c.args.flags ∷ [])),
-    omega (arith, here, key_sized, value_sized, both, length-append c.self.inside.bytes.items (c.args.key.now ++ c.args.value.now),
-    word_last c.self.inside.words.items (c.len-at.result ∷ c.args.flags ∷ []) c.len-start.result 0 there))
+    (c.len-at.result ∷ c.args.flags ∷ []) _ _ _ _ _ c.self.invariant (omega (arith, key_sized, value_sized, both)) (omega arith) (
+      omega (arith, there, length-append c.self.inside.words.items (c.len-at.result ∷ c.args.flags ∷ [])),
+      omega (
+        arith,
+        here,
+        key_sized,
+        value_sized,
+        both,
+        length-append c.self.inside.bytes.items (c.args.key.now ++ c.args.value.now),
+        word_last c.self.inside.words.items (c.len-at.result ∷ c.args.flags ∷ []) c.len-start.result 0 there,
+      ),
+    )
     c.put_row.ensures.room (omega (arith, room, c.put_bytes-2.ensures.room)) c.put_words.ensures.room)
 
 pub returns : goal.returns

@@ -13,7 +13,7 @@ use Rattle.xlb_commands.specs.declared.fault.Fault.{Fault}
 use Rattle.xlb_commands.specs.declared.fault.Fault.TheVariants as faults
 use Rattle.xlb_commands.specs.Refused.{IsRunFault, not_served, no_map_memory, update_refused, update_full}
 use Rattle.xlb_commands.specs.Results.{run_options}
-use Rattle.xlb_commands.proofs.runs.run_over.Goals as goal
+use Rattle.xlb_commands.proofs.one_run.run_over.Goals as goal
 
 -- a frame with the usual room in front of it
 frame_is : (frame : FrameView) → frame.headroom ≡ 256 → frame ≡ record { bytes = frame.bytes; headroom = 256 }

@@ -17,7 +17,7 @@ use Rattle.xlb_commands.specs.Files.{FileBytes, AreKept, AreAllKeptBut, IsImageF
 use Rattle.xlb_commands.specs.Refused.{IsFittingProgram, AreRunInputs, IsEndedRun, no_report_room, no_run_program, no_run_frame, no_worker, not_run, stopped, not_told, not_filed}
 use Rattle.xlb_commands.specs.Results.{run_options, program_of_run, start_of_run}
 use Rattle.xlb_commands.proofs.Refusals.{kept_twice, frame_refusal_before, failed_since, unfiled_since, written_down}
-use Rattle.xlb_commands.proofs.runs.run_once.Goals as goal
+use Rattle.xlb_commands.proofs.one_run.run_once.Goals as goal
 
 -- after two readings and a writing
 kept_but : (a b c d : FileBytes) (written : Option (List ℕ)) → AreKept a b → AreKept b c → AreAllKeptBut c d written → AreAllKeptBut a d written
