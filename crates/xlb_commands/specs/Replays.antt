@@ -19,6 +19,8 @@ use Rattle.replay.specs.Accounts.{frames_in}
 use Rattle.replay.specs.declared.outcome.Applied.{Applied}
 use Rattle.replay.specs.declared.outcome.Outcome.{Outcome}
 use Rattle.replay.specs.Accounted.{IsAccounted}
+use Rattle.steered_replays.specs.SteeredRuns.{IsSteeredReplay}
+use Rattle.steered_replays.specs.Totals.{AreTotals}
 use Rattle.command_line.specs.declared.commands.ReplayFiles.{ReplayFiles}
 use Rattle.command_line.specs.Reading.{text_of}
 use Rattle.xlb_commands.specs.Files.{FileBytes, IsImageFile}
@@ -93,8 +95,19 @@ refusals_text refused = flat_map (λ (one : Applied). refusal_of one.command one
 abbrev pub program_of_replay : Contents → Options → Program
 program_of_replay image options = record { code = image.code; maps = image.maps; shards = options.shards }
 
--- The program may run; script and capture are read from their files; the replay accounts for every record, every command and every entry of the
--- journals; the sent frames and the journals are written to their files; and what is printed are the counts, and the commands that were refused.
+-- each run followed the steering rule; and where none was stopped, the counts in the maps are those of the report
+pub record IsByRule (ring : ℕ) (script : List Command) (options : Options) (records : List Sent) (outcome : Outcome) : Type 0 where
+  pub runs : IsSteeredReplay ring script options records outcome
+  pub totals : outcome.counts.stopped ≡ 0 → AreTotals outcome
+
+-- this holds of the shipped program, which runs where no image is named; of another image nothing is said
+abbrev pub FollowsRule : Option (List ℕ) → ℕ → List Command → Options → List Sent → Outcome → Type 0
+FollowsRule (Some name) ring script options records outcome = Unit {0}
+FollowsRule None ring script options records outcome = IsByRule ring script options records outcome
+
+-- The program may run; script and capture are read from their files; the replay accounts for every record, every command and every entry
+-- of the journals; the shipped program follows the steering rule; the sent frames and the journals are written to their files; and what is
+-- printed are the counts, and the commands that were refused.
 pub record IsReplayed (before after : FileBytes) (files : ReplayFiles) (options : Options) (ring : ℕ) (printed : List ℕ) (refused : List Applied) :
     Type 0 where
   pub program : Contents
@@ -106,6 +119,7 @@ pub record IsReplayed (before after : FileBytes) (files : ReplayFiles) (options 
   pub capture : IsCaptureOf before files.capture.now records
   pub outcome : Outcome
   pub accounted : IsAccounted (program_of_replay program options) script options records outcome
+  pub by_rule : FollowsRule (text_of files.image) ring script options records outcome
   pub refused_are : outcome.refused.items ≡ refused
   -- the journals are written after the sent frames, over them where both have one name
   pub sent : text_of files.journals ≢ Some files.sent.now → after files.sent.now (capture_bytes outcome.sent.items)

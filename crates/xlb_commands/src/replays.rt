@@ -1,7 +1,12 @@
 //! What `xlb replay` does with its files.
 
-ghost use Rattle.std.specs.Prelude.{◌≡◌, ◌≢◌, ◌==◌, ◌↔◌, ◌+◌, ◌++◌, ◌-◌, ◌<◌, ◌≤◌, ◌^◌, ℕ, [], true, false, List, Some, IfErr, IfOk, OnOk, length, string_bytes};
+ghost use Rattle.std.specs.Prelude.{◌≡◌, ◌≢◌, ◌==◌, ◌↔◌, ◌+◌, ◌++◌, ◌-◌, ◌<◌, ◌≤◌, ◌^◌, ◌⊎◌, ℕ, [], true, false};
+ghost use Rattle.std.specs.Prelude.{List, Some, None, IfErr, IfOk, IsErrOf, IsFalse, OnOk, length, string_bytes};
 ghost use Rattle.semantics.specs.Safety.{IsSafeImage};
+ghost use Rattle.semantics.specs.ShardPlan.{are_served_options};
+ghost use Rattle.machine.specs.Running.{program_of};
+ghost use Rattle.maglev.specs.RingSize.{IsRingSize};
+ghost use Rattle.steer.specs.ShippedProgram.{shipped_image};
 ghost use Rattle.wire.specs.CaptureFormat.{IsCaptureFile, capture_bytes};
 ghost use Rattle.control.specs.ScriptText.{IsScriptText};
 ghost use Rattle.control.specs.ScriptReading.{Explains};
@@ -9,13 +14,17 @@ ghost use Rattle.control.specs.declared.command.Command.{Command};
 ghost use Rattle.control.specs.declared.fault.ControlFault.{ControlFault};
 ghost use Rattle.control.specs.declared.fault.ControlFault.TheVariants as scripts;
 ghost use Rattle.replay.specs.declared.outcome.Applied.{Applied as Noted};
+ghost use Rattle.replay.specs.declared.fault.ReplayFault.TheVariants.{BadOptions};
+ghost use Rattle.replay.specs.Accounted.{IsAccounted};
 ghost use Rattle.replay.specs.Accounts.{frames_in};
+ghost use Rattle.replay.specs.Parts.{HasNoTable};
 ghost use Rattle.journals.specs.JournalText.{journals_text};
 ghost use Rattle.command_line.specs.Reading.{text_of};
 ghost use Rattle.xlb_commands.specs.Files.{AreKept, AreAllButKept};
 ghost use Rattle.xlb_commands.specs.Refused.{HasFailed, LacksRoom, AreUnfiled, IsReplayProgramRefusal, IsScriptFileRefusal, IsScriptRefusal};
 ghost use Rattle.xlb_commands.specs.Refused.{IsNoCapture, IsCaptureRefusal, IsReplayRefusal};
-ghost use Rattle.xlb_commands.specs.Replays.{IsProgramOf, IsScriptOf, IsScriptFile, IsCaptureOf, IsReplayed, HasBytes, counts_text, refusals_text};
+ghost use Rattle.xlb_commands.specs.Replays.{IsProgramOf, IsScriptOf, IsScriptFile, IsCaptureOf, IsReplayed, HasBytes, FollowsRule};
+ghost use Rattle.xlb_commands.specs.Replays.{counts_text, refusals_text};
 
 use crate::commands::{bytes_of, judged_of};
 use crate::fault::{Fault, Refusal};
@@ -27,11 +36,13 @@ use crate::written::{journal_bytes, write_journals_to, write_to};
 use command_line::ReplayFiles;
 use control::{Script, parse_script};
 use folders::Folder;
-use replay::{Outcome, replay};
+use replay::{Outcome, ReplayFault, replay};
 use semantics::Options;
+use shard_port::Gate;
 use std::alloc::{AllocError, Global};
 use std::sync::Wait;
 use std::thread::Threads;
+use steered_replays::replays::shipped_replay;
 use verifier::Verified;
 use wire::{Capture, MemorySink, MemorySource, Sent, read_capture, write_capture};
 
@@ -49,6 +60,7 @@ fn program_of<D: Folder>(
     ensures program { IfOk result (λ verified. IsProgramOf (D.holds folder.old) (text_of image.entry) ring
         (record { version = verified.version; maps = verified.maps; code = verified.code })) }
     ensures safe { IfOk result (λ verified. IsSafeImage verified.maps verified.code) }
+    ensures size { OnOk result (text_of image.entry ≡ None → IsRingSize ring) }
     ensures kept { AreKept (D.holds folder.old) (D.holds folder.new) }
     ensures steady { OnOk result (D.failure_count folder.new ≡ D.failure_count folder.old) }
     ensures refused { IfErr result (λ refusal. IsReplayProgramRefusal (D.holds folder.old)
@@ -153,6 +165,33 @@ fn bytes_of_frames(alloc: Global, frames: &[Sent]) -> Result<MemorySink, AllocEr
     }
 }
 
+/// Runs the frames of a capture: by the shipped program for a lookup table of `ring` slots, whose runs follow the steering rule, or by that
+/// of an image.
+fn outcome_of<R: Threads + Wait + Sync, G: Gate + Sync>(
+    rt: &R,
+    alloc: Global,
+    verified: &Verified,
+    image: Option<&str>,
+    ring: u32,
+    capture: &Capture,
+    script: &Script,
+    options: Options,
+    gate: &G,
+) -> Result<Outcome, ReplayFault>
+    requires size { text_of image ≡ None → IsRingSize ring }
+    requires shipped { text_of image ≡ None →
+        record { version = verified.now.version; maps = verified.now.maps; code = verified.now.code } ≡ shipped_image ring }
+    ensures accounted { IfOk result (IsAccounted (program_of verified.now options.shards) script.now options capture.now.records.items) }
+    ensures steered { IfOk result (FollowsRule (text_of image.entry) ring script.now options capture.now.records.items) }
+    ensures bad_options { IsErrOf result BadOptions ↔
+        (IsFalse (are_served_options verified.now.maps options) ⊎ HasNoTable verified.now.maps script.now) }
+{
+    match image {
+        Some(_) => replay(rt, alloc, verified, capture, script, options, gate),
+        None => shipped_replay(rt, alloc, verified, ring, capture, script, options, gate),
+    }
+}
+
 /// What a replay leaves, in memory: the bytes of its files, and its report.
 #[derive(Drop)]
 struct Leavings {
@@ -228,7 +267,17 @@ pub fn replay_files<R: Threads + Wait + Sync, D: Folder, P: Progress + Sync>(
     let script = script_of(alloc, folder, files.script)?;
     let capture = capture_of(alloc, folder, files.capture)?;
     let rounds = Rounds::of(progress, &verified, &options, &capture);
-    let outcome = match replay(rt, alloc, &verified, &capture, &script, options, &rounds) {
+    let outcome = match outcome_of(
+        rt,
+        alloc,
+        &verified,
+        files.image,
+        ring,
+        &capture,
+        &script,
+        options,
+        &rounds,
+    ) {
         Ok(outcome) => outcome,
         Err(fault) => return Err(Refusal::from(Fault::Replay(fault))),
     };

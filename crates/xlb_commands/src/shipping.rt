@@ -32,6 +32,7 @@ fn made(alloc: Global, ring: u32) -> Result<Image, Refusal>
 pub(crate) fn shipped_program(alloc: Global, ring: u32) -> Result<Verified, Refusal>
     ensures image { IfOk result (λ verified. record { version = verified.version; maps = verified.maps; code = verified.code } ≡ shipped_image ring) }
     ensures safe { IfOk result (λ verified. IsSafeImage verified.maps verified.code) }
+    ensures size { OnOk result (IsRingSize ring) }
     ensures refused { IfErr result (λ refusal. IsShippedRefusal ring refusal.fault) }
 {
     let image = made(alloc, ring)?;

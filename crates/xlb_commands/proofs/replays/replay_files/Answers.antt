@@ -7,7 +7,8 @@ use Rattle.replay.specs.declared.fault.ReplayFault.{ReplayFault}
 use Rattle.command_line.specs.declared.commands.ReplayFiles.{ReplayFiles}
 use Rattle.command_line.specs.Reading.{text_of}
 use Rattle.xlb_commands.specs.declared.fault.Fault.{Fault}
-use Rattle.xlb_commands.specs.Replays.{IsScriptOf, IsCaptureOf}
+use Rattle.steer.specs.ShippedProgram.{shipped_image}
+use Rattle.xlb_commands.specs.Replays.{IsProgramOf, IsScriptOf, IsCaptureOf}
 use Rattle.xlb_commands.specs.Refused.{IsReplayProgram, AreReplayInputs, no_replay_program, no_replay_script, no_replay_capture, given_up, not_reported, not_written_down}
 use Rattle.xlb_commands.specs.Refused.{AreUnfiled, no_sent_file, no_journals_file}
 use Rattle.xlb_commands.proofs.Refusals.{kept_twice, failed_since, unserved_since, unfiled_since, written_down, script_refusal_before, capture_refusal_before}
@@ -47,6 +48,17 @@ unfiled_before a b c d e failed since names made sent fault first second third s
     no_journals_file (λ other. subst (λ (it : List ℕ). e names.sent.now it) same (stands other))
     (unfiled_since (text_of names.journals) failed since fault so unwritten)
 
+-- where no image was named, the program is the shipped one
+shipped_of : (files : FileBytes) (name : Option (List ℕ)) (ring : ℕ) (program : Contents) → IsProgramOf files name ring program →
+    name ≡ None → program ≡ shipped_image ring
+shipped_of files name ring program is none = subst (λ (other : Option (List ℕ)). IsProgramOf files other ring program) none is
+
+pub outcome_of-requires-clause-shipped : goal.outcome_of-requires-clause-shipped
+outcome_of-requires-clause-shipped g c κs outlives =
+    shipped_of (g.D.Folder.holds c.args.folder.now) (text_of c.args.files.now.image) c.args.ring
+    (record { version = c.in_ok-verified.verified.version; maps = c.in_ok-verified.verified.maps; code = c.in_ok-verified.verified.code })
+    c.in_ok-verified.ensures.program
+
 pub returns-in_err-write_files-clause-kept : goal.returns-in_err-write_files-clause-kept
 returns-in_err-write_files-clause-kept g c =
     all_but_kept _ _ _ _ _ _ _ c.program_of.ensures.kept c.script_of.ensures.kept c.capture_of.ensures.kept c.write_files.ensures.others
@@ -64,6 +76,7 @@ returns-clause-done g c = (
     capture = capture_before _ _ _ c.program_of.ensures.kept c.script_of.ensures.kept _ _ c.in_ok-capture.ensures.capture;
     outcome = c.in-Ok.outcome;
     accounted = c.in-Ok.ensures.accounted;
+    by_rule = c.in-Ok.ensures.steered;
     refused_are = refl;
     sent = λ other. subst (λ (it : List ℕ). g.D.Folder.holds c.write_files.new.folder c.args.files.now.sent.now it) c.in_ok-left.ensures.sent
         (c.in_ok-write_files.ensures.sent other);
