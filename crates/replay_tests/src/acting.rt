@@ -1,15 +1,20 @@
 //! What no clause says: that the actors work where there is memory, what the gate is told, and rows worked out elsewhere.
 
-ghost use Rattle.std.specs.Prelude.{◌≡◌, ◌≤◌, [], IfOk};
+ghost use Rattle.std.specs.Prelude.{◌≡◌, ◌≤◌, ℕ, [], IfOk};
+ghost use Rattle.semantics.specs.declared.call.Caller.TheVariants.{Controller as TheController};
+ghost use Rattle.maglev.specs.RingSize.{IsRingSize};
+ghost use Rattle.replay.specs.Commands.{ServesScript};
+ghost use Rattle.shards.specs.CallerView.{nothing_seen};
+ghost use Rattle.shards.specs.Passes.{view_at};
 ghost use Rattle.rx_queues.specs.Passes.{HasQueue, IsTakePassOf, jobs_taken};
 ghost use Rattle.shards.specs.NewShards.{IsNamed};
 
 use crate::asserting::{holds, same};
 use conntrack::{maps, table_size};
-use control::{ControlFault, parse_script};
+use control::{Command, ControlFault, parse_script};
 use ebpf_decode::{Image, Insn, Version};
 use journals::Journals;
-use replay::{Actor, Applied, Commander, Reclaiming};
+use replay::{Actor, ActorEnded, Applied, Commanded, Commander, Reclaiming};
 use rx_queues::{Job, OpenFault, Queues, TakePass};
 use semantics::{Caller, Options};
 use shard_port::{Gate, NoGate};
@@ -297,6 +302,27 @@ fn filled<R: Wait>(
     Ok((queues, take))
 }
 
+/// A controller takes its jobs to the end.
+fn taken_to_the_end<'a, B: Naming, R: Abort + Wait>(
+    rt: &'a R,
+    alloc: Global,
+    queues: &Queues,
+    take: TakePass,
+    shards: &'a Shards<B>,
+    pass: Pass<B>,
+    commands: &'a [Command],
+    size: u32,
+) -> ActorEnded<Commanded<B>>
+    requires take { IsTakePassOf queues.now take × (jobs_taken take ≡ []) }
+    requires who { pass.who ≡ TheController }
+    requires nothing { (number : ℕ) → view_at pass number ≡ nothing_seen }
+    requires size { IsRingSize size }
+    requires serves { ServesScript shards.now.maps size commands.now }
+{
+    let commander = Commander::over(alloc, rt, shards, pass, &NoGate, commands, size);
+    commander.until_end(rt, alloc, queues, take)
+}
+
 /// Hands the commands of the row's script over to the controller, lets it take them to the end, and compares.
 fn commanded<B: Naming, R: Abort + Wait>(
     rt: &R,
@@ -316,16 +342,30 @@ fn commanded<B: Naming, R: Abort + Wait>(
     };
     let count = script.commands().len();
     let (queues, take) = filled(rt, alloc, Caller::Controller, 1, count)?;
-    let commander = Commander::over(alloc, rt, &shards, pass, &NoGate, script.commands(), size);
-    let ended = commander.until_end(rt, alloc, &queues, take);
-    let are_so = !ended.is_refused && faults_are(&ended.given.noted, row.faults);
+    let ended = taken_to_the_end(
+        rt,
+        alloc,
+        &queues,
+        take,
+        &shards,
+        pass,
+        script.commands(),
+        size,
+    );
+    let ActorEnded {
+        given,
+        is_refused,
+        ..
+    } = ended;
+    let Commanded { pass, noted } = given;
+    let are_so = !is_refused && faults_are(&noted, row.faults);
     holds(
         rt,
         row.name,
         "the faults, with memory for each note",
         are_so,
     );
-    close(rt, alloc, shards, ended.given.pass, row)
+    close(rt, alloc, shards, pass, row)
 }
 
 #[test]
