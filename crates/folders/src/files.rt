@@ -5,7 +5,9 @@ ghost use Rattle.folders.specs.Fronts.{IsShortFront};
 
 use crate::folder::{Folder, FolderFault, Front};
 use std::alloc::{AllocError, Global};
+use std::fs::{Metadata, OpenFile};
 use std::io::{ErrorKind, Read, Write};
+use std::os::unix::fs::MetadataExt;
 use std::rt::Files;
 use std::{fs, io};
 
@@ -75,15 +77,32 @@ impl Step {
     }
 }
 
-/// Keeps the first bytes of what a reader gives, at most `most`, and counts the others.
-fn read_front<S: Read>(alloc: Global, reader: &mut S, most: usize) -> Result<Front, Trouble>
+/// Reads the first bytes of what a reader gives, at most `most`, and no more. Where there are so many, `size` says how many there are in all, if it is more.
+fn read_front<S: Read>(
+    alloc: Global,
+    reader: &mut S,
+    most: usize,
+    size: u64,
+) -> Result<Front, Trouble>
     ensures { IfOk result (IsShortFront most) }
 {
     let mut bytes = Vec::new(alloc);
-    let mut length = 0;
     let mut buffer = [0; 4096];
     'reading: loop {
-        let count = match reader.read(&mut buffer) {
+        let length = bytes.len() as u64;
+        let room = most - bytes.len();
+        if room == 0 {
+            return Ok(Front {
+                bytes,
+                length: length.max(size),
+            });
+        }
+        let asked = if room < buffer.len() {
+            room
+        } else {
+            buffer.len()
+        };
+        let count = match reader.read(&mut buffer[..asked]) {
             Ok(0) => return Ok(Front { bytes, length }),
             Ok(count) => count,
             Err(error) => return Err(failed(Step::Reading, error)),
@@ -92,12 +111,17 @@ fn read_front<S: Read>(alloc: Global, reader: &mut S, most: usize) -> Result<Fro
             let error = io::Error::new(ErrorKind::FileTooLarge, "it has no end");
             return Err(failed(Step::Reading, error));
         }
-        length += count as u64;
-        let room = most - bytes.len();
-        let kept = if room < count { room } else { count };
-        if bytes.extend_from_slice(&buffer[..kept]).is_err() {
+        if bytes.extend_from_slice(&buffer[..count]).is_err() {
             return Err(Trouble::Memory);
         }
+    }
+}
+
+/// How many bytes an ordinary file has; 0 where the system does not say, as of a device or a pipe.
+fn size_of<F: OpenFile>(file: &F) -> u64 {
+    match file.metadata() {
+        Ok(found) => { if found.is_file() { found.len() } else { 0 } }
+        Err(_) => 0,
     }
 }
 
@@ -111,7 +135,10 @@ fn front_of<R: Files>(rt: &R, alloc: Global, name: &str, most: usize) -> Result<
     ensures { IfOk result (IsShortFront most) }
 {
     match fs::open(rt, name) {
-        Ok(mut file) => read_front(alloc, &mut file, most),
+        Ok(mut file) => {
+            let size = size_of(&file);
+            read_front(alloc, &mut file, most, size)
+        }
         Err(error) => Err(failed(Step::Opening, error)),
     }
 }
@@ -227,6 +254,42 @@ fn unfinished_name<'a>(room: &'a mut [u8; LONGEST_NAME], name: &str) -> Option<&
     str::from_utf8(&room[..end + UNFINISHED.len()]).ok()
 }
 
+/// The folder of a name, and the name in it.
+fn parts_of(name: &str) -> (&str, &str) {
+    match name.rsplit_once('/') {
+        Some(("", last)) => ("/", last),
+        Some((folder, last)) => (folder, last),
+        None => (".", name),
+    }
+}
+
+/// Whether two names lead to one and the same node of a file system.
+fn is_one_node(found: &Metadata, other: &Metadata) -> bool {
+    found.dev() == other.dev() && found.ino() == other.ino()
+}
+
+/// Whether two names that nothing has would be those of one file: the same name in one folder.
+fn is_one_place<R: Files>(rt: &R, name: &str, other: &str) -> bool {
+    let (folder, last) = parts_of(name);
+    let (other_folder, other_last) = parts_of(other);
+    if last != other_last {
+        return false;
+    }
+    match (fs::metadata(rt, folder), fs::metadata(rt, other_folder)) {
+        (Ok(found), Ok(other_found)) => is_one_node(&found, &other_found),
+        _ => false,
+    }
+}
+
+/// Whether two different names are those of one ordinary file, or would be if it were made.
+fn is_one_file<R: Files>(rt: &R, name: &str, other: &str) -> bool {
+    match (fs::metadata(rt, name), fs::metadata(rt, other)) {
+        (Ok(found), Ok(other_found)) => found.is_file() && is_one_node(&found, &other_found),
+        (Err(_), Err(_)) => is_one_place(rt, name, other),
+        _ => false,
+    }
+}
+
 impl<R> FileFolder<'_, R> {
     /// Counts a failure, and keeps it for `complaint`.
     fn fail(&mut self, failure: Failure) -> FolderFault
@@ -242,6 +305,8 @@ impl<R> FileFolder<'_, R> {
 
 impl<R: Files> Folder for FileFolder<'_, R> {
     ghost holds = { λ _ _ _. Unit {0} };
+
+    ghost are_one = { λ _ _ _. Unit {0} };
 
     ghost failure_count = { λ folder. folder.failures };
 
@@ -266,6 +331,10 @@ impl<R: Files> Folder for FileFolder<'_, R> {
             Ok(()) => Ok(()),
             Err(failure) => Err(self.fail(failure)),
         }
+    }
+
+    fn is_same(&self, name: &str, other: &str) -> bool {
+        name == other || is_one_file(self.rt, name, other)
     }
 
     fn failures(&self) -> u64 {

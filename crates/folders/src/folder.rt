@@ -40,6 +40,9 @@ pub trait Folder {
     /// The file of a name has these bytes; anything may where the type does not tell.
     ghost holds: { Self → List ℕ → List ℕ → Type 0 };
 
+    /// Two names are those of one file; any two may be where the type does not tell.
+    ghost are_one: { Self → List ℕ → List ℕ → Type 0 };
+
     /// How many calls failed.
     ghost failure_count: { Self → ℕ };
 
@@ -52,7 +55,8 @@ pub trait Folder {
         ensures device { IsErrOf result FolderFault.Device ↔ (failure_count self.new ≡ failure_count self.old + 1) }
         ensures no_device { IsErrOf result FolderFault.Memory → failure_count self.new ≡ failure_count self.old };
 
-    /// The first bytes of a file, at most so many, and how many it has. It takes no more memory, however long the file is.
+    /// The first bytes of a file, at most so many, and how many it has. No more are read, and it takes no more memory, however long the file is. A device
+    /// or a pipe has no length: of these the bytes that were read are counted.
     fn read_front(&mut self, alloc: Global, name: &str, most: usize) -> Result<Front, FolderFault>
         requires { failure_count self.old < 2 ^ 64 - 1 }
         ensures front { IfOk result (HasFront (holds self.old name.now) most) }
@@ -69,6 +73,11 @@ pub trait Folder {
         ensures steady { OnOk result (failure_count self.new ≡ failure_count self.old) }
         ensures device { IsErrOf result FolderFault.Device ↔ (failure_count self.new ≡ failure_count self.old + 1) }
         ensures no_device { IsErrOf result FolderFault.Memory → failure_count self.new ≡ failure_count self.old };
+
+    /// Whether two names are those of one file: one name twice, or two names of which the folder knows it.
+    fn is_same(&self, name: &str, other: &str) -> bool
+        ensures one { IsTrue result → are_one self.now name.now other.now }
+        ensures itself { name.now ≡ other.now → IsTrue result };
 
     /// How many calls of this folder failed so far.
     fn failures(&self) -> u64

@@ -30,6 +30,8 @@ impl MemoryFolder {
 impl Folder for MemoryFolder {
     ghost holds = { λ folder name bytes. option_map (λ v. v.items) (get_by_text folder.files name) ≡ Some bytes };
 
+    ghost are_one = { λ _ name other. name ≡ other };
+
     ghost failure_count = { λ folder. folder.failures };
 
     fn read(&mut self, alloc: Global, name: &str) -> Result<Vec<u8>, FolderFault> {
@@ -66,6 +68,10 @@ impl Folder for MemoryFolder {
             Ok(_) => Ok(()),
             Err(_) => Err(FolderFault::Memory),
         }
+    }
+
+    fn is_same(&self, name: &str, other: &str) -> bool {
+        name == other
     }
 
     fn failures(&self) -> u64 {

@@ -1,14 +1,12 @@
-use Rattle.std.proofs.Common.{◌≡◌, ◌-◌, ◌<◌, ◌^◌, ◌≤◌, length}
+use Rattle.std.proofs.Common.{◌-◌, ◌^◌, ◌≤◌, length}
 use Rattle.folders.proofs.files.read_front.Given as goal
 
 pub record Kept (g : goal.Over) (l : goal.Live-reading g) : Type 0 where
   pub few : length l.bytes.items ≤ l.most
-  pub within : length l.bytes.items ≤ l.length
-  pub others : length l.bytes.items < l.most → l.length ≡ length l.bytes.items
-  pub bounded : l.length ≤ 2 ^ 40
+  pub bounded : length l.bytes.items ≤ 2 ^ 40
 
 abbrev pub invariant-reading : goal.invariant-reading
 invariant-reading g l = Kept g l
 
 abbrev pub decreases-reading : goal.decreases-reading
-decreases-reading g l = 2 ^ 40 - l.length
+decreases-reading g l = 2 ^ 40 - length l.bytes.items
