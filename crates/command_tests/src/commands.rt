@@ -8,6 +8,7 @@ mod assembling;
 mod audits;
 mod devices;
 mod explained;
+mod failing_devices;
 mod faults;
 mod first_path;
 mod images;

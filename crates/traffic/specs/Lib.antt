@@ -1,0 +1,5 @@
+-- The definitions that the contracts of this crate cite, in reading order.
+pub mod Kinds
+pub mod Counting
+pub mod Moving
+pub mod SummaryText

@@ -1,0 +1,95 @@
+//! Flows that are sent to another backend than before.
+
+ghost use Rattle.std.specs.Prelude.{◌≡◌, ◌+◌, ◌^◌, ◌<◌, ◌≤◌, ℕ, None, IfOk, length};
+ghost use Rattle.traffic.specs.Counting.{address_at, one_if};
+ghost use Rattle.traffic.specs.Moving.{inner_flow, last_after, last_in, moves_by, moves_in, passage_of};
+
+use crate::tunnels::target_of;
+use std::alloc::{AllocError, Global};
+use std::collections::BTreeMap;
+use wire::{Sent, word_at};
+
+/// The four bytes at an index as one number, the first byte highest.
+fn address_at(frame: &[u8], at: usize) -> u32
+    requires { at + 4 ≤ length frame.now }
+    ensures { result ≡ address_at at frame.now }
+{
+    u32::from(word_at(frame, at)) * 65536 + u32::from(word_at(frame, at + 2))
+}
+
+/// The flow of the packet within a tunnel as one number: addresses, ports and protocol.
+fn inner_flow(frame: &[u8]) -> u128
+    requires { 58 ≤ length frame.now }
+    ensures { result ≡ inner_flow frame.now }
+{
+    let source = u128::from(address_at(frame, 46));
+    let destination = u128::from(address_at(frame, 50));
+    let ports = u128::from(address_at(frame, 54));
+    ((source * 4_294_967_296 + destination) * 4_294_967_296 + ports) * 256 + u128::from(frame[43])
+}
+
+/// The flow of a frame in a tunnel, and the address to which the tunnel leads.
+fn passage_of(frame: &[u8]) -> Option<(u128, u32)>
+    ensures { result ≡ passage_of frame.now }
+{
+    match target_of(frame) {
+        Some(target) => {
+            if frame.len() < 58 {
+                None
+            } else {
+                Some((inner_flow(frame), target))
+            }
+        }
+        None => None,
+    }
+}
+
+/// 1 for a frame that is counted.
+fn one_if(counted: bool) -> u64
+    ensures { result ≡ one_if counted }
+{
+    if counted { 1 } else { 0 }
+}
+
+/// Of each flow, where its last frame went.
+#[derive(Drop)]
+pub struct LastTargets {
+    targets: BTreeMap<u128, u32>,
+}
+
+impl LastTargets {
+    /// No frame was sent.
+    fn none(alloc: Global) -> LastTargets
+        ensures { (flow : ℕ) → last_in result flow ≡ None }
+    {
+        LastTargets {
+            targets: BTreeMap::new(alloc),
+        }
+    }
+
+    /// Notes where a frame goes, and says whether its flow's last frame went elsewhere.
+    fn note(&mut self, frame: &[u8]) -> Result<bool, AllocError>
+        ensures last { IfOk result (λ moved. (flow : ℕ) → last_in self.new flow ≡ last_after self.old (passage_of frame.now) flow) }
+        ensures moved { IfOk result (λ moved. moved ≡ moves_by self.old (passage_of frame.now)) }
+    {
+        match passage_of(frame) {
+            None => Ok(false),
+            Some((flow, target)) => {
+                let last = self.targets.insert(flow, target)?;
+                Ok(last.is_some_and(|last| last != target))
+            }
+        }
+    }
+}
+
+/// How many of the frames, in their order, went through a tunnel to another address than the last frame of their flow before them.
+pub fn moves_in(alloc: Global, frames: &[Sent]) -> Result<u64, AllocError>
+    ensures { IfOk result (λ count. count ≡ moves_in frames.now) }
+{
+    let mut table = LastTargets::none(alloc);
+    let mut count = 0;
+    'frames: for sent in frames {
+        count += one_if(table.note(&sent.bytes)?);
+    }
+    Ok(count)
+}

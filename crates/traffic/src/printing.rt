@@ -1,0 +1,162 @@
+//! The summary of a replay's traffic, for people.
+
+ghost use Rattle.std.specs.Prelude.{◌≡◌, ◌++◌, ◌<◌, ◌^◌, IfOk, OnOk, string_bytes};
+ghost use Rattle.traffic.specs.SummaryText.{address_text, count_line, frames_word, IsSummary, IsSummaryOfSent, line_about, line_in, line_of, lines_in, phrase_of};
+ghost use Rattle.traffic.specs.SummaryText.{target_phrase, targets_text};
+
+use crate::kind::FrameKind;
+use crate::moves::moves_in;
+use crate::tunnels::Targets;
+use std::alloc::{AllocError, Global};
+use wire::Sent;
+
+/// The kinds, in the order in which they are printed.
+const KINDS: [FrameKind; 13] = [
+    FrameKind::Short,
+    FrameKind::Ipv6,
+    FrameKind::Arp,
+    FrameKind::Vlan,
+    FrameKind::OtherType,
+    FrameKind::Malformed,
+    FrameKind::Options,
+    FrameKind::Fragment,
+    FrameKind::Icmp,
+    FrameKind::OtherProtocol,
+    FrameKind::Expired,
+    FrameKind::Large,
+    FrameKind::Flow,
+];
+
+/// What is said of frames that went elsewhere than the frame of their flow before.
+const MOVED: &str = "sent to another address than the frame of their flow before";
+
+/// What a frame of the kind is, in words.
+fn phrase_of(kind: FrameKind) -> &'static str
+    ensures { result.now ≡ phrase_of kind }
+{
+    match kind {
+        FrameKind::Short => "of fewer than 14 bytes",
+        FrameKind::Ipv6 => "of IPv6",
+        FrameKind::Arp => "of ARP",
+        FrameKind::Vlan => "with a VLAN tag",
+        FrameKind::OtherType => "of another Ethernet type",
+        FrameKind::Malformed => "of IPv4, cut or with lengths that disagree",
+        FrameKind::Options => "of IPv4 with options",
+        FrameKind::Fragment => "of IPv4 in fragments",
+        FrameKind::Icmp => "of ICMP",
+        FrameKind::OtherProtocol => "of another protocol over IPv4",
+        FrameKind::Expired => "of TCP or UDP with a time to live of 0",
+        FrameKind::Large => "of TCP or UDP in packets of more than 1480 bytes",
+        FrameKind::Flow => "of TCP or UDP that fit into a tunnel",
+    }
+}
+
+/// One frame, or several.
+fn frames_word(count: u64) -> &'static str
+    ensures { result.now ≡ frames_word count }
+{
+    if count == 1 { "frame" } else { "frames" }
+}
+
+/// The line of this many frames.
+fn count_line(alloc: Global, count: u64, word: &str, phrase: &str) -> Result<String, AllocError>
+    ensures { IfOk result (λ line. string_bytes line ≡ count_line count word.now phrase.now) }
+{
+    format!(in alloc; "  {count} {word} {phrase}\n")
+}
+
+/// Appends the line of frames of which this is said, if there are any.
+fn put_line(alloc: Global, text: &mut String, count: u64, phrase: &str) -> Result<(), AllocError>
+    ensures { OnOk result (string_bytes text.new ≡ string_bytes text.old ++ line_about count phrase.now) }
+{
+    if count == 0 {
+        return Ok(());
+    }
+    text.push_str(&count_line(alloc, count, frames_word(count), phrase)?)
+}
+
+/// Appends the line of a kind, if there is such a frame.
+fn put_kind(
+    alloc: Global,
+    text: &mut String,
+    kind: FrameKind,
+    frames: &[Sent],
+) -> Result<(), AllocError>
+    ensures { OnOk result (string_bytes text.new ≡ string_bytes text.old ++ line_in frames.now kind) }
+{
+    put_line(alloc, text, kind.count_in(frames) as u64, phrase_of(kind))
+}
+
+/// Appends a line for each of the kinds of which there is a frame.
+fn put_kinds(
+    alloc: Global,
+    text: &mut String,
+    kinds: &[FrameKind],
+    frames: &[Sent],
+) -> Result<(), AllocError>
+    ensures { OnOk result (string_bytes text.new ≡ string_bytes text.old ++ lines_in frames.now kinds.now) }
+{
+    'kinds: for kind in kinds {
+        put_kind(alloc, text, *kind, frames)?;
+    }
+    Ok(())
+}
+
+/// The text of an address.
+fn address_text(alloc: Global, address: u32) -> Result<String, AllocError>
+    ensures { IfOk result (λ text. string_bytes text ≡ address_text address) }
+{
+    let first = address / 16_777_216;
+    let second = address / 65_536 % 256;
+    let third = address / 256 % 256;
+    let last = address % 256;
+    format!(in alloc; "{first}.{second}.{third}.{last}")
+}
+
+/// What is said of frames that were sent to an address.
+fn target_phrase(alloc: Global, address: &str) -> Result<String, AllocError>
+    ensures { IfOk result (λ phrase. string_bytes phrase ≡ target_phrase address.now) }
+{
+    format!(in alloc; "sent to {address}")
+}
+
+/// Appends the line of an address.
+fn put_target(alloc: Global, text: &mut String, address: u32, count: u64) -> Result<(), AllocError>
+    ensures { OnOk result (string_bytes text.new ≡ string_bytes text.old ++ line_of (address, count)) }
+{
+    let name = address_text(alloc, address)?;
+    let phrase = target_phrase(alloc, name.as_str())?;
+    put_line(alloc, text, count, phrase.as_str())
+}
+
+/// Appends the lines of all addresses.
+fn put_targets(alloc: Global, text: &mut String, targets: &[(u32, u64)]) -> Result<(), AllocError>
+    ensures { OnOk result (string_bytes text.new ≡ string_bytes text.old ++ targets_text targets.now) }
+{
+    'targets: for target in targets {
+        put_target(alloc, text, target.0, target.1)?;
+    }
+    Ok(())
+}
+
+/// Appends what is said of sent frames.
+fn put_sent(alloc: Global, text: &mut String, sent: &[Sent]) -> Result<(), AllocError>
+    ensures { OnOk result (IsSummaryOfSent sent.now (string_bytes text.old) (string_bytes text.new)) }
+{
+    let counts = Targets::of(alloc, sent)?;
+    let targets = counts.list(alloc)?;
+    put_targets(alloc, text, &targets)?;
+    put_line(alloc, text, moves_in(alloc, sent)?, MOVED)?;
+    Ok(())
+}
+
+/// What a replay's traffic was: a line for each kind of frame that the capture has; a line for each address to which frames were sent, by
+/// rising address; and a line for those that went elsewhere than the frame of their flow before. Each line begins with two spaces.
+pub fn summary(alloc: Global, captured: &[Sent], sent: &[Sent]) -> Result<String, AllocError>
+    ensures { IfOk result (λ text. IsSummary captured.now sent.now (string_bytes text)) }
+{
+    let mut text = String::new(alloc);
+    put_kinds(alloc, &mut text, &KINDS, captured)?;
+    put_sent(alloc, &mut text, sent)?;
+    Ok(text)
+}
