@@ -8,7 +8,7 @@ mod assembling;
 mod audits;
 mod devices;
 mod explained;
-mod faults;
+mod fault_texts;
 mod first_path;
 mod images;
 mod one_run;
