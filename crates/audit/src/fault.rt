@@ -1,5 +1,6 @@
 //! Why journals were refused.
 
+use faults::Fields;
 use std::alloc::AllocError;
 use thiserror::Error;
 
@@ -15,16 +16,28 @@ pub enum AuditFault {
 }
 
 impl AuditFault {
-    ghost use Rattle.std.specs.Prelude.{◌≡◌};
-    ghost use Rattle.audit.specs.FaultNumber.{audit_fault_number};
+    ghost use Rattle.std.specs.Prelude.{◌≡◌, true};
+    ghost use Rattle.faults.specs.Explanations.{is_fault};
+    ghost use Rattle.audit.specs.FaultNumber.{audit_fault_number, audit_fault_fields};
 
     /// The number that the fault's text prints.
     pub fn number(self) -> u8
-        ensures { result ≡ audit_fault_number self }
+        ensures number { result ≡ audit_fault_number self }
+        ensures known { is_fault result ≡ true }
     {
         match self {
             AuditFault::Memory => 52,
             AuditFault::Illegal { .. } => 53,
+        }
+    }
+
+    /// The numbers of the fields that the fault's text prints.
+    pub fn fields(self) -> Fields
+        ensures { result ≡ audit_fault_fields self }
+    {
+        match self {
+            AuditFault::Illegal { shard, place } => Fields::Two(shard as u64, place as u64),
+            AuditFault::Memory => Fields::Empty,
         }
     }
 }

@@ -17,7 +17,7 @@ use Rattle.command_line.specs.declared.words.WordsFault.{WordsFault}
 use Rattle.command_line.specs.declared.words.WordsFault.TheVariants.{Parser, UnknownFault, Both, Update}
 use Rattle.command_line.specs.declared.words.Asked.{Asked}
 use Rattle.command_line.specs.declared.words.Asked.TheVariants.{Command, NoSuchFault, ImageAndScript, NoUpdate}
-use Rattle.explanations.specs.Explanations.{is_fault}
+use Rattle.faults.specs.Explanations.{is_fault}
 use Rattle.map_updates.specs.UpdateWords.{IsWritten, IsMistaken}
 use Rattle.map_updates.specs.declared.reading.Mistake.{Mistake}
 use Rattle.map_updates.specs.declared.reading.Mistake.TheVariants.{Memory}

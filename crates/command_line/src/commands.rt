@@ -1,6 +1,6 @@
 //! What a command line says.
 
-use explanations::Explanation;
+use faults::Explanation;
 use map_updates::MapUpdate;
 use semantics::Options;
 

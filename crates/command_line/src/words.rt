@@ -18,7 +18,7 @@ use crate::grammar::{
     REPLAY_IMAGE, RING, SCRIPT, SENT, SHARDS, SOURCE, TEXT, UPDATE, WORKER, WORKERS, program,
 };
 use clap::{ArgMatches, Error};
-use explanations::Explanation;
+use faults::Explanation;
 use map_updates::{MapUpdate, Mistake, update_of};
 use semantics::Options;
 use std::alloc::Global;

@@ -9,7 +9,7 @@ mod audits;
 mod devices;
 mod explained;
 mod failing_devices;
-mod faults;
+mod fault_texts;
 mod first_path;
 mod images;
 mod one_run;

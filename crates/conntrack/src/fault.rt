@@ -15,12 +15,14 @@ pub enum SteerFault {
 }
 
 impl SteerFault {
-    ghost use Rattle.std.specs.Prelude.{◌≡◌};
+    ghost use Rattle.std.specs.Prelude.{◌≡◌, true};
+    ghost use Rattle.faults.specs.Explanations.{is_fault};
     ghost use Rattle.conntrack.specs.FaultNumber.{steer_fault_number};
 
     /// The number that the fault's text prints.
     pub fn number(self) -> u8
-        ensures { result ≡ steer_fault_number self }
+        ensures number { result ≡ steer_fault_number self }
+        ensures known { is_fault result ≡ true }
     {
         match self {
             SteerFault::BadSize => 73,

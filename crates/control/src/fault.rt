@@ -1,5 +1,6 @@
 //! Why a script was not read, or a command not carried out.
 
+use faults::Fields;
 use std::alloc::{AllocError, AllocFailed};
 use thiserror::Error;
 
@@ -31,12 +32,14 @@ pub enum ControlFault {
 }
 
 impl ControlFault {
-    ghost use Rattle.std.specs.Prelude.{◌≡◌};
-    ghost use Rattle.control.specs.FaultNumber.{control_fault_number};
+    ghost use Rattle.std.specs.Prelude.{◌≡◌, true};
+    ghost use Rattle.faults.specs.Explanations.{is_fault};
+    ghost use Rattle.control.specs.FaultNumber.{control_fault_number, control_fault_fields};
 
     /// The number that the fault's text prints.
     pub fn number(self) -> u8
-        ensures { result ≡ control_fault_number self }
+        ensures number { result ≡ control_fault_number self }
+        ensures known { is_fault result ≡ true }
     {
         match self {
             ControlFault::BadSize => 73,
@@ -46,6 +49,17 @@ impl ControlFault {
             ControlFault::Refused { .. } => 93,
             ControlFault::JournalFull => 94,
             ControlFault::Memory => 95,
+        }
+    }
+
+    /// The numbers of the fields that the fault's text prints.
+    pub fn fields(self) -> Fields
+        ensures { result ≡ control_fault_fields self }
+    {
+        match self {
+            ControlFault::BadLine { line } => Fields::One(line as u64),
+            ControlFault::Refused { answer } => Fields::Signed(answer),
+            _ => Fields::Empty,
         }
     }
 }

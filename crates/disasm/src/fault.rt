@@ -1,8 +1,9 @@
 //! Why a text spells no image.
 
-ghost use Rattle.std.specs.Prelude.{◌≡◌};
+ghost use Rattle.std.specs.Prelude.{◌≡◌, true};
 
 use ebpf_decode::DecodeFault;
+use faults::Fields;
 use std::alloc::AllocError;
 use thiserror::Error;
 
@@ -18,6 +19,34 @@ pub enum AsmFault {
     /// 23: memory was refused.
     #[error("fault 23 Memory")]
     Memory,
+}
+
+impl AsmFault {
+    ghost use Rattle.faults.specs.Explanations.{is_fault};
+    ghost use Rattle.disasm.specs.FaultNumber.{text_fault_number, text_fault_fields};
+
+    /// The number that the fault's text prints.
+    pub fn number(self) -> u8
+        ensures number { result ≡ text_fault_number self }
+        ensures known { is_fault result ≡ true }
+    {
+        match self {
+            AsmFault::BadLine { .. } => 21,
+            AsmFault::Image(_) => 22,
+            AsmFault::Memory => 23,
+        }
+    }
+
+    /// The numbers of the fields that the fault's text prints.
+    pub fn fields(self) -> Fields
+        ensures { result ≡ text_fault_fields self }
+    {
+        match self {
+            AsmFault::BadLine { line } => Fields::One(line as u64),
+            AsmFault::Image(fault) => Fields::One(u64::from(fault.number())),
+            AsmFault::Memory => Fields::Empty,
+        }
+    }
 }
 
 impl From<AllocError> for AsmFault {

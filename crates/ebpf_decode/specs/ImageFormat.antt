@@ -2,6 +2,8 @@
 -- map; then the slots to the end. Reading gives the image or the first fault: in the order of the
 -- numbers, but of 15 to 19 the first slot's.
 use Rattle.std.specs.Prelude.{◌≡◌, ◌≢◌, ℕ, zero, suc, ◌+◌, ◌*◌, ◌/◌, ◌%◌, Bool, nat_le, nat_lt, ◌==◌, ◌&&◌, ◌||◌, not, List, [], ◌∷◌, ◌++◌}
+use Rattle.faults.specs.declared.fields.Fields.{Fields}
+use Rattle.faults.specs.declared.fields.Fields.TheVariants as fields
 use Rattle.std.specs.Prelude.{length, drop, slice_index, Option, Some, None, is_some, unwrap_or, Result, Ok, Err, if◌then◌else◌}
 use Rattle.std.specs.List.{flat_map}
 use Rattle.std.specs.Option.{ok_or, option_or}
@@ -122,3 +124,13 @@ fault_number (BadRegister slot) = 17
 fault_number (FieldNotZero slot) = 18
 fault_number (WideCut slot) = 19
 fault_number Memory = 20
+
+-- the numbers of the fields that a fault is printed with
+abbrev pub fault_fields : DecodeFault → Fields
+fault_fields (BadMap map) = fields.One map
+fault_fields (UnknownOpcode slot) = fields.One slot
+fault_fields (NotInProfile slot) = fields.One slot
+fault_fields (BadRegister slot) = fields.One slot
+fault_fields (FieldNotZero slot) = fields.One slot
+fault_fields (WideCut slot) = fields.One slot
+fault_fields other = fields.Empty

@@ -1,10 +1,12 @@
 //! Why bytes are no image.
 
-ghost use Rattle.std.specs.Prelude.{◌≡◌};
+ghost use Rattle.std.specs.Prelude.{◌≡◌, true};
 ghost use Rattle.ebpf_decode.specs.declared.fault.DecodeFault.TheVariants.{Memory};
 ghost use Rattle.ebpf_decode.specs.InstructionReading.{fault_at};
-ghost use Rattle.ebpf_decode.specs.ImageFormat.{fault_number};
+ghost use Rattle.faults.specs.Explanations.{is_fault};
+ghost use Rattle.ebpf_decode.specs.ImageFormat.{fault_number, fault_fields};
 
+use faults::Fields;
 use std::alloc::{AllocError, AllocFailed};
 use thiserror::Error;
 
@@ -79,7 +81,8 @@ impl SlotFault {
 impl DecodeFault {
     /// The number that the fault is printed with.
     pub fn number(self) -> u8
-        ensures { result ≡ fault_number self }
+        ensures number { result ≡ fault_number self }
+        ensures known { is_fault result ≡ true }
     {
         match self {
             DecodeFault::BadHead => 10,
@@ -93,6 +96,21 @@ impl DecodeFault {
             DecodeFault::FieldNotZero { .. } => 18,
             DecodeFault::WideCut { .. } => 19,
             DecodeFault::Memory => 20,
+        }
+    }
+
+    /// The numbers of the fields that the fault's text prints.
+    pub fn fields(self) -> Fields
+        ensures { result ≡ fault_fields self }
+    {
+        match self {
+            DecodeFault::BadMap { map } => Fields::One(u64::from(map)),
+            DecodeFault::UnknownOpcode { slot } => Fields::One(u64::from(slot)),
+            DecodeFault::NotInProfile { slot } => Fields::One(u64::from(slot)),
+            DecodeFault::BadRegister { slot } => Fields::One(u64::from(slot)),
+            DecodeFault::FieldNotZero { slot } => Fields::One(u64::from(slot)),
+            DecodeFault::WideCut { slot } => Fields::One(u64::from(slot)),
+            _ => Fields::Empty,
         }
     }
 }

@@ -17,6 +17,23 @@ pub enum FolderFault {
     Memory,
 }
 
+impl FolderFault {
+    ghost use Rattle.std.specs.Prelude.{◌≡◌, true};
+    ghost use Rattle.faults.specs.Explanations.{is_fault};
+    ghost use Rattle.folders.specs.FaultNumber.{folder_fault_number};
+
+    /// The number that the fault's text prints.
+    pub fn number(self) -> u8
+        ensures number { result ≡ folder_fault_number self }
+        ensures known { is_fault result ≡ true }
+    {
+        match self {
+            FolderFault::Device => 7,
+            FolderFault::Memory => 8,
+        }
+    }
+}
+
 /// The first bytes of a file.
 #[derive(Debug, Drop)]
 pub struct Front {

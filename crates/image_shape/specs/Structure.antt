@@ -1,5 +1,7 @@
 -- The structure of a program, and its first fault: all edges go up to an instruction, and every instruction is reachable.
 use Rattle.std.specs.Prelude.{◌≡◌, ℕ, ◌+◌, ◌<◌, Bool, ℤ, pos, negsuc, nat_le, ◌&&◌, List, Option, Some, None, IsTrue, if◌then◌else◌}
+use Rattle.faults.specs.declared.fields.Fields.{Fields}
+use Rattle.faults.specs.declared.fields.Fields.TheVariants as fields
 use Rattle.std.specs.Option.{option_and_then, option_or}
 use Rattle.ebpf_decode.specs.declared.insn.Insn.{Insn}
 use Rattle.ebpf_decode.specs.InstructionEncoding.{slot_count, total_slots}
@@ -70,3 +72,11 @@ shape_fault_number (JumpOutside slot) = 31
 shape_fault_number (JumpIntoWide slot) = 32
 shape_fault_number (FallsOff slot) = 33
 shape_fault_number (Unreachable slot) = 34
+
+-- the numbers of the fields that a fault is printed with
+abbrev pub shape_fault_fields : ShapeFault → Fields
+shape_fault_fields (JumpBackward slot) = fields.One slot
+shape_fault_fields (JumpOutside slot) = fields.One slot
+shape_fault_fields (JumpIntoWide slot) = fields.One slot
+shape_fault_fields (FallsOff slot) = fields.One slot
+shape_fault_fields (Unreachable slot) = fields.One slot

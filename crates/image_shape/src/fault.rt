@@ -1,8 +1,10 @@
 //! Why a program's structure is refused.
 
-ghost use Rattle.std.specs.Prelude.{◌≡◌};
-ghost use Rattle.image_shape.specs.Structure.{shape_fault_number};
+ghost use Rattle.std.specs.Prelude.{◌≡◌, true};
+ghost use Rattle.faults.specs.Explanations.{is_fault};
+ghost use Rattle.image_shape.specs.Structure.{shape_fault_number, shape_fault_fields};
 
+use faults::Fields;
 use thiserror::Error;
 
 /// Why a program's structure is refused, with the slot of the instruction. docs/FAULTS.md says when each is answered, and in which order.
@@ -28,7 +30,8 @@ pub enum ShapeFault {
 impl ShapeFault {
     /// The number that the fault is printed with.
     pub fn number(self) -> u8
-        ensures { result ≡ shape_fault_number self }
+        ensures number { result ≡ shape_fault_number self }
+        ensures known { is_fault result ≡ true }
     {
         match self {
             ShapeFault::JumpBackward { .. } => 30,
@@ -36,6 +39,19 @@ impl ShapeFault {
             ShapeFault::JumpIntoWide { .. } => 32,
             ShapeFault::FallsOff { .. } => 33,
             ShapeFault::Unreachable { .. } => 34,
+        }
+    }
+
+    /// The numbers of the fields that the fault's text prints.
+    pub fn fields(self) -> Fields
+        ensures { result ≡ shape_fault_fields self }
+    {
+        match self {
+            ShapeFault::JumpBackward { slot } => Fields::One(u64::from(slot)),
+            ShapeFault::JumpOutside { slot } => Fields::One(u64::from(slot)),
+            ShapeFault::JumpIntoWide { slot } => Fields::One(u64::from(slot)),
+            ShapeFault::FallsOff { slot } => Fields::One(u64::from(slot)),
+            ShapeFault::Unreachable { slot } => Fields::One(u64::from(slot)),
         }
     }
 }

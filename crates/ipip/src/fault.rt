@@ -20,12 +20,14 @@ pub enum IpipFault {
 }
 
 impl IpipFault {
-    ghost use Rattle.std.specs.Prelude.{◌≡◌};
+    ghost use Rattle.std.specs.Prelude.{◌≡◌, true};
+    ghost use Rattle.faults.specs.Explanations.{is_fault};
     ghost use Rattle.ipip.specs.FaultNumber.{ipip_fault_number};
 
     /// The number that the fault's text prints.
     pub fn number(self) -> u8
-        ensures { result ≡ ipip_fault_number self }
+        ensures number { result ≡ ipip_fault_number self }
+        ensures known { is_fault result ≡ true }
     {
         match self {
             IpipFault::TtlZero => 80,

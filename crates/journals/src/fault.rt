@@ -1,5 +1,6 @@
 //! Why a file of journals was not read or not written.
 
+use faults::Fields;
 use std::alloc::{AllocError, AllocFailed};
 use thiserror::Error;
 
@@ -18,17 +19,30 @@ pub enum FileFault {
 }
 
 impl FileFault {
-    ghost use Rattle.std.specs.Prelude.{◌≡◌};
-    ghost use Rattle.journals.specs.FaultNumber.{file_fault_number};
+    ghost use Rattle.std.specs.Prelude.{◌≡◌, true};
+    ghost use Rattle.faults.specs.Explanations.{is_fault};
+    ghost use Rattle.journals.specs.FaultNumber.{file_fault_number, file_fault_fields};
 
     /// The number that the fault's text prints.
     pub fn number(self) -> u8
-        ensures { result ≡ file_fault_number self }
+        ensures number { result ≡ file_fault_number self }
+        ensures known { is_fault result ≡ true }
     {
         match self {
             FileFault::Device => 7,
             FileFault::Memory => 52,
             FileFault::BadJournalFile { .. } => 55,
+        }
+    }
+
+    /// The numbers of the fields that the fault's text prints.
+    pub fn fields(self) -> Fields
+        ensures { result ≡ file_fault_fields self }
+    {
+        match self {
+            FileFault::BadJournalFile { line } => Fields::One(line as u64),
+            FileFault::Device => Fields::Empty,
+            FileFault::Memory => Fields::Empty,
         }
     }
 }

@@ -1,8 +1,10 @@
 //! How a run ends.
 
-ghost use Rattle.std.specs.Prelude.{◌≡◌};
-ghost use Rattle.machine.specs.StopText.{stop_number};
+ghost use Rattle.std.specs.Prelude.{◌≡◌, true};
+ghost use Rattle.faults.specs.Explanations.{is_fault};
+ghost use Rattle.machine.specs.StopText.{stop_number, stop_fields};
 
+use faults::Fields;
 use semantics::Verdict;
 use thiserror::Error;
 
@@ -26,10 +28,20 @@ pub enum Stop {
 impl Stop {
     /// The number that the fault's text prints.
     pub fn number(self) -> u8
-        ensures { result ≡ stop_number self }
+        ensures number { result ≡ stop_number self }
+        ensures known { is_fault result ≡ true }
     {
         match self {
             Stop::JournalFull { .. } => 60,
+        }
+    }
+
+    /// The numbers of the fields that the fault's text prints.
+    pub fn fields(self) -> Fields
+        ensures { result ≡ stop_fields self }
+    {
+        match self {
+            Stop::JournalFull { shard } => Fields::One(u64::from(shard)),
         }
     }
 }

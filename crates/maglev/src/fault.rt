@@ -24,12 +24,14 @@ pub enum RingFault {
 }
 
 impl RingFault {
-    ghost use Rattle.std.specs.Prelude.{◌≡◌};
+    ghost use Rattle.std.specs.Prelude.{◌≡◌, true};
+    ghost use Rattle.faults.specs.Explanations.{is_fault};
     ghost use Rattle.maglev.specs.FaultNumber.{ring_fault_number};
 
     /// The number that the fault's text prints.
     pub fn number(self) -> u8
-        ensures { result ≡ ring_fault_number self }
+        ensures number { result ≡ ring_fault_number self }
+        ensures known { is_fault result ≡ true }
     {
         match self {
             RingFault::NoBackend => 70,

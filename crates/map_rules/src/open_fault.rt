@@ -15,12 +15,14 @@ pub enum OpenFault {
 }
 
 impl OpenFault {
-    ghost use Rattle.std.specs.Prelude.{◌≡◌};
+    ghost use Rattle.std.specs.Prelude.{◌≡◌, true};
+    ghost use Rattle.faults.specs.Explanations.{is_fault};
     ghost use Rattle.map_rules.specs.OpenFaultNumber.{open_fault_number};
 
     /// The number that the fault's text prints.
     pub fn number(self) -> u8
-        ensures { result ≡ open_fault_number self }
+        ensures number { result ≡ open_fault_number self }
+        ensures known { is_fault result ≡ true }
     {
         match self {
             OpenFault::BadOptions => 51,

@@ -18,12 +18,14 @@ pub enum ReplayFault {
 }
 
 impl ReplayFault {
-    ghost use Rattle.std.specs.Prelude.{◌≡◌};
+    ghost use Rattle.std.specs.Prelude.{◌≡◌, true};
+    ghost use Rattle.faults.specs.Explanations.{is_fault};
     ghost use Rattle.replay.specs.FaultNumber.{replay_fault_number};
 
     /// The number that the fault's text prints.
     pub fn number(self) -> u8
-        ensures { result ≡ replay_fault_number self }
+        ensures number { result ≡ replay_fault_number self }
+        ensures known { is_fault result ≡ true }
     {
         match self {
             ReplayFault::BadOptions => 51,

@@ -1,5 +1,6 @@
 //! Why no run was made.
 
+use faults::Fields;
 use shards::OpenFault;
 use std::alloc::AllocError;
 use thiserror::Error;
@@ -19,17 +20,30 @@ pub enum RunFault {
 }
 
 impl RunFault {
-    ghost use Rattle.std.specs.Prelude.{◌≡◌};
-    ghost use Rattle.runs.specs.FaultNumber.{run_fault_number};
+    ghost use Rattle.std.specs.Prelude.{◌≡◌, true};
+    ghost use Rattle.faults.specs.Explanations.{is_fault};
+    ghost use Rattle.runs.specs.FaultNumber.{run_fault_number, run_fault_fields};
 
     /// The number that the fault's text prints.
     pub fn number(self) -> u8
-        ensures { result ≡ run_fault_number self }
+        ensures number { result ≡ run_fault_number self }
+        ensures known { is_fault result ≡ true }
     {
         match self {
             RunFault::Open(fault) => fault.number(),
             RunFault::Refused { .. } => 93,
             RunFault::Full { .. } => 94,
+        }
+    }
+
+    /// The numbers of the fields that the fault's text prints.
+    pub fn fields(self) -> Fields
+        ensures { result ≡ run_fault_fields self }
+    {
+        match self {
+            RunFault::Open(_) => Fields::Empty,
+            RunFault::Refused { answer, .. } => Fields::Signed(answer),
+            RunFault::Full { .. } => Fields::Empty,
         }
     }
 }

@@ -1,5 +1,6 @@
 //! The refusal of a full journal.
 
+use faults::Fields;
 use std::error::Error;
 use std::fmt;
 
@@ -14,14 +15,23 @@ pub struct JournalFull {
 }
 
 impl JournalFull {
-    ghost use Rattle.std.specs.Prelude.{◌≡◌};
-    ghost use Rattle.semantics.specs.FaultText.{journal_full_number};
+    ghost use Rattle.std.specs.Prelude.{◌≡◌, true};
+    ghost use Rattle.faults.specs.Explanations.{is_fault};
+    ghost use Rattle.semantics.specs.FaultText.{journal_full_fields, journal_full_number};
 
     /// The number that the fault's text prints.
     pub fn number(self) -> u8
-        ensures { result ≡ journal_full_number self }
+        ensures number { result ≡ journal_full_number self }
+        ensures known { is_fault result ≡ true }
     {
         NUMBER
+    }
+
+    /// The numbers of the fields that the fault's text prints.
+    pub fn fields(self) -> Fields
+        ensures { result ≡ journal_full_fields self }
+    {
+        Fields::One(u64::from(self.shard))
     }
 }
 

@@ -18,12 +18,14 @@ pub enum PassFault {
 }
 
 impl PassFault {
-    ghost use Rattle.std.specs.Prelude.{◌≡◌};
+    ghost use Rattle.std.specs.Prelude.{◌≡◌, true};
+    ghost use Rattle.faults.specs.Explanations.{is_fault};
     ghost use Rattle.shards.specs.PassFaultNumber.{pass_fault_number};
 
     /// The number that the fault's text prints.
     pub fn number(self) -> u8
-        ensures { result ≡ pass_fault_number self }
+        ensures number { result ≡ pass_fault_number self }
+        ensures known { is_fault result ≡ true }
     {
         match self {
             PassFault::BadOptions => 51,

@@ -1,3 +1,4 @@
 pub mod SourceText
 pub mod Told
 pub mod SourceImage
+pub mod FaultNumber

@@ -1,9 +1,10 @@
 //! Why a source means no text, or its text spells no image.
 
-ghost use Rattle.std.specs.Prelude.{◌≡◌};
+ghost use Rattle.std.specs.Prelude.{◌≡◌, true};
 
 use disasm::AsmFault;
 use ebpf_decode::DecodeFault;
+use faults::Fields;
 use std::alloc::AllocError;
 use thiserror::Error;
 
@@ -36,6 +37,34 @@ pub enum SourceFault {
     /// 23: memory was refused.
     #[error("fault 23 Memory")]
     Memory,
+}
+
+impl SourceFault {
+    ghost use Rattle.faults.specs.Explanations.{is_fault};
+    ghost use Rattle.source_form.specs.FaultNumber.{source_fault_number, source_fault_fields};
+
+    /// The number that the fault's text prints.
+    pub fn number(self) -> u8
+        ensures number { result ≡ source_fault_number self }
+        ensures known { is_fault result ≡ true }
+    {
+        match self {
+            SourceFault::BadLine { .. } => 21,
+            SourceFault::Image(_) => 22,
+            SourceFault::Memory => 23,
+        }
+    }
+
+    /// The numbers of the fields that the fault's text prints.
+    pub fn fields(self) -> Fields
+        ensures { result ≡ source_fault_fields self }
+    {
+        match self {
+            SourceFault::BadLine { line, .. } => Fields::One(line as u64),
+            SourceFault::Image(fault) => Fields::One(u64::from(fault.number())),
+            SourceFault::Memory => Fields::Empty,
+        }
+    }
 }
 
 /// Why a line has no text.

@@ -1,7 +1,7 @@
 //! Printed paragraphs, and numbers that no fault has.
 
 use crate::asserting::{same, same_bytes, same_text};
-use explanations::{Explanation, refusal_text};
+use faults::{Explanation, refusal_text};
 use std::alloc::Global;
 use std::process::Abort;
 use std::test::Fail;

@@ -1,4 +1,4 @@
-//! Tests of the public calls of `disasm`, `source_form`, `reasons`, `map_updates`, `explanations` and `command_line`.
+//! Tests of the public calls of `disasm`, `source_form`, `reasons`, `map_updates`, `faults` and `command_line`.
 #![tactic(auto)]
 
 #[cfg(test)]

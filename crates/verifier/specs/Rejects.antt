@@ -1,5 +1,7 @@
--- Which reject tells of which fault, and the numbers that rejects are printed with.
+-- Which reject is that of a fault below, and the numbers with which rejects are printed.
 use Rattle.std.specs.Prelude.{ℕ}
+use Rattle.faults.specs.declared.fields.Fields.{Fields}
+use Rattle.faults.specs.declared.fields.Fields.TheVariants as fields
 use Rattle.isa.specs.InstructionCodes.{register_number}
 use Rattle.image_shape.specs.declared.fault.ShapeFault.{ShapeFault}
 use Rattle.image_shape.specs.declared.fault.ShapeFault.TheVariants as shape
@@ -55,3 +57,26 @@ reject_number (PointerLeak slot) = 46
 reject_number (UnknownMap slot) = 47
 reject_number (NotArrayMap slot) = 49
 reject_number Memory = 48
+
+-- the numbers of the fields that a fault is printed with
+abbrev pub reject_fields : Reject → Fields
+reject_fields (JumpBackward slot) = fields.One slot
+reject_fields (JumpOutside slot) = fields.One slot
+reject_fields (JumpIntoWide slot) = fields.One slot
+reject_fields (FallsOff slot) = fields.One slot
+reject_fields (Unreachable slot) = fields.One slot
+reject_fields (UnsetRegister slot register) = fields.Two slot register
+reject_fields (WrongKind slot register) = fields.Two slot register
+reject_fields (PacketBounds slot) = fields.One slot
+reject_fields (StackBounds slot) = fields.One slot
+reject_fields (StackUnset slot) = fields.One slot
+reject_fields (ValueBounds slot) = fields.One slot
+reject_fields (Misaligned slot) = fields.One slot
+reject_fields (ContextAccess slot) = fields.One slot
+reject_fields (ReadOnlyFp slot) = fields.One slot
+reject_fields (UnknownHelper slot) = fields.One slot
+reject_fields (BadArgument slot register) = fields.Two slot register
+reject_fields (PointerLeak slot) = fields.One slot
+reject_fields (UnknownMap slot) = fields.One slot
+reject_fields (NotArrayMap slot) = fields.One slot
+reject_fields Memory = fields.Empty

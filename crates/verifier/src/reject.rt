@@ -1,9 +1,11 @@
 //! Why a program is rejected.
 
-ghost use Rattle.std.specs.Prelude.{◌≡◌};
-ghost use Rattle.verifier.specs.Rejects.{reject_of_shape, reject_of_refusal, reject_number};
+ghost use Rattle.std.specs.Prelude.{◌≡◌, true};
+ghost use Rattle.faults.specs.Explanations.{is_fault};
+ghost use Rattle.verifier.specs.Rejects.{reject_of_shape, reject_of_refusal, reject_number, reject_fields};
 
 use abstract_state::Refusal;
+use faults::Fields;
 use image_shape::ShapeFault;
 use thiserror::Error;
 
@@ -120,7 +122,8 @@ impl Reject {
 
     /// The number that it is printed with.
     pub fn number(self) -> u8
-        ensures { result ≡ reject_number self }
+        ensures number { result ≡ reject_number self }
+        ensures known { is_fault result ≡ true }
     {
         match self {
             Reject::JumpBackward { .. } => 30,
@@ -143,6 +146,43 @@ impl Reject {
             Reject::UnknownMap { .. } => 47,
             Reject::NotArrayMap { .. } => 49,
             Reject::Memory => 48,
+        }
+    }
+
+    /// The numbers of the fields that the fault's text prints.
+    pub fn fields(self) -> Fields
+        ensures { result ≡ reject_fields self }
+    {
+        match self {
+            Reject::JumpBackward { slot } => Fields::One(u64::from(slot)),
+            Reject::JumpOutside { slot } => Fields::One(u64::from(slot)),
+            Reject::JumpIntoWide { slot } => Fields::One(u64::from(slot)),
+            Reject::FallsOff { slot } => Fields::One(u64::from(slot)),
+            Reject::Unreachable { slot } => Fields::One(u64::from(slot)),
+            Reject::UnsetRegister { slot, register } => Fields::Two(
+                u64::from(slot),
+                u64::from(register),
+            ),
+            Reject::WrongKind { slot, register } => Fields::Two(
+                u64::from(slot),
+                u64::from(register),
+            ),
+            Reject::PacketBounds { slot } => Fields::One(u64::from(slot)),
+            Reject::StackBounds { slot } => Fields::One(u64::from(slot)),
+            Reject::StackUnset { slot } => Fields::One(u64::from(slot)),
+            Reject::ValueBounds { slot } => Fields::One(u64::from(slot)),
+            Reject::Misaligned { slot } => Fields::One(u64::from(slot)),
+            Reject::ContextAccess { slot } => Fields::One(u64::from(slot)),
+            Reject::ReadOnlyFp { slot } => Fields::One(u64::from(slot)),
+            Reject::UnknownHelper { slot } => Fields::One(u64::from(slot)),
+            Reject::BadArgument { slot, register } => Fields::Two(
+                u64::from(slot),
+                u64::from(register),
+            ),
+            Reject::PointerLeak { slot } => Fields::One(u64::from(slot)),
+            Reject::UnknownMap { slot } => Fields::One(u64::from(slot)),
+            Reject::NotArrayMap { slot } => Fields::One(u64::from(slot)),
+            Reject::Memory => Fields::Empty,
         }
     }
 }

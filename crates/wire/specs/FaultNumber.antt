@@ -1,5 +1,7 @@
--- The number of each fault, as its text prints it.
+-- The number and the fields of each fault, as its text prints them.
 use Rattle.std.specs.Prelude.{ℕ}
+use Rattle.faults.specs.declared.fields.Fields.{Fields}
+use Rattle.faults.specs.declared.fields.Fields.TheVariants as fields
 use Rattle.wire.specs.declared.frame_buffer.FrameFault.{FrameFault}
 use Rattle.wire.specs.declared.frame_buffer.FrameFault.TheVariants as frame
 use Rattle.wire.specs.declared.capture_fault.CaptureFault.{CaptureFault}
@@ -19,3 +21,10 @@ capture_fault_number (capture.CutFrame record_number) = 5
 capture_fault_number (capture.FrameTooLong record_number) = 6
 capture_fault_number capture.Device = 7
 capture_fault_number capture.Memory = 8
+
+-- the numbers of the fields that a fault is printed with
+abbrev pub capture_fault_fields : CaptureFault → Fields
+capture_fault_fields (capture.CutHead number) = fields.One number
+capture_fault_fields (capture.CutFrame number) = fields.One number
+capture_fault_fields (capture.FrameTooLong number) = fields.One number
+capture_fault_fields other = fields.Empty

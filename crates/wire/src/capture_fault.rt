@@ -1,7 +1,8 @@
 //! Why a capture file was refused.
 
-ghost use Rattle.std.specs.Prelude.{◌≡◌};
+ghost use Rattle.std.specs.Prelude.{◌≡◌, true};
 
+use faults::Fields;
 use thiserror::Error;
 
 /// Why a capture was not read or not written. docs/FAULTS.md says when each comes, in which order, and what it leaves.
@@ -34,11 +35,13 @@ pub enum CaptureFault {
 }
 
 impl CaptureFault {
-    ghost use Rattle.wire.specs.FaultNumber.{capture_fault_number};
+    ghost use Rattle.faults.specs.Explanations.{is_fault};
+    ghost use Rattle.wire.specs.FaultNumber.{capture_fault_number, capture_fault_fields};
 
     /// The number that the fault's text prints.
     pub fn number(self) -> u8
-        ensures { result ≡ capture_fault_number self }
+        ensures number { result ≡ capture_fault_number self }
+        ensures known { is_fault result ≡ true }
     {
         match self {
             CaptureFault::BadMagic => 1,
@@ -49,6 +52,18 @@ impl CaptureFault {
             CaptureFault::FrameTooLong { .. } => 6,
             CaptureFault::Device => 7,
             CaptureFault::Memory => 8,
+        }
+    }
+
+    /// The numbers of the fields that the fault's text prints.
+    pub fn fields(self) -> Fields
+        ensures { result ≡ capture_fault_fields self }
+    {
+        match self {
+            CaptureFault::CutHead { record: number } => Fields::One(number),
+            CaptureFault::CutFrame { record: number } => Fields::One(number),
+            CaptureFault::FrameTooLong { record: number } => Fields::One(number),
+            _ => Fields::Empty,
         }
     }
 }

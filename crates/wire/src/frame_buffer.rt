@@ -1,6 +1,6 @@
 //! An Ethernet frame in a buffer with free bytes before it.
 
-ghost use Rattle.std.specs.Prelude.{◌≡◌, ℕ, ◌+◌, ◌-◌, ◌<◌, ◌≤◌, ◌↔◌, List, ◌∷◌, [], length, All, IfOk, IsOk, IsErrOf};
+ghost use Rattle.std.specs.Prelude.{◌≡◌, ℕ, ◌+◌, ◌-◌, ◌<◌, ◌≤◌, ◌↔◌, List, ◌∷◌, [], length, All, IfOk, IsOk, IsErrOf, true};
 ghost use Rattle.wire.specs.FrameView.{FrameView, with_byte_at, with_bytes_at, grown_front, shrunk_front};
 
 use std::alloc::{AllocError, Global};
@@ -31,11 +31,13 @@ pub enum FrameFault {
 }
 
 impl FrameFault {
+    ghost use Rattle.faults.specs.Explanations.{is_fault};
     ghost use Rattle.wire.specs.FaultNumber.{frame_fault_number};
 
     /// The number that the fault's text prints.
     pub fn number(self) -> u8
-        ensures { result ≡ frame_fault_number self }
+        ensures number { result ≡ frame_fault_number self }
+        ensures known { is_fault result ≡ true }
     {
         match self {
             FrameFault::FrameTooLong => 6,

@@ -28,7 +28,7 @@ use Rattle.audit.specs.Audited.{Explains as ExplainsJournals}
 use Rattle.journals.specs.LegalJournals.{AreLegal}
 use Rattle.disasm.specs.AssemblyText.{IsAssemblyText}
 use Rattle.source_form.specs.SourceImage.{IsSource}
-use Rattle.explanations.specs.Refusals.{IsRefusalText}
+use Rattle.faults.specs.Refusals.{IsRefusalText}
 use Rattle.ebpf_decode.specs.declared.map.MapDef.{MapDef}
 use Rattle.wire.specs.FrameView.{FrameView}
 use Rattle.wire.specs.declared.records.Sent.{Sent}

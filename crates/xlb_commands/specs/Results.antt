@@ -23,7 +23,7 @@ use Rattle.runs.specs.SingleRuns.{HasRunAlone}
 use Rattle.journals.specs.JournalsView.{JournalsView}
 use Rattle.journals.specs.JournalReading.{IsJournalsFile}
 use Rattle.journals.specs.LegalJournals.{AreLegal}
-use Rattle.explanations.specs.Explanations.{explanation_text}
+use Rattle.faults.specs.Explanations.{explanation_text}
 use Rattle.reasons.specs.Explanations.{IsExplanation}
 use Rattle.command_line.specs.Reading.{text_of}
 use Rattle.map_updates.specs.Misfits.{IsFirstMisfit}

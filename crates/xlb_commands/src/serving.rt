@@ -2,7 +2,7 @@
 
 ghost use Rattle.std.specs.Prelude.{◌≡◌, ◌+◌, ◌-◌, ◌<◌, ◌^◌, ℕ, List, true, false, IfErr, IfOk, OnOk, string_bytes};
 ghost use Rattle.std.specs.Io.KnownBytes.{append_known};
-ghost use Rattle.explanations.specs.Refusals.{IsRefusalText};
+ghost use Rattle.faults.specs.Refusals.{IsRefusalText};
 ghost use Rattle.xlb_commands.specs.FaultLines.{fault_line, mistake_text};
 ghost use Rattle.xlb_commands.specs.Results.{IsAnswer, IsDone, KeepsFiles};
 ghost use Rattle.xlb_commands.specs.Refused.{HasFailed, IsMistaken, IsRefused, IsRefusedWith, PrintsMistake, PrintsRefusal, notes_told, stream};
@@ -19,7 +19,7 @@ use crate::replays::replay_files;
 use crate::report::Report;
 use crate::shipping::write_shipped;
 use command_line::Settings;
-use explanations::refusal_text;
+use faults::refusal_text;
 use folders::Folder;
 use map_updates::Misfit;
 use std::alloc::{AllocError, Global};

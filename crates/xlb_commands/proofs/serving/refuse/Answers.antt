@@ -1,5 +1,5 @@
 use Rattle.std.proofs.Common.{ℕ, List, sym, subst}
-use Rattle.explanations.specs.Refusals.{IsRefusalText}
+use Rattle.faults.specs.Refusals.{IsRefusalText}
 use Rattle.xlb_commands.specs.FaultLines.{fault_line}
 use Rattle.xlb_commands.specs.Refused.{in_full, lacks_text, notes_told}
 use Rattle.xlb_commands.proofs.serving.refuse.Goals as goal

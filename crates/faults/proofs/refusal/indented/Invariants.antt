@@ -1,6 +1,6 @@
 use Rattle.std.proofs.Common.{◌≡◌, ◌++◌, drop, true}
-use Rattle.explanations.specs.Refusals.{indented}
-use Rattle.explanations.proofs.refusal.indented.Given as goal
+use Rattle.faults.specs.Refusals.{indented}
+use Rattle.faults.proofs.refusal.indented.Given as goal
 
 abbrev pub invariant-notes : goal.invariant-notes
 invariant-notes l = l.lines.items ++ indented l.is_start (drop l.byte-index l.notes) ≡ indented true l.notes

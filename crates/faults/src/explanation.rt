@@ -1,19 +1,55 @@
-//! What a fault says, for people.
+//! The rows of the table of faults.
 
 ghost use Rattle.std.specs.Prelude.{◌≡◌, IfOk, true, false, string_bytes};
 ghost use Rattle.std.specs.Option.{MatchOption};
-ghost use Rattle.explanations.specs.Explanations.{is_fault, explanation_text};
+ghost use Rattle.faults.specs.Explanations.{is_fault, explanation_text};
+ghost use Rattle.faults.specs.FaultTable.{IsRowOf, first_name, second_name};
 
 use crate::table;
 use std::alloc::{AllocError, Global};
 
-/// A fault, for people.
+/// The names of a fault's fields, as they are printed before their numbers.
+#[derive(Clone, Copy, Debug, PartialEq, Eq)]
+pub enum FieldNames {
+    /// It has none.
+    Empty,
+    One(&'static str),
+    Two(&'static str, &'static str),
+}
+
+impl FieldNames {
+    /// The name of the first field; empty where there is none.
+    pub fn first(self) -> &'static str
+        ensures { result.now ≡ first_name self }
+    {
+        match self {
+            FieldNames::Empty => "",
+            FieldNames::One(first) => first,
+            FieldNames::Two(first, _) => first,
+        }
+    }
+
+    /// The name of the second field; empty where there is none.
+    pub fn second(self) -> &'static str
+        ensures { result.now ≡ second_name self }
+    {
+        match self {
+            FieldNames::Empty => "",
+            FieldNames::One(_) => "",
+            FieldNames::Two(_, second) => second,
+        }
+    }
+}
+
+/// The row of a fault: its number, its names, and what explains it to people.
 #[derive(Clone, Copy, Debug, PartialEq, Eq)]
 pub struct Explanation {
     /// The fault's number, which never changes.
     pub number: u8,
     /// Its name, as it is printed behind the number.
     pub name: &'static str,
+    /// The names of its fields.
+    pub fields: FieldNames,
     /// What it means.
     pub meaning: &'static str,
     /// What mostly leads to it, and the remedy.
@@ -23,9 +59,9 @@ pub struct Explanation {
 }
 
 impl Explanation {
-    /// The explanation of a fault's number, if there is such a fault.
+    /// The row of a fault's number, if there is such a fault.
     pub fn of(number: u32) -> Option<Explanation>
-        ensures { MatchOption result (is_fault number ≡ false) (λ found. (is_fault number ≡ true) × (found.number ≡ number)) }
+        ensures { MatchOption result (is_fault number ≡ false) (λ found. (is_fault number ≡ true) × IsRowOf number found) }
     {
         match number {
             1..=9 => Some(table::frames(number as u8)),
@@ -52,6 +88,7 @@ impl Explanation {
             meaning,
             causes,
             example,
+            ..
         } = self;
         format!(in alloc;
             "fault {number} {name}\n{meaning}\nUsual causes: {causes}\nFor example: {example}\n"

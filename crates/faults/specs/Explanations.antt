@@ -1,6 +1,6 @@
 -- Which faults have an explanation, and how one is printed.
 use Rattle.std.specs.Prelude.{ℕ, ◌==◌, ◌++◌, ◌&&◌, ◌||◌, Bool, nat_le, List, codes, decimal}
-use Rattle.explanations.specs.declared.explanation.Explanation.{Explanation}
+use Rattle.faults.specs.declared.explanation.Explanation.{Explanation}
 
 abbrev is_between : ℕ → ℕ → ℕ → Bool
 is_between least most number = nat_le least number && nat_le number most

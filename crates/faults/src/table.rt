@@ -1,20 +1,22 @@
 //! The rows of the table, section by section.
 
-ghost use Rattle.std.specs.Prelude.{◌≡◌, ◌≤◌};
+ghost use Rattle.std.specs.Prelude.{◌≤◌};
+ghost use Rattle.faults.specs.FaultTable.{IsRowOf};
 
-use crate::explanation::Explanation;
+use crate::explanation::{Explanation, FieldNames};
 
 /// Frames and captures.
 #[rattlefmt::skip]
 pub(crate) fn frames(number: u8) -> Explanation
     requires least { 1 ≤ number }
     requires most { number ≤ 9 }
-    ensures { result.number ≡ number }
+    ensures { IsRowOf number result }
 {
     match number {
         1 => Explanation {
             number: 1,
             name: "BadMagic",
+            fields: FieldNames::Empty,
             meaning: "A capture file does not begin with the number a1b2c3d4, low byte first.",
             causes: "The file is no classic pcap file: it is pcapng, big-endian, has times in nanoseconds, or is another kind of file.",
             example: "A file that begins with `0a 0d 0d 0a` is pcapng; `editcap -F pcap` turns it into a classic one.",
@@ -22,6 +24,7 @@ pub(crate) fn frames(number: u8) -> Explanation
         2 => Explanation {
             number: 2,
             name: "BadVersion",
+            fields: FieldNames::Empty,
             meaning: "A capture file has another version than 2.4.",
             causes: "It was written by a very old or a faulty tool.",
             example: "Bytes 4 to 7 have to be `02 00 04 00`.",
@@ -29,6 +32,7 @@ pub(crate) fn frames(number: u8) -> Explanation
         3 => Explanation {
             number: 3,
             name: "BadLink",
+            fields: FieldNames::Empty,
             meaning: "A capture's link type is not 1, Ethernet.",
             causes: "It was taken on a loopback, wireless or `any` interface.",
             example: "A capture of `lo` made by some systems has link type 0; take one on an Ethernet interface.",
@@ -36,6 +40,7 @@ pub(crate) fn frames(number: u8) -> Explanation
         4 => Explanation {
             number: 4,
             name: "CutHead",
+            fields: FieldNames::One("record"),
             meaning: "A capture ends within the 24 bytes of its header (record 0) or within the 16 bytes before a record's frame.",
             causes: "The file was copied or written in part.",
             example: "`record 3` says that the third record's head is cut; `record 0` that the file has fewer than 24 bytes.",
@@ -43,6 +48,7 @@ pub(crate) fn frames(number: u8) -> Explanation
         5 => Explanation {
             number: 5,
             name: "CutFrame",
+            fields: FieldNames::One("record"),
             meaning: "A capture ends within the bytes of a frame.",
             causes: "The file was copied or written in part.",
             example: "`record 3` says that the third record keeps fewer bytes than it says.",
@@ -50,6 +56,7 @@ pub(crate) fn frames(number: u8) -> Explanation
         6 => Explanation {
             number: 6,
             name: "FrameTooLong",
+            fields: FieldNames::One("record"),
             meaning: "A frame has more than 2048 bytes.",
             causes: "The capture has frames that a network card joined, or the named file is no frame: a frame's file holds its bytes, no hexadecimal digits.",
             example: "Captures taken with receive offload on have such frames.",
@@ -57,6 +64,7 @@ pub(crate) fn frames(number: u8) -> Explanation
         7 => Explanation {
             number: 7,
             name: "Device",
+            fields: FieldNames::Empty,
             meaning: "A file could not be opened, read or written, or what was to be printed could not be.",
             causes: "A name is misspelt, rights are missing, or the disk is full.",
             example: "`xlb check missing.img`, where there is no such file.",
@@ -64,6 +72,7 @@ pub(crate) fn frames(number: u8) -> Explanation
         8 => Explanation {
             number: 8,
             name: "Memory",
+            fields: FieldNames::Empty,
             meaning: "Memory was refused while a file was read or an answer made.",
             causes: "The file is larger than the memory that is free.",
             example: "A limit set by `ulimit -v` is too low for the file.",
@@ -71,6 +80,7 @@ pub(crate) fn frames(number: u8) -> Explanation
         _ => Explanation {
             number: 9,
             name: "ShortFrame",
+            fields: FieldNames::Empty,
             meaning: "A frame has fewer than the 14 bytes of an Ethernet header.",
             causes: "The named file is empty or holds text in place of bytes.",
             example: "A file of 13 bytes.",
@@ -83,12 +93,13 @@ pub(crate) fn frames(number: u8) -> Explanation
 pub(crate) fn images(number: u8) -> Explanation
     requires least { 10 ≤ number }
     requires most { number ≤ 20 }
-    ensures { result.number ≡ number }
+    ensures { IsRowOf number result }
 {
     match number {
         10 => Explanation {
             number: 10,
             name: "BadHead",
+            fields: FieldNames::Empty,
             meaning: "The bytes do not begin as an image does.",
             causes: "The file is no image (a text or a frame was named in its place), it has another version than 1 and 2, more than 16 maps, or its list of \
                 maps is cut.",
@@ -97,6 +108,7 @@ pub(crate) fn images(number: u8) -> Explanation
         11 => Explanation {
             number: 11,
             name: "BadMap",
+            fields: FieldNames::One("map"),
             meaning: "A map's definition is outside its limits.",
             causes: "The type is not array, hash or lru; the key has not 1 to 32 bytes (an array's 4); the value has not 8, 16, .. 64 bytes (to 256 in \
                 version 2); there are not 1 to 131,072 entries.",
@@ -105,6 +117,7 @@ pub(crate) fn images(number: u8) -> Explanation
         12 => Explanation {
             number: 12,
             name: "Empty",
+            fields: FieldNames::Empty,
             meaning: "No instruction comes after the maps.",
             causes: "The program was left out, or the file is cut after its maps.",
             example: "A text of the line `version 1` alone.",
@@ -112,6 +125,7 @@ pub(crate) fn images(number: u8) -> Explanation
         13 => Explanation {
             number: 13,
             name: "NotWhole",
+            fields: FieldNames::Empty,
             meaning: "The bytes after the maps are no multiple of 8.",
             causes: "The file is cut within a slot.",
             example: "An image without its last byte.",
@@ -119,6 +133,7 @@ pub(crate) fn images(number: u8) -> Explanation
         14 => Explanation {
             number: 14,
             name: "TooLong",
+            fields: FieldNames::Empty,
             meaning: "The program has more than 4096 slots.",
             causes: "A loop was unrolled too often.",
             example: "4096 times `mov r0, 1`, and `exit`.",
@@ -126,6 +141,7 @@ pub(crate) fn images(number: u8) -> Explanation
         15 => Explanation {
             number: 15,
             name: "UnknownOpcode",
+            fields: FieldNames::One("slot"),
             meaning: "An instruction is none of the instruction table.",
             causes: "Bytes that are no program, or an instruction of another instruction set version.",
             example: "`37 00 02 00 01 00 00 00`: a division has offset 0, or 1 where it is signed.",
@@ -133,6 +149,7 @@ pub(crate) fn images(number: u8) -> Explanation
         16 => Explanation {
             number: 16,
             name: "NotInProfile",
+            fields: FieldNames::One("slot"),
             meaning: "The instruction is one of RFC 9669 that images of this version may not have.",
             causes: "The program uses legacy packet loads, calls between functions, or `ldval` in an image of version 1.",
             example: "`ldval r1, 0, 0` below `version 1`; write `version 2`.",
@@ -140,6 +157,7 @@ pub(crate) fn images(number: u8) -> Explanation
         17 => Explanation {
             number: 17,
             name: "BadRegister",
+            fields: FieldNames::One("slot"),
             meaning: "An instruction names a register above r10.",
             causes: "Bytes that are no program.",
             example: "`b7 0b 00 00 00 00 00 00` names register 11.",
@@ -147,6 +165,7 @@ pub(crate) fn images(number: u8) -> Explanation
         18 => Explanation {
             number: 18,
             name: "FieldNotZero",
+            fields: FieldNames::One("slot"),
             meaning: "A field that the instruction does not use is not zero.",
             causes: "An assembler left garbage there, or the opcode's source bit is wrong.",
             example: "`bf 01 00 00 05 00 00 00`: a move of a register has no immediate.",
@@ -154,6 +173,7 @@ pub(crate) fn images(number: u8) -> Explanation
         19 => Explanation {
             number: 19,
             name: "WideCut",
+            fields: FieldNames::One("slot"),
             meaning: "The second slot of a wide instruction is missing.",
             causes: "The program is cut after the first half of `lddw`, `ldmap` or `ldval`.",
             example: "`18 01 00 00 00 00 00 00` as the last slot.",
@@ -161,6 +181,7 @@ pub(crate) fn images(number: u8) -> Explanation
         _ => Explanation {
             number: 20,
             name: "Memory",
+            fields: FieldNames::Empty,
             meaning: "Memory was refused while an image was decoded.",
             causes: "Too little memory is free.",
             example: "A limit set by `ulimit -v` is too low.",
@@ -173,12 +194,13 @@ pub(crate) fn images(number: u8) -> Explanation
 pub(crate) fn texts(number: u8) -> Explanation
     requires least { 21 ≤ number }
     requires most { number ≤ 23 }
-    ensures { result.number ≡ number }
+    ensures { IsRowOf number result }
 {
     match number {
         21 => Explanation {
             number: 21,
             name: "BadLine",
+            fields: FieldNames::One("line"),
             meaning: "A line of a text is not in its one spelling.",
             causes: "A misspelt instruction, a comment or an empty line, a number with a leading zero or outside its field, an offset without its sign, two \
                 spaces, or a last line without its line feed.",
@@ -187,6 +209,7 @@ pub(crate) fn texts(number: u8) -> Explanation
         22 => Explanation {
             number: 22,
             name: "Image",
+            fields: FieldNames::One("decode"),
             meaning: "The lines are right, but the image that they spell is refused.",
             causes: "The number after `decode` is the fault of that image: 10 for more than 16 maps, 11 for a map, 12 for no instruction, 14 for too many, 16 \
                 for one of another version.",
@@ -195,6 +218,7 @@ pub(crate) fn texts(number: u8) -> Explanation
         _ => Explanation {
             number: 23,
             name: "Memory",
+            fields: FieldNames::Empty,
             meaning: "Memory was refused while a text was read.",
             causes: "Too little memory is free.",
             example: "A limit set by `ulimit -v` is too low.",
@@ -207,12 +231,13 @@ pub(crate) fn texts(number: u8) -> Explanation
 pub(crate) fn structure(number: u8) -> Explanation
     requires least { 30 ≤ number }
     requires most { number ≤ 34 }
-    ensures { result.number ≡ number }
+    ensures { IsRowOf number result }
 {
     match number {
         30 => Explanation {
             number: 30,
             name: "JumpBackward",
+            fields: FieldNames::One("slot"),
             meaning: "A jump goes backwards.",
             causes: "A loop: programs have none, so that each ends. Unroll it.",
             example: "`ja -1`.",
@@ -220,6 +245,7 @@ pub(crate) fn structure(number: u8) -> Explanation
         31 => Explanation {
             number: 31,
             name: "JumpOutside",
+            fields: FieldNames::One("slot"),
             meaning: "A jump goes past the last slot.",
             causes: "The distance was counted wrongly: it counts slots from the one after the jump, and `lddw`, `ldmap` and `ldval` take two.",
             example: "`jeq r0, 0, +9` near the end of the program.",
@@ -227,6 +253,7 @@ pub(crate) fn structure(number: u8) -> Explanation
         32 => Explanation {
             number: 32,
             name: "JumpIntoWide",
+            fields: FieldNames::One("slot"),
             meaning: "A jump goes to the second slot of a wide instruction.",
             causes: "The distance was counted in instructions, not in slots.",
             example: "`jeq r0, 0, +1` before `lddw r0, 0x0000000000000002`: write `+2` to pass it.",
@@ -234,6 +261,7 @@ pub(crate) fn structure(number: u8) -> Explanation
         33 => Explanation {
             number: 33,
             name: "FallsOff",
+            fields: FieldNames::One("slot"),
             meaning: "The last instruction goes on past the end.",
             causes: "The program does not end with `exit`.",
             example: "`mov r0, 2` as the whole program.",
@@ -241,6 +269,7 @@ pub(crate) fn structure(number: u8) -> Explanation
         _ => Explanation {
             number: 34,
             name: "Unreachable",
+            fields: FieldNames::One("slot"),
             meaning: "No path leads to an instruction.",
             causes: "It stands after a jump that is always taken, or after `exit`, and no jump goes to it.",
             example: "`ja +1`, `mov r0, 1`, `exit`: the move is never reached.",
@@ -253,12 +282,13 @@ pub(crate) fn structure(number: u8) -> Explanation
 pub(crate) fn kinds(number: u8) -> Explanation
     requires least { 35 ≤ number }
     requires most { number ≤ 49 }
-    ensures { result.number ≡ number }
+    ensures { IsRowOf number result }
 {
     match number {
         35 => Explanation {
             number: 35,
             name: "UnsetRegister",
+            fields: FieldNames::Two("slot", "register"),
             meaning: "An instruction reads a register that is not written on every path that leads there.",
             causes: "The register was never written; or only on one side of a test; or a call came between, after which r1 to r5 are unset; or helper 44 \
                 moved the packet's start, after which packet pointers are; or two paths bring it with kinds that do not agree.",
@@ -267,6 +297,7 @@ pub(crate) fn kinds(number: u8) -> Explanation
         36 => Explanation {
             number: 36,
             name: "WrongKind",
+            fields: FieldNames::Two("slot", "register"),
             meaning: "An instruction uses a register of a kind that it cannot take.",
             causes: "A lookup's answer is used before it was tested against 0; two pointers are added; a number is used as an address; a pointer is \
                 multiplied or compared with a number.",
@@ -275,6 +306,7 @@ pub(crate) fn kinds(number: u8) -> Explanation
         37 => Explanation {
             number: 37,
             name: "PacketBounds",
+            fields: FieldNames::One("slot"),
             meaning: "Bytes of the packet are read or written that no test has shown to be there.",
             causes: "The end of the access was not compared with the packet's end (r1+4) on the path that leads here, the test shows fewer bytes, or an \
                 offset may go above 65535.",
@@ -283,6 +315,7 @@ pub(crate) fn kinds(number: u8) -> Explanation
         38 => Explanation {
             number: 38,
             name: "StackBounds",
+            fields: FieldNames::One("slot"),
             meaning: "An address is outside the 512 bytes of the stack.",
             causes: "The offset from r10 is above -1 or below -512, or the access goes past r10.",
             example: "`stw [r10-2], 0` writes four bytes, two of them past the stack.",
@@ -290,6 +323,7 @@ pub(crate) fn kinds(number: u8) -> Explanation
         39 => Explanation {
             number: 39,
             name: "StackUnset",
+            fields: FieldNames::One("slot"),
             meaning: "A byte of the stack is read that was not written on every path, or a key or a value has a byte of a stored pointer.",
             causes: "A key was written in part, or on one path alone.",
             example: "A key of 4 bytes at r10-4 of which only `sth [r10-4], 0` was written.",
@@ -297,6 +331,7 @@ pub(crate) fn kinds(number: u8) -> Explanation
         40 => Explanation {
             number: 40,
             name: "ValueBounds",
+            fields: FieldNames::One("slot"),
             meaning: "An address is outside a map's value.",
             causes: "The access ends past the value: its offset and its size are together more than the value's size.",
             example: "`ldxdw r3, [r0+4]` where values have 8 bytes.",
@@ -304,6 +339,7 @@ pub(crate) fn kinds(number: u8) -> Explanation
         41 => Explanation {
             number: 41,
             name: "Misaligned",
+            fields: FieldNames::One("slot"),
             meaning: "An access is at no multiple of its size.",
             causes: "The stack or a value is read or written at no multiple of the access's size; an atomic operation of a value always has to be aligned.",
             example: "`stw [r10-6], 0`: 4 bytes may stand at -4 or -8.",
@@ -311,6 +347,7 @@ pub(crate) fn kinds(number: u8) -> Explanation
         42 => Explanation {
             number: 42,
             name: "ContextAccess",
+            fields: FieldNames::One("slot"),
             meaning: "There is no such field of the context, or it is not read with this size, or it is written.",
             causes: "The context in r1 has words of four bytes at 0 (packet), 4 (its end), 12 (interface) and 16 (receive queue), which can only be read.",
             example: "`ldxdw r2, [r1+0]`: write `ldxw`.",
@@ -318,6 +355,7 @@ pub(crate) fn kinds(number: u8) -> Explanation
         43 => Explanation {
             number: 43,
             name: "ReadOnlyFp",
+            fields: FieldNames::One("slot"),
             meaning: "An instruction writes r10.",
             causes: "r10 is the upper end of the stack, and stays so.",
             example: "`add r10, -8`: copy it first, `mov r2, r10`, `add r2, -8`.",
@@ -325,6 +363,7 @@ pub(crate) fn kinds(number: u8) -> Explanation
         44 => Explanation {
             number: 44,
             name: "UnknownHelper",
+            fields: FieldNames::One("slot"),
             meaning: "There is no helper of this number.",
             causes: "The helpers are 1 (lookup), 2 (update), 3 (delete), 5 (time), 8 (worker) and 44 (moves the packet's start).",
             example: "`call 6`.",
@@ -332,6 +371,7 @@ pub(crate) fn kinds(number: u8) -> Explanation
         45 => Explanation {
             number: 45,
             name: "BadArgument",
+            fields: FieldNames::Two("slot", "register"),
             meaning: "An argument of a call is of the wrong kind.",
             causes: "r1 is no map (or for helper 44 not the context), r2 or r3 does not point to the stack, or what has to be a number is none (r4 of helper 2, r2 of helper 44).",
             example: "A key that lies in the packet: copy it to the stack first.",
@@ -339,6 +379,7 @@ pub(crate) fn kinds(number: u8) -> Explanation
         46 => Explanation {
             number: 46,
             name: "PointerLeak",
+            fields: FieldNames::One("slot"),
             meaning: "A pointer would become readable as a number.",
             causes: "It is stored in a map's value or in the packet, a part of it is stored or loaded, or the program ends with a pointer in r0.",
             example: "`mov r0, r1`, `exit`.",
@@ -346,6 +387,7 @@ pub(crate) fn kinds(number: u8) -> Explanation
         47 => Explanation {
             number: 47,
             name: "UnknownMap",
+            fields: FieldNames::One("slot"),
             meaning: "There is no map at this place of the image's list.",
             causes: "Places count from 0.",
             example: "`ldmap r1, 1` in an image with one map.",
@@ -353,6 +395,7 @@ pub(crate) fn kinds(number: u8) -> Explanation
         48 => Explanation {
             number: 48,
             name: "Memory",
+            fields: FieldNames::Empty,
             meaning: "Memory was refused while a program was verified.",
             causes: "Too little memory is free.",
             example: "A limit set by `ulimit -v` is too low.",
@@ -360,6 +403,7 @@ pub(crate) fn kinds(number: u8) -> Explanation
         _ => Explanation {
             number: 49,
             name: "NotArrayMap",
+            fields: FieldNames::One("slot"),
             meaning: "An address in a value is taken of a map that is no array.",
             causes: "`ldval` gives an address in element 0 of an array, which is always there; a hash map's value has to be looked up.",
             example: "`ldval r1, 0, 0` where map 0 is `hash`.",
@@ -372,12 +416,13 @@ pub(crate) fn kinds(number: u8) -> Explanation
 pub(crate) fn shards(number: u8) -> Explanation
     requires least { 50 ≤ number }
     requires most { number ≤ 56 }
-    ensures { result.number ≡ number }
+    ensures { IsRowOf number result }
 {
     match number {
         50 => Explanation {
             number: 50,
             name: "JournalFull",
+            fields: FieldNames::One("shard"),
             meaning: "A shard's journal has no room for a call; for each run inside a place is kept for its leave.",
             causes: "The journal was opened too small for the calls that are made.",
             example: "A journal of 16 entries and a run that makes twenty lookups.",
@@ -385,6 +430,7 @@ pub(crate) fn shards(number: u8) -> Explanation
         51 => Explanation {
             number: 51,
             name: "BadOptions",
+            fields: FieldNames::Empty,
             meaning: "Shards cannot be opened with these options, or there is no such worker.",
             causes: "`--workers` is 1 to 8; `--shards`, of each map, is 1, 2, 4 or 8, and each map's entries are a multiple of it; `--journal`, the entries \
                 of each shard, is 16 to 1,048,576; `--worker`, whose run it is, counts from 0.",
@@ -393,6 +439,7 @@ pub(crate) fn shards(number: u8) -> Explanation
         52 => Explanation {
             number: 52,
             name: "Memory",
+            fields: FieldNames::Empty,
             meaning: "Memory was refused for shards, journals, or an audit.",
             causes: "All memory of the shards is taken when they are opened.",
             example: "Many large maps, or a limit set by `ulimit -v`.",
@@ -400,6 +447,7 @@ pub(crate) fn shards(number: u8) -> Explanation
         53 => Explanation {
             number: 53,
             name: "Illegal",
+            fields: FieldNames::Two("shard", "place"),
             meaning: "A journal has an entry that a map on one thread cannot give.",
             causes: "The reply is not the one that follows from the entries before it, the caller may not make the call, or the journal was full. Places \
                 count from 0, so place 3 of shard 0 is the fourth line of that shard.",
@@ -408,6 +456,7 @@ pub(crate) fn shards(number: u8) -> Explanation
         54 => Explanation {
             number: 54,
             name: "PassTaken",
+            fields: FieldNames::Empty,
             meaning: "A caller's pass was given before.",
             causes: "Each worker, the controller and the reclaimer get theirs once.",
             example: "Asking twice for the pass of worker 0.",
@@ -415,6 +464,7 @@ pub(crate) fn shards(number: u8) -> Explanation
         55 => Explanation {
             number: 55,
             name: "BadJournalFile",
+            fields: FieldNames::One("line"),
             meaning: "A line of a file of journals is none that can stand there.",
             causes: "A header with options that do not fit the image's maps, a misspelt line, a key or a value of another length than its map's, a shard \
                 before that of the line above, or a last line without its line feed.",
@@ -423,6 +473,7 @@ pub(crate) fn shards(number: u8) -> Explanation
         _ => Explanation {
             number: 56,
             name: "NoThread",
+            fields: FieldNames::Empty,
             meaning: "A thread could not be started.",
             causes: "The system allows no more threads to this user.",
             example: "A limit set by `ulimit -u` is too low.",
@@ -435,12 +486,13 @@ pub(crate) fn shards(number: u8) -> Explanation
 pub(crate) fn rings(number: u8) -> Explanation
     requires least { 70 ≤ number }
     requires most { number ≤ 74 }
-    ensures { result.number ≡ number }
+    ensures { IsRowOf number result }
 {
     match number {
         70 => Explanation {
             number: 70,
             name: "NoBackend",
+            fields: FieldNames::Empty,
             meaning: "A ring cannot be made of no backends.",
             causes: "All backends are down.",
             example: "An empty list.",
@@ -448,6 +500,7 @@ pub(crate) fn rings(number: u8) -> Explanation
         71 => Explanation {
             number: 71,
             name: "Twice",
+            fields: FieldNames::Empty,
             meaning: "Two backends of a ring have one number or one address.",
             causes: "A backend was entered twice.",
             example: "Numbers 0 and 1 with the address 192.0.2.1 both.",
@@ -455,6 +508,7 @@ pub(crate) fn rings(number: u8) -> Explanation
         72 => Explanation {
             number: 72,
             name: "TooMany",
+            fields: FieldNames::Empty,
             meaning: "A ring has more backends than it may.",
             causes: "There are more than 256, or more than the ring has slots.",
             example: "Eight backends for a ring of 7 slots.",
@@ -462,6 +516,7 @@ pub(crate) fn rings(number: u8) -> Explanation
         73 => Explanation {
             number: 73,
             name: "BadSize",
+            fields: FieldNames::Empty,
             meaning: "A ring has another size than it may.",
             causes: "A ring has 7, 251, 4093 or 65537 slots.",
             example: "A ring of 256 slots.",
@@ -469,6 +524,7 @@ pub(crate) fn rings(number: u8) -> Explanation
         _ => Explanation {
             number: 74,
             name: "Memory",
+            fields: FieldNames::Empty,
             meaning: "Memory was refused for a ring or an image.",
             causes: "Too little memory is free.",
             example: "A limit set by `ulimit -v` is too low.",
@@ -481,12 +537,13 @@ pub(crate) fn rings(number: u8) -> Explanation
 pub(crate) fn tunnels(number: u8) -> Explanation
     requires least { 80 ≤ number }
     requires most { number ≤ 83 }
-    ensures { result.number ≡ number }
+    ensures { IsRowOf number result }
 {
     match number {
         80 => Explanation {
             number: 80,
             name: "TtlZero",
+            fields: FieldNames::Empty,
             meaning: "A packet to be tunnelled has a time to live of 0.",
             causes: "It should not have been sent.",
             example: "Byte 22 of the frame is 0.",
@@ -494,6 +551,7 @@ pub(crate) fn tunnels(number: u8) -> Explanation
         81 => Explanation {
             number: 81,
             name: "TooLong",
+            fields: FieldNames::Empty,
             meaning: "A packet to be tunnelled has more than 1480 bytes.",
             causes: "With its outer header it would be longer than 1500.",
             example: "A packet of 1481 bytes.",
@@ -501,6 +559,7 @@ pub(crate) fn tunnels(number: u8) -> Explanation
         82 => Explanation {
             number: 82,
             name: "NoRoom",
+            fields: FieldNames::Empty,
             meaning: "There is no room before the frame for an outer header of 20 bytes.",
             causes: "It was tunnelled as often as its headroom allows.",
             example: "The thirteenth tunnel of one frame.",
@@ -508,6 +567,7 @@ pub(crate) fn tunnels(number: u8) -> Explanation
         _ => Explanation {
             number: 83,
             name: "NotPlainIpv4",
+            fields: FieldNames::Empty,
             meaning: "A frame has no whole IPv4 packet without options.",
             causes: "It is another protocol, has options, or is cut.",
             example: "A frame of ARP.",
@@ -520,12 +580,13 @@ pub(crate) fn tunnels(number: u8) -> Explanation
 pub(crate) fn scripts(number: u8) -> Explanation
     requires least { 90 ≤ number }
     requires most { number ≤ 95 }
-    ensures { result.number ≡ number }
+    ensures { IsRowOf number result }
 {
     match number {
         90 => Explanation {
             number: 90,
             name: "BadLine",
+            fields: FieldNames::One("line"),
             meaning: "A line of a script is no command in its one spelling.",
             causes: "A misspelt command, capitals, a number with a leading zero or too large, a frame number below that of the line above, two spaces, a space \
                 or a carriage return at the line's end, or a last line without its line feed.",
@@ -534,6 +595,7 @@ pub(crate) fn scripts(number: u8) -> Explanation
         91 => Explanation {
             number: 91,
             name: "UnknownBackend",
+            fields: FieldNames::Empty,
             meaning: "A script takes a backend down that is not up, or brings up a number that is too large.",
             causes: "Numbers are below 256 and below the ring's size.",
             example: "`0 down 3` where no backend is up.",
@@ -541,6 +603,7 @@ pub(crate) fn scripts(number: u8) -> Explanation
         92 => Explanation {
             number: 92,
             name: "BackendTwice",
+            fields: FieldNames::Empty,
             meaning: "A script brings up a backend whose number or address is up.",
             causes: "It was not taken down before.",
             example: "`0 up 0 10.0.0.1`, twice.",
@@ -548,6 +611,7 @@ pub(crate) fn scripts(number: u8) -> Explanation
         93 => Explanation {
             number: 93,
             name: "Refused",
+            fields: FieldNames::One("answer"),
             meaning: "A map refused what the controller set, a service's address or a value of `xlb run --update`; the answer is Linux's error number, negated.",
             causes: "The map is full: -7; an array has no such element: -7.",
             example: "The 65th service of one shard.",
@@ -555,6 +619,7 @@ pub(crate) fn scripts(number: u8) -> Explanation
         94 => Explanation {
             number: 94,
             name: "JournalFull",
+            fields: FieldNames::Empty,
             meaning: "A journal was full when the controller changed maps.",
             causes: "The journal was opened too small (`--journal`); every later command is refused alike.",
             example: "A journal of 16 entries and a ring of 251 slots.",
@@ -562,6 +627,7 @@ pub(crate) fn scripts(number: u8) -> Explanation
         _ => Explanation {
             number: 95,
             name: "Memory",
+            fields: FieldNames::Empty,
             meaning: "Memory was refused for a script, or for a command of it.",
             causes: "Too little memory is free.",
             example: "A limit set by `ulimit -v` is too low.",
@@ -572,11 +638,12 @@ pub(crate) fn scripts(number: u8) -> Explanation
 /// A run that was stopped.
 #[rattlefmt::skip]
 pub(crate) fn stopped() -> Explanation
-    ensures { result.number ≡ 60 }
+    ensures { IsRowOf 60 result }
 {
     Explanation {
         number: 60,
         name: "JournalFull",
+        fields: FieldNames::One("shard"),
         meaning: "A run was stopped, since a shard's journal has no room for its next call.",
         causes: "The journal was opened too small for the calls that the program makes.",
         example: "A program of more lookups than the journal has entries.",

@@ -1,9 +1,9 @@
 -- Places in lines behind one another, and lines with two blanks before each.
 use Rattle.std.proofs.Common.{◌≡◌, ◌∙◌, ◌<◌, ◌+◌, ℕ, zero, suc, Bool, true, false, cond, List, [], ◌∷◌, ◌++◌, length, take, drop, slice_index_or, refl, sym, ap, arith, append_assoc}
 use Rattle.std.specs.Prelude.{◌==◌, if◌then◌else◌}
-use Rattle.explanations.specs.declared.refusal.Place.{Place}
-use Rattle.explanations.specs.declared.refusal.Place.TheVariants.{LineStart, Blank, Within, Wrong}
-use Rattle.explanations.specs.Refusals.{AreNotes, IsRefusalText, front_of, indented, is_line_start, next_place, note_lines, one_line, place_after}
+use Rattle.faults.specs.declared.refusal.Place.{Place}
+use Rattle.faults.specs.declared.refusal.Place.TheVariants.{LineStart, Blank, Within, Wrong}
+use Rattle.faults.specs.Refusals.{AreNotes, IsRefusalText, front_of, indented, is_line_start, next_place, note_lines, one_line, place_after}
 
 -- one byte more
 pub one_further : (place : Place) (bytes : List ℕ) (index : ℕ) → index < length bytes

@@ -1,9 +1,9 @@
 use Rattle.std.proofs.Common.{◌≡◌, ◌∙◌, ◌+◌, ℕ, suc, take, slice_index_or, ap, sym, arith}
-use Rattle.explanations.specs.Refusals.{next_place, place_after}
-use Rattle.explanations.specs.declared.refusal.Place.{Place}
-use Rattle.explanations.specs.declared.refusal.Place.TheVariants.{LineStart}
-use Rattle.explanations.proofs.PlaceLemmas.{one_further}
-use Rattle.explanations.proofs.refusal.are_indented.Goals as goal
+use Rattle.faults.specs.Refusals.{next_place, place_after}
+use Rattle.faults.specs.declared.refusal.Place.{Place}
+use Rattle.faults.specs.declared.refusal.Place.TheVariants.{LineStart}
+use Rattle.faults.proofs.PlaceLemmas.{one_further}
+use Rattle.faults.proofs.refusal.are_indented.Goals as goal
 
 pub notes-preserved : goal.notes-preserved
 notes-preserved c =

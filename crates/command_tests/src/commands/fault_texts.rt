@@ -1,5 +1,8 @@
 //! The faults that commands print, and their explanations.
 
+ghost use Rattle.std.specs.Prelude.{◌≡◌, true};
+ghost use Rattle.faults.specs.Explanations.{is_fault};
+
 use super::{Wanted, compare};
 use crate::asserting::holds;
 use audit::AuditFault;
@@ -7,12 +10,17 @@ use conntrack::SteerFault;
 use control::ControlFault;
 use disasm::AsmFault;
 use ebpf_decode::DecodeFault;
-use explanations::Explanation;
+use faults::{Explanation, Fields};
 use folders::{FolderFault, MemoryFolder};
+use image_shape::ShapeFault;
+use ipip::IpipFault;
 use journals::FileFault;
 use machine::Stop;
+use maglev::RingFault;
 use replay::ReplayFault;
-use shards::OpenFault;
+use runs::RunFault;
+use semantics::JournalFull;
+use shards::{OpenFault, PassFault};
 use source_form::{Problem, SourceFault};
 use std::alloc::Global;
 use std::fmt::Display;
@@ -23,7 +31,7 @@ use xlb_commands::{Fault, fault_line};
 
 /// The faults that commands print.
 #[rattlefmt::skip]
-const FAULTS: [Fault; 71] = [
+const FAULTS: [Fault; 72] = [
     Fault::Folder(FolderFault::Device),
     Fault::Folder(FolderFault::Memory),
     Fault::Output,
@@ -94,6 +102,7 @@ const FAULTS: [Fault; 71] = [
     Fault::Capture(CaptureFault::Device),
     Fault::Capture(CaptureFault::Memory),
     Fault::Replay(ReplayFault::BadOptions),
+    Fault::Replay(ReplayFault::Memory),
     Fault::Replay(ReplayFault::NoThread),
 ];
 
@@ -162,6 +171,99 @@ fn lines_are_the_texts_of_the_crates(rt: HostRuntime) {
     for fault in &FAULTS {
         compare_text(&rt, rt.alloc(), *fault);
     }
+}
+
+/// Holds the line of a fault that no command prints against the text that its own crate gives it.
+fn compare_line<R: Abort, T: Display>(rt: &R, alloc: Global, fault: &T, number: u8, fields: Fields)
+    requires { is_fault number ≡ true }
+{
+    let line = faults::fault_line(alloc, number, fields).expect(rt, "a line");
+    let text = text_of(rt, alloc, fault);
+    assert_eq!(rt; line.as_str(), text.as_str());
+}
+
+/// The faults of lookup tables.
+const RINGS: [RingFault; 5] = [
+    RingFault::NoBackend,
+    RingFault::Twice,
+    RingFault::TooMany,
+    RingFault::BadSize,
+    RingFault::Memory,
+];
+
+#[test]
+fn lines_of_lookup_tables(rt: HostRuntime) {
+    for fault in &RINGS {
+        compare_line(&rt, rt.alloc(), fault, fault.number(), Fields::Empty);
+    }
+}
+
+/// The faults of encapsulations.
+const TUNNELS: [IpipFault; 4] = [
+    IpipFault::TtlZero,
+    IpipFault::TooLong,
+    IpipFault::NoRoom,
+    IpipFault::NotPlainIpv4,
+];
+
+#[test]
+fn lines_of_encapsulations(rt: HostRuntime) {
+    for fault in &TUNNELS {
+        compare_line(&rt, rt.alloc(), fault, fault.number(), Fields::Empty);
+    }
+}
+
+/// The faults of passes.
+const PASSES: [PassFault; 3] = [
+    PassFault::BadOptions,
+    PassFault::Memory,
+    PassFault::PassTaken,
+];
+
+#[test]
+fn lines_of_passes(rt: HostRuntime) {
+    for fault in &PASSES {
+        compare_line(&rt, rt.alloc(), fault, fault.number(), Fields::Empty);
+    }
+}
+
+/// The faults of a program's structure.
+const SHAPES: [ShapeFault; 5] = [
+    ShapeFault::JumpBackward { slot: 3 },
+    ShapeFault::JumpOutside { slot: 3 },
+    ShapeFault::JumpIntoWide { slot: 3 },
+    ShapeFault::FallsOff { slot: 3 },
+    ShapeFault::Unreachable { slot: 3 },
+];
+
+#[test]
+fn lines_of_structure(rt: HostRuntime) {
+    for fault in &SHAPES {
+        compare_line(&rt, rt.alloc(), fault, fault.number(), fault.fields());
+    }
+}
+
+/// The faults of a single run.
+const RUNS: [RunFault; 3] = [
+    RunFault::Open(OpenFault::BadOptions),
+    RunFault::Refused {
+        place: 1,
+        answer: -7,
+    },
+    RunFault::Full { place: 1 },
+];
+
+#[test]
+fn lines_of_single_runs(rt: HostRuntime) {
+    for fault in &RUNS {
+        compare_line(&rt, rt.alloc(), fault, fault.number(), fault.fields());
+    }
+}
+
+#[test]
+fn line_of_a_full_journal(rt: HostRuntime) {
+    let fault = JournalFull { shard: 3 };
+    compare_line(&rt, rt.alloc(), &fault, fault.number(), fault.fields());
 }
 
 const EXPLAINED: &str = "fault 33 FallsOff

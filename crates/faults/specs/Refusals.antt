@@ -1,8 +1,8 @@
 -- What is printed of a refusal: the fault's line, and below it lines that each begin with two blanks.
 use Rattle.std.specs.Prelude.{◌≡◌, ◌==◌, ◌++◌, ◌∷◌, ℕ, Bool, true, false, List, [], not, if◌then◌else◌}
 use Rattle.std.specs.List.{filter}
-use Rattle.explanations.specs.declared.refusal.Place.{Place}
-use Rattle.explanations.specs.declared.refusal.Place.TheVariants.{LineStart, Blank, Within, Wrong}
+use Rattle.faults.specs.declared.refusal.Place.{Place}
+use Rattle.faults.specs.declared.refusal.Place.TheVariants.{LineStart, Blank, Within, Wrong}
 
 -- where the byte after this one stands: 10 ends a line, 32 is a blank
 abbrev pub next_place : Place → ℕ → Place
