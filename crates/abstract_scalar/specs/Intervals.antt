@@ -1,8 +1,8 @@
--- An unsigned interval stands for the numbers from its low to its high end; one whose low end is above its high end stands for none.
+-- An unsigned interval represents the numbers from its low to its high end; one whose low end is above its high end represents none.
 use Rattle.std.specs.Prelude.{ℕ, ◌-◌, ◌^◌, ◌≤◌, Bool, ◌==◌, ◌&&◌, nat_le, min, max}
 use Rattle.abstract_scalar.specs.declared.interval.Interval.{Interval}
 
--- the interval stands for this number, among others
+-- the interval represents this number, among others
 pub record Covers (interval : Interval) (n : ℕ) : Type 0 where
   pub above : interval.low ≤ n
   pub below : n ≤ interval.high

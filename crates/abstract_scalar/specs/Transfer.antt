@@ -1,4 +1,4 @@
--- The interval of what an operation gives, from the intervals of its operands.
+-- The interval of what an operation returns, from the intervals of its operands.
 use Rattle.std.specs.Prelude.{ℕ, ◌+◌, ◌-◌, ◌*◌, ◌/◌, ◌%◌, ◌^◌, Bool, ◌&&◌, nat_lt, nat_le, if◌then◌else◌, min, max}
 use Rattle.std.specs.Int.{w64, leading_zeros}
 use Rattle.isa.specs.Words.{width_bits, low_half}

@@ -1,4 +1,4 @@
-//! What the outcome of a comparison tells of a number.
+//! What the outcome of a comparison says of a number.
 ghost use Rattle.std.specs.Prelude.{◌≡◌, ◌+◌, ℕ};
 ghost use Rattle.isa.specs.Test.{test_taken};
 ghost use Rattle.abstract_scalar.specs.Intervals.{Covers};

@@ -3,7 +3,7 @@ ghost use Rattle.std.specs.Prelude.{◌≡◌, ℕ};
 
 use isa::{Size, Width};
 
-/// The numbers from `low` to `high`. Where `low` is above `high` it stands for no number; from intervals that stand for some
+/// The numbers from `low` to `high`. Where `low` is above `high` it represents no number; from intervals that represent some
 /// numbers the functions of this crate make only such.
 #[derive(Clone, Copy, Debug, PartialEq, Eq)]
 pub struct Interval {
@@ -37,7 +37,7 @@ impl Interval {
         Interval::loaded(width.size())
     }
 
-    /// Every number that a zero-extending load of the size gives.
+    /// Every number that a zero-extending load of the size returns.
     pub fn loaded(size: Size) -> Interval
         ensures { result ≡ full_of (size_bits size) }
     {

@@ -1,4 +1,4 @@
-//! What a verifier knows of a number: unsigned intervals, what operations make of them, and what tests tell of them.
+//! What a verifier knows of a number: unsigned intervals, what operations make of them, and what tests say of them.
 #![tactic(auto)]
 
 mod cuts;

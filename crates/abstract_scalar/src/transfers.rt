@@ -1,4 +1,4 @@
-//! The interval of what an operation gives.
+//! The interval of what an operation returns.
 ghost use Rattle.std.specs.Prelude.{◌≡◌, ℕ};
 ghost use Rattle.isa.specs.Alu.{alu_value, neg_value, sign_extended, extension_bits, short_extension_bits};
 ghost use Rattle.isa.specs.Swap.{swap_result};

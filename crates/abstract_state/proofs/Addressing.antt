@@ -24,7 +24,7 @@ use Rattle.abstract_state.specs.declared.kind.Kind.{Kind}
 use Rattle.abstract_state.specs.declared.kind.Kind.TheVariants.{Value}
 use Rattle.abstract_state.specs.declared.flow.Flow.{Flow}
 use Rattle.abstract_state.specs.declared.flow.Flow.TheVariants.{Falls}
-use Rattle.abstract_state.specs.declared.refusal.Refusal.TheVariants.{UnknownMap, ValueBounds, NotArrayMap}
+use Rattle.abstract_state.specs.declared.broken_rule.BrokenRule.TheVariants.{UnknownMap, ValueBounds, NotArrayMap}
 use Rattle.abstract_state.specs.declared.state.State.{State}
 use Rattle.abstract_state.specs.States.{◌>>=◌, with_kind}
 use Rattle.abstract_state.specs.Places.{at_offset, place_within}

@@ -34,7 +34,7 @@ use Rattle.abstract_state.proofs.RegisterSteps.{jumps_to}
 use Rattle.abstract_state.proofs.Telling.{told_sound}
 use Rattle.abstract_state.proofs.Edges.{IsTold, edge_of}
 
--- another kind that stands for what a register has
+-- another kind that represents what a register has
 pub known_as : (maps : List MapDef) (held : Held) (state : State) (machine : MachineState) (a : Abstracts maps held state machine) (dst : Register) (kind : Kind) →
     KindCovers (setting_of maps held a.ids machine) kind (register_value machine dst) → Abstracts maps held (with_kind state dst kind) machine
 known_as maps held state machine a dst kind now = record {

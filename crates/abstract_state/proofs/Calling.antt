@@ -32,7 +32,7 @@ use Rattle.abstract_state.specs.declared.kind.StackWord.{StackWord}
 use Rattle.abstract_state.specs.declared.kind.StackWord.TheVariants.{Spilled, Bytes}
 use Rattle.abstract_state.specs.declared.fact.Fact.TheVariants.{HeadMoved}
 use Rattle.semantics.specs.declared.linux.Helper.TheVariants.{MapLookupElem, MapUpdateElem, MapDeleteElem, KtimeGetNs, GetSmpProcessorId, XdpAdjustHead}
-use Rattle.abstract_state.specs.declared.refusal.Refusal.TheVariants.{StackBounds, StackUnset}
+use Rattle.abstract_state.specs.declared.broken_rule.BrokenRule.TheVariants.{StackBounds, StackUnset}
 use Rattle.abstract_state.specs.declared.flow.Flow.{Flow}
 use Rattle.abstract_state.specs.declared.state.State.{State}
 use Rattle.abstract_state.specs.States.{◌>>=◌, kind_of, word_of, key_size_of, value_size_of}

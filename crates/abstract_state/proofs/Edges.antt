@@ -1,4 +1,4 @@
--- An allowed test has an outcome, and what its edge tells is true.
+-- An allowed test has an outcome, and what its edge says is true.
 use Rattle.std.proofs.Common.{◌≡◌, inl, inr, ℕ, suc, ◌+◌, ◌≤◌, Bool, true, false, not, if◌then◌else◌, ℤ, pos, List, length, Option, Some, None, Ok, refl, sym, ◌∙◌, ap, subst, arith}
 use Rattle.std.specs.Ordering.{int_eq}
 use Rattle.std.proofs.lemmas.Bool.{false≢true, eq-eqb}
@@ -26,7 +26,7 @@ use Rattle.abstract_scalar.proofs.shared.Soundness.{single_is, refine_covers}
 use Rattle.abstract_state.specs.declared.kind.Kind.{Kind}
 use Rattle.abstract_state.specs.declared.kind.Kind.TheVariants.{Unset, Scalar, Ctx, Stack, Packet, PacketEnd, Map, ValueOrNull, Value}
 use Rattle.abstract_state.specs.declared.fact.Fact.{Fact}
-use Rattle.abstract_state.specs.declared.refusal.Refusal.TheVariants.{WrongKind}
+use Rattle.abstract_state.specs.declared.broken_rule.BrokenRule.TheVariants.{WrongKind}
 use Rattle.abstract_state.specs.Arithmetic.{blamed}
 use Rattle.abstract_state.specs.Refinement.{is_null_test, is_order, against_scalar, against_end, against_packet, allowed_test, fact_of, number_cut}
 use Rattle.abstract_state.specs.Abstraction.{Ids, Held, Setting, KindCovers, IsNumberIn, IsPacketPlace, IsLookedUp, setting_of}
@@ -34,7 +34,7 @@ use Rattle.abstract_state.proofs.shared.Inverting.{err_not_ok, ok_if}
 use Rattle.abstract_state.proofs.Telling.{FactHolds}
 use Rattle.abstract_state.proofs.shared.Reaching.{has_reached}
 
--- what an edge tells is true: the cut stands for the number, or the fact holds
+-- what an edge says is true: the cut represents the number, or the fact holds
 abbrev pub IsTold : Setting → Option Kind → Fact → RegisterValue → Type 0
 IsTold s (Some kind) fact u = KindCovers s kind u
 IsTold s None fact u = FactHolds s fact
@@ -122,7 +122,7 @@ before machine base off h = let l : suc (base + off) ≤ length machine.frame.by
 at_most : (machine : MachineState) (base off : ℕ) → reaches (base + off) machine.frame.bytes ≡ true → base + off ≤ length machine.frame.bytes
 at_most machine base off h = has_reached (base + off) machine.frame.bytes h
 
--- what is told where a test is taken, or where it isn't
+-- what is known where a test is taken, or where it isn't
 where_taken : (s : Setting) (test : Test) (t : Bool) (first second : Kind) → FactHolds s (fact_of test false first second) →
     (t ≡ true → FactHolds s (fact_of test true first second)) → FactHolds s (fact_of test t first second)
 where_taken s test true first second p q = q refl

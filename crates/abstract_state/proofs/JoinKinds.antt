@@ -1,4 +1,4 @@
--- The joint kind stands for what either kind stands for.
+-- The joint kind represents what either kind represents.
 use Rattle.std.proofs.Common.{◌≡◌, ℕ, ◌+◌, ◌≤◌, Bool, true, false, if◌then◌else◌, ◌==◌, ◌&&◌, min, refl, arith}
 use Rattle.std.proofs.lemmas.Bool.{eqb-true, and_parts}
 use Rattle.semantics.specs.RegisterValue.{RegisterValue}

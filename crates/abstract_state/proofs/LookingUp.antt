@@ -26,7 +26,7 @@ use Rattle.semantics.specs.RunTrace.{IsReplyTo}
 use Rattle.abstract_state.specs.declared.kind.Kind.{Kind}
 use Rattle.abstract_state.specs.declared.kind.Kind.TheVariants.{Unset, Scalar, Ctx, Stack, Packet, PacketEnd, Map, ValueOrNull, Value}
 use Rattle.semantics.specs.declared.linux.Helper.TheVariants.{MapLookupElem}
-use Rattle.abstract_state.specs.declared.refusal.Refusal.TheVariants.{StackBounds, StackUnset}
+use Rattle.abstract_state.specs.declared.broken_rule.BrokenRule.TheVariants.{StackBounds, StackUnset}
 use Rattle.abstract_state.specs.declared.flow.Flow.{Flow}
 use Rattle.abstract_state.specs.declared.flow.Flow.TheVariants.{Falls}
 use Rattle.abstract_state.specs.declared.state.State.{State}
@@ -66,7 +66,7 @@ returned_registers s state machine kind v before now R8 = last_kept s state.regi
 returned_registers s state machine kind v before now R9 = last_kept s state.registers machine.registers 3 (before R9)
 returned_registers s state machine kind v before now R10 = last_kept s state.registers machine.registers 4 (before R10)
 
--- R0 has what the kind covers, in a setting where the slot of the call may stand for more
+-- R0 has what the kind covers, in a setting where the slot of the call may represent more
 pub returned_sound : (maps : List MapDef) (held held' : Held) (state : State) (machine : MachineState) (ids : Ids) (a : Abstracts maps held state machine) →
     ((map shard cell : ℕ) → IsTrue (held map shard cell) → IsTrue (held' map shard cell)) →
     ((id : ℕ) → id < machine.slot → ids.base id ≡ a.ids.base id) → ((id : ℕ) → id < machine.slot → ids.found id ≡ a.ids.found id) →
@@ -175,7 +175,7 @@ itself n = grind (arith, nat_tests)
 earlier : (n m : ℕ) → n < m → (n == m) ≡ false
 earlier n m h = grind (arith, nat_tests)
 
--- the slot stands for what the lookup found
+-- the slot represents what the lookup found
 abbrev pub with_found : Ids → ℕ → Option CellRef → Ids
 with_found ids slot cell = record { base = ids.base; found = λ id. if id == slot then cell else ids.found id }
 
@@ -279,7 +279,7 @@ lookup_sound program held state machine number flow a e =
     in settled program held machine (CallHelper number) (lookup_step program machine) flow made.0 (returned (ValueOrNull second.0 machine.slot) state) made.1.1 same (one_slot number)
     (lookup_follows program held state machine a second.0 (knows_key program.maps state second.0 second.1.0))
 
--- a helper that gives a number
+-- a helper that returns a number
 pub number_sound : (program : Program) (held : Held) (state : State) (machine : MachineState) (a : Abstracts program.maps held state machine) (number : ℤ) (flow : Flow)
     (kind : Kind) (v : RegisterValue) → falls (Ok (returned kind state)) ≡ Ok flow → KindCovers (next_setting program.maps held a.ids machine 1) kind v →
     Follows program held flow machine (CallHelper number) (Continues (meaning.returned machine v))

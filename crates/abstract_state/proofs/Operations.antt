@@ -1,4 +1,4 @@
--- What an arithmetic operation makes of kinds stands for what it makes of the values.
+-- What an arithmetic operation makes of kinds represents what it makes of the values.
 use Rattle.std.proofs.Common.{◌≡◌, ℕ, ◌+◌, ◌*◌, ◌<◌, ◌≤◌, ◌^◌, inl, inr, pos, Ok, Err, refl, sym, ◌∙◌, ap, subst, arith}
 use Rattle.isa.specs.Alu.{alu_value}
 use Rattle.isa.proofs.shared.Bounds.{alu_value-fits}
@@ -18,7 +18,7 @@ use Rattle.abstract_scalar.proofs.shared.Soundness.{transfer_covers}
 use Rattle.ebpf_decode.specs.declared.version.Version.{Version}
 use Rattle.abstract_state.specs.declared.kind.Kind.{Kind}
 use Rattle.abstract_state.specs.declared.kind.Kind.TheVariants.{Unset, Scalar, Ctx, Stack, Packet, PacketEnd, Map, ValueOrNull, Value}
-use Rattle.abstract_state.specs.declared.refusal.Refusal.TheVariants.{WrongKind, UnsetRegister}
+use Rattle.abstract_state.specs.declared.broken_rule.BrokenRule.TheVariants.{WrongKind, UnsetRegister}
 use Rattle.abstract_state.specs.States.{Checked}
 use Rattle.abstract_state.specs.Arithmetic.{number_kind, moved_kind, combined_kind, alu_kind}
 use Rattle.abstract_state.specs.Flow.{is_set}
@@ -27,7 +27,7 @@ use Rattle.abstract_state.proofs.shared.Inverting.{err_not_ok, ok_value}
 use Rattle.abstract_state.proofs.shared.Following.{Gives, gives}
 use Rattle.abstract_state.proofs.Pointers.{SmallValues, pointer_combined}
 
--- where an instruction stands: the setting at it, and the slot where the run goes on
+-- where an instruction is: the setting at it, and the slot where the run goes on
 pub record Stands (s : Setting) (slot : ℕ) : Type 0 where
   pub later : s.slot < slot
   pub bases : (id : ℕ) → s.ids.base id ≤ 131070 * id

@@ -22,7 +22,7 @@ use Rattle.ebpf_decode.specs.declared.version.Version.TheVariants.{V1, V2}
 use Rattle.abstract_state.specs.declared.kind.Kind.{Kind}
 use Rattle.abstract_state.specs.declared.kind.Offsets.{Offsets}
 use Rattle.abstract_state.specs.declared.kind.Kind.TheVariants.{Unset, Scalar, Ctx, Stack, Packet, PacketEnd, Map, ValueOrNull, Value}
-use Rattle.abstract_state.specs.declared.refusal.Refusal.TheVariants.{WrongKind, PacketBounds, StackBounds, ValueBounds}
+use Rattle.abstract_state.specs.declared.broken_rule.BrokenRule.TheVariants.{WrongKind, PacketBounds, StackBounds, ValueBounds}
 use Rattle.abstract_state.specs.States.{Checked, ◌>>=◌, stack_size, value_size_of}
 use Rattle.abstract_state.specs.Places.{place_within, offsets_within}
 use Rattle.abstract_state.specs.Arithmetic.{delta_of, moves_pointers, moved_pointer, moved_value, moved_far, pointer_sum, is_movable, combined_pointer}
@@ -57,7 +57,7 @@ moved_by : (width : Width) (op : AluOp) (n : ℕ) (u v : RegisterValue) (make : 
     combined_value width op u v ≡ at_distance (pointer_distance width op v) make → combined_value width op u v ≡ Ok (make (delta_of op n))
 moved_by width op n u v make moves is e = e ∙ ap (λ o. at_distance o make) (ap (pointer_distance width op) is ∙ delta_is width op n moves)
 
--- a number that moves a pointer, and what stands for the result
+-- a number that moves a pointer, and what represents the result
 pub record Moves (s : Setting) (slot : ℕ) (width : Width) (op : AluOp) (i : Interval) (v : RegisterValue) : Type 0 where
   pub moves : moves_pointers width op ≡ true
   pub number : IsNumberIn i v

@@ -36,7 +36,7 @@ use Rattle.abstract_state.specs.declared.kind.Kind.{Kind}
 use Rattle.abstract_state.specs.declared.kind.Kind.TheVariants.{Unset, Scalar, Ctx, Stack, Packet, PacketEnd, Map, ValueOrNull, Value}
 use Rattle.abstract_state.specs.declared.flow.Flow.{Flow}
 use Rattle.abstract_state.specs.declared.flow.Flow.TheVariants.{Ends, Falls, Jumps}
-use Rattle.abstract_state.specs.declared.refusal.Refusal.TheVariants.{WrongKind, PointerLeak, UnknownMap}
+use Rattle.abstract_state.specs.declared.broken_rule.BrokenRule.TheVariants.{WrongKind, PointerLeak, UnknownMap}
 use Rattle.abstract_state.specs.declared.state.State.{State}
 use Rattle.abstract_state.specs.States.{◌>>=◌, kind_of, with_kind, value_size_of}
 use Rattle.abstract_state.specs.Arithmetic.{source_kind, blamed, alu_kind, after_alu_of}

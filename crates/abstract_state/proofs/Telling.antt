@@ -1,4 +1,4 @@
--- A fact that holds of the ids: what it tells of a state is sound for the same run.
+-- A fact that holds of the ids: what it says of a state is sound for the same run.
 use Rattle.std.proofs.Common.{◌≡◌, inl, inr, ℕ, ◌+◌, ◌<◌, ◌≤◌, Bool, true, false, if◌then◌else◌, ◌==◌, List, length, map, max, Some, None, refl, sym, ◌∙◌, subst, ⊎_elim, arith}
 use Rattle.std.proofs.lemmas.Option.{none-some}
 use Rattle.std.proofs.lemmas.Bool.{eqb-true, cases_lt}

@@ -1,4 +1,4 @@
--- What a state says of a run: what the kinds of its registers and the words of its stack stand for (abstract interpretation:
+-- What a state says of a run: what the kinds of its registers and the words of its stack represent (abstract interpretation:
 -- the run's state lies in the concretization).
 use Rattle.std.specs.Prelude.{◌≡◌, ◌⊎◌, ℕ, ◌+◌, ◌*◌, ◌<◌, ◌≤◌, ◌^◌, Bool, true, false, ℤ, pos, List, length, take, drop, All, IsTrue}
 use Rattle.std.specs.Prelude.{Option, Some, None, Ok, slice_get, slice_index_or}
@@ -23,7 +23,7 @@ use Rattle.abstract_state.specs.declared.state.State.{State}
 use Rattle.abstract_state.specs.States.{kind_of, word_of}
 use Rattle.abstract_state.specs.Places.{at_offset}
 
--- ---- what the ids of a state stand for
+-- ---- what the ids of a state represent
 
 pub record Ids : Type 0 where
   -- the place of the packet that an id counts from
@@ -88,7 +88,7 @@ pub record IsNoCell (setting : Setting) (id : ℕ) (value : RegisterValue) : Typ
 abbrev pub IsLookedUp : Setting → ℕ → ℕ → RegisterValue → Type 0
 IsLookedUp setting map id value = IsNoCell setting id value ⊎ IsLiveCell setting map id (at_offset 0) value
 
--- the value is one that the kind stands for
+-- the value is one that the kind represents
 abbrev pub KindCovers : Setting → Kind → RegisterValue → Type 0
 KindCovers setting Unset value = Unit {0}
 KindCovers setting (Scalar i) value = IsNumberIn i value

@@ -18,7 +18,7 @@ use Rattle.semantics.specs.declared.linux.ContextField.TheVariants.{Data, DataEn
 use Rattle.abstract_scalar.specs.Intervals.{constant_of, interval_of, full_of}
 use Rattle.abstract_state.specs.declared.kind.Kind.{Kind}
 use Rattle.abstract_state.specs.declared.kind.Kind.TheVariants.{Scalar, Ctx, Stack, Packet, PacketEnd, Value}
-use Rattle.abstract_state.specs.declared.refusal.Refusal.TheVariants.{WrongKind, ContextAccess}
+use Rattle.abstract_state.specs.declared.broken_rule.BrokenRule.TheVariants.{WrongKind, ContextAccess}
 use Rattle.abstract_state.specs.declared.state.State.{State}
 use Rattle.abstract_state.specs.States.{Checked, ◌>>=◌, kind_of, with_kind, word_of, with_word}
 use Rattle.abstract_state.specs.Places.{stack_access, packet_access, value_access, atomic_access}
@@ -41,7 +41,7 @@ abbrev pub context_loaded : State → Size → ℤ → Checked Kind
 context_loaded state U32 place = context_kind state place
 context_loaded state size place = Err ContextAccess
 
--- what a load of so many bytes gives
+-- what a load of this many bytes returns
 abbrev pub loaded_kind : List MapDef → State → Size → Kind → ℤ → Register → Checked Kind
 loaded_kind maps state size Ctx offset source = context_loaded state size offset
 loaded_kind maps state size (Stack place) offset source =
@@ -52,7 +52,7 @@ loaded_kind maps state size (Value map id off) offset source =
     value_access maps map off offset (size_bytes size) >>= (λ from. Ok (loaded_number size))
 loaded_kind maps state size other offset source = Err (WrongKind source)
 
--- a sign-extending load reads no field of the context, and gives any number
+-- a sign-extending load reads no field of the context, and returns any number
 abbrev pub signed_loaded : List MapDef → State → Extension → Kind → ℤ → Register → Checked Kind
 signed_loaded maps state extension Ctx offset source = Err ContextAccess
 signed_loaded maps state extension kind offset source =

@@ -17,7 +17,7 @@ use Rattle.abstract_scalar.specs.Transfer.{transfer_of}
 use Rattle.abstract_state.specs.declared.kind.Kind.{Kind}
 use Rattle.abstract_state.specs.declared.kind.Kind.TheVariants.{Scalar, Stack, Packet, Value}
 use Rattle.abstract_state.specs.declared.kind.Offsets.{Offsets}
-use Rattle.abstract_state.specs.declared.refusal.Refusal.TheVariants.{WrongKind, PacketBounds, StackBounds}
+use Rattle.abstract_state.specs.declared.broken_rule.BrokenRule.TheVariants.{WrongKind, PacketBounds, StackBounds}
 use Rattle.abstract_state.specs.declared.state.State.{State}
 use Rattle.abstract_state.specs.States.{Checked, ◌>>=◌, kind_of, with_kind, stack_size}
 use Rattle.abstract_state.specs.Places.{place_within, offsets_within}

@@ -10,8 +10,8 @@ use Rattle.semantics.specs.Linux.{helper_of}
 use Rattle.semantics.specs.declared.linux.Helper.{Helper}
 use Rattle.semantics.specs.declared.linux.Helper.TheVariants.{MapLookupElem, MapUpdateElem, MapDeleteElem, KtimeGetNs, GetSmpProcessorId, XdpAdjustHead}
 use Rattle.abstract_state.specs.declared.fact.Fact.TheVariants.{HeadMoved}
-use Rattle.abstract_state.specs.declared.refusal.Refusal.{Refusal}
-use Rattle.abstract_state.specs.declared.refusal.Refusal.TheVariants.{BadArgument, UnknownHelper, StackBounds, StackUnset}
+use Rattle.abstract_state.specs.declared.broken_rule.BrokenRule.{BrokenRule}
+use Rattle.abstract_state.specs.declared.broken_rule.BrokenRule.TheVariants.{BadArgument, UnknownHelper, StackBounds, StackUnset}
 use Rattle.abstract_state.specs.declared.state.State.{State}
 use Rattle.abstract_state.specs.States.{Checked, ◌>>=◌, kind_of, stack_size, value_size_of, key_size_of}
 use Rattle.abstract_state.specs.Words.{are_bytes_set}
@@ -45,11 +45,11 @@ abbrev pub context_argument : Kind → Register → Checked (Unit {0})
 context_argument Ctx register = Ok tt
 context_argument other register = Err (BadArgument register)
 
--- so many bytes of the stack lie inside it
+-- this many bytes of the stack lie inside it
 abbrev pub is_inside_stack : ℕ → ℕ → Bool
 is_inside_stack place count = nat_le (place + count) stack_size
 
-abbrev pub when_all : Bool → Refusal → Checked (Unit {0})
+abbrev pub when_all : Bool → BrokenRule → Checked (Unit {0})
 when_all holds why = if holds then Ok tt else Err why
 
 -- a key alone, as a lookup or a deletion takes it

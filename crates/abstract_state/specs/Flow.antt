@@ -28,7 +28,7 @@ use Rattle.semantics.specs.declared.linux.Helper.{Helper}
 use Rattle.semantics.specs.declared.linux.Helper.TheVariants.{MapLookupElem, MapUpdateElem, MapDeleteElem, KtimeGetNs, GetSmpProcessorId, XdpAdjustHead}
 use Rattle.abstract_state.specs.declared.flow.Flow.{Flow}
 use Rattle.abstract_state.specs.declared.flow.Flow.TheVariants.{Ends, Falls, Jumps, Splits}
-use Rattle.abstract_state.specs.declared.refusal.Refusal.TheVariants.{UnsetRegister, WrongKind, ValueBounds, ReadOnlyFp, PointerLeak, UnknownMap, NotArrayMap}
+use Rattle.abstract_state.specs.declared.broken_rule.BrokenRule.TheVariants.{UnsetRegister, WrongKind, ValueBounds, ReadOnlyFp, PointerLeak, UnknownMap, NotArrayMap}
 use Rattle.abstract_state.specs.declared.state.State.{State}
 use Rattle.abstract_state.specs.States.{Checked, ◌>>=◌, kind_of, with_kind}
 use Rattle.abstract_state.specs.Places.{place_within, at_offset}

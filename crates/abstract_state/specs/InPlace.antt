@@ -1,4 +1,4 @@
--- What a function tells that changes a state in place: the state that stands there, where no rule was broken.
+-- What is known of a function that changes a state in place: the state after it, where no rule was broken.
 use Rattle.std.specs.Prelude.{Bool, true, false, Ok, Err}
 use Rattle.ebpf_decode.specs.declared.insn.Insn.{Insn}
 use Rattle.ebpf_decode.specs.declared.insn.Insn.TheVariants.{JumpIf}
@@ -10,7 +10,7 @@ use Rattle.abstract_state.specs.declared.flow.Way.TheVariants as way
 use Rattle.abstract_state.specs.States.{Checked}
 use Rattle.abstract_state.specs.Refinement.{refine_state}
 
--- the state that stands there, where no rule was broken
+-- the state after it, where no rule was broken
 abbrev pub kept : {A : Type 0} → Checked A → State → Checked State
 kept (Ok a) state = Ok state
 kept (Err why) state = Err why
@@ -20,7 +20,7 @@ abbrev pub edge_state : Insn → State → Bool → State
 edge_state (JumpIf width test dst source distance) state taken = refine_state state width test dst source taken
 edge_state insn state taken = state
 
--- what is known on each edge, by where a run goes on and the state that stands there
+-- what is known on each edge, by where a run goes on and the state after it
 abbrev pub flow_by : Insn → Way → State → Flow
 flow_by insn way.Ends state = flow.Ends
 flow_by insn way.Falls state = flow.Falls state

@@ -3,17 +3,17 @@
 use Rattle.std.specs.Prelude.{ℕ, ◌+◌, ◌%◌, ◌==◌, nat_le, ℤ, pos, negsuc, ◌+ℤ◌, List, Ok, Err, slice_get, if◌then◌else◌}
 use Rattle.ebpf_decode.specs.declared.map.MapDef.{MapDef}
 use Rattle.abstract_state.specs.declared.kind.Offsets.{Offsets}
-use Rattle.abstract_state.specs.declared.refusal.Refusal.{Refusal}
-use Rattle.abstract_state.specs.declared.refusal.Refusal.TheVariants.{PacketBounds, StackBounds, ValueBounds, Misaligned}
+use Rattle.abstract_state.specs.declared.broken_rule.BrokenRule.{BrokenRule}
+use Rattle.abstract_state.specs.declared.broken_rule.BrokenRule.TheVariants.{PacketBounds, StackBounds, ValueBounds, Misaligned}
 use Rattle.abstract_state.specs.States.{Checked, ◌>>=◌, stack_size, value_size_of}
 
 -- a place from 0 to a limit
-abbrev pub place_within : ℤ → ℕ → Refusal → Checked ℕ
+abbrev pub place_within : ℤ → ℕ → BrokenRule → Checked ℕ
 place_within (pos place) limit why = if nat_le place limit then Ok place else Err why
 place_within (negsuc below) limit why = Err why
 
--- where so many bytes begin that end at a limit or before
-abbrev pub range_within : ℤ → ℕ → ℕ → Refusal → Checked ℕ
+-- where this many bytes begin that end at a limit or before
+abbrev pub range_within : ℤ → ℕ → ℕ → BrokenRule → Checked ℕ
 range_within (pos place) count limit why = if nat_le (place + count) limit then Ok place else Err why
 range_within (negsuc below) count limit why = Err why
 
@@ -39,7 +39,7 @@ offsets_within maps map low high =
     place_within high (value_size_of (slice_get maps map)) ValueBounds >>= (λ to.
     Ok (record { low = from; high = to })))
 
--- from the lowest offset and from the highest so many bytes lie in the value: where the first begin
+-- from the lowest offset and from the highest this many bytes lie in the value: where the first begin
 abbrev pub value_range : List MapDef → ℕ → Offsets → ℤ → ℕ → Checked ℕ
 value_range maps map off offset count =
     range_within (pos off.low +ℤ offset) count (value_size_of (slice_get maps map)) ValueBounds >>= (λ from.

@@ -15,7 +15,7 @@ use Rattle.abstract_state.specs.declared.kind.Kind.{Kind}
 use Rattle.abstract_state.specs.declared.kind.Kind.TheVariants.{Scalar, Packet, PacketEnd, ValueOrNull}
 use Rattle.abstract_state.specs.declared.fact.Fact.{Fact}
 use Rattle.abstract_state.specs.declared.fact.Fact.TheVariants.{Nothing, Null, Range}
-use Rattle.abstract_state.specs.declared.refusal.Refusal.TheVariants.{WrongKind}
+use Rattle.abstract_state.specs.declared.broken_rule.BrokenRule.TheVariants.{WrongKind}
 use Rattle.abstract_state.specs.declared.state.State.{State}
 use Rattle.abstract_state.specs.States.{Checked, kind_of, with_kind}
 use Rattle.abstract_state.specs.Arithmetic.{source_kind, blamed}
@@ -63,7 +63,7 @@ allowed_test width test (Packet id off range) other dst source = when (is_order 
 allowed_test width test PacketEnd other dst source = when (is_order width test) dst (against_packet other (blamed dst source))
 allowed_test width test kind other dst source = wrong dst
 
--- ---- what an edge tells
+-- ---- what an edge says
 
 -- on the edge where the two are equal
 abbrev pub is_equal_edge : Test → Bool → Bool

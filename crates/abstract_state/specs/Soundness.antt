@@ -76,7 +76,7 @@ Follows program held (Splits taken fallen) before insn step =
 
 -- ---- the laws
 
--- a state tells of eleven registers, and of 64 words of eight bytes
+-- a state describes eleven registers, and 64 words of eight bytes
 pub record IsShaped (state : State) : Type 0 where
   pub eleven : length state.registers ≡ 11
   pub words : length state.stack ≡ 64

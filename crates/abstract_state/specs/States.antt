@@ -9,12 +9,12 @@ use Rattle.abstract_state.specs.declared.kind.Kind.{Kind}
 use Rattle.abstract_state.specs.declared.kind.Kind.TheVariants.{Unset, Ctx, Stack}
 use Rattle.abstract_state.specs.declared.kind.StackWord.{StackWord}
 use Rattle.abstract_state.specs.declared.kind.StackWord.TheVariants.{Spilled, Bytes}
-use Rattle.abstract_state.specs.declared.refusal.Refusal.{Refusal}
+use Rattle.abstract_state.specs.declared.broken_rule.BrokenRule.{BrokenRule}
 use Rattle.abstract_state.specs.declared.state.State.{State}
 
 -- what an instruction makes, or the first rule that it breaks
 abbrev pub Checked : Type 0 → Type 0
-Checked A = Result A Refusal
+Checked A = Result A BrokenRule
 
 infixl 10 ◌>>=◌
 abbrev pub ◌>>=◌ : {A B : Type 0} → Checked A → (A → Checked B) → Checked B

@@ -8,12 +8,12 @@ use Rattle.abstract_state.specs.declared.kind.Kind.{Kind}
 use Rattle.abstract_state.specs.declared.kind.Kind.TheVariants.{Scalar}
 use Rattle.abstract_state.specs.declared.kind.StackWord.{StackWord}
 use Rattle.abstract_state.specs.declared.kind.StackWord.TheVariants.{Spilled, Bytes}
-use Rattle.abstract_state.specs.declared.refusal.Refusal.TheVariants.{StackUnset, PointerLeak}
+use Rattle.abstract_state.specs.declared.broken_rule.BrokenRule.TheVariants.{StackUnset, PointerLeak}
 use Rattle.abstract_state.specs.declared.state.State.{State}
 use Rattle.abstract_state.specs.States.{Checked, word_of}
 use Rattle.abstract_state.specs.Join.{bytes_of_word}
 
--- every number that a zero-extending load of the size gives
+-- every number that a zero-extending load of the size returns
 abbrev pub loaded_number : Size → Kind
 loaded_number size = Scalar (full_of (size_bits size))
 
@@ -23,7 +23,7 @@ loaded_number size = Scalar (full_of (size_bits size))
 abbrev pub is_byte_set : State → ℕ → Bool
 is_byte_set state place = slice_index_or (bytes_of_word (word_of state (place / 8))) (place % 8) false
 
--- so many bytes from a place on
+-- this many bytes from a place on
 abbrev pub are_bytes_set : State → ℕ → ℕ → Bool
 are_bytes_set state place zero = true
 are_bytes_set state place (suc count) = is_byte_set state place && are_bytes_set state (place + 1) count

@@ -8,34 +8,34 @@ ghost use Rattle.abstract_state.specs.Words.{word_loaded, narrow_storable, stora
 ghost use Rattle.abstract_state.specs.InPlace.{kept};
 ghost use Rattle.abstract_state.specs.Access.{context_kind, context_loaded, loaded_kind, signed_loaded, stack_stored, stored};
 
+use crate::broken_rule::BrokenRule;
 use crate::kind::{Kind, StackWord};
 use crate::places::{packet_access, stack_access, value_access};
-use crate::refusal::Refusal;
 use crate::site::{Address, Site};
 use crate::state::State;
 use abstract_scalar::Interval;
 use isa::{Extension, Size, Width};
 use semantics::ContextField;
 
-/// Every number that a zero-extending load gives.
+/// Every number that a zero-extending load returns.
 fn loaded_number(size: Size) -> Kind
     ensures { result ≡ loaded_number size }
 {
     Kind::Scalar(Interval::loaded(size))
 }
 
-/// What a narrower load of a spilled register gives.
-fn narrow_loaded(size: Size, kind: Kind) -> Result<Kind, Refusal>
+/// What a narrower load of a spilled register returns.
+fn narrow_loaded(size: Size, kind: Kind) -> Result<Kind, BrokenRule>
     ensures { result ≡ narrow_loaded size kind }
 {
     match kind {
         Kind::Scalar(_) => Ok(loaded_number(size)),
-        _ => Err(Refusal::PointerLeak),
+        _ => Err(BrokenRule::PointerLeak),
     }
 }
 
-/// What a load of a spilled register gives.
-fn spilled_loaded(size: Size, kind: Kind) -> Result<Kind, Refusal>
+/// What a load of a spilled register returns.
+fn spilled_loaded(size: Size, kind: Kind) -> Result<Kind, BrokenRule>
     ensures { result ≡ spilled_loaded size kind }
 {
     match size {
@@ -45,17 +45,17 @@ fn spilled_loaded(size: Size, kind: Kind) -> Result<Kind, Refusal>
 }
 
 /// Whether what is stored is a number.
-pub(crate) fn narrow_storable(kind: Kind) -> Result<(), Refusal>
+pub(crate) fn narrow_storable(kind: Kind) -> Result<(), BrokenRule>
     ensures { result ≡ narrow_storable kind }
 {
     match kind {
         Kind::Scalar(_) => Ok(()),
-        _ => Err(Refusal::PointerLeak),
+        _ => Err(BrokenRule::PointerLeak),
     }
 }
 
 /// Whether a store of the size may put this on the stack: any register whole, and a part of a number.
-fn storable(size: Size, kind: Kind) -> Result<(), Refusal>
+fn storable(size: Size, kind: Kind) -> Result<(), BrokenRule>
     ensures { result ≡ storable size kind }
 {
     match size {
@@ -74,7 +74,7 @@ impl State {
         set[place % 8]
     }
 
-    /// Whether so many bytes of the stack were written, from a place on.
+    /// Whether this many bytes of the stack were written, from a place on.
     #[tactic(auto, using(crate::proofs::BytesLemmas::after_set_byte, crate::proofs::BytesLemmas::unset_byte, crate::proofs::BytesLemmas::no_byte_left))]
     pub(crate) fn are_bytes_set(&self, place: usize, count: usize) -> bool
         requires { place + count ≤ 512 }
@@ -89,7 +89,7 @@ impl State {
     }
 
     /// A field of the context.
-    fn context_kind(&self, place: i16) -> Result<Kind, Refusal>
+    fn context_kind(&self, place: i16) -> Result<Kind, BrokenRule>
         ensures { result ≡ context_kind self.now place }
     {
         match ContextField::of(place) {
@@ -101,22 +101,22 @@ impl State {
             Some(ContextField::DataEnd) => Ok(Kind::PacketEnd),
             Some(ContextField::IngressIfindex) => Ok(Kind::Scalar(Interval::constant(1))),
             Some(ContextField::RxQueueIndex) => Ok(Kind::Scalar(Interval::up_to(7))),
-            None => Err(Refusal::ContextAccess),
+            None => Err(BrokenRule::ContextAccess),
         }
     }
 
-    /// What a load from the context gives: only words of four bytes can be read.
-    fn context_loaded(&self, size: Size, place: i16) -> Result<Kind, Refusal>
+    /// What a load from the context returns: only words of four bytes can be read.
+    fn context_loaded(&self, size: Size, place: i16) -> Result<Kind, BrokenRule>
         ensures { result ≡ context_loaded self.now size place }
     {
         match size {
             Size::U32 => self.context_kind(place),
-            _ => Err(Refusal::ContextAccess),
+            _ => Err(BrokenRule::ContextAccess),
         }
     }
 
-    /// What a load from a word of the stack gives.
-    fn word_loaded(&self, size: Size, from: usize, word: StackWord) -> Result<Kind, Refusal>
+    /// What a load from a word of the stack returns.
+    fn word_loaded(&self, size: Size, from: usize, word: StackWord) -> Result<Kind, BrokenRule>
         requires { from + size_bytes size ≤ 512 }
         ensures { result ≡ word_loaded self.now size from word }
     {
@@ -126,14 +126,19 @@ impl State {
                 if self.are_bytes_set(from, size.bytes() as usize) {
                     Ok(loaded_number(size))
                 } else {
-                    Err(Refusal::StackUnset)
+                    Err(BrokenRule::StackUnset)
                 }
             }
         }
     }
 
-    /// What a zero-extending load gives (RFC 9669, section 5.1).
-    pub(crate) fn loaded(&self, site: Site<'_>, size: Size, from: Address) -> Result<Kind, Refusal>
+    /// What a zero-extending load returns (RFC 9669, section 5.1).
+    pub(crate) fn loaded(
+        &self,
+        site: Site<'_>,
+        size: Size,
+        from: Address,
+    ) -> Result<Kind, BrokenRule>
         ensures { result ≡ loaded_kind site.entry.maps.now self.now size from.base from.offset from.register }
     {
         let count = size.bytes();
@@ -151,21 +156,21 @@ impl State {
                 value_access(site.maps, map, off, from.offset, count)?;
                 Ok(loaded_number(size))
             }
-            _ => Err(Refusal::WrongKind(from.register)),
+            _ => Err(BrokenRule::WrongKind(from.register)),
         }
     }
 
-    /// What a sign-extending load gives (RFC 9669, section 5.2): no field of the context is read so.
+    /// What a sign-extending load returns (RFC 9669, section 5.2): no field of the context is read so.
     pub(crate) fn signed_loaded(
         &self,
         site: Site<'_>,
         extension: Extension,
         from: Address,
-    ) -> Result<Kind, Refusal>
+    ) -> Result<Kind, BrokenRule>
         ensures { result ≡ signed_loaded site.entry.maps.now self.now extension from.base from.offset from.register }
     {
         match from.base {
-            Kind::Ctx => Err(Refusal::ContextAccess),
+            Kind::Ctx => Err(BrokenRule::ContextAccess),
             _ => {
                 self.loaded(site, extension.size(), from)?;
                 Ok(Kind::Scalar(Interval::full(Width::Bits64)))
@@ -190,12 +195,12 @@ impl State {
         size: Size,
         to: Address,
         kind: Kind,
-    ) -> Result<(), Refusal>
+    ) -> Result<(), BrokenRule>
         ensures { kept result self.new ≡ stored site.entry.maps.now self.old size to.base to.offset to.register kind }
     {
         let count = size.bytes();
         match to.base {
-            Kind::Ctx => Err(Refusal::ContextAccess),
+            Kind::Ctx => Err(BrokenRule::ContextAccess),
             Kind::Stack(place) => {
                 let at = stack_access(place, to.offset, count)? as usize;
                 storable(size, kind)?;
@@ -210,7 +215,7 @@ impl State {
                 value_access(site.maps, map, off, to.offset, count)?;
                 narrow_storable(kind)
             }
-            _ => Err(Refusal::WrongKind(to.register)),
+            _ => Err(BrokenRule::WrongKind(to.register)),
         }
     }
 }

@@ -9,9 +9,9 @@ ghost use Rattle.abstract_state.specs.Arithmetic.{source_kind, blamed, number_ki
 ghost use Rattle.abstract_state.specs.Arithmetic.{moved_value, moved_far, pointer_sum, is_movable, combined_pointer, combined_kind};
 ghost use Rattle.abstract_state.specs.Arithmetic.{alu_kind, after_alu_of};
 
+use crate::broken_rule::BrokenRule;
 use crate::kind::{Kind, Offsets};
 use crate::places::{STACK_SIZE, offsets_within, place_within};
-use crate::refusal::Refusal;
 use crate::site::{Operands, Site};
 use crate::state::State;
 use abstract_scalar::Interval;
@@ -29,7 +29,7 @@ pub(crate) fn blamed(dst: Register, source: Source) -> Register
 }
 
 /// A move of 64 bits copies any kind, one of 32 bits a number.
-fn moved(width: Width, kind: Kind, source: Register) -> Result<Kind, Refusal>
+fn moved(width: Width, kind: Kind, source: Register) -> Result<Kind, BrokenRule>
     ensures { result ≡ moved_kind width kind source }
 {
     match (kind, width) {
@@ -40,7 +40,7 @@ fn moved(width: Width, kind: Kind, source: Register) -> Result<Kind, Refusal>
             i,
         ))),
         (_, Width::Bits64) => Ok(kind),
-        (_, Width::Bits32) => Err(Refusal::WrongKind(source)),
+        (_, Width::Bits32) => Err(BrokenRule::WrongKind(source)),
     }
 }
 
@@ -70,7 +70,7 @@ fn moved_pointer(
     pointer: Kind,
     delta: i128,
     dst: Register,
-) -> Result<Kind, Refusal>
+) -> Result<Kind, BrokenRule>
     requires { (int_le (neg_ℤ (pos (2 ^ 64))) delta ≡ true) × (int_le delta (pos (2 ^ 64)) ≡ true) }
     ensures { result ≡ moved_pointer maps.now pointer delta dst }
 {
@@ -79,12 +79,12 @@ fn moved_pointer(
             let to = place_within(
                 i128::from(place) + delta,
                 u32::from(STACK_SIZE),
-                Refusal::StackBounds,
+                BrokenRule::StackBounds,
             )?;
             Ok(Kind::Stack(to as u16))
         }
         Kind::Packet { id, off, range } => {
-            let to = place_within(i128::from(off) + delta, 65535, Refusal::PacketBounds)?;
+            let to = place_within(i128::from(off) + delta, 65535, BrokenRule::PacketBounds)?;
             Ok(Kind::Packet {
                 id,
                 off: to as u16,
@@ -97,7 +97,7 @@ fn moved_pointer(
             let off = offsets_within(maps, map, low, high)?;
             Ok(Kind::Value { map, id, off })
         }
-        _ => Err(Refusal::WrongKind(dst)),
+        _ => Err(BrokenRule::WrongKind(dst)),
     }
 }
 
@@ -110,11 +110,11 @@ fn moved_value(
     off: Offsets,
     i: Interval,
     source: Register,
-) -> Result<Kind, Refusal>
+) -> Result<Kind, BrokenRule>
     ensures { result ≡ moved_value maps.now version map id off i source }
 {
     match version {
-        Version::V1 => Err(Refusal::WrongKind(source)),
+        Version::V1 => Err(BrokenRule::WrongKind(source)),
         Version::V2 => {
             let low = i128::from(off.low) + i128::from(i.low);
             let high = i128::from(off.high) + i128::from(i.high);
@@ -126,7 +126,7 @@ fn moved_value(
 
 /// A pointer moved by a number of which only an interval is known: a packet pointer gets a base of its own, of which no range
 /// is known, and an address in a value an interval of offsets.
-fn moved_far(site: Site<'_>, op: AluOp, on: Operands, i: Interval) -> Result<Kind, Refusal>
+fn moved_far(site: Site<'_>, op: AluOp, on: Operands, i: Interval) -> Result<Kind, BrokenRule>
     ensures { result ≡ moved_far site.entry.maps.now on.version site.entry.slot op on.first i on.source }
 {
     match (op, on.first) {
@@ -138,18 +138,18 @@ fn moved_far(site: Site<'_>, op: AluOp, on: Operands, i: Interval) -> Result<Kin
                     range: 0,
                 })
             } else {
-                Err(Refusal::PacketBounds)
+                Err(BrokenRule::PacketBounds)
             }
         }
         (AluOp::Add, Kind::Value { map, id, off }) => {
             moved_value(site.maps, on.version, map, id, off, i, on.source)
         }
-        _ => Err(Refusal::WrongKind(on.source)),
+        _ => Err(BrokenRule::WrongKind(on.source)),
     }
 }
 
 /// A pointer moved by what another register holds.
-fn pointer_sum(site: Site<'_>, op: AluOp, on: Operands) -> Result<Kind, Refusal>
+fn pointer_sum(site: Site<'_>, op: AluOp, on: Operands) -> Result<Kind, BrokenRule>
     ensures { result ≡ pointer_sum site.entry.maps.now on.version site.entry.slot op on.first on.second on.dst on.source }
 {
     match on.second {
@@ -160,7 +160,7 @@ fn pointer_sum(site: Site<'_>, op: AluOp, on: Operands) -> Result<Kind, Refusal>
                 moved_far(site, op, on, i)
             }
         }
-        _ => Err(Refusal::WrongKind(on.source)),
+        _ => Err(BrokenRule::WrongKind(on.source)),
     }
 }
 
@@ -175,31 +175,36 @@ fn is_movable(kind: Kind) -> bool
 }
 
 /// An operation whose first operand is a pointer.
-fn combined_pointer(site: Site<'_>, width: Width, op: AluOp, on: Operands) -> Result<Kind, Refusal>
+fn combined_pointer(
+    site: Site<'_>,
+    width: Width,
+    op: AluOp,
+    on: Operands,
+) -> Result<Kind, BrokenRule>
     ensures { result ≡ combined_pointer site.entry.maps.now on.version site.entry.slot width op on.first on.second on.dst on.source }
 {
     if moves_pointers(width, op) && is_movable(on.first) {
         pointer_sum(site, op, on)
     } else {
-        Err(Refusal::WrongKind(on.dst))
+        Err(BrokenRule::WrongKind(on.dst))
     }
 }
 
 /// An operation that reads its destination.
-fn combined(site: Site<'_>, width: Width, op: AluOp, on: Operands) -> Result<Kind, Refusal>
+fn combined(site: Site<'_>, width: Width, op: AluOp, on: Operands) -> Result<Kind, BrokenRule>
     ensures { result ≡ combined_kind site.entry.maps.now on.version site.entry.slot width op on.first on.second on.dst on.source }
 {
     match on.first {
         Kind::Scalar(i) => match on.second {
             Kind::Scalar(j) => Ok(Kind::Scalar(abstract_scalar::transfer(width, op, i, j))),
-            _ => Err(Refusal::WrongKind(on.source)),
+            _ => Err(BrokenRule::WrongKind(on.source)),
         },
         _ => combined_pointer(site, width, op, on),
     }
 }
 
 /// The kind of what an arithmetic operation leaves in its destination.
-fn alu_kind(site: Site<'_>, width: Width, op: AluOp, on: Operands) -> Result<Kind, Refusal>
+fn alu_kind(site: Site<'_>, width: Width, op: AluOp, on: Operands) -> Result<Kind, BrokenRule>
     ensures { result ≡ alu_kind site.entry.maps.now on.version site.entry.slot width op on.first on.second on.dst on.source }
 {
     match op {
@@ -231,7 +236,7 @@ impl State {
         op: AluOp,
         dst: Register,
         source: Source,
-    ) -> Result<State, Refusal>
+    ) -> Result<State, BrokenRule>
         ensures { result ≡ after_alu_of site.entry.maps.now self site.entry.slot width op dst source }
     {
         self.compute(site, width, op, dst, source)?;
@@ -246,7 +251,7 @@ impl State {
         op: AluOp,
         dst: Register,
         source: Source,
-    ) -> Result<(), Refusal>
+    ) -> Result<(), BrokenRule>
         ensures { kept result self.new ≡ after_alu_of site.entry.maps.now self.old site.entry.slot width op dst source }
     {
         let on = Operands {

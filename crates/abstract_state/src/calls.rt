@@ -5,10 +5,10 @@ ghost use Rattle.abstract_state.specs.InPlace.{kept};
 ghost use Rattle.abstract_state.specs.Calls.{helper_at, map_argument, stack_argument, number_argument, context_argument, is_inside_stack};
 ghost use Rattle.abstract_state.specs.Calls.{key_arguments, update_arguments, head_arguments, returned, any_number, call_of};
 
+use crate::broken_rule::BrokenRule;
 use crate::fact::Fact;
 use crate::kind::Kind;
 use crate::places::{STACK_SIZE, key_size, value_size};
-use crate::refusal::Refusal;
 use crate::site::Site;
 use crate::state::State;
 use abstract_scalar::Interval;
@@ -17,56 +17,56 @@ use isa::{Register, Width};
 use semantics::Helper;
 
 /// The helper of a number: 44 where there is none.
-pub(crate) fn helper_at(number: i32) -> Result<Helper, Refusal>
+pub(crate) fn helper_at(number: i32) -> Result<Helper, BrokenRule>
     ensures { result ≡ helper_at number }
 {
     match Helper::of(number) {
         Some(helper) => Ok(helper),
-        None => Err(Refusal::UnknownHelper),
+        None => Err(BrokenRule::UnknownHelper),
     }
 }
 
 /// The map that an argument names.
-fn map_argument(kind: Kind, register: Register) -> Result<u32, Refusal>
+fn map_argument(kind: Kind, register: Register) -> Result<u32, BrokenRule>
     ensures { result ≡ map_argument kind register }
 {
     match kind {
         Kind::Map(map) => Ok(map),
-        _ => Err(Refusal::BadArgument(register)),
+        _ => Err(BrokenRule::BadArgument(register)),
     }
 }
 
 /// The place of the stack that an argument points to.
-fn stack_argument(kind: Kind, register: Register) -> Result<u16, Refusal>
+fn stack_argument(kind: Kind, register: Register) -> Result<u16, BrokenRule>
     ensures { result ≡ stack_argument kind register }
 {
     match kind {
         Kind::Stack(place) => Ok(place),
-        _ => Err(Refusal::BadArgument(register)),
+        _ => Err(BrokenRule::BadArgument(register)),
     }
 }
 
 /// An argument that is a number.
-fn number_argument(kind: Kind, register: Register) -> Result<(), Refusal>
+fn number_argument(kind: Kind, register: Register) -> Result<(), BrokenRule>
     ensures { result ≡ number_argument kind register }
 {
     match kind {
         Kind::Scalar(_) => Ok(()),
-        _ => Err(Refusal::BadArgument(register)),
+        _ => Err(BrokenRule::BadArgument(register)),
     }
 }
 
 /// An argument that is the context.
-fn context_argument(kind: Kind, register: Register) -> Result<(), Refusal>
+fn context_argument(kind: Kind, register: Register) -> Result<(), BrokenRule>
     ensures { result ≡ context_argument kind register }
 {
     match kind {
         Kind::Ctx => Ok(()),
-        _ => Err(Refusal::BadArgument(register)),
+        _ => Err(BrokenRule::BadArgument(register)),
     }
 }
 
-/// Whether so many bytes of the stack lie inside it.
+/// Whether this many bytes of the stack lie inside it.
 fn is_inside_stack(place: u16, count: u32) -> bool
     ensures { result ≡ is_inside_stack place count }
 {
@@ -75,24 +75,24 @@ fn is_inside_stack(place: u16, count: u32) -> bool
 
 impl State {
     /// The arguments of a lookup or a deletion: a map, and a key on the stack.
-    fn key_arguments(&self, maps: &[MapDef]) -> Result<u32, Refusal>
+    fn key_arguments(&self, maps: &[MapDef]) -> Result<u32, BrokenRule>
         ensures { result ≡ key_arguments maps.now self.now }
     {
         let map = map_argument(self.kind(Register::R1), Register::R1)?;
         let key = stack_argument(self.kind(Register::R2), Register::R2)?;
         let count = key_size(maps, map);
         if !is_inside_stack(key, count) {
-            return Err(Refusal::StackBounds);
+            return Err(BrokenRule::StackBounds);
         }
         if !self.are_bytes_set(key as usize, count as usize) {
-            return Err(Refusal::StackUnset);
+            return Err(BrokenRule::StackUnset);
         }
         Ok(map)
     }
 
     /// The arguments of an update: a map, a key and a value on the stack, and flags. Both lie inside the stack before the
     /// bytes of either are looked at.
-    fn update_arguments(&self, maps: &[MapDef]) -> Result<u32, Refusal>
+    fn update_arguments(&self, maps: &[MapDef]) -> Result<u32, BrokenRule>
         ensures { result ≡ update_arguments maps.now self.now }
     {
         let map = map_argument(self.kind(Register::R1), Register::R1)?;
@@ -102,18 +102,18 @@ impl State {
         let key_count = key_size(maps, map);
         let value_count = value_size(maps, map);
         if !(is_inside_stack(key, key_count) && is_inside_stack(value, value_count)) {
-            return Err(Refusal::StackBounds);
+            return Err(BrokenRule::StackBounds);
         }
         if !(self.are_bytes_set(key as usize, key_count as usize)
             && self.are_bytes_set(value as usize, value_count as usize))
         {
-            return Err(Refusal::StackUnset);
+            return Err(BrokenRule::StackUnset);
         }
         Ok(map)
     }
 
     /// The arguments of a move of the packet's start: the context, and a number.
-    fn head_arguments(&self) -> Result<(), Refusal>
+    fn head_arguments(&self) -> Result<(), BrokenRule>
         ensures { result ≡ head_arguments self.now }
     {
         context_argument(self.kind(Register::R1), Register::R1)?;
@@ -141,7 +141,7 @@ impl State {
     }
 
     /// Calls a helper whose arguments are set (RFC 9669, section 4.3.1).
-    pub(crate) fn call_helper(&mut self, site: Site<'_>, helper: Helper) -> Result<(), Refusal>
+    pub(crate) fn call_helper(&mut self, site: Site<'_>, helper: Helper) -> Result<(), BrokenRule>
         ensures { kept result self.new ≡ call_of site.entry.maps.now self.old site.entry.slot helper }
     {
         let any_number = Kind::Scalar(Interval::full(Width::Bits64));

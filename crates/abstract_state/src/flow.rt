@@ -9,7 +9,7 @@ pub enum Flow {
     Ends,
     /// It goes on at the next instruction.
     Falls(State),
-    /// It goes on so many slots after the next one.
+    /// It goes on this many slots after the next one.
     Jumps(State),
     /// A conditional jump: what is known where it is taken, and where the run goes on at the next instruction.
     Splits { taken: State, fallen: State },
@@ -22,7 +22,7 @@ pub enum Way {
     Ends,
     /// At the next instruction.
     Falls,
-    /// So many slots after the next one.
+    /// This many slots after the next one.
     Jumps,
     /// At either: a conditional jump.
     Splits,

@@ -22,7 +22,7 @@ pub fn flow_is_sound()
     ensures { FlowIsSound }
 {}
 
-/// Every state tells of eleven registers and 64 words of eight bytes.
+/// Every state describes eleven registers and 64 words of eight bytes.
 pub fn states_are_shaped()
     ensures { StatesAreShaped }
 {}

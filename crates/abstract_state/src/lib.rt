@@ -4,6 +4,7 @@
 
 mod access;
 mod arithmetic;
+mod broken_rule;
 mod calls;
 mod fact;
 mod flow;
@@ -13,17 +14,16 @@ pub mod laws;
 mod paths;
 mod places;
 mod refinement;
-mod refusal;
 mod site;
 mod stack;
 mod state;
 mod tell;
 mod transfer;
 
+pub use broken_rule::BrokenRule;
 pub use fact::Fact;
 pub use flow::{Flow, Way};
 pub use kind::{Kind, Offsets, StackWord};
 pub use places::STACK_SIZE;
-pub use refusal::Refusal;
 pub use site::Site;
 pub use state::State;

@@ -6,9 +6,9 @@ ghost use Rattle.abstract_state.specs.Refinement.{is_equal_edge, range_before_en
 ghost use Rattle.abstract_state.specs.Refinement.{number_cut, refined, refine_state};
 
 use crate::arithmetic::blamed;
+use crate::broken_rule::BrokenRule;
 use crate::fact::Fact;
 use crate::kind::Kind;
-use crate::refusal::Refusal;
 use crate::state::State;
 use abstract_scalar::Interval;
 use isa::{Register, Source, Test, Width};
@@ -38,32 +38,32 @@ fn is_order(width: Width, test: Test) -> bool
 }
 
 /// The second operand has to be a number.
-fn against_scalar(other: Kind, source: Register) -> Result<(), Refusal>
+fn against_scalar(other: Kind, source: Register) -> Result<(), BrokenRule>
     ensures { result ≡ against_scalar other source }
 {
     match other {
         Kind::Scalar(_) => Ok(()),
-        _ => Err(Refusal::WrongKind(source)),
+        _ => Err(BrokenRule::WrongKind(source)),
     }
 }
 
 /// The second operand has to be the packet's end.
-fn against_end(other: Kind, source: Register) -> Result<(), Refusal>
+fn against_end(other: Kind, source: Register) -> Result<(), BrokenRule>
     ensures { result ≡ against_end other source }
 {
     match other {
         Kind::PacketEnd => Ok(()),
-        _ => Err(Refusal::WrongKind(source)),
+        _ => Err(BrokenRule::WrongKind(source)),
     }
 }
 
 /// The second operand has to point into the packet.
-fn against_packet(other: Kind, source: Register) -> Result<(), Refusal>
+fn against_packet(other: Kind, source: Register) -> Result<(), BrokenRule>
     ensures { result ≡ against_packet other source }
 {
     match other {
         Kind::Packet { .. } => Ok(()),
-        _ => Err(Refusal::WrongKind(source)),
+        _ => Err(BrokenRule::WrongKind(source)),
     }
 }
 
@@ -75,7 +75,7 @@ pub(crate) fn allowed_test(
     other: Kind,
     dst: Register,
     source: Source,
-) -> Result<(), Refusal>
+) -> Result<(), BrokenRule>
     ensures { result ≡ allowed_test width test kind other dst source }
 {
     let is_allowed = match kind {
@@ -86,7 +86,7 @@ pub(crate) fn allowed_test(
         _ => false,
     };
     if !is_allowed {
-        return Err(Refusal::WrongKind(dst));
+        return Err(BrokenRule::WrongKind(dst));
     }
     match kind {
         Kind::Scalar(_) => against_scalar(other, blamed(dst, source)),
@@ -106,7 +106,7 @@ fn is_equal_edge(test: Test, taken: bool) -> bool
     }
 }
 
-/// What an edge tells of a packet pointer that was tested against the packet's end.
+/// What an edge says of a packet pointer that was tested against the packet's end.
 fn range_before_end(test: Test, taken: bool, id: u16, off: u16) -> Fact
     ensures { result ≡ range_before_end test taken id off }
 {
@@ -126,7 +126,7 @@ fn range_before_end(test: Test, taken: bool, id: u16, off: u16) -> Fact
     }
 }
 
-/// What an edge tells of a packet pointer against which the packet's end was tested.
+/// What an edge says of a packet pointer against which the packet's end was tested.
 fn range_after_end(test: Test, taken: bool, id: u16, off: u16) -> Fact
     ensures { result ≡ range_after_end test taken id off }
 {
@@ -146,7 +146,7 @@ fn range_after_end(test: Test, taken: bool, id: u16, off: u16) -> Fact
     }
 }
 
-/// What an edge tells of all copies of a pointer.
+/// What an edge says of all copies of a pointer.
 fn fact_of(test: Test, taken: bool, kind: Kind, other: Kind) -> Fact
     ensures { result ≡ fact_of test taken kind other }
 {
@@ -171,7 +171,7 @@ fn fact_of_end(test: Test, taken: bool, other: Kind) -> Fact
     }
 }
 
-/// What an edge tells of a number that was tested against another.
+/// What an edge says of a number that was tested against another.
 fn cut_kind(width: Width, test: Test, taken: bool, i: Interval, other: Kind) -> Kind
     ensures { result ≡ cut_kind width test taken i other }
 {
@@ -189,7 +189,7 @@ fn cut_kind(width: Width, test: Test, taken: bool, i: Interval, other: Kind) -> 
 
 impl State {
     /// What is known on the edge where an allowed test is taken, or on the one where it isn't: a number is cut by a single
-    /// number; a null test makes every copy of the lookup's answer 0, or a value; a test against the packet's end tells how far
+    /// number; a null test makes every copy of the lookup's answer 0, or a value; a test against the packet's end says how far
     /// the packet reaches past the base of the pointer's id.
     pub fn refine(
         mut self,
@@ -225,7 +225,7 @@ impl State {
         );
     }
 
-    /// Cuts a number, or else tells all copies of a pointer a fact.
+    /// Cuts a number, or else applies a fact to all copies of a pointer.
     fn cut_or_tell(&mut self, cut: Option<Kind>, fact: Fact, dst: Register)
         ensures { self.new ≡ refined cut fact self.old dst }
     {
@@ -236,7 +236,7 @@ impl State {
     }
 }
 
-/// What an edge tells of a number; nothing where the first operand is none.
+/// What an edge says of a number; nothing where the first operand is none.
 fn number_cut(width: Width, test: Test, taken: bool, kind: Kind, other: Kind) -> Option<Kind>
     ensures { result ≡ number_cut width test taken kind other }
 {

@@ -27,7 +27,7 @@ fn set_on_both(first: [bool; 8], second: [bool; 8]) -> [bool; 8]
     both
 }
 
-/// The bytes with so many of them set from a place on.
+/// The bytes with this many of them set from a place on.
 fn with_set(set: [bool; 8], from: usize, count: usize) -> [bool; 8]
     requires { from + count ≤ 8 }
     ensures { result ≡ with_set set from count }

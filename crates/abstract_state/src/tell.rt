@@ -29,7 +29,7 @@ fn told_null(id: u16, is_null: bool, kind: Kind) -> Kind
     }
 }
 
-/// So many bytes from the base of an id lie in the packet.
+/// This many bytes from the base of an id lie in the packet.
 fn told_range(id: u16, range: u32, kind: Kind) -> Kind
     ensures { result ≡ told_range id range kind }
 {

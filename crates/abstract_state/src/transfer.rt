@@ -1,7 +1,7 @@
 //! What a program may do, instruction by instruction.
 //!
 //! The checker goes over a program once, by rising slot. Every jump goes forward, so when it comes to an instruction, it has seen all
-//! ways that lead there. It then holds a `State`, which is true of every run that ever stands there:
+//! ways that lead there. It then holds a `State`, which is true of every run that ever is there:
 //!
 //! - of each of the eleven registers (RFC 9669, section 3.1) a `Kind`: unset, a number of an interval, or a pointer, and to what: the
 //!   context, the stack, the packet or its end, a map, a value of a map, or what a lookup gave, which may be null;
@@ -12,7 +12,7 @@
 //! meaning, or what no program may do (each refusal with its number):
 //!
 //! - read a register (35) or a byte of the stack (39) that was never written, or write the frame pointer R10 (43);
-//! - compute with a pointer, or take a number for one (36), but for moving a pointer within what it points to; make a pointer
+//! - compute with a pointer, or take a number for one (36), except moving a pointer within what it points to; make a pointer
 //!   readable as a number, in the packet, in a part of a stack word or as the verdict (46);
 //! - touch memory past what a test showed to be in the packet (37), outside the stack (38) or outside a map's value (40), on the stack
 //!   and in values at no multiple of the size (41), or a part of the context that is no field (42);
@@ -20,12 +20,12 @@
 //!   an address in a value of a map that is no array (49).
 //!
 //! Where two ways meet, `State::join` keeps what both know. A conditional jump has two edges, and `State::follow` takes the state along
-//! one of them, with what its test tells there: a number is cut to the part of its interval that can pass; what a lookup gave is null,
-//! or a value; so many bytes of the packet are there. Every pointer into the packet or to a value carries an id, the slot of the
-//! instruction that made it. No slot is passed twice in a run, so an id stands for one address; and a test of one copy tells all of
+//! one of them, with what its test says there: a number is cut to the part of its interval that can pass; what a lookup gave is null,
+//! or a value; this many bytes of the packet are there. Every pointer into the packet or to a value carries an id, the slot of the
+//! instruction that made it. No slot is reached twice in a run, so an id represents one address; and a test of one copy says all of
 //! them, the spilled ones too.
 //!
-//! Why that is enough: a state is true of every run that stands there, so an instruction that breaks no rule in it traps in none of
+//! Why that is enough: a state is true of every run that is there, so an instruction that breaks no rule in it traps in none of
 //! them, and what flows along its edges is true where they lead. This is proved, in the words of `specs/Soundness`, as the laws
 //! `flow_is_sound`, `join_is_sound` and `opening_is_sound`. The verifier carries it by induction over all that workers, controller and
 //! reclaimer do. And no run is endless, since each step goes up. A refusal may be needless, since less is known than is true: of
@@ -45,12 +45,12 @@ ghost use Rattle.abstract_state.specs.Flow.{load_flow, store_flow, store_registe
 ghost use Rattle.abstract_state.specs.Flow.{address_in, value_address, address_flow, number_flow, call_flow, verdict_kind, flow_of};
 
 use crate::access::narrow_storable;
+use crate::broken_rule::BrokenRule;
 use crate::calls::helper_at;
 use crate::flow::Way;
 use crate::kind::{Kind, Offsets};
 use crate::places::{atomic_access, place_within};
 use crate::refinement::allowed_test;
-use crate::refusal::Refusal;
 use crate::site::{Address, Site};
 use crate::state::State;
 use abstract_scalar::Interval;
@@ -62,17 +62,17 @@ use isa::{
 use semantics::Helper;
 
 /// R10 is read-only.
-fn writable(register: Register) -> Result<(), Refusal>
+fn writable(register: Register) -> Result<(), BrokenRule>
     ensures { result ≡ writable register }
 {
     match register {
-        Register::R10 => Err(Refusal::ReadOnlyFp),
+        Register::R10 => Err(BrokenRule::ReadOnlyFp),
         _ => Ok(()),
     }
 }
 
 /// An atomic operation may not fetch into R10.
-fn fetch_writable(register: Option<Register>) -> Result<(), Refusal>
+fn fetch_writable(register: Option<Register>) -> Result<(), BrokenRule>
     ensures { result ≡ fetch_writable register }
 {
     match register {
@@ -82,17 +82,17 @@ fn fetch_writable(register: Option<Register>) -> Result<(), Refusal>
 }
 
 /// A kind that may be read.
-fn is_set(kind: Kind, register: Register) -> Result<(), Refusal>
+fn is_set(kind: Kind, register: Register) -> Result<(), BrokenRule>
     ensures { result ≡ is_set kind register }
 {
     match kind {
-        Kind::Unset => Err(Refusal::UnsetRegister(register)),
+        Kind::Unset => Err(BrokenRule::UnsetRegister(register)),
         _ => Ok(()),
     }
 }
 
 /// Compare-and-exchange reads a number from R0.
-fn expects(op: AtomicOp, kind: Kind) -> Result<(), Refusal>
+fn expects(op: AtomicOp, kind: Kind) -> Result<(), BrokenRule>
     ensures { result ≡ expects op kind }
 {
     if !op.compares() {
@@ -100,39 +100,39 @@ fn expects(op: AtomicOp, kind: Kind) -> Result<(), Refusal>
     }
     match kind {
         Kind::Scalar(_) => Ok(()),
-        _ => Err(Refusal::WrongKind(Register::R0)),
+        _ => Err(BrokenRule::WrongKind(Register::R0)),
     }
 }
 
 /// A map by its place in the image's list.
-fn known_map(maps: &[MapDef], map: i32) -> Result<Kind, Refusal>
+fn known_map(maps: &[MapDef], map: i32) -> Result<Kind, BrokenRule>
     ensures { result ≡ known_map maps.now map }
 {
     if map < 0 {
-        return Err(Refusal::UnknownMap);
+        return Err(BrokenRule::UnknownMap);
     }
     match maps.get(map as usize) {
         Some(_) => Ok(Kind::Map(map as u32)),
-        None => Err(Refusal::UnknownMap),
+        None => Err(BrokenRule::UnknownMap),
     }
 }
 
 /// The size of an array's values: the element 0 of an array alone is always there.
-fn array_size(kind: MapKind, size: u32) -> Result<u32, Refusal>
+fn array_size(kind: MapKind, size: u32) -> Result<u32, BrokenRule>
     ensures { result ≡ array_size kind size }
 {
     match kind {
         MapKind::Array => Ok(size),
-        _ => Err(Refusal::NotArrayMap),
+        _ => Err(BrokenRule::NotArrayMap),
     }
 }
 
 /// An address in the value of an array's element 0.
-fn address_in(definition: &MapDef, map: u32, slot: u16, offset: u32) -> Result<Kind, Refusal>
+fn address_in(definition: &MapDef, map: u32, slot: u16, offset: u32) -> Result<Kind, BrokenRule>
     ensures { result ≡ address_in (Some definition.now) map slot offset }
 {
     let size = array_size(definition.kind, definition.value_size)?;
-    let off = place_within(i128::from(offset), size, Refusal::ValueBounds)?;
+    let off = place_within(i128::from(offset), size, BrokenRule::ValueBounds)?;
     Ok(Kind::Value {
         map,
         id: slot,
@@ -141,28 +141,28 @@ fn address_in(definition: &MapDef, map: u32, slot: u16, offset: u32) -> Result<K
 }
 
 /// The same by the map's place in the image's list.
-fn value_address(site: Site<'_>, map: i32, offset: u32) -> Result<Kind, Refusal>
+fn value_address(site: Site<'_>, map: i32, offset: u32) -> Result<Kind, BrokenRule>
     ensures { result ≡ value_address site.entry.maps.now site.entry.slot map offset }
 {
     if map < 0 {
-        return Err(Refusal::UnknownMap);
+        return Err(BrokenRule::UnknownMap);
     }
     match site.maps.get(map as usize) {
         Some(definition) => address_in(definition, map as u32, site.slot, offset),
-        None => Err(Refusal::UnknownMap),
+        None => Err(BrokenRule::UnknownMap),
     }
 }
 
 impl State {
     /// A register is read: 35 where it is unset.
-    fn reads(&self, register: Register) -> Result<(), Refusal>
+    fn reads(&self, register: Register) -> Result<(), BrokenRule>
         ensures { result ≡ reads self.now register }
     {
         is_set(self.kind(register), register)
     }
 
     /// A source is read.
-    fn reads_source(&self, source: Source) -> Result<(), Refusal>
+    fn reads_source(&self, source: Source) -> Result<(), BrokenRule>
         ensures { result ≡ reads_source self.now source }
     {
         match source {
@@ -172,7 +172,7 @@ impl State {
     }
 
     /// Destination and source are read.
-    fn reads_both(&self, dst: Register, source: Source) -> Result<(), Refusal>
+    fn reads_both(&self, dst: Register, source: Source) -> Result<(), BrokenRule>
         ensures { result ≡ reads_both self.now dst source }
     {
         self.reads(dst)?;
@@ -180,7 +180,7 @@ impl State {
     }
 
     /// What an arithmetic operation reads: a move does not read what it overwrites.
-    fn reads_operands(&self, op: AluOp, dst: Register, source: Source) -> Result<(), Refusal>
+    fn reads_operands(&self, op: AluOp, dst: Register, source: Source) -> Result<(), BrokenRule>
         ensures { result ≡ reads_operands self.now op dst source }
     {
         match op {
@@ -190,7 +190,7 @@ impl State {
     }
 
     /// Compare-and-exchange also reads R0.
-    fn reads_expected(&self, op: AtomicOp) -> Result<(), Refusal>
+    fn reads_expected(&self, op: AtomicOp) -> Result<(), BrokenRule>
         ensures { result ≡ reads_expected self.now op }
     {
         if op.compares() {
@@ -201,7 +201,7 @@ impl State {
     }
 
     /// What an atomic operation reads.
-    fn reads_atomic(&self, op: AtomicOp, dst: Register, src: Register) -> Result<(), Refusal>
+    fn reads_atomic(&self, op: AtomicOp, dst: Register, src: Register) -> Result<(), BrokenRule>
         ensures { result ≡ reads_atomic self.now op dst src }
     {
         self.reads(dst)?;
@@ -210,7 +210,7 @@ impl State {
     }
 
     /// What a call reads: its arguments upward.
-    fn reads_arguments(&self, helper: Helper) -> Result<(), Refusal>
+    fn reads_arguments(&self, helper: Helper) -> Result<(), BrokenRule>
         ensures { result ≡ reads_arguments self.now helper }
     {
         match helper {
@@ -234,7 +234,7 @@ impl State {
         op: AluOp,
         dst: Register,
         source: Source,
-    ) -> Result<(), Refusal>
+    ) -> Result<(), BrokenRule>
         ensures { kept result self.new ≡ alu_flow site.entry.maps.now self.old site.entry.slot width op dst source }
     {
         writable(dst)?;
@@ -243,7 +243,7 @@ impl State {
     }
 
     /// The number in a register that an operation with one operand reads and another that it writes.
-    fn operand(&self, dst: Register, operand: Register) -> Result<Interval, Refusal>
+    fn operand(&self, dst: Register, operand: Register) -> Result<Interval, BrokenRule>
         ensures { result ≡ operand_of self.now dst operand }
     {
         writable(dst)?;
@@ -271,7 +271,7 @@ impl State {
         dst: Register,
         src: Register,
         offset: i16,
-    ) -> Result<(), Refusal>
+    ) -> Result<(), BrokenRule>
         ensures { kept result self.new ≡ load_flow self.old dst src (load_of site.entry.maps.now self.old size dst src offset) }
     {
         writable(dst)?;
@@ -290,7 +290,7 @@ impl State {
         dst: Register,
         src: Register,
         offset: i16,
-    ) -> Result<(), Refusal>
+    ) -> Result<(), BrokenRule>
         ensures { kept result self.new ≡ load_flow self.old dst src (signed_load_of site.entry.maps.now self.old extension dst src offset) }
     {
         writable(dst)?;
@@ -309,7 +309,7 @@ impl State {
         dst: Register,
         offset: i16,
         immediate: i32,
-    ) -> Result<(), Refusal>
+    ) -> Result<(), BrokenRule>
         ensures { kept result self.new ≡ store_flow site.entry.maps.now self.old size dst offset immediate }
     {
         self.reads(dst)?;
@@ -327,7 +327,7 @@ impl State {
         dst: Register,
         src: Register,
         offset: i16,
-    ) -> Result<(), Refusal>
+    ) -> Result<(), BrokenRule>
         ensures { kept result self.new ≡ store_register_flow site.entry.maps.now self.old size dst src offset }
     {
         self.reads_both(dst, Source::Reg(src))?;
@@ -354,7 +354,7 @@ impl State {
         op: AtomicOp,
         at: Address,
         src: Register,
-    ) -> Result<(), Refusal>
+    ) -> Result<(), BrokenRule>
         ensures { kept result self.new ≡ atomic_on site.entry.maps.now self.old width op at.base at.offset at.register src }
     {
         match at.base {
@@ -365,7 +365,7 @@ impl State {
                 self.fetch(op.fetched(src), width);
                 Ok(())
             }
-            _ => Err(Refusal::WrongKind(at.register)),
+            _ => Err(BrokenRule::WrongKind(at.register)),
         }
     }
 
@@ -379,7 +379,7 @@ impl State {
         dst: Register,
         src: Register,
         offset: i16,
-    ) -> Result<(), Refusal>
+    ) -> Result<(), BrokenRule>
         ensures { kept result self.new ≡ atomic_flow site.entry.maps.now self.old width op dst src offset }
     {
         fetch_writable(op.fetched(src))?;
@@ -389,7 +389,7 @@ impl State {
     }
 
     /// A wide load of a map's address.
-    fn load_map(&mut self, site: Site<'_>, dst: Register, map: i32) -> Result<(), Refusal>
+    fn load_map(&mut self, site: Site<'_>, dst: Register, map: i32) -> Result<(), BrokenRule>
         ensures { kept result self.new ≡ map_flow site.entry.maps.now self.old dst map }
     {
         writable(dst)?;
@@ -405,7 +405,7 @@ impl State {
         dst: Register,
         map: i32,
         offset: u32,
-    ) -> Result<(), Refusal>
+    ) -> Result<(), BrokenRule>
         ensures { kept result self.new ≡ address_flow site.entry.maps.now self.old site.entry.slot dst map offset }
     {
         writable(dst)?;
@@ -415,7 +415,7 @@ impl State {
     }
 
     /// A wide load of a number.
-    fn load_number(&mut self, dst: Register, value: u64) -> Result<(), Refusal>
+    fn load_number(&mut self, dst: Register, value: u64) -> Result<(), BrokenRule>
         ensures { kept result self.new ≡ number_flow self.old dst value }
     {
         writable(dst)?;
@@ -425,7 +425,7 @@ impl State {
 
     /// An operation with one operand.
     #[inline(never)]
-    fn unary(&mut self, dst: Register, operand: Register, change: Unary) -> Result<(), Refusal>
+    fn unary(&mut self, dst: Register, operand: Register, change: Unary) -> Result<(), BrokenRule>
         ensures { kept result self.new ≡ unary_flow self.old dst operand (unary_change change) }
     {
         let i = self.operand(dst, operand)?;
@@ -435,7 +435,7 @@ impl State {
 
     /// The call of a helper by its number.
     #[inline(never)]
-    fn call(&mut self, site: Site<'_>, number: i32) -> Result<(), Refusal>
+    fn call(&mut self, site: Site<'_>, number: i32) -> Result<(), BrokenRule>
         ensures { kept result self.new ≡ call_flow site.entry.maps.now self.old site.entry.slot number }
     {
         let helper = helper_at(number)?;
@@ -443,12 +443,12 @@ impl State {
         self.call_helper(site, helper)
     }
 
-    /// Takes the state over the instruction that begins in it, and tells where a run goes on: or the first rule that
+    /// Takes the state over the instruction that begins in it, and says where a run goes on: or the first rule that
     /// the instruction breaks (a write of R10; then an unknown helper or map; then an unset register; then the rule of its
-    /// class). After a conditional jump the state stands as it was: `follow` takes it along an edge. After a refusal no promise
+    /// class). After a conditional jump the state is as it was: `follow` takes it along an edge. After a refusal no promise
     /// is made of it.
     #[rattlefmt::skip]
-    pub fn step(&mut self, site: Site<'_>, insn: Insn) -> Result<Way, Refusal>
+    pub fn step(&mut self, site: Site<'_>, insn: Insn) -> Result<Way, BrokenRule>
         ensures { flow_kept insn result self.new ≡ flow_of site.entry.maps.now self.old site.entry.slot insn }
     {
         match insn {
@@ -522,21 +522,21 @@ impl Unary {
 }
 
 /// The number that an operation with one operand reads.
-fn number_of(kind: Kind, register: Register) -> Result<Interval, Refusal>
+fn number_of(kind: Kind, register: Register) -> Result<Interval, BrokenRule>
     ensures { result ≡ number_of kind register }
 {
     match kind {
         Kind::Scalar(i) => Ok(i),
-        _ => Err(Refusal::WrongKind(register)),
+        _ => Err(BrokenRule::WrongKind(register)),
     }
 }
 
 /// The verdict has to be a number.
-fn verdict_kind(kind: Kind) -> Result<(), Refusal>
+fn verdict_kind(kind: Kind) -> Result<(), BrokenRule>
     ensures { result ≡ verdict_kind kind }
 {
     match kind {
         Kind::Scalar(_) => Ok(()),
-        _ => Err(Refusal::PointerLeak),
+        _ => Err(BrokenRule::PointerLeak),
     }
 }

@@ -12,7 +12,7 @@ use Rattle.semantics.specs.declared.call.HeldChange.TheVariants.{LetsGo, Finds, 
 use Rattle.semantics.specs.declared.call.Entry.{Entry}
 use Rattle.semantics.specs.Reclamation.{is_worker, held_change, held_where, held_by, holds}
 use Rattle.audit.specs.declared.held_cells.Findings.{Findings}
-use Rattle.audit.specs.declared.held_cells.HeldCells.{HeldCells}
+use Rattle.audit.specs.declared.held_cells.HeldSoFar.{HeldSoFar}
 use Rattle.audit.specs.HeldCells.{place_found, since_after, found_after, Tells, AreHeld}
 
 not_later : (since place bound : ℕ) → place ≤ bound → since ≡ bound + 1 → nat_lt since place ≡ false
@@ -118,7 +118,7 @@ get_set (x ∷ xs) (suc at) put (suc i) found is = by (get_set xs at put i found
   by (inr other) = inr ((λ e. other.0 (omega (arith, e))), other.1)
 
 -- an entry of this worker
-pub noted : (held after : HeldCells) (entry : Entry) (history : List Entry) (number : ℕ) (old new : Findings) (change : HeldChange) (place : ℕ) → entry.who ≡ Worker number
+pub noted : (held after : HeldSoFar) (entry : Entry) (history : List Entry) (number : ℕ) (old new : Findings) (change : HeldChange) (place : ℕ) → entry.who ≡ Worker number
     → change ≡ held_change entry.call entry.reply → AreHeld held history → place ≡ length history + 1
     → slice_get held.workers.items number ≡ Some old → after.workers.items ≡ slice_set held.workers.items number new
     → new.since ≡ since_after change place old.since → ((cell : ℕ) → place_found new cell ≡ found_after change place cell (place_found old cell)) → AreHeld after (entry ∷ history)
@@ -143,7 +143,7 @@ noted held after entry history number old new change place who is_change are at 
     by worker findings (inr other) = other_noted worker entry history findings (other_worker worker other.0) (are.each worker findings other.1)
 
 -- an entry of none of them
-pub none_noted : (held : HeldCells) (entry : Entry) (history : List Entry) → ((worker : ℕ) → worker < 8 → is_worker worker entry.who ≡ false) → AreHeld held history → AreHeld held (entry ∷ history)
+pub none_noted : (held : HeldSoFar) (entry : Entry) (history : List Entry) → ((worker : ℕ) → worker < 8 → is_worker worker entry.who ≡ false) → AreHeld held history → AreHeld held (entry ∷ history)
 none_noted held entry history other are = record {
   eight = are.eight;
   each = (λ worker findings is.

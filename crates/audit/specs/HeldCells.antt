@@ -5,7 +5,7 @@ use Rattle.semantics.specs.declared.call.HeldChange.TheVariants.{LetsGo, Finds}
 use Rattle.semantics.specs.declared.call.Entry.{Entry}
 use Rattle.semantics.specs.Reclamation.{holds}
 use Rattle.audit.specs.declared.held_cells.Findings.{Findings}
-use Rattle.audit.specs.declared.held_cells.HeldCells.{HeldCells}
+use Rattle.audit.specs.declared.held_cells.HeldSoFar.{HeldSoFar}
 
 -- the place of the newest Lookup that found the cell
 abbrev pub place_found : Findings → ℕ → ℕ
@@ -25,13 +25,13 @@ abbrev pub found_after : HeldChange → ℕ → ℕ → ℕ → ℕ
 found_after (Finds id) place cell before = cond (id == cell) place before
 found_after change place cell before = before
 
--- what is kept of this worker tells which cells it holds after this history
+-- what is kept of this worker says which cells it holds after this history
 pub record Tells (worker : ℕ) (history : List Entry) (findings : Findings) : Type 0 where
   pub holding : (cell : ℕ) → is_found findings cell ≡ holds worker cell history
   pub since_within : findings.since ≤ length history
   pub found_within : (cell : ℕ) → place_found findings cell ≤ length history
 
 -- and so of each worker
-pub record AreHeld (held : HeldCells) (history : List Entry) : Type 0 where
+pub record AreHeld (held : HeldSoFar) (history : List Entry) : Type 0 where
   pub eight : length held.workers.items ≡ 8
   pub each : (worker : ℕ) (findings : Findings) → slice_get held.workers.items worker ≡ Some findings → Tells worker history findings

@@ -11,7 +11,7 @@ ghost use Rattle.audit.specs.Audited.{IsFirstIllegal, Explains};
 ghost use Rattle.audit.specs.HeldCells.{AreHeld};
 
 use crate::fault::AuditFault;
-use crate::held_cells::HeldCells;
+use crate::held_cells::HeldSoFar;
 use crate::plans::plan_at;
 use crate::standings::may_call;
 use journals::{Journals, ShardJournal};
@@ -20,7 +20,7 @@ use shard_core::Shard;
 use std::alloc::{AllocError, Global};
 
 /// Makes the entry's call on the shard, if its caller may make it and the journal has room for it, and says whether the reply is the entry's.
-fn is_made_again(shard: &mut Shard, held: &HeldCells, entry: &Entry) -> bool
+fn is_made_again(shard: &mut Shard, held: &HeldSoFar, entry: &Entry) -> bool
     requires { AreHeld held.now (reverse shard.old.journal) }
     ensures legal { IsLegalJournal shard.old.plan shard.old.journal }
     ensures made { result ≡ true → shard.new ≡ with_entry shard.old entry.now }
@@ -46,7 +46,7 @@ fn first_illegal(
     ensures { IfOk result (λ found. MatchOption found (IsLegalJournal plan journal.now) (λ place. IsFirstIllegal plan journal.now place)) }
 {
     let mut shard = Shard::open(alloc, plan)?;
-    let mut held = HeldCells::new(alloc)?;
+    let mut held = HeldSoFar::new(alloc)?;
     'places: for place in 0..journal.len() {
         let entry = journal.entry(place);
         if !is_made_again(&mut shard, &held, &entry) {
@@ -59,7 +59,7 @@ fn first_illegal(
 }
 
 /// Whether each journal is legal: whether each entry is one step of the one-thread map, by a caller that may make the call, with the reply that
-/// the map gives, and none came past a full journal.
+/// the map returns, and none came past a full journal.
 ///
 /// Refused with 53 and the first shard and the least place, counted from 0, such that the beginning of this shard's journal that ends with this
 /// entry is not legal; with 52 where memory is. It takes the memory of one shard at a time.

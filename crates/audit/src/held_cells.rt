@@ -82,21 +82,21 @@ impl Findings {
 
 /// Which cells each worker holds after the entries that were noted.
 #[derive(Drop)]
-pub(crate) struct HeldCells {
+pub(crate) struct HeldSoFar {
     /// Of each worker, by its number.
     workers: Vec<Findings>,
 }
 
-impl HeldCells {
+impl HeldSoFar {
     /// Nothing was noted.
-    pub(crate) fn new(alloc: Global) -> Result<HeldCells, AllocError>
+    pub(crate) fn new(alloc: Global) -> Result<HeldSoFar, AllocError>
         ensures { IfOk result (λ held. AreHeld held []) }
     {
         let mut workers = Vec::new(alloc);
         'numbers: for _ in 0..WORKERS {
             workers.push(Findings::new(alloc))?;
         }
-        Ok(HeldCells { workers })
+        Ok(HeldSoFar { workers })
     }
 
     /// Whether the worker holds the cell.
@@ -110,7 +110,7 @@ impl HeldCells {
         }
     }
 
-    /// The entry stands at this place, counted from 1, after those that were noted.
+    /// The entry is at this place, counted from 1, after those that were noted.
     pub(crate) fn note(&mut self, entry: &Entry, place: u64) -> Result<(), AllocError>
         ensures { (history : List Told) → AreHeld self.old history → place ≡ length history + 1 →
             OnOk result (AreHeld self.new (entry.now ∷ history)) }

@@ -16,7 +16,7 @@ pub struct Outcome {
     pub hash: u64,
 }
 
-/// Reads an image so many times.
+/// Reads an image this many times.
 #[unsafe(no_mangle)]
 pub extern "C" fn bench_ffi_decode(alloc: Global, image: &[u8], count: u32) -> u8 {
     for _ in 0..count {
@@ -28,7 +28,7 @@ pub extern "C" fn bench_ffi_decode(alloc: Global, image: &[u8], count: u32) -> u
     0
 }
 
-/// Reads and verifies an image so many times.
+/// Reads and verifies an image this many times.
 #[unsafe(no_mangle)]
 pub extern "C" fn bench_ffi_verify(alloc: Global, image: &[u8], count: u32) -> u8 {
     for _ in 0..count {
@@ -40,8 +40,8 @@ pub extern "C" fn bench_ffi_verify(alloc: Global, image: &[u8], count: u32) -> u
     0
 }
 
-/// Reads and verifies an image, and runs it so many times: each time on a frame of these bytes, over shards of its own, whose
-/// journals have room for so many entries.
+/// Reads and verifies an image, and runs it this many times: each time on a frame of these bytes, over shards of its own, whose
+/// journals have room for this many entries.
 #[unsafe(no_mangle)]
 pub extern "C" fn bench_ffi_run(
     alloc: Global,

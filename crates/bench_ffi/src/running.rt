@@ -26,7 +26,7 @@ pub struct Ran {
     pub hash: u64,
 }
 
-/// One worker, and a journal with room for so many entries.
+/// One worker, and a journal with room for this many entries.
 fn options(journal: u32) -> Options
     ensures { result.workers ≡ 1 }
 {
@@ -49,7 +49,7 @@ fn frame_of(alloc: Global, bytes: &[u8]) -> Result<Frame, u8>
     }
 }
 
-/// Opens shards and runs the program on a frame of these bytes, or tells the number of the fault.
+/// Opens shards and runs the program on a frame of these bytes, or returns the number of the fault.
 pub fn run_once(alloc: Global, verified: &Verified, bytes: &[u8], journal: u32) -> Result<Ran, u8> {
     opened_serve();
     let options = options(journal);

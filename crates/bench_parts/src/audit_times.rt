@@ -44,7 +44,7 @@ fn file(alloc: Global, rounds: u32) -> Result<String, Error> {
     Ok(text)
 }
 
-/// Prints the row of a journal of so many rounds.
+/// Prints the row of a journal of this many rounds.
 fn measure(rt: &HostRuntime, rounds: u32) -> Result<(), Error> {
     let alloc = rt.alloc();
     let image = image(alloc)?;

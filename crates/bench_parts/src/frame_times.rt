@@ -30,7 +30,7 @@ const MOMENT: Moment = Moment {
     worker: 0,
 };
 
-/// How often a row is measured; the least time is told.
+/// How often a row is measured; the least time is printed.
 const TIMES: usize = 50;
 
 /// `run` at the port of a single caller, which is the same port after it.

@@ -19,10 +19,10 @@ const WORKER: Caller = Caller::Worker { number: 0 };
 /// How many entries a journal has room for.
 const JOURNAL: u32 = 65_536;
 
-/// How often a shard is opened and measured; the least time is told.
+/// How often a shard is opened and measured; the least time is printed.
 const TIMES: usize = 100;
 
-/// A shard for so many keys of 4 bytes, with values of 8.
+/// A shard for this many keys of 4 bytes, with values of 8.
 fn plan(kind: MapKind, count: u32) -> ShardPlan
     requires some { 1 ≤ count }
     requires few { count ≤ 131072 }
@@ -162,7 +162,7 @@ fn pass(shard: &mut Shard, count: u32, adds: bool) -> Result<u64, JournalFull>
 /// How many look-ups are timed at a time; each takes up to three entries of the journal.
 const LOOKUPS: u32 = 16_384;
 
-/// So many passes.
+/// This many passes.
 fn passes(shard: &mut Shard, count: u32, adds: bool) -> Result<u64, JournalFull>
     requires work { IsAtWork shard.old }
     requires some { 1 ≤ count }

@@ -18,7 +18,7 @@ use std::sync::Wait;
 use std::thread::{Threads, join};
 use std::time::{Clock, Instant};
 
-/// How often the shards are opened and measured; the least time is told.
+/// How often the shards are opened and measured; the least time is printed.
 const TIMES: usize = 20;
 
 /// An image of as many arrays as there are threads.

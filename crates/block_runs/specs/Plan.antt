@@ -66,7 +66,7 @@ AreAnswers program [] replies = Unit {0}
 AreAnswers program (call ∷ calls) [] = Unit {0}
 AreAnswers program (call ∷ calls) (reply ∷ replies) = IsReplyTo program call reply × AreAnswers program calls replies
 
--- from this state the program does what the plan says, in at most so many instructions
+-- from this state the program does what the plan says, in at most this many instructions
 abbrev pub Does : ℕ → Program → MachineState → Plan → Type 0
 Does most program state plan =
     (count : ℕ) → most ≤ count → (replies : List Reply) → AreAnswers program (trace_of count program state replies).calls replies →

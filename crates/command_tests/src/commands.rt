@@ -1,6 +1,6 @@
 //! Each command over files in memory.
 //!
-//! A test is a table and one call for each row: what a command gives is compared in helpers, which own all that must be dropped.
+//! A test is a table and one call for each row: what a command comes to is compared in helpers, which own all that must be dropped.
 
 ghost use Rattle.std.specs.Prelude.{◌≡◌, ◌-◌, ◌<◌, ◌^◌};
 
@@ -33,7 +33,7 @@ use xlb_commands::{NoProgress, serve};
 /// A frame of 14 zeros.
 const ZEROS: &[u8] = &[0; 14];
 
-/// What a command is to give: its status, and what it prints on the output and on the error stream.
+/// What a command is to come to: its status, and what it prints on the output and on the error stream.
 #[derive(Clone, Copy)]
 struct Wanted<'a> {
     status: u8,
@@ -41,21 +41,21 @@ struct Wanted<'a> {
     err: &'a str,
 }
 
-/// What a command gives that succeeds and prints nothing.
+/// What a command comes to that succeeds and prints nothing.
 const NOTHING: Wanted<'static> = Wanted {
     status: 0,
     out: "",
     err: "",
 };
 
-/// What an audit gives of legal journals.
+/// What an audit of legal journals comes to.
 const LEGAL: Wanted<'static> = Wanted {
     status: 0,
     out: "legal\n",
     err: "",
 };
 
-/// What a command gives that refuses, and tells this.
+/// What a command comes to that is refused and prints this.
 fn refused(err: &str) -> Wanted<'_> {
     Wanted {
         status: 1,
@@ -135,7 +135,7 @@ fn serve_line<R: Abort + Threads + Wait + Sync>(
     }
 }
 
-/// The program run over a folder, held against what it is to give.
+/// The program run over a folder, held against what is wanted.
 fn answered<R: Abort + Threads + Wait + Sync>(
     rt: &R,
     alloc: Global,
@@ -153,7 +153,7 @@ fn answered<R: Abort + Threads + Wait + Sync>(
     found
 }
 
-/// Holds what a command gives over a folder against what it is to give.
+/// Holds what a command comes to over a folder against what is wanted.
 fn compare<R: Abort + Threads + Wait + Sync>(
     rt: &R,
     alloc: Global,
@@ -294,7 +294,7 @@ fn lacks<R: Abort>(rt: &R, alloc: Global, name: &str, mut folder: MemoryFolder, 
     holds(rt, "no file", name, is_lacking);
 }
 
-/// Holds that a command refuses, tells this, and writes no such file.
+/// Holds that a command is refused, prints this, and writes no such file.
 fn writes_nothing<R: Abort + Threads + Wait + Sync>(
     rt: &R,
     alloc: Global,
@@ -339,7 +339,7 @@ fn assembled<R: Abort + Threads + Wait + Sync>(
     with_image(rt, alloc, name, folder, text)
 }
 
-/// Holds what a command gives over the image of a text, and a second file, against what it is to give.
+/// Holds what a command comes to over the image of a text, and a second file, against what is wanted.
 fn over_text<R: Abort + Threads + Wait + Sync>(
     rt: &R,
     alloc: Global,

@@ -7,7 +7,7 @@ use folders::{Folder, FolderFault, MemoryFolder};
 use std::alloc::{AllocError, Global};
 use std::process::Abort;
 
-/// So many bytes, of which each is its place modulo 251.
+/// This many bytes, of which each is its place modulo 251.
 fn counted(alloc: Global, count: usize) -> Result<Vec<u8>, AllocError> {
     let mut bytes = Vec::new(alloc);
     for place in 0..count {
@@ -30,7 +30,7 @@ const FRONTS: [(&str, usize, usize, usize); 9] = [
     ("100,000 of 65,537", 65_537, 100_000, 65_537),
 ];
 
-/// Holds the front of a file of so many bytes against its first ones.
+/// Holds the front of a file of this many bytes against its first ones.
 fn compare_front<R: Abort>(
     rt: &R,
     alloc: Global,

@@ -65,7 +65,7 @@ script_text commands = flat_map (λ command. ended (line_of command)) commands
 
 -- ---- which commands there are
 
--- so many bytes
+-- this many bytes
 pub record AreBytes (count : ℕ) (bytes : List ℕ) : Type 0 where
   pub long : length bytes ≡ count
   pub each : (place : ℕ) → place < count → slice_index bytes place < 256

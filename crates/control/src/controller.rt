@@ -154,7 +154,7 @@ impl Controller {
         }
     }
 
-    /// Puts a backend's record, and then gives each slot the owner that it has among the backends that are up now.
+    /// Puts a backend's record, and then sets each slot to the owner that it has among the backends that are up now.
     fn change_up<U: UpdatePort>(
         &mut self,
         alloc: Global,
@@ -252,7 +252,7 @@ impl Controller {
     /// Refused, and nothing is changed, with 94 after an earlier 94, whatever else is wrong; else with 91 (`down` of a backend that is not
     /// up, `up` of a number not below 256 and the size), 92 (`up` of a number or an address that is up), 95 (memory is refused). Refused with 93
     /// where the map of services answers a service with another number than 0: only that update was made. Refused with 94 where an
-    /// update meets a full journal: those before it stand, and every later command is refused with 94.
+    /// update meets a full journal: those before it remain, and every later command is refused with 94.
     pub fn apply<U: UpdatePort>(
         &mut self,
         alloc: Global,

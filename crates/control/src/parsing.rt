@@ -105,7 +105,7 @@ pub fn parse_script(alloc: Global, bytes: &[u8]) -> Result<Script, ControlFault>
     }
 }
 
-/// The law of the two: `parse_script` gives back what `Script::text` printed, unless memory is refused.
+/// The law of the two: `parse_script` returns what `Script::text` printed, unless memory is refused.
 pub fn round_trip(alloc: Global, script: &Script) -> Result<Script, ControlFault>
     ensures same { IfOk result (λ made. made ≡ script.now) }
     ensures accepts { IfErr result (λ fault. fault ≡ Memory) }

@@ -67,7 +67,7 @@ fn digit_of(letter: u8) -> u8
     if letter < 87 { 0 } else { (letter - 87) % 16 }
 }
 
-/// The byte whose two digits stand from an index on.
+/// The byte whose two digits are from an index on.
 fn pair_at(bytes: &[u8], place: usize) -> u8
     requires { place < 2 ^ 32 }
     ensures { (byte : ℕ) → byte < 256 → slice_index_or bytes.now place 0 ≡ hex_digit (byte / 16) →
@@ -151,7 +151,7 @@ fn gateway_of(text: &str) -> Action
     }
 }
 
-/// What the command does: its first word's first letter tells which kind it is.
+/// What the command does: its first word's first letter says which kind it is.
 fn action_of(text: &str) -> Action
     ensures { (action : Act) → ActionFits action → text.now ≡ action_text action → result ≡ action }
 {

@@ -56,7 +56,7 @@ fn make_slots<U: UpdatePort>(port: &mut U, slots: &[Slot], size: u32) -> Result<
     Ok(())
 }
 
-/// Puts the record, and then gives each slot its owner.
+/// Puts the record, and then sets each slot to its owner.
 pub(crate) fn make_all<U: UpdatePort>(
     port: &mut U,
     first: Update,

@@ -91,7 +91,7 @@ fn is_taken(made: &[MadeUpdate], map: u32, key: &Key, definition: &MapDef) -> bo
 }
 
 impl UpdateList {
-    /// No updates of these maps as yet, with room for so many.
+    /// No updates of these maps as yet, with room for this many.
     pub fn open(alloc: Global, maps: Vec<MapDef>, room: usize) -> Result<UpdateList, AllocError>
         ensures { IfOk result (λ list. list ≡ record { maps = maps.items; room = room; made = [] }) }
     {

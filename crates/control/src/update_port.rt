@@ -11,19 +11,19 @@ use crate::update::Update;
 use conntrack::{RingRecord, SteeringMap, index_key};
 use semantics::{JournalFull, Key, Value};
 
-/// The maps that a controller updates. What an update gives is a relation of the port before, the update, its answer and the port after.
+/// The maps that a controller updates. What an update returns is a relation of the port before, the update, its answer and the port after.
 /// Each update is made whether or not its key is present (the flags ANY of bpf(2)).
 pub trait UpdatePort {
     /// The maps that it has.
     ghost serves: { Self → List MapDef };
 
-    /// What an update gives: the port before, the update, its answer, and the port after.
+    /// What an update returns: the port before, the update, its answer, and the port after.
     ghost gives: { Self → UpdateBytes → ℤ → Self → Type 0 };
 
     /// What a refusal leaves: the port before, the update, and the port after.
     ghost refuses: { Self → UpdateBytes → Self → Type 0 };
 
-    /// Puts a value under a key of a map, and gives the answer: 0, or Linux's error number, negated. Refused where a journal has no room.
+    /// Puts a value under a key of a map, and returns the answer: 0, or Linux's error number, negated. Refused where a journal has no room.
     fn update(&mut self, map: u32, key: &Key, value: &Value) -> Result<i32, JournalFull>
         requires { IsUpdateOf (serves self.old) (record { map = map; key = key.now; value = value.now }) }
         ensures gives { IfOk result (λ answer. gives self.old (record { map = map; key = key.now; value = value.now }) answer self.new) }

@@ -47,7 +47,7 @@ abbrev pub with_sign : ℤ → List ℕ
 with_sign (pos n) = codes "+" ++ decimal n
 with_sign (negsuc n) = codes "-" ++ decimal (suc n)
 
--- the last so many hexadecimal digits
+-- the last this many hexadecimal digits
 unfoldable pub hex_digits : ℕ → ℕ → List ℕ
 hex_digits zero n = []
 hex_digits (suc k) n = hex_digits k (n / 16) ++ (hex_digit (n % 16) ∷ [])

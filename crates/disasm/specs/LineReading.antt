@@ -49,7 +49,7 @@ AreRead (One a) x y z = x ≡ as_read a
 AreRead (Two a b) x y z = (x ≡ as_read a) × (y ≡ as_read b)
 AreRead (Three a b c) x y z = (x ≡ as_read a) × (y ≡ as_read b) × (z ≡ as_read c)
 
--- ---- what an operand gives, or zero
+-- ---- what an operand returns, or zero
 
 abbrev pub register_in : Operand → Register
 register_in (operands.Register r) = r

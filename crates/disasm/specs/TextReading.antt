@@ -79,7 +79,7 @@ pub record IsBadAfter (text : List ℕ) (line : ℕ) : Type 0 where
 abbrev pub IsFirstBadLine : List ℕ → ℕ → Type 0
 IsFirstBadLine text line = ((line ≡ 1) × ((version : Version) (rest : List ℕ) → text ≢ version_text version ++ rest)) ⊎ IsBadAfter text line
 
--- all lines are spelled right, and tell parts that no image of the version has
+-- all lines are spelled right, and spell parts that no image of the version has
 pub record IsFaultyText (text : List ℕ) (fault : DecodeFault) : Type 0 where
   pub version : Version
   pub maps : List MapDef

@@ -99,7 +99,7 @@ pub fn assemble(alloc: Global, text: &str) -> Result<Image, AsmFault>
     }
 }
 
-/// The law of the two: `assemble` gives back what `text` printed, unless memory is refused.
+/// The law of the two: `assemble` returns what `text` printed, unless memory is refused.
 pub fn round_trip(alloc: Global, image: &Image) -> Result<Image, AsmFault>
     ensures same { IfOk result (λ made. made ≡ image.now) }
     ensures accepts { IfErr result (λ fault. fault ≡ Memory) }

@@ -60,7 +60,7 @@ fn put_signed(alloc: Global, out: &mut String, value: i32) -> Result<(), AllocEr
     Ok(())
 }
 
-/// Writes the last so many hexadecimal digits.
+/// Writes the last this many hexadecimal digits.
 #[tactic(auto, unfolding(crate::specs::AssemblyText::hex_digits))]
 fn put_hex(out: &mut String, count: u32, value: u64) -> Result<(), AllocError>
     ensures { OnOk result (string_bytes out.new ≡ string_bytes out.old ++ hex_digits count value) }

@@ -112,7 +112,7 @@ fn hex_of(digits: &str) -> u64
     }
 }
 
-/// What stands after the opening bracket.
+/// What is after the opening bracket.
 fn place_of(inside: &str) -> Operand
     ensures { (r : RegisterName) (z : ℤ) → FitsSigned w16 z →
         inside.now ≡ register_text r ++ (with_sign z ++ codes "]") → result ≡ Operand.Place r z }

@@ -49,7 +49,7 @@ fn source_operand(source: Source) -> Operand
     }
 }
 
-/// What stands after the first word.
+/// What is after the first word.
 #[rattlefmt::skip]
 #[tactic(auto, unfolding(crate::specs::AssemblyText::operands_of))]
 fn operands_of(insn: Insn) -> Operands

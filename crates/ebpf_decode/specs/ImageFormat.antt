@@ -1,5 +1,5 @@
 -- The image format: the bytes 58 4c 42 50, the version (1 or 2), the number of maps, two zero bytes; sixteen bytes for each
--- map; then the slots to the end. Reading gives the image or the first fault: in the order of the
+-- map; then the slots to the end. Reading returns the image or the first fault: in the order of the
 -- numbers, but of 15 to 19 the first slot's.
 use Rattle.std.specs.Prelude.{◌≡◌, ◌≢◌, ℕ, zero, suc, ◌+◌, ◌*◌, ◌/◌, ◌%◌, Bool, nat_le, nat_lt, ◌==◌, ◌&&◌, ◌||◌, not, List, [], ◌∷◌, ◌++◌}
 use Rattle.faults.specs.declared.fields.Fields.{Fields}
@@ -49,7 +49,7 @@ has_head bytes =
     (slice_index bytes 3 == 0x50) && is_some (version_of (slice_index bytes 4)) && nat_le (map_count bytes) 16 &&
     (slice_index bytes 6 == 0) && (slice_index bytes 7 == 0) && nat_le (8 + 16 * map_count bytes) (length bytes)
 
--- so many maps, the first of this number, and the bytes after them
+-- this many maps, the first of this number, and the bytes after them
 unfoldable pub maps_at : Version → ℕ → ℕ → List ℕ → Result (List MapDef × List ℕ) DecodeFault
 maps_at version place zero bytes = Ok ([], bytes)
 maps_at version place (suc n) bytes = do
@@ -79,7 +79,7 @@ has_code_size bytes = not (length bytes == 0) && (length bytes % 8 == 0) && nat_
 abbrev pub may_ask_memory : List ℕ → Bool
 may_ask_memory bytes = has_head bytes && (nat_lt 0 (map_count bytes) || has_code_size (drop 8 bytes))
 
--- What a function returned, seen by view, is what reading gives, unless memory was refused.
+-- What a function returned, seen by view, is what reading returns, unless memory was refused.
 abbrev pub Gives : {X Y : Type 0} → (X → Y) → Result X DecodeFault → Result Y DecodeFault → Type 0
 Gives view (Ok x) read = read ≡ Ok (view x)
 Gives view (Err fault) read = fault ≢ Memory → read ≡ Err fault

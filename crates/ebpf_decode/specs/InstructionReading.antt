@@ -282,7 +282,7 @@ wide_insn (Number dst low) s = Lddw dst (cast_unsigned w32 s.immediate * 2 ^ 32 
 wide_insn (Map dst map) s = Ldmap dst map
 wide_insn (Value dst map) s = Ldval dst map (cast_unsigned w32 s.immediate)
 
--- the second slot has zeros, but for the upper half of a number, or an offset in a value
+-- the second slot has zeros, except the upper half of a number, or an offset in a value
 unfoldable pub second_slot : WideHead → Slot → Slot
 second_slot (Number dst low) s = slot 0 0 0 (pos 0) s.immediate
 second_slot (Map dst map) s = slot 0 0 0 (pos 0) (pos 0)
@@ -328,7 +328,7 @@ abbrev pub at_slot : {A : Type 0} → ℕ → Result A SlotFault → Result A De
 at_slot place (Ok x) = Ok x
 at_slot place (Err fault) = Err (fault_at place fault)
 
--- what one slot gives, after the head of a wide instruction or nothing; a fault of a wide instruction names its first slot
+-- what one slot returns, after the head of a wide instruction or nothing; a fault of a wide instruction names its first slot
 unfoldable pub step_at : Version → ℕ → Option WideHead → Slot → Result SlotReading DecodeFault
 step_at version place None s = at_slot place (reading_in version (class_of s) s)
 step_at version place (Some head) s = at_slot (place - 1) (whole (second_at head s))

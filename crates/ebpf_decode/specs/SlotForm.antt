@@ -18,7 +18,7 @@ slot_at bytes = record {
   immediate = cast_signed w32 (from_le_bytes w32 (slice_index bytes 4 ∷ slice_index bytes 5 ∷ slice_index bytes 6 ∷ slice_index bytes 7 ∷ []));
 }
 
--- so many slots from the front of the bytes
+-- this many slots from the front of the bytes
 unfoldable pub slots_at : ℕ → List ℕ → List Slot
 slots_at zero bytes = []
 slots_at (suc n) bytes = slot_at bytes ∷ slots_at n (drop 8 bytes)

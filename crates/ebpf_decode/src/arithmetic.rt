@@ -1,4 +1,4 @@
-//! Arithmetic, byte swaps and moves as they stand in a slot (classes ALU and ALU64; RFC 9669, sections 4.1 and 4.2).
+//! Arithmetic, byte swaps and moves as they are in a slot (classes ALU and ALU64; RFC 9669, sections 4.1 and 4.2).
 
 ghost use Rattle.std.specs.Prelude.{◌≡◌};
 ghost use Rattle.ebpf_decode.specs.InstructionReading.{binary_at, neg_at, movsx_at, end_at, arithmetic_at};

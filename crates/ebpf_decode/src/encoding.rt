@@ -301,7 +301,7 @@ pub fn slot_of(insn: Insn) -> Slot
     }
 }
 
-/// The second slot of a wide instruction: zeros, but for the upper half of a number, or an offset in a value.
+/// The second slot of a wide instruction: zeros, except the upper half of a number, or an offset in a value.
 #[tactic(auto, unfolding(crate::specs::InstructionEncoding::more_slots_of))]
 pub fn second_slot_of(insn: Insn) -> Option<Slot>
     ensures { more_slots_of insn ≡ option_list result }

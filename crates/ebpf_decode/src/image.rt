@@ -16,6 +16,9 @@ use std::marker::Model;
 /// How many maps an image may have.
 const MAX_MAPS: usize = 16;
 
+/// The bytes with which an image begins.
+pub(crate) const MAGIC: [u8; 4] = [0x58, 0x4c, 0x42, 0x50];
+
 /// How many slots an image may have.
 pub const MAX_SLOTS: usize = 4096;
 

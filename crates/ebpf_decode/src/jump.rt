@@ -1,4 +1,4 @@
-//! Jumps, calls and exits as they stand in a slot (classes JMP and JMP32; RFC 9669, section 4.3).
+//! Jumps, calls and exits as they are in a slot (classes JMP and JMP32; RFC 9669, section 4.3).
 
 ghost use Rattle.std.specs.Prelude.{◌≡◌};
 ghost use Rattle.ebpf_decode.specs.InstructionReading.{conditional_at, call_at, jump_at};

@@ -53,7 +53,7 @@ impl MapKind {
         }
     }
 
-    /// Whether a key of a map of this kind may have so many bytes.
+    /// Whether a key of a map of this kind may have this many bytes.
     fn is_key_size(self, size: u32) -> bool
         ensures { result ≡ is_key_size self size }
     {

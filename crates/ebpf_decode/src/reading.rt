@@ -8,7 +8,7 @@ ghost use Rattle.ebpf_decode.specs.ImageFormat.{Gives, map_count, version_at, ha
 ghost use Rattle.ebpf_decode.specs.ImageFormat.{may_ask_memory, first_decode_fault, IsImageEncoding};
 
 use crate::fault::{DecodeFault, SlotFault};
-use crate::image::{Image, MAX_SLOTS};
+use crate::image::{Image, MAGIC, MAX_SLOTS};
 use crate::insn::Insn;
 use crate::map::MapDef;
 use crate::slot::Slot;
@@ -21,10 +21,10 @@ fn has_head(bytes: &[u8]) -> bool
     ensures { result ≡ has_head bytes.now }
 {
     8 <= bytes.len()
-        && bytes[0] == 0x58
-        && bytes[1] == 0x4c
-        && bytes[2] == 0x42
-        && bytes[3] == 0x50
+        && bytes[0] == MAGIC[0]
+        && bytes[1] == MAGIC[1]
+        && bytes[2] == MAGIC[2]
+        && bytes[3] == MAGIC[3]
         && Version::of(bytes[4]).is_some()
         && bytes[5] <= 16
         && bytes[6] == 0
@@ -40,7 +40,7 @@ fn version_of(bytes: &[u8]) -> Version
     Version::of(bytes[4]).unwrap_or(Version::V1)
 }
 
-/// So many maps from the front of the bytes, and the bytes after them.
+/// This many maps from the front of the bytes, and the bytes after them.
 fn maps_of(
     alloc: Global,
     version: Version,
@@ -113,7 +113,7 @@ fn keep(code: &mut Vec<Insn>, reading: SlotReading) -> Result<(), AllocError>
     Ok(())
 }
 
-/// The instructions of so many slots, from the front of the bytes.
+/// The instructions of this many slots, from the front of the bytes.
 fn slots_code(
     alloc: Global,
     version: Version,

@@ -32,7 +32,7 @@ fn begun(read: Result<WideHead, SlotFault>) -> Result<SlotReading, SlotFault>
 }
 
 impl Slot {
-    /// What a slot gives that ends no wide instruction, or its first fault.
+    /// What a slot returns that ends no wide instruction, or its first fault.
     #[tactic(auto, unfolding(crate::specs::InstructionReading::reading_in))]
     pub(crate) fn reading(self, version: Version) -> Result<SlotReading, SlotFault>
         ensures { result ≡ reading_in version (class_of self) self }

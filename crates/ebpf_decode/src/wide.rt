@@ -23,7 +23,7 @@ pub enum WideHead {
     Value { dst: Register, map: i32 },
 }
 
-/// What one slot gives.
+/// What one slot returns.
 #[derive(Clone, Copy, Debug, PartialEq, Eq)]
 pub enum SlotReading {
     /// An instruction that ends with this slot.

@@ -10,7 +10,7 @@ ghost use Rattle.ebpf_decode.specs.ImageContents.{Contents};
 ghost use Rattle.ebpf_decode.specs.ImageFormat.{head_bytes, first_decode_fault, IsImageEncoding};
 
 use crate::encoding;
-use crate::image::Image;
+use crate::image::{Image, MAGIC};
 use crate::insn::Insn;
 use crate::map::MapDef;
 use crate::slot::Slot;
@@ -74,11 +74,20 @@ fn put_code(out: &mut Vec<u8>, code: &[Insn]) -> Result<(), AllocError>
     Ok(())
 }
 
-/// The first eight bytes of an image of this version with so many maps.
+/// The first eight bytes of an image of this version with this many maps.
 fn head(version: Version, count: u8) -> [u8; 8]
     ensures { result ≡ head_bytes version count }
 {
-    [0x58, 0x4c, 0x42, 0x50, version.number(), count, 0, 0]
+    [
+        MAGIC[0],
+        MAGIC[1],
+        MAGIC[2],
+        MAGIC[3],
+        version.number(),
+        count,
+        0,
+        0,
+    ]
 }
 
 /// The one encoding of an image. It fails only where memory is refused.
@@ -94,7 +103,7 @@ pub fn encode(alloc: Global, image: &Image) -> Result<Vec<u8>, AllocError>
 }
 
 /// An image has one encoding, no bytes encode two images or two instructions, and what encodes an image has no fault: so what
-/// `encode` gives, `decode` reads back, unless memory is refused.
+/// `encode` returns, `decode` reads back, unless memory is refused.
 pub fn one_encoding()
     ensures one_encoding { (a b : List ℕ) (image : Contents) → IsImageEncoding a image → IsImageEncoding b image → a ≡ b }
     ensures one_image { (bytes : List ℕ) (a b : Contents) → IsImageEncoding bytes a → IsImageEncoding bytes b → a ≡ b }

@@ -6,7 +6,7 @@ use Rattle.epochs.specs.declared.counts.EpochRuns.{EpochRuns}
 pub record EpochCounts : Type 0 where
   -- the epoch in which a run that enters now is; all stamps so far are below it
   pub present : ℕ
-  -- runs by epoch; an epoch may stand in several parts, and counts their sum
+  -- runs by epoch; an epoch may be in several parts, and counts their sum
   pub parts : List EpochRuns
 
 -- what one part counts for an epoch

@@ -37,7 +37,7 @@ impl EpochBook {
         }
     }
 
-    /// Counts one more run, and gives its epoch: above every stamp so far.
+    /// Counts one more run, and returns its epoch: above every stamp so far.
     pub fn enter(&mut self) -> u64
         requires { run_count self.old < 8 }
         ensures epoch { result ≡ self.old.present }

@@ -12,7 +12,7 @@ one_further place [] index below = absurd (omega (arith, below))
 one_further place (byte ∷ bytes) zero below = refl
 one_further place (byte ∷ bytes) (suc index) below = one_further (next_place place byte) bytes index (omega (arith, below))
 
--- where the next byte stands: at the front of a line, or behind the blanks of one
+-- where the next byte is: at the front of a line, or behind the blanks of one
 place_of_start : Bool → Place
 place_of_start true = LineStart
 place_of_start false = Within

@@ -4,7 +4,7 @@ use Rattle.std.specs.List.{filter}
 use Rattle.faults.specs.declared.refusal.Place.{Place}
 use Rattle.faults.specs.declared.refusal.Place.TheVariants.{LineStart, Blank, Within, Wrong}
 
--- where the byte after this one stands: 10 ends a line, 32 is a blank
+-- where the byte after this one is: 10 ends a line, 32 is a blank
 abbrev pub next_place : Place → ℕ → Place
 next_place LineStart byte = if byte == 32 then Blank else Wrong
 next_place Blank byte = if byte == 32 then Within else Wrong
@@ -23,7 +23,7 @@ AreNotes text = place_after LineStart text ≡ LineStart
 abbrev pub one_line : List ℕ → List ℕ
 one_line = filter (λ (byte : ℕ). not (byte == 10))
 
--- what stands before a byte: two blanks at the front of a line
+-- what is before a byte: two blanks at the front of a line
 abbrev pub front_of : Bool → List ℕ
 front_of true = 32 ∷ 32 ∷ []
 front_of false = []

@@ -6,7 +6,7 @@ ghost use Rattle.faults.specs.declared.refusal.Place.TheVariants.{LineStart, Wit
 
 use std::alloc::{AllocError, Global};
 
-/// Where the next byte of lines stands that each begin with two blanks.
+/// Where the next byte of lines is that each begin with two blanks.
 #[derive(Clone, Copy, Debug, PartialEq, Eq)]
 enum Place {
     /// At the front of a line.
@@ -20,7 +20,7 @@ enum Place {
 }
 
 impl Place {
-    /// Where the byte after this one stands.
+    /// Where the byte after this one is.
     fn next(self, byte: u8) -> Place
         ensures { result ≡ next_place self byte }
     {
@@ -124,7 +124,7 @@ fn put_notes(alloc: Global, text: &mut Vec<u8>, notes: &[u8]) -> Result<(), Allo
     }
 }
 
-/// The text that a refusal is told by: the fault's line, and below it the notes in their order, each line of which begins with two blanks. Notes that do
+/// The text that is printed of a refusal: the fault's line, and below it the notes in their order, each line of which begins with two blanks. Notes that do
 /// so already stay as they are.
 pub fn refusal_text(alloc: Global, fault: &str, notes: &str) -> Result<Vec<u8>, AllocError>
     ensures form { IfOk result (λ text. IsRefusalText fault.now notes.now text.items) }

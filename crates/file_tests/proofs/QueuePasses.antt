@@ -8,7 +8,7 @@ use Rattle.rx_queues.specs.declared.passes.TakePass.{TakePass}
 use Rattle.rx_queues.specs.declared.passes.Queues.{Queues}
 use Rattle.rx_queues.specs.Passes.{IsTakePassOf, TakeAtTheirPlaces}
 
--- the rights to take that stand before some others
+-- the rights to take that are before some others
 pub others_take_at_their_places : (queues : Queues) (all first others : List TakePass) → all ≡ first ++ others → TakeAtTheirPlaces queues all
     → TakeAtTheirPlaces queues first
 others_take_at_their_places queues all first others parts takes at pass found =

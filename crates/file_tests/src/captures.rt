@@ -156,7 +156,7 @@ fn failing_source(rt: HostRuntime) {
     }
 }
 
-/// Writes records to a sink that takes so many bytes one by one and then fails, and compares what it has then.
+/// Writes records to a sink that takes this many bytes one by one and then fails, and compares what it has then.
 fn write_slowly(rt: &impl Abort, alloc: Global, records: &[Sent], taken: u8) {
     let mut sink = SlowSink::new(alloc, u64::from(taken) + 1);
     let got = write_capture(&mut sink, records);
@@ -229,7 +229,7 @@ fn capture_fault_texts(rt: HostRuntime) -> Result<(), Fail> {
     are_told(&rt, rt.alloc(), &FAULTS)
 }
 
-/// How many bytes a stream gives in all, and how many of its calls fail.
+/// How many bytes a stream returns in all, and how many of its calls fail.
 fn drained(bytes: &[u8]) -> (u64, u64) {
     let mut source = StreamSource::new(bytes);
     let mut buffer = [0; 4096];

@@ -104,7 +104,7 @@ fn one_record(alloc: Global, number: u32, bytes: &[u8]) -> Result<Sent, Fail> {
     })
 }
 
-/// So many records of 40 flows in turn, each hundredth one of 13 bytes only.
+/// This many records of 40 flows in turn, each hundredth one of 13 bytes only.
 fn records(alloc: Global, count: u32) -> Result<Vec<Sent>, Fail> {
     let mut records = Vec::new(alloc);
     for number in 0..count {
@@ -138,7 +138,7 @@ struct Row<'a> {
     rounds: u64,
 }
 
-// The workers' runs stand as a separate program computed them from the hashes of the flows.
+// The workers' runs are as a separate program computed them from the hashes of the flows.
 #[rattlefmt::skip]
 const ROWS: [Row; 5] = [
     Row { records: 0,    workers: 1, runs: &[0],      rounds: 1 },

@@ -123,7 +123,7 @@ const FRAME_SIZES: [(usize, Option<FrameFault>); 5] = [
     (2049, Some(FrameFault::FrameTooLong)),
 ];
 
-/// Makes a frame of so many bytes, and compares it, or why there is none.
+/// Makes a frame of this many bytes, and compares it, or why there is none.
 fn is_made(
     rt: &impl Abort,
     alloc: Global,

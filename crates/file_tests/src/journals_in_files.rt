@@ -33,7 +33,7 @@ const DELETED: &str = "XLBJ 1 1 1 16
 0 r reclaim freed 1
 ";
 
-/// An image of hash maps with keys of 4 bytes and values of 8, each with room for so many keys.
+/// An image of hash maps with keys of 4 bytes and values of 8, each with room for this many keys.
 fn image(alloc: Global, rooms: &[u32]) -> Result<Image, Fail> {
     let mut maps = Vec::new(alloc);
     for room in rooms {
@@ -370,7 +370,7 @@ fn failing_source(rt: HostRuntime) -> Result<(), Fail> {
     Ok(())
 }
 
-/// Writes journals to a sink that takes so many bytes one by one and then fails, and compares what it has then.
+/// Writes journals to a sink that takes this many bytes one by one and then fails, and compares what it has then.
 fn write_slowly(rt: &impl Abort, alloc: Global, journals: &Journals, taken: u8) {
     let mut sink = SlowSink::new(alloc, u64::from(taken) + 1);
     let got = write_journals(alloc, &mut sink, journals);

@@ -165,7 +165,7 @@ fn refusals_in_their_order(rt: HostRuntime) {
     are_refused_builds(&rt, rt.alloc(), &REFUSED_BUILDS);
 }
 
-/// Why so many backends make no ring of 4093 slots.
+/// Why this many backends make no ring of 4093 slots.
 fn refused_count(alloc: Global, count: u32) -> Result<Option<RingFault>, AllocError> {
     let backends = hundreds(alloc, count)?;
     Ok(refused_build(alloc, &backends, 4093))

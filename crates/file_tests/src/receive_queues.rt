@@ -25,7 +25,7 @@ fn flow(source_port: u16, destination_port: u16, transport: Transport) -> FlowKe
 /// What a row shows, both ports, the protocol, how many workers there are, and the worker.
 type Row = (&'static str, u16, u16, Transport, usize, usize);
 
-// The workers stand as a separate program computed them from the hash of the sixteen bytes.
+// The workers are as a separate program computed them from the hash of the sixteen bytes.
 #[rattlefmt::skip]
 const SPREADS: [Row; 14] = [
     ("first of two flows over two workers",  40000, 80,  Transport::Tcp, 2, 0),
@@ -86,7 +86,7 @@ fn last_of(queues: &Queues, takes: &mut Vec<TakePass>) -> Option<TakePass>
     takes.pop()
 }
 
-// The caller whose queue stands at a place.
+// The caller whose queue is at a place.
 fn caller_at(workers: usize, place: usize) -> Caller
     requires few { workers < 9 }
     requires there { place < workers + 2 }
@@ -123,7 +123,7 @@ fn put_frames<R: Wait>(
     pass
 }
 
-// Takes jobs up to the end, and gives how many frames came in order from 0 on.
+// Takes jobs up to the end, and returns how many frames came in order from 0 on.
 fn take_frames<R: Wait>(rt: &R, queues: &Queues, mut pass: TakePass) -> (TakePass, usize)
     requires { IsTakePassOf queues.now pass }
     ensures { IsTakePassOf queues.now result.0 }
@@ -245,7 +245,7 @@ fn a_full_queue_gives_the_job_back(rt: HostRuntime) -> Result<(), OpenFault> {
     Ok(())
 }
 
-// Puts a frame and takes it again, so many times. Gives how often it came at once.
+// Puts a frame and takes it again, this many times. Returns how often it came at once.
 fn in_lockstep<R: Wait>(
     rt: &R,
     queues: &Queues,

@@ -5,7 +5,7 @@ ghost use Rattle.std.specs.Prelude.{◌≡◌, ◌≤◌, ◌^◌, length, None}
 use std::alloc::Global;
 use wire::{Failed, Sink, Source};
 
-/// A source that gives one byte at a time, and fails at one of its calls.
+/// A source that returns one byte at a time, and fails at one of its calls.
 #[derive(Drop)]
 pub(crate) struct SlowSource<'a> {
     rest: &'a [u8],

@@ -372,7 +372,7 @@ const SIZES: [(u32, u32); 4] = [(7, 8), (251, 256), (4093, 4096), (65537, 65544)
 
 const NO_SIZES: [u32; 7] = [0, 1, 6, 8, 252, 65536, 65538];
 
-/// The maps for a table of this size, whose ring has so many entries.
+/// The maps for a table of this size, whose ring has this many entries.
 fn are_six_maps(rt: &impl Abort, alloc: Global, size: u32, ring: u32) -> Result<(), SteerFault> {
     let maps = maps(alloc, size)?;
     let entries = maps.get(2).map(|map| map.max_entries);

@@ -131,7 +131,7 @@ const SIZES: [Row; 9] = [
     ("cut before length",                1494, 0x45, 1481, 64, 83),
 ];
 
-/// A frame of zeros but for these fields.
+/// A frame of zeros except these fields.
 fn frame_bytes(
     alloc: Global,
     size: usize,

@@ -1,4 +1,4 @@
--- What the structure of a program gives to those who follow its edges, and that the answer is the only one.
+-- What follows from the structure of a program for those who follow its edges, and that the answer is the only one.
 use Rattle.std.specs.Prelude.{◌≡◌, ℕ, ◌<◌, List, Some, IsTrue}
 use Rattle.ebpf_decode.specs.declared.insn.Insn.{Insn}
 use Rattle.semantics.specs.Program.{instruction_at}

@@ -11,7 +11,7 @@ use crate::fault::ShapeFault;
 use ebpf_decode::Insn;
 use ebpf_decode::image::MAX_SLOTS;
 
-/// Tests that a path of edges leads from slot 0 to each instruction. All edges go up, so one pass by rising slot finds it out.
+/// Tests that a path of edges leads from slot 0 to each instruction. All edges go up, so one sweep by rising slot finds it out.
 pub(crate) fn check_reach(code: &[Insn]) -> Result<(), ShapeFault>
     requires few { total_slots code.now ≤ 4096 }
     requires edges { HasSoundEdges code.now }

@@ -10,7 +10,7 @@ use crate::reach::check_reach;
 use ebpf_decode::{Image, Insn};
 
 /// Tests that a program has structure: each jump goes forward to an instruction, no instruction but exit and unconditional
-/// jumps stands at the end, and a path of edges leads from slot 0 to each instruction, where both edges of a conditional jump
+/// jumps is at the end, and a path of edges leads from slot 0 to each instruction, where both edges of a conditional jump
 /// count (RFC 9669, section 4.3).
 ///
 /// Refused with the first of 30 to 33 by rising slot, an instruction's lowest number first, and, where there is none of these,

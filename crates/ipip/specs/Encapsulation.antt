@@ -1,4 +1,4 @@
--- IP in IP (RFC 2003): before the packet of a frame stands an IPv4 header without options
+-- IP in IP (RFC 2003): before the packet of a frame is an IPv4 header without options
 -- (RFC 791, section 3.1) from one end of a tunnel to the other, and before that the Ethernet
 -- addresses of the next hop. The packet itself is left as it was, its time to live too.
 use Rattle.std.specs.Prelude.{ℕ, ◌+◌, ◌-◌, List, [], ◌∷◌, ◌++◌, drop}
@@ -24,7 +24,7 @@ header_with checksum service total tunnel =
 abbrev pub header_checksum : ℕ → ℕ → Tunnel → ℕ
 header_checksum service total tunnel = ones_complement (ones_sum_of (header_with 0 service total tunnel))
 
--- the outer header of a packet of so many bytes, this header among them
+-- the outer header of a packet of this many bytes, this header among them
 unfoldable pub outer_header : ℕ → ℕ → Tunnel → List ℕ
 outer_header service total tunnel = header_with (header_checksum service total tunnel) service total tunnel
 

@@ -25,7 +25,7 @@ fn header_with(checksum: u16, service: u8, total: u16, tunnel: &Tunnel) -> [u8; 
     ]
 }
 
-/// The outer header, with its checksum, of a packet of so many bytes, this header among them.
+/// The outer header, with its checksum, of a packet of this many bytes, this header among them.
 #[tactic(auto, unfolding(crate::specs::Encapsulation::outer_header))]
 pub(crate) fn outer_header(service: u8, total: u16, tunnel: &Tunnel) -> [u8; 20]
     ensures header { result ≡ outer_header service total tunnel.now }

@@ -66,9 +66,9 @@ pub enum AluOp {
     Add,
     Sub,
     Mul,
-    /// Unsigned; by zero gives zero.
+    /// Unsigned; by zero: zero.
     Div,
-    /// Signed, toward zero; by zero gives zero.
+    /// Signed, toward zero; by zero: zero.
     Sdiv,
     Or,
     And,
@@ -76,9 +76,9 @@ pub enum AluOp {
     Lsh,
     /// Logical right shift, its count masked so.
     Rsh,
-    /// Unsigned; by zero gives the dividend.
+    /// Unsigned; by zero: the dividend.
     Mod,
-    /// Signed; by zero gives the dividend.
+    /// Signed; by zero: the dividend.
     Smod,
     Xor,
     Mov,
@@ -101,7 +101,7 @@ pub enum ShortExtension {
     Short16,
 }
 
-/// The order of bytes that a swap gives, on a host that is little-endian (RFC 9669, section 4.2).
+/// The order of bytes that a swap returns, on a host that is little-endian (RFC 9669, section 4.2).
 #[derive(Clone, Copy, Debug, PartialEq, Eq)]
 pub enum ByteOrder {
     /// To little endian: the low bytes as they are.
@@ -373,7 +373,7 @@ impl AluOp {
         }
     }
 
-    /// The operation of this code and offset, if it is one's. The offset tells division and remainder from their signed
+    /// The operation of this code and offset, if it is one's. The offset distinguishes division and remainder from their signed
     /// forms, and no other operation.
     pub fn of(code: u8, offset: i16) -> Option<AluOp>
         ensures { result ≡ alu_op_of code offset }

@@ -111,7 +111,7 @@ IsBare (Updated who code start) = ⊥
 IsBare (Deleted who code at) = ⊥
 IsBare (Reclaimed who start) = ⊥
 
--- what the fields of a journal stand for
+-- what the fields of a journal represent
 abbrev pub journaled : ℕ → ℕ → ℕ → ℕ → List Row → List ℕ → List ℕ → Journaled
 journaled shard reserve key_size value_size rows bytes words = record {
   shard = shard;

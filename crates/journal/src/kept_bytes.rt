@@ -1,4 +1,4 @@
-//! Keys and values as bytes that stand one after another, put there and read back.
+//! Keys and values as bytes that are one after another, put there and read back.
 
 ghost use Rattle.std.specs.Prelude.{◌≡◌, ◌+◌, ◌≤◌, ◌++◌, length, vec_len, vec_capacity};
 ghost use Rattle.journal.specs.Rows.{part};
@@ -27,7 +27,7 @@ pub(crate) fn put_words(words: &mut Vec<u64>, more: &[u64])
     }
 }
 
-/// So many bytes from a place on.
+/// This many bytes from a place on.
 fn part(bytes: &[u8], at: u64, size: u32) -> &[u8]
     requires { at + size ≤ length bytes.now }
     ensures bytes { result.now ≡ part at size bytes.now }
@@ -37,7 +37,7 @@ fn part(bytes: &[u8], at: u64, size: u32) -> &[u8]
     &bytes[at..at + size as usize]
 }
 
-/// The key of so many bytes from a place on.
+/// The key of this many bytes from a place on.
 pub fn key_at(bytes: &[u8], at: u64, size: u32) -> Key
     requires within { at + size ≤ length bytes.now }
     requires size { size ≤ 32 }
@@ -48,7 +48,7 @@ pub fn key_at(bytes: &[u8], at: u64, size: u32) -> Key
     key
 }
 
-/// The value of so many bytes from a place on.
+/// The value of this many bytes from a place on.
 pub fn value_at(bytes: &[u8], at: u64, size: u32) -> Value
     requires within { at + size ≤ length bytes.now }
     requires size { size ≤ 256 }

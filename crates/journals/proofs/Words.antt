@@ -51,7 +51,7 @@ verb_lacks verb = lacks_from word 32 (verb_text verb) (verb_within verb) refl
 worker_text : (n : ℕ) → n < 8 → who_text (Worker n) ≡ 119 ∷ (48 + n) ∷ []
 worker_text n lt = ap (λ (xs : List ℕ). 119 ∷ xs) (decimal_digit n (omega arith))
 
--- the digit behind the letter, which tells the worker
+-- the digit behind the letter, which is the worker's
 pub worker_is : (n : ℕ) (text : List ℕ) (who : Caller) → text ≡ 119 ∷ (48 + n) ∷ [] → CallerFits who → text ≡ who_text who → Worker n ≡ who
 worker_is n text (Worker m) is fits same =
     let e : (48 + n) ∷ [] ≡ (48 + m) ∷ [] = ap (drop 1) (sym is ∙ same ∙ worker_text m fits) in

@@ -14,7 +14,7 @@ use Rattle.journals.specs.declared.entry_list.EntryRow.{EntryRow}
 abbrev pub bytes_of : Call → List ℕ
 bytes_of call = unwrap_or (key_of_call call) [] ++ unwrap_or (value_of_call call) []
 
--- the row of a call whose key and value stand from this place on
+-- the row of a call whose key and value are from this place on
 abbrev pub row_of : ℕ → Call → CallRow
 row_of at (calls.Enter shard) = Enter shard
 row_of at (calls.Leave shard) = Leave shard
@@ -29,7 +29,7 @@ row_of at (calls.Reclaim shard) = Reclaim shard
 abbrev pub entry_row : ℕ → Entry → EntryRow
 entry_row at entry = record { who = entry.who; call = row_of at entry.call; reply = entry.reply }
 
--- the call of a row, whose key and value stand in the bytes
+-- the call of a row, whose key and value are in the bytes
 abbrev pub call_of : List ℕ → CallRow → Call
 call_of bytes (Enter shard) = calls.Enter shard
 call_of bytes (Leave shard) = calls.Leave shard
@@ -59,7 +59,7 @@ FitsRow (calls.Update shard key value flags) = (length key ≤ 32) × (length va
 FitsRow (calls.Delete shard key) = length key ≤ 32
 FitsRow (calls.Reclaim shard) = Unit {0}
 
--- the row's key and value stand among the first so many bytes
+-- the row's key and value are among the first this many bytes
 abbrev pub IsWithin : ℕ → CallRow → Type 0
 IsWithin count (Enter shard) = Unit {0}
 IsWithin count (Leave shard) = Unit {0}

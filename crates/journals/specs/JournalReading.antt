@@ -1,4 +1,4 @@
--- What is read of a file of journals: the journals, or the first line that cannot stand there.
+-- What is read of a file of journals: the journals, or the first line that cannot be there.
 use Rattle.std.specs.Prelude.{◌≡◌, ◌≢◌, ℕ, ◌+◌, ◌<◌, ◌≤◌, ◌⊎◌, List, [], ◌∷◌, ◌++◌, length, Option, Some, None, ⊤}
 use Rattle.std.specs.List.{AllByRecursion}
 use Rattle.std.specs.Str.{IsUtf8}
@@ -21,7 +21,7 @@ use Rattle.journals.specs.EntryForm.{IsFileEntry}
 abbrev pub IsOfShard : ℕ → Entry → Type 0
 IsOfShard number entry = shard_of_call entry.call ≡ number
 
--- each entry is one of the shard in whose list it stands; the first list is that of this shard
+-- each entry is one of the shard in whose list it is; the first list is that of this shard
 abbrev pub AreListedFrom : ℕ → List (List Entry) → Type 0
 AreListedFrom number [] = Unit {0}
 AreListedFrom number (entries ∷ shards) = AllByRecursion (IsOfShard number) entries × AreListedFrom (number + 1) shards
@@ -83,7 +83,7 @@ pub record AreDivided (entries : List Entry) (done : List (List Entry)) (present
   pub listed : AreListedFrom 0 done
   pub next : AllByRecursion (IsOfShard (length done)) present
 
--- so many entries' lines, and the rest, which begins with no entry's of their last shard or of a later one
+-- this many entries' lines, and the rest, which begins with no entry's of their last shard or of a later one
 pub record AreRead (maps : List MapDef) (options : Options) (text : List ℕ) (done : List (List Entry)) (present : List Entry) (lines : ℕ)
     (rest : List ℕ) : Type 0 where
   pub entries : List Entry

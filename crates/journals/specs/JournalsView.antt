@@ -19,7 +19,7 @@ pub record AreImageMaps (maps : List MapDef) : Type 0 where
   pub few : length maps ≤ 16
   pub allowed : AllByRecursion (IsAllowedMap V2) maps
 
--- so many journals: one for each shard of such maps, which these options open
+-- this many journals: one for each shard of such maps, which these options open
 pub record AreJournals (maps : List MapDef) (options : Options) (count : ℕ) : Type 0 where
   pub maps_are : AreImageMaps maps
   pub options_fit : AreOptions maps options

@@ -7,7 +7,7 @@ ghost use Rattle.journals.specs.EntryRows.{bytes_of, row_of, call_of, FitsRow, I
 use journal::{key_at, put_bytes, value_at};
 use semantics::{Call, CellRef, Key, Value};
 
-/// A call whose key, and behind it its value, stand among the list's bytes from `at` on.
+/// A call whose key, and behind it its value, are among the list's bytes from `at` on.
 #[derive(Clone, Copy, Debug, PartialEq, Eq)]
 pub enum CallRow {
     Enter {
@@ -58,7 +58,7 @@ pub enum CallRow {
 }
 
 impl CallRow {
-    /// The row of a call whose key and value stand from this place on.
+    /// The row of a call whose key and value are from this place on.
     #[rattlefmt::skip]
     pub(crate) fn of(call: &Call, at: u64) -> CallRow
         ensures row { result ≡ row_of at call.now }
@@ -136,7 +136,7 @@ fn key_bytes(call: &Call) -> &[u8]
     }
 }
 
-// The bytes of the value that an Update gives its key, none of another call.
+// The bytes of the value that an Update sets for its key, none of another call.
 fn value_bytes(call: &Call) -> &[u8]
     ensures bytes { result.now ≡ unwrap_or (value_of_call call.now) [] }
     ensures at_most { length result.now ≤ 256 }

@@ -8,7 +8,7 @@ use semantics::{Caller, Entry, Reply};
 use std::alloc::{AllocError, Global};
 use std::marker::Model;
 
-/// An entry whose key and value stand among the list's bytes.
+/// An entry whose key and value are among the list's bytes.
 #[derive(Clone, Copy, Debug, PartialEq, Eq)]
 pub struct EntryRow {
     pub who: Caller,

@@ -13,7 +13,7 @@ pub enum FileFault {
     /// 52: memory was refused.
     #[error("fault 52 Memory")]
     Memory,
-    /// 55: this line of the file, counted from 1, cannot stand there.
+    /// 55: this line of the file, counted from 1, cannot be there.
     #[error("fault 55 BadJournalFile line {line}")]
     BadJournalFile { line: usize },
 }

@@ -51,7 +51,7 @@ pub fn write_journals<K: Sink>(
 /// Reads the file of journals of the shards of the image's maps from a device.
 ///
 /// Refused with 7 where the device failed, once: the call stops there. Refused with 52 where memory is. Refused with 55 and the first line,
-/// counted from 1, that cannot stand there: a first line that is no header with options which open shards of these maps; a line that is no
+/// counted from 1, that cannot be there: a first line that is no header with options which open shards of these maps; a line that is no
 /// entry's in its one spelling, with a key and a value of its map's lengths; one of a shard before that of the line above it; and what
 /// comes after the last line feed. Where the bytes are no UTF-8, it is the line of the first byte that is not. After a fault nothing is kept.
 pub fn read_journals<S: Source>(
@@ -77,7 +77,7 @@ pub fn read_journals<S: Source>(
 
 /// The journals of the shards of the image's maps that these bytes are the file of.
 ///
-/// Refused with 52 where memory is. Refused with 55 and the first line that cannot stand there, as `read_journals` is.
+/// Refused with 52 where memory is. Refused with 55 and the first line that cannot be there, as `read_journals` is.
 pub fn journals_of(alloc: Global, image: &Image, bytes: &[u8]) -> Result<Journals, FileFault>
     ensures found { IfOk result (λ journals. IsJournalsFile image.now.maps bytes.now journals) }
     ensures refused { IfErr result (Refuses image.now.maps bytes.now) }

@@ -143,7 +143,7 @@ module _ (keys other : ℕ → Option (List ℕ)) (n : ℕ) (elsewhere : (m : �
       free_same keys other (without n order) (among (without n order) (gone n order once)) (free_without keys (λ m. 0) n order last),
     )
 
-  -- a number that has no key any more stands last
+  -- a number that has no key any more is last
   module _ (order : List ℕ) (once : StandOnce order) (there : is_listed n order ≡ true) (ids : ℕ → ℕ) (bare : other n ≡ None) where
     rest_same : in_order other ids (without n order) ≡ in_order keys ids (without n order)
     rest_same = order_same keys other ids ids (without n order) (among (without n order) (gone n order once)) (λ m listed. refl)

@@ -125,7 +125,7 @@ module _ (keys : ℕ → Option (List ℕ)) (ids : ℕ → ℕ) where
   order_append n [] none = rw none refl
   order_append n (m ∷ order) none = ap (with_entry (keys m) (ids m)) (order_append n order none)
 
-  -- the length counts numbers with a key, wherever they stand
+  -- the length counts numbers with a key, wherever they are
   pub counted_without : (n : ℕ) (order : List ℕ) → is_listed n order ≡ true → length (with_entry (keys n) (ids n) (in_order keys ids (without n order))) ≡ length (in_order keys ids order)
   counted_without n [] there = absurd (false≢true there)
   counted_without n (m ∷ order) there = by_test (nat_eq n m) refl there (λ is. counted_without n order is)
@@ -144,7 +144,7 @@ module _ (keys : ℕ → Option (List ℕ)) (ids : ℕ → ℕ) where
       by_test true here is rest = (let same : n ≡ m = eqb-true n m here in rw same refl)
       by_test false past is rest = swap (keys n) (keys m) (in_order keys ids (without n order)) ∙ longer (keys m) (with_entry (keys n) (ids n) (in_order keys ids (without n order))) (in_order keys ids order) (rest is)
 
-  -- ---- numbers that have no key stand last
+  -- ---- numbers that have no key are last
 
   none_without : (n : ℕ) (order : List ℕ) → HaveNoKey keys order → HaveNoKey keys (without n order)
   none_without n [] none = tt

@@ -189,7 +189,7 @@ module _ {V : Type 0} where
       let all : take (room - 1) es ≡ es = take_whole (room - 1) es (omega (arith, long, many)) in
       rw (absent, all) (ap (λ (rest : List ℕ). n ∷ rest) is)
 
--- ---- no number stands behind itself
+-- ---- no number is behind itself
 
 module _ {V : Type 0} where
   unlisted_apart : (n : ℕ) (es : List (ℕ × V)) → NonePasses (nat_eq n) es → is_listed n (order_of es) ≡ false
@@ -201,6 +201,6 @@ module _ {V : Type 0} where
   stand_once (e ∷ es) distinct =
       (unlisted_apart e.0 es (none_past_head nat_eq_equiv e.0 e es distinct (eq-eqb e.0 e.0 refl)), stand_once es (IsDistinct-tail nat_eq e.0 (keys_of es) distinct))
 
--- the number that stands last, where the pairs are as many
+-- the number that is last, where the pairs are as many
 pub stands_last : {V : Type 0} (es : List (ℕ × V)) (n : ℕ) → Some n ≡ slice_get (order_of es) (length es - 1) → slice_get (order_of es) (length (order_of es) - 1) ≡ Some n
 stands_last es n last = (let many : length (order_of es) ≡ length es = length-map es (λ e. e.0) in rw many (sym last))

@@ -50,7 +50,7 @@ UseBringsForward =
     IsByUse older present entries → ((q : List ℕ) → uses q entry ≡ bytes_eq key q) →
     cell_of_present present key ≡ Some id → IsByUse (entry ∷ older) present (promoted (bytes_eq key) entries)
 
--- a new key with a cell of its own stands at the front
+-- a new key with a cell of its own is at the front
 abbrev pub NewKeyIsFirst : Type 0
 NewKeyIsFirst =
     (entry : Entry) (older : List Entry) (present : List PresentKey) (entries : List (List ℕ × ℕ)) (key : List ℕ) (id : ℕ) →

@@ -14,11 +14,11 @@ cell_of_key table key = lookup (bytes_eq key) table.entries
 
 -- ---- the table after each call
 
--- a key that is there stands first once it is used
+-- a key that is there is first once it is used
 abbrev pub touched : List ℕ → LruTable → LruTable
 touched key table = record table { entries = promoted (bytes_eq key) table.entries }
 
--- a new key stands first
+-- a new key is first
 abbrev pub with_new_key : List ℕ → ℕ → LruTable → LruTable
 with_new_key key id table = record table { entries = (key, id) ∷ table.entries }
 

@@ -1,4 +1,4 @@
--- The keys of a shard in the order of their entry numbers' last uses. The numbers that have no key stand behind the others.
+-- The keys of a shard in the order of their entry numbers' last uses. The numbers that have no key are behind the others.
 use Rattle.std.specs.Prelude.{◌≡◌, ℕ, ◌<◌, ◌≤◌, true, List, [], ◌∷◌, length, Option, Some, None, slice_index_or}
 use Rattle.std.specs.List.{AllByRecursion}
 use Rattle.plain_maps.specs.Keyed.{KeyMap, key_of_number}
@@ -29,7 +29,7 @@ id_at ids n = slice_index_or ids n 0
 abbrev pub lru_table : KeyMap → List ℕ → List ℕ → LruTable
 lru_table index ids order = record { size = index.size; capacity = index.capacity; entries = in_order (key_of_number index) (id_at ids) order }
 
--- every entry number stands in the order, and `count` is how many have a key
+-- every entry number is in the order, and `count` is how many have a key
 pub record IsLruShard (index : KeyMap) (ids order : List ℕ) (count : ℕ) : Type 0 where
   pub small_keys : index.size ≤ 32
   pub some : 0 < index.capacity

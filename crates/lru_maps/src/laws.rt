@@ -2,7 +2,7 @@
 
 ghost use Rattle.lru_maps.specs.ByUse.{LastIsLeast, OthersKeepOrder, UseBringsForward, NewKeyIsFirst, RemovalKeepsOrder, EvictionKeepsOrder};
 
-/// Where a table stands beside a history, its last key is the one whose last use in the history is earliest, and that key is one.
+/// Where a table belongs to a history, its last key is the one whose last use in the history is earliest, and that key is one.
 pub fn last_is_least()
     ensures { LastIsLeast }
 {}

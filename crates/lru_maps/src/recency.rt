@@ -37,7 +37,7 @@ impl Recency {
         Ok(Recency { cache })
     }
 
-    /// A use of the number, after all uses so far: it stands first.
+    /// A use of the number, after all uses so far: it is first.
     pub fn touch(&mut self, number: u32)
         ensures order { order_of self.new.cache.entries ≡ used number (order_of self.old.cache.entries) }
         ensures by_use { StaysByUse number self.old.cache.entries self.new.cache.entries }
@@ -46,7 +46,7 @@ impl Recency {
         put_first(&mut self.cache, number);
     }
 
-    /// The number has no key any more: it stands last.
+    /// The number has no key any more: it is last.
     pub fn release(&mut self, number: u32)
         ensures order { order_of self.new.cache.entries ≡ released number (order_of self.old.cache.entries) }
         ensures by_use { (last : ℕ → ℕ) → IsByLastUse last self.old.cache.entries → IsByLastUse (used_at last number 0) self.new.cache.entries }
@@ -55,7 +55,7 @@ impl Recency {
         put_last(&mut self.cache, number);
     }
 
-    /// Does nothing: each number stands once.
+    /// Does nothing: each number is there once.
     pub fn numbers_differ(&self)
         ensures { StandOnce (order_of self.now.cache.entries) }
     {

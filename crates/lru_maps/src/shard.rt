@@ -80,7 +80,7 @@ impl LruShard {
         }
     }
 
-    /// The cell of a key, which is used: it stands first. Where the key is absent nothing is changed.
+    /// The cell of a key, which is used: it is first. Where the key is absent nothing is changed.
     pub fn touch(&mut self, key: &[u8]) -> Option<u64>
         requires { length key.now ≡ self.old.size }
         ensures cell { result ≡ cell_of_key self.old key.now }
@@ -98,7 +98,7 @@ impl LruShard {
         }
     }
 
-    /// Gives a new key this cell. It is used: it stands first.
+    /// Gives a new key this cell. It is used: it is first.
     pub fn insert(&mut self, key: &[u8], id: u64)
         requires size { length key.now ≡ self.old.size }
         requires absent { cell_of_key self.old key.now ≡ None }
@@ -117,7 +117,7 @@ impl LruShard {
         self.count += 1;
     }
 
-    /// Takes a key out, and gives the cell that it had. Where the key is absent nothing is changed.
+    /// Takes a key out, and returns the cell that it had. Where the key is absent nothing is changed.
     pub fn remove(&mut self, key: &[u8]) -> Option<u64>
         requires { length key.now ≡ self.old.size }
         ensures cell { result ≡ cell_of_key self.old key.now }
@@ -138,7 +138,7 @@ impl LruShard {
         }
     }
 
-    /// Takes the key out of a full shard that was used longest ago, and gives the cell that it had.
+    /// Takes the key out of a full shard that was used longest ago, and returns the cell that it had.
     pub fn evict(&mut self) -> u64
         requires { length self.old.entries ≡ self.old.capacity }
         ensures cell { option_map (λ entry. entry.1) (victim self.old) ≡ Some result }

@@ -4,10 +4,10 @@
 mod act;
 mod advance;
 mod arms;
-mod ask;
 mod calls;
 mod exit;
 mod facts;
+mod map_call;
 mod moment;
 mod next;
 mod onward;

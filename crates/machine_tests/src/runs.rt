@@ -156,7 +156,7 @@ static PLACES: [(&str, u8, Exit); 2] = [
     ("past the end", 14, Exit { verdict: Verdict::Pass, steps: 12 }),
 ];
 
-/// Byte 13 tells where the byte is that is the verdict.
+/// Byte 13 says where the byte is that is the verdict.
 #[test]
 fn a_place_that_the_packet_tells(rt: HostRuntime) -> Result<(), Fail> {
     let head = checked!(14, 6);

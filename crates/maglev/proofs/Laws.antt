@@ -13,7 +13,7 @@ use Rattle.maglev.specs.Turns.{AreTurnsTaken, backend_at, owners_of, turns_of}
 use Rattle.maglev.proofs.Shares.{counts, counts-same, counts-other, not_from_count, turns_of-fair}
 use Rattle.maglev.proofs.Uniqueness.{same_owners}
 
--- a count survives names that are told apart
+-- a count survives names that are distinguished
 count_by-names : (name : ℕ → ℕ) (most place : ℕ) → ((other : ℕ) → other < most → name other ≡ name place → other ≡ place)
     → (xs : List ℕ) → All (λ x. x < most) xs → count_by (λ x. eqb x (name place)) (map name xs) ≡ count_by (λ x. eqb x place) xs
 count_by-names name most place apart [] below = refl
@@ -96,7 +96,7 @@ module _ (size free : ℕ) (backends : List Preference) (table : List ℕ) (left
         get_or-map (λ backend. backend.number) backends (get_or table slot 0) no_backend (get_or (owners_of left table) slot 0) inside ∙ sym is_owner,
       ))
 
-  -- numbers that differ tell the backends apart
+  -- numbers that differ distinguish the backends
   told_apart : AllPairs (λ number other. number ≢ other) (numbers_of backends) → (place other : ℕ) → place < length backends → other < length backends
       → number_at other ≡ number_at place → other ≡ place
   unfolding number_at

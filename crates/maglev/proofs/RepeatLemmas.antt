@@ -1,4 +1,4 @@
--- A list in which a key stands twice, found by looking at what stands before each element.
+-- A list in which a key is there twice, found by looking at what is before each element.
 use Rattle.std.proofs.Common.{◌≡◌, ◌≢◌, ℕ, ◌+◌, ◌<◌, ◌≤◌, List, Some, length, get_or, take, map, ⊎_elim, sym, ap, ◌∙◌, arith}
 use Rattle.std.specs.Prelude.{Any, slice_get}
 use Rattle.std.proofs.lemmas.Bool.{cases_eq}
@@ -37,7 +37,7 @@ module _ {X Y : Type 0} (key : X → Y) (xs : List X) where
   pub NoneBelow-start : NoneBelow 0
   NoneBelow-start i j before below = absurd (omega arith)
 
-  -- an element whose key stands nowhere before it
+  -- an element whose key is nowhere before it
   pub NoneBelow-next : (later : ℕ) (d : X) → later < length xs → ¬ Any (λ e. key e ≡ key (get_or xs later d)) (take later xs)
       → NoneBelow later → NoneBelow (later + 1)
   NoneBelow-next later d inside none so_far i j before below same =

@@ -1,4 +1,4 @@
--- The lists that a ring is made of: their preferences fit, and no number stands in them twice.
+-- The lists that a ring is made of: their preferences fit, and no number is in them twice.
 use Rattle.std.proofs.Common.{◌≡◌, ◌≢◌, ℕ, ◌+◌, ◌-◌, ◌%◌, ◌<◌, List, Some, [], ◌∷◌, get_or, map, refl, sym, ap, ◌∙◌, subst, arith}
 use Rattle.std.specs.Prelude.{All, AllPairs, Contains}
 use Rattle.std.proofs.Math.Nat.{mod-lt}
@@ -35,7 +35,7 @@ pub numbers_of-given : (given : List (ℕ × ℕ × ℕ)) → numbers_of (given_
 numbers_of-given [] = refl
 numbers_of-given (preference ∷ given) = ap (λ rest. preference.0 ∷ rest) (numbers_of-given given)
 
--- where no element stands again, all differ
+-- where no element is there again, all differ
 pub AllPairs-from_no_repeat : (xs : List ℕ) → ¬ HasRepeat xs → AllPairs (λ number other. number ≢ other) xs
 AllPairs-from_no_repeat xs none i j d before within same =
     none (record {

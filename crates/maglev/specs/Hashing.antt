@@ -1,4 +1,4 @@
--- The preferences that a backend's address gives it: two hashes of the address, by a byte that is put before it.
+-- The preferences of a backend's address: two hashes of the address, by a byte that is put before it.
 use Rattle.std.specs.Prelude.{ℕ, ◌+◌, ◌-◌, ◌%◌, List, ◌∷◌, map}
 use Rattle.wire.specs.Fnv.{fnv1a64_of}
 use Rattle.maglev.specs.declared.backend.Backend.{Backend}

@@ -27,7 +27,7 @@ pub record IsFirstFree (size : ℕ) (preference : Preference) (taken : List ℕ)
   pub free : ¬ Contains taken slot
   pub earlier_taken : (earlier : ℕ) → earlier < choice → Contains taken (preferred_slot size preference earlier)
 
--- what stands past the end of a list of backends
+-- what is past the end of a list of backends
 abbrev pub no_backend : Preference
 no_backend = record { number = 0; offset = 0; skip = 0 }
 

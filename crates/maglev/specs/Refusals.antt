@@ -2,7 +2,7 @@
 use Rattle.std.specs.Prelude.{◌≡◌, ℕ, ◌<◌, ◌⊎◌, List, length, slice_get, map}
 use Rattle.maglev.specs.declared.backend.Backend.{Backend}
 
--- an element stands in the list again later
+-- an element is in the list again later
 pub record HasRepeat {X : Type 0} (xs : List X) : Type 0 where
   pub first : ℕ
   pub later : ℕ

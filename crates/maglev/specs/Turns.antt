@@ -22,11 +22,11 @@ pub record IsRestOf (size : ℕ) (preference : Preference) (taken : List ℕ) (l
 abbrev pub backend_at : List Preference → ℕ → Preference
 backend_at backends place = slice_index_or backends place no_backend
 
--- how many of so many turns belong to the backend in this place
+-- how many of this many turns belong to the backend in this place
 abbrev pub turns_of : ℕ → ℕ → ℕ → ℕ
 turns_of backends place turns = (turns + (backends - 1 - place)) / backends
 
--- what so many turns leave: the table, and what is left of each preference list
+-- what this many turns leave: the table, and what is left of each preference list
 pub record AreTurnsTaken (size free : ℕ) (backends : List Preference) (turns : ℕ) (table : List ℕ) (left : List Preference) : Type 0 where
   -- the slots in the order in which they were taken
   pub taken : List ℕ

@@ -1,4 +1,4 @@
-//! A backend, and the preferences that its address gives it.
+//! A backend, and the preferences of its address.
 
 ghost use Rattle.std.specs.Prelude.{◌≡◌, ◌<◌, ◌∷◌, ◌↔◌, IsTrue};
 ghost use Rattle.wire.specs.Fnv.{fnv1a64_of};
@@ -24,7 +24,7 @@ fn tagged_hash(tag: u8, address: Ipv4Address) -> u64
 }
 
 impl Backend {
-    /// The preferences that the address gives the backend in a table of so many slots.
+    /// The preferences that the backend's address has in a table of this many slots.
     pub fn preference(&self, size: u32) -> Preference
         requires { 1 < size }
         ensures { result ≡ hashed_preference size self.now }

@@ -41,7 +41,7 @@ fn first_free(table: &Vec<u32>, preference: Preference, size: u32) -> u32
 }
 
 /// Lets the backends take turns until no slot is free. The table becomes that of the owners' places in the list,
-/// and of each preference list what is left stands in the list.
+/// and of each preference list what is left is in the list.
 fn take_turns(table: &mut Vec<u32>, backends: &mut Vec<Preference>, size: u32)
     requires served { IsRingSize size }
     requires all_free { table.old.items ≡ replicate size FREE }

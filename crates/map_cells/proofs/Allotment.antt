@@ -1,4 +1,4 @@
--- What becomes of the places where a cell is made and where one is freed, and of the cells that stand in them.
+-- What becomes of the places where a cell is made and where one is freed, and of the cells that are in them.
 use Rattle.std.proofs.Common.{◌≡◌, ◌≢◌, ℕ, zero, suc, ◌+◌, ◌*◌, ◌==◌, ◌<◌, ◌≤◌, ◌⊎◌, List, [], ◌∷◌, ◌++◌, length, get_or, set, Some, None, is_some, IsTrue, inl, inr, sym, refl, arith, rules, ap, ◌∙◌, eq-eqb}
 use Rattle.std.proofs.lemmas.Bool.{cases_Bool, cases_lt, false≢true}
 use Rattle.std.proofs.lemmas.Bool.Decides.{eqb_tells}
@@ -155,7 +155,7 @@ module _ (places : ℕ) (few : places < no_place) (place_of free : List ℕ) (p 
     balance = let count = kept_count_push place_of p taken_some in omega (arith, count, more_free, before.balance);
   }
 
-  -- the cells there stand where they stood, and the new one is behind them
+  -- the cells there are where they stood, and the new one is behind them
   pub cells_taken : (size : ℕ) (bytes written value : List ℕ) → ((m : ℕ) → m ≢ p → block_of size written m ≡ block_of size bytes m) → block_of size written p ≡ value → cells_in size written (place_of ++ p ∷ []) ≡ cells_in size bytes place_of ++ Some value ∷ []
   cells_taken size bytes written value elsewhere here = map-append (cell_in size written) place_of (p ∷ []) ∙ rw (cells_same size bytes written p elsewhere place_of (λ id lt. taken_unused id), cell_in_place size written p taken_some, here) refl
 

@@ -1,10 +1,10 @@
--- Where the cells stand: each kept id has a place of its own, and the free places are all others.
+-- Where the cells are: each kept id has a place of its own, and the free places are all others.
 use Rattle.std.specs.Prelude.{◌≡◌, ◌≢◌, ℕ, ◌+◌, ◌*◌, ◌==◌, ◌<◌, ◌≤◌, List, [], ◌∷◌, length, map, Option, Some, None, slice_index_or, if◌then◌else◌}
 use Rattle.map_cells.specs.declared.retired.Retired.{Retired}
 use Rattle.map_cells.specs.Blocks.{block_of}
 use Rattle.map_cells.specs.CellTable.{CellTable, retired_at}
 
--- what stands for the place of an id that was freed
+-- what represents the place of an id that was freed
 abbrev pub no_place : ℕ
 no_place = 4294967295
 

@@ -74,7 +74,7 @@ impl Cells {
         })
     }
 
-    /// Makes a cell of these bytes at a free place, and gives its id: the number of cells that were made before.
+    /// Makes a cell of these bytes at a free place, and returns its id: the number of cells that were made before.
     pub fn take(&mut self, bytes: &[u8]) -> u64
         requires size { length bytes.now ≡ self.old.value_size }
         requires free { 0 < self.old.free }
@@ -145,7 +145,7 @@ impl Cells {
         write_at(&mut self.bytes, self.size, place, offset, number.as_slice());
     }
 
-    /// Changes a number in a kept cell by an atomic operation, and gives what it was. `size` is 4 or 8.
+    /// Changes a number in a kept cell by an atomic operation, and returns what it was. `size` is 4 or 8.
     pub fn atomic(
         &mut self,
         id: u64,

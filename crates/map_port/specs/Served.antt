@@ -1,4 +1,4 @@
--- What a port serves: the calls that a run may make of it, and the words that stand for cells.
+-- What a port serves: the calls that a run may make of it, and the words that represent cells.
 use Rattle.std.specs.Prelude.{◌≡◌, ℕ, zero, suc, ◌^◌, List, [], IsTrue, slice_get}
 use Rattle.isa.specs.declared.operation.AtomicOp.{AtomicOp}
 use Rattle.ebpf_decode.specs.declared.map.MapDef.{MapDef}
@@ -55,11 +55,11 @@ IsAtomic served held cell offset size op value expected =
 
 -- ---- handles: the numbers by which a port names the cells that it handed out
 
--- this number and larger ones never stand for a cell: a handle leaves nine bits of a word for an offset
+-- this number and larger ones never represent a cell: a handle leaves nine bits of a word for an offset
 abbrev pub handle_limit : ℕ
 handle_limit = 2 ^ 55
 
--- the reply that a handle tells: 0 is no cell
+-- the reply of a handle: 0 is no cell
 abbrev pub reply_of_handle : (ℕ → CellRef) → ℕ → Reply
 reply_of_handle cell_of zero = Null
 reply_of_handle cell_of (suc handle) = Cell (cell_of (suc handle))

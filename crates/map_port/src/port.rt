@@ -15,7 +15,7 @@ ghost use Rattle.map_port.specs.Served.{IsReadable, IsStorable, IsAtomic, handle
 use isa::AtomicOp;
 use semantics::{JournalFull, Key, Value};
 
-/// The maps that a run calls. What a call gives is a relation of the port before, the call, its reply and the port after.
+/// The maps that a run calls. What a call returns is a relation of the port before, the call, its reply and the port after.
 ///
 /// A cell that a lookup found goes by a handle: a number of the port's own, which is never 0 and below 2^55. What replies mean beyond
 /// their form is the port's to say, by `gives`.
@@ -23,7 +23,7 @@ pub trait MapPort {
     /// The maps that it has, and how many shards each of them has.
     ghost serves: { Self → Maps };
 
-    /// What a call gives: the port before, the call, its reply, and the port after.
+    /// What a call returns: the port before, the call, its reply, and the port after.
     ghost gives: { Self → Call → Reply → Self → Type 0 };
 
     /// What a refusal leaves: the port before, the call, and the port after, which may have entered the call's shard.
@@ -32,7 +32,7 @@ pub trait MapPort {
     /// Which cells it has handed out, by map, shard and id.
     ghost has_handed_out: { Self → ℕ → ℕ → ℕ → Bool };
 
-    /// The cell that a handle stands for.
+    /// The cell that a handle represents.
     ghost cell_of: { Self → ℕ → CellRef };
 
     /// Looks a key up: the handle of its cell, or 0 where the key is absent. A refusal names the shard; what it leaves is
@@ -45,21 +45,21 @@ pub trait MapPort {
         ensures refuses { OnErr result (refuses self.old (lookup_call (serves self.old) map key.now) self.new) }
         ensures names_the_shard { IfErr result (λ fault. fault.shard ≡ shard_of_call (lookup_call (serves self.old) map key.now)) };
 
-    /// Reads a number of so many bytes from a cell that this port handed out. Refused as `lookup` is.
+    /// Reads a number of this many bytes from a cell that this port handed out. Refused as `lookup` is.
     fn load(&mut self, handle: u64, offset: u64, size: u64) -> Result<u64, JournalFull>
         requires { IsReadable (serves self.old) (has_handed_out self.old) (cell_of self.old handle) offset size }
         ensures gives { IfOk result (λ number. gives self.old (Load (cell_of self.old handle) offset size) (Word number) self.new) }
         ensures refuses { OnErr result (refuses self.old (Load (cell_of self.old handle) offset size) self.new) }
         ensures names_the_shard { IfErr result (λ fault. fault.shard ≡ (cell_of self.old handle).shard) };
 
-    /// Writes a number of so many bytes into a cell that this port handed out. Refused as `lookup` is.
+    /// Writes a number of this many bytes into a cell that this port handed out. Refused as `lookup` is.
     fn store(&mut self, handle: u64, offset: u64, size: u64, value: u64) -> Result<(), JournalFull>
         requires { IsStorable (serves self.old) (has_handed_out self.old) (cell_of self.old handle) offset size value }
         ensures gives { OnOk result (gives self.old (Store (cell_of self.old handle) offset size value) Done self.new) }
         ensures refuses { OnErr result (refuses self.old (Store (cell_of self.old handle) offset size value) self.new) }
         ensures names_the_shard { IfErr result (λ fault. fault.shard ≡ (cell_of self.old handle).shard) };
 
-    /// Asks for an atomic operation on a number in a cell that this port handed out, and gives the number before. Refused as
+    /// Asks for an atomic operation on a number in a cell that this port handed out, and returns the number before. Refused as
     /// `lookup` is.
     fn atomic(
         &mut self,
@@ -75,14 +75,14 @@ pub trait MapPort {
         ensures refuses { OnErr result (refuses self.old (atomic_call (cell_of self.old handle) offset size op value expected) self.new) }
         ensures names_the_shard { IfErr result (λ fault. fault.shard ≡ (cell_of self.old handle).shard) };
 
-    /// Asks for the value of a key to be set, and gives the answer. Refused as `lookup` is.
+    /// Asks for the value of a key to be set, and returns the answer. Refused as `lookup` is.
     fn update(&mut self, map: u32, key: &Key, value: &Value, flags: u64) -> Result<i32, JournalFull>
         requires { IsPairOf (serves self.old).maps map key.now value.now }
         ensures gives { IfOk result (λ code. gives self.old (update_call (serves self.old) map key.now value.now flags) (Answer code) self.new) }
         ensures refuses { OnErr result (refuses self.old (update_call (serves self.old) map key.now value.now flags) self.new) }
         ensures names_the_shard { IfErr result (λ fault. fault.shard ≡ shard_of_call (update_call (serves self.old) map key.now value.now flags)) };
 
-    /// Asks for a key to be removed, and gives the answer. Refused as `lookup` is.
+    /// Asks for a key to be removed, and returns the answer. Refused as `lookup` is.
     fn delete(&mut self, map: u32, key: &Key) -> Result<i32, JournalFull>
         requires { IsKeyOf (serves self.old).maps map key.now }
         ensures gives { IfOk result (λ code. gives self.old (delete_call (serves self.old) map key.now) (Answer code) self.new) }

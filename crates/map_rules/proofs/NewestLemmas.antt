@@ -1,4 +1,4 @@
--- What the newest entry of a part of a journal tells.
+-- What the newest entry of a part of a journal says.
 use Rattle.std.proofs.Common.{◌≡◌, ℕ, zero, suc, ◌+◌, ◌<◌, true, false, List, [], ◌∷◌, reverse, length, take, get_or, Some, arith, refl, ◌∙◌, ap}
 use Rattle.std.specs.Prelude.{slice_get}
 use Rattle.std.proofs.lemmas.List.{take_more, reverse-append}

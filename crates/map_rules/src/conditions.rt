@@ -84,7 +84,7 @@ fn part_of_number(number: u64, parts: u32) -> u32
     }
 }
 
-/// The number of the shard of a key, in a map of this place and kind with so many shards.
+/// The number of the shard of a key, in a map of this place and kind with this many shards.
 pub fn shard_of_kind(map: u32, kind: MapKind, parts: u32, key: &Key) -> u32
     requires map { map ≤ 16 }
     requires parts { 0 < parts }
@@ -96,7 +96,7 @@ pub fn shard_of_kind(map: u32, kind: MapKind, parts: u32, key: &Key) -> u32
     map * parts + part_of_number(number, parts)
 }
 
-/// The number of the shard of a key of the map at a place, with so many shards for each map.
+/// The number of the shard of a key of the map at a place, with this many shards for each map.
 pub fn shard_of_map(maps: &[MapDef], parts: u32, map: u32, key: &Key) -> u32
     requires map { map < length maps.now }
     requires maps { length maps.now ≤ 16 }
@@ -157,7 +157,7 @@ fn is_aligned(offset: u64, size: u64) -> bool
     offset % size == 0
 }
 
-/// Whether so many bytes hold the number.
+/// Whether this many bytes hold the number.
 fn fits_size(value: u64, size: u64) -> bool
     requires { IsTrue (is_load_size size) }
     ensures { result ≡ fits_size value size }
@@ -261,7 +261,7 @@ pub(crate) fn meets_with(plan: &ShardPlan, standing: Standing, who: &Caller, cal
     call.shard() == plan.number && meets_part(plan, standing, who, call)
 }
 
-/// Whether a journal of so many entries, with so many runs inside, has no room for a call that is no Leave: for its entry, one more for each
+/// Whether a journal of this many entries, with this many runs inside, has no room for a call that is no Leave: for its entry, one more for each
 /// run inside, and one more for the run that it lets in.
 pub fn lacks_room(plan: &ShardPlan, entries: usize, inside: usize, entering: u8) -> bool
     ensures { result ≡ nat_lt plan.now.reserve (entries + inside + entering + 1) }
@@ -270,7 +270,7 @@ pub fn lacks_room(plan: &ShardPlan, entries: usize, inside: usize, entering: u8)
     u128::from(plan.reserve) < needed
 }
 
-/// Whether a journal of so many entries, with so many runs inside, is full for this call: the entries, one more for each run inside, one for a
+/// Whether a journal of this many entries, with this many runs inside, is full for this call: the entries, one more for each run inside, one for a
 /// run that would enter, and one for the call itself are more than it has room for. For a Leave it never is, since its Enter left it room.
 pub fn is_full_with(plan: &ShardPlan, entries: usize, inside: usize, call: &Call) -> bool
     ensures { (history : List Entry) → entries ≡ length history → inside ≡ inside_count history →

@@ -20,12 +20,12 @@ misfit_among None update = Some (NoMap update.map)
 abbrev pub misfit_of : List MapDef → MapUpdate → Option Misfit
 misfit_of maps update = misfit_among (slice_get maps update.map) update
 
--- what is told of a key or a value of another length
+-- what is printed of a key or a value of another length
 abbrev pub length_text : List ℕ → ℕ → ℕ → ℕ → List ℕ
 length_text part map wanted given =
     codes "a " ++ (part ++ (codes " of map " ++ (decimal map ++ (codes " has " ++ (decimal wanted ++ (codes " bytes, not " ++ decimal given))))))
 
--- what is told of a misfit
+-- what is printed of a misfit
 abbrev pub misfit_text : Misfit → List ℕ
 misfit_text (NoMap map) = codes "the image has no map " ++ decimal map
 misfit_text (KeyLength map wanted given) = length_text (codes "key") map wanted given

@@ -38,7 +38,7 @@ impl Misfit {
     }
 }
 
-/// What is told of a key or a value that has another length than the map's, in bytes.
+/// What is printed of a key or a value that has another length than the map's, in bytes.
 fn length_text(
     alloc: Global,
     part: &str,

@@ -161,7 +161,7 @@ pub fn opening_cells(alloc: Global, plan: &ShardPlan) -> Result<Vec<Value>, Allo
     }
 }
 
-/// So many copies of a value. Fails only for lack of memory.
+/// This many copies of a value. Fails only for lack of memory.
 pub fn copies(alloc: Global, count: u64, value: Value) -> Result<Vec<Value>, AllocError>
     ensures { IfOk result (λ cells. cells.items ≡ replicate count value) }
 {

@@ -35,7 +35,7 @@ enum Ask {
     Remove(u32, u32),
 }
 
-/// What it gives: a handle, a number, or an answer.
+/// What it returns: a handle, a number, or an answer.
 #[derive(Clone, Copy, Debug, PartialEq, Eq)]
 enum Got {
     Handle(u64),

@@ -219,7 +219,7 @@ fn passes_that_are_dealt(rt: HostRuntime) -> Result<(), Fail> {
 
 const RUNS: u32 = 100;
 
-/// Makes so many runs of three calls, and says how many calls were served.
+/// Makes this many runs of three calls, and says how many calls were served.
 fn runs<B: Naming, R: Abort + Wait>(rt: &R, shards: &Shards<B>, mut pass: Pass<B>) -> u32 {
     let mut served: u32 = 0;
     for _ in 0..RUNS {
@@ -278,7 +278,7 @@ fn a_call_while_another_shard_is_held(rt: HostRuntime) -> Result<(), Fail> {
     held::<Brand, HostRuntime>(&rt, rt.alloc(), opened)
 }
 
-/// One run: Enter, so many Lookups, Leave. Says how many of the calls were served.
+/// One run: Enter, this many Lookups, Leave. Says how many of the calls were served.
 fn run_of<B: Naming, R: Abort + Wait>(
     rt: &R,
     shards: &Shards<B>,
@@ -303,7 +303,7 @@ fn run_of<B: Naming, R: Abort + Wait>(
 /// A run's name, how many Lookups it makes, and how many of its calls are served.
 type Run = (&'static str, u32, u32);
 
-/// Makes runs with so many Lookups, one after another in a journal of 16, and compares how many of their calls are served.
+/// Makes runs with this many Lookups, one after another in a journal of 16, and compares how many of their calls are served.
 fn filled<B: Naming, R: Abort + Wait>(
     rt: &R,
     alloc: Global,

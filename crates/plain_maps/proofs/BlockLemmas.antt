@@ -166,7 +166,7 @@ take_over n (b ∷ bs) (suc k) first rest under is within =
     let inner = take_over (n - block_size) bs k first rest under.2 is (omega (arith, within)) in
     ((under.0, under.1, inner.0), ap (λ (ys : List ℕ). b ++ ys) inner.1)
 
--- the next block has a number where there are so many
+-- the next block has a number where there are this many
 pub next_some : (n : ℕ) (bs : List (List ℕ)) (k : ℕ) → Under k n bs → k * block_size + block_size < n → (suc k < length bs) × (0 < length (block_at bs (suc k)))
 next_some n [] k under more = absurd under
 next_some n (b ∷ []) zero under more = absurd (omega (arith, under.1, more))

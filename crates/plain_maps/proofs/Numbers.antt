@@ -7,7 +7,7 @@ use Rattle.std.specs.Map.{lookup}
 use Rattle.std.specs.Prelude.{bytes_eq}
 use Rattle.plain_maps.proofs.Found.{there_lookup, lookup_there}
 
--- no number below the first one stands there
+-- no number below the first one is there
 key_before : (size : ℕ) (keys : List ℕ) (from : ℕ) (flags : List Bool) (n : ℕ) → n < from → key_with n (entries_of size keys (numbers_there from flags)) ≡ None
 key_before size keys from [] n lt = refl
 key_before size keys from (true ∷ flags) n lt = rw (ne_eqb n from (omega arith)) (key_before size keys (suc from) flags n (omega arith))

@@ -1,4 +1,4 @@
--- Keys by their hash: a bucket has three entry numbers, and counts the keys of its own that found no place in it and stand in order
+-- Keys by their hash: a bucket has three entry numbers, and counts the keys of its own that found no place in it and are in order
 -- instead. So a key that is not in its bucket is absent where that count is 0, and else costs a search among the keys in order.
 use Rattle.std.specs.Prelude.{◌≡◌, ◌≢◌, ℕ, ◌+◌, ◌==◌, ◌<◌, ◌≤◌, ◌⊎◌, Bool, true, false, not, ◌&&◌, List, [], ◌∷◌, length, slice_index_or}
 use Rattle.std.specs.Prelude.{Option, Some, None, bytes_eq, if◌then◌else◌}
@@ -6,7 +6,7 @@ use Rattle.plain_maps.specs.declared.buckets.Bucket.{Bucket}
 use Rattle.plain_maps.specs.Keyed.{key_of, IsOrder}
 use Rattle.plain_maps.specs.Hashing.{home_of}
 
--- what stands where no entry number does
+-- what is where no entry number does
 abbrev pub nothing : ℕ
 nothing = 4294967295
 

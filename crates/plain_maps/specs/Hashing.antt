@@ -13,7 +13,7 @@ abbrev pub with_bytes : List ℕ → ℕ → ℕ
 with_bytes [] hash = hash
 with_bytes (byte ∷ bytes) hash = with_bytes bytes (mixed hash byte)
 
--- so many words, and the bytes behind them
+-- this many words, and the bytes behind them
 abbrev pub with_words : ℕ → List ℕ → ℕ → ℕ
 with_words zero bytes hash = with_bytes bytes hash
 with_words (suc words) bytes hash = with_words words (drop 8 bytes) (mixed hash (from_le_bytes w64 (take 8 bytes)))

@@ -1,4 +1,4 @@
--- What a contract sees of an index of keys, and what holds of keys that stand in order.
+-- What a contract sees of an index of keys, and what holds of keys that are in order.
 use Rattle.std.specs.Prelude.{◌≡◌, ℕ, suc, ◌*◌, ◌<◌, ◌≤◌, ◌↔◌, Bool, true, false, cond, nat_eq, List, [], ◌∷◌, map, length}
 use Rattle.std.specs.Prelude.{slice_index_or, Option, Some, None, bytes_eq}
 use Rattle.std.specs.Ordering.{nat_cmp}
@@ -57,7 +57,7 @@ pub record IsOrder (size capacity : ℕ) (keys order : List ℕ) : Type 0 where
   pub in_range : (i : ℕ) → i < length order → slice_index_or order i 0 < capacity
   pub sorted : IsStrictlySortedBy (slice_cmp nat_cmp) (keys_in_order size keys order)
 
--- the key stands at place i
+-- the key is at place i
 pub record IsAt (size : ℕ) (keys order key : List ℕ) (i : ℕ) : Type 0 where
   pub in_range : i < length order
   pub has_key : key_of size keys (slice_index_or order i 0) ≡ key

@@ -17,18 +17,18 @@ joined blocks = flat_map (λ block. block) blocks
 abbrev pub bounded_list : List (List ℕ) → BoundedList
 bounded_list blocks = record { room = length blocks * block_size; numbers = joined blocks }
 
--- so many numbers: each block is full, or has what is left
+-- this many numbers: each block is full, or has what is left
 abbrev pub Shaped : ℕ → List (List ℕ) → Type 0
 Shaped n [] = n ≡ 0
 Shaped n (block ∷ blocks) = (length block ≡ min block_size n) × Shaped (n - block_size) blocks
 
--- so many numbers and one more, which is in the block of this place
+-- this many numbers and one more, which is in the block of this place
 abbrev pub Over : ℕ → ℕ → List (List ℕ) → Type 0
 Over k n [] = ⊥
 Over zero n (block ∷ blocks) = (length block ≡ min block_size n + 1) × Shaped (n - block_size) blocks
 Over (suc k) n (block ∷ blocks) = (block_size ≤ n) × (length block ≡ block_size) × Over k (n - block_size) blocks
 
--- so many numbers without one, which the block of this place lacks
+-- this many numbers without one, which the block of this place lacks
 abbrev pub Under : ℕ → ℕ → List (List ℕ) → Type 0
 Under k n [] = ⊥
 Under zero n (block ∷ blocks) = (length block + 1 ≡ min block_size n) × Shaped (n - block_size) blocks

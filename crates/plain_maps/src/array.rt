@@ -38,7 +38,7 @@ impl ArrayShard {
     }
 }
 
-/// The index that a key stands for. Most keys have four bytes, which are read in one step.
+/// The index that a key represents. Most keys have four bytes, which are read in one step.
 fn index_of(key: &[u8]) -> u64
     requires { length key.now ≤ 8 }
     ensures { result ≡ number_of_bytes key.now }
@@ -49,7 +49,7 @@ fn index_of(key: &[u8]) -> u64
     }
 }
 
-/// How many indices of the same shard stand before this one. The numbers of parts that maps are opened with have a case each, since a
+/// How many indices of the same shard are before this one. The numbers of parts that maps are opened with have a case each, since a
 /// division by a variable takes longer than all the rest.
 fn rank_of(index: u64, parts: u32) -> u64
     requires { 0 < parts }

@@ -18,7 +18,7 @@ pub struct Bucket {
     pub second: u32,
     /// A third.
     pub third: u32,
-    /// How many further keys of this bucket stand in order instead.
+    /// How many further keys of this bucket are in order instead.
     pub over: u32,
 }
 
@@ -91,7 +91,7 @@ fn has(keys: &[u8], size: usize, number: u32, key: &[u8]) -> bool
     number != NOTHING && is_same_key(key_at(keys, size, number as usize), key)
 }
 
-/// The entry number of a key, if it stands in the bucket.
+/// The entry number of a key, if it is in the bucket.
 pub(crate) fn found_in(keys: &[u8], size: usize, bucket: &Bucket, key: &[u8]) -> Option<u32>
     requires size { length key.now ≡ size }
     requires within { (n : ℕ) → Stands n bucket.now → n ≢ nothing → n * size + size ≤ length keys.now }

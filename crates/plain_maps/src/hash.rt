@@ -83,7 +83,7 @@ impl HashShard {
         self.ids[number as usize] = id;
     }
 
-    /// Takes a key out, and gives the cell that it had.
+    /// Takes a key out, and returns the cell that it had.
     pub fn remove(&mut self, key: &[u8]) -> Option<u64>
         requires { length key.now ≡ self.old.size }
         ensures cell { result ≡ cell_of self.old key.now }

@@ -12,7 +12,7 @@ use map_cells::blocks::write_at;
 use std::alloc::{AllocError, Global};
 use std::marker::Model;
 
-/// A map from keys of one size to entry numbers. Keys stand in buckets by their hash, and those that find no place there in order: so no
+/// A map from keys of one size to entry numbers. Keys are in buckets by their hash, and those that find no place there in order: so no
 /// key, whoever chose it, costs more than the logarithm.
 #[derive(Drop)]
 pub struct KeyIndex {
@@ -23,7 +23,7 @@ pub struct KeyIndex {
     /// Whether an entry number has a key.
     is_there: Vec<bool>,
     buckets: Vec<Bucket>,
-    /// The numbers that stand in no bucket, by rising keys.
+    /// The numbers that are in no bucket, by rising keys.
     order: NumberList,
 }
 
@@ -122,7 +122,7 @@ impl KeyIndex {
         self.is_there[number as usize] = true;
     }
 
-    /// Takes a key out, and gives the entry number that it had.
+    /// Takes a key out, and returns the entry number that it had.
     pub fn remove(&mut self, key: &[u8]) -> Option<u32>
         requires { length key.now ≡ self.old.size }
         ensures value { result ≡ entry_of self.old key.now }

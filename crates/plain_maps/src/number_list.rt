@@ -28,7 +28,7 @@ impl Model for NumberList {
 }
 
 impl NumberList {
-    /// A list without numbers, with room for so many. Fails only for lack of memory; no other call takes any.
+    /// A list without numbers, with room for this many. Fails only for lack of memory; no other call takes any.
     pub fn new(alloc: Global, room: usize) -> Result<Self, AllocError>
         requires { room < 2 ^ 32 }
         ensures numbers { IfOk result (λ list. list.numbers ≡ []) }
@@ -83,7 +83,7 @@ impl NumberList {
     }
 }
 
-/// Puts a number among so many: its block has one more.
+/// Puts a number among this many: its block has one more.
 fn put(blocks: &mut Vec<NumberBlock>, len: usize, at: usize, number: u32)
     requires shaped { Shaped len blocks.old.items }
     requires place { at ≤ len }
@@ -121,7 +121,7 @@ fn settle(blocks: &mut Vec<NumberBlock>, len: usize, first: usize)
     }
 }
 
-/// Takes a number out of so many: its block lacks one.
+/// Takes a number out of this many: its block lacks one.
 fn take(blocks: &mut Vec<NumberBlock>, len: usize, at: usize) -> u32
     requires shaped { Shaped len blocks.old.items }
     requires place { at < len }

@@ -15,7 +15,7 @@ pub(crate) fn key_at(keys: &[u8], size: usize, number: usize) -> &[u8]
     &keys[start..start + size]
 }
 
-/// Where the key stands, or where it would go.
+/// Where the key is, or where it would go.
 pub(crate) fn search(
     keys: &[u8],
     size: usize,

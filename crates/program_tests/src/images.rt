@@ -63,7 +63,7 @@ fn is_encoded(
     Ok(())
 }
 
-/// Bytes are decoded to this program, in so many slots and without maps, which is encoded to the same bytes.
+/// Bytes are decoded to this program, in this many slots and without maps, which is encoded to the same bytes.
 fn is_decoded(
     rt: &impl Abort,
     alloc: Global,
@@ -116,7 +116,7 @@ static OPCODES: [[u8; 16]; 16] = [
     [15, 15, 15, 15, 15, 15, 15, 15, 15, 15, 15, 15, 15, 15, 15, 15],
 ];
 
-/// An image of one slot, of zeros but for this opcode, has the fault of this number.
+/// An image of one slot, of zeros except this opcode, has the fault of this number.
 fn has_opcode_fault(rt: &impl Abort, alloc: Global, opcode: u8, want: u8) -> Result<(), Fail> {
     let swaps = opcode == 0xd4 || opcode == 0xdc || opcode == 0xd7;
     let width = if swaps { 16 } else { 0 };
@@ -499,7 +499,7 @@ fn first_run(rt: HostRuntime) -> Result<(), Fail> {
     is_encoded(&rt, rt.alloc(), "the first run", &image, &FIRST_RUN)
 }
 
-/// An image of so many moves and an exit has the fault of this number, or none where it is 0.
+/// An image of this many moves and an exit has the fault of this number, or none where it is 0.
 fn has_length_fault(rt: &impl Abort, alloc: Global, count: u32, want: u8) -> Result<(), Fail> {
     let mut bytes = bytes_of(alloc, &HEAD, &[], &[])?;
     for _ in 0..count {

@@ -29,7 +29,7 @@ fn is_interval(rt: &impl Abort, name: &str, found: Interval, wanted: Ends) {
     same(rt, name, &found, &interval(wanted));
 }
 
-/// An operation on these intervals gives this one.
+/// An operation on these intervals returns this one.
 fn transfers(
     rt: &impl Abort,
     name: &str,

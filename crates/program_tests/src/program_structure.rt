@@ -177,7 +177,7 @@ static FIRST_RUN: [u8; 168] = [
     0x95, 0x00, 0x00, 0x00, 0x00, 0x00, 0x00, 0x00,
 ];
 
-/// What the first so many slots of FIRST_RUN are refused with: its jump at slot 5 goes to slot 17.
+/// What the first this many slots of FIRST_RUN are refused with: its jump at slot 5 goes to slot 17.
 fn want_at(slots: u32) -> Result<(), ShapeFault> {
     if slots < 6 {
         Err(ShapeFault::FallsOff {
@@ -190,7 +190,7 @@ fn want_at(slots: u32) -> Result<(), ShapeFault> {
     }
 }
 
-/// The bytes of a beginning of FIRST_RUN have the structure that is wanted of so many slots.
+/// The bytes of a beginning of FIRST_RUN have the structure that is wanted of this many slots.
 fn begins_so(rt: &impl Abort, alloc: Global, bytes: &[u8], slots: u32) -> Result<(), Fail> {
     let image = decode(alloc, bytes)?;
     let found = check_shape(&image);

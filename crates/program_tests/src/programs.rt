@@ -18,7 +18,7 @@ pub(crate) fn image_of(
     Ok(Image::of(version, all_maps, all)?)
 }
 
-/// So many times an instruction, and an exit.
+/// This many times an instruction, and an exit.
 pub(crate) fn repeated(alloc: Global, insn: Insn, count: u32) -> Result<Vec<Insn>, Fail> {
     let mut code = Vec::new(alloc);
     for _ in 0..count {

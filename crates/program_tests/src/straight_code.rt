@@ -3,7 +3,7 @@
 
 use crate::asserting::same;
 use crate::rows::{add, alu, jump, load, mov, number, put, scalar, store};
-use abstract_state::{Kind, Offsets, Refusal, Site, State, Way};
+use abstract_state::{BrokenRule, Kind, Offsets, Site, State, Way};
 use ebpf_decode::{Insn, MapDef, MapKind, Version};
 use isa::Register::{R0, R1, R2, R3, R4, R5, R6, R10};
 use isa::{AluOp, AtomicOp, Extension, Register, Size, Source, Test, Width};
@@ -46,7 +46,7 @@ pub(crate) const LOOKUP: Insn = Insn::CallHelper { helper: 1 };
 pub(crate) const JEQ: Insn = jump!(Test::Eq, R0, Source::Imm(0));
 
 /// The kind of a register after some instructions, or the first rule that one of them breaks.
-fn known_after(code: &[Insn], taken: bool, register: Register) -> Result<Kind, Refusal> {
+fn known_after(code: &[Insn], taken: bool, register: Register) -> Result<Kind, BrokenRule> {
     let mut state = State::opening(Version::V1);
     let mut slot: u16 = 0;
     for insn in code {
@@ -68,7 +68,7 @@ pub(crate) fn knows(
     code: &[Insn],
     taken: bool,
     register: Register,
-    wanted: Result<Kind, Refusal>,
+    wanted: Result<Kind, BrokenRule>,
 ) {
     same(rt, name, &known_after(code, taken, register), &wanted);
 }
@@ -169,33 +169,33 @@ fn edges_of_tests(rt: HostRuntime) {
 }
 
 #[rattlefmt::skip]
-static BROKEN: [(&str, &[Insn], Refusal); 26] = [
-    ("exit without a verdict", &[Insn::Exit], Refusal::UnsetRegister(R0)),
-    ("a pointer as the verdict", &[mov!(R0, R1), Insn::Exit], Refusal::PointerLeak),
-    ("R10 is read-only, before anything else", &[mov!(R10, R5)], Refusal::ReadOnlyFp),
-    ("a packet byte that no test covers", &[START, END, load!(Size::U8, R5, R2, 0)], Refusal::PacketBounds),
-    ("the last byte that a test covers is read, the next isn't", &[START, END, PLACE, ADD_14, JGT, load!(Size::U8, R5, R2, 13), load!(Size::U8, R5, R2, 14)], Refusal::PacketBounds),
-    ("before the packet", &[START, END, PLACE, ADD_14, JGT, load!(Size::U8, R5, R2, -1)], Refusal::PacketBounds),
-    ("an unaligned stack store", &[store!(Size::U32, R10, -6, 0)], Refusal::Misaligned),
-    ("above the stack", &[store!(Size::U32, R10, 0, 0)], Refusal::StackBounds),
-    ("below the stack", &[store!(Size::U64, R10, -520, 0)], Refusal::StackBounds),
-    ("an unset byte", &[load!(Size::U8, R0, R10, -1)], Refusal::StackUnset),
-    ("a part of a spilled pointer", &[put!(Size::U64, R10, -8, R1), load!(Size::U32, R2, R10, -8)], Refusal::PointerLeak),
-    ("a narrow store of a pointer", &[put!(Size::U32, R10, -8, R1)], Refusal::PointerLeak),
-    ("a narrow store over a spilled pointer", &[put!(Size::U64, R10, -8, R1), store!(Size::U32, R10, -8, 0), load!(Size::U64, R2, R10, -8)], Refusal::StackUnset),
-    ("no such context field", &[load!(Size::U32, R0, R1, 8)], Refusal::ContextAccess),
-    ("a context field of another size", &[load!(Size::U64, R0, R1, 0)], Refusal::ContextAccess),
-    ("a value that may be null", &[KEY, KEY_AT, KEY_DOWN, MAP, LOOKUP, load!(Size::U64, R5, R0, 0)], Refusal::WrongKind(R0)),
-    ("past a value", &[KEY, KEY_AT, KEY_DOWN, MAP, LOOKUP, JEQ, load!(Size::U64, R5, R0, 8)], Refusal::ValueBounds),
-    ("across words of a value", &[KEY, KEY_AT, KEY_DOWN, MAP, LOOKUP, JEQ, load!(Size::U32, R5, R0, 2)], Refusal::Misaligned),
-    ("atomic operations on the stack", &[number!(R1, 1), Insn::AtomicUpdate { width: Width::Bits64, op: AtomicOp::AtomicAdd, dst: R10, src: R1, offset: -8 }], Refusal::WrongKind(R10)),
-    ("a key of unset bytes", &[KEY_AT, KEY_DOWN, MAP, LOOKUP], Refusal::StackUnset),
-    ("a key past the stack", &[KEY_AT, MAP, LOOKUP], Refusal::StackBounds),
-    ("a lookup without a map", &[KEY, KEY_AT, KEY_DOWN, LOOKUP], Refusal::BadArgument(R1)),
-    ("no helper 99, before unset registers", &[Insn::CallHelper { helper: 99 }], Refusal::UnknownHelper),
-    ("no map 1", &[Insn::Ldmap { dst: R1, map: 1 }], Refusal::UnknownMap),
-    ("two pointers added", &[alu!(AluOp::Add, R1, Source::Reg(R10))], Refusal::WrongKind(R1)),
-    ("a stack pointer past the frame pointer", &[mov!(R2, R10), add!(R2, 1)], Refusal::StackBounds),
+static BROKEN: [(&str, &[Insn], BrokenRule); 26] = [
+    ("exit without a verdict", &[Insn::Exit], BrokenRule::UnsetRegister(R0)),
+    ("a pointer as the verdict", &[mov!(R0, R1), Insn::Exit], BrokenRule::PointerLeak),
+    ("R10 is read-only, before anything else", &[mov!(R10, R5)], BrokenRule::ReadOnlyFp),
+    ("a packet byte that no test covers", &[START, END, load!(Size::U8, R5, R2, 0)], BrokenRule::PacketBounds),
+    ("the last byte that a test covers is read, the next isn't", &[START, END, PLACE, ADD_14, JGT, load!(Size::U8, R5, R2, 13), load!(Size::U8, R5, R2, 14)], BrokenRule::PacketBounds),
+    ("before the packet", &[START, END, PLACE, ADD_14, JGT, load!(Size::U8, R5, R2, -1)], BrokenRule::PacketBounds),
+    ("an unaligned stack store", &[store!(Size::U32, R10, -6, 0)], BrokenRule::Misaligned),
+    ("above the stack", &[store!(Size::U32, R10, 0, 0)], BrokenRule::StackBounds),
+    ("below the stack", &[store!(Size::U64, R10, -520, 0)], BrokenRule::StackBounds),
+    ("an unset byte", &[load!(Size::U8, R0, R10, -1)], BrokenRule::StackUnset),
+    ("a part of a spilled pointer", &[put!(Size::U64, R10, -8, R1), load!(Size::U32, R2, R10, -8)], BrokenRule::PointerLeak),
+    ("a narrow store of a pointer", &[put!(Size::U32, R10, -8, R1)], BrokenRule::PointerLeak),
+    ("a narrow store over a spilled pointer", &[put!(Size::U64, R10, -8, R1), store!(Size::U32, R10, -8, 0), load!(Size::U64, R2, R10, -8)], BrokenRule::StackUnset),
+    ("no such context field", &[load!(Size::U32, R0, R1, 8)], BrokenRule::ContextAccess),
+    ("a context field of another size", &[load!(Size::U64, R0, R1, 0)], BrokenRule::ContextAccess),
+    ("a value that may be null", &[KEY, KEY_AT, KEY_DOWN, MAP, LOOKUP, load!(Size::U64, R5, R0, 0)], BrokenRule::WrongKind(R0)),
+    ("past a value", &[KEY, KEY_AT, KEY_DOWN, MAP, LOOKUP, JEQ, load!(Size::U64, R5, R0, 8)], BrokenRule::ValueBounds),
+    ("across words of a value", &[KEY, KEY_AT, KEY_DOWN, MAP, LOOKUP, JEQ, load!(Size::U32, R5, R0, 2)], BrokenRule::Misaligned),
+    ("atomic operations on the stack", &[number!(R1, 1), Insn::AtomicUpdate { width: Width::Bits64, op: AtomicOp::AtomicAdd, dst: R10, src: R1, offset: -8 }], BrokenRule::WrongKind(R10)),
+    ("a key of unset bytes", &[KEY_AT, KEY_DOWN, MAP, LOOKUP], BrokenRule::StackUnset),
+    ("a key past the stack", &[KEY_AT, MAP, LOOKUP], BrokenRule::StackBounds),
+    ("a lookup without a map", &[KEY, KEY_AT, KEY_DOWN, LOOKUP], BrokenRule::BadArgument(R1)),
+    ("no helper 99, before unset registers", &[Insn::CallHelper { helper: 99 }], BrokenRule::UnknownHelper),
+    ("no map 1", &[Insn::Ldmap { dst: R1, map: 1 }], BrokenRule::UnknownMap),
+    ("two pointers added", &[alu!(AluOp::Add, R1, Source::Reg(R10))], BrokenRule::WrongKind(R1)),
+    ("a stack pointer past the frame pointer", &[mov!(R2, R10), add!(R2, 1)], BrokenRule::StackBounds),
 ];
 
 #[test]
@@ -249,7 +249,7 @@ fn goes(
     state: &mut State,
     slot: u16,
     insn: Insn,
-    wanted: Result<Way, Refusal>,
+    wanted: Result<Way, BrokenRule>,
 ) {
     same(rt, name, &state.step(site(slot), insn), &wanted);
 }
@@ -269,13 +269,13 @@ fn joined_states(rt: HostRuntime) {
     goes(&rt, name, &mut both, 1, read, falls);
     let mut other = spilled.join(&numbered);
     let name = "a pointer on one path and a number on the other can't";
-    goes(&rt, name, &mut other, 1, read, Err(Refusal::StackUnset));
+    goes(&rt, name, &mut other, 1, read, Err(BrokenRule::StackUnset));
     let name = "registers are joined too";
     same(&rt, name, &other.kind(R10), &Kind::Stack(512));
 }
 
 /// The kind of R10 after eight is taken from it.
-fn moved_down() -> Result<Kind, Refusal> {
+fn moved_down() -> Result<Kind, BrokenRule> {
     let opening = State::opening(Version::V1);
     let down = opening.after_alu(site(0), Width::Bits64, AluOp::Add, R10, Source::Imm(-8))?;
     Ok(down.kind(R10))

@@ -41,8 +41,8 @@ use Rattle.semantics.specs.declared.linux.Helper.{Helper}
 use Rattle.semantics.specs.declared.linux.Helper.TheVariants.{MapLookupElem, MapUpdateElem, MapDeleteElem, KtimeGetNs, GetSmpProcessorId, XdpAdjustHead}
 use Rattle.abstract_state.specs.declared.flow.Flow.{Flow}
 use Rattle.abstract_state.specs.declared.flow.Flow.TheVariants.{Ends, Falls, Jumps, Splits}
-use Rattle.abstract_state.specs.declared.refusal.Refusal.{Refusal}
-use Rattle.abstract_state.specs.declared.refusal.Refusal.TheVariants.{UnsetRegister, WrongKind, PacketBounds, StackBounds, StackUnset, ValueBounds, Misaligned}
+use Rattle.abstract_state.specs.declared.broken_rule.BrokenRule.{BrokenRule}
+use Rattle.abstract_state.specs.declared.broken_rule.BrokenRule.TheVariants.{UnsetRegister, WrongKind, PacketBounds, StackBounds, StackUnset, ValueBounds, Misaligned}
 use Rattle.abstract_state.specs.declared.state.State.{State}
 use Rattle.abstract_state.specs.States.{Checked, ◌>>=◌, kind_of, with_kind, word_of, stack_size, key_size_of, value_size_of}
 use Rattle.abstract_state.specs.Places.{place_within, range_within, aligned, stack_access, packet_access, offsets_within, value_range, value_access, atomic_access, at_offset}
@@ -55,7 +55,7 @@ use Rattle.abstract_state.specs.Flow.{writable, fetch_writable, is_set, reads, r
 
 -- ---- what is fair: a register is blamed for being unset only where it is, and what is made holds
 
-abbrev pub Blames : State → Refusal → Type 0
+abbrev pub Blames : State → BrokenRule → Type 0
 Blames state (UnsetRegister register) = kind_of state register ≡ Unset
 Blames state why = Unit {0}
 
@@ -78,11 +78,11 @@ fair_if state false one other first second = second
 
 -- ---- places
 
-place_fair : (state : State) (place : ℤ) (limit : ℕ) (why : Refusal) → Blames state why → Asks state (place_within place limit why)
+place_fair : (state : State) (place : ℤ) (limit : ℕ) (why : BrokenRule) → Blames state why → Asks state (place_within place limit why)
 place_fair state (pos place) limit why b = fair_if state (nat_le place limit) (Ok place) (Err why) tt b
 place_fair state (negsuc below) limit why b = b
 
-range_fair : (state : State) (place : ℤ) (count limit : ℕ) (why : Refusal) → Blames state why → Asks state (range_within place count limit why)
+range_fair : (state : State) (place : ℤ) (count limit : ℕ) (why : BrokenRule) → Blames state why → Asks state (range_within place count limit why)
 range_fair state (pos place) count limit why b = fair_if state (nat_le (place + count) limit) (Ok place) (Err why) tt b
 range_fair state (negsuc below) count limit why b = b
 
@@ -345,7 +345,7 @@ context_argument_fair : (state : State) (kind : Kind) (register : Register) → 
 context_argument_fair state Ctx register = tt
 context_argument_fair state other register = tt
 
-all_fair : (state : State) (test : Bool) (why : Refusal) → Blames state why → Asks state (when_all test why)
+all_fair : (state : State) (test : Bool) (why : BrokenRule) → Blames state why → Asks state (when_all test why)
 all_fair state test why b = fair_if state test (Ok tt) (Err why) tt b
 
 key_fair : (maps : List MapDef) (state : State) → Asks state (key_arguments maps state)

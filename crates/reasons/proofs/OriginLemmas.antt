@@ -12,7 +12,7 @@ use Rattle.ebpf_decode.specs.InstructionEncoding.{slot_count, total_slots}
 use Rattle.semantics.specs.Program.{instruction_at}
 use Rattle.abstract_state.specs.declared.kind.Kind.{Kind}
 use Rattle.abstract_state.specs.declared.kind.Kind.TheVariants.{Unset}
-use Rattle.abstract_state.specs.declared.refusal.Refusal.TheVariants.{UnsetRegister}
+use Rattle.abstract_state.specs.declared.broken_rule.BrokenRule.TheVariants.{UnsetRegister}
 use Rattle.abstract_state.specs.declared.state.State.{State}
 use Rattle.image_shape.proofs.shared.SlotLemmas.{instruction_here, past_end}
 use Rattle.verifier.specs.declared.survey.Broken.{Broken}

@@ -1,4 +1,4 @@
--- What is told of a broken rule is told of the first.
+-- What is printed of a broken rule is about the first.
 use Rattle.std.proofs.Common.{◌≡◌, ℕ, ◌<◌, List, length, Option, Some, None, refl, ◌∙◌, arith}
 use Rattle.std.specs.Prelude.{slice_index_or}
 use Rattle.std.proofs.lemmas.List.{get_or_default}
@@ -6,8 +6,8 @@ use Rattle.isa.specs.declared.operation.Register.{Register}
 use Rattle.ebpf_decode.specs.declared.insn.Insn.{Insn}
 use Rattle.ebpf_decode.specs.declared.map.MapDef.{MapDef}
 use Rattle.ebpf_decode.specs.declared.version.Version.{Version}
-use Rattle.abstract_state.specs.declared.refusal.Refusal.{Refusal}
-use Rattle.abstract_state.specs.declared.refusal.Refusal.TheVariants.{UnsetRegister}
+use Rattle.abstract_state.specs.declared.broken_rule.BrokenRule.{BrokenRule}
+use Rattle.abstract_state.specs.declared.broken_rule.BrokenRule.TheVariants.{UnsetRegister}
 use Rattle.abstract_state.specs.declared.state.State.{State}
 use Rattle.verifier.specs.declared.survey.Broken.{Broken}
 use Rattle.verifier.specs.declared.survey.Survey.{Survey}
@@ -54,8 +54,8 @@ known_here version maps code survey index known is e within read =
     in let inside : index < length survey.known.items = omega (arith, whole)
     in read ∙ get_or_default survey.known.items index known None inside ∙ is.known index inside
 
--- of another rule than that of unset registers the cause is told by the state alone
-pub cause_elsewhere : (version : Version) (maps : List MapDef) (code : List Insn) (slot : ℕ) (insn : Insn) (state : State) (why : Refusal) (cause : Cause) →
+-- of another rule than that of unset registers the cause is found from the state alone
+pub cause_elsewhere : (version : Version) (maps : List MapDef) (code : List Insn) (slot : ℕ) (insn : Insn) (state : State) (why : BrokenRule) (cause : Cause) →
     ((register : Register) → why ≡ UnsetRegister register → ⊥) → cause ≡ cause_of maps state insn why → IsCause version maps code slot insn state why cause
 cause_elsewhere version maps code slot insn state (UnsetRegister register) cause other e = absurd (other register refl)
 cause_elsewhere version maps code slot insn state why cause other e = e

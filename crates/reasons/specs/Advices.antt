@@ -38,7 +38,7 @@ count_text bytes = codes "needs " ++ (decimal bytes ++ (codes " " ++ unit_text b
 unfoldable pub base_text : ℕ → List ℕ
 base_text base = if base == 0 then codes " from the packet's start" else codes " from the sum of slot " ++ decimal base
 
--- and where the register stands, if not there
+-- and where the register is, if not there
 unfoldable pub standing_text : ℕ → List ℕ
 standing_text stands = if stands == 0 then [] else codes " (the register stands at +" ++ (decimal stands ++ codes ")")
 

@@ -28,7 +28,7 @@ word_place below = codes " r10-" ++ (decimal below ++ codes " ")
 abbrev pub set_item : ℕ → Kind → List ℕ
 set_item number kind = register_place number ++ (kind_text kind ++ codes ";")
 
--- of an unset register nothing is told
+-- of an unset register nothing is printed
 abbrev pub register_item : ℕ → Kind → List ℕ
 register_item number Unset = []
 register_item number kind = set_item number kind

@@ -1,4 +1,4 @@
--- What breaks a rule: the causes of each number, told apart by the instruction and by what is known before it.
+-- What breaks a rule: the causes of each number, distinguished by the instruction and by what is known before it.
 use Rattle.std.specs.Prelude.{ℕ, ◌+◌, ◌==◌, ℤ, pos, negsuc, ◌+ℤ◌, List, length, Option, Some, None, slice_get, if◌then◌else◌}
 use Rattle.isa.specs.declared.operation.Source.{Source}
 use Rattle.isa.specs.declared.operation.Source.TheVariants.{Imm, Reg}
@@ -18,8 +18,8 @@ use Rattle.abstract_state.specs.declared.kind.Kind.TheVariants.{Unset, Scalar, S
 use Rattle.semantics.specs.Linux.{helper_of}
 use Rattle.semantics.specs.declared.linux.Helper.{Helper}
 use Rattle.semantics.specs.declared.linux.Helper.TheVariants.{XdpAdjustHead}
-use Rattle.abstract_state.specs.declared.refusal.Refusal.{Refusal}
-use Rattle.abstract_state.specs.declared.refusal.Refusal.TheVariants as rule
+use Rattle.abstract_state.specs.declared.broken_rule.BrokenRule.{BrokenRule}
+use Rattle.abstract_state.specs.declared.broken_rule.BrokenRule.TheVariants as rule
 use Rattle.abstract_state.specs.declared.state.State.{State}
 use Rattle.abstract_state.specs.States.{kind_of}
 use Rattle.reasons.specs.declared.cause.Access.{Access}
@@ -111,11 +111,11 @@ wrong_kind role blamed base = addressed blamed
 
 -- ---- 37: the packet
 
--- how far past a base an access ends, and the register stands
+-- how far past a base an access ends, and the register is
 abbrev pub need : ℕ → ℕ → ℕ → Need
 need base stands bytes = record { base = base; stands = stands; bytes = bytes }
 
--- an access from a place on, of which so many bytes are known from the base; where none are, no comparison shows any
+-- an access from a place on, of which this many bytes are known from the base; where none are, no comparison shows any
 abbrev pub beyond : ℕ → ℕ → ℤ → ℕ → ℕ → Cause
 beyond base stands (pos from) count known =
     if known == 0 then NoTestShows (need base stands (from + count)) else ComparedForFewer (need base stands (from + count)) known
@@ -218,7 +218,7 @@ pointer_leak role base = VerdictPointer
 -- ---- all rules
 
 -- why the instruction breaks the rule in the state
-abbrev pub cause_of : List MapDef → State → Insn → Refusal → Cause
+abbrev pub cause_of : List MapDef → State → Insn → BrokenRule → Cause
 cause_of maps state insn (rule.UnsetRegister register) = NotWritten
 cause_of maps state insn (rule.WrongKind register) = wrong_kind (role_of insn) (kind_of state register) (base_of state insn)
 cause_of maps state insn rule.PacketBounds = packet_bounds state insn

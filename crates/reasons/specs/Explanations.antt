@@ -7,8 +7,8 @@ use Rattle.semantics.specs.Program.{instruction_at}
 use Rattle.image_shape.specs.declared.fault.ShapeFault.{ShapeFault}
 use Rattle.image_shape.specs.declared.fault.ShapeFault.TheVariants.{JumpBackward, JumpOutside, JumpIntoWide, FallsOff, Unreachable}
 use Rattle.image_shape.specs.Structure.{IsFirstFault}
-use Rattle.abstract_state.specs.declared.refusal.Refusal.{Refusal}
-use Rattle.abstract_state.specs.declared.refusal.Refusal.TheVariants.{UnsetRegister}
+use Rattle.abstract_state.specs.declared.broken_rule.BrokenRule.{BrokenRule}
+use Rattle.abstract_state.specs.declared.broken_rule.BrokenRule.TheVariants.{UnsetRegister}
 use Rattle.abstract_state.specs.declared.state.State.{State}
 use Rattle.verifier.specs.Dataflow.{known_at, states_of, Accepts, IsFirstBroken}
 use Rattle.reasons.specs.declared.cause.Cause.{Cause}
@@ -42,16 +42,16 @@ abbrev pub broken_text : List MapDef → ℕ → Insn → State → Advice → L
 broken_text maps slot insn state advice = slot_line slot insn ++ (used_text maps state insn ++ advice_text advice)
 
 -- why an instruction breaks a rule: where a register is unset by the edges that lead there, else by what is known before it
-abbrev pub IsCause : Version → List MapDef → List Insn → ℕ → Insn → State → Refusal → Cause → Type 0
+abbrev pub IsCause : Version → List MapDef → List Insn → ℕ → Insn → State → BrokenRule → Cause → Type 0
 IsCause version maps code slot insn state (UnsetRegister register) cause = IsOrigin version maps code register slot cause
 IsCause version maps code slot insn state why cause = cause ≡ cause_of maps state insn why
 
 -- ---- all programs
 
--- the instruction at the slot is the first that breaks a rule, and the text tells of it in what is known there
+-- the instruction at the slot is the first that breaks a rule, and the text describes it by what is known there
 pub record TellsBroken (version : Version) (maps : List MapDef) (code : List Insn) (text : List ℕ) : Type 0 where
   pub slot : ℕ
-  pub why : Refusal
+  pub why : BrokenRule
   pub first : IsFirstBroken version maps code slot why
   pub insn : Insn
   pub here : instruction_at code slot ≡ Some insn

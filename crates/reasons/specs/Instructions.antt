@@ -117,12 +117,12 @@ stack_word_text state access = line_of_word state (stack_word access)
 
 -- ---- what a call reads of the stack
 
--- so many words from one on
+-- this many words from one on
 unfoldable pub words_text : State → ℕ → ℕ → List ℕ
 words_text state first zero = []
 words_text state first (suc count) = word_line state first ++ words_text state (first + 1) count
 
--- the words that have so many bytes, where these lie inside the stack
+-- the words that have this many bytes, where these lie inside the stack
 unfoldable pub stack_range_text : State → ℕ → ℕ → List ℕ
 stack_range_text state place size =
     if size == 0 then []

@@ -94,7 +94,7 @@ pub record IsDisagreement (version : Version) (maps : List MapDef) (code : List 
   pub disagree : IsTrue (disagree version one.after other.after)
   pub told : cause ≡ PathsDisagree slot one.from one.after other.from other.after
 
--- what an instruction is told for that leaves a register unset which was set before it: a call does, and a jump whose two edges lead to
+-- what is printed of an instruction that leaves a register unset which was set before it: a call does, and a jump whose two edges lead to
 -- one slot with kinds that disagree
 abbrev pub cleared_by : Arrival → Cause
 cleared_by arrival = if is_call arrival.insn then ClearedByCall arrival.from else LeftUnset arrival.from
@@ -107,7 +107,7 @@ pub record IsClearing (version : Version) (maps : List MapDef) (code : List Insn
   pub set : is_unset arrival.before ≡ false
   pub told : cause ≡ cleared_by arrival
 
--- what an edge that brings the register unset tells
+-- what an edge that brings the register unset says
 abbrev pub along : Arrival → Back
 along arrival = if is_unset arrival.before then Further arrival.from else Found (cleared_by arrival)
 

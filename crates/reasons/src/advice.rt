@@ -9,7 +9,7 @@ use crate::wording::put_kind;
 use abstract_state::Kind;
 use std::alloc::{AllocError, Global};
 
-/// What is told of a cause.
+/// What is printed of a cause.
 #[derive(Clone, Copy, Debug, PartialEq, Eq)]
 pub struct Advice {
     pub cause: Cause,
@@ -111,7 +111,7 @@ fn put_base(alloc: Global, out: &mut String, base: u16) -> Result<(), AllocError
     out.push_str(&format!(in alloc; " from the sum of slot {base}")?)
 }
 
-/// Where the register stands.
+/// Where the register is.
 #[tactic(auto, unfolding(crate::specs::Advices::standing_text))]
 fn put_standing(alloc: Global, out: &mut String, stands: u16) -> Result<(), AllocError>
     ensures { OnOk result (string_bytes out.new ≡ string_bytes out.old ++ standing_text stands) }

@@ -1,4 +1,4 @@
-//! What breaks a rule: the causes of each number, told apart.
+//! What breaks a rule: the causes of each number, distinguished.
 
 ghost use Rattle.std.specs.Prelude.{◌≡◌, slice_get};
 ghost use Rattle.semantics.specs.Program.{value_size_of};
@@ -8,13 +8,13 @@ ghost use Rattle.reasons.specs.Causes.{value_size_at, named_size, value_bounds, 
 ghost use Rattle.reasons.specs.Causes.{helper_called, bad_argument, pointer_stored, pointer_leak, cause_of, cause_of_shape};
 
 use abstract_scalar::Interval;
-use abstract_state::{Kind, Refusal, State};
+use abstract_state::{BrokenRule, Kind, State};
 use ebpf_decode::{Insn, MapDef};
 use image_shape::ShapeFault;
 use isa::{Register, Source};
 use semantics::Helper;
 
-/// What an instruction does with its operands, as far as the rules tell instructions apart.
+/// What an instruction does with its operands, as far as the rules distinguish instructions.
 #[derive(Clone, Copy, Debug, PartialEq, Eq)]
 pub enum Role {
     Computes,
@@ -28,7 +28,7 @@ pub enum Role {
     Others,
 }
 
-/// A place in memory that an instruction touches: an offset from what a register holds, and so many bytes.
+/// A place in memory that an instruction touches: an offset from what a register holds, and this many bytes.
 #[derive(Clone, Copy)]
 pub struct Access {
     pub base: Kind,
@@ -41,7 +41,7 @@ pub struct Access {
 pub struct Need {
     /// What they count from: 0 is the packet's start, another number the base that the addition at this slot made.
     pub base: u16,
-    /// How far past it the register stands.
+    /// How far past it the register is.
     pub stands: u16,
     /// How far past it the access ends.
     pub bytes: u64,
@@ -57,7 +57,7 @@ pub enum Cause {
     RunsPastEnd,
     NoPathLeads,
     // 35: an unset register.
-    /// Not told apart.
+    /// Not distinguished.
     NotWritten,
     /// On some path from slot 0 nothing was written to it.
     NeverWritten,
@@ -89,7 +89,7 @@ pub enum Cause {
     ExpectedPointer,
     // 37: the packet.
     BeforeBase,
-    /// No comparison with the packet's end shows any byte: none stands on some path, or its other edge leads here.
+    /// No comparison with the packet's end shows any byte: some path has none, or its other edge leads here.
     NoTestShows {
         need: Need,
     },
@@ -251,7 +251,7 @@ fn wrong_kind(role: Role, blamed: Kind, base: Kind) -> Cause
     }
 }
 
-/// 37 of an access from this place on, through a register that stands so far past its base.
+/// 37 of an access from this place on, through a register that is so far past its base.
 fn beyond(base: u16, stands: u16, from: i64, count: u32, known: u32) -> Cause
     ensures { result ≡ beyond base stands from count known }
 {
@@ -468,29 +468,29 @@ fn pointer_leak(role: Role, base: Kind) -> Cause
 
 impl Cause {
     /// Why an instruction breaks this rule in a state.
-    pub fn of(maps: &[MapDef], state: &State, insn: Insn, why: Refusal) -> Cause
+    pub fn of(maps: &[MapDef], state: &State, insn: Insn, why: BrokenRule) -> Cause
         ensures { result ≡ cause_of maps.now state.now insn why }
     {
         let role = role_of(insn);
         match why {
-            Refusal::UnsetRegister(_) => Cause::NotWritten,
-            Refusal::WrongKind(register) => {
+            BrokenRule::UnsetRegister(_) => Cause::NotWritten,
+            BrokenRule::WrongKind(register) => {
                 wrong_kind(role, state.kind(register), base_of(state, insn))
             }
-            Refusal::PacketBounds => packet_bounds(state, insn),
-            Refusal::StackBounds => stack_bounds(role),
-            Refusal::StackUnset => stack_unset(role),
-            Refusal::ValueBounds => value_bounds(maps, state, insn),
-            Refusal::Misaligned => misaligned_at(access_of(state, insn)),
-            Refusal::ContextAccess => context_access(role),
-            Refusal::ReadOnlyFp => Cause::FramePointerWritten,
-            Refusal::UnknownHelper => Cause::NoHelper,
-            Refusal::BadArgument(register) => bad_argument(helper_called(insn), register),
-            Refusal::PointerLeak => pointer_leak(role, base_of(state, insn)),
-            Refusal::UnknownMap => Cause::NoMap {
+            BrokenRule::PacketBounds => packet_bounds(state, insn),
+            BrokenRule::StackBounds => stack_bounds(role),
+            BrokenRule::StackUnset => stack_unset(role),
+            BrokenRule::ValueBounds => value_bounds(maps, state, insn),
+            BrokenRule::Misaligned => misaligned_at(access_of(state, insn)),
+            BrokenRule::ContextAccess => context_access(role),
+            BrokenRule::ReadOnlyFp => Cause::FramePointerWritten,
+            BrokenRule::UnknownHelper => Cause::NoHelper,
+            BrokenRule::BadArgument(register) => bad_argument(helper_called(insn), register),
+            BrokenRule::PointerLeak => pointer_leak(role, base_of(state, insn)),
+            BrokenRule::UnknownMap => Cause::NoMap {
                 count: maps.len() as u64,
             },
-            Refusal::NotArrayMap => Cause::NoArray,
+            BrokenRule::NotArrayMap => Cause::NoArray,
         }
     }
 

@@ -1,4 +1,4 @@
-//! What is told of a program.
+//! What is printed of a program.
 
 ghost use Rattle.std.specs.Prelude.{◌≡◌, Some, string_bytes, IfOk};
 ghost use Rattle.image_shape.specs.Structure.{HasShape};
@@ -10,7 +10,7 @@ use crate::annotated::program_text;
 use crate::cause::Cause;
 use crate::origin::origin_of;
 use crate::refused::{broken_text, shape_text};
-use abstract_state::Refusal;
+use abstract_state::BrokenRule;
 use ebpf_decode::Image;
 use image_shape::check_shape;
 use std::alloc::{AllocError, Global};
@@ -53,7 +53,7 @@ fn cause_in(image: &Image, survey: &Survey, broken: &Broken) -> Cause
     ensures { IsCause image.now.version image.now.maps image.now.code broken.now.slot broken.now.insn broken.now.state broken.now.why result }
 {
     match broken.why {
-        Refusal::UnsetRegister(register) => origin_of(image, survey, broken.slot, register),
+        BrokenRule::UnsetRegister(register) => origin_of(image, survey, broken.slot, register),
         _ => Cause::of(image.maps(), &broken.state, broken.insn, broken.why),
     }
 }

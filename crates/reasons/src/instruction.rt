@@ -210,7 +210,7 @@ fn put_stack_word(
     }
 }
 
-/// The lines of so many words of the stack, from one on.
+/// The lines of this many words of the stack, from one on.
 #[tactic(auto, unfolding(crate::specs::Instructions::words_text))]
 fn put_words(
     alloc: Global,
@@ -229,7 +229,7 @@ fn put_words(
     put_words(alloc, out, state, first + 1, count - 1)
 }
 
-/// The lines of the words that have so many bytes of the stack, where these lie inside it.
+/// The lines of the words that have this many bytes of the stack, where these lie inside it.
 #[tactic(auto, unfolding(crate::specs::Instructions::stack_range_text))]
 fn put_stack_range(
     alloc: Global,

@@ -237,7 +237,7 @@ fn find_arrival(
     None
 }
 
-/// What to tell of an instruction that leaves a register unset.
+/// What to say of an instruction that leaves a register unset.
 fn cleared_by(arrival: Arrival) -> Cause
     ensures { result ≡ cleared_by arrival }
 {
@@ -248,7 +248,7 @@ fn cleared_by(arrival: Arrival) -> Cause
     }
 }
 
-/// What to tell of an edge that brings the register unset.
+/// What to say of an edge that brings the register unset.
 fn along(arrival: Arrival) -> Back
     ensures { result ≡ along arrival }
 {

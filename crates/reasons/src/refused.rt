@@ -58,7 +58,7 @@ fn put_begun(
     }
 }
 
-/// What is told of a fault of structure.
+/// What is printed of a fault of structure.
 pub(crate) fn shape_text(
     alloc: Global,
     code: &[Insn],
@@ -74,7 +74,7 @@ pub(crate) fn shape_text(
     Ok(out)
 }
 
-/// What is told of a broken rule.
+/// What is printed of a broken rule.
 pub(crate) fn broken_text(
     alloc: Global,
     image: &Image,

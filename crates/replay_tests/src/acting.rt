@@ -1,4 +1,4 @@
-//! What no clause says: that the actors work where there is memory, what the gate is told, and rows worked out elsewhere.
+//! What no clause says: that the actors work where there is memory, for what the gate is called, and rows worked out elsewhere.
 
 ghost use Rattle.std.specs.Prelude.{◌≡◌, ◌≤◌, ℕ, [], IfOk};
 ghost use Rattle.semantics.specs.declared.call.Caller.TheVariants.{Controller as TheController};
@@ -26,7 +26,7 @@ use std::process::Abort;
 use std::sync::Wait;
 use std::test::Fail;
 
-/// A gate that keeps how often it was told of a reply, and the last number.
+/// A gate that keeps how often it was called for a reply, and the last number.
 #[derive(Drop)]
 struct Told {
     times: Cell<u64>,
@@ -60,7 +60,7 @@ fn opened(alloc: Global, row: &Row<'_>) -> Result<Opened, Fail> {
     Ok(Opened::open(alloc, &image, options)?)
 }
 
-/// A script over new shards, or so many rounds of the reclaimer: the number of each command's fault (0: none), how many answers were told, and how many
+/// A script over new shards, or this many rounds of the reclaimer: the number of each command's fault (0: none), for how many answers the gate was called, and how many
 /// entries each shard's journal has.
 #[derive(Clone, Copy)]
 struct Row<'a> {
@@ -177,8 +177,8 @@ fn applied_to_new<R: Abort + Wait>(rt: &R, alloc: Global, row: &Row<'_>) -> Resu
     applied::<Brand, R>(rt, alloc, opened, row)
 }
 
-/// Slots 0, 2, 4 and 6 are one shard's, the odd ones the other's. A refused command asks nothing, and is not told of; later ones go on. In the last row
-/// the third table meets a full journal at its third slot: the record and two slots stand, and every later command is refused.
+/// Slots 0, 2, 4 and 6 are one shard's, the odd ones the other's. A refused command asks nothing, and the gate is not called for it; later ones go on. In the last row
+/// the third table meets a full journal at its third slot: the record and two slots remain, and every later command is refused.
 #[rattlefmt::skip]
 const SCRIPTS: [Row<'static>; 4] = [
     Row {
@@ -208,7 +208,7 @@ fn scripts_are_applied(rt: HostRuntime) -> Result<(), Fail> {
     Ok(())
 }
 
-/// A service at each of so many ports.
+/// A service at each of this many ports.
 fn services(alloc: Global, count: u32) -> Result<String, Fail> {
     let mut text = String::new(alloc);
     for port in 0..count {
@@ -217,7 +217,7 @@ fn services(alloc: Global, count: u32) -> Result<String, Fail> {
     Ok(text)
 }
 
-/// The map of services has 64 entries: the 65th service is refused with its answer, which stands in the journal.
+/// The map of services has 64 entries: the 65th service is refused with its answer, which is in the journal.
 #[test]
 fn the_65th_service(rt: HostRuntime) -> Result<(), Fail> {
     let text = services(rt.alloc(), 65)?;
@@ -235,7 +235,7 @@ fn the_65th_service(rt: HostRuntime) -> Result<(), Fail> {
     applied_to_new(&rt, rt.alloc(), &row)
 }
 
-/// Makes the row's rounds, and compares how many Reclaims were told, and how many entries each shard's journal has.
+/// Makes the row's rounds, and compares for how many Reclaims the gate was called, and how many entries each shard's journal has.
 fn reclaimed<B: Naming, R: Abort + Wait>(
     rt: &R,
     alloc: Global,
@@ -277,7 +277,7 @@ fn rounds_reclaim(rt: HostRuntime) -> Result<(), Fail> {
     Ok(())
 }
 
-/// Queues of one worker, with so many jobs in one of the others' and then the end; and the right to take from the queue at this place.
+/// Queues of one worker, with this many jobs in one of the others' and then the end; and the right to take from the queue at this place.
 fn filled<R: Wait>(
     rt: &R,
     alloc: Global,

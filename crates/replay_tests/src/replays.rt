@@ -105,9 +105,9 @@ exit
 /// What is captured.
 #[derive(Clone, Copy)]
 enum Frames {
-    /// One frame of so many zeros.
+    /// One frame of this many zeros.
     Zeros(usize),
-    /// So many rounds of a segment of each flow, whose ports begin with this one.
+    /// This many rounds of a segment of each flow, whose ports begin with this one.
     Rounds { first: u16, flows: u16, rounds: u32 },
 }
 
@@ -172,7 +172,7 @@ pub(crate) fn capture(alloc: Global, records: &[Sent]) -> Result<Capture, Fail> 
     Ok(read_capture(alloc, &mut MemorySource::new(bytes))?)
 }
 
-/// So many rounds of a segment of each flow, whose ports begin with this one.
+/// This many rounds of a segment of each flow, whose ports begin with this one.
 fn rounds(alloc: Global, first: u16, flows: u16, rounds: u32) -> Result<Capture, Fail> {
     let mut records = Vec::new(alloc);
     for round in 0..rounds {
@@ -184,7 +184,7 @@ fn rounds(alloc: Global, first: u16, flows: u16, rounds: u32) -> Result<Capture,
     capture(alloc, &records)
 }
 
-/// The capture of one frame of so many zeros.
+/// The capture of one frame of this many zeros.
 fn zeros(alloc: Global, count: usize) -> Result<Capture, Fail> {
     let mut records = Vec::new(alloc);
     records.push(one_record(alloc, 1, &[0; 14][..count.min(14)])?)?;
@@ -202,7 +202,7 @@ fn captured(alloc: Global, frames: Frames) -> Result<Capture, Fail> {
     }
 }
 
-/// The replay of an accepted program over one shard for each map, whose actors tell this gate.
+/// The replay of an accepted program over one shard for each map, whose actors call this gate.
 fn gated<R: Threads + Abort + Wait + Sync, G: Gate + Sync>(
     rt: &R,
     alloc: Global,
@@ -337,7 +337,7 @@ const FORTY_FLOWS: Row<'static> = Row {
     },
 };
 
-/// Replays the flows by so many workers, and compares what they send.
+/// Replays the flows by this many workers, and compares what they send.
 fn forty_flows_send<R: Threads + Abort + Wait + Sync>(
     rt: &R,
     alloc: Global,

@@ -22,7 +22,7 @@ use verifier::verify;
 
 const SIZES: [(&str, u32); 4] = [("7", 7), ("251", 251), ("4093", 4093), ("65537", 65537)];
 
-/// The program for so many slots has six maps, and is accepted, as no reader.
+/// The program for this many slots has six maps, and is accepted, as no reader.
 fn is_accepted(rt: &impl Abort, alloc: Global, name: &str, size: u32) -> Result<(), Fail> {
     let image = shipped(alloc, size)?;
     same(rt, name, "the number of maps", &image.maps().len(), &6);

@@ -1,4 +1,4 @@
--- Shards as they were opened, and after updates: what stands there, and who is inside.
+-- Shards as they were opened, and after updates: what is there, and who is inside.
 use Rattle.std.proofs.Common.{◌≡◌, ℕ, ◌<◌, List, [], ◌∷◌, ◌++◌, length, map, reverse, Option, Some, None, refl, sym, ap, ◌∙◌, subst}
 use Rattle.std.specs.Prelude.{is_some, option_map}
 use Rattle.std.specs.List.{AllByRecursion}

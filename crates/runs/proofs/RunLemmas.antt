@@ -132,7 +132,7 @@ module _ (program : Program) (start : MachineState) (worker : ℕ) (before after
         ap (λ (n : ℕ). begun n (shard_at before number).plan.number (entries_at n number exchanges)) same_worker
         ∙ ap (λ (n : ℕ). begun worker n (entries_at worker number exchanges)) (outside.numbered number below)
 
-    -- what stands at a place after the finish
+    -- what is at a place after the finish
     left_as : (number : ℕ) (one : JournaledShard) → slice_get (all_left later.worker later.shards.now) number ≡ Some one → shard_at after number ≡ one
     left_as number one found =
         ap (λ (shards : List JournaledShard). shard_at shards number) finished

@@ -28,7 +28,7 @@ use Rattle.shard_port.specs.ScheduleHook.{next_count, count_after}
 abbrev pub AreFormed : Program → List Exchange → Type 0
 AreFormed program exchanges = AllByRecursion (λ (exchange : Exchange). IsReplyTo program exchange.call exchange.reply) exchanges
 
--- the run is the meaning of its program on the replies that stand among the worker's own entries, session by session
+-- the run is the meaning of its program on the replies that are among the worker's own entries, session by session
 pub record HasRun (program : Program) (state : MachineState) (count worker : ℕ) (before after : PassView) (verdict : Verdict) (steps : ℕ)
     (frame : FrameView) : Type 0 where
   pub exchanges : List Exchange
@@ -41,7 +41,7 @@ pub record HasRun (program : Program) (state : MachineState) (count worker : ℕ
   pub sent : frame ≡ last.frame
   pub sessions : HasSessions count worker exchanges before after
 
--- the run made the calls of its program up to the refused one, which stand among the worker's own entries; the frame is that of the state
+-- the run made the calls of its program up to the refused one, which are among the worker's own entries; the frame is that of the state
 -- in which it waits for the reply
 pub record WasRefused (program : Program) (state : MachineState) (plan : ℕ → ShardPlan) (count worker : ℕ) (before after : PassView)
     (frame : FrameView) (shard : ℕ) : Type 0 where
@@ -60,9 +60,9 @@ abbrev pub HasStopped : Program → MachineState → (ℕ → ShardPlan) → ℕ
 HasStopped program state plan count worker before after frame (JournalFull shard) =
     WasRefused program state plan count worker before after frame shard
 
--- ---- with a gate that is told of the replies
+-- ---- with a gate that is called for the replies
 
--- a port, and how many replies of its worker the gate was told of
+-- a port, and how many replies of its worker the gate was called for
 pub record ToldPort : Type 0 where
   pub port : PassPort
   pub told : ℕ
@@ -70,15 +70,15 @@ pub record ToldPort : Type 0 where
 abbrev pub told_port : PassPort → ℕ → ToldPort
 told_port port told = record { port = port; told = told }
 
--- the port gave the reply, and the gate was told of one more
+-- the port gave the reply, and the gate was called for one more
 abbrev pub IsGivenTold : (ℕ → ShardPlan) → ℕ → ToldPort → Call → Reply → ToldPort → Type 0
 IsGivenTold plan count before call reply after = IsGivenBy plan count before.port call reply after.port × (after.told ≡ next_count before.told)
 
--- the port refused the call, and the gate was told of nothing
+-- the port refused the call, and the gate was called for nothing
 abbrev pub IsRefusedUntold : (ℕ → ShardPlan) → ℕ → ToldPort → Call → ToldPort → Type 0
 IsRefusedUntold plan count before call after = IsRefusedBy plan count before.port call after.port × (after.told ≡ before.told)
 
--- the port of a pass over these shards, and how many replies the gate was told of
+-- the port of a pass over these shards, and how many replies the gate was called for
 abbrev pub told_by : SharedMaps → PassView → ℕ → ToldPort
 told_by shards pass told = told_port (port_of shards pass) told
 
@@ -96,12 +96,12 @@ StopsTold plan count verified frame moment before after stop left =
 
 -- ---- the same by the worker's pass, which is outside every shard before and after
 
--- the run ended so, and the gate was told of each of its replies
+-- the run ended so, and the gate was called for each of its replies
 abbrev pub HasRunTold : Program → MachineState → ℕ → ℕ → PassView → PassView → Verdict → ℕ → FrameView → ℕ → ℕ → Type 0
 HasRunTold program state count worker before after verdict steps frame told told' =
     (run : HasRun program state count worker before after verdict steps frame) × (told' ≡ count_after told (length run.exchanges))
 
--- the run stopped so, and the gate was told of the replies before
+-- the run stopped so, and the gate was called for the replies before
 abbrev pub HasStoppedTold : Program → MachineState → (ℕ → ShardPlan) → ℕ → ℕ → PassView → PassView → FrameView → ℕ → ℕ → Stop → Type 0
 HasStoppedTold program state plan count worker before after frame told told' (JournalFull shard) =
     (was : WasRefused program state plan count worker before after frame shard) × (told' ≡ count_after told (length was.exchanges))

@@ -20,7 +20,7 @@ use wire::Frame;
 /// memory is taken, and nobody is waited for.
 ///
 /// The shards' journals then have the run's calls more, with their replies, between an Enter and a Leave. Stop 60 where a journal was full
-/// for a call or for the Enter before it: the calls before it stand in the same way, and the frame is as the run has made it by then.
+/// for a call or for the Enter before it: the calls before it are in the same way, and the frame is as the run has made it by then.
 pub(crate) fn worker_run(
     verified: &Verified,
     options: Options,

@@ -17,7 +17,7 @@ use std::sync::Wait;
 use verifier::Verified;
 use wire::Frame;
 
-/// The moment's worker, which has had so many replies, and the gate that is told of its next ones.
+/// The moment's worker, which has had this many replies, and the gate that is called for its next ones.
 fn tally_of<'a, G: Gate>(gate: &'a G, moment: &Moment, replies: u64) -> Tally<'a, G>
     ensures who { result.who ≡ Worker moment.now.worker }
     ensures count { result.count ≡ replies }
@@ -28,7 +28,7 @@ fn tally_of<'a, G: Gate>(gate: &'a G, moment: &Moment, replies: u64) -> Tally<'a
     Tally::new(gate, who, replies)
 }
 
-/// Leaves the shards, and keeps how many replies the gate was told of.
+/// Leaves the shards, and keeps how many replies the gate was called for.
 fn leave<'a, B: Naming, W: Wait, G: Gate>(port: ShardPort<'a, B, W, G>, replies: &mut u64)
     ensures left { IsFinishedBy B.plan B.count port.entry.pass.now port.exit.0.now }
     ensures told { replies.new ≡ port.entry.tally.count }
@@ -36,7 +36,7 @@ fn leave<'a, B: Naming, W: Wait, G: Gate>(port: ShardPort<'a, B, W, G>, replies:
     *replies = port.finish();
 }
 
-/// `run` at the port of a pass, which is the same port after it, whether the run ended or stopped. The gate is told of each reply.
+/// `run` at the port of a pass, which is the same port after it, whether the run ended or stopped. The gate is called for each reply.
 fn run_at<B: Naming, W: Wait, G: Gate>(
     verified: &Verified,
     frame: &mut Frame,
@@ -59,15 +59,15 @@ fn run_at<B: Naming, W: Wait, G: Gate>(
 
 /// Runs the program of an accepted image on a frame, over shards that other threads may call, by a worker's pass that is outside all of them.
 ///
-/// Verdict, frame and number of steps are the program's own on replies that stand among the worker's own entries: on each shard that it
+/// Verdict, frame and number of steps are the program's own on replies that are among the worker's own entries: on each shard that it
 /// called, Enter, its calls there with these replies, and Leave, in the order in which it made them. Each reply is the one-thread map's at
 /// the entry's own place in the shard's history, whatever other threads do. Waits for locks, and takes no memory.
 ///
 /// Stop 60 where a shard's journal was full for a call, or for the Enter before it: the calls before are those that the program makes
-/// first; they stand between Enter and Leave in the same way. The frame is as the run has made it by then, not to be sent.
+/// first; they are between Enter and Leave in the same way. The frame is as the run has made it by then, not to be sent.
 ///
-/// Either way the worker is outside every shard again. The gate was told of each reply, while the worker held no lock, as one of the worker
-/// of `moment`, and of nothing else; `replies` counts what it was told of this worker, and has grown by the run's replies.
+/// Either way the worker is outside every shard again. The gate was called for each reply, while the worker held no lock, as one of the worker
+/// of `moment`, and of nothing else; `replies` counts its calls for this worker, and has grown by the run's replies.
 pub fn run_frame<B: Naming, W: Wait, G: Gate>(
     rt: &W,
     verified: &Verified,

@@ -1,4 +1,4 @@
--- A caller's condition is a matter of its own entries: what it may call, it can tell without the entries of others.
+-- A caller's condition is a matter of its own entries: what it may call, it knows without the entries of others.
 use Rattle.std.specs.Prelude.{◌≡◌, Bool, true, false, List, filter}
 use Rattle.semantics.specs.declared.call.Caller.{Caller}
 use Rattle.semantics.specs.declared.call.Caller.TheVariants.{Worker, Controller, Reclaimer}

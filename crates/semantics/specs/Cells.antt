@@ -32,12 +32,12 @@ key_of_call (Update shard key value flags) = Some key
 key_of_call (Delete shard key) = Some key
 key_of_call call = None
 
--- the value that an Update gives its key
+-- the value that an Update sets for its key
 abbrev pub value_of_call : Call → Option (List ℕ)
 value_of_call (Update shard key value flags) = Some value
 value_of_call call = None
 
--- the number that a Load or an atomic operation told, 0 in another reply
+-- the number that a Load or an atomic operation returned, 0 in another reply
 abbrev pub word_in : Reply → ℕ
 word_in (Word value) = value
 word_in reply = 0

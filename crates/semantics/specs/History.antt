@@ -149,7 +149,7 @@ abbrev pub IsLegalHistory : ShardPlan → List Entry → Type 0
 IsLegalHistory plan [] = Unit {0}
 IsLegalHistory plan (entry ∷ older) = IsLegalStep plan older entry × IsLegalHistory plan older
 
--- a journal, whose oldest entry stands first
+-- a journal, whose oldest entry is first
 abbrev pub IsLegalJournal : ShardPlan → List Entry → Type 0
 IsLegalJournal plan journal = IsLegalHistory plan (reverse journal)
 

@@ -16,7 +16,7 @@ abbrev pub bytes_of_number : ℕ → ℕ → List ℕ
 bytes_of_number zero number = []
 bytes_of_number (suc count) number = number % 256 ∷ bytes_of_number count (number / 256)
 
--- whether a list has at least so many items: by its structure, so that it computes where only the front of the list is known
+-- whether a list has at least this many items: by its structure, so that it computes where only the front of the list is known
 abbrev pub reaches : {A : Type 0} → ℕ → List A → Bool
 reaches zero items = true
 reaches (suc count) [] = false

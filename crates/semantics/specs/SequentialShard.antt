@@ -1,5 +1,5 @@
 -- The one-thread specification of a map's shard: what each call replies, and what it leaves (bpf(2); the answers are Linux's
--- error numbers). A shard's state is a function of its history, whose newest entry stands first.
+-- error numbers). A shard's state is a function of its history, whose newest entry is first.
 use Rattle.std.specs.Prelude.{ℕ, ◌+◌, ◌*◌, ◌/◌, ◌==◌, Bool, true, false, not, ◌&&◌, ◌||◌, nat_lt, nat_le, ℤ, pos, negsuc, List, [], ◌∷◌}
 use Rattle.std.specs.Prelude.{◌++◌, length, take, drop, replicate, filter, find, Option, Some, None, option_map, slice_index_or}
 use Rattle.std.specs.Prelude.{slice_set, if◌then◌else◌, bytes_eq}

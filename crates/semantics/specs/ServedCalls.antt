@@ -74,7 +74,7 @@ IsServed program held (Update shard key value flags) = IsServedUpdate program sh
 IsServed program held (Delete shard key) = IsServedLookup program shard key
 IsServed program held call = ⊥
 
--- a lookup gives the worker the cell that it found
+-- a lookup lets the worker hold the cell that it found
 abbrev pub IsHandedOut : Program → Held → Call → Reply → Type 0
 IsHandedOut program held (Lookup shard key) (Cell cell) =
     (map : ℕ) (definition : MapDef) → slice_get program.maps map ≡ Some definition →

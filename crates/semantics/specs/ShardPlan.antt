@@ -20,7 +20,7 @@ plan_for_map options number (Some definition) = Some (record {
 })
 plan_for_map options number None = None
 
--- the plan of the shard of a number: shards stand map after map
+-- the plan of the shard of a number: shards are in order, map after map
 abbrev pub plan_at : List MapDef → Options → ℕ → Option ShardPlan
 plan_at maps options number = plan_for_map options number (slice_get maps (number / options.shards))
 

@@ -66,7 +66,7 @@ with_entry system shard entry =
 -- ---- events
 
 pub data SystemEvent : Type 0 where
-  -- an idle worker begins a run on a frame, at a time in nanoseconds; the run is told a worker's number, which need not be its own
+  -- an idle worker begins a run on a frame, at a time in nanoseconds; the run gets a worker's number, which need not be its own
   BeginsRun : (worker : ℕ) → (frame : List ℕ) → (now : ℕ) → (told : ℕ) → SystemEvent
   -- a worker does an instruction that touches nothing shared
   DoesInstruction : (worker : ℕ) → SystemEvent

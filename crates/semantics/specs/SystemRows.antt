@@ -1,5 +1,5 @@
 -- Events that happen, by computation: so neither what an event needs nor what a safe image is, is empty. Each row is a program,
--- the events in order, and the history that a shard then has. Rows are told in order, the oldest first.
+-- the events in order, and the history that a shard then has. Rows are listed in order, the oldest first.
 use Rattle.std.specs.Prelude.{◌≡◌, ℕ, pos, negsuc, List, [], ◌∷◌, ◌++◌, reverse, replicate}
 use Rattle.isa.specs.declared.operation.Width.TheVariants.{Bits64}
 use Rattle.isa.specs.declared.operation.Size.TheVariants.{U8, U32, U64}
@@ -26,7 +26,7 @@ use Rattle.semantics.specs.System.{Setting, SystemEvent, BeginsRun, DoesInstruct
 use Rattle.semantics.specs.System.{worker_state, history_of, system_after, CanAllHappen}
 use Rattle.semantics.specs.Safety.{IsSafeImage}
 
--- ---- how rows are told
+-- ---- how rows are listed
 
 -- one worker, one shard to a map, journals of 16 entries
 abbrev pub one_worker : Options

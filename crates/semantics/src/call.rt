@@ -173,7 +173,7 @@ impl Call {
         }
     }
 
-    /// The value that an Update gives its key.
+    /// The value that an Update sets for its key.
     pub fn value(&self) -> Option<&Value>
         ensures { option_map (λ value. value.now) result ≡ value_of_call self.now }
     {
@@ -246,7 +246,7 @@ impl Reply {
         }
     }
 
-    /// The number that a Load or an atomic operation told, 0 in another reply.
+    /// The number that a Load or an atomic operation returned, 0 in another reply.
     pub fn word(&self) -> u64
         ensures { result ≡ word_in self.now }
     {

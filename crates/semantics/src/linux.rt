@@ -20,7 +20,7 @@ pub enum Errno {
 }
 
 impl Errno {
-    /// The answer that tells the error: Linux's number, negated.
+    /// The answer for the error: Linux's number, negated.
     pub fn code(self) -> i32
         ensures { result ≡ errno_code self }
     {
@@ -33,7 +33,7 @@ impl Errno {
         }
     }
 
-    /// The error that an answer tells, if it is one of the five.
+    /// The error of an answer, if it is one of the five.
     pub fn of(code: i32) -> Option<Self>
         ensures { result ≡ errno_of code }
     {

@@ -33,7 +33,7 @@ impl Options {
     }
 }
 
-/// Whether a map may have so many shards.
+/// Whether a map may have this many shards.
 fn is_shard_count(count: u32) -> bool
     ensures test { result ≡ is_shard_count count }
     ensures power_of_two { (result ≡ true) ↔ ((count ≡ 1) ⊎ (count ≡ 2) ⊎ (count ≡ 4) ⊎ (count ≡ 8)) }
@@ -41,7 +41,7 @@ fn is_shard_count(count: u32) -> bool
     count == 1 || count == 2 || count == 4 || count == 8
 }
 
-/// Whether each map's entries can be divided among so many shards.
+/// Whether each map's entries can be divided among this many shards.
 fn are_equal_parts(maps: &[MapDef], parts: u32) -> bool
     requires { 0 < parts }
     ensures test { result ≡ are_equal_parts maps.now parts }

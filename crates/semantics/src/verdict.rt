@@ -1,6 +1,6 @@
 //! What a run decides about its frame.
 
-/// What becomes of a frame (the XDP actions of Linux, but for redirection).
+/// What becomes of a frame (the XDP actions of Linux, except redirection).
 #[derive(Clone, Copy, Debug, PartialEq, Eq)]
 pub enum Verdict {
     /// The run answered a number that is none of the three below.

@@ -27,7 +27,7 @@ use Rattle.map_cells.specs.CellTable.{CellTable}
 use Rattle.shard_core.specs.ShardFields.{IsBalanced}
 use Rattle.shard_core.specs.FewHeld.{is_among, AreOnce, FewAreHeld}
 
--- ---- numbers that stand once are no more than the list that has them all
+-- ---- numbers that are there once are no more than the list that has them all
 
 abbrev without : ℕ → List ℕ → List ℕ
 without id [] = []

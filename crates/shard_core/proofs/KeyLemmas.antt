@@ -1,4 +1,4 @@
--- What each change leaves of a table of keys beside a history: keys of an LRU map stand in the order of their last uses.
+-- What each change leaves of a table of keys beside a history: keys of an LRU map are in the order of their last uses.
 use Rattle.std.proofs.Common.{◌≡◌, ℕ, ◌+◌, Bool, true, false, cond, not, List, ◌∷◌, length, Option, Some, None, arith, refl, sym, ◌∙◌, ap}
 use Rattle.std.specs.Prelude.{◌==◌, is_some, filter, find, option_map, bytes_eq, if◌then◌else◌}
 use Rattle.std.specs.List.{AllByRecursion}

@@ -1,4 +1,4 @@
--- How the places of those who are inside follow the journal, and what they tell of retired cells.
+-- How the places of those who are inside follow the journal, and what they say of retired cells.
 use Rattle.std.proofs.Common.{◌≡◌, ℕ, zero, suc, ◌<◌, ◌≤◌, Bool, true, false, ◌&&◌, nat_lt, List, [], ◌∷◌, length, Option, Some, None, get_or, arith, refl, sym, ◌∙◌, ap}
 use Rattle.std.proofs.lemmas.List.{set_past}
 use Rattle.std.proofs.lemmas.Bool.Decides.{nat_tests}

@@ -170,7 +170,7 @@ filter_same : (first second : RetiredCell → Bool) (gone : List RetiredCell) �
 filter_same first second [] each = refl
 filter_same first second (one ∷ others) each = rw (each.0) (rw (filter_same first second others each.1) refl)
 
--- the retired cells that stand below the floor are those that may be freed
+-- the retired cells that are below the floor are those that may be freed
 pub record IsFloorFor (floor : ℕ) (history : List Entry) (gone : List RetiredCell) : Type 0 where
   pub tells : AllByRecursion (λ (one : RetiredCell). is_below floor (waiting one) ≡ is_reclaimable history one) gone
 

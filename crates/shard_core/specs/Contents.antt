@@ -8,7 +8,7 @@ use Rattle.map_cells.specs.CellTable.{CellTable, empty_table, is_kept, with_new_
 use Rattle.shard_core.specs.declared.keys.KeyTable.{KeyTable}
 use Rattle.shard_core.specs.KeyTables.{MayGrow, victim_cell, touched_in, without_victim_in, IsInserted}
 
--- so many cells of one value, and room for others up to so many places and ids
+-- this many cells of one value, and room for others up to this many places and ids
 abbrev pub filled_table : List ℕ → ℕ → ℕ → ℕ → CellTable
 filled_table value places ids count = record {
   value_size = length value;
@@ -43,7 +43,7 @@ abbrev pub with_evicted : Option ℕ → ℕ → CellTable → CellTable
 with_evicted (Some cell) place cells = with_retired cells cell place
 with_evicted None place cells = cells
 
--- the value stands in the cell that the key had, or in a new one that it has now, and the key was used
+-- the value is in the cell that the key had, or in a new one that it has now, and the key was used
 abbrev pub IsPut : Option ℕ → List ℕ → List ℕ → ℕ → CellTable → KeyTable → CellTable → KeyTable → Type 0
 IsPut (Some cell) key value place cells keys cells_after keys_after =
     (cells_after ≡ with_bytes cells cell value) × (keys_after ≡ touched_in key keys)

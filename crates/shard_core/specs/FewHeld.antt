@@ -9,7 +9,7 @@ use Rattle.semantics.specs.Reclamation.{holds}
 abbrev pub is_among : ℕ → List ℕ → Bool
 is_among id ids = list_any (λ other. other == id) ids
 
--- no number stands there twice
+-- no number is there twice
 abbrev pub AreOnce : List ℕ → Type 0
 AreOnce [] = Unit {0}
 AreOnce (id ∷ ids) = (is_among id ids ≡ false) × AreOnce ids

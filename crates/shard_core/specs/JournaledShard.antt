@@ -1,4 +1,4 @@
--- What contracts see of a shard: what it was opened with, and the journal of its calls, whose oldest entry stands first.
+-- What contracts see of a shard: what it was opened with, and the journal of its calls, whose oldest entry is first.
 -- Definitions speak of the history, which is the journal read from its newest entry on.
 use Rattle.std.specs.Prelude.{List, [], ◌∷◌, ◌++◌, reverse}
 use Rattle.semantics.specs.declared.call.Call.{Call}

@@ -42,7 +42,7 @@ FitsPlan (Recent keys) plan =
     (plan.definition.kind ≡ LruHash) × (keys.size ≡ plan.definition.key_size) × (keys.capacity ≡ capacity plan)
 
 -- its keys are those that are present after this history, each with its cell; an array's indices are always there, and those of an LRU map
--- stand in the order of their last uses
+-- are in the order of their last uses
 abbrev pub HasKeys : KeyTable → List Entry → List PresentKey → Type 0
 HasKeys (Indices indices) history present = present ≡ []
 HasKeys (Hashed keys) history present =
@@ -69,7 +69,7 @@ MayGrow (Recent keys) = Unit {0}
 
 -- ---- changes
 
--- a key was used: of an LRU map it stands first, if it is there
+-- a key was used: of an LRU map it is first, if it is there
 abbrev pub touched_in : List ℕ → KeyTable → KeyTable
 touched_in key (Indices indices) = Indices indices
 touched_in key (Hashed keys) = Hashed keys
@@ -90,7 +90,7 @@ without_victim_in (Indices indices) = Indices indices
 without_victim_in (Hashed keys) = Hashed keys
 without_victim_in (Recent keys) = Recent (if is_full_of keys then without_victim keys else keys)
 
--- a new key got this cell; of an LRU map it stands first
+-- a new key got this cell; of an LRU map it is first
 abbrev pub IsInsertedInto : List ℕ → ℕ → HashTable → KeyTable → Type 0
 IsInsertedInto key id old (Hashed new) =
     (new.size ≡ old.size) × (new.capacity ≡ old.capacity) × (length new.entries ≡ length old.entries + 1)

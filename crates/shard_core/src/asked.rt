@@ -1,4 +1,4 @@
-//! Which calls a caller may make: what a shard knows of the caller, without reading its journal where a flag tells.
+//! Which calls a caller may make: what a shard knows of the caller, without reading its journal where a flag says so.
 
 ghost use Rattle.std.specs.Prelude.{◌≡◌, ◌<◌, reverse};
 ghost use Rattle.semantics.specs.Reclamation.{is_inside, holds};

@@ -28,7 +28,7 @@ pub(crate) fn open_cells(alloc: Global, plan: &ShardPlan) -> Result<Cells, Alloc
     }
 }
 
-/// So many cells of one value, and no room for more.
+/// This many cells of one value, and no room for more.
 fn array_cells(alloc: Global, count: u32, reserve: u32, value: &[u8]) -> Result<Cells, AllocError>
     requires size { length value.now ≤ 256 }
     requires count { count ≤ 131072 }

@@ -84,7 +84,7 @@ impl KeyTable {
         }
     }
 
-    /// Takes the key out of a full LRU table that was used longest ago, and gives the cell that it had. No other table gives up a key.
+    /// Takes the key out of a full LRU table that was used longest ago, and returns the cell that it had. No other table gives up a key.
     pub(crate) fn evict_if_full(&mut self) -> Option<u64>
         requires { MayGrow self.old }
         ensures cell { result ≡ victim_cell self.old }
@@ -114,7 +114,7 @@ impl KeyTable {
         }
     }
 
-    /// Takes a key out, and gives the cell that it had.
+    /// Takes a key out, and returns the cell that it had.
     pub(crate) fn remove(&mut self, key: &[u8]) -> Option<u64>
         requires size { IsAskedSize self.old (length key.now) }
         requires keyed { IsKeyed self.old }

@@ -29,7 +29,7 @@ pub(crate) fn put_number(cells: &mut Cells, range: &CellRange, value: u64)
     cells.store(range.cell, offset, size, value);
 }
 
-/// Changes the number in these bytes, which are four or eight, by an atomic operation, and gives what it was.
+/// Changes the number in these bytes, which are four or eight, by an atomic operation, and returns what it was.
 pub(crate) fn change_number(
     cells: &mut Cells,
     range: &CellRange,

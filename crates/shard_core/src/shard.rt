@@ -216,7 +216,7 @@ impl Shard {
         Ok(())
     }
 
-    /// Changes the number in some bytes of a held cell in one step, and gives what it was. Refused where the journal is full; then nothing
+    /// Changes the number in some bytes of a held cell in one step, and returns what it was. Refused where the journal is full; then nothing
     /// is changed.
     pub fn atomic(
         &mut self,
@@ -266,7 +266,7 @@ impl Shard {
         delete_answer_of_kind(self.plan.definition.kind, self.keys.find(key))
     }
 
-    /// Sets the value of a key as bpf(2) has it, and gives its answer: 0, or Linux's error number, negated; then the value is not set.
+    /// Sets the value of a key as bpf(2) has it, and returns its answer: 0, or Linux's error number, negated; then the value is not set.
     /// Refused where the journal is full; then nothing is changed.
     pub fn update(
         &mut self,
@@ -293,7 +293,7 @@ impl Shard {
         Ok(code)
     }
 
-    /// Takes a key out as bpf(2) has it, and gives its answer: 0, and then its cell waits for its readers; or Linux's error number,
+    /// Takes a key out as bpf(2) has it, and returns its answer: 0, and then its cell waits for its readers; or Linux's error number,
     /// negated, and then no key goes. Refused where the journal is full; then nothing is changed.
     pub fn delete(&mut self, who: Caller, key: &[u8]) -> Result<i32, JournalFull>
         requires { MayCall self.old who (delete_call self.old key.now) }

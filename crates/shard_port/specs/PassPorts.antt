@@ -41,7 +41,7 @@ inside_own worker number own = entering worker number own ++ own
 
 -- ---- one shard
 
--- the shard answered the call, which the worker entered before where it was outside: the entries stand next to each other at the end of
+-- the shard answered the call, which the worker entered before where it was outside: the entries are next to each other at the end of
 -- what it has seen, which is legal, and are the new ones of its own
 pub record IsAskedAt (plan : ShardPlan) (number worker : ℕ) (before after : CallerView) (call : Call) (reply : Reply) : Type 0 where
   pub earlier : List Entry
@@ -110,7 +110,7 @@ port_of shards pass = record { served = served_of shards; pass = pass }
 abbrev pub has_found : PassPort → ℕ → ℕ → ℕ → Bool
 has_found port map shard cell = (shard / port.served.shards == map) && holds_own port.pass.who (own_at port.pass shard) cell
 
--- the worker asked the call's shard, which is one of so many; its views of the others stay
+-- the worker asked the call's shard, which is one of this many; its views of the others stay
 pub record IsGivenBy (plan : ℕ → ShardPlan) (count : ℕ) (before : PassPort) (call : Call) (reply : Reply) (after : PassPort) : Type 0 where
   pub same_maps : after.served ≡ before.served
   pub some_shard : 0 < before.served.shards
@@ -129,7 +129,7 @@ pub record IsRefusedBy (plan : ℕ → ShardPlan) (count : ℕ) (before : PassPo
   pub is_worker : before.pass.who ≡ Worker (worker_of before.pass.who)
   pub turned_away : IsTurnedAwayBy (plan (shard_of_call call)) (shard_of_call call) before.pass after.pass call
 
--- the worker left every one of so many shards that it was inside of
+-- the worker left every one of this many shards that it was inside of
 pub record IsFinishedBy (plan : ℕ → ShardPlan) (count : ℕ) (before after : PassView) : Type 0 where
   pub same_caller : after.who ≡ before.who
   pub left : (number : ℕ) → number < count → IsLeftBy (plan number) number before after

@@ -24,7 +24,7 @@ session_at worker number exchanges = session worker number (entries_at worker nu
 abbrev pub IsOutsideAt : ℕ → PassView → ℕ → Type 0
 IsOutsideAt worker pass number = IsFalse (is_inside worker (own_at pass number))
 
--- each call is of one of so many shards
+-- each call is of one of this many shards
 abbrev pub AreWithin : ℕ → List Exchange → Type 0
 AreWithin count exchanges = AllByRecursion (λ (exchange : Exchange). shard_of_call exchange.call < count) exchanges
 
@@ -69,7 +69,7 @@ pub record HasRefusedSessions (plan : ℕ → ShardPlan) (count worker : ℕ) (e
         ⊎ IsKeptOut (plan (shard_of_call call)) full_at worker exchanges (shard_of_call call) (own_at before (shard_of_call call))
         (own_at after (shard_of_call call))
 
--- ---- the laws: of a run from a pass whose worker is outside so many shards
+-- ---- the laws: of a run from a pass whose worker is outside this many shards
 
 abbrev pub WritesOwnSessions : Type 0
 WritesOwnSessions =

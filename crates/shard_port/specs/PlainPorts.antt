@@ -1,4 +1,4 @@
--- What a plain port gives, by what contracts see of it.
+-- What a plain port returns, by what contracts see of it.
 use Rattle.std.specs.Prelude.{◌≡◌}
 use Rattle.semantics.specs.declared.call.Call.{Call}
 use Rattle.semantics.specs.declared.call.Reply.{Reply}

@@ -80,7 +80,7 @@ inside_after_call worker (Atomic at offset size op value expected) reply history
 inside_after_call worker (Update shard key value flags) reply history run inside = rw (same_worker worker) inside
 inside_after_call worker (Delete shard key) reply history run inside = rw (same_worker worker) inside
 
--- the newest entry stands first in the history
+-- the newest entry is first in the history
 pub newest_first : (shard : JournaledShard) (entry : Entry) → reverse (with_entry shard entry).journal ≡ entry ∷ reverse shard.journal
 newest_first shard entry = reverse-append shard.journal (entry ∷ [])
 

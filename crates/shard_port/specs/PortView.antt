@@ -37,7 +37,7 @@ pub record AreShardsOf (maps : List MapDef) (options : Options) (shards : List J
   pub count : length shards ≡ length maps * options.shards
   pub each : (number : ℕ) (shard : JournaledShard) → slice_get shards number ≡ Some shard → IsShardOf maps options number shard
 
--- the same, without a choice of its proof: so it may stand in a type
+-- the same, without a choice of its proof: so it may be in a type
 abbrev pub ServesMaps : List MapDef → Options → List JournaledShard → Type 0
 ServesMaps maps options shards = ∥ AreShardsOf maps options shards ∥₁
 
@@ -51,7 +51,7 @@ pub record IsReady (maps : List MapDef) (options : Options) (worker : ℕ) (shar
 
 -- ---- handles
 
--- the cell of a handle: the shard's number stands above the cell's id, from 1 on
+-- the cell of a handle: the shard's number is above the cell's id, from 1 on
 abbrev pub cell_of_handle : ℕ → CellRef
 cell_of_handle handle = record { shard = (handle - 1) / 2 ^ 32; id = (handle - 1) % 2 ^ 32 }
 
@@ -64,7 +64,7 @@ handle_of_cell None = 0
 abbrev pub handle_of : Reply → ℕ
 handle_of reply = handle_of_cell (cell_of_reply reply)
 
--- ---- what a call gives
+-- ---- what a call returns
 
 -- a port's maps, its worker, and its shards by their numbers
 pub record PortView : Type 0 where

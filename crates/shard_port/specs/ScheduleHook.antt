@@ -6,7 +6,7 @@ use Rattle.semantics.specs.declared.call.Caller.{Caller}
 abbrev pub next_count : ℕ → ℕ
 next_count count = (count + 1) % 2 ^ 64
 
--- of so many more
+-- of this many more
 abbrev pub count_after : ℕ → ℕ → ℕ
 count_after count replies = (count + replies) % 2 ^ 64
 

@@ -218,7 +218,7 @@ impl<'a> MapPort for PlainPort<'a> {
     }
 }
 
-/// The cell that a handle stands for.
+/// The cell that a handle represents.
 pub(crate) fn cell_of_handle(handle: u64) -> CellRef
     ensures { result ≡ cell_of_handle handle }
 {

@@ -5,10 +5,10 @@ ghost use Rattle.shard_port.specs.ScheduleHook.{next_count};
 
 use semantics::Caller;
 
-/// What is told of each reply that an actor has, and may hold it: for tests that fix a schedule.
+/// What is called for each reply of an actor, and may hold it: for tests that fix a schedule.
 pub trait Gate {
     /// The actor has had its `nth` reply, counted from 1 within the replay: to a map's call, to an update or to a Reclaim. It holds no lock. Neither
-    /// an Enter, a Leave nor a refusal is told.
+    /// an Enter, a Leave nor a refusal counts.
     fn replied(&self, who: Caller, nth: u64);
 }
 
@@ -20,7 +20,7 @@ impl Gate for NoGate {
     fn replied(&self, _who: Caller, _nth: u64) {}
 }
 
-/// An actor's replies, counted, and the gate that is told of them.
+/// An actor's replies, counted, and the gate that is called for them.
 #[derive(Drop)]
 pub struct Tally<'a, G: Gate> {
     gate: &'a G,
@@ -30,7 +30,7 @@ pub struct Tally<'a, G: Gate> {
 }
 
 impl<'a, G: Gate> Tally<'a, G> {
-    /// An actor that had so many replies.
+    /// An actor that had this many replies.
     pub fn new(gate: &'a G, who: Caller, count: u64) -> Tally<'a, G>
         ensures who { result.who ≡ who }
         ensures count { result.count ≡ count }
@@ -38,7 +38,7 @@ impl<'a, G: Gate> Tally<'a, G> {
         Tally { gate, who, count }
     }
 
-    /// Counts a reply and tells the gate of it.
+    /// Counts a reply, and calls the gate for it.
     pub fn replied(&mut self)
         ensures who { self.new.who ≡ self.old.who }
         ensures count { self.new.count ≡ next_count self.old.count }

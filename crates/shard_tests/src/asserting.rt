@@ -1,4 +1,4 @@
-//! Comparisons that end a test, proved once for all of them. The message has the name that a row or a call gives.
+//! Comparisons that end a test, proved once for all of them. The message has the name of a row or a call.
 
 ghost use Rattle.std.specs.Prelude.{◌≡◌, true};
 

@@ -34,7 +34,7 @@ fn a_large_order(rt: HostRuntime) -> Result<(), AllocError> {
     Ok(())
 }
 
-/// A call on a shard whose keys are one byte, once or repeated, or a number that it tells.
+/// A call on a shard whose keys are one byte, once or repeated, or a number that it returns.
 #[derive(Clone, Copy)]
 enum Ask {
     /// Key, cell.
@@ -49,7 +49,7 @@ enum Ask {
     Capacity,
 }
 
-/// A call, and the cell or number that it gives.
+/// A call, and the cell or number that it returns.
 type Row = (&'static str, Ask, Option<u64>);
 
 /// Puts a new key in, for which there is room.

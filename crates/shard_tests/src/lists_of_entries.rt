@@ -107,7 +107,7 @@ fn entry_at(calls: &[Call; 12], place: usize) -> Entry {
     }
 }
 
-/// So many entries.
+/// This many entries.
 fn list_of(alloc: Global, calls: &[Call; 12], count: usize) -> Result<EntryList, AllocError> {
     let mut list = EntryList::new(alloc);
     for place in 0..count {

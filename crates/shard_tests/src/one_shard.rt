@@ -348,7 +348,7 @@ fn large_hash(rt: HostRuntime) -> Result<(), AllocError> {
     Ok(())
 }
 
-/// A call that is made so many times: its reply, or None where the full journal refuses it.
+/// A call that is made this many times: its reply, or None where the full journal refuses it.
 type Filling = (&'static str, u32, Ask, Option<Reply>);
 
 /// Makes the calls of the rows in turn, on an array with a journal of 16, and says how many entries it then has.

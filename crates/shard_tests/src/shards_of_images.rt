@@ -58,7 +58,7 @@ fn opened(
     PlainShards::open(alloc, image, options)
 }
 
-/// How many shards an image has with so many to a map; None where they are refused.
+/// How many shards an image has with this many to a map; None where they are refused.
 fn count_of(alloc: Global, image: &Image, shards: u32) -> Option<usize> {
     match opened(alloc, image, 1, shards) {
         Ok(all) => Some(all.count()),
@@ -205,7 +205,7 @@ fn plan_of(rt: &impl Abort, shards: &mut PlainShards, name: &str, number: u32) -
     *shards.shard(number).plan()
 }
 
-/// PlainShards stand map after map, part after part.
+/// `PlainShards` are in order, map after map, part after part.
 #[test]
 fn places_of_shards(rt: HostRuntime) -> Result<(), Fail> {
     let mut shards = opened(rt.alloc(), &three_kinds(rt.alloc())?, 1, 4)?;

@@ -104,7 +104,7 @@ head_form heads.Call = Call
 head_form heads.Lddw = Wide
 head_form head = Plain
 
--- what the stem alone tells of the first word
+-- what the stem alone says of the first word
 abbrev StemTells : Head → Type 0
 StemTells h =
     (is_heading (head_stem h ++ head_suffix h) ≡ false) × (form_of (head_stem h ++ head_suffix h) ≡ head_form h) ×
@@ -369,7 +369,7 @@ three_is_list a b c fa fb fc =
 
 -- ---- what operands mean
 
--- an operand before others stands as it is
+-- an operand before others is as it is
 abbrev IsShort : Operand → Type 0
 IsShort o = number_meaning (operand_text o) ≡ Ok (operand_text o)
 
@@ -457,7 +457,7 @@ last_wide : (n : ℕ) → n < 2 ^ 64 → IsLast Wide (WideNumber n)
 unfolding operand_text
 last_wide n small = λ statements place. rw (hex_again n small) refl
 
--- the operands of an instruction stand as they are
+-- the operands of an instruction are as they are
 pub stand : (i : Insn) → FieldsFit i → Stand (head_form (head_of i)) (operands_of i)
 unfolding FieldsFit head_of operands_of head_form
 stand (insns.Alu width op dst (Imm value)) fits = (short_register dst, last_plain (Number value) (short_number value (widest_fits value fits)))

@@ -19,7 +19,7 @@ none p (x ∷ xs) e = none_case p x xs (p x) refl e (none p xs)
 pub parts_none : (mark : ℕ) (text : List ℕ) → position_or_len (λ b. eqb b mark) text ≡ length text → parts_at mark text ≡ text ∷ []
 parts_none mark text e = none (λ b. eqb b mark) text e
 
--- else the first part stands before the first mark
+-- else the first part is before the first mark
 pub parts_some : (mark : ℕ) (text : List ℕ) → position_or_len (λ b. eqb b mark) text < length text → parts_at mark text ≡ before_mark mark text ∷ parts_at mark (after_mark mark text)
 parts_some mark text lt = slice_split_first (λ b. eqb b mark) text 0 lt
 

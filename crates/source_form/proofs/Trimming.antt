@@ -1,4 +1,4 @@
--- Texts that begin and end with no white space are left as they are by `trim`; and where marks stand in a text.
+-- Texts that begin and end with no white space are left as they are by `trim`; and where marks are in a text.
 use Rattle.std.proofs.Common.{◌≡◌, ◌∙◌, ℕ, zero, suc, ◌+◌, ◌<◌, Bool, true, false, ◌&&◌, cond, not, ltb, eqb, List, [], ◌∷◌, ◌++◌, length, take, get_or, refl, sym, ap, arith, append_assoc, length-append}
 use Rattle.std.specs.Char.{is_whitespace}
 use Rattle.std.specs.List.{onto_first, position_or_len}

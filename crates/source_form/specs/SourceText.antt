@@ -24,7 +24,7 @@ use Rattle.source_form.specs.declared.fault.SourceFault.TheVariants.{BadLine}
 abbrev pub parts_at : ℕ → List ℕ → List (List ℕ)
 parts_at mark text = slice_split (λ b. b == mark) text
 
--- what stands before the first mark, or all
+-- what is before the first mark, or all
 abbrev pub before_mark : ℕ → List ℕ → List ℕ
 before_mark mark text = before_first (λ b. b == mark) text
 
@@ -75,7 +75,7 @@ words_of s = if has_label s then trim (after_mark 58 s) else s
 abbrev pub has_text : List ℕ → Bool
 has_text s = not (length (words_of s) == 0)
 
--- the first line and those of maps stand as they are
+-- the first line and those of maps are as they are
 abbrev pub is_heading : List ℕ → Bool
 is_heading word = bytes_eq word (codes "version") || bytes_eq word (codes "map")
 
@@ -123,7 +123,7 @@ abbrev pub number_in : ℕ → List ℕ → Option ℕ
 number_in radix ds =
     if not (length ds == 0) && (all_digits radix ds && nat_lt (digits_value radix ds) (2 ^ 64)) then Some (digits_value radix ds) else None
 
--- nothing, or what ends with a sign, may stand before a number
+-- nothing, or what ends with a sign, may be before a number
 abbrev pub is_sign : List ℕ → Bool
 is_sign front = length front == 0 || (finishes front (codes "+") || finishes front (codes "-"))
 
@@ -141,11 +141,11 @@ number_told front end None = Err NoNumber
 abbrev pub signed_meaning : List ℕ → List ℕ → List ℕ → Result (List ℕ) Problem
 signed_meaning front digits end = if is_sign front then number_told front end (number_in 16 digits) else Err NoNumber
 
--- what stands before the x and after it
+-- what is before the x and after it
 abbrev pub hex_meaning : List ℕ → List ℕ → Result (List ℕ) Problem
 hex_meaning front back = if finishes front (codes "0") then signed_meaning (all_but_last front) (digits_of back) (bracket_of back) else Err NoNumber
 
--- a number in hexadecimal is that number; what has no x stands as it is
+-- a number in hexadecimal is that number; what has no x is as it is
 abbrev pub number_meaning : List ℕ → Result (List ℕ) Problem
 number_meaning operand = if has_mark 120 operand then hex_meaning (before_mark 120 operand) (after_mark 120 operand) else Ok operand
 
@@ -165,7 +165,7 @@ is_number_byte b = b == 43 || (b == 45 || (nat_lt 47 b && nat_lt b 58))
 abbrev pub begins_number : List ℕ → Bool
 begins_number operand = is_number_byte (slice_index_or operand 0 0)
 
--- a helper's name stands with or without bpf_
+-- a helper's name is with or without bpf_
 abbrev pub plain_name : List ℕ → List ℕ
 plain_name name = if begins name (codes "bpf_") then drop 4 name else name
 
@@ -197,7 +197,7 @@ target_meaning statements place operand =
 
 -- ---- operands
 
--- the last operand of an instruction that stands on this line
+-- the last operand of an instruction that is on this line
 abbrev pub last_meaning : List (List ℕ) → ℕ → Form → List ℕ → Result (List ℕ) Problem
 last_meaning statements place Plain operand = number_meaning operand
 last_meaning statements place Jump operand = target_meaning statements place operand
@@ -209,7 +209,7 @@ abbrev pub then_told : Result (List ℕ) Problem → (List ℕ → Result (List 
 then_told (Ok text) next = next text
 then_told (Err problem) next = Err problem
 
--- the operands behind what stands so far, with a comma and a space between two
+-- the operands behind what is there so far, with a comma and a space between two
 unfoldable pub operands_meaning : List (List ℕ) → ℕ → Form → List ℕ → List (List ℕ) → Result (List ℕ) Problem
 operands_meaning statements place form so_far [] = Ok so_far
 operands_meaning statements place form so_far (last ∷ []) = then_told (last_meaning statements place form last) (λ text. Ok (so_far ++ text))
@@ -231,7 +231,7 @@ is_name_byte b = (nat_lt 96 b && nat_lt b 123) || ((nat_lt 64 b && nat_lt b 91) 
 abbrev pub is_name : List ℕ → Bool
 is_name name = not (length name == 0) && (not (begins_number name) && list_all is_name_byte name)
 
--- a label stands for no text: it has a name, which no earlier line has
+-- a label has no text: it has a name, which no earlier line has
 abbrev pub label_told : ℕ → Option ℕ → Result (List ℕ) Problem
 label_told place (Some first) = if first == place then Ok [] else Err LabelTwice
 label_told place None = Ok []
@@ -246,7 +246,7 @@ words_meaning statements place s = if is_heading (first_word s) then Ok s else i
 abbrev pub text_meaning : List (List ℕ) → ℕ → List ℕ → Result (List ℕ) Problem
 text_meaning statements place s = then_told (words_meaning statements place s) (λ text. Ok (text ++ codes "\n"))
 
--- the label in front of an instruction, which means nothing where it may stand there
+-- the label in front of an instruction, which means nothing where it may be there
 abbrev pub front_meaning : List (List ℕ) → ℕ → List ℕ → Result (List ℕ) Problem
 front_meaning statements place s = if has_label s then label_meaning statements place (label_of s) else Ok []
 
@@ -263,7 +263,7 @@ abbrev pub on_line : ℕ → Result (List ℕ) Problem → (List ℕ → Result 
 on_line line (Ok text) next = next text
 on_line line (Err problem) next = Err (BadLine line problem)
 
--- the text of the lines from a place on, behind what stands so far, or the first line without a meaning, counted from 1
+-- the text of the lines from a place on, behind what is there so far, or the first line without a meaning, counted from 1
 unfoldable pub meaning_from : List (List ℕ) → ℕ → List ℕ → List (List ℕ) → Result (List ℕ) SourceFault
 meaning_from statements place so_far [] = Ok so_far
 meaning_from statements place so_far (s ∷ more) =

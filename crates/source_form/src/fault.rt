@@ -11,9 +11,9 @@ use thiserror::Error;
 /// What is wrong with a line.
 #[derive(Clone, Copy, Debug, PartialEq, Eq)]
 pub enum Problem {
-    /// The label stands on an earlier line too.
+    /// The label is on an earlier line too.
     LabelTwice,
-    /// What stands before the colon is no name.
+    /// What is before the colon is no name.
     NoLabelName,
     /// No line has the label to which the jump goes.
     UnknownLabel,

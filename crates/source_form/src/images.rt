@@ -5,7 +5,7 @@ use crate::words::{first_word, words_of};
 use ebpf_decode::DecodeFault;
 use std::alloc::{AllocError, Global};
 
-/// The line, counted from 1, on which the map of a number stands.
+/// The line, counted from 1, on which the map of a number is.
 fn line_of_map(statements: &[&str], map: usize) -> usize {
     let mut line = 0usize;
     let mut before = 0usize;

@@ -80,7 +80,7 @@ fn distance_text(alloc: Global, target: u128, slot: u128) -> Result<String, Allo
     }
 }
 
-/// The distance from the jump on one line to a label, or a distance as it stands.
+/// The distance from the jump on one line to a label, or a distance as it is.
 pub(crate) fn target_text(
     alloc: Global,
     statements: &[&str],
@@ -104,7 +104,7 @@ pub(crate) fn target_text(
     }
 }
 
-/// Whether a label may stand on a line: its name is one, and no earlier line has it.
+/// Whether a label may be on a line: its name is one, and no earlier line has it.
 fn label_problem(statements: &[&str], place: usize, name: &str) -> Option<Problem>
     ensures { (label_meaning (map (λ line. line.now) statements.now) place name.now) ≡ label_answer result }
 {

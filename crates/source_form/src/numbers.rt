@@ -44,7 +44,7 @@ fn finishes(text: &str, end: &str) -> bool
     text.ends_with(end)
 }
 
-/// Whether nothing stands in front of a number, or a sign does.
+/// Whether nothing is in front of a number, or a sign is.
 fn is_sign(front: &str) -> bool
     ensures { result ≡ is_sign front.now }
 {
@@ -72,7 +72,7 @@ fn number_between(alloc: Global, front: &str, value: u64, end: &str) -> Result<S
     Ok(out)
 }
 
-/// What stands before a number, the number of its digits in base 16 in decimal, and what comes after it.
+/// What is before a number, the number of its digits in base 16 in decimal, and what comes after it.
 fn signed_text(alloc: Global, sign: &str, digits: &str, end: &str) -> Result<String, LineFault>
     ensures ok { IfOk result (λ text. signed_meaning sign.now digits.now end.now ≡ Ok (string_bytes text)) }
     ensures err { IfErr result (λ fault. IsToldBy (signed_meaning sign.now digits.now end.now) fault) }

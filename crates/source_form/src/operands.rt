@@ -93,7 +93,7 @@ fn last_text(
     }
 }
 
-/// The operands of a list, behind what stands so far.
+/// The operands of a list, behind what is there so far.
 fn operands_text(
     alloc: Global,
     statements: &[&str],

@@ -94,7 +94,7 @@ fn put_code(alloc: Global, out: &mut String, code: &[Insn]) -> Result<(), AllocE
     Ok(())
 }
 
-/// Writes the first line and those of the maps: so many lines of the exact text.
+/// Writes the first line and those of the maps: this many lines of the exact text.
 fn put_headings(
     alloc: Global,
     out: &mut String,

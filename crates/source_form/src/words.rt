@@ -19,7 +19,7 @@ pub enum Form {
     Wide,
 }
 
-/// What stands before the first mark, or all.
+/// What is before the first mark, or all.
 pub(crate) fn before_mark(text: &str, mark: char) -> &str
     requires { mark < 128 }
     ensures { result.now ≡ before_mark mark text.now }
@@ -37,7 +37,7 @@ pub(crate) fn statement(line: &str) -> &str
     before_mark(line, '#').trim()
 }
 
-/// What stands up to the first space or tab.
+/// What is up to the first space or tab.
 pub(crate) fn first_word(statement: &str) -> &str
     ensures { result.now ≡ first_word statement.now }
 {
@@ -54,7 +54,7 @@ pub(crate) fn after_first_word(statement: &str) -> &str
     }
 }
 
-/// What stands before a mark at the end.
+/// What is before a mark at the end.
 pub(crate) fn without_end<'a>(text: &'a str, mark: &str) -> Option<&'a str>
     requires { length mark.now ≡ 1 }
     ensures some { IfSome result (λ front. (front.now ≡ all_but_last text.now) × (finishes text.now mark.now ≡ true)) }
@@ -66,7 +66,7 @@ pub(crate) fn without_end<'a>(text: &'a str, mark: &str) -> Option<&'a str>
     }
 }
 
-/// The name of the statement's label: what stands before its colon.
+/// The name of the statement's label: what is before its colon.
 pub(crate) fn label_of(statement: &str) -> Option<&str>
     ensures some { IfSome result (λ name. (name.now ≡ label_of statement.now) × (has_label statement.now ≡ true)) }
     ensures none { IfNone result (has_label statement.now ≡ false) }

@@ -1,4 +1,4 @@
--- Lines of a text, and what stands before a mark.
+-- Lines of a text, and what is before a mark.
 use Rattle.std.specs.Prelude.{◌≢◌, ℕ, ◌<◌, List, [], ◌∷◌, ◌++◌, length, slice_index}
 
 -- no byte is the mark

@@ -3,7 +3,7 @@
 ghost use Rattle.std.specs.Prelude.{◌≡◌, ◌==◌, ◌+◌, ◌<◌, IfErr, IfOk, IsUtf8, count_by, length, take};
 ghost use Rattle.text_lines.specs.NoText.{IsNoText};
 
-/// The line, counted from 1, in which the byte at an index stands.
+/// The line, counted from 1, in which the byte at an index is.
 fn line_at(bytes: &[u8], index: usize) -> usize
     requires { index < length bytes.now }
     ensures { result ≡ 1 + count_by (λ byte. byte == 10) (take index bytes.now) }

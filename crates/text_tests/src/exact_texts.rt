@@ -90,7 +90,7 @@ fn first_run(rt: HostRuntime) -> Result<(), Fail> {
     Ok(())
 }
 
-// Each slot as its eight bytes stand, by the opcodes of RFC 9669.
+// Each slot as its eight bytes are, by the opcodes of RFC 9669.
 #[rattlefmt::skip]
 const ARITHMETIC: [(&str, u64); 31] = [
     ("add r0, -5",            0x07000000fbffffff),
@@ -508,7 +508,7 @@ fn faulty_images(rt: HostRuntime) -> Result<(), Fail> {
     Ok(())
 }
 
-/// So many lines `mov r0, 1` and an `exit`.
+/// This many lines `mov r0, 1` and an `exit`.
 fn long_text(alloc: Global, count: u32) -> Result<String, AllocError> {
     let mut given = String::from_str(alloc, "version 1\n")?;
     for _ in 0..count {
@@ -518,7 +518,7 @@ fn long_text(alloc: Global, count: u32) -> Result<String, AllocError> {
     Ok(given)
 }
 
-/// How many instructions the image of so many lines and an `exit` has.
+/// How many instructions the image of this many lines and an `exit` has.
 fn count_of_long(alloc: Global, count: u32) -> Result<Result<usize, AsmFault>, AllocError> {
     let given = long_text(alloc, count)?;
     Ok(count_of(alloc, &given))

@@ -75,7 +75,7 @@ fn printed_refusals(rt: HostRuntime) -> Result<(), Fail> {
     Ok(())
 }
 
-/// So many lines of two letters.
+/// This many lines of two letters.
 fn long_notes(alloc: Global, count: u32) -> Result<String, Fail> {
     let mut notes = String::new(alloc);
     for _ in 0..count {

@@ -1,4 +1,4 @@
-//! Programs with what is told of them, worked out by hand from the rules.
+//! Programs with what is printed of them, worked out by hand from the rules.
 
 use crate::asserting::{holds, same_text};
 use disasm::assemble;
@@ -10,14 +10,14 @@ use std::test::Fail;
 const LOOKUP: &str =
     "version 1\nmap array 4 8 1\nstw [r10-4], 0\nmov r2, r10\nadd r2, -4\nldmap r1, 0\ncall 1\n";
 
-/// What is told of the program of a text.
+/// What is printed of the program of a text.
 fn told(alloc: Global, head: &str, code: &str) -> Result<String, Fail> {
     let text = format!(in alloc; "{head}{code}")?;
     let image = assemble(alloc, &text)?;
     Ok(explain(alloc, &image)?)
 }
 
-/// A program, and the lines of what is told of it up to the rule.
+/// A program, and the lines of what is printed of it up to the rule.
 type Row = (&'static str, &'static str, &'static str);
 
 const V1: &str = "version 1\n";
@@ -131,7 +131,7 @@ const PROGRAM: &str = "  slot 0: ldmap r6, 0
     known: r0 number 0..7; r6 map 0; r7 number 0..7; r10 stack r10-0; r10-16 spilled map 0; r10-8 bytes -------w;
 ";
 
-/// Holds the beginning of what is told of a program against its lines.
+/// Holds the beginning of what is printed of a program against its lines.
 fn check_row(
     rt: &impl Abort,
     alloc: Global,

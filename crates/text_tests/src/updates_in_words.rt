@@ -68,7 +68,7 @@ fn words_are_mistaken(rt: HostRuntime) {
     are_mistaken(&rt, rt.alloc(), &MISTAKEN);
 }
 
-/// So many times two zeros.
+/// This many times two zeros.
 fn zeros(alloc: Global, bytes: usize) -> Result<String, Fail> {
     let mut text = String::new(alloc);
     for _ in 0..bytes {
@@ -109,7 +109,7 @@ const fn map(kind: MapKind, key_size: u32, value_size: u32) -> MapDef {
     }
 }
 
-/// So many zeros.
+/// This many zeros.
 fn update(map: u32, key: usize, value: usize) -> MapUpdate {
     let zeros = [0; 300];
     MapUpdate {

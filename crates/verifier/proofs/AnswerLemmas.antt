@@ -11,7 +11,7 @@ use Rattle.semantics.specs.Program.{instruction_at}
 use Rattle.image_shape.proofs.shared.LawLemmas.{no_fault, one_fault}
 use Rattle.image_shape.proofs.shared.SlotLemmas.{past_end}
 use Rattle.abstract_state.specs.declared.flow.Flow.{Flow}
-use Rattle.abstract_state.specs.declared.refusal.Refusal.{Refusal}
+use Rattle.abstract_state.specs.declared.broken_rule.BrokenRule.{BrokenRule}
 use Rattle.abstract_state.specs.declared.state.State.{State}
 use Rattle.abstract_state.specs.States.{Checked}
 use Rattle.abstract_state.specs.Flow.{flow_of}
@@ -29,11 +29,11 @@ same_below version maps code one other end (suc bound) first second h slot k =
     first slot (omega arith) ∙ agree version maps code one other slot slot (λ below g. same_below version maps code one other end bound first second (omega arith) below (omega arith))
     ∙ sym (second slot (omega arith))
 
-no_break : (after : Checked Flow) (why : Refusal) → IsOk after → after ≡ Err why → ⊥
+no_break : (after : Checked Flow) (why : BrokenRule) → IsOk after → after ≡ Err why → ⊥
 no_break (Ok flow) why ok e = absurd cc
 no_break (Err other) why ok e = absurd cc
 
-not_broken : (version : Version) (maps : List MapDef) (code : List Insn) (states : List (Option State)) (slot : ℕ) (why : Refusal) → Accepts version maps code states → IsFirstBroken version maps code slot why → ⊥
+not_broken : (version : Version) (maps : List MapDef) (code : List Insn) (states : List (Option State)) (slot : ℕ) (why : BrokenRule) → Accepts version maps code states → IsFirstBroken version maps code slot why → ⊥
 not_broken version maps code states slot why accepted broken =
     let within : slot < total_slots code = ⊎_elim (λ below. below) (λ past. let none : instruction_at code slot ≡ None = past_end code slot past in let some : instruction_at code slot ≡ Some broken.insn = broken.here in absurd cc) (cases_lt slot (total_slots code))
     in let same : known_at states slot ≡ known_at broken.states slot =
@@ -48,14 +48,14 @@ one_answer version maps code states reject accepted (wants_memory shape asked e)
 -- ---- one first reject
 
 -- of two broken rules that are each the first, neither comes before the other
-not_before : (version : Version) (maps : List MapDef) (code : List Insn) (slot later : ℕ) (why other : Refusal) → IsFirstBroken version maps code slot why → IsFirstBroken version maps code later other → slot < later → ⊥
+not_before : (version : Version) (maps : List MapDef) (code : List Insn) (slot later : ℕ) (why other : BrokenRule) → IsFirstBroken version maps code slot why → IsFirstBroken version maps code later other → slot < later → ⊥
 not_before version maps code slot later why other first second h =
     let same : known_at first.states slot ≡ known_at second.states slot =
     same_below version maps code first.states second.states (slot + 1) (slot + 1) first.entry (λ k g. second.entry k (omega arith)) (omega arith) slot (omega arith)
     in no_break (flow_of maps first.state slot first.insn) why
     (second.earlier slot h first.insn first.state first.here (sym same ∙ first.known)) first.breaks
 
-same_rule : (version : Version) (maps : List MapDef) (code : List Insn) (slot : ℕ) (why other : Refusal) → IsFirstBroken version maps code slot why → IsFirstBroken version maps code slot other → why ≡ other
+same_rule : (version : Version) (maps : List MapDef) (code : List Insn) (slot : ℕ) (why other : BrokenRule) → IsFirstBroken version maps code slot why → IsFirstBroken version maps code slot other → why ≡ other
 same_rule version maps code slot why other first second =
     let states : known_at first.states slot ≡ known_at second.states slot =
     same_below version maps code first.states second.states (slot + 1) (slot + 1) first.entry second.entry (omega arith) slot (omega arith)
@@ -65,7 +65,7 @@ same_rule version maps code slot why other first second =
     in let there : flow_of maps first.state slot first.insn ≡ Err other = rw (state, insn) second.breaks
     in cc
 
-same_slot : (version : Version) (maps : List MapDef) (code : List Insn) (slot later : ℕ) (why other : Refusal) → IsFirstBroken version maps code slot why → IsFirstBroken version maps code later other → slot ≡ later
+same_slot : (version : Version) (maps : List MapDef) (code : List Insn) (slot later : ℕ) (why other : BrokenRule) → IsFirstBroken version maps code slot why → IsFirstBroken version maps code later other → slot ≡ later
 same_slot version maps code slot later why other first second = ⊎_elim
     (λ less. absurd (not_before version maps code slot later why other first second less))
     (λ more. ⊎_elim
@@ -74,7 +74,7 @@ same_slot version maps code slot later why other first second = ⊎_elim
     (cases_lt later slot))
     (cases_lt slot later)
 
-one_rule : (version : Version) (maps : List MapDef) (code : List Insn) (slot later : ℕ) (why other : Refusal) → IsFirstBroken version maps code slot why → IsFirstBroken version maps code later other →
+one_rule : (version : Version) (maps : List MapDef) (code : List Insn) (slot later : ℕ) (why other : BrokenRule) → IsFirstBroken version maps code slot why → IsFirstBroken version maps code later other →
     reject_of_refusal slot why ≡ reject_of_refusal later other
 one_rule version maps code slot later why other first second =
     let at : slot ≡ later = same_slot version maps code slot later why other first second
@@ -92,7 +92,7 @@ first_reject_is_one version maps code one other (wants_memory shape asked e) sec
 
 -- ---- no memory is asked for before the first jump
 
-not_asked : (version : Version) (maps : List MapDef) (code : List Insn) (slot : ℕ) (why : Refusal) → IsFirstBroken version maps code slot why →
+not_asked : (version : Version) (maps : List MapDef) (code : List Insn) (slot : ℕ) (why : BrokenRule) → IsFirstBroken version maps code slot why →
     ((before : ℕ) (insn : Insn) → before < slot → instruction_at code before ≡ Some insn → jump_distance insn ≡ None) → MayAskMemory version maps code → ⊥
 not_asked version maps code slot why broken none (passed_all states accepted) = not_broken version maps code states slot why accepted broken
 not_asked version maps code slot why broken none (passed_jump at jump) = ⊎_elim

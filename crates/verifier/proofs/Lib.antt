@@ -1,6 +1,6 @@
 pub mod shared
 pub mod Distances
-pub mod PassLemmas
+pub mod SweepLemmas
 pub mod ReaderLemmas
 pub mod MemoryLemmas
 pub mod SurveyLemmas

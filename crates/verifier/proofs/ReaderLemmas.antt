@@ -1,4 +1,4 @@
--- The pass that tells whether a program only reads.
+-- The sweep that says whether a program only reads.
 use Rattle.std.proofs.Common.{◌≡◌, ℕ, ◌+◌, ◌<◌, ◌≤◌, Bool, true, false, List, Option, Some, None, refl, sym, ap, ◌∙◌, ⊎_elim, arith}
 use Rattle.std.specs.Prelude.{IsTrue, ◌&&◌, ◌↔◌}
 use Rattle.std.proofs.lemmas.Bool.{cases_lt}
@@ -9,14 +9,14 @@ use Rattle.image_shape.proofs.shared.SlotLemmas.{past_end, some_slots}
 use Rattle.abstract_state.specs.declared.state.State.{State}
 use Rattle.verifier.specs.Dataflow.{known_at}
 use Rattle.verifier.specs.Readers.{only_reads, reads_known, IsReader}
-use Rattle.verifier.proofs.PassLemmas.{slots_on}
+use Rattle.verifier.proofs.SweepLemmas.{slots_on}
 
 -- the instruction at a slot only reads
 abbrev pub ReadsAt : List Insn → List (Option State) → ℕ → Type 0
 ReadsAt code states slot = (insn : Insn) (state : State) → instruction_at code slot ≡ Some insn → known_at states slot ≡ Some state →
     IsTrue (only_reads state insn)
 
--- the mark tells whether the instructions below a slot only read
+-- the mark says whether the instructions below a slot only read
 pub record IsMark (code : List Insn) (states : List (Option State)) (end : ℕ) (reads : Bool) : Type 0 where
   pub sound : reads ≡ true → (slot : ℕ) → slot < end → ReadsAt code states slot
   pub exact : ((slot : ℕ) → slot < end → ReadsAt code states slot) → reads ≡ true

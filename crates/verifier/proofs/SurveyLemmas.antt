@@ -7,16 +7,16 @@ use Rattle.ebpf_decode.specs.declared.map.MapDef.{MapDef}
 use Rattle.ebpf_decode.specs.InstructionEncoding.{total_slots}
 use Rattle.semantics.specs.Program.{instruction_at}
 use Rattle.image_shape.specs.Structure.{HasShape}
-use Rattle.abstract_state.specs.declared.refusal.Refusal.{Refusal}
+use Rattle.abstract_state.specs.declared.broken_rule.BrokenRule.{BrokenRule}
 use Rattle.abstract_state.specs.declared.state.State.{State}
-use Rattle.verifier.specs.declared.pending.Entry.{Entry}
+use Rattle.verifier.specs.declared.pending.KnownHere.{KnownHere}
 use Rattle.verifier.specs.declared.pending.Pending.{Pending}
 use Rattle.verifier.specs.Dataflow.{known_at, states_of}
 use Rattle.verifier.specs.Pending.{known_if, entry_of}
 use Rattle.verifier.specs.Stops.{BreaksRule}
 use Rattle.verifier.specs.Surveys.{IsBroken}
 use Rattle.verifier.proofs.shared.EntryStates.{are_entry_states}
-use Rattle.verifier.proofs.PassLemmas.{IsHeld, held_here}
+use Rattle.verifier.proofs.SweepLemmas.{IsHeld, held_here}
 
 -- one more at the end of a list whose places are known
 pub noted : (f : ℕ → Option State) (items : List (Option State)) (one : Option State) →
@@ -40,11 +40,11 @@ known_is : (reached : Bool) (state other : State) → known_if reached state ≡
 known_is true state other e = cc
 known_is false state other e = absurd cc
 
-pub entry_is : (entry : Entry) (state : State) → entry_of entry ≡ Some state → entry.state ≡ state
+pub entry_is : (entry : KnownHere) (state : State) → entry_of entry ≡ Some state → entry.state ≡ state
 entry_is entry state e = known_is entry.is_reached entry.state state e
 
--- the instruction at which the pass stops is the first that breaks a rule
-pub broken_here : (version : Version) (maps : List MapDef) (code : List Insn) (slot : ℕ) (insn : Insn) (entry : Entry) (pending : Pending) (why told : Refusal) → told ≡ why →
+-- the instruction at which the sweep stops is the first that breaks a rule
+pub broken_here : (version : Version) (maps : List MapDef) (code : List Insn) (slot : ℕ) (insn : Insn) (entry : KnownHere) (pending : Pending) (why told : BrokenRule) → told ≡ why →
     HasShape code → instruction_at code slot ≡ Some insn → slot < total_slots code → BreaksRule maps slot insn (entry_of entry) why →
     IsHeld version maps code slot entry pending →
     IsBroken version maps code (record { slot = slot; insn = insn; state = entry.state; why = told })

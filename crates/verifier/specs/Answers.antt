@@ -7,7 +7,7 @@ use Rattle.ebpf_decode.specs.ImageContents.{IsEncodable}
 use Rattle.ebpf_decode.specs.Jumps.{jump_distance}
 use Rattle.semantics.specs.Program.{instruction_at}
 use Rattle.semantics.specs.Safety.{IsSafeImage}
-use Rattle.abstract_state.specs.declared.refusal.Refusal.{Refusal}
+use Rattle.abstract_state.specs.declared.broken_rule.BrokenRule.{BrokenRule}
 use Rattle.abstract_state.specs.declared.state.State.{State}
 use Rattle.verifier.specs.declared.reject.Reject.{Reject}
 use Rattle.verifier.specs.declared.reject.Reject.TheVariants.{Memory}
@@ -31,7 +31,7 @@ FirstRejectIsOne =
 -- a rule that is broken before the first jump is told, whatever memory there is
 abbrev pub RuleBeforeJumpsIsTold : Type 0
 RuleBeforeJumpsIsTold =
-    (version : Version) (maps : List MapDef) (code : List Insn) (slot : ℕ) (why : Refusal) (reject : Reject) → IsFirstBroken version maps code slot why →
+    (version : Version) (maps : List MapDef) (code : List Insn) (slot : ℕ) (why : BrokenRule) (reject : Reject) → IsFirstBroken version maps code slot why →
     ((before : ℕ) (insn : Insn) → before < slot → instruction_at code before ≡ Some insn → jump_distance insn ≡ None) →
     IsFirstReject version maps code reject → reject ≡ reject_of_refusal slot why
 

@@ -1,4 +1,4 @@
--- What is known at the slots of a program covers the runs that are reached: each stands at a slot whose entry state is sound for it.
+-- What is known at the slots of a program covers the runs that are reached: each is at a slot whose entry state is sound for it.
 use Rattle.std.specs.Prelude.{◌≡◌, ℕ, ◌/◌, ◌==◌, ◌&&◌, List, Option, Some}
 use Rattle.ebpf_decode.specs.declared.insn.Insn.{Insn}
 use Rattle.ebpf_decode.specs.declared.map.MapDef.{MapDef}

@@ -11,7 +11,7 @@ use Rattle.image_shape.specs.declared.fault.ShapeFault.{ShapeFault}
 use Rattle.image_shape.specs.Structure.{HasShape, IsFirstFault}
 use Rattle.abstract_state.specs.declared.flow.Flow.{Flow}
 use Rattle.abstract_state.specs.declared.flow.Flow.TheVariants.{Ends, Falls, Jumps, Splits}
-use Rattle.abstract_state.specs.declared.refusal.Refusal.{Refusal}
+use Rattle.abstract_state.specs.declared.broken_rule.BrokenRule.{BrokenRule}
 use Rattle.abstract_state.specs.declared.state.State.{State}
 use Rattle.abstract_state.specs.States.{Checked, opening_state}
 use Rattle.abstract_state.specs.Join.{join_of}
@@ -63,13 +63,13 @@ abbrev pub arriving_from : List MapDef → ℕ → Option Insn → Option State 
 arriving_from maps slot (Some insn) (Some state) target known = arriving_if slot insn target (flow_of maps state slot insn) known
 arriving_from maps slot insn state target known = known
 
--- what the edges from the first so many slots bring to a slot; a run begins at slot 0
+-- what the edges from the first this many slots bring to a slot; a run begins at slot 0
 abbrev pub arrived : Version → List MapDef → List Insn → List (Option State) → ℕ → ℕ → Option State
 arrived version maps code states target zero = if target == 0 then Some (opening_state version) else None
 arrived version maps code states target (suc slot) =
     arriving_from maps slot (instruction_at code slot) (known_at states slot) target (arrived version maps code states target slot)
 
--- the entry states of the first so many slots, each from those before it
+-- the entry states of the first this many slots, each from those before it
 unfoldable pub states_to : Version → List MapDef → List Insn → ℕ → List (Option State)
 states_to version maps code zero = []
 states_to version maps code (suc slot) =
@@ -81,7 +81,7 @@ states_of version maps code = states_to version maps code (total_slots code)
 
 -- ---- what is accepted
 
--- at the slots before this one stands what flows along the edges that lead there
+-- at the slots before this one is what flows along the edges that lead there
 abbrev pub AreEntryStates : Version → List MapDef → List Insn → List (Option State) → ℕ → Type 0
 AreEntryStates version maps code states end = (slot : ℕ) → slot < end → known_at states slot ≡ arrived version maps code states slot slot
 
@@ -117,13 +117,13 @@ pub record IsPassedJump (version : Version) (maps : List MapDef) (code : List In
   pub flows : flow_of maps state slot insn ≡ Ok flow
   pub is_jump : IsTrue (jumps flow)
 
--- memory may have been asked for: for what flows along a jump, or, once the whole program has passed, for the resolved instructions
+-- memory may have been asked for: for what flows along a jump, or, once the whole program broke no rule, for the resolved instructions
 pub data MayAskMemory (version : Version) (maps : List MapDef) (code : List Insn) : Type 0 where
   passed_jump : (slot : ℕ) → IsPassedJump version maps code slot → MayAskMemory version maps code
   passed_all : (states : List (Option State)) → Accepts version maps code states → MayAskMemory version maps code
 
 -- the program has structure, and the instruction at this slot is the first that breaks a rule
-pub record IsFirstBroken (version : Version) (maps : List MapDef) (code : List Insn) (slot : ℕ) (why : Refusal) : Type 0 where
+pub record IsFirstBroken (version : Version) (maps : List MapDef) (code : List Insn) (slot : ℕ) (why : BrokenRule) : Type 0 where
   pub shape : HasShape code
   pub states : List (Option State)
   pub entry : AreEntryStates version maps code states (slot + 1)
@@ -138,6 +138,6 @@ pub record IsFirstBroken (version : Version) (maps : List MapDef) (code : List I
 -- reported in place of a rule of kinds, where memory may have been asked for before the rule was looked at.
 pub data IsFirstReject (version : Version) (maps : List MapDef) (code : List Insn) (reject : Reject) : Type 0 where
   has_no_shape : (fault : ShapeFault) → IsFirstFault code fault → reject ≡ reject_of_shape fault → IsFirstReject version maps code reject
-  breaks_rule : (slot : ℕ) (why : Refusal) → IsFirstBroken version maps code slot why →
+  breaks_rule : (slot : ℕ) (why : BrokenRule) → IsFirstBroken version maps code slot why →
       reject ≡ reject_of_refusal slot why → IsFirstReject version maps code reject
   wants_memory : HasShape code → MayAskMemory version maps code → reject ≡ Memory → IsFirstReject version maps code reject

@@ -1,9 +1,9 @@
--- What a pass holds in memory of what is known: at the slot where it stands, and what jumps brought to later slots.
+-- What a sweep holds in memory of what is known: at the slot where it is, and what jumps brought to later slots.
 use Rattle.std.specs.Prelude.{◌≡◌, ℕ, ◌<◌, Bool, true, false, Option, Some, None, slice_index_or}
 use Rattle.std.specs.declared.boxed.Box.{Box}
 use Rattle.std.specs.declared.alloc.Global.{Global}
 use Rattle.abstract_state.specs.declared.state.State.{State}
-use Rattle.verifier.specs.declared.pending.Entry.{Entry}
+use Rattle.verifier.specs.declared.pending.KnownHere.{KnownHere}
 use Rattle.verifier.specs.declared.pending.Pending.{Pending}
 
 -- a state, where a path leads
@@ -11,7 +11,7 @@ abbrev pub known_if : Bool → State → Option State
 known_if true state = Some state
 known_if false state = None
 
-abbrev pub entry_of : Entry → Option State
+abbrev pub entry_of : KnownHere → Option State
 entry_of entry = known_if entry.is_reached entry.state
 
 abbrev pub unboxed : Option (Box State Global) → Option State

@@ -5,8 +5,8 @@ use Rattle.faults.specs.declared.fields.Fields.TheVariants as fields
 use Rattle.isa.specs.InstructionCodes.{register_number}
 use Rattle.image_shape.specs.declared.fault.ShapeFault.{ShapeFault}
 use Rattle.image_shape.specs.declared.fault.ShapeFault.TheVariants as shape
-use Rattle.abstract_state.specs.declared.refusal.Refusal.{Refusal}
-use Rattle.abstract_state.specs.declared.refusal.Refusal.TheVariants as rule
+use Rattle.abstract_state.specs.declared.broken_rule.BrokenRule.{BrokenRule}
+use Rattle.abstract_state.specs.declared.broken_rule.BrokenRule.TheVariants as rule
 use Rattle.verifier.specs.declared.reject.Reject.{Reject}
 use Rattle.verifier.specs.declared.reject.Reject.TheVariants.{JumpBackward, JumpOutside, JumpIntoWide, FallsOff, Unreachable, UnsetRegister}
 use Rattle.verifier.specs.declared.reject.Reject.TheVariants.{WrongKind, PacketBounds, StackBounds, StackUnset, ValueBounds, Misaligned}
@@ -20,7 +20,7 @@ reject_of_shape (shape.JumpIntoWide slot) = JumpIntoWide slot
 reject_of_shape (shape.FallsOff slot) = FallsOff slot
 reject_of_shape (shape.Unreachable slot) = Unreachable slot
 
-abbrev pub reject_of_refusal : ℕ → Refusal → Reject
+abbrev pub reject_of_refusal : ℕ → BrokenRule → Reject
 reject_of_refusal slot (rule.UnsetRegister register) = UnsetRegister slot (register_number register)
 reject_of_refusal slot (rule.WrongKind register) = WrongKind slot (register_number register)
 reject_of_refusal slot rule.PacketBounds = PacketBounds slot

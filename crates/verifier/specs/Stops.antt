@@ -1,15 +1,15 @@
--- Why a pass stops at an instruction.
+-- Why a sweep stops at an instruction.
 use Rattle.std.specs.Prelude.{◌≡◌, ℕ, List, Option, Some, Ok, Err, IsTrue}
 use Rattle.ebpf_decode.specs.declared.insn.Insn.{Insn}
 use Rattle.ebpf_decode.specs.declared.map.MapDef.{MapDef}
 use Rattle.abstract_state.specs.declared.flow.Flow.{Flow}
-use Rattle.abstract_state.specs.declared.refusal.Refusal.{Refusal}
+use Rattle.abstract_state.specs.declared.broken_rule.BrokenRule.{BrokenRule}
 use Rattle.abstract_state.specs.declared.state.State.{State}
 use Rattle.abstract_state.specs.Flow.{flow_of}
 use Rattle.verifier.specs.Dataflow.{jumps}
 
 -- the instruction breaks a rule in what is known
-pub record BreaksRule (maps : List MapDef) (slot : ℕ) (insn : Insn) (known : Option State) (why : Refusal) : Type 0 where
+pub record BreaksRule (maps : List MapDef) (slot : ℕ) (insn : Insn) (known : Option State) (why : BrokenRule) : Type 0 where
   pub state : State
   pub is : known ≡ Some state
   pub breaks : flow_of maps state slot insn ≡ Err why

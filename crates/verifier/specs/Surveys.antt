@@ -19,7 +19,7 @@ pub record IsBroken (version : Version) (maps : List MapDef) (code : List Insn) 
   pub here : instruction_at code broken.slot ≡ Some broken.insn
   pub known : known_at (states_of version maps code) broken.slot ≡ Some broken.state
 
--- the last of so many instructions begins at the slot
+-- the last of this many instructions begins at the slot
 abbrev pub IsLast : List Insn → ℕ → ℕ → Type 0
 IsLast code count slot = (index : ℕ) × (count ≡ index + 1) × (slot_of code index ≡ slot)
 

@@ -2,7 +2,7 @@
 
 ghost use Rattle.std.specs.Prelude.{◌≡◌, ◌<◌, ◌+◌, ℕ, Some, Err, IsOk, IsTrue, IfOk, IfErr};
 ghost use Rattle.abstract_state.specs.declared.flow.Flow.{Flow};
-ghost use Rattle.abstract_state.specs.declared.refusal.Refusal.{Refusal};
+ghost use Rattle.abstract_state.specs.declared.broken_rule.BrokenRule.{BrokenRule};
 ghost use Rattle.abstract_state.specs.declared.state.State.{State};
 ghost use Rattle.abstract_state.specs.Flow.{flow_of};
 ghost use Rattle.abstract_state.specs.InPlace.{flow_by};
@@ -12,18 +12,18 @@ ghost use Rattle.verifier.specs.Dataflow.{arriving, arriving_from, is_target, jo
 ghost use Rattle.verifier.specs.Pending.{entry_of, pending_at};
 ghost use Rattle.verifier.specs.Stops.{BreaksRule, WantsRoom};
 
-use crate::pending::{Entry, Pending};
-use abstract_state::{Refusal, Site, State, Way};
+use crate::pending::{KnownHere, Pending};
+use abstract_state::{BrokenRule, Site, State, Way};
 use ebpf_decode::{Insn, MapDef};
 use std::alloc::{AllocError, Global};
 
-/// Why a pass stops.
+/// Why a sweep stops.
 #[derive(Clone, Copy)]
-pub(crate) enum Stop {
+pub(crate) enum Halt {
     /// Memory was refused.
     Memory,
     /// The instruction breaks a rule.
-    Rule(Refusal),
+    Rule(BrokenRule),
 }
 
 /// Brings what is known after an instruction to where it jumps.
@@ -52,7 +52,7 @@ fn split(
     slot: usize,
     insn: Insn,
     pending: &mut Pending,
-    entry: &mut Entry,
+    entry: &mut KnownHere,
 ) -> Result<(), AllocError>
     requires within { slot < 4096 }
     requires not_negative { HasNoNegativeTarget slot insn }
@@ -77,7 +77,7 @@ fn lead_on(
     insn: Insn,
     way: Way,
     pending: &mut Pending,
-    entry: &mut Entry,
+    entry: &mut KnownHere,
 ) -> Result<(), AllocError>
     requires within { slot < 4096 }
     requires not_negative { HasNoNegativeTarget slot insn }
@@ -101,15 +101,15 @@ fn lead_on(
     Ok(())
 }
 
-/// Looks at the instruction at a slot: from what is known there to what is known at the next, or why the pass stops.
+/// Looks at the instruction at a slot: from what is known there to what is known at the next, or why the sweep stops.
 pub(crate) fn advance(
     alloc: Global,
     maps: &[MapDef],
     slot: usize,
     insn: Insn,
     pending: &mut Pending,
-    entry: &mut Entry,
-) -> Result<(), Stop>
+    entry: &mut KnownHere,
+) -> Result<(), Halt>
     requires within { slot < 4096 }
     requires not_negative { HasNoNegativeTarget slot insn }
     ensures later { IfOk result (λ _. (target : ℕ) → slot + slot_count insn < target →
@@ -118,8 +118,8 @@ pub(crate) fn advance(
         entry_of entry.new ≡ arriving_from maps.now slot (Some insn) (entry_of entry.old) (slot + slot_count insn)
         (pending_at pending.old (slot + slot_count insn))) }
     ensures passes { IfOk result (λ _. (state : State) → entry_of entry.old ≡ Some state → IsOk (flow_of maps.now state slot insn)) }
-    ensures broken { (why : Refusal) → result ≡ Err (Stop.Rule why) → BreaksRule maps.now slot insn (entry_of entry.old) why }
-    ensures asked { result ≡ Err Stop.Memory → WantsRoom maps.now slot insn (entry_of entry.old) }
+    ensures broken { (why : BrokenRule) → result ≡ Err (Halt.Rule why) → BreaksRule maps.now slot insn (entry_of entry.old) why }
+    ensures asked { result ≡ Err Halt.Memory → WantsRoom maps.now slot insn (entry_of entry.old) }
 {
     if !entry.is_reached {
         pending.land(slot + insn.slot_count() as usize, entry);
@@ -131,10 +131,10 @@ pub(crate) fn advance(
     };
     let way = match entry.state.step(site, insn) {
         Ok(way) => way,
-        Err(why) => return Err(Stop::Rule(why)),
+        Err(why) => return Err(Halt::Rule(why)),
     };
     match lead_on(alloc, slot, insn, way, pending, entry) {
         Ok(()) => Ok(()),
-        Err(_) => Err(Stop::Memory),
+        Err(_) => Err(Halt::Memory),
     }
 }

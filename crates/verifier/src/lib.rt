@@ -4,12 +4,12 @@
 mod advance;
 pub mod laws;
 mod op;
-mod pass;
 mod pending;
 mod reader;
 mod reject;
 pub mod resolved;
 pub mod survey;
+mod sweep;
 mod verified;
 
 pub use op::Op;

@@ -1,5 +1,5 @@
-//! What is known where a pass stands, and what jumps brought to later slots. A state takes two kilobytes: each that is pending
-//! stands in a box, which is given back when its slot is reached.
+//! What is known where a sweep is, and what jumps brought to later slots. A state takes two kilobytes: each that is pending
+//! is in a box, which is given back when its slot is reached.
 
 ghost use Rattle.std.specs.Prelude.{◌≡◌, ◌==◌, ◌<◌, ◌≤◌, ◌+◌, ℕ, length, Some, IfOk};
 ghost use Rattle.abstract_state.specs.States.{opening_state};
@@ -10,26 +10,26 @@ use abstract_state::State;
 use ebpf_decode::Version;
 use std::alloc::{AllocError, Global};
 
-/// What is known on entry to the instruction at which a pass stands: nothing where no path leads there.
+/// What is known on entry to the instruction at which a sweep is: nothing where no path leads there.
 #[derive(Clone, Copy)]
-pub(crate) struct Entry {
+pub(crate) struct KnownHere {
     pub(crate) is_reached: bool,
     pub(crate) state: State,
 }
 
-impl Entry {
+impl KnownHere {
     /// What is known where a run begins.
-    pub(crate) fn opening(version: Version) -> Entry
+    pub(crate) fn opening(version: Version) -> KnownHere
         ensures { entry_of result ≡ Some (opening_state version) }
     {
-        Entry {
+        KnownHere {
             is_reached: true,
             state: State::opening(version),
         }
     }
 }
 
-/// What jumps brought to slots that a pass has not come to.
+/// What jumps brought to slots that a sweep has not come to.
 #[derive(Drop)]
 pub(crate) struct Pending {
     /// By slot, as far as jumps have led.
@@ -88,7 +88,7 @@ impl Pending {
 
     /// A run falls into a slot: what is known there is joined to what jumps brought.
     #[inline(never)]
-    pub(crate) fn fall(&mut self, slot: usize, entry: &mut Entry)
+    pub(crate) fn fall(&mut self, slot: usize, entry: &mut KnownHere)
         ensures others { AreKeptAbove slot self.old self.new }
         ensures fallen { entry_of entry.new ≡ join_known (pending_at self.old slot) entry.old.state }
     {
@@ -104,7 +104,7 @@ impl Pending {
 
     /// No run falls into a slot: what is known there is what jumps brought.
     #[inline(never)]
-    pub(crate) fn land(&mut self, slot: usize, entry: &mut Entry)
+    pub(crate) fn land(&mut self, slot: usize, entry: &mut KnownHere)
         ensures others { AreKeptAbove slot self.old self.new }
         ensures landed { entry_of entry.new ≡ pending_at self.old slot }
     {

@@ -4,7 +4,7 @@ ghost use Rattle.std.specs.Prelude.{◌≡◌};
 ghost use Rattle.verifier.specs.Pending.{entry_of};
 ghost use Rattle.verifier.specs.Readers.{is_worker_helper, is_value, is_worker_field, is_queue_field, only_reads, reads_known};
 
-use crate::pending::Entry;
+use crate::pending::KnownHere;
 use abstract_state::{Kind, State};
 use ebpf_decode::Insn;
 use semantics::{ContextField, Helper};
@@ -59,7 +59,7 @@ fn only_reads(state: &State, insn: Insn) -> bool
     }
 }
 
-impl Entry {
+impl KnownHere {
     /// The same in what is known at a slot.
     pub(crate) fn only_reads(&self, insn: Insn) -> bool
         ensures { result ≡ reads_known insn (entry_of self.now) }

@@ -4,7 +4,7 @@ ghost use Rattle.std.specs.Prelude.{◌≡◌, true};
 ghost use Rattle.faults.specs.Explanations.{is_fault};
 ghost use Rattle.verifier.specs.Rejects.{reject_of_shape, reject_of_refusal, reject_number, reject_fields};
 
-use abstract_state::Refusal;
+use abstract_state::BrokenRule;
 use faults::Fields;
 use image_shape::ShapeFault;
 use thiserror::Error;
@@ -90,33 +90,33 @@ impl Reject {
     }
 
     /// The reject of a broken rule of kinds.
-    pub(crate) fn of_refusal(slot: u32, why: Refusal) -> Reject
+    pub(crate) fn of_refusal(slot: u32, why: BrokenRule) -> Reject
         ensures { result ≡ reject_of_refusal slot why }
     {
         match why {
-            Refusal::UnsetRegister(register) => Reject::UnsetRegister {
+            BrokenRule::UnsetRegister(register) => Reject::UnsetRegister {
                 slot,
                 register: u32::from(register.number()),
             },
-            Refusal::WrongKind(register) => Reject::WrongKind {
+            BrokenRule::WrongKind(register) => Reject::WrongKind {
                 slot,
                 register: u32::from(register.number()),
             },
-            Refusal::PacketBounds => Reject::PacketBounds { slot },
-            Refusal::StackBounds => Reject::StackBounds { slot },
-            Refusal::StackUnset => Reject::StackUnset { slot },
-            Refusal::ValueBounds => Reject::ValueBounds { slot },
-            Refusal::Misaligned => Reject::Misaligned { slot },
-            Refusal::ContextAccess => Reject::ContextAccess { slot },
-            Refusal::ReadOnlyFp => Reject::ReadOnlyFp { slot },
-            Refusal::UnknownHelper => Reject::UnknownHelper { slot },
-            Refusal::BadArgument(register) => Reject::BadArgument {
+            BrokenRule::PacketBounds => Reject::PacketBounds { slot },
+            BrokenRule::StackBounds => Reject::StackBounds { slot },
+            BrokenRule::StackUnset => Reject::StackUnset { slot },
+            BrokenRule::ValueBounds => Reject::ValueBounds { slot },
+            BrokenRule::Misaligned => Reject::Misaligned { slot },
+            BrokenRule::ContextAccess => Reject::ContextAccess { slot },
+            BrokenRule::ReadOnlyFp => Reject::ReadOnlyFp { slot },
+            BrokenRule::UnknownHelper => Reject::UnknownHelper { slot },
+            BrokenRule::BadArgument(register) => Reject::BadArgument {
                 slot,
                 register: u32::from(register.number()),
             },
-            Refusal::PointerLeak => Reject::PointerLeak { slot },
-            Refusal::UnknownMap => Reject::UnknownMap { slot },
-            Refusal::NotArrayMap => Reject::NotArrayMap { slot },
+            BrokenRule::PointerLeak => Reject::PointerLeak { slot },
+            BrokenRule::UnknownMap => Reject::UnknownMap { slot },
+            BrokenRule::NotArrayMap => Reject::NotArrayMap { slot },
         }
     }
 

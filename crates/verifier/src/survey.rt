@@ -1,4 +1,4 @@
-//! The pass once more, for people: what is known on entry to each instruction is kept, and the state in which the first rule is broken.
+//! The sweep once more, for people: what is known on entry to each instruction is kept, and the state in which the first rule is broken.
 
 ghost use Rattle.std.specs.Prelude.{◌≡◌, ◌≤◌, ◌++◌, ◌∷◌, [], IfOk};
 ghost use Rattle.ebpf_decode.specs.InstructionEncoding.{total_slots};
@@ -6,9 +6,9 @@ ghost use Rattle.image_shape.specs.Structure.{HasShape};
 ghost use Rattle.verifier.specs.Pending.{entry_of};
 ghost use Rattle.verifier.specs.Surveys.{IsSurvey};
 
-use crate::advance::{Stop, advance};
-use crate::pending::{Entry, Pending};
-use abstract_state::{Refusal, State};
+use crate::advance::{Halt, advance};
+use crate::pending::{KnownHere, Pending};
+use abstract_state::{BrokenRule, State};
 use ebpf_decode::{Image, Insn, MapDef, Version};
 use std::alloc::{AllocError, Global};
 
@@ -18,7 +18,7 @@ pub struct Broken {
     pub slot: u32,
     pub insn: Insn,
     pub state: State,
-    pub why: Refusal,
+    pub why: BrokenRule,
 }
 
 /// What is known along a program.
@@ -30,7 +30,7 @@ pub struct Survey {
     pub broken: Option<Broken>,
 }
 
-impl Entry {
+impl KnownHere {
     /// What is known.
     fn known(&self) -> Option<State>
         ensures { result ≡ entry_of self.now }
@@ -44,7 +44,7 @@ impl Entry {
 }
 
 /// Puts what is known on entry to an instruction behind the others.
-fn note(known: &mut Vec<Option<State>>, entry: &Entry) -> Result<(), AllocError>
+fn note(known: &mut Vec<Option<State>>, entry: &KnownHere) -> Result<(), AllocError>
     ensures { IfOk result (λ _. known.new.items ≡ known.old.items ++ entry_of entry.now ∷ []) }
 {
     known.extend_from_slice(&[entry.known()])
@@ -63,15 +63,15 @@ fn survey_code(
 {
     let mut known = Vec::new(alloc);
     let mut pending = Pending::new(alloc);
-    let mut entry = Entry::opening(version);
+    let mut entry = KnownHere::opening(version);
     let mut slot = 0;
     'slots: for insn in code {
         note(&mut known, &entry)?;
         let before = entry;
         match advance(alloc, maps, slot, *insn, &mut pending, &mut entry) {
             Ok(()) => {}
-            Err(Stop::Memory) => return Err(AllocError),
-            Err(Stop::Rule(why)) => {
+            Err(Halt::Memory) => return Err(AllocError),
+            Err(Halt::Rule(why)) => {
                 let broken = Broken {
                     slot: slot as u32,
                     insn: *insn,

@@ -22,7 +22,7 @@ AreRecords-short bytes (first ∷ sents) rest are zero d within = are.0.small
 AreRecords-short bytes (first ∷ sents) rest are (suc k) d within =
     AreRecords-short (drop (16 + length first.bytes.items) bytes) sents rest are.1 k d (omega arith)
 
--- a record's fault comes only before the end, where no record stands
+-- a record's fault comes only before the end, where no record is
 fault_blocks : (rest : List ℕ) (number : ℕ) (fault : CaptureFault) → IsRecordFault rest number fault → (0 < length rest) × ((other : Sent) → BeginsWithRecord rest other → ⊥)
 fault_blocks rest number BadMagic h = absurd h
 fault_blocks rest number BadVersion h = absurd h

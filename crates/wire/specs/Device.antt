@@ -1,4 +1,4 @@
--- What is known of the bytes that a device gives or holds: all of them, or nothing.
+-- What is known of the bytes that a device returns or holds: all of them, or nothing.
 use Rattle.std.specs.Prelude.{◌≡◌, ℕ, List, ◌++◌, Option, Some, None, ⊤}
 use Rattle.std.specs.Io.KnownBytes.{append_known}
 

@@ -12,10 +12,10 @@ use byteorder::{ByteOrder, LittleEndian};
 use std::alloc::Global;
 
 /// The bytes of a file's header.
-const HEADER_LEN: usize = 24;
+pub(crate) const HEADER_LEN: usize = 24;
 
 /// The bytes of a record's head.
-const HEAD_LEN: usize = 16;
+pub(crate) const HEAD_LEN: usize = 16;
 
 /// The most bytes that a record may keep.
 const MAX_KEPT: usize = 2048;

@@ -10,7 +10,7 @@ use thiserror::Error;
 #[error("the device failed")]
 pub struct Failed;
 
-/// A device that gives bytes: a file, a stream or memory. It gives at most 2^40 in all.
+/// A device that returns bytes: a file, a stream or memory. It returns at most 2^40 in all.
 pub trait Source {
     /// The bytes that it has left, or `None` where the type does not tell.
     ghost left: { Self → Option (List ℕ) };

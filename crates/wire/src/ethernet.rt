@@ -5,11 +5,11 @@ ghost use Rattle.wire.specs.EthernetBytes.{ethernet_bytes};
 
 use crate::big_endian::be_bytes;
 
-/// An IPv4 address: its bytes as they stand in a header (RFC 791, section 3.1).
+/// An IPv4 address: its bytes as they are in a header (RFC 791, section 3.1).
 #[derive(Clone, Copy, Debug, PartialEq, Eq)]
 pub struct Ipv4Address(pub [u8; 4]);
 
-/// An Ethernet address: its bytes as they stand in a frame.
+/// An Ethernet address: its bytes as they are in a frame.
 #[derive(Clone, Copy, Debug, PartialEq, Eq)]
 pub struct MacAddress(pub [u8; 6]);
 

@@ -28,7 +28,7 @@ impl Transport {
     }
 }
 
-/// A flow: addresses and ports as they stand in the frame.
+/// A flow: addresses and ports as they are in the frame.
 #[derive(Clone, Copy, Debug, PartialEq, Eq)]
 pub struct FlowKey {
     pub source: Ipv4Address,

@@ -6,13 +6,13 @@ ghost use Rattle.std.specs.Io.KnownBytes.{ReadConsumes, WriteAppends};
 use crate::device::{Failed, Sink, Source};
 use std::io::{Read, Write};
 
-/// The most bytes that a source gives.
+/// The most bytes that a source returns.
 const MOST_GIVEN: u64 = 1 << 40;
 
 /// The failures of a new device.
 const NO_FAILURES: u64 = 0;
 
-/// A source of what a reader gives: a file or the standard input.
+/// A source of what a reader returns: a file or the standard input.
 ///
 /// A call fails where the reader does, and once it could give more than 2^40 bytes in all.
 #[derive(Drop)]

@@ -1,4 +1,4 @@
--- An interval that an operation or a cut gives stands for all that the operation gives, or that the test lets through.
+-- An interval that an operation or a cut returns represents all that the operation returns, or that the test lets through.
 use Rattle.std.proofs.Common.{◌≡◌, ℕ, zero, suc, ◌+◌, ◌-◌, ◌*◌, ◌/◌, ◌%◌, ◌^◌, ◌<◌, ◌≤◌, Bool, true, false, refl, sym, ◌∙◌, arith, nat_lt, nat_le, ◌==◌, ◌&&◌, if◌then◌else◌, min, max, ap}
 use Rattle.std.specs.Int.{w64, leading_zeros}
 use Rattle.std.specs.Int.Count.{count_leading_zeros}
@@ -43,7 +43,7 @@ from_low low high n p q = record { above = p; below = q }
 pub full_covers : (bits n : ℕ) → n < 2 ^ bits → Covers (full_of bits) n
 full_covers bits n h = from_low 0 (2 ^ bits - 1) n (omega arith) (omega arith)
 
--- a single number stands for itself alone
+-- a single number represents itself alone
 pub single_is : (i : Interval) (n : ℕ) → is_single i ≡ true → Covers i n → n ≡ i.low
 single_is i n s c = let e : i.low ≡ i.high = eqb-true i.low i.high s in let p : i.low ≤ n = c.above in let q : n ≤ i.high = c.below in omega arith
 
@@ -235,7 +235,7 @@ halves Bits64 = refl
 operand_fits : (width : Width) (n : ℕ) → n < 2 ^ 64 → operand_at width n < 2 ^ 64
 operand_fits width n h = width_fits width (operand_at width n) (operand_at-lt width n h)
 
--- what an operation gives of covered numbers is covered
+-- what an operation returns of covered numbers is covered
 pub transfer_covers : (width : Width) (operation : AluOp) (i j : Interval) (a b : ℕ) → a < 2 ^ 64 → b < 2 ^ 64 → Covers i a → Covers j b → Covers (transfer_of width operation i j) (alu_value width operation a b)
 transfer_covers width operation i j a b p q c d =
     if_covers (is_single i && is_single j) (constant_of (alu_value width operation i.low j.low))

@@ -12,8 +12,8 @@ use Rattle.semantics.specs.LittleEndian.{number_of_bytes}
 use Rattle.semantics.specs.MachineState.{MachineState, StackByte}
 use Rattle.semantics.specs.Memory.{stack_range, stack_place, packet_range, cell_range, aligned_range, aligned_cell_range, value_size_of_map}
 use Rattle.semantics.specs.Program.{Program}
-use Rattle.abstract_state.specs.declared.refusal.Refusal.{Refusal}
-use Rattle.abstract_state.specs.declared.refusal.Refusal.TheVariants.{ValueBounds, Misaligned}
+use Rattle.abstract_state.specs.declared.broken_rule.BrokenRule.{BrokenRule}
+use Rattle.abstract_state.specs.declared.broken_rule.BrokenRule.TheVariants.{ValueBounds, Misaligned}
 use Rattle.abstract_state.specs.declared.kind.Offsets.{Offsets}
 use Rattle.abstract_state.specs.States.{Checked, ◌>>=◌, value_size_of}
 use Rattle.abstract_state.specs.Places.{range_within, aligned, stack_access, value_range, value_access, atomic_access}
@@ -21,7 +21,7 @@ use Rattle.abstract_state.proofs.shared.Between.{IsBetween, between}
 use Rattle.abstract_state.proofs.shared.Checking.{ok_then, ok_same, ok_if}
 use Rattle.abstract_state.proofs.shared.ByteNumbers.{reaches_within, bytes_below}
 
-pub range_found : (place : ℤ) (count limit : ℕ) (why : Refusal) (from : ℕ) → range_within place count limit why ≡ Ok from →
+pub range_found : (place : ℤ) (count limit : ℕ) (why : BrokenRule) (from : ℕ) → range_within place count limit why ≡ Ok from →
     (place ≡ pos from) × (from + count ≤ limit)
 range_found (pos place) count limit why from e =
     let test = ok_if (nat_le (place + count) limit) place from why e
@@ -40,7 +40,7 @@ pub record IsAligned (place : ℤ) (count limit from : ℕ) : Type 0 where
   pub inside : from + count ≤ limit
   pub multiple : from % count ≡ 0
 
-both_found : (place : ℤ) (count limit : ℕ) (why : Refusal) (from : ℕ) → (range_within place count limit why >>= (λ at. aligned at count)) ≡ Ok from →
+both_found : (place : ℤ) (count limit : ℕ) (why : BrokenRule) (from : ℕ) → (range_within place count limit why >>= (λ at. aligned at count)) ≡ Ok from →
     IsAligned place count limit from
 both_found place count limit why from e =
     let parts = ok_then (range_within place count limit why) (λ at. aligned at count) from e
@@ -104,7 +104,7 @@ value_found maps map off offset count from at least most e =
     in let inside : ends.last + count ≤ value_size_of (slice_get maps map) = ends.last_inside
     in record { from = there.place; found = record { at = there.is; inside = omega arith } }
 
-only : (t : Bool) (one : Checked ℕ) (why : Refusal) (from : ℕ) → (if t then one else Err why) ≡ Ok from → (t ≡ true) × (one ≡ Ok from)
+only : (t : Bool) (one : Checked ℕ) (why : BrokenRule) (from : ℕ) → (if t then one else Err why) ≡ Ok from → (t ≡ true) × (one ≡ Ok from)
 only true one why from e = (refl, e)
 only false one why from e = cc
 

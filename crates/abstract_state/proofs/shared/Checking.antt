@@ -14,7 +14,7 @@ use Rattle.semantics.specs.Semantics.{written_register, write_step}
 use Rattle.abstract_state.specs.declared.kind.Kind.{Kind}
 use Rattle.abstract_state.specs.declared.flow.Flow.{Flow}
 use Rattle.abstract_state.specs.declared.flow.Flow.TheVariants.{Falls}
-use Rattle.abstract_state.specs.declared.refusal.Refusal.{Refusal}
+use Rattle.abstract_state.specs.declared.broken_rule.BrokenRule.{BrokenRule}
 use Rattle.abstract_state.specs.declared.state.State.{State}
 use Rattle.abstract_state.specs.States.{Checked, ◌>>=◌, with_kind}
 use Rattle.abstract_state.specs.Flow.{writable, falls}
@@ -31,7 +31,7 @@ ok_then (Err why) f x e = cc
 pub ok_same : {A : Type 0} → (a : Checked A) (x y : A) → a ≡ Ok x → a ≡ Ok y → x ≡ y
 ok_same a x y e f = cc
 
-pub ok_if : {A : Type 0} → (t : Bool) (x y : A) (why : Refusal) → (if t then Ok x else Err why) ≡ Ok y → (t ≡ true) × (x ≡ y)
+pub ok_if : {A : Type 0} → (t : Bool) (x y : A) (why : BrokenRule) → (if t then Ok x else Err why) ≡ Ok y → (t ≡ true) × (x ≡ y)
 ok_if true x y why e = (refl, cc)
 ok_if false x y why e = cc
 
@@ -75,7 +75,7 @@ put maps held held' state machine a dst kind v count more now =
     written maps held held' state machine a.ids dst kind v (machine.slot + count) (machine.steps + 1) a (omega arith) more
     (λ id h. refl) (λ id h. refl) a.bases now
 
--- an instruction that gives a register a value that its new kind covers
+-- an instruction that sets a register to a value that its new kind covers
 pub write_follows : (program : Program) (held : Held) (state : State) (machine : MachineState) (a : Abstracts program.maps held state machine)
     (insn : Insn) (dst : Register) (done : Unit {0}) → writable dst ≡ Ok done → (outcome : Outcome RegisterValue) (kind : Kind) (v : RegisterValue) →
     outcome ≡ Ok v → KindCovers (next_setting program.maps held a.ids machine (slot_count insn)) kind v →

@@ -18,7 +18,7 @@ use Rattle.abstract_scalar.proofs.shared.Soundness.{constant_covers}
 use Rattle.abstract_state.specs.declared.kind.Kind.{Kind}
 use Rattle.abstract_state.specs.declared.flow.Flow.{Flow}
 use Rattle.abstract_state.specs.declared.flow.Flow.TheVariants.{Falls}
-use Rattle.abstract_state.specs.declared.refusal.Refusal.TheVariants.{ReadOnlyFp}
+use Rattle.abstract_state.specs.declared.broken_rule.BrokenRule.TheVariants.{ReadOnlyFp}
 use Rattle.abstract_state.specs.declared.state.State.{State}
 use Rattle.abstract_state.specs.States.{Checked, kind_of, with_kind, word_of}
 use Rattle.abstract_state.specs.Arithmetic.{source_kind}
@@ -28,7 +28,7 @@ use Rattle.abstract_state.specs.Soundness.{FallsOn, Follows}
 use Rattle.abstract_state.proofs.shared.Writing.{Extends, covers_later, word_later, written}
 use Rattle.abstract_state.proofs.shared.Inverting.{err_not_ok, ok_value}
 
--- ---- a value that an instruction makes, which its kind stands for at the slot where the run goes on
+-- ---- a value that an instruction makes, which its kind represents at the slot where the run goes on
 
 pub record Gives (s : Setting) (slot : ℕ) (kind : Kind) (outcome : Outcome RegisterValue) : Type 0 where
   pub ids : Ids

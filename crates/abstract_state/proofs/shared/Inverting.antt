@@ -1,7 +1,7 @@
 -- What a check that passed says of its parts.
 use Rattle.std.proofs.Common.{◌≡◌, ℕ, ◌≤◌, Bool, true, false, if◌then◌else◌, ℤ, pos, negsuc, Ok, Err, nat_le, refl, sym, ap, subst, arith}
 use Rattle.std.proofs.lemmas.Bool.{leb-true}
-use Rattle.abstract_state.specs.declared.refusal.Refusal.{Refusal}
+use Rattle.abstract_state.specs.declared.broken_rule.BrokenRule.{BrokenRule}
 use Rattle.abstract_state.specs.States.{Checked, ◌>>=◌}
 use Rattle.abstract_state.specs.Places.{place_within}
 
@@ -9,7 +9,7 @@ abbrev passes : {A : Type 0} → Checked A → Type 0
 passes (Ok x) = Unit {0}
 passes (Err why) = ⊥
 
-pub err_not_ok : {A : Type 0} (why : Refusal) (x : A) → ◌≡◌ {A = Checked A} (Err why) (Ok x) → ⊥
+pub err_not_ok : {A : Type 0} (why : BrokenRule) (x : A) → ◌≡◌ {A = Checked A} (Err why) (Ok x) → ⊥
 err_not_ok why x e = subst passes (sym e) tt
 
 abbrev value_or : {A : Type 0} → A → Checked A → A
@@ -33,7 +33,7 @@ pub record Chosen (A : Type 0) (test : Bool) (go : Checked A) (x : A) : Type 0 w
   pub holds : test ≡ true
   pub next : go ≡ Ok x
 
-pub ok_if : {A : Type 0} (test : Bool) (go : Checked A) (why : Refusal) (x : A) → (if test then go else Err why) ≡ Ok x → Chosen A test go x
+pub ok_if : {A : Type 0} (test : Bool) (go : Checked A) (why : BrokenRule) (x : A) → (if test then go else Err why) ≡ Ok x → Chosen A test go x
 ok_if true go why x e = record { holds = refl; next = e }
 ok_if false go why x e = absurd (err_not_ok why x e)
 
@@ -41,7 +41,7 @@ pub record IsPlace (place : ℤ) (limit to : ℕ) : Type 0 where
   pub is : place ≡ pos to
   pub within : to ≤ limit
 
-pub place_is : (place : ℤ) (limit : ℕ) (why : Refusal) (to : ℕ) → place_within place limit why ≡ Ok to → IsPlace place limit to
+pub place_is : (place : ℤ) (limit : ℕ) (why : BrokenRule) (to : ℕ) → place_within place limit why ≡ Ok to → IsPlace place limit to
 place_is (pos place) limit why to e =
     let c = ok_if (nat_le place limit) (Ok place) why to e
     in let same : place ≡ to = ok_value place to c.next

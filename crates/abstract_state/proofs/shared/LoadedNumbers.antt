@@ -1,4 +1,4 @@
--- What a load gives from the stack and from the packet.
+-- What a load returns from the stack and from the packet.
 use Rattle.std.proofs.Common.{◌≡◌, ℕ, ◌+◌, ◌*◌, ◌/◌, ◌%◌, ◌^◌, ◌<◌, ◌≤◌, Bool, true, false, ℤ, pos, List, length, take, drop, refl, sym, ◌∙◌, ap, arith, subst}
 use Rattle.std.specs.Prelude.{Ok, ◌+ℤ◌}
 use Rattle.std.proofs.lemmas.List.{get_or-replicate}
@@ -117,7 +117,7 @@ set_number maps held state machine a size from set k inside l =
       loaded = sym test.1;
     }
 
--- what a load of fewer than eight bytes gives
+-- what a load of fewer than eight bytes returns
 pub word_number : (maps : List MapDef) (held : Held) (state : State) (machine : MachineState) (a : Abstracts maps held state machine) (size : Size) →
     ((kind : Kind) → spilled_loaded size kind ≡ narrow_loaded size kind) → (from : ℕ) (word : StackWord) (k : Kind) →
     from + size_bytes size ≤ 512 → from % size_bytes size ≡ 0 → word_of state (from / 8) ≡ word → word_loaded state size from word ≡ Ok k →

@@ -1,4 +1,4 @@
--- A list that reaches so many items has at least as many.
+-- A list that reaches this many items has at least as many.
 use Rattle.std.proofs.Common.{◌≡◌, ℕ, zero, suc, ◌≤◌, true, List, [], ◌∷◌, length, arith}
 use Rattle.std.proofs.lemmas.Bool.{false≢true}
 use Rattle.semantics.specs.LittleEndian.{reaches}

@@ -1,4 +1,4 @@
--- Every state tells of eleven registers and 64 words of eight bytes.
+-- Every state describes eleven registers and 64 words of eight bytes.
 use Rattle.std.proofs.Common.{◌≡◌, ℕ, ◌+◌, ◌-◌, ◌<◌, ◌≤◌, ◌%◌, ◌/◌, nat_le, ◌==◌, ◌&&◌, Bool, true, false, List, ◌++◌, length, map, take, drop, replicate, ℤ, pos, negsuc, ◌+ℤ◌, Option, Some, None, Ok, Err, ⊎_elim, refl, sym, ◌∙◌, ap, subst, arith}
 use Rattle.std.proofs.lemmas.Grind.{get_or-set_at}
 use Rattle.std.proofs.lemmas.List.{get_or-replicate, get_or-set_other, get_or-map, length-set, length-map, length-replicate, length-append, length-take-le, length-drop}
@@ -32,8 +32,8 @@ use Rattle.semantics.specs.declared.linux.Helper.{Helper}
 use Rattle.semantics.specs.declared.linux.Helper.TheVariants.{MapLookupElem, MapUpdateElem, MapDeleteElem, KtimeGetNs, GetSmpProcessorId, XdpAdjustHead}
 use Rattle.abstract_state.specs.declared.flow.Flow.{Flow}
 use Rattle.abstract_state.specs.declared.flow.Flow.TheVariants.{Ends, Falls, Jumps, Splits}
-use Rattle.abstract_state.specs.declared.refusal.Refusal.{Refusal}
-use Rattle.abstract_state.specs.declared.refusal.Refusal.TheVariants.{WrongKind, ContextAccess, Misaligned, StackBounds, PointerLeak}
+use Rattle.abstract_state.specs.declared.broken_rule.BrokenRule.{BrokenRule}
+use Rattle.abstract_state.specs.declared.broken_rule.BrokenRule.TheVariants.{WrongKind, ContextAccess, Misaligned, StackBounds, PointerLeak}
 use Rattle.abstract_state.specs.declared.state.State.{State}
 use Rattle.abstract_state.specs.States.{Checked, ◌>>=◌, kind_of, with_kind, word_of, with_word, no_bytes, stack_size, opening_state}
 use Rattle.abstract_state.specs.Join.{zip_with, spilled, bytes_of_kind, bytes_of_word, join_kind, join_word, join_of}
@@ -181,7 +181,7 @@ Keeps made = (after : State) → made ≡ Ok after → IsShaped after
 keeps_ok : (state : State) → IsShaped state → Keeps (Ok state)
 keeps_ok state s after e = subst IsShaped (ok_value state after e) s
 
-keeps_err : (why : Refusal) → Keeps (Err why)
+keeps_err : (why : BrokenRule) → Keeps (Err why)
 keeps_err why after e = absurd (err_not_ok why after e)
 
 keeps_then : {A : Type 0} (first : Checked A) (go : A → Checked State) → ((x : A) → first ≡ Ok x → Keeps (go x)) → Keeps (first >>= go)
@@ -192,7 +192,7 @@ kind_kept state dst made s = keeps_then made (λ kind. Ok (with_kind state dst k
 
 -- ---- stores
 
-range_is : (place : ℤ) (count limit from : ℕ) (why : Refusal) → range_within place count limit why ≡ Ok from → from + count ≤ limit
+range_is : (place : ℤ) (count limit from : ℕ) (why : BrokenRule) → range_within place count limit why ≡ Ok from → from + count ≤ limit
 range_is (pos place) count limit from why e =
     let c = ok_if (nat_le (place + count) limit) (Ok place) why from e
     in let same : place ≡ from = ok_value place from c.next

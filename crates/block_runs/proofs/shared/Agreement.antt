@@ -1,4 +1,4 @@
--- Plans that no run can tell apart, as long as replies have their calls' form, have the same outcomes.
+-- Plans that no run can distinguish, as long as replies have their calls' form, have the same outcomes.
 use Rattle.std.proofs.Common.{◌≡◌, ◌∙◌, ℕ, Bool, true, false, List, [], ◌∷◌, refl, sym, subst}
 use Rattle.semantics.specs.declared.call.Call.{Call}
 use Rattle.semantics.specs.declared.call.Call.TheVariants.{Lookup, Load, Atomic, Update}

@@ -161,7 +161,7 @@ meets leaves program more left (insn ∷ rest) state plan at meet =
     (leaves_more more program leaves rest left)
     state plan (instruction_step program insn state) (at_instruction program state insn at.0) meet
 
--- ---- where instructions stand
+-- ---- where instructions are
 
 -- from this slot on the code is this rest of it
 abbrev GoesOn : List Insn → ℕ → List Insn → Type 0

@@ -8,7 +8,7 @@ use std::process::Abort;
 use std::sync::Wait;
 use std::thread::Threads;
 
-/// What a row shows, the text's bytes, and what is told.
+/// What a row shows, the text's bytes, and what is printed.
 type Row = (&'static str, &'static [u8], &'static str);
 
 #[rattlefmt::skip]
@@ -27,7 +27,7 @@ const ROWS: [Row; 12] = [
     ("not UTF-8 before bad line", b"version 1\nbad\nmov r0, 2\n\xe2\x82\n",       "fault 21 BadLine line 4\n"),
 ];
 
-/// Holds what is told of a text against what is to be told; no file is written.
+/// Holds what is printed of a text against what is to be printed; no file is written.
 fn compare_refused<R: Abort + Threads + Wait + Sync>(rt: &R, alloc: Global, row: &Row) {
     let (name, text, err) = *row;
     let folder = put(rt, alloc, MemoryFolder::new(alloc), "text", text);

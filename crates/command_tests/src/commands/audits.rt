@@ -8,7 +8,7 @@ use std::process::Abort;
 use std::sync::Wait;
 use std::thread::Threads;
 
-/// What a row shows, the image's map, the header's numbers, the entries, and what is told: nothing where they are legal.
+/// What a row shows, the image's map, the header's numbers, the entries, and what is printed: nothing where they are legal.
 type Row = (
     &'static str,
     &'static str,
@@ -136,7 +136,7 @@ fn audits_numbers(rt: HostRuntime) {
     compare_rows(&rt, rt.alloc(), &NUMBERS);
 }
 
-/// What a row shows, a file's bytes, and what is told.
+/// What a row shows, a file's bytes, and what is printed.
 type Unread = (&'static str, &'static [u8], &'static str);
 
 /// Files that are none of journals.
@@ -179,7 +179,7 @@ const NOT_THERE: [(&str, &str); 3] = [
     ),
 ];
 
-/// Holds what is told of a command line over the first image and empty journals against what is to be told.
+/// Holds what is printed of a command line over the first image and empty journals against what is to be printed.
 fn compare_line<R: Abort + Threads + Wait + Sync>(rt: &R, alloc: Global, line: &str, err: &str) {
     let folder = put_digits(rt, alloc, MemoryFolder::new(alloc), "image", IMAGE);
     let folder = put(rt, alloc, folder, "journals", b"XLBJ 1 1 1 16\n");

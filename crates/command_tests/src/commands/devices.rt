@@ -144,7 +144,7 @@ const FULL: [(FolderFault, &str); 2] = [
     (FolderFault::Memory, "fault 8 Memory\n"),
 ];
 
-/// Holds what is told of a full folder against what is to be told.
+/// Holds what is printed of a full folder against what is to be printed.
 fn compare_full<R: Abort + Threads + Wait + Sync>(
     rt: &R,
     alloc: Global,

@@ -137,7 +137,7 @@ fn text_of<R: Abort, T: Display>(rt: &R, alloc: Global, fault: &T) -> String {
     format!(in alloc; "{fault}").expect(rt, "a text")
 }
 
-/// The text that the fault's own crate gives it.
+/// The text that the fault's own crate prints.
 fn own_text<R: Abort>(rt: &R, alloc: Global, fault: Fault) -> String {
     match fault {
         Fault::Folder(fault) => text_of(rt, alloc, &fault),
@@ -159,7 +159,7 @@ fn own_text<R: Abort>(rt: &R, alloc: Global, fault: Fault) -> String {
     }
 }
 
-/// Holds a fault's line against the text that its own crate gives it.
+/// Holds a fault's line against the text that its own crate prints.
 fn compare_text<R: Abort>(rt: &R, alloc: Global, fault: Fault) {
     let line = fault_line(alloc, fault).expect(rt, "a line");
     let text = own_text(rt, alloc, fault);
@@ -173,7 +173,7 @@ fn lines_are_the_texts_of_the_crates(rt: HostRuntime) {
     }
 }
 
-/// Holds the line of a fault that no command prints against the text that its own crate gives it.
+/// Holds the line of a fault that no command prints against the text that its own crate prints.
 fn compare_line<R: Abort, T: Display>(rt: &R, alloc: Global, fault: &T, number: u8, fields: Fields)
     requires { is_fault number ≡ true }
 {

@@ -48,7 +48,7 @@ const ROWS: [Row; 19] = [
     ("no text to assemble",       "", "xlb asm nosuch made", 1, "", "fault 7 Device\n  cannot open nosuch: there is no such file\n"),
 ];
 
-/// Holds what a command gives over an image and a frame against what it is to give.
+/// Holds what a command over an image and a frame comes to against what is wanted.
 pub fn over_image<R: Abort + Threads + Wait + Sync>(
     rt: &R,
     alloc: Global,

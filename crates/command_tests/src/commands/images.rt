@@ -7,7 +7,7 @@ use std::process::Abort;
 use std::sync::Wait;
 use std::thread::Threads;
 
-/// What a row shows, the image's digits, and what is told.
+/// What a row shows, the image's digits, and what is printed.
 type Row = (&'static str, &'static str, &'static str);
 
 #[rattlefmt::skip]

@@ -74,7 +74,7 @@ fn runs_programs(rt: HostRuntime) {
     compare_rows(&rt, rt.alloc(), &ROWS);
 }
 
-/// So many times `mov r0, 1`, and the end.
+/// This many times `mov r0, 1`, and the end.
 fn long_text(alloc: Global, count: u32) -> Result<String, AllocError> {
     let mut text = String::from_str(alloc, "version 1\n")?;
     for _ in 0..count {
@@ -128,13 +128,13 @@ fn refuses_4097_instructions(rt: HostRuntime) {
     );
 }
 
-/// What a row shows, how many bytes a frame has, and what is told.
+/// What a row shows, how many bytes a frame has, and what is printed.
 const SIZES: [(&str, usize, &str); 2] = [
     ("2048 bytes", 2048, ""),
     ("2049 bytes", 2049, "fault 6 FrameTooLong\n"),
 ];
 
-/// Holds what is told of a run over so many bytes against what is to be told.
+/// Holds what is printed of a run over this many bytes against what is to be printed.
 fn compare_size<R: Abort + Threads + Wait + Sync>(
     rt: &R,
     alloc: Global,

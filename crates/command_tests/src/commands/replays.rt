@@ -117,7 +117,7 @@ const ANOTHER_BACKEND: &str =
 const NO_TUNNEL: &str = "0 vip 203.0.113.1 80 udp\n0 up 0 192.0.2.1\n";
 
 /// What a row shows; what a replay is given: the image's text (none: the shipped program), the script, the digits of the capture, and the words
-/// after its files; and what it gives: its status, its report, its fault, and the digits of the sent file, nothing where there is no such file.
+/// after its files; and what it comes to: its status, its report, its fault, and the digits of the sent file, nothing where there is no such file.
 type Row = (
     &'static str,
     &'static str,
@@ -188,7 +188,7 @@ fn line_of(rt: &impl Abort, alloc: Global, words: &str) -> String {
     format!(in alloc; "xlb replay capture sent {words} --journals journals").expect(rt, "a line")
 }
 
-/// Holds what a replay gives against a row.
+/// Holds what a replay comes to against a row.
 fn compare_row<R: Abort + Threads + Wait + Sync>(rt: &R, alloc: Global, row: &Row) {
     let (name, text, script, capture, words, status, out, err, sent) = *row;
     let wanted = Wanted { status, out, err };

@@ -88,7 +88,7 @@ fn journals_have_the_updates_first(rt: HostRuntime) {
     compare_file(&rt, alloc, "updates", folder, "j", JOURNALS.as_bytes());
 }
 
-/// A run after so many updates of key 7, the last of which sets 3.
+/// A run after this many updates of key 7, the last of which sets 3.
 fn many(alloc: Global, count: u32) -> Result<String, AllocError> {
     let mut line = String::from_str(alloc, "xlb run image frame")?;
     for _ in 1..count {

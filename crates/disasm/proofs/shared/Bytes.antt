@@ -1,4 +1,4 @@
--- Which bytes stand in the words of a line.
+-- Which bytes are in the words of a line.
 use Rattle.std.proofs.Common.{◌≡◌, ℕ, zero, suc, ◌+◌, ◌≤◌, ◌<◌, ◌^◌, ◌/◌, ◌%◌, Bool, true, ◌&&◌, not, leb, ltb, eqb, List, [], ◌∷◌, refl, arith}
 use Rattle.std.specs.Prelude.{ℤ, pos, negsuc, FitsSigned}
 use Rattle.std.specs.Int.{w16, w32, w64}

@@ -144,7 +144,7 @@ no_fault version maps code is =
 not_next : (n m : ℕ) → n ≡ m → m ≡ n + 1 → ⊥
 not_next n m same next = omega arith
 
--- the first line tells the version
+-- the first line says the version
 same_version : (version other : Version) (xs ys : List ℕ) → version_text version ++ xs ≡ version_text other ++ ys → (version ≡ other) × (xs ≡ ys)
 same_version V1 V1 xs ys e = (refl, append_cancel_left (version_text V1) xs ys e)
 same_version V2 V2 xs ys e = (refl, append_cancel_left (version_text V2) xs ys e)

@@ -1,4 +1,4 @@
--- What an operation gives fits its width.
+-- What an operation returns fits its width.
 use Rattle.std.proofs.Common.{◌≡◌, ℕ, zero, suc, ◌+◌, ◌-◌, ◌*◌, ◌/◌, ◌%◌, ◌^◌, ◌<◌, ◌≤◌, ℤ, pos, negsuc, neg_ℤ, Bool, true, false, refl, arith, ◌==◌, if◌then◌else◌, lit≤}
 use Rattle.std.specs.Prelude.{bit_and}
 use Rattle.std.proofs.lemmas.Nat.{pow_pos, or_lt, xor_lt, and_le_l, mod_below}
@@ -40,7 +40,7 @@ quotient-neg (suc r) = omega arith
 quotient-le : (n d : ℕ) → n / d ≤ n
 quotient-le n d = omega arith
 
--- a quotient is no larger than its dividend, but for the step from -(n + 1) to n + 1
+-- a quotient is no larger than its dividend, except the step from -(n + 1) to n + 1
 quotient-mag : (a b : ℤ) → mag (quot_z a b) ≤ mag a + 1
 quotient-mag (pos a) (pos b) = let p : a / b ≤ a = quotient-le a b in omega arith
 quotient-mag (pos a) (negsuc b) = let p : a / suc b ≤ a = quotient-le a (suc b) in let q : mag (neg_ℤ (pos (a / suc b))) ≤ a / suc b = quotient-neg (a / suc b) in omega arith
@@ -49,7 +49,7 @@ quotient-mag (negsuc a) (negsuc b) = let p : suc a / suc b ≤ suc a = quotient-
 
 -- ---- arithmetic
 
--- on numbers of `bits` bits an operation gives one of `bits` bits
+-- on numbers of `bits` bits an operation returns one of `bits` bits
 pub alu_result-lt : (bits : ℕ) (operation : AluOp) (a b : ℕ) → 2 ^ bits ≡ 2 * 2 ^ (bits - 1) → a < 2 ^ bits → b < 2 ^ bits → alu_result bits operation a b < 2 ^ bits
 alu_result-lt bits Add a b e p q = mod_below (a + b) (2 ^ bits) (pow_pos bits)
 alu_result-lt bits Sub a b e p q = mod_below (a + (2 ^ bits - b)) (2 ^ bits) (pow_pos bits)

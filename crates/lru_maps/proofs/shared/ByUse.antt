@@ -19,7 +19,7 @@ use Rattle.semantics.proofs.shared.HoldingLemmas.{each_weaker}
 use Rattle.semantics.proofs.shared.UseLemmas.{pairs_filter, used_within}
 use Rattle.lru_maps.proofs.Orders.{same_key, key_same}
 
--- a test of keys does not ask which stands first
+-- a test of keys does not ask which is first
 either_way : (a b : List ℕ) → bytes_eq a b ≡ bytes_eq b a
 either_way a b = go (bytes_eq a b) refl
   where
@@ -51,7 +51,7 @@ pairs_left R key (e ∷ entries) pairs = by_test (bytes_eq key e.0) (pairs_left 
     by_test true rest = pairs.1
     by_test false rest = (each_left (R e) key entries pairs.0, rest)
 
--- an entry that is found has the key and the cell that a look-up gives
+-- an entry that is found has the key and the cell that a look-up returns
 entry_found : (key : List ℕ) (id : ℕ) (entries : List (List ℕ × ℕ)) → lookup (bytes_eq key) entries ≡ Some id → lookup_entry (bytes_eq key) entries ≡ Some (key, id)
 entry_found key id [] found = absurd (cc found)
 entry_found key id (e ∷ entries) found = by_test (bytes_eq key e.0) refl found (entry_found key id entries)
@@ -111,7 +111,7 @@ module _ (history : List Entry) where
               absurd (omega (arith, lt, k))
           by_test false differ = differ
 
-  -- a key stands once
+  -- a key is there once
   left_apart : (key : List ℕ) (entries : List (List ℕ × ℕ)) → ArePairwise (IsUsedLater history) entries → AllByRecursion (λ (o : List ℕ × ℕ). bytes_eq key o.0 ≡ false) (remove_entry (bytes_eq key) entries)
   left_apart key [] falling = tt
   left_apart key (e ∷ entries) falling = by_test (bytes_eq key e.0) refl (left_apart key entries falling.1)

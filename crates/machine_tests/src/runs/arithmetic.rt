@@ -1,4 +1,4 @@
-//! Each row of the arithmetic, as an instruction of a program that stores what it gives on the packet.
+//! Each row of the arithmetic, as an instruction of a program that stores what it returns on the packet.
 
 use super::listing::{EXIT, checked, lddw, mov, store};
 use super::programs::{MOMENT, accepted, has_number, ran};

@@ -1,4 +1,4 @@
-//! Instructions by the words of a listing: macros, since their values also stand in constants.
+//! Instructions by the words of a listing: macros, since their values also are in constants.
 
 use ebpf_decode::Insn;
 

@@ -14,14 +14,14 @@ use std::test::Fail;
 
 const NUMBER: u64 = 0x1122334455667788;
 
-/// There are so many bytes, of which the first are these.
+/// There are this many bytes, of which the first are these.
 fn begins_with(rt: &impl Abort, name: &str, bytes: &[u8], length: usize, want: &[u8]) {
     same_fact(rt, name, "the length", &bytes.len(), &length);
     let begins = bytes.get(..want.len());
     same_fact(rt, name, "the first bytes", &begins, &Some(want));
 }
 
-/// A run passes after so many instructions, and the frame, as long as before, begins with these bytes.
+/// A run passes after this many instructions, and the frame, as long as before, begins with these bytes.
 fn passes(
     rt: &impl Abort,
     alloc: Global,

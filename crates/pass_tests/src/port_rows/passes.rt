@@ -31,7 +31,7 @@ fn opened(alloc: Global, journal: u32) -> Result<Opened, Fail>
     Ok(Opened::open(alloc, &image, options_of(journal))?)
 }
 
-/// A tally of worker 1, which tells nobody.
+/// A tally of worker 1, which calls no hook.
 fn untold() -> Tally<'static, NoGate> {
     Tally::new(&NoGate, Caller::Worker { number: 1 }, 0)
 }
@@ -93,7 +93,7 @@ fn closed<B: Naming>(
     Ok(shards.close(rt, passes))
 }
 
-/// One run of worker 1 with these rows: compares what it is refused, and gives the journals when it has ended.
+/// One run of worker 1 with these rows: compares what it is refused, and returns the journals when it has ended.
 fn session<B: Naming, R: Abort + Wait>(
     rt: &R,
     alloc: Global,
@@ -176,7 +176,7 @@ fn look_once<B: Naming, R: Abort + Wait>(
     result
 }
 
-/// Three runs of one lookup each, one after the other: what the last one is told.
+/// Three runs of one lookup each, one after the other: what the last one's reply is.
 fn look_three_times<B: Naming, R: Abort + Wait>(
     rt: &R,
     shards: &Shards<B>,
@@ -191,7 +191,7 @@ fn look_three_times<B: Naming, R: Abort + Wait>(
     look_once(rt, shards, pass)
 }
 
-/// Six runs of one lookup each, one after the other: compares what the last one is told, and gives the journals.
+/// Six runs of one lookup each, one after the other: compares what the last one's reply is, and returns the journals.
 fn six<B: Naming, R: Abort + Wait>(rt: &R, alloc: Global, opened: Opened) -> Result<Journals, Fail>
     requires named { IsNamed B.count B.table B.plan opened }
     requires maps { opened.maps ≡ example_maps }
@@ -251,7 +251,7 @@ fn sessions_up_to_a_refused_enter(rt: HostRuntime) -> Result<(), Fail> {
     six_runs(&rt, rt.alloc(), 16, &FIVE_SAY)
 }
 
-/// In a journal of 17 it has room for the Enter but not for the call: the Enter stands, and its Leave.
+/// In a journal of 17 it has room for the Enter but not for the call: the Enter remains, and its Leave.
 #[test]
 fn sessions_up_to_a_refused_call(rt: HostRuntime) -> Result<(), Fail> {
     six_runs(&rt, rt.alloc(), 17, &SIX_SAY)

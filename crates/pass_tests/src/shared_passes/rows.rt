@@ -154,7 +154,7 @@ fn made<B: Naming, R: Abort + Wait>(
     Ok(length_of(&journals, 0))
 }
 
-/// Makes the calls of all rows in turn on a new shard, whose journal then has so many entries.
+/// Makes the calls of all rows in turn on a new shard, whose journal then has this many entries.
 fn leaves<R: Abort + Wait>(
     rt: &R,
     alloc: Global,

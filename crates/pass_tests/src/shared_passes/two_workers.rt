@@ -32,7 +32,7 @@ fn planned<B: Naming>(shards: &Shards<B>)
     shards.planned();
 }
 
-/// Worker 0 enters, finds index 0 and loads what stands there: its pass knows these three entries as its own, and has seen the history up
+/// Worker 0 enters, finds index 0 and loads what is there: its pass knows these three entries as its own, and has seen the history up
 /// to the Load, whatever others do. The number that it loads, if the journal has room.
 fn enter_find_load<B: Naming>(
     rt: &impl Wait,

@@ -83,7 +83,7 @@ const COUNTS: [(&str, i32, u32, u32); 3] = [
 #[rattlefmt::skip]
 const TWO: [MapDef; 2] = [MapDef { max_entries: 4, ..ONE_ENTRY }, MapDef { max_entries: 8, ..ONE_ENTRY }];
 
-/// A count in a map of so many shards, of which this one is asked.
+/// A count in a map of this many shards, of which this one is asked.
 fn counts(
     rt: &impl Abort,
     alloc: Global,
@@ -138,7 +138,7 @@ const WIDE: [MapDef; 1] = [MapDef {
     ..ONE_ENTRY
 }];
 
-/// A program that writes 3 at a place of the value ends after so many steps, and leaves what was written, of this size.
+/// A program that writes 3 at a place of the value ends after this many steps, and leaves what was written, of this size.
 fn writes(
     rt: &impl Abort,
     alloc: Global,

@@ -20,7 +20,7 @@ use std::thread::Threads;
 use verifier::Verified;
 use wire::{Capture, Sent};
 
-/// So many records of 40 flows in turn.
+/// This many records of 40 flows in turn.
 fn records(alloc: Global, count: u32) -> Result<Vec<Sent>, Fail> {
     let mut records = Vec::new(alloc);
     for number in 0..count {
@@ -43,7 +43,7 @@ fn sending(alloc: Global) -> Result<Verified, Fail> {
     )
 }
 
-/// The program's replay by so many workers.
+/// The program's replay by this many workers.
 fn replayed<R: Threads + Abort + Wait + Sync>(
     rt: &R,
     alloc: Global,
@@ -79,7 +79,7 @@ fn sends<R: Threads + Abort + Wait + Sync>(
     Ok(())
 }
 
-/// The same of so many records.
+/// The same of this many records.
 fn sends_all<R: Threads + Abort + Wait + Sync>(
     rt: &R,
     alloc: Global,

@@ -88,7 +88,7 @@ fn zeros(shard: u32, offset: u64, size: u64) -> (Call, Reply) {
     (call, Reply::Word { value: 0 })
 }
 
-/// What index 0 of the array leaves in the journal, where so many of its bytes are read.
+/// What index 0 of the array leaves in the journal, where this many of its bytes are read.
 fn found_and_read(offset: u64, size: u64) -> [(Call, Reply); 4] {
     [
         enter(0),
@@ -363,7 +363,7 @@ fn the_first_image(rt: HostRuntime) -> Result<(), Fail> {
     Ok(())
 }
 
-/// So many lookups of index 0.
+/// This many lookups of index 0.
 fn lookups(alloc: Global, count: u32) -> Result<Vec<Insn>, Fail> {
     let mut code = Vec::new(alloc);
     for _ in 0..count {

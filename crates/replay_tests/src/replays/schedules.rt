@@ -14,7 +14,7 @@ use std::sync::atomic::{AtomicU64, Ordering};
 use std::test::Fail;
 use std::thread::Threads;
 
-/// A gate that holds each worker below a number, at its first reply, until so many workers have had one, but no longer than its limit of turns.
+/// A gate that holds each worker below a number, at its first reply, until this many workers have had one, but no longer than its limit of turns.
 #[derive(Drop)]
 struct Meeting {
     held: u8,
@@ -135,7 +135,7 @@ const READS: Row<'static> = Row {
     counts: NONE,
 };
 
-/// What the gate is told of worker 0, the controller and the reclaimer, and how many replies come out of order.
+/// For which replies of worker 0, the controller and the reclaimer the gate is called, and how many replies come out of order.
 fn told_so<R: Threads + Abort + Wait + Sync>(
     rt: &R,
     alloc: Global,
@@ -148,7 +148,7 @@ fn told_so<R: Threads + Abort + Wait + Sync>(
     Ok(outcome)
 }
 
-/// A replay, what the gate is told of worker 0, how many entries the one journal has, and its last lines.
+/// A replay, for which replies of worker 0 the gate is called, how many entries the one journal has, and its last lines.
 type Full = (Row<'static>, u64, usize, &'static str);
 
 #[rattlefmt::skip]
@@ -179,7 +179,7 @@ fn ends_so(text: &[u8], last: &str) -> (usize, bool) {
     (lines.saturating_sub(1), text.ends_with(last.as_bytes()))
 }
 
-/// Makes the replay, and compares what the gate was told and the journal.
+/// Makes the replay, and compares for what the gate was called and the journal.
 fn fills<R: Threads + Abort + Wait + Sync>(rt: &R, alloc: Global, full: &Full) -> Result<(), Fail> {
     let (row, told, entries, last) = full;
     let outcome = told_so(rt, alloc, row, [*told, 0, 0, 0])?;
@@ -203,7 +203,7 @@ fn journals_that_are_full(rt: HostRuntime) -> Result<(), Fail> {
     Ok(())
 }
 
-/// A replay with a gate that holds the workers below a number until so many have had a reply, or up to its limit: how many have had one at the end, and
+/// A replay with a gate that holds the workers below a number until this many have had a reply, or up to its limit: how many have had one at the end, and
 /// how many were held up to the limit.
 #[derive(Clone, Copy)]
 struct Held {
@@ -327,7 +327,7 @@ fn replies_are_counted_over_all_runs(rt: HostRuntime) -> Result<(), Fail> {
     Ok(())
 }
 
-/// The fourth table meets a full journal after three of its slots. The updates made stand, and each later command is refused.
+/// The fourth table meets a full journal after three of its slots. The updates made remain, and each later command is refused.
 const A_FULL_JOURNAL: Row<'static> = Row {
     name: "a down that meets a full journal",
     program: SENDS_ALL,

@@ -15,7 +15,7 @@ use steer::shipped;
 use verifier::{Verified, verify};
 use wire::{Capture, Sent};
 
-/// The actor whose reply of this number is held until worker 0, worker 1 and the controller have had so many.
+/// The actor whose reply of this number is held until worker 0, worker 1 and the controller have had this many.
 type Hold = (Caller, u64, [u64; 3]);
 
 const W0: Caller = Caller::Worker { number: 0 };

@@ -114,7 +114,7 @@ fn is_steered(
     Ok(())
 }
 
-/// So many cases came to the ending of this number.
+/// This many cases came to the ending of this number.
 fn is_met(rt: &impl Abort, place: usize, times: u32) {
     assert!(rt; times >= LEAST, "ending {place} came {times} times");
 }

@@ -1,4 +1,4 @@
-//! A frame, what the maps hold when it comes, and what tells a run on it from the rule.
+//! A frame, what the maps hold when it comes, and what distinguishes a run on it from the rule.
 
 ghost use Rattle.std.specs.Prelude.{◌≡◌};
 ghost use Rattle.semantics.specs.ShardPlan.{AreOptions};
@@ -99,7 +99,7 @@ impl Case {
         })
     }
 
-    /// What the run asked has to be what the rule says: the changes are these and no others, and so many calls are made in all.
+    /// What the run asked has to be what the rule says: the changes are these and no others, and this many calls are made in all.
     pub(super) fn calls_difference(
         &self,
         alloc: Global,

@@ -5,7 +5,7 @@ use super::numbers::Numbers;
 /// How many bytes the longest frame has.
 const LONGEST: usize = 2048;
 
-/// A frame: the first so many of the bytes.
+/// A frame: the first this many of the bytes.
 #[derive(Clone, Copy, Debug)]
 pub(super) struct Drawn {
     bytes: [u8; 2048],
@@ -31,7 +31,7 @@ fn total(numbers: &mut Numbers) -> u16 {
     total as u16
 }
 
-/// So many bytes, of which the first are random.
+/// This many bytes, of which the first are random.
 fn noise(numbers: &mut Numbers, length: usize) -> Drawn {
     let mut bytes = [0; 2048];
     'places: for place in 0..64 {

@@ -2,7 +2,7 @@
 
 ghost use Rattle.std.specs.Prelude.{◌<◌};
 
-/// A sequence of numbers that look random: the same seed gives the same ones.
+/// A sequence of numbers that look random: the same seed returns the same ones.
 #[derive(Clone, Debug, Drop)]
 pub(super) struct Numbers {
     state: u64,
@@ -35,7 +35,7 @@ impl Numbers {
         [self.byte(), self.byte(), self.byte(), self.byte()]
     }
 
-    /// True once in so many times.
+    /// True once in this many times.
     pub(super) fn once_in(&mut self, times: u32) -> bool
         requires { 0 < times }
     {

@@ -16,7 +16,7 @@ use std::test::Fail;
 use steer::shipped;
 use verifier::{Verified, verify};
 
-/// What is wrong, the instruction that another one stands for, and in what its runs differ from the rule.
+/// What is wrong, the instruction that another one represents, and in what its runs differ from the rule.
 pub(super) type Wrong = (&'static str, Insn, Insn, Difference);
 
 /// Goes on with the next instruction.

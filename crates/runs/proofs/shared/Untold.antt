@@ -1,4 +1,4 @@
--- A run that a gate was told of, without the gate.
+-- A run that a gate was called for, without the gate.
 use Rattle.std.proofs.Common.{ℕ}
 use Rattle.wire.specs.FrameView.{FrameView}
 use Rattle.semantics.specs.declared.plan.ShardPlan.{ShardPlan}

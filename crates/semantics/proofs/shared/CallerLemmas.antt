@@ -1,4 +1,4 @@
--- A caller's own entries tell whether it is inside, and what it holds.
+-- A caller's own entries show whether it is inside, and what it holds.
 use Rattle.std.proofs.Common.{◌≡◌, ℕ, Bool, true, false, cond, ◌&&◌, nat_lt, List, [], ◌∷◌, length, Option, refl, sym, ap}
 use Rattle.std.specs.Prelude.{◌==◌, is_some, if◌then◌else◌}
 use Rattle.semantics.specs.declared.call.Caller.{Caller}
@@ -14,7 +14,7 @@ use Rattle.semantics.specs.Reclamation.{is_worker, entered_where, entered_by, en
 use Rattle.semantics.specs.History.{shard_of_call, is_outside_worker, is_inside_worker, is_holder, may_change_keys, meets_part, meets}
 use Rattle.semantics.specs.CallerLaws.{own_entries}
 
--- whether a section is open is told by the change and by whether one was, not by places
+-- whether a section is open is decided by the change and by whether one was, not by places
 same_section : (change : SectionChange) (place other : ℕ) (before after : Option ℕ) → is_some before ≡ is_some after → is_some (entered_where change place before) ≡ is_some (entered_where change other after)
 same_section Begins place other before after same = refl
 same_section Ends place other before after same = refl

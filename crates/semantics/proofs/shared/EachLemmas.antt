@@ -1,4 +1,4 @@
--- What a fact of each member of a list becomes when the list changes, and what stands at a place.
+-- What a fact of each member of a list becomes when the list changes, and what is at a place.
 use Rattle.std.proofs.Common.{◌≡◌, ◌≢◌, ◌⊎◌, ℕ, zero, suc, ◌+◌, ◌<◌, ◌≤◌, List, [], ◌∷◌, ◌++◌, length, set, get_or, refl, sym, ap, subst, inl, inr, ⊎_elim, arith}
 use Rattle.std.specs.Prelude.{remove, Some, slice_get}
 use mathlib.Core.Option.{some, some-injective, some-ne-none}
@@ -47,13 +47,13 @@ module _ {A : Type 0} where
       ⊎_elim (λ (t : (j ≡ k) × (x ≡ b)). let here : k ≡ 0 + j = (let a = t.0 in omega arith) in subst (λ (y : ℕ × A). Q y.0 y.1) (λ i. (here i, t.1 i)) is)
       (λ (t : (j ≢ k) × (get_elem? xs j ≡ some b)). others (0 + j) b (λ h. t.0 (omega arith)) (were j b t.1)) (at_set xs k j x b e)
 
-  -- what stands at a place, whatever stands past the end
+  -- what is at a place, whatever is past the end
   pub at_or : (xs : List A) (j : ℕ) (x d : A) → get_elem? xs j ≡ some x → x ≡ get_or xs j d
   at_or [] j x d e = absurd (some-ne-none x (sym e))
   at_or (y ∷ xs) zero x d e = sym (some-injective y x e)
   at_or (y ∷ xs) (suc j) x d e = at_or xs j x d e
 
-  -- where it stands, the list is longer
+  -- where it is, the list is longer
   pub within : (xs : List A) (j : ℕ) (x : A) → get_elem? xs j ≡ some x → j < length xs
   within [] j x e = absurd (some-ne-none x (sym e))
   within (y ∷ xs) zero x e = omega arith
@@ -70,7 +70,7 @@ module _ {A : Type 0} where
   pub each_map : (P Q : ℕ → A → Type 0) (from : ℕ) (xs : List A) → ((j : ℕ) (x : A) → P j x → Q j x) → Each P from xs → Each Q from xs
   each_map P Q from xs follows were j x there = follows (from + j) x (were j x there)
 
-  -- what stands at a place once one member is another, or one more stands behind
+  -- what is at a place once one member is another, or one more is behind
   pub or_set_here : (xs : List A) (place : ℕ) (x d : A) → place < length xs → get_or (set xs place x) place d ≡ x
   or_set_here [] place x d below = absurd (omega arith)
   or_set_here (y ∷ xs) zero x d below = refl
@@ -99,25 +99,25 @@ module _ {A : Type 0} where
   or_push_here (y ∷ xs) x d zero is = absurd (omega (arith, is))
   or_push_here (y ∷ xs) x d (suc place) is = or_push_here xs x d place (omega (arith, is))
 
-  -- past the end there is what stands for nothing
+  -- past the end there is what represents nothing
   pub or_past : (xs : List A) (d : A) (place : ℕ) → length xs ≤ place → get_or xs place d ≡ d
   or_past [] d place past = refl
   or_past (y ∷ xs) d zero past = absurd (omega arith)
   or_past (y ∷ xs) d (suc place) past = or_past xs d place (omega arith)
 
-  -- within the list it does not matter what stands for nothing
+  -- within the list it does not matter what represents nothing
   pub or_within : (xs : List A) (d e : A) (place : ℕ) → place < length xs → get_or xs place d ≡ get_or xs place e
   or_within [] d e place below = absurd (omega arith)
   or_within (y ∷ xs) d e zero below = refl
   or_within (y ∷ xs) d e (suc place) below = or_within xs d e place (omega arith)
 
-  -- what is found within a list, whatever stands past the end
+  -- what is found within a list, whatever is past the end
   pub found_or : (xs : List A) (place : ℕ) (x d : A) → place < length xs → x ≡ get_or xs place x → x ≡ get_or xs place d
   found_or [] place x d below is = absurd (omega arith)
   found_or (y ∷ xs) zero x d below is = is
   found_or (y ∷ xs) (suc place) x d below is = found_or xs place x d (omega arith) is
 
-  -- what an index gives, `get` would give
+  -- what an index returns, `get` would give
   pub got_there : (xs : List A) (place : ℕ) (x : A) → place < length xs → x ≡ get_or xs place x → slice_get xs place ≡ Some x
   got_there [] place x below is = absurd (omega arith)
   got_there (y ∷ xs) zero x below is = ap Some (sym is)

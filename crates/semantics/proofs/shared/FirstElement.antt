@@ -20,7 +20,7 @@ first_found plan shard key array some first none =
     in let both : None ≡ Some (0 / plan.parts) = sym none ∙ (of_kind ∙ (of_key ∙ there))
     in absurd cc
 
--- where a shard finds nothing, a run may be told so
+-- where a shard finds nothing, a run may get that reply
 pub nothing_found : (program : Program) (plan : ShardPlan) (shard : SequentialShard) (number : ℕ) (key : List ℕ) → 0 < program.shards →
     slice_get program.maps (number / program.shards) ≡ Some plan.definition → 1 ≤ plan.definition.max_entries → cell_of_key plan shard key ≡ None →
     MayBeAbsent program number key

@@ -1,4 +1,4 @@
-//! Keys that were chosen to meet in one bucket, so that all but three stand in order.
+//! Keys that were chosen to meet in one bucket, so that all but three are in order.
 
 ghost use Rattle.std.specs.Prelude.{◌≡◌};
 
@@ -49,7 +49,7 @@ fn found(shard: &HashShard) -> u32
     count
 }
 
-/// Takes each third key out, and tells how many were there.
+/// Takes each third key out, and returns how many were there.
 fn take_thirds(shard: &mut HashShard) -> u32
     requires { shard.old.size ≡ 16 }
     ensures { shard.new.size ≡ 16 }

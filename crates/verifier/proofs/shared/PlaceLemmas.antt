@@ -34,7 +34,7 @@ use Rattle.image_shape.proofs.shared.LawLemmas.{edges_go_up}
 use Rattle.image_shape.proofs.shared.RunLemmas.{runs_follow_edges}
 use Rattle.verifier.specs.Dataflow.{known_at, is_at, is_target, is_next, Accepts}
 use Rattle.verifier.proofs.Distances.{jump_goes}
-use Rattle.verifier.proofs.PassLemmas.{forward}
+use Rattle.verifier.proofs.SweepLemmas.{forward}
 use Rattle.verifier.proofs.ArrivalLemmas.{IsWhole, whole_below, IsSoundAt, IsTaken, by_fall, by_jump, by_test, by_no_test, sound_there}
 use Rattle.verifier.proofs.InstructionLemmas.{fields_here, begins_within, begun, let_through}
 
@@ -72,7 +72,7 @@ pub record Here (program : Program) (held : Held) (state : MachineState) (known 
   pub flows : flow_of program.maps known state.slot insn ≡ Ok flow
   pub follows : Follows program held flow state insn (next_step program state)
 
--- where the instruction that stands there leads
+-- where the instruction that is there leads
 leads : (program : Program) (held : Held) (state : MachineState) (known : State) (insn : Insn) (flow : Flow) → IsShaped known → Abstracts program.maps held known state →
     AllByRecursion HasImageSizes program.maps → FieldsFit insn → JumpsForward insn → instruction_at program.code state.slot ≡ Some insn → flow_of program.maps known state.slot insn ≡ Ok flow →
     Follows program held flow state insn (next_step program state)

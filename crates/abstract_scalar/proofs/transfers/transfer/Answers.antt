@@ -1,4 +1,4 @@
--- The rows stand for what the operation gives, as the definition does.
+-- The rows represent what the operation returns, as the definition does.
 use Rattle.std.proofs.Common.{rules, arith, ◌≡◌, ◌<◌, ◌≤◌, ◌^◌}
 use Rattle.abstract_scalar.specs.Transfer.{transfer_of}
 use Rattle.abstract_scalar.proofs.shared.Soundness.{transfer_covers}

@@ -20,7 +20,7 @@ use std::sync::atomic::{AtomicU64, Ordering};
 use std::test::Fail;
 use std::thread::{Threads, join, yield_now};
 
-/// Waits until so many have been counted.
+/// Waits until this many have been counted.
 fn wait_for<R: Wait>(rt: &R, counted: &AtomicU64, wanted: u64) {
     for _ in rt.forever() {
         if counted.load(Ordering::SeqCst) >= wanted {
@@ -205,7 +205,7 @@ fn retired_cells_are_freed_by_threads(rt: HostRuntime) -> Result<(), Fail> {
 /// How many runs the worker makes, and how often the controller sets and deletes the key.
 const ROUNDS: u32 = 60;
 
-/// How many rounds the reclaimer makes: so many that it seldom ends before the controller, who would find no free cell then.
+/// How many rounds the reclaimer makes: this many that it seldom ends before the controller, who would find no free cell then.
 const RECLAIMS: u32 = 240;
 
 /// How often a run loads what it found.

@@ -23,7 +23,7 @@ counts : (place left : ℕ) (s : List ℕ) (more : List (List ℕ)) → has_text
 unfolding line_of_text
 counts place left s more e lt = rw (e, many left lt) refl
 
--- what stands from a place on
+-- what is from a place on
 at : {X : Type 0} (f : X → List ℕ) (xs : List X) (place left : ℕ) (d : X) → place < length xs
     → line_of_text place left (drop place (map f xs)) ≡ line_of_text place left (f (get_or xs place d) ∷ drop (place + 1) (map f xs))
 at f xs place left d lt = ap (λ (lines : List (List ℕ)). line_of_text place left lines) (rest_from f xs place d lt)

@@ -10,7 +10,7 @@ use Rattle.image_shape.proofs.shared.SlotLemmas.{slot_within, next_at, whole_at,
 use Rattle.verifier.specs.Dataflow.{states_of, known_at}
 use Rattle.verifier.specs.Pending.{entry_of}
 use Rattle.verifier.specs.Surveys.{slot_of}
-use Rattle.verifier.proofs.PassLemmas.{here_not_negative, held_here, held_at_start, held_on, accepted}
+use Rattle.verifier.proofs.SweepLemmas.{here_not_negative, held_here, held_at_start, held_on, accepted}
 use Rattle.verifier.proofs.SurveyLemmas.{noted_in, broken_here}
 use Rattle.verifier.proofs.survey.survey_code.Goals as goal
 

@@ -3,7 +3,7 @@ use Rattle.std.specs.Prelude.{slice_index_or}
 use Rattle.ebpf_decode.specs.InstructionEncoding.{total_slots}
 use Rattle.verifier.specs.Dataflow.{states_of, known_at}
 use Rattle.verifier.specs.Surveys.{slot_of}
-use Rattle.verifier.proofs.PassLemmas.{IsHeld}
+use Rattle.verifier.proofs.SweepLemmas.{IsHeld}
 use Rattle.verifier.proofs.survey.survey_code.Given as goal
 
 abbrev pub invariant-slots : goal.invariant-slots

@@ -11,10 +11,10 @@ use Rattle.image_shape.proofs.shared.SlotLemmas.{slot_within, next_at, whole_at,
 use Rattle.verifier.specs.Rejects.{reject_of_refusal}
 use Rattle.verifier.specs.Dataflow.{states_of}
 use Rattle.verifier.specs.Resolving.{AreMemories}
-use Rattle.verifier.proofs.PassLemmas.{here_not_negative, held_here, held_at_start, held_on, accepted, rejected, wanting}
+use Rattle.verifier.proofs.SweepLemmas.{here_not_negative, held_here, held_at_start, held_on, accepted, rejected, wanting}
 use Rattle.verifier.proofs.ReaderLemmas.{mark_at_start, mark_next, mark_whole}
 use Rattle.verifier.proofs.MemoryLemmas.{noted_at_start, noted_next}
-use Rattle.verifier.proofs.pass.pass.Goals as goal
+use Rattle.verifier.proofs.sweep.sweep.Goals as goal
 
 pub slots-init : goal.slots-init
 slots-init c = record {

@@ -2,9 +2,9 @@ use Rattle.std.proofs.Common.{◌≡◌, length, take}
 use Rattle.ebpf_decode.specs.InstructionEncoding.{total_slots}
 use Rattle.verifier.specs.Dataflow.{states_of}
 use Rattle.verifier.specs.Resolving.{AreMemories}
-use Rattle.verifier.proofs.PassLemmas.{IsHeld}
+use Rattle.verifier.proofs.SweepLemmas.{IsHeld}
 use Rattle.verifier.proofs.ReaderLemmas.{IsMark}
-use Rattle.verifier.proofs.pass.pass.Given as goal
+use Rattle.verifier.proofs.sweep.sweep.Given as goal
 
 abbrev pub invariant-slots : goal.invariant-slots
 invariant-slots l = record {

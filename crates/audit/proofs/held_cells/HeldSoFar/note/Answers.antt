@@ -4,7 +4,7 @@ use Rattle.semantics.specs.declared.call.Caller.{Caller}
 use Rattle.semantics.specs.declared.call.Caller.TheVariants.{Worker}
 use Rattle.std.proofs.lemmas.Option.{slice_get_read}
 use Rattle.audit.proofs.HeldLemmas.{noted, none_noted, no_worker, on_both}
-use Rattle.audit.proofs.held_cells.HeldCells.note.Goals as goal
+use Rattle.audit.proofs.held_cells.HeldSoFar.note.Goals as goal
 
 abbrev worker_of : ℕ → Caller
 worker_of number = Worker number

@@ -1,4 +1,4 @@
--- The pass by rising slot: edges go up, so what is known at a slot is whole before the slot is looked at.
+-- The sweep by rising slot: edges go up, so what is known at a slot is whole before the slot is looked at.
 use Rattle.std.proofs.Common.{◌≡◌, ℕ, suc, ◌+◌, ◌-◌, ◌<◌, ◌≤◌, Bool, true, false, cond, leb, ℤ, pos, negsuc, ◌+ℤ◌, List, length, take, get_or, Option, Some, None, refl, sym, ap, subst, ◌∙◌, ⊎_elim, arith}
 use Rattle.std.specs.Option.{option_or}
 use Rattle.std.specs.Prelude.{IsOk}
@@ -19,7 +19,7 @@ use Rattle.image_shape.specs.Layouts.{HasNoNegativeTarget}
 use Rattle.image_shape.specs.Structure.{jump_fault, fall_fault, instruction_fault, HasShape}
 use Rattle.image_shape.proofs.shared.FaultLemmas.{fault_here, no_negative_target}
 use Rattle.image_shape.proofs.shared.SlotLemmas.{some_slots, past_end, instruction_here}
-use Rattle.abstract_state.specs.declared.refusal.Refusal.{Refusal}
+use Rattle.abstract_state.specs.declared.broken_rule.BrokenRule.{BrokenRule}
 use Rattle.abstract_state.specs.declared.state.State.{State}
 use Rattle.abstract_state.specs.States.{opening_state}
 use Rattle.abstract_state.specs.Flow.{flow_of}
@@ -27,7 +27,7 @@ use Rattle.abstract_state.specs.Soundness.{JumpsForward}
 use Rattle.verifier.specs.declared.reject.Reject.{Reject}
 use Rattle.verifier.specs.declared.reject.Reject.TheVariants.{Memory}
 use Rattle.verifier.specs.Rejects.{reject_of_refusal}
-use Rattle.verifier.specs.declared.pending.Entry.{Entry}
+use Rattle.verifier.specs.declared.pending.KnownHere.{KnownHere}
 use Rattle.verifier.specs.declared.pending.Pending.{Pending}
 use Rattle.verifier.specs.Dataflow.{known_at, arriving_from, arrived, states_of, PassesChecks, Accepts, IsFirstReject, breaks_rule, wants_memory, passed_jump}
 use Rattle.verifier.specs.Pending.{entry_of, pending_at}
@@ -64,7 +64,7 @@ pub forward : (code : List Insn) (slot : ℕ) (insn : Insn) → HasShape code �
 forward code slot insn shape found =
     no_fault_forward (is_begin code) (total_slots code) slot insn (sym (fault_here code slot insn found) ∙ shape.edges slot)
 
--- ---- the pass
+-- ---- the sweep
 
 pub here_not_negative : (code : List Insn) (i : ℕ) (d : Insn) (slot : ℕ) → HasShape code → i < length code → slot ≡ total_slots (take i code) →
     HasNoNegativeTarget slot (get_or code i d)
@@ -77,18 +77,18 @@ next_within code i d slot lt at =
     let more : total_slots (take i code) + slot_count (get_or code i d) ≤ total_slots code = sum_by_more_le slot_count code i d lt
     in omega arith
 
--- what stands in memory once the instructions below a slot have been looked at: what these bring to the slot and to later ones
-pub record IsHeld (version : Version) (maps : List MapDef) (code : List Insn) (slot : ℕ) (entry : Entry) (pending : Pending) : Type 0 where
+-- what is in memory once the instructions below a slot have been looked at: what these bring to the slot and to later ones
+pub record IsHeld (version : Version) (maps : List MapDef) (code : List Insn) (slot : ℕ) (entry : KnownHere) (pending : Pending) : Type 0 where
   pub now : entry_of entry ≡ arrived version maps code (states_of version maps code) slot slot
   pub later : (target : ℕ) → slot < target → pending_at pending target ≡ arrived version maps code (states_of version maps code) target slot
   pub passes : (before : ℕ) → before < slot → PassesChecks maps code (states_of version maps code) before
 
 -- an instruction inside the program begins in its entry state
-pub held_here : (version : Version) (maps : List MapDef) (code : List Insn) (slot : ℕ) (entry : Entry) (pending : Pending) → slot < total_slots code →
+pub held_here : (version : Version) (maps : List MapDef) (code : List Insn) (slot : ℕ) (entry : KnownHere) (pending : Pending) → slot < total_slots code →
     IsHeld version maps code slot entry pending → entry_of entry ≡ known_at (states_of version maps code) slot
 held_here version maps code slot entry pending within held = held.now ∙ sym (are_entry_states version maps code slot within)
 
-pub held_at_start : (version : Version) (maps : List MapDef) (code : List Insn) (entry : Entry) (pending : Pending) → entry_of entry ≡ Some (opening_state version) →
+pub held_at_start : (version : Version) (maps : List MapDef) (code : List Insn) (entry : KnownHere) (pending : Pending) → entry_of entry ≡ Some (opening_state version) →
     ((slot : ℕ) → pending_at pending slot ≡ None) → IsHeld version maps code 0 entry pending
 held_at_start version maps code entry pending opens none = record {
   now = opens;
@@ -131,7 +131,7 @@ slots_on code slot insn P inside below here none k h = ⊎_elim
     (λ more. ⊎_elim (λ same. subst P (sym same) here) (λ other. none k (inside k (omega arith) h)) (cases_eq k slot))
     (cases_lt k slot)
 
-pub held_on : (version : Version) (maps : List MapDef) (code : List Insn) (slot : ℕ) (insn : Insn) (entry after : Entry) (pending more : Pending) →
+pub held_on : (version : Version) (maps : List MapDef) (code : List Insn) (slot : ℕ) (insn : Insn) (entry after : KnownHere) (pending more : Pending) →
     instruction_at code slot ≡ Some insn → slot < total_slots code →
     ((k : ℕ) → slot < k → k < slot + slot_count insn → instruction_at code k ≡ None) →
     ((target : ℕ) → slot + slot_count insn < target → pending_at more target ≡ arriving_from maps slot (Some insn) (entry_of entry) target (pending_at pending target)) →
@@ -151,7 +151,7 @@ held_on version maps code slot insn entry after pending more found within inside
           (λ k none other state begins at. absurd cc);
     }
 
-pub accepted : (version : Version) (maps : List MapDef) (code : List Insn) (slot : ℕ) (entry : Entry) (pending : Pending) → HasShape code → slot ≡ total_slots code →
+pub accepted : (version : Version) (maps : List MapDef) (code : List Insn) (slot : ℕ) (entry : KnownHere) (pending : Pending) → HasShape code → slot ≡ total_slots code →
     IsHeld version maps code slot entry pending → Accepts version maps code (states_of version maps code)
 accepted version maps code slot entry pending shape end held = record {
   shape = shape;
@@ -162,7 +162,7 @@ accepted version maps code slot entry pending shape end held = record {
       (cases_lt k slot);
 }
 
-pub rejected : (version : Version) (maps : List MapDef) (code : List Insn) (slot : ℕ) (insn : Insn) (entry : Entry) (pending : Pending) (why : Refusal) (reject : Reject) →
+pub rejected : (version : Version) (maps : List MapDef) (code : List Insn) (slot : ℕ) (insn : Insn) (entry : KnownHere) (pending : Pending) (why : BrokenRule) (reject : Reject) →
     HasShape code → instruction_at code slot ≡ Some insn → slot < total_slots code → BreaksRule maps slot insn (entry_of entry) why →
     reject ≡ reject_of_refusal slot why → IsHeld version maps code slot entry pending → IsFirstReject version maps code reject
 rejected version maps code slot insn entry pending why reject shape found within broken is held =
@@ -178,7 +178,7 @@ rejected version maps code slot insn entry pending why reject shape found within
       breaks = broken.breaks;
     }) is
 
-pub wanting : (version : Version) (maps : List MapDef) (code : List Insn) (slot : ℕ) (insn : Insn) (entry : Entry) (pending : Pending) →
+pub wanting : (version : Version) (maps : List MapDef) (code : List Insn) (slot : ℕ) (insn : Insn) (entry : KnownHere) (pending : Pending) →
     HasShape code → instruction_at code slot ≡ Some insn → slot < total_slots code → WantsRoom maps slot insn (entry_of entry) →
     IsHeld version maps code slot entry pending → IsFirstReject version maps code Memory
 wanting version maps code slot insn entry pending shape found within wants held =

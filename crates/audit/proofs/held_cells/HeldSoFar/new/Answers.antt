@@ -1,6 +1,6 @@
 use Rattle.std.proofs.Common.{rules}
 use Rattle.audit.proofs.HeldLemmas.{more_told}
-use Rattle.audit.proofs.held_cells.HeldCells.new.Goals as goal
+use Rattle.audit.proofs.held_cells.HeldSoFar.new.Goals as goal
 
 pub numbers-preserved : goal.numbers-preserved
 numbers-preserved c = record {

@@ -4,7 +4,7 @@ use isa::Register;
 
 /// The first rule that an instruction breaks; the verifier adds the slot. A register is named where the rule is about one.
 #[derive(Clone, Copy, Debug, PartialEq, Eq)]
-pub enum Refusal {
+pub enum BrokenRule {
     /// 35: an instruction reads a register that is unset.
     UnsetRegister(Register),
     /// 36: a kind that the instruction can't take.

@@ -1,4 +1,4 @@
-//! One pass by rising slot, since no edge goes back: what is known on entry to each instruction, and whether it breaks a rule there.
+//! One sweep by rising slot, since no edge goes back: what is known on entry to each instruction, and whether it breaks a rule there.
 //! Only what is known at one slot is held at a time, and what jumps brought to later ones.
 
 ghost use Rattle.std.specs.Prelude.{◌≡◌, ◌≤◌, ◌↔◌, IsTrue, IfOk, IfErr};
@@ -8,8 +8,8 @@ ghost use Rattle.verifier.specs.Dataflow.{states_of, Accepts, IsFirstReject};
 ghost use Rattle.verifier.specs.Readers.{IsReader};
 ghost use Rattle.verifier.specs.Resolving.{AreMemories};
 
-use crate::advance::{Stop, advance};
-use crate::pending::{Entry, Pending};
+use crate::advance::{Halt, advance};
+use crate::pending::{KnownHere, Pending};
 use crate::reject::Reject;
 use crate::resolved::Memory;
 use ebpf_decode::image::MAX_SLOTS;
@@ -18,7 +18,7 @@ use std::alloc::Global;
 
 /// Tells whether a program only reads, and notes by slot the memory that each instruction touches; or names the first rule that an
 /// instruction breaks. Memory is asked for only at a jump that breaks no rule.
-pub(crate) fn pass(
+pub(crate) fn sweep(
     alloc: Global,
     version: Version,
     maps: &[MapDef],
@@ -33,7 +33,7 @@ pub(crate) fn pass(
     ensures rejected { IfErr result (IsFirstReject version maps.now code.now) }
 {
     let mut pending = Pending::new(alloc);
-    let mut entry = Entry::opening(version);
+    let mut entry = KnownHere::opening(version);
     let mut reads = true;
     let mut slot = 0;
     'slots: for insn in code {
@@ -41,8 +41,8 @@ pub(crate) fn pass(
         reads = reads & entry.only_reads(*insn);
         match advance(alloc, maps, slot, *insn, &mut pending, &mut entry) {
             Ok(()) => {}
-            Err(Stop::Memory) => return Err(Reject::Memory),
-            Err(Stop::Rule(why)) => return Err(Reject::of_refusal(slot as u32, why)),
+            Err(Halt::Memory) => return Err(Reject::Memory),
+            Err(Halt::Rule(why)) => return Err(Reject::of_refusal(slot as u32, why)),
         }
         slot += insn.slot_count() as usize;
     }
