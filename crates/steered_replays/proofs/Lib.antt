@@ -10,3 +10,7 @@ mod RunSums
 mod ControllerShards
 mod TotalLemmas
 mod ReplayLemmas
+-- flows that stay with their backends
+mod NoteLemmas
+mod StickyRuns
+mod StickyRow

@@ -2,3 +2,5 @@
 pub mod Counting
 pub mod SteeredRuns
 pub mod Totals
+pub mod StickyFlows
+pub mod StickyRow

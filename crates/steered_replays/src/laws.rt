@@ -2,8 +2,11 @@
 
 ghost use Rattle.steered_replays.specs.Counting.{CountsAreExact, LookupsOfArraysFind};
 ghost use Rattle.steered_replays.specs.SteeredRuns.{RunsAreSteered, RefusedRunsAreSteered, ReplaysAreSteered};
+ghost use Rattle.steered_replays.specs.StickyFlows.{NotesAreFound, NotedFlowsStick};
+ghost use Rattle.steered_replays.specs.StickyRow.{StickyRow};
 ghost use Rattle.steered_replays.specs.Totals.{TotalsAreExact};
 
+use conntrack::laws::{finished_runs_are_results, flows_stick};
 use steer::laws::steers;
 
 /// In an array's shard of which nothing was asked but to find, read and raise counts, each cell holds how often it was raised; and each
@@ -38,4 +41,22 @@ pub fn totals_are_exact()
 {
     counts_are_exact();
     replays_are_steered();
+}
+
+/// A flow stays with the backend that was noted for it. In a legal history of the flows' shard, as long as after the Update that noted a
+/// backend there is no Update, Delete or eviction of the flow's key and no store into its cell, a Lookup of the key finds the cell, and the
+/// cell holds the backend's number. So a run of the flow whose Lookup and Load stand there, and which gets past the guards of a tracked
+/// service, chooses that backend where the backend's record, when the run reads it, says that it is up.
+pub fn noted_flows_stick()
+    ensures found { NotesAreFound }
+    ensures stick { NotedFlowsStick }
+{
+    flows_stick();
+}
+
+/// One such run, computed, with the histories of both shards.
+pub fn a_noted_flow_sticks()
+    ensures { StickyRow }
+{
+    finished_runs_are_results();
 }
