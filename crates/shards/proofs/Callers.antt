@@ -4,7 +4,7 @@ use Rattle.semantics.specs.declared.call.Caller.{Caller}
 use Rattle.semantics.specs.declared.call.Caller.TheVariants.{Worker, Controller, Reclaimer}
 use Rattle.semantics.specs.declared.call.Entry.{Entry}
 use Rattle.semantics.specs.CallerLaws.{is_caller, own_entries}
-use Rattle.shards.specs.LengthRule.{caller_at, place_of}
+use Rattle.shards.specs.LockRule.{caller_at, place_of}
 
 pub place_at : (number : ℕ) → place_of (caller_at number) ≡ number
 place_at zero = refl

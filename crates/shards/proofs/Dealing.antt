@@ -1,84 +1,79 @@
--- A caller's seats are taken out of the rows: they make its pass, and the rows keep those of the others.
-use Rattle.std.proofs.Common.{◌≡◌, ◌≢◌, ◌⊎◌, ◌<◌, ◌≤◌, ℕ, zero, suc, Bool, true, false, true≢false, List, [], length, refl, sym, ap, ◌∙◌, subst, ⊎_elim, inl, inr, arith}
-use Rattle.std.specs.Prelude.{slice_set, replicate}
+-- A caller's seats are taken out of the rows: they make the parts of its pass, and the rows keep those of the others.
+use Rattle.std.proofs.Common.{◌≡◌, ◌≢◌, ◌⊎◌, ◌<◌, ◌≤◌, ◌+◌, ◌++◌, ℕ, zero, suc, Bool, true, false, true≢false, List, [], ◌∷◌, length, refl, sym, ap, ◌∙◌, subst, ⊎_elim, inl, inr, arith}
+use Rattle.std.specs.Prelude.{slice_set, slice_index_or}
 use Rattle.atomic_table.specs.Seated.{TableId}
 use Rattle.atomic_table.specs.declared.badge.Badge.{Badge}
 use Rattle.semantics.specs.declared.call.Caller.{Caller}
 use Rattle.semantics.specs.declared.call.Caller.TheVariants.{Worker, Controller, Reclaimer}
 use Rattle.semantics.specs.declared.plan.ShardPlan.{ShardPlan}
 use Rattle.shards.specs.declared.rule.Known.{Known}
-use Rattle.shards.specs.CallerView.{CallerView, nothing_seen}
-use Rattle.shards.specs.LengthRule.{caller_at, place_of, pass_of}
-use Rattle.shards.specs.Seats.{view_of}
-use Rattle.shards.specs.Passes.{badge_at, blank, view_of_badge, known_in, view_at, pass_view, IsBadgeOf, IsPass, IsFlagOf, flag_at}
-use Rattle.shards.specs.NewShards.{IsNewBadge, row_at, is_dealt_at, IsDealer}
-use Rattle.shards.specs.HeldCells.{HeldIds, held_at, AreHeldOf, room_at, room_of}
-use Rattle.shards.proofs.Badges.{view_is}
-use Rattle.shards.proofs.HeldLemmas.{held_by_none}
-use Rattle.semantics.proofs.shared.EachLemmas.{or_set_here, or_set_else, or_past}
+use Rattle.shards.specs.CallerView.{nothing_seen}
+use Rattle.atomic_table.specs.Table.{Me}
+use Rattle.atomic_table.specs.declared.shared.Seat.{Seat}
+use Rattle.shard_core.specs.JournaledShard.{JournaledShard}
+use Rattle.shards.specs.LockRule.{caller_at, place_of, pass_of, nobody}
+use Rattle.shards.specs.Seats.{has_shard, view_of}
+use Rattle.shards.specs.ShardPasses.{ShardPassView, shard_pass_view}
+use Rattle.shards.specs.Passes.{badge_at, view_at, pass_view, part_at, no_part, IsPartOf, IsPass}
+use Rattle.shards.specs.NewShards.{IsNewBadge, row_at, is_dealt_at, IsDealer, IsNewSeat, IsPartOfSeat, view_of_known}
+use Rattle.shards.specs.HeldCells.{HeldIds, most_held, room_at, room_of}
+use Rattle.shards.proofs.PartLemmas.{view_is}
+use Rattle.shards.proofs.Settling.{same_or_other}
+use Rattle.semantics.proofs.shared.EachLemmas.{or_set_here, or_set_else, or_past, or_within, or_push_here, or_push_else}
+
+abbrev first_known : List Known → Known
+first_known [] = nobody
+first_known (v ∷ vs) = v
 
 caller_is : (who : Caller) → caller_at (place_of who) ≡ who
 caller_is (Worker number) = refl
 caller_is Controller = refl
 caller_is Reclaimer = refl
 
-badge_of_new : (table : TableId) (plan : ShardPlan) (who : Caller) (badge : Badge Known) → IsNewBadge table who badge → IsBadgeOf table plan who badge
-badge_of_new table plan who badge new = record { table_is = new.table_is; known = pass_of who [] []; one = new.fresh; acts = refl; caller = refl; legal = tt }
+room_enough : (who : Caller) (most room : ℕ) → most ≤ room → room_of who most ≤ room_of who room
+room_enough (Worker number) most room enough = enough
+room_enough Controller most room enough = omega arith
+room_enough Reclaimer most room enough = omega arith
 
-count_of_falses : (n : ℕ) → length (replicate n false) ≡ n
-count_of_falses zero = refl
-count_of_falses (suc n) = ap suc (count_of_falses n)
-
-false_at : (n place : ℕ) → flag_at (replicate n false) place ≡ false
-false_at zero place = refl
-false_at (suc n) zero = refl
-false_at (suc n) (suc place) = false_at n place
-
-flag_of_none : (who : Caller) → IsFlagOf who [] false
-flag_of_none (Worker number) = refl
-flag_of_none Controller = tt
-flag_of_none Reclaimer = tt
-
-view_of_new : (table : TableId) (who : Caller) (badge : Badge Known) → IsNewBadge table who badge → view_of_badge badge ≡ nothing_seen
-view_of_new table who badge new = ap (λ (ks : List Known). view_of (known_in ks)) new.fresh
-
-module _ (table : ℕ → TableId) (plan : ℕ → ShardPlan) (count : ℕ) (rooms : List ℕ) (dealt : List Bool) (rows : List (List (Badge Known))) (place : ℕ) (who : Caller) (seats : List (Badge Known))
-    (dealer : IsDealer table plan count rooms dealt rows) (waits : is_dealt_at dealt place ≡ false) (placed : place ≡ place_of who)
-    (same_count : length seats ≡ length rows) (taken : (number : ℕ) → number < length rows → badge_at seats number ≡ badge_at (row_at rows number) place) where
+module _ (table : ℕ → TableId) (plan : ℕ → ShardPlan) (count : ℕ) (rooms : List ℕ) (dealt : List Bool) (rows : List (List (Badge Known))) (place : ℕ) (who : Caller)
+    (dealer : IsDealer table plan count rooms dealt rows) (waits : is_dealt_at dealt place ≡ false) (placed : place ≡ place_of who) where
   pub place_within : (number : ℕ) → number < length rows → place < length (row_at rows number)
-  place_within number below = (dealer.waiting number (let sized = dealer.sized in omega (arith, sized)) place waits).0
+  place_within number below = (dealer.waiting number (let sized = dealer.sized in omega (arith, sized, below)) place waits).0
 
-  new_at_seat : (number : ℕ) → number < length rows → IsNewBadge (table number) who (badge_at seats number)
-  new_at_seat number below =
-      subst (IsNewBadge (table number) who) (sym (taken number below))
-      (subst (λ (w : Caller). IsNewBadge (table number) w (badge_at (row_at rows number) place)) (ap caller_at placed ∙ caller_is who)
-      (dealer.waiting number (let sized = dealer.sized in omega (arith, sized)) place waits).1)
+  new_at_seat : (number : ℕ) → number < length rows → IsNewBadge (table number) (plan number) who (badge_at (row_at rows number) place)
+  new_at_seat number below = subst (λ (w : Caller). IsNewBadge (table number) (plan number) w (badge_at (row_at rows number) place)) (ap caller_at placed ∙ caller_is who)
+      (dealer.waiting number (let sized = dealer.sized in omega (arith, sized, below)) place waits).1
 
-  pub nothing_at : (number : ℕ) → view_at (pass_view who seats) number ≡ nothing_seen
-  nothing_at number = view_is who seats number ∙ ⊎_elim
-      (λ (below : number < length seats). view_of_new (table number) who (badge_at seats number) (new_at_seat number (omega (arith, same_count))))
-      (λ (past : length seats ≤ number). ap view_of_badge (or_past seats blank number past)) (below_or_past number (length seats))
-    where
-      below_or_past : (a b : ℕ) → (a < b) ⊎ (b ≤ a)
-      below_or_past a zero = inr (omega arith)
-      below_or_past zero (suc b) = inl (omega arith)
-      below_or_past (suc a) (suc b) = ⊎_elim (λ (h : a < b). inl (omega arith)) (λ (h : b ≤ a). inr (omega arith)) (below_or_past a b)
-
-  pub new_pass : (flags : List Bool) (held : List HeldIds) → flags ≡ replicate (length rows) false → length held ≡ length rooms →
-      ((number : ℕ) → number < length rooms → (held_at held number).ids ≡ []) → ((number : ℕ) → number < length rooms → room_of who (room_at rooms number) ≤ (held_at held number).room) →
-      IsPass table plan count who seats flags held
-  new_pass flags held flags_are as_many none enough = record {
-    sized = same_count ∙ dealer.sized;
-    each = λ number below. badge_of_new (table number) (plan number) who (badge_at seats number) (new_at_seat number (omega (arith, same_count)));
-    flagged = ap (λ (fs : List Bool). length fs) flags_are ∙ count_of_falses (length rows) ∙ dealer.sized;
-    flags_are = λ number below. subst (λ (v : CallerView). IsFlagOf who v.own (flag_at flags number)) (sym (nothing_at number))
-        (subst (IsFlagOf who []) (sym (ap (λ (fs : List Bool). flag_at fs number) flags_are ∙ false_at (length rows) number)) (flag_of_none who));
-    listed = as_many ∙ dealer.roomed;
-    held_are = λ number below.
-        let within : number < length rooms = (let roomed = dealer.roomed in omega (arith, roomed, below)) in
-        subst (λ (v : CallerView). AreHeldOf who (plan number) v.own (held_at held number)) (sym (nothing_at number))
-        (held_by_none who (plan number) (room_at rooms number) (held_at held number) (none number within) (enough number within) (dealer.enough number below));
+  pub new_seat : (number : ℕ) (held : HeldIds) → number < length rows → room_of who (room_at rooms number) ≤ held.room → IsNewSeat (badge_at (row_at rows number) place) held
+  new_seat number held below enough = record {
+    plan = plan number;
+    who = who;
+    fresh = (new_at_seat number below).fresh;
+    room = (let more = room_enough who (most_held (plan number)) (room_at rooms number) (dealer.enough number (let sized = dealer.sized in omega (arith, sized, below))) in omega (arith, more, enough));
   }
+
+  module _ (parts : List ShardPassView) (same_count : length parts ≡ length rows) (made : (number : ℕ) → number < length rows → IsPartOfSeat (badge_at (row_at rows number) place) (part_at parts number)) where
+    part_is : (number : ℕ) → number < length rows → part_at parts number ≡ view_of_known (badge_at (row_at rows number) place).table_id (pass_of (plan number) who [] [])
+    part_is number below = made number below (pass_of (plan number) who [] []) (new_at_seat number below).fresh
+
+    pub nothing_at : (number : ℕ) → view_at (pass_view who parts) number ≡ nothing_seen
+    nothing_at number = view_is who parts number ∙ ⊎_elim
+        (λ (below : number < length parts). ap (λ (p : ShardPassView). p.view) (part_is number (omega (arith, same_count, below))))
+        (λ (past : length parts ≤ number). ap (λ (p : ShardPassView). p.view) (or_past parts no_part number past)) (below_or_past number (length parts))
+      where
+        below_or_past : (a b : ℕ) → (a < b) ⊎ (b ≤ a)
+        below_or_past a zero = inr (omega arith)
+        below_or_past zero (suc b) = inl (omega arith)
+        below_or_past (suc a) (suc b) = ⊎_elim (λ (h : a < b). inl (omega (arith, h))) (λ (h : b ≤ a). inr (omega (arith, h))) (below_or_past a b)
+
+    pub new_pass : IsPass table plan count who parts
+    new_pass = record {
+      sized = same_count ∙ dealer.sized;
+      each = λ number less.
+          let below : number < length rows = (let sized = dealer.sized in omega (arith, sized, less)) in
+          subst (IsPartOf (table number) (plan number) who) (sym (part_is number below))
+          (record { table_is = (new_at_seat number below).table_is; plan_is = refl; caller = refl; alone = refl });
+    }
 
 pub rest_of_rows : (table : ℕ → TableId) (plan : ℕ → ShardPlan) (count : ℕ) (rooms : List ℕ) (dealt : List Bool) (rows rows' : List (List (Badge Known))) (place : ℕ) →
     IsDealer table plan count rooms dealt rows → place < length dealt → length rows' ≡ length rows →
@@ -93,7 +88,63 @@ rest_of_rows table plan count room dealt rows rows' place dealer below same_coun
       let was = dealer.waiting number within other still in
       let long = lengths number in
       let here = was.0 in
-      (omega (arith, long, here), subst (IsNewBadge (table number) (caller_at other)) (sym (others number other apart)) was.1);
+      (omega (arith, long, here), subst (IsNewBadge (table number) (plan number) (caller_at other)) (sym (others number other apart)) was.1);
   roomed = dealer.roomed;
   enough = dealer.enough;
 }
+
+-- ---- one row after another
+
+pub row_there : (rows : List (List (Badge Known))) (number : ℕ) (row : List (Badge Known)) → number < length rows → row ≡ slice_index_or rows number row → row ≡ row_at rows number
+row_there rows number row below is = is ∙ or_within rows row [] number below
+
+-- one more seat is taken out of its row
+module _ (old rows : List (List (Badge Known))) (number place : ℕ) (row after : List (Badge Known)) (below : number < length rows) (is : row ≡ slice_index_or rows number row)
+    (others : (other : ℕ) → other ≢ place → badge_at after other ≡ badge_at row other) (same_length : length after ≡ length row) where
+  row_is : row ≡ row_at rows number
+  row_is = row_there rows number row below is
+
+  pub rows_left : ((k : ℕ) → number ≤ k → row_at rows k ≡ row_at old k) → (k : ℕ) → number + 1 ≤ k → row_at (slice_set rows number after) k ≡ row_at old k
+  rows_left were k past = or_set_else rows number k after [] (λ same. omega (arith, past, same)) ∙ were k (omega (arith, past))
+
+  pub others_left : ((k other : ℕ) → other ≢ place → badge_at (row_at rows k) other ≡ badge_at (row_at old k) other) →
+      (k other : ℕ) → other ≢ place → badge_at (row_at (slice_set rows number after) k) other ≡ badge_at (row_at old k) other
+  others_left were k other apart = ⊎_elim
+      (λ (here : k ≡ number). ap (λ (n : ℕ). badge_at (row_at (slice_set rows number after) n) other) here ∙ ap (λ (r : List (Badge Known)). badge_at r other) (or_set_here rows number after [] below)
+      ∙ others other apart ∙ ap (λ (r : List (Badge Known)). badge_at r other) row_is ∙ ap (λ (n : ℕ). badge_at (row_at rows n) other) (sym here) ∙ were k other apart)
+      (λ (elsewhere : k ≢ number). ap (λ (r : List (Badge Known)). badge_at r other) (or_set_else rows number k after [] elsewhere) ∙ were k other apart) (same_or_other k number)
+
+  pub lengths_left : ((k : ℕ) → length (row_at rows k) ≡ length (row_at old k)) → (k : ℕ) → length (row_at (slice_set rows number after) k) ≡ length (row_at old k)
+  lengths_left were k = ⊎_elim
+      (λ (here : k ≡ number). ap (λ (n : ℕ). length (row_at (slice_set rows number after) n)) here ∙ ap (λ (r : List (Badge Known)). length r) (or_set_here rows number after [] below)
+      ∙ same_length ∙ ap (λ (r : List (Badge Known)). length r) row_is ∙ ap (λ (n : ℕ). length (row_at rows n)) (sym here) ∙ were k)
+      (λ (elsewhere : k ≢ number). ap (λ (r : List (Badge Known)). length r) (or_set_else rows number k after [] elsewhere) ∙ were k) (same_or_other k number)
+
+-- one more part is made
+pub parts_more : (P : ℕ → ShardPassView → Type 0) (parts grown : List ShardPassView) (number : ℕ) (part : ShardPassView) → length parts ≡ number → grown ≡ parts ++ part ∷ [] → P number part →
+    ((k : ℕ) → k < number → P k (part_at parts k)) → (k : ℕ) → k < number + 1 → P k (part_at grown k)
+parts_more P parts grown number part counted is new were k within = ⊎_elim
+    (λ (here : k ≡ number). subst (P k) (sym (ap (λ (ps : List ShardPassView). part_at ps k) is ∙ or_push_here parts part no_part k (counted ∙ sym here))) (subst (λ (m : ℕ). P m part) (sym here) new))
+    (λ (apart : k ≢ number). subst (P k) (sym (ap (λ (ps : List ShardPassView). part_at ps k) is ∙ or_push_else parts part no_part k (omega (arith, counted, within, apart)))) (were k (omega (arith, within, apart))))
+    (same_or_other k number)
+
+-- ---- the seat of a badge
+
+-- what a new seat of a badge knows, and the part that is made of it
+module _ (badge : Badge Known) (held : HeldIds) (new : IsNewSeat badge held) (me : Me JournaledShard Known) (knows : badge.views ≡ me.0 ∷ []) (empty : me.1 ≡ []) where
+  known_is : me.0 ≡ pass_of new.plan new.who [] []
+  known_is = ap (λ (vs : List Known). first_known vs) (sym knows ∙ new.fresh)
+
+  pub seat_of_new : me ≡ (pass_of me.0.plan me.0.who [] [], [])
+  seat_of_new =
+      let is : me ≡ (pass_of new.plan new.who [] [], []) = (λ i. (known_is i, empty i)) in
+      is ∙ ap (λ (v : Known). (pass_of v.plan v.who [] [], [])) (sym known_is)
+
+  pub room_of_new : room_of me.0.who (most_held me.0.plan) ≤ held.room
+  room_of_new = subst (λ (v : Known). room_of v.who (most_held v.plan) ≤ held.room) (sym known_is) new.room
+
+pub part_of_seat : (badge : Badge Known) (seat : Seat JournaledShard Known) (part : ShardPassView) → seat.table_id ≡ badge.table_id → badge.views ≡ seat.me.0 ∷ [] → seat.me.1 ≡ [] → part ≡ shard_pass_view seat → IsPartOfSeat badge part
+part_of_seat badge seat part same knows empty is v views =
+    let known : seat.me.0 ≡ v = ap (λ (vs : List Known). first_known vs) (sym knows ∙ views) in
+    is ∙ (λ i. record { table = seat.table_id; plan = seat.me.0.plan; who = seat.me.0.who; has_it = has_shard (seat.me.0, empty i); view = view_of (seat.me.0, empty i) })
+    ∙ (λ i. view_of_known (same i) (known i))

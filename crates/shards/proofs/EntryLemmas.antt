@@ -11,7 +11,7 @@ use Rattle.semantics.specs.CallerLaws.{own_entries}
 use Rattle.semantics.specs.History.{IsLegalHistory, meets_part, shard_of_call}
 use Rattle.semantics.proofs.shared.ConditionLemmas.{second_true}
 use Rattle.semantics.proofs.shared.CallNumbers.{part_below}
-use Rattle.shards.specs.LengthRule.{caller_at, place_of}
+use Rattle.shards.specs.LockRule.{caller_at, place_of}
 use Rattle.shards.specs.EntryCounts.{own_total, AllEntriesAreSomebodys}
 use Rattle.shards.proofs.Callers.{place_at, own_of_maker, own_of_other}
 use Rattle.shards.proofs.Settling.{same_or_other}

@@ -13,7 +13,8 @@ use Rattle.semantics.specs.declared.plan.ShardPlan.{ShardPlan}
 use Rattle.semantics.specs.Sections.{section_change}
 use Rattle.semantics.specs.Reclamation.{is_inside, entered_at, entered_where}
 use Rattle.shards.specs.CallerView.{CallerView, IsServed, IsRefused}
-use Rattle.shards.specs.Passes.{IsFlagOf, after_section, flag_after}
+use Rattle.shards.specs.ShardPasses.{IsFlagOf}
+use Rattle.shards.specs.Passes.{after_section, flag_after}
 
 by_change : (change : SectionChange) (place : ℕ) (before : Option ℕ) → is_some (entered_where change place before) ≡ after_section change (is_some before)
 by_change Begins place before = refl

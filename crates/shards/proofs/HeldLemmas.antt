@@ -110,7 +110,7 @@ held_one (Worker number) plan call reply own own' held grown are =
 held_one Controller plan call reply own own' held grown are = tt
 held_one Reclaimer plan call reply own own' held grown are = tt
 
-held_moves : {A : Type 0} (answer : Result A JournalFull) (plan : ShardPlan) (who : Caller) (call : Call) (replies : A → Reply) (before after : CallerView) (held : HeldIds) →
+pub held_moves : {A : Type 0} (answer : Result A JournalFull) (plan : ShardPlan) (who : Caller) (call : Call) (replies : A → Reply) (before after : CallerView) (held : HeldIds) →
     IfOk answer (λ a. IsServed plan before after (record { who = who; call = call; reply = replies a })) → OnErr answer (IsRefused plan before after call) →
     AreHeldOf who plan before.own held → AreHeldOf who plan after.own (held_when answer (λ a. held_change call (replies a)) held)
 held_moves (Ok a) plan who call replies before after held served refused are = held_one who plan call (replies a) before.own after.own held served.own are
@@ -156,28 +156,11 @@ room_after plan (Worker number) call reply before after held served mine few are
     let enough = are.some_room in
     room_from (held_change call reply) held (omega (arith, all, enough))
 
-room_when : {A : Type 0} (answer : Result A JournalFull) (plan : ShardPlan) (who : Caller) (call : Call) (replies : A → Reply) (before after : CallerView) (held : HeldIds) →
+pub room_when : {A : Type 0} (answer : Result A JournalFull) (plan : ShardPlan) (who : Caller) (call : Call) (replies : A → Reply) (before after : CallerView) (held : HeldIds) →
     IfOk answer (λ a. IsServed plan before after (record { who = who; call = call; reply = replies a })) → after.own ≡ own_entries who after.seen → FewAreHeld plan after.seen →
     AreHeldOf who plan before.own held → IfOk answer (λ a. HasRoomFor (held_change call (replies a)) held)
 room_when (Ok a) plan who call replies before after held served mine few are = room_after plan who call (replies a) before after held served mine few are
 room_when (Err full) plan who call replies before after held served mine few are = served
-
--- ---- the same, where the shard's number is known under two names
-
-module _ {A : Type 0} (plan : ℕ → ShardPlan) (asks : ℕ → Call) (replies : ℕ → A → Reply) (n number : ℕ) (who : Caller) (before after : CallerView) (held : HeldIds) (here : n ≡ number) where
-  pub held_moves_at : (answer : Result A JournalFull) →
-      IfOk answer (λ a. IsServed (plan n) before after (record { who = who; call = asks n; reply = replies n a })) → OnErr answer (IsRefused (plan n) before after (asks n)) →
-      AreHeldOf who (plan number) before.own held → AreHeldOf who (plan number) after.own (held_when answer (λ a. held_change (asks number) (replies number a)) held)
-  held_moves_at answer served refused are =
-      subst (λ (k : ℕ). AreHeldOf who (plan k) after.own (held_when answer (λ a. held_change (asks k) (replies k a)) held)) here
-      (held_moves answer (plan n) who (asks n) (replies n) before after held served refused (subst (λ (k : ℕ). AreHeldOf who (plan k) before.own held) (sym here) are))
-
-  pub room_when_at : (answer : Result A JournalFull) →
-      IfOk answer (λ a. IsServed (plan n) before after (record { who = who; call = asks n; reply = replies n a })) → after.own ≡ own_entries who after.seen → FewAreHeld (plan n) after.seen →
-      AreHeldOf who (plan number) before.own held → IfOk answer (λ a. HasRoomFor (held_change (asks number) (replies number a)) held)
-  room_when_at answer served mine few are =
-      subst (λ (k : ℕ). IfOk answer (λ a. HasRoomFor (held_change (asks k) (replies k a)) held)) here
-      (room_when answer (plan n) who (asks n) (replies n) before after held served mine few (subst (λ (k : ℕ). AreHeldOf who (plan k) before.own held) (sym here) are))
 
 -- ---- at the beginning
 

@@ -1,8 +1,11 @@
 pub mod shared
 mod PlainOpenings
 mod PlanLemmas
-pub mod Badges
 pub mod Callers
+pub mod Holding
+pub mod RoomLemmas
+pub mod PartLemmas
+pub mod ShardPassLemmas
 pub mod Settling
 pub mod Conditions
 pub mod Dealing

@@ -1,19 +1,22 @@
 -- Each step keeps the rule.
-use Rattle.std.proofs.Common.{◌≡◌, ◌≢◌, ◌⊎◌, ℕ, zero, suc, ◌+◌, ◌<◌, cond, eqb, eq-eqb, ne_eqb, List, [], ◌∷◌, ◌++◌, length, set, true, false, true≢false, refl, sym, ap, ◌∙◌, subst, ⊎_elim, inl, inr, arith, append-nil}
+use Rattle.std.proofs.Common.{◌≡◌, ◌≢◌, ℕ, zero, suc, ◌+◌, ◌*◌, ◌<◌, ◌==◌, cond, Bool, eqb, eqb-true, eq-eqb, ne_eqb, List, [], ◌∷◌, ◌++◌, length, set, true, false, true≢false, refl, sym, ap, ◌∙◌, subst, ⊎_elim, arith, append-nil}
 use Rattle.std.specs.Prelude.{slice_index, reverse}
+use Rattle.std.proofs.lemmas.List.{length-reverse}
 use mathlib.Core.Option.{some, none, some-ne-none, some-injective}
 use prog.Atomic.{either}
 use lib.ListN.{get_elem?}
-use Rattle.atomic_table.specs.Table.{Splits, Joins, Allows, Me, keeps, step, opening}
-use Rattle.atomic_table.proofs.Lists.{at_set}
+use Rattle.atomic_table.specs.Table.{Allows, Splits, Joins, Enters, Me, Act, keeps, takes, gives, step, State, stepped, Valid, carried_after, opening, Final, Seen}
+use Rattle.atomic_table.proofs.Lists.{at_set, set_here}
 use Rattle.semantics.specs.declared.call.Caller.{Caller}
 use Rattle.semantics.specs.declared.call.Entry.{Entry}
+use Rattle.semantics.specs.declared.plan.ShardPlan.{ShardPlan}
 use Rattle.semantics.specs.CallerLaws.{own_entries}
 use Rattle.semantics.proofs.shared.EachLemmas.{at_snoc}
 use Rattle.shard_core.specs.JournaledShard.{JournaledShard}
 use Rattle.shards.specs.declared.rule.Known.{Known}
-use Rattle.shards.specs.LengthRule.{caller_at, place_of, keeper_of, nobody, one_more, newcomer, joined, keeper_part, pass_part, Fits, IsKept, with_history, with_told, all_seen, Adds, Sees}
-use Rattle.shards.proofs.Callers.{place_at, own_of_maker, own_of_other}
+use Rattle.shards.specs.LockRule.{caller_at, place_of, dealer_of, visitor_of, nobody, lock_place, IsKnownIn, Fits, IsKept, one_more, newcomer, Comes, taking, Takes, Marks, given, Gives, ending, Ends, joined, visitor_part, pass_part, all_seen, Sees}
+use Rattle.shards.specs.Seats.{AreBy}
+use Rattle.shards.proofs.Callers.{place_at, own_of_other}
 
 off : false ≡ true → ⊥
 off e = true≢false (sym e)
@@ -38,210 +41,515 @@ moved_here seat by id = ap (λ c. cond c id (seat by)) (eq-eqb by by refl)
 moved_else : (seat : ℕ → ℕ) (by id b : ℕ) → b ≢ by → moved seat by id b ≡ seat b
 moved_else seat by id b ne = ap (λ c. cond c id (seat b)) (ne_eqb b by ne)
 
+word_set : (ws : List ℕ) (place n : ℕ) → place < length ws → slice_index (set ws place n) place ≡ n
+word_set [] place n h = absurd (omega arith)
+word_set (x ∷ xs) zero n h = refl
+word_set (x ∷ xs) (suc place) n h = word_set xs place n (omega arith)
+
+words_long : (ws : List ℕ) (place n : ℕ) → length (set ws place n) ≡ length ws
+words_long [] place n = refl
+words_long (x ∷ xs) zero n = refl
+words_long (x ∷ xs) (suc place) n = ap suc (words_long xs place n)
+
+still_long : (ws : List ℕ) (place n : ℕ) → place < length ws → place < length (set ws place n)
+still_long ws place n h = (let e = words_long ws place n in omega (arith, e, h))
+
+append_back : (a b c : List Entry) → a ++ (b ++ c) ≡ (a ++ b) ++ c
+append_back [] b c = refl
+append_back (x ∷ xs) b c = ap (λ y. x ∷ y) (append_back xs b c)
+
+-- ---- seats come
+
 -- nothing has happened, and no seat was dealt
-pub begins : (words : List ℕ) → 0 < length words → slice_index words 0 ≡ 0 → IsKept (opening words [] (keeper_of [] 0))
-begins words some_word zero_word = record {
-  keeper = 0;
+pub begins : (plan : ShardPlan) (words : List ℕ) (shard : JournaledShard) → lock_place < length words → slice_index words lock_place ≡ 0 → shard.plan ≡ plan → shard.journal ≡ [] →
+    IsKept plan (opening words (shard ∷ []) (dealer_of plan 0))
+begins plan words shard some_word zero_word planned unused = record {
+  dealer = 0;
   dealt = 0;
   seat = λ _. 0;
+  holder = 0;
+  phase = 0;
   log = [];
   some_word = some_word;
   counted = zero_word;
+  few = omega arith;
+  free = λ _. record { shard = shard; there = refl; planned = planned; written = ap reverse unused };
+  closed = λ z. absurd (omega (arith, z));
   none_yet = λ who h. refl;
   fits = one;
 } where
-  one : (id : ℕ) (v : Known) → get_elem? (keeper_of [] 0 ∷ []) id ≡ some v → Fits 0 0 (λ _. 0) [] id v
-  one zero v e = subst (Fits 0 0 (λ _. 0) [] 0) (some-injective _ _ e) (record { keeping = λ _. record { one = refl; all = refl; count = refl }; acting = λ c. absurd (off c) })
+  one : (id : ℕ) (v : Known) → get_elem? (dealer_of plan 0 ∷ []) id ≡ some v → Fits plan 0 0 (λ _. 0) 0 0 [] id v
+  one zero v e = subst (Fits plan 0 0 (λ _. 0) 0 0 [] 0) (some-injective _ _ e) (record {
+    planned = λ _. refl;
+    dealing = λ _. record { one = refl; count = refl };
+    acting = λ c. absurd (off c);
+    holding = λ c. absurd (off c);
+    ending = λ c. absurd (off c);
+  })
   one (suc id) v e = absurd (some-ne-none v (sym e))
 
 -- a seat for a caller that has none
-pub deals : (id : ℕ) (v : Known) → v.keeps ≡ true → v.acts ≡ false → Splits IsKept id v (one_more v) (newcomer v)
-deals id v knows idle s h at =
-    let mine = (h.fits id v at).keeping knows in
+pub deals : (plan : ShardPlan) (id : ℕ) (v : Known) → v.seated ≡ true → v.deals ≡ true → v.acts ≡ false → v.holds ≡ false → Splits (IsKept plan) id v (one_more v) (newcomer v)
+deals plan id v seated knows idle empty s h at =
+    let mine = (h.fits id v at).dealing knows in
+    let planned = (h.fits id v at).planned seated in
     let new : ℕ = length (set s.views id (one_more v)) in
     let place : place_of (caller_at v.dealt) ≡ h.dealt = place_at v.dealt ∙ mine.count in
     let seat' = moved h.seat h.dealt new in
-    let F : ℕ → Known → Type 0 = Fits h.keeper (suc h.dealt) seat' h.log in
+    let F : ℕ → Known → Type 0 = Fits plan h.dealer (suc h.dealt) seat' h.holder h.phase h.log in
     let old : (j : ℕ) (u : Known) → j ≢ id → get_elem? s.views j ≡ some u → F j u = λ j u other e. record {
-      keeping = λ k. absurd (other (((h.fits j u e).keeping k).one ∙ sym mine.one));
+      planned = (h.fits j u e).planned;
+      dealing = λ k. absurd (other (((h.fits j u e).dealing k).one ∙ sym mine.one));
       acting = λ a. let was = (h.fits j u e).acting a in record {
         one = moved_else h.seat h.dealt new (place_of u.who) (let lt = was.given in omega arith) ∙ was.one;
         given = (let lt = was.given in omega arith);
-        own = was.own;
-        begins = was.begins;
+        known = was.known;
       };
+      holding = (h.fits j u e).holding;
+      ending = (h.fits j u e).ending;
     } in record {
-      keeper = h.keeper;
+      dealer = h.dealer;
       dealt = suc h.dealt;
       seat = seat';
+      holder = h.holder;
+      phase = h.phase;
       log = h.log;
       some_word = h.some_word;
       counted = h.counted;
+      few = h.few;
+      free = h.free;
+      closed = h.closed;
       none_yet = λ who lt. h.none_yet who (omega arith);
       fits = all_push F (set s.views id (one_more v)) (newcomer v)
-          (all_set F s.views id (one_more v) (record { keeping = λ _. record { one = mine.one; all = mine.all; count = ap suc mine.count }; acting = λ a. absurd (off a) }) old)
+          (all_set F s.views id (one_more v)
           (record {
-            keeping = λ k. absurd (off k);
+            planned = λ _. planned;
+            dealing = λ _. record { one = mine.one; count = ap suc mine.count };
+            acting = λ a. absurd (off a);
+            holding = λ a. absurd (off a);
+            ending = λ a. absurd (off a);
+          }) old)
+          (record {
+            planned = λ _. planned;
+            dealing = λ k. absurd (off k);
             acting = λ _. record {
               one = ap seat' place ∙ moved_here h.seat h.dealt new;
               given = (let p = place in omega arith);
-              own = sym (h.none_yet (caller_at v.dealt) (let p = place in omega arith));
-              begins = (h.log, sym (append-nil h.log));
+              known = record { own = sym (h.none_yet (caller_at v.dealt) (let p = place in omega arith)); begins = (h.log, sym (append-nil h.log)) };
             };
+            holding = λ k. absurd (off k);
+            ending = λ k. absurd (off k);
           });
     }
 
--- the lock's seat takes in a caller's
-pub joins : (id : ℕ) (v : Known) (other : ℕ) (w : Known) → v.keeps ≡ true → v.acts ≡ false → w.acts ≡ true → Joins IsKept id v other w (joined v w) nobody
-joins id v other w knows idle acts s h at apart there =
+-- a seat for a visitor
+pub comes : (plan : ShardPlan) (slots : ℕ) → Enters (IsKept plan) slots lock_place (λ n w. Comes (step slots lock_place 0 0 none) (dealer_of plan 0, []) n (w, []))
+comes plan slots s h l fits = (
+  visitor_of plan,
+  record {
+    dealer = h.dealer;
+    dealt = h.dealt;
+    seat = h.seat;
+    holder = h.holder;
+    phase = h.phase;
+    log = h.log;
+    some_word = h.some_word;
+    counted = h.counted;
+    few = h.few;
+    free = h.free;
+    closed = h.closed;
+    none_yet = h.none_yet;
+    fits = all_push (Fits plan h.dealer h.dealt h.seat h.holder h.phase h.log) s.views (visitor_of plan) h.fits
+        (record { planned = λ _. refl; dealing = λ k. absurd (off k); acting = λ k. absurd (off k); holding = λ k. absurd (off k); ending = λ k. absurd (off k) });
+  },
+  refl,
+)
+
+-- ---- the lock
+
+-- the word says another phase of the same history, and this seat's view is as it was
+same_length : (plan : ShardPlan) (s : State JournaledShard Known) (id : ℕ) (v : Known) (n phase : ℕ) (h : IsKept plan s) → get_elem? s.views id ≡ some v → n ≡ 4 * length h.log + phase → phase < 4
+    → (phase ≡ 0 → h.phase ≡ 0) → (phase ≡ 3 → h.phase ≡ 3) → (h.phase ≡ 3 → phase ≡ 3) → (0 < h.phase → h.phase < 3 → (0 < phase) × (phase < 3))
+    → IsKept plan (stepped s lock_place n id [] v keeps)
+same_length plan s id v n phase h at is few free closed ended now =
+    let F : ℕ → Known → Type 0 = Fits plan h.dealer h.dealt h.seat h.holder phase h.log in
+    let one : (j : ℕ) (u : Known) → get_elem? s.views j ≡ some u → F j u = λ j u e. let f = h.fits j u e in record {
+      planned = f.planned;
+      dealing = f.dealing;
+      acting = f.acting;
+      holding = λ k. let x = f.holding k in let y = now x.taken x.unclosed in record { one = x.one; taken = y.0; unclosed = y.1; all = x.all };
+      ending = λ k. let x = f.ending k in record { closed = ended x.closed; all = x.all };
+    } in record {
+      dealer = h.dealer;
+      dealt = h.dealt;
+      seat = h.seat;
+      holder = h.holder;
+      phase = phase;
+      log = h.log;
+      some_word = still_long s.words lock_place _ h.some_word;
+      counted = word_set s.words lock_place n h.some_word ∙ is;
+      few = few;
+      free = λ z. h.free (free z);
+      closed = λ z. h.closed (closed z);
+      none_yet = h.none_yet;
+      fits = all_set F s.views id v (one id v at) (λ j u _ e. one j u e);
+    }
+
+unchanged : (plan : ShardPlan) (s : State JournaledShard Known) (id : ℕ) (v : Known) (h : IsKept plan s) → get_elem? s.views id ≡ some v →
+    IsKept plan (stepped s lock_place (slice_index s.words lock_place) id [] v keeps)
+unchanged plan s id v h at = same_length plan s id v (slice_index s.words lock_place) h.phase h at h.counted h.few (λ z. z) (λ z. z) (λ z. z) (λ a b. (a, b))
+
+takes_at : (plan : ShardPlan) (slots id : ℕ) (v : Known) (old new phase quarter : ℕ) → v.seated ≡ true → v.holds ≡ false → old ≡ 4 * quarter → new ≡ old + phase → 0 < phase → phase < 3
+    → (s : State JournaledShard Known) → (h : IsKept plan s) → get_elem? s.views id ≡ some v → (b : Bool) → (slice_index s.words lock_place == old) ≡ b
+    → (w : Known) × (a : Act JournaledShard) × Valid s.homes [] a × IsKept plan (stepped s lock_place (either (slice_index s.words lock_place == old) new (slice_index s.words lock_place)) id [] w a)
+    × Takes (step slots lock_place old new none) (v, []) (slice_index s.words lock_place) (w, carried_after [] a)
+takes_at plan slots id v old new phase quarter seated idle quartered taken positive unclosed s h at false is =
+    (v, keeps, tt, rw is (unchanged plan s id v h at), rw is refl)
+takes_at plan slots id v old new phase quarter seated idle quartered taken positive unclosed s h at true is =
+    let found : slice_index s.words lock_place ≡ old = eqb-true (slice_index s.words lock_place) old is in
+    let was_free : h.phase ≡ 0 = (let c = h.counted in let f = h.few in omega (arith, c, f, found, quartered)) in
+    let home = h.free was_free in
+    let shard = home.shard in
+    let f = h.fits id v at in
+    let w = taking v (reverse shard.journal) in
+    let F : ℕ → Known → Type 0 = Fits plan h.dealer h.dealt h.seat id phase h.log in (
+      w,
+      takes 0 shard,
+      home.there,
+      rw is (record {
+        dealer = h.dealer;
+        dealt = h.dealt;
+        seat = h.seat;
+        holder = id;
+        phase = phase;
+        log = h.log;
+        some_word = still_long s.words lock_place _ h.some_word;
+        counted = word_set s.words lock_place new h.some_word ∙ (let c = h.counted in omega (arith, c, was_free, found, taken));
+        few = omega (arith, unclosed);
+        free = λ z. absurd (omega (arith, z, positive));
+        closed = λ z. absurd (omega (arith, z, unclosed));
+        none_yet = h.none_yet;
+        fits = all_set F s.views id w
+            (record {
+              planned = f.planned;
+              dealing = λ k. let d = f.dealing k in record { one = d.one; count = d.count };
+              acting = λ k. let a = f.acting k in record { one = a.one; given = a.given; known = record { own = a.known.own; begins = a.known.begins } };
+              holding = λ _. record { one = refl; taken = positive; unclosed = unclosed; all = home.written };
+              ending = λ k. absurd (let x = (f.ending k).closed in omega (arith, x, was_free));
+            })
+            (λ j u other e. let g = h.fits j u e in record {
+              planned = g.planned;
+              dealing = g.dealing;
+              acting = g.acting;
+              holding = λ k. absurd (let x = (g.holding k).taken in omega (arith, x, was_free));
+              ending = λ k. absurd (let x = (g.ending k).closed in omega (arith, x, was_free));
+            });
+      }),
+      rw is (record {
+        shard = shard;
+        planned = home.planned ∙ sym (f.planned seated);
+        has = refl;
+        known = λ k. let a = f.acting k in subst (λ (l : List Entry). IsKnownIn l v) (sym home.written) a.known;
+      }),
+    )
+
+pub takes_lock : (plan : ShardPlan) (slots id : ℕ) (me : Me JournaledShard Known) (old new phase quarter : ℕ) → me.1 ≡ [] → me.0.seated ≡ true → me.0.holds ≡ false → old ≡ 4 * quarter → new ≡ old + phase → 0 < phase → phase < 3
+    → Allows (IsKept plan) slots id me lock_place (λ n. either (n == old) new n) (Takes (step slots lock_place old new none) me)
+takes_lock plan slots id me old new phase quarter empty seated idle quartered taken positive unclosed =
+    subst (λ c. Allows (IsKept plan) slots id (me.0, c) lock_place (λ n. either (n == old) new n) (Takes (step slots lock_place old new none) (me.0, c))) (sym empty)
+    (λ s h l at fits. takes_at plan slots id me.0 old new phase quarter seated idle quartered taken positive unclosed s h at (slice_index s.words lock_place == old) refl)
+
+-- others may sleep now
+marks_at : (plan : ShardPlan) (slots id : ℕ) (v : Known) (old quarter : ℕ) → old ≡ 4 * quarter + 1
+    → (s : State JournaledShard Known) → (h : IsKept plan s) → get_elem? s.views id ≡ some v → (b : Bool) → (slice_index s.words lock_place == old) ≡ b
+    → (w : Known) × (a : Act JournaledShard) × Valid s.homes [] a × IsKept plan (stepped s lock_place (either (slice_index s.words lock_place == old) (old + 1) (slice_index s.words lock_place)) id [] w a)
+    × Marks (step slots lock_place old (old + 1) none) (v, []) (slice_index s.words lock_place) (w, carried_after [] a)
+marks_at plan slots id v old quarter quartered s h at false is = (v, keeps, tt, rw is (unchanged plan s id v h at), refl)
+marks_at plan slots id v old quarter quartered s h at true is =
+    let found : slice_index s.words lock_place ≡ old = eqb-true (slice_index s.words lock_place) old is in
+    let was : h.phase ≡ 1 = (let c = h.counted in let f = h.few in omega (arith, c, f, found, quartered)) in (
+      v,
+      keeps,
+      tt,
+      rw is (same_length plan s id v (old + 1) 2 h at (let c = h.counted in omega (arith, c, was, found)) (omega arith)
+          (λ z. absurd (omega (arith, z))) (λ z. absurd (omega (arith, z))) (λ z. absurd (omega (arith, z, was))) (λ a b. (omega arith, omega arith))),
+      refl,
+    )
+
+pub marks : (plan : ShardPlan) (slots id : ℕ) (me : Me JournaledShard Known) (old quarter : ℕ) → me.1 ≡ [] → old ≡ 4 * quarter + 1
+    → Allows (IsKept plan) slots id me lock_place (λ n. either (n == old) (old + 1) n) (Marks (step slots lock_place old (old + 1) none) me)
+marks plan slots id me old quarter empty quartered =
+    subst (λ c. Allows (IsKept plan) slots id (me.0, c) lock_place (λ n. either (n == old) (old + 1) n) (Marks (step slots lock_place old (old + 1) none) (me.0, c))) (sym empty)
+    (λ s h l at fits. marks_at plan slots id me.0 old quarter quartered s h at (slice_index s.words lock_place == old) refl)
+
+-- the entries of others, when this seat's caller made all later ones
+own_of_others : (v : Known) (who : Caller) (later log : List Entry) → (v.acts ≡ true → place_of v.who ≢ place_of who) → AreBy v later → own_entries who (later ++ log) ≡ own_entries who log
+own_of_others v who [] log apart are = refl
+own_of_others v who (entry ∷ older) log apart are =
+    own_of_other who entry (older ++ log) (λ same. apart are.0 (ap place_of (sym are.1) ∙ same)) ∙ own_of_others v who older log apart are.2
+
+-- the shard is given back, with any number of entries more, all of this caller
+gives_at : (plan : ShardPlan) (slots id : ℕ) (v : Known) (shard : JournaledShard) (later : List Entry) → slots ≡ 1 → v.seated ≡ true → v.holds ≡ true → shard.plan ≡ v.plan → reverse shard.journal ≡ later ++ v.all → AreBy v later
+    → Allows (IsKept plan) slots id (v, (0, shard) ∷ []) lock_place (λ _. 4 * length shard.journal) (Gives (step slots lock_place (4 * length shard.journal) 0 none) (v, (0, shard) ∷ []))
+gives_at plan slots id v shard later one_slot seated holds planned grown are s h l at fits =
+    let f = h.fits id v at in
+    let have = f.holding holds in
+    let log' : List Entry = reverse shard.journal in
+    let longer : log' ≡ later ++ h.log = grown ∙ ap (λ x. later ++ x) have.all in
+    let w = given v ((0, shard) ∷ []) in
+    let others : (who : Caller) → (v.acts ≡ true → place_of v.who ≢ place_of who) → own_entries who log' ≡ own_entries who h.log =
+    λ who apart. ap (own_entries who) longer ∙ own_of_others v who later h.log apart are in
+    let F : ℕ → Known → Type 0 = Fits plan h.dealer h.dealt h.seat h.holder 0 log' in (
+      w,
+      gives,
+      tt,
+      record {
+        dealer = h.dealer;
+        dealt = h.dealt;
+        seat = h.seat;
+        holder = h.holder;
+        phase = 0;
+        log = log';
+        some_word = still_long s.words lock_place _ h.some_word;
+        counted = word_set s.words lock_place _ h.some_word ∙ (let x = length-reverse shard.journal in omega (arith, x));
+        few = omega arith;
+        free = λ _. record { shard = shard; there = set_here s.homes 0 (some shard) (let x = l in omega (arith, x, one_slot)); planned = planned ∙ f.planned seated; written = refl };
+        closed = λ z. absurd (omega (arith, z));
+        none_yet = λ who lt. others who (λ a same. let x = (f.acting a).given in omega (arith, same, x, lt)) ∙ h.none_yet who lt;
+        fits = all_set F s.views id w
+            (record {
+              planned = f.planned;
+              dealing = λ k. let d = f.dealing k in record { one = d.one; count = d.count };
+              acting = λ a. let mine = f.acting a in record { one = mine.one; given = mine.given; known = record { own = refl; begins = ([], refl) } };
+              holding = λ k. absurd (off k);
+              ending = λ k. absurd (let x = (f.ending k).closed in let y = have.unclosed in omega (arith, x, y));
+            })
+            (λ j u other e. let g = h.fits j u e in record {
+              planned = g.planned;
+              dealing = g.dealing;
+              acting = λ a. let t = g.acting a in record {
+                one = t.one;
+                given = t.given;
+                known = record {
+                  own = t.known.own ∙ sym (others u.who (λ k same. other (sym t.one ∙ ap h.seat (sym same) ∙ (f.acting k).one)));
+                  begins = (later ++ t.known.begins.0, longer ∙ ap (λ x. later ++ x) t.known.begins.1 ∙ append_back later t.known.begins.0 u.seen);
+                };
+              };
+              holding = λ k. absurd (other ((g.holding k).one ∙ sym have.one));
+              ending = λ k. absurd (let x = (g.ending k).closed in let y = have.unclosed in omega (arith, x, y));
+            });
+      },
+      refl,
+    )
+
+pub gives_back : (plan : ShardPlan) (slots id : ℕ) (me : Me JournaledShard Known) (shard : JournaledShard) (later : List Entry) → slots ≡ 1 → me.1 ≡ (0, shard) ∷ [] → me.0.seated ≡ true → me.0.holds ≡ true → shard.plan ≡ me.0.plan
+    → reverse shard.journal ≡ later ++ me.0.all → AreBy me.0 later
+    → Allows (IsKept plan) slots id me lock_place (λ _. 4 * length shard.journal) (Gives (step slots lock_place (4 * length shard.journal) 0 none) me)
+gives_back plan slots id me shard later one_slot has seated holds planned grown are =
+    subst (λ c. Allows (IsKept plan) slots id (me.0, c) lock_place (λ _. 4 * length shard.journal) (Gives (step slots lock_place (4 * length shard.journal) 0 none) (me.0, c))) (sym has)
+    (gives_at plan slots id me.0 shard later one_slot seated holds planned grown are)
+
+-- the shard is put back for good, as it was found
+ends_at : (plan : ShardPlan) (slots id : ℕ) (v : Known) (shard : JournaledShard) → slots ≡ 1 → v.seated ≡ true → v.holds ≡ true → shard.plan ≡ v.plan → reverse shard.journal ≡ v.all
+    → Allows (IsKept plan) slots id (v, (0, shard) ∷ []) lock_place (λ _. 4 * length shard.journal + 3) (Ends (step slots lock_place (4 * length shard.journal + 3) 0 none) (v, (0, shard) ∷ []))
+ends_at plan slots id v shard one_slot seated holds planned same s h l at fits =
+    let f = h.fits id v at in
+    let have = f.holding holds in
+    let written : reverse shard.journal ≡ h.log = same ∙ have.all in
+    let w = ending v in
+    let F : ℕ → Known → Type 0 = Fits plan h.dealer h.dealt h.seat h.holder 3 h.log in (
+      w,
+      gives,
+      tt,
+      record {
+        dealer = h.dealer;
+        dealt = h.dealt;
+        seat = h.seat;
+        holder = h.holder;
+        phase = 3;
+        log = h.log;
+        some_word = still_long s.words lock_place _ h.some_word;
+        counted = word_set s.words lock_place _ h.some_word ∙ (let x = length-reverse shard.journal in let y = ap (λ (e : List Entry). length e) written in omega (arith, x, y));
+        few = omega arith;
+        free = λ z. absurd (omega (arith, z));
+        closed = λ _. record { shard = shard; there = set_here s.homes 0 (some shard) (let x = l in omega (arith, x, one_slot)); planned = planned ∙ f.planned seated; written = written };
+        none_yet = h.none_yet;
+        fits = all_set F s.views id w
+            (record {
+              planned = f.planned;
+              dealing = λ k. let d = f.dealing k in record { one = d.one; count = d.count };
+              acting = λ a. let mine = f.acting a in record { one = mine.one; given = mine.given; known = record { own = mine.known.own; begins = mine.known.begins } };
+              holding = λ k. absurd (off k);
+              ending = λ _. record { closed = refl; all = have.all };
+            })
+            (λ j u other e. let g = h.fits j u e in record {
+              planned = g.planned;
+              dealing = g.dealing;
+              acting = g.acting;
+              holding = λ k. absurd (other ((g.holding k).one ∙ sym have.one));
+              ending = λ k. let x = g.ending k in record { closed = refl; all = x.all };
+            });
+      },
+      refl,
+    )
+
+pub ends_all : (plan : ShardPlan) (slots id : ℕ) (me : Me JournaledShard Known) (shard : JournaledShard) → slots ≡ 1 → me.1 ≡ (0, shard) ∷ [] → me.0.seated ≡ true → me.0.holds ≡ true → shard.plan ≡ me.0.plan → reverse shard.journal ≡ me.0.all
+    → Allows (IsKept plan) slots id me lock_place (λ _. 4 * length shard.journal + 3) (Ends (step slots lock_place (4 * length shard.journal + 3) 0 none) me)
+ends_all plan slots id me shard one_slot has seated holds planned same =
+    subst (λ c. Allows (IsKept plan) slots id (me.0, c) lock_place (λ _. 4 * length shard.journal + 3) (Ends (step slots lock_place (4 * length shard.journal + 3) 0 none) (me.0, c))) (sym has)
+    (ends_at plan slots id me.0 shard one_slot seated holds planned same)
+
+-- whoever closed a shard finds it in its slot
+pub record IsLeft (v : Known) (shards : List JournaledShard) : Type 0 where
+  pub shard : JournaledShard
+  pub there : get_elem? shards 0 ≡ some shard
+  pub planned : shard.plan ≡ v.plan
+  pub written : reverse shard.journal ≡ v.all
+
+pub left : (plan : ShardPlan) (id : ℕ) (v : Known) (words : List ℕ) (shards : List JournaledShard) → v.seated ≡ true → v.ended ≡ true → Final (Seen (IsKept plan) id v) words shards → IsLeft v shards
+left plan id v words shards seated ended final =
+    let h = final.1.0 in
+    let f = h.fits id v final.1.1 in
+    let e = f.ending ended in
+    let home = h.closed e.closed in
+    record { shard = home.shard; there = final.4 0 home.shard home.there; planned = home.planned ∙ sym (f.planned seated); written = home.written ∙ sym e.all }
+
+pub taken_out : (v : Known) (shards : List JournaledShard) (shard : JournaledShard) → IsLeft v shards → get_elem? shards 0 ≡ some shard → (shard.plan ≡ v.plan) × (reverse shard.journal ≡ v.all)
+taken_out v shards shard is there =
+    let same : shard ≡ is.shard = some-injective shard is.shard (sym there ∙ is.there) in
+    (ap (λ (s : JournaledShard). s.plan) same ∙ is.planned, ap (λ (s : JournaledShard). reverse s.journal) same ∙ is.written)
+
+-- ---- a visitor's seat and a caller's
+
+-- a visitor that has the shard takes in a caller's seat
+pub joins : (plan : ShardPlan) (id : ℕ) (v : Known) (other : ℕ) (w : Known) → w.acts ≡ true → Joins (IsKept plan) id v other w (joined v w) nobody
+joins plan id v other w acts s h at apart there =
     let both = joined v w in
-    let mine = (h.fits id v at).keeping knows in
+    let f = h.fits id v at in
     let was : get_elem? s.views other ≡ some w = ⊎_elim (λ x. absurd (apart x.0)) (λ x. x.1) (at_set s.views id other both w there) in
     let theirs = (h.fits other w was).acting acts in
     let seat' = moved h.seat (place_of w.who) id in
-    let F : ℕ → Known → Type 0 = Fits h.keeper h.dealt seat' h.log in
+    let F : ℕ → Known → Type 0 = Fits plan h.dealer h.dealt seat' h.holder h.phase h.log in
     let Now : ℕ → Known → Type 0 = λ j y. j ≢ other → F j y in
     let now : All Now (set s.views id both) = all_set Now s.views id both
     (λ _. record {
-      keeping = λ _. record { one = mine.one; all = mine.all; count = mine.count };
-      acting = λ _. record { one = moved_here h.seat (place_of w.who) id; given = theirs.given; own = theirs.own; begins = theirs.begins };
+      planned = f.planned;
+      dealing = λ k. let d = f.dealing k in record { one = d.one; count = d.count };
+      acting = λ _. record { one = moved_here h.seat (place_of w.who) id; given = theirs.given; known = record { own = theirs.known.own; begins = theirs.known.begins } };
+      holding = λ k. let x = f.holding k in record { one = x.one; taken = x.taken; unclosed = x.unclosed; all = x.all };
+      ending = λ k. let x = f.ending k in record { closed = x.closed; all = x.all };
     })
-    (λ j y not_id e not_other. record {
-      keeping = λ k. absurd (not_id (((h.fits j y e).keeping k).one ∙ sym mine.one));
-      acting = λ a. let t = (h.fits j y e).acting a in record {
+    (λ j y not_id e not_other. let g = h.fits j y e in record {
+      planned = g.planned;
+      dealing = g.dealing;
+      acting = λ a. let t = g.acting a in record {
         one = moved_else h.seat (place_of w.who) id (place_of y.who) (λ same. not_other (sym t.one ∙ ap h.seat same ∙ theirs.one)) ∙ t.one;
         given = t.given;
-        own = t.own;
-        begins = t.begins;
+        known = t.known;
       };
+      holding = g.holding;
+      ending = g.ending;
     }) in record {
-      keeper = h.keeper;
+      dealer = h.dealer;
       dealt = h.dealt;
       seat = seat';
+      holder = h.holder;
+      phase = h.phase;
       log = h.log;
       some_word = h.some_word;
       counted = h.counted;
+      few = h.few;
+      free = h.free;
+      closed = h.closed;
       none_yet = h.none_yet;
-      fits = all_set F (set s.views id both) other nobody (record { keeping = λ k. absurd (off k); acting = λ a. absurd (off a) }) (λ j y not_other e. now j y e not_other);
+      fits = all_set F (set s.views id both) other nobody
+          (record { planned = λ k. absurd (off k); dealing = λ k. absurd (off k); acting = λ k. absurd (off k); holding = λ k. absurd (off k); ending = λ k. absurd (off k) })
+          (λ j y not_other e. now j y e not_other);
     }
 
--- and gives it back
-pub parts : (id : ℕ) (v : Known) → v.keeps ≡ true → v.acts ≡ true → Splits IsKept id v (keeper_part v) (pass_part v)
-parts id v knows acts s h at =
-    let mine = (h.fits id v at).keeping knows in
-    let theirs = (h.fits id v at).acting acts in
-    let new : ℕ = length (set s.views id (keeper_part v)) in
-    let seat' = moved h.seat (place_of v.who) new in
-    let F : ℕ → Known → Type 0 = Fits h.keeper h.dealt seat' h.log in
-    let old : (j : ℕ) (u : Known) → j ≢ id → get_elem? s.views j ≡ some u → F j u = λ j u other e. record {
-      keeping = λ k. absurd (other (((h.fits j u e).keeping k).one ∙ sym mine.one));
-      acting = λ a. let was = (h.fits j u e).acting a in record {
-        one = moved_else h.seat (place_of v.who) new (place_of u.who) (λ same. other (sym was.one ∙ ap h.seat same ∙ theirs.one)) ∙ was.one;
-        given = was.given;
-        own = was.own;
-        begins = was.begins;
-      };
-    } in record {
-      keeper = h.keeper;
-      dealt = h.dealt;
-      seat = seat';
-      log = h.log;
-      some_word = h.some_word;
-      counted = h.counted;
-      none_yet = h.none_yet;
-      fits = all_push F (set s.views id (keeper_part v)) (pass_part v)
-          (all_set F s.views id (keeper_part v) (record { keeping = λ _. record { one = mine.one; all = mine.all; count = mine.count }; acting = λ a. absurd (off a) }) old)
-          (record {
-            keeping = λ k. absurd (off k);
-            acting = λ _. record { one = moved_here h.seat (place_of v.who) new; given = theirs.given; own = theirs.own; begins = theirs.begins };
-          });
-    }
-
-first_set : (ws : List ℕ) (n : ℕ) → 0 < length ws → slice_index (set ws 0 n) 0 ≡ n
-first_set [] n h = absurd (omega arith)
-first_set (x ∷ xs) n h = refl
-
-set_long : (ws : List ℕ) (n : ℕ) → 0 < length ws → 0 < length (set ws 0 n)
-set_long [] n h = h
-set_long (x ∷ xs) n h = h
-
--- the lock's seat, with a caller's, adds the entry of a call
-adds_at : (slots id : ℕ) (v : Known) (old : ℕ) (shard : JournaledShard) (entry : Entry) → v.keeps ≡ true → v.acts ≡ true → length v.all ≡ old → reverse shard.journal ≡ entry ∷ v.all → entry.who ≡ v.who
-    → Allows IsKept slots id (v, []) 0 (λ n. either (eqb n old) (old + 1) n) (Adds (step slots 0 old (old + 1) (some shard)) (v, []))
-adds_at slots id v old shard entry knows acts len is by s h l at fits =
-    let mine = (h.fits id v at).keeping knows in
-    let theirs = (h.fits id v at).acting acts in
-    let w = with_history v (entry ∷ v.all) in
-    let told : with_told v (some shard) ≡ w = ap (with_history v) is in
-    let log' : List Entry = entry ∷ h.log in
-    let now : slice_index (set s.words 0 (either (eqb (slice_index s.words 0) old) (old + 1) (slice_index s.words 0))) 0 ≡ length log' =
-    first_set s.words _ h.some_word ∙ ap (λ b. either b (old + 1) (slice_index s.words 0)) (eq-eqb (slice_index s.words 0) old (h.counted ∙ ap (λ x. length x) (sym mine.all) ∙ len)) ∙ (let a = ap (λ x. length x) mine.all in omega (arith, a, len)) in
-    let F : ℕ → Known → Type 0 = Fits h.keeper h.dealt h.seat log' in
-    let others : (who : Caller) → place_of v.who ≢ place_of who → own_entries who log' ≡ own_entries who h.log = λ who apart. own_of_other who entry h.log (λ same. apart (ap place_of (sym by) ∙ same)) in (
-      w,
-      keeps,
-      tt,
-      record {
-        keeper = h.keeper;
-        dealt = h.dealt;
-        seat = h.seat;
-        log = log';
-        some_word = set_long s.words _ h.some_word;
-        counted = now;
-        none_yet = λ who lt. others who (λ same. let x = theirs.given in omega (arith, same)) ∙ h.none_yet who lt;
-        fits = all_set F s.views id w (record {
-          keeping = λ _. record { one = mine.one; all = ap (λ x. entry ∷ x) mine.all; count = mine.count };
-          acting = λ _. record {
-            one = theirs.one;
-            given = theirs.given;
-            own = ap (λ x. entry ∷ x) theirs.own ∙ ap (λ who. entry ∷ own_entries who h.log) (sym by) ∙ sym (own_of_maker entry h.log) ∙ ap (λ who. own_entries who log') by;
-            begins = ([], ap (λ x. entry ∷ x) (sym mine.all));
-          };
-        })
-            (λ j u other at'. record {
-              keeping = λ k. absurd (other (((h.fits j u at').keeping k).one ∙ sym mine.one));
-              acting = λ a. let t = (h.fits j u at').acting a in record {
-                one = t.one;
-                given = t.given;
-                own = t.own ∙ sym (others u.who (λ same. other (sym t.one ∙ ap h.seat (sym same) ∙ theirs.one)));
-                begins = (entry ∷ t.begins.0, ap (λ x. entry ∷ x) t.begins.1);
-              };
-            });
-      },
-      ap (λ (k : Known). (k, [])) (sym told),
-    )
-
--- the lock's seat, with a caller's, looks
-sees_at : (slots id : ℕ) (v : Known) → v.keeps ≡ true → v.acts ≡ true → Allows IsKept slots id (v, []) 0 (λ n. n) (Sees (step slots 0 0 0 none) (v, []))
-sees_at slots id v knows acts s h l at fits =
-    let mine = (h.fits id v at).keeping knows in
-    let theirs = (h.fits id v at).acting acts in
+-- they look
+sees_at : (plan : ShardPlan) (slots id : ℕ) (v : Known) (c : List (ℕ × JournaledShard)) → v.holds ≡ true → v.acts ≡ true → Allows (IsKept plan) slots id (v, c) lock_place (λ n. n) (Sees (step slots lock_place 0 0 none) (v, c))
+sees_at plan slots id v c holds acts s h l at fits =
+    let f = h.fits id v at in
+    let have = f.holding holds in
+    let mine = f.acting acts in
     let w = all_seen v in
-    let F : ℕ → Known → Type 0 = Fits h.keeper h.dealt h.seat h.log in (
+    let F : ℕ → Known → Type 0 = Fits plan h.dealer h.dealt h.seat h.holder h.phase h.log in (
       w,
       keeps,
       tt,
       record {
-        keeper = h.keeper;
+        dealer = h.dealer;
         dealt = h.dealt;
         seat = h.seat;
+        holder = h.holder;
+        phase = h.phase;
         log = h.log;
-        some_word = set_long s.words _ h.some_word;
-        counted = first_set s.words (slice_index s.words 0) h.some_word ∙ h.counted;
+        some_word = still_long s.words lock_place _ h.some_word;
+        counted = word_set s.words lock_place (slice_index s.words lock_place) h.some_word ∙ h.counted;
+        few = h.few;
+        free = h.free;
+        closed = h.closed;
         none_yet = h.none_yet;
         fits = all_set F s.views id w (record {
-          keeping = λ _. record { one = mine.one; all = mine.all; count = mine.count };
-          acting = λ _. record { one = theirs.one; given = theirs.given; own = theirs.own; begins = ([], sym mine.all) };
+          planned = f.planned;
+          dealing = λ k. let d = f.dealing k in record { one = d.one; count = d.count };
+          acting = λ _. record { one = mine.one; given = mine.given; known = record { own = mine.known.own; begins = ([], sym have.all) } };
+          holding = λ _. record { one = have.one; taken = have.taken; unclosed = have.unclosed; all = have.all };
+          ending = λ k. let x = f.ending k in record { closed = x.closed; all = x.all };
         }) (λ j u _ e. h.fits j u e);
       },
-      (refl, theirs.own ∙ ap (own_entries v.who) (sym mine.all), (theirs.begins.0, mine.all ∙ theirs.begins.1)),
+      (refl, subst (λ (log : List Entry). IsKnownIn log v) (sym have.all) mine.known),
     )
 
--- the same of a seat that holds no slot
-pub adds : (slots id : ℕ) (me : Me JournaledShard Known) (old : ℕ) (shard : JournaledShard) (entry : Entry) → me.1 ≡ [] → me.0.keeps ≡ true → me.0.acts ≡ true → length me.0.all ≡ old → reverse shard.journal ≡ entry ∷ me.0.all → entry.who ≡ me.0.who
-    → Allows IsKept slots id me 0 (λ n. either (eqb n old) (old + 1) n) (Adds (step slots 0 old (old + 1) (some shard)) me)
-adds slots id me old shard entry empty knows acts len is by =
-    subst (λ c. Allows IsKept slots id (me.0, c) 0 (λ n. either (eqb n old) (old + 1) n) (Adds (step slots 0 old (old + 1) (some shard)) (me.0, c))) (sym empty) (adds_at slots id me.0 old shard entry knows acts len is by)
+pub sees : (plan : ShardPlan) (slots id : ℕ) (me : Me JournaledShard Known) → me.0.holds ≡ true → me.0.acts ≡ true → Allows (IsKept plan) slots id me lock_place (λ n. n) (Sees (step slots lock_place 0 0 none) me)
+sees plan slots id me holds acts = sees_at plan slots id me.0 me.1 holds acts
 
-pub sees : (slots id : ℕ) (me : Me JournaledShard Known) → me.1 ≡ [] → me.0.keeps ≡ true → me.0.acts ≡ true → Allows IsKept slots id me 0 (λ n. n) (Sees (step slots 0 0 0 none) me)
-sees slots id me empty knows acts = subst (λ c. Allows IsKept slots id (me.0, c) 0 (λ n. n) (Sees (step slots 0 0 0 none) (me.0, c))) (sym empty) (sees_at slots id me.0 knows acts)
+-- and the caller's seat is given back
+pub parts : (plan : ShardPlan) (id : ℕ) (v : Known) → v.seated ≡ true → v.holds ≡ true → v.acts ≡ true → Splits (IsKept plan) id v (visitor_part v) (pass_part v)
+parts plan id v seated holds acts s h at =
+    let f = h.fits id v at in
+    let have = f.holding holds in
+    let theirs = f.acting acts in
+    let new : ℕ = length (set s.views id (visitor_part v)) in
+    let seat' = moved h.seat (place_of v.who) new in
+    let F : ℕ → Known → Type 0 = Fits plan h.dealer h.dealt seat' h.holder h.phase h.log in
+    let old : (j : ℕ) (u : Known) → j ≢ id → get_elem? s.views j ≡ some u → F j u = λ j u other e. let g = h.fits j u e in record {
+      planned = g.planned;
+      dealing = g.dealing;
+      acting = λ a. let was = g.acting a in record {
+        one = moved_else h.seat (place_of v.who) new (place_of u.who) (λ same. other (sym was.one ∙ ap h.seat same ∙ theirs.one)) ∙ was.one;
+        given = was.given;
+        known = was.known;
+      };
+      holding = g.holding;
+      ending = g.ending;
+    } in record {
+      dealer = h.dealer;
+      dealt = h.dealt;
+      seat = seat';
+      holder = h.holder;
+      phase = h.phase;
+      log = h.log;
+      some_word = h.some_word;
+      counted = h.counted;
+      few = h.few;
+      free = h.free;
+      closed = h.closed;
+      none_yet = h.none_yet;
+      fits = all_push F (set s.views id (visitor_part v)) (pass_part v)
+          (all_set F s.views id (visitor_part v) (record {
+            planned = λ _. f.planned seated;
+            dealing = λ a. absurd (off a);
+            acting = λ a. absurd (off a);
+            holding = λ _. record { one = have.one; taken = have.taken; unclosed = have.unclosed; all = have.all };
+            ending = λ a. absurd (off a);
+          }) old)
+          (record {
+            planned = λ _. f.planned seated;
+            dealing = λ k. absurd (off k);
+            acting = λ _. record { one = moved_here h.seat (place_of v.who) new; given = theirs.given; known = record { own = theirs.known.own; begins = theirs.known.begins } };
+            holding = λ k. absurd (off k);
+            ending = λ k. absurd (off k);
+          });
+    }

@@ -14,7 +14,7 @@ use Rattle.shards.specs.HeldCells.{room_at, IsRoomOf}
 use Rattle.semantics.proofs.shared.EachLemmas.{within, at_or, each_at, each_start, or_within}
 
 -- a plan has the number that it was asked for
-number_of : (options : Options) (number : ℕ) (plan : ShardPlan) (found : Option MapDef) → plan_for_map options number found ≡ Some plan → plan.number ≡ number
+pub number_of : (options : Options) (number : ℕ) (plan : ShardPlan) (found : Option MapDef) → plan_for_map options number found ≡ Some plan → plan.number ≡ number
 number_of options number plan None is = absurd (none_is_some is) where
   none_is_some : None ≡ Some plan → ⊥
   none_is_some e = subst (λ (o : Option ShardPlan). is_none o) e tt where
@@ -45,13 +45,13 @@ below_places (suc places) zero waits = omega arith
 below_places (suc places) (suc place) waits = (let rest = below_places places place waits in omega (arith, rest))
 
 pub all_wait : (table : ℕ → TableId) (plan : ℕ → ShardPlan) (count : ℕ) (rooms : List ℕ) (maps : List MapDef) (options : Options) (shards : List NewShardView) (rows : List (List (Badge Known))) (dealt : List Bool) →
-    IsOpening maps options shards → IsNamed count table plan (record { maps = maps; options = options; shards = shards }) → (length rooms ≡ length shards) → Each (IsRoomOf plan) 0 rooms → length rows ≡ length shards → Each (IsRowOf table shards) 0 rows →
+    IsOpening maps options shards → IsNamed count table plan (record { maps = maps; options = options; shards = shards }) → (length rooms ≡ length shards) → Each (IsRoomOf plan) 0 rooms → length rows ≡ length shards → Each (IsRowOf table plan shards) 0 rows →
     dealt ≡ replicate (options.workers + 2) false → IsDealer table plan count rooms dealt rows
 all_wait table plan count rooms maps options shards rows dealt opening named as_many fit rows_are_as_many rows_are dealt_is = record {
   sized = rows_are_as_many ∙ sym named.count_is;
   waiting = λ number below place waits.
       let there : number < length rows = (let a = rows_are_as_many in let count_is = named.count_is in omega (arith, a, count_is)) in
-      let row = each_at (IsRowOf table shards) rows number (row_at rows number) rows_are there (or_within rows [] (row_at rows number) number there) in
+      let row = each_at (IsRowOf table plan shards) rows number (row_at rows number) rows_are there (or_within rows [] (row_at rows number) number there) in
       let few = below_places (options.workers + 2) place (ap (λ (d : List Bool). is_dealt_at d place) (sym dealt_is) ∙ waits) in
       let long : place < length (row_at rows number) =
       (let a = row.count in let b = opening.places number (let a = rows_are_as_many in omega (arith, a, there)) in omega (arith, a, b, few)) in

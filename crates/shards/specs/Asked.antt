@@ -2,6 +2,7 @@
 use Rattle.std.specs.Prelude.{◌≡◌, ℕ, List, ◌∷◌}
 use Rattle.semantics.specs.declared.call.Call.{Call}
 use Rattle.semantics.specs.declared.call.Call.TheVariants.{Enter}
+use Rattle.semantics.specs.declared.call.Caller.{Caller}
 use Rattle.semantics.specs.declared.call.Reply.{Reply}
 use Rattle.semantics.specs.declared.call.Entry.{Entry}
 use Rattle.semantics.specs.declared.plan.ShardPlan.{ShardPlan}
@@ -52,11 +53,13 @@ abbrev pub EnteredAndAnswered : ShardPlan → ℕ → PassView → PassView → 
 EnteredAndAnswered plan number before after call reply =
     AreServed plan (view_at before number) (view_at after number) (enter_entry number before.who) (entry_of before.who call reply)
 
-abbrev pub EnteredAndTurnedAway : ShardPlan → ℕ → PassView → PassView → Call → Type 0
-EnteredAndTurnedAway plan number before after call =
-    IsServedThenRefused plan (view_at before number) (view_at after number) (enter_entry number before.who) call
+-- which of the two the journal of the shard of this number was full for, and what then stands
+abbrev pub IsStoppedAt : ShardPlan → ℕ → CallerView → CallerView → Caller → Call → Stopped → Type 0
+IsStoppedAt plan number before after who call (AtEnter full) = IsRefused plan before after (Enter number) × (full.shard ≡ number)
+IsStoppedAt plan number before after who call (AtCall full) =
+    IsServedThenRefused plan before after (enter_entry number who) call × (full.shard ≡ number)
 
 -- which of the two the journal was full for, and what then stands
 abbrev pub IsStopped : ShardPlan → ℕ → PassView → PassView → Call → Stopped → Type 0
-IsStopped plan number before after call (AtEnter full) = IsTurnedAway plan number before after (Enter number) × (full.shard ≡ number)
-IsStopped plan number before after call (AtCall full) = EnteredAndTurnedAway plan number before after call × (full.shard ≡ number)
+IsStopped plan number before after call stopped =
+    IsStoppedAt plan number (view_at before number) (view_at after number) before.who call stopped

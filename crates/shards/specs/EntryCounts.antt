@@ -5,7 +5,7 @@ use Rattle.semantics.specs.declared.call.Entry.{Entry}
 use Rattle.semantics.specs.declared.plan.ShardPlan.{ShardPlan}
 use Rattle.semantics.specs.CallerLaws.{own_entries}
 use Rattle.semantics.specs.History.{IsLegalJournal}
-use Rattle.shards.specs.LengthRule.{caller_at}
+use Rattle.shards.specs.LockRule.{caller_at}
 
 -- the own entries of so many callers, counted together
 abbrev pub own_total : ℕ → List Entry → ℕ

@@ -2,10 +2,11 @@
 pub mod Opening
 pub mod Lending
 pub mod CallerView
-pub mod LengthRule
+pub mod LockRule
 pub mod EntryCounts
 pub mod Seats
 pub mod HeldCells
+pub mod ShardPasses
 pub mod Passes
 pub mod Asked
 pub mod SharedMaps

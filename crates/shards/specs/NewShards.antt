@@ -1,8 +1,7 @@
 -- Shards that were opened and have no callers yet, and the seats that wait for callers.
-use Rattle.std.specs.Prelude.{◌≡◌, ◌<◌, ℕ, ◌+◌, ◌*◌, Bool, false, true, List, [], ◌∷◌, length, Some, slice_index_or}
+use Rattle.std.specs.Prelude.{◌≡◌, ◌<◌, ◌≤◌, ℕ, ◌+◌, ◌*◌, Bool, false, true, List, [], ◌∷◌, length, Some, slice_index_or}
 use Rattle.atomic_table.specs.Seated.{TableId}
 use Rattle.atomic_table.specs.declared.badge.Badge.{Badge}
-use Rattle.atomic_table.specs.declared.shared.Seat.{Seat}
 use Rattle.ebpf_decode.specs.declared.map.MapDef.{MapDef}
 use Rattle.semantics.specs.declared.call.Caller.{Caller}
 use Rattle.semantics.specs.declared.options.Options.{Options}
@@ -11,29 +10,29 @@ use Rattle.semantics.specs.ShardPlan.{plan_at, AreOptions}
 use Rattle.shard_core.specs.JournaledShard.{JournaledShard, opened_shard}
 use Rattle.journals.specs.JournalsView.{AreImageMaps}
 use Rattle.shards.specs.declared.rule.Known.{Known}
-use Rattle.shards.specs.LengthRule.{caller_at, pass_of, no_table}
-use Rattle.shards.specs.Seats.{IsKeeper, no_plan}
+use Rattle.shards.specs.LockRule.{lock_place, caller_at, pass_of, no_plan, no_table}
 use Rattle.shards.specs.Passes.{badge_at}
 use Rattle.semantics.specs.Each.{Each}
-use Rattle.shards.specs.HeldCells.{room_at, IsRoomOf}
+use Rattle.shards.specs.ShardPasses.{ShardPassView}
+use Rattle.shards.specs.HeldCells.{HeldIds, most_held, room_at, room_of, IsRoomOf}
 
 -- ---- one shard
 
 -- a seat of a caller that has done nothing
-pub record IsNewBadge (table : TableId) (who : Caller) (badge : Badge Known) : Type 0 where
+pub record IsNewBadge (table : TableId) (plan : ShardPlan) (who : Caller) (badge : Badge Known) : Type 0 where
   pub table_is : badge.table_id ≡ table
-  pub fresh : badge.views ≡ pass_of who [] [] ∷ []
+  pub fresh : badge.views ≡ pass_of plan who [] [] ∷ []
 
 -- a seat for each caller by its place
-abbrev pub AreNewSeats : TableId → List (Badge Known) → Type 0
-AreNewSeats table seats = (place : ℕ) → place < length seats → IsNewBadge table (caller_at place) (badge_at seats place)
+abbrev pub AreNewSeats : TableId → ShardPlan → List (Badge Known) → Type 0
+AreNewSeats table plan seats = (place : ℕ) → place < length seats → IsNewBadge table plan (caller_at place) (badge_at seats place)
 
--- nothing has happened in the shard, and the lock's seat knows so
-pub record IsNew (shard : JournaledShard) (table : TableId) (keeper : Seat JournaledShard Known) (seats : List (Badge Known)) : Type 0 where
-  pub some_word : 0 < table.words
-  pub opened : shard.journal ≡ []
-  pub keeper_is : IsKeeper table [] keeper
-  pub seats_are : AreNewSeats table seats
+-- nothing has happened in the shard, and there is room for as many cells as a worker can hold
+pub record IsNew (plan : ShardPlan) (table : TableId) (seats : List (Badge Known)) (room : ℕ) : Type 0 where
+  pub some_word : lock_place < table.words
+  pub one_slot : table.slots ≡ 1
+  pub seats_are : AreNewSeats table plan seats
+  pub enough : most_held plan ≤ room
 
 -- what contracts see of it
 pub record NewShardView : Type 0 where
@@ -84,16 +83,32 @@ abbrev pub is_dealt_at : List Bool → ℕ → Bool
 is_dealt_at dealt place = slice_index_or dealt place true
 
 -- the row has the seats of the callers that have none yet
-abbrev pub IsRow : (ℕ → TableId) → List Bool → ℕ → List (Badge Known) → Type 0
-IsRow table dealt number row = (place : ℕ) → is_dealt_at dealt place ≡ false →
-    (place < length row) × IsNewBadge (table number) (caller_at place) (badge_at row place)
+abbrev pub IsRow : (ℕ → TableId) → (ℕ → ShardPlan) → List Bool → ℕ → List (Badge Known) → Type 0
+IsRow table plan dealt number row = (place : ℕ) → is_dealt_at dealt place ≡ false →
+    (place < length row) × IsNewBadge (table number) (plan number) (caller_at place) (badge_at row place)
 
 pub record IsDealer (table : ℕ → TableId) (plan : ℕ → ShardPlan) (count : ℕ) (rooms : List ℕ)
     (dealt : List Bool) (rows : List (List (Badge Known))) : Type 0 where
   pub sized : length rows ≡ count
-  pub waiting : (number : ℕ) → number < count → IsRow table dealt number (row_at rows number)
+  pub waiting : (number : ℕ) → number < count → IsRow table plan dealt number (row_at rows number)
   pub roomed : length rooms ≡ count
   pub enough : (number : ℕ) → number < count → IsRoomOf plan number (room_at rooms number)
+
+-- ---- a caller's part, made of its seat
+
+-- the seat is a caller's that has done nothing, and there is room for as many cells as the caller can hold
+pub record IsNewSeat (badge : Badge Known) (held : HeldIds) : Type 0 where
+  pub plan : ShardPlan
+  pub who : Caller
+  pub fresh : badge.views ≡ pass_of plan who [] [] ∷ []
+  pub room : room_of who (most_held plan) ≤ held.room
+
+-- the part has what the seat knew
+abbrev pub view_of_known : TableId → Known → ShardPassView
+view_of_known table v = record { table = table; plan = v.plan; who = v.who; has_it = false; view = record { seen = v.seen; own = v.own } }
+
+abbrev pub IsPartOfSeat : Badge Known → ShardPassView → Type 0
+IsPartOfSeat badge part = (v : Known) → badge.views ≡ v ∷ [] → part ≡ view_of_known badge.table_id v
 
 -- ---- how they are made
 
@@ -113,6 +128,6 @@ pub record IsMadeOf (shards : List JournaledShard) (callers number : ℕ) (new :
   pub places_are : new.places ≡ callers
 
 -- the row has all seats of the shard that it was made of
-pub record IsRowOf (table : ℕ → TableId) (shards : List NewShardView) (number : ℕ) (row : List (Badge Known)) : Type 0 where
+pub record IsRowOf (table : ℕ → TableId) (plan : ℕ → ShardPlan) (shards : List NewShardView) (number : ℕ) (row : List (Badge Known)) : Type 0 where
   pub count : length row ≡ (new_at shards number).places
-  pub fresh : AreNewSeats (table number) row
+  pub fresh : AreNewSeats (table number) (plan number) row

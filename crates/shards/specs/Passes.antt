@@ -1,5 +1,5 @@
 -- A caller's pass: for each shard, by its number, what the caller has seen of the shard's history, and its own entries there.
-use Rattle.std.specs.Prelude.{◌≡◌, ◌≢◌, ◌<◌, ℕ, List, [], ◌∷◌, map, length, slice_index_or, Bool, true, false, Result, Ok, Err}
+use Rattle.std.specs.Prelude.{◌≡◌, ◌≢◌, ◌<◌, ℕ, List, [], map, length, slice_index_or, Bool, true, false, Result, Ok, Err}
 use Rattle.atomic_table.specs.Seated.{TableId}
 use Rattle.atomic_table.specs.declared.badge.Badge.{Badge}
 use Rattle.semantics.specs.declared.call.Caller.{Caller}
@@ -11,13 +11,11 @@ use Rattle.semantics.specs.CallerLaws.{own_entries}
 use Rattle.semantics.specs.Reclamation.{is_inside}
 use Rattle.semantics.specs.declared.call.Entry.{Entry}
 use Rattle.semantics.specs.declared.plan.ShardPlan.{ShardPlan}
-use Rattle.semantics.specs.History.{IsLegalHistory}
 use Rattle.journals.specs.JournalsView.{JournalsView, entries_at}
 use Rattle.shards.specs.declared.rule.Known.{Known}
 use Rattle.shards.specs.CallerView.{CallerView, nothing_seen, IsSettled}
-use Rattle.shards.specs.LengthRule.{nobody, no_table}
-use Rattle.shards.specs.Seats.{view_of}
-use Rattle.shards.specs.HeldCells.{HeldIds, held_at, AreHeldOf}
+use Rattle.shards.specs.LockRule.{no_plan, no_table}
+use Rattle.shards.specs.ShardPasses.{ShardPassView}
 
 pub record PassView : Type 0 where
   pub who : Caller
@@ -73,31 +71,7 @@ abbrev pub flag_after : {A : Type 0} → Result A JournalFull → SectionChange 
 flag_after (Ok answer) change before = after_section change before
 flag_after (Err full) change before = before
 
--- a worker's flag tells it; what the others' flags say is nobody's concern, since they are inside no shard
-abbrev pub IsFlagOf : Caller → List Entry → Bool → Type 0
-IsFlagOf (Worker number) own flag = flag ≡ is_inside number own
-IsFlagOf who own flag = Unit {0}
-
-abbrev pub flag_at : List Bool → ℕ → Bool
-flag_at flags number = slice_index_or flags number false
-
--- ---- how the fields stand for this
-
-abbrev pub known_in : List Known → Known
-known_in [] = nobody
-known_in (known ∷ others) = known
-
-abbrev pub view_of_badge : Badge Known → CallerView
-view_of_badge badge = view_of (known_in badge.views)
-
--- a seat of this caller, kept as a badge, whose seen history is legal
-pub record IsBadgeOf (table : TableId) (plan : ShardPlan) (who : Caller) (badge : Badge Known) : Type 0 where
-  pub table_is : badge.table_id ≡ table
-  pub known : Known
-  pub one : badge.views ≡ known ∷ []
-  pub acts : known.acts ≡ true
-  pub caller : known.who ≡ who
-  pub legal : IsLegalHistory plan known.seen
+-- ---- how the fields make this
 
 abbrev pub blank : Badge Known
 blank = record { marker = record {}; table_id = no_table; id = 0; views = [] }
@@ -105,18 +79,23 @@ blank = record { marker = record {}; table_id = no_table; id = 0; views = [] }
 abbrev pub badge_at : List (Badge Known) → ℕ → Badge Known
 badge_at badges number = slice_index_or badges number blank
 
-abbrev pub AreBadges : (ℕ → TableId) → (ℕ → ShardPlan) → Caller → List (Badge Known) → Type 0
-AreBadges table plan who badges = (number : ℕ) → number < length badges → IsBadgeOf (table number) (plan number) who (badge_at badges number)
+abbrev pub no_part : ShardPassView
+no_part = record { table = no_table; plan = no_plan; who = Reclaimer; has_it = false; view = nothing_seen }
 
-abbrev pub pass_view : Caller → List (Badge Known) → PassView
-pass_view who badges = record { who = who; views = map view_of_badge badges }
+abbrev pub part_at : List ShardPassView → ℕ → ShardPassView
+part_at parts number = slice_index_or parts number no_part
 
--- one seat for each shard, a flag, and a list of the cells that the caller holds
-pub record IsPass (table : ℕ → TableId) (plan : ℕ → ShardPlan) (count : ℕ) (who : Caller) (badges : List (Badge Known)) (flags : List Bool)
-    (held : List HeldIds) : Type 0 where
-  pub sized : length badges ≡ count
-  pub each : AreBadges table plan who badges
-  pub flagged : length flags ≡ count
-  pub flags_are : (number : ℕ) → number < count → IsFlagOf who (own_at (pass_view who badges) number) (flag_at flags number)
-  pub listed : length held ≡ count
-  pub held_are : (number : ℕ) → number < count → AreHeldOf who (plan number) (own_at (pass_view who badges) number) (held_at held number)
+abbrev pub pass_view : Caller → List ShardPassView → PassView
+pass_view who parts = record { who = who; views = map (λ (part : ShardPassView). part.view) parts }
+
+-- this caller's, for the shard of this word and plan, which it does not have
+pub record IsPartOf (table : TableId) (plan : ShardPlan) (who : Caller) (part : ShardPassView) : Type 0 where
+  pub table_is : part.table ≡ table
+  pub plan_is : part.plan ≡ plan
+  pub caller : part.who ≡ who
+  pub alone : part.has_it ≡ false
+
+-- one for each shard
+pub record IsPass (table : ℕ → TableId) (plan : ℕ → ShardPlan) (count : ℕ) (who : Caller) (parts : List ShardPassView) : Type 0 where
+  pub sized : length parts ≡ count
+  pub each : (number : ℕ) → number < count → IsPartOf (table number) (plan number) who (part_at parts number)

@@ -1,55 +1,68 @@
--- The seats of a length word: the lock's, alone and with a caller's, and a caller's.
-use Rattle.std.specs.Prelude.{◌≡◌, true, false, List, [], reverse}
-use Rattle.ebpf_decode.specs.declared.map.MapKind.TheVariants.{Array}
+-- The seats of a shard's word: alone, and with the shard.
+use Rattle.std.specs.Prelude.{◌≡◌, ◌<◌, ◌++◌, ℕ, true, false, Bool, List, [], ◌∷◌, reverse}
 use Rattle.atomic_table.specs.Seated.{TableId}
+use Rattle.atomic_table.specs.Table.{Me}
+use Rattle.atomic_table.specs.declared.owned.Table.{Table}
 use Rattle.atomic_table.specs.declared.shared.Seat.{Seat}
-use Rattle.semantics.specs.declared.call.Caller.{Caller}
 use Rattle.semantics.specs.declared.call.Entry.{Entry}
 use Rattle.semantics.specs.declared.plan.ShardPlan.{ShardPlan}
+use Rattle.semantics.specs.CallerLaws.{own_entries}
 use Rattle.shard_core.specs.JournaledShard.{JournaledShard}
 use Rattle.shards.specs.declared.rule.Known.{Known}
 use Rattle.shards.specs.CallerView.{CallerView}
+use Rattle.shards.specs.LockRule.{lock_place, visiting}
+pub use Rattle.shards.specs.LockRule.{no_plan}
 
--- what a caller's seat knows
-abbrev pub view_of : Known → CallerView
-view_of v = record { seen = v.seen; own = v.own }
+-- ---- the table of a word
 
--- the lock's seat alone: it knows this history
-pub record IsKeeper (table : TableId) (history : List Entry) (seat : Seat JournaledShard Known) : Type 0 where
+-- the table has the word and the one slot
+abbrev pub IsLock : {S V K P A : Type 0} → Table S V K P A → Type 0
+IsLock lock = (lock_place < lock.shared.table_id.words) × (lock.shared.table_id.slots ≡ 1)
+
+-- it is the table of this name, made for a shard of this plan
+abbrev pub IsLockOf : {S V P A : Type 0} → TableId → ShardPlan → Table S V ShardPlan P A → Type 0
+IsLockOf table plan lock = (lock.shared.table_id ≡ table) × (lock_place < table.words) × (table.slots ≡ 1) × (lock.shared.key ≡ plan)
+
+-- ---- a seat
+
+-- what a caller knows of the shard: the shard's whole journal while it has the shard
+abbrev pub view_of : Me JournaledShard Known → CallerView
+view_of (v, []) = record { seen = v.seen; own = v.own }
+view_of (v, (x ∷ xs)) = record { seen = reverse x.1.journal; own = own_entries v.who (reverse x.1.journal) }
+
+abbrev pub has_shard : Me JournaledShard Known → Bool
+has_shard (v, []) = false
+has_shard (v, (x ∷ xs)) = true
+
+-- entries of the seat's own caller
+abbrev pub AreBy : Known → List Entry → Type 0
+AreBy v [] = Unit {0}
+AreBy v (entry ∷ older) = (v.acts ≡ true) × (entry.who ≡ v.who) × AreBy v older
+
+-- it has the shard, to whose journal nobody else has added since the lock was taken
+pub record HasShard (v : Known) (x : ℕ × JournaledShard) (others : List (ℕ × JournaledShard)) : Type 0 where
+  pub holds : v.holds ≡ true
+  pub slot : x.0 ≡ 0
+  pub only : others ≡ []
+  pub planned : x.1.plan ≡ v.plan
+  pub later : List Entry
+  pub grown : reverse x.1.journal ≡ later ++ v.all
+  pub made : AreBy v later
+
+abbrev pub IsHolding : Known → List (ℕ × JournaledShard) → Type 0
+IsHolding v [] = v.holds ≡ false
+IsHolding v (x ∷ xs) = HasShard v x xs
+
+-- a seat of this table, alone or with the shard
+pub record IsSeatOf (table : TableId) (seat : Seat JournaledShard Known) : Type 0 where
   pub table_is : seat.table_id ≡ table
-  pub empty : seat.me.1 ≡ []
-  pub keeps : seat.me.0.keeps ≡ true
-  pub idle : seat.me.0.acts ≡ false
-  pub all : seat.me.0.all ≡ history
+  pub seated : seat.me.0.seated ≡ true
+  pub holding : IsHolding seat.me.0 seat.me.1
 
--- the lock's seat together with this caller's
-pub record IsBoth (table : TableId) (history : List Entry) (who : Caller) (seat : Seat JournaledShard Known) : Type 0 where
+-- a visitor that has this shard
+pub record IsVisitor (table : TableId) (plan : ShardPlan) (history : List Entry) (seat : Seat JournaledShard Known) : Type 0 where
   pub table_is : seat.table_id ≡ table
-  pub empty : seat.me.1 ≡ []
-  pub keeps : seat.me.0.keeps ≡ true
-  pub acts : seat.me.0.acts ≡ true
-  pub all : seat.me.0.all ≡ history
-  pub caller : seat.me.0.who ≡ who
-
--- this caller's seat
-pub record IsSeatOf (table : TableId) (who : Caller) (seat : Seat JournaledShard Known) : Type 0 where
-  pub table_is : seat.table_id ≡ table
-  pub empty : seat.me.1 ≡ []
-  pub acts : seat.me.0.acts ≡ true
-  pub caller : seat.me.0.who ≡ who
-
--- what stands under the lock of a shard: the shard as it was planned, and the seat that knows its history
-pub record IsDesk (table : TableId) (plan : ShardPlan) (shard : JournaledShard) (seat : Seat JournaledShard Known) : Type 0 where
+  pub shard : JournaledShard
   pub planned : shard.plan ≡ plan
-  pub keeper : IsKeeper table (reverse shard.journal) seat
-
--- the plan of no shard
-abbrev pub no_plan : ShardPlan
-no_plan = record {
-  number = 0;
-  part = 0;
-  parts = 1;
-  definition = record { kind = Array; key_size = 4; value_size = 8; max_entries = 1 };
-  workers = 1;
-  reserve = 16;
-}
+  pub written : reverse shard.journal ≡ history
+  pub has : seat.me ≡ (visiting plan history, (0, shard) ∷ [])

@@ -9,30 +9,26 @@ use Rattle.semantics.specs.declared.plan.ShardPlan.{ShardPlan}
 use Rattle.semantics.specs.ShardPlan.{plan_at, AreOptions}
 use Rattle.journals.specs.JournalsView.{AreImageMaps}
 use Rattle.semantics.specs.Each.{Each}
+use Rattle.shards.specs.Seats.{IsLockOf}
 
 -- what they were opened for
 pub record SharedMaps : Type 0 where
   pub maps : List MapDef
   pub options : Options
 
--- the word of this name
-abbrev pub IsWordOf : {S V K P A : Type 0} → TableId → Table S V K P A → Type 0
-IsWordOf table word = (word.shared.table_id ≡ table) × (0 < word.shared.table_id.words)
-
 -- each word is that of its number
-abbrev pub AreWords : {S V K P A : Type 0} → (ℕ → TableId) → List (Table S V K P A) → Type 0
-AreWords {S} {V} {K} {P} {A} table words = Each (λ (number : ℕ) (word : Table S V K P A). IsWordOf (table number) word) 0 words
+abbrev pub AreLocks : {S V P A : Type 0} → (ℕ → TableId) → (ℕ → ShardPlan) → List (Table S V ShardPlan P A) → Type 0
+AreLocks {S} {V} {P} {A} table plan locks = Each (λ (number : ℕ) (lock : Table S V ShardPlan P A). IsLockOf (table number) (plan number) lock) 0 locks
 
 -- so many shards, each as its plan has it
 pub record ArePlans (maps : List MapDef) (options : Options) (count : ℕ) (plan : ℕ → ShardPlan) : Type 0 where
   pub count_is : count ≡ length maps * options.shards
   pub each : (number : ℕ) → number < count → plan_at maps options number ≡ Some (plan number)
 
-pub record AreShared {S V K P A : Type 0} (table : ℕ → TableId) (plan : ℕ → ShardPlan) (count desks : ℕ) (words : List (Table S V K P A))
+pub record AreShared {S V P A : Type 0} (table : ℕ → TableId) (plan : ℕ → ShardPlan) (count : ℕ) (locks : List (Table S V ShardPlan P A))
     (maps : List MapDef) (options : Options) (journals : List (List Entry)) (room : ℕ) : Type 0 where
-  pub words_are : AreWords table words
-  pub some_words : length words ≡ count
-  pub some_desks : desks ≡ count
+  pub locks_are : AreLocks table plan locks
+  pub sized : length locks ≡ count
   pub plans : ArePlans maps options count plan
   pub options_fit : AreOptions maps options
   pub maps_are : AreImageMaps maps

@@ -5,11 +5,14 @@ ghost use Rattle.semantics.specs.History.{IsLegalJournal};
 ghost use Rattle.journals.specs.JournalsView.{entries_at};
 ghost use Rattle.shards.specs.CallerView.{IsSettled};
 ghost use Rattle.shards.specs.Passes.{pass_at, view_at, AreSettled};
+ghost use Rattle.shards.specs.Seats.{IsLockOf};
 
+use crate::lock::visit;
 use crate::naming::Naming;
 use crate::pass::Pass;
-use crate::rule::Length;
-use crate::sharing::{Desk, Shards};
+use crate::rule::Lock;
+use crate::sharing::Shards;
+use crate::showing::close;
 use journals::{Journals, ShardJournal};
 use std::sync::Wait;
 
@@ -24,18 +27,15 @@ impl<B: Naming> Shards<B> {
         ensures settled { (place : ℕ) → place < length passes.items → AreSettled B.count result (pass_at passes.items place) }
     {
         let Shards {
-            mut desks,
-            words,
+            mut locks,
             maps,
             options,
             mut journals,
             ..
         } = self;
-        let count = desks.len();
+        let count = locks.len();
         'shards: for number in 0..count {
-            let desk = desks.remove(0).into_inner();
-            desk.wait_unless(rt, number as u32);
-            let journal = settled(desk, &words[number], number as u32, &mut passes);
+            let journal = settled(rt, locks.remove(0), number as u32, &mut passes);
             journals.push_reserved(journal);
         }
         Journals::of(maps, options, journals)
@@ -44,13 +44,13 @@ impl<B: Naming> Shards<B> {
 
 /// The journal of a shard that nobody calls any more, compared with the passes.
 fn settled<B: Naming>(
-    mut desk: Desk<B>,
-    word: &Length,
+    rt: &impl Wait,
+    lock: Lock,
     number: u32,
     passes: &mut Vec<Pass<B>>,
 ) -> ShardJournal
-    requires number { (desk.plan.number ≡ number) × (number < B.count) }
-    requires word { (word.now.shared.table_id ≡ B.table number) × (0 < word.now.shared.table_id.words) }
+    requires number { number < B.count }
+    requires lock { IsLockOf (B.table number) (B.plan number) lock }
     ensures legal { IsLegalJournal (B.plan number) result }
     ensures settled { (place : ℕ) → place < length passes.old.items →
         IsSettled (pass_at passes.old.items place).who (view_at (pass_at passes.old.items place) number) result }
@@ -59,8 +59,9 @@ fn settled<B: Naming>(
     ensures others { (place other : ℕ) → other ≢ number →
         view_at (pass_at passes.new.items place) other ≡ view_at (pass_at passes.old.items place) other }
 {
+    let mut guest = visit(rt, &lock);
     'passes: for place in 0..passes.len() {
-        passes[place].settle(&mut desk, word, number);
+        passes[place].see(&lock, number, &mut guest);
     }
-    desk.close()
+    ShardJournal::written(close(lock, guest).into_journal())
 }

@@ -2,18 +2,18 @@
 
 ghost use Rattle.std.specs.Prelude.{◌≡◌, ◌≢◌, ◌≤◌, ◌<◌, ◌↔◌, ℕ, true, List, [], length, vec_capacity, IfOk, IsErrOf, OnOk, OnErr, slice_set};
 ghost use Rattle.shards.specs.CallerView.{nothing_seen};
-ghost use Rattle.shards.specs.LengthRule.{place_of};
-ghost use Rattle.shards.specs.NewShards.{row_at, is_dealt_at};
-ghost use Rattle.shards.specs.Passes.{badge_at, view_at};
+ghost use Rattle.shards.specs.HeldCells.{held_at, most_held, room_of};
+ghost use Rattle.shards.specs.LockRule.{place_of};
+ghost use Rattle.shards.specs.NewShards.{row_at, is_dealt_at, IsNewSeat, IsPartOfSeat};
+ghost use Rattle.shards.specs.Passes.{badge_at, part_at, view_at};
 ghost use Rattle.shards.specs.declared.pass_fault.PassFault.TheVariants.{BadOptions, PassTaken};
 
-use crate::held::none_held;
+use crate::held::{HeldCells, none_held};
 use crate::naming::Naming;
 use crate::pass::Pass;
 use crate::pass_fault::PassFault;
-use crate::rule::Known;
+use crate::shard_pass::ShardPass;
 use crate::waiting::Waiting;
-use atomic_table::Badge;
 use semantics::Caller;
 use std::alloc::Global;
 use std::marker::{Model, PhantomData};
@@ -59,16 +59,13 @@ impl<B: Naming> Dealer<B> {
         if self.dealt[place] {
             return Err(PassFault::PassTaken);
         }
-        let inside = vec![in alloc; false; self.rows.len()]?;
         let held = none_held(alloc, who, &self.rooms)?;
-        let seats = Vec::with_capacity(alloc, self.rows.len())?;
+        let parts = Vec::with_capacity(alloc, self.rows.len())?;
         self.dealt[place] = true;
-        let seats = column(&mut self.rows, place, seats);
+        let parts = column(&mut self.rows, place, held, parts);
         Ok(Pass {
             who,
-            seats,
-            inside,
-            held,
+            parts,
             names: PhantomData,
         })
     }
@@ -85,18 +82,28 @@ fn place_of(who: Caller) -> usize
     }
 }
 
-/// Takes the seats of one caller out of all rows.
-fn column(rows: &mut Vec<Waiting>, place: usize, mut seats: Vec<Badge<Known>>) -> Vec<Badge<Known>>
-    requires empty { seats.items ≡ [] }
-    requires room { length rows.old.items ≤ vec_capacity seats }
-    requires within { (number : ℕ) → number < length rows.old.items → place < length (row_at rows.old.items number) }
+/// Takes the seats of one caller out of all rows, for its parts of the shards.
+fn column(
+    rows: &mut Vec<Waiting>,
+    place: usize,
+    mut held: Vec<HeldCells>,
+    mut parts: Vec<ShardPass>,
+) -> Vec<ShardPass>
+    requires empty { parts.items ≡ [] }
+    requires room { length rows.old.items ≤ vec_capacity parts }
+    requires held { length held.items ≡ length rows.old.items }
+    requires none { (number : ℕ) → number < length rows.old.items → (held_at held.items number).ids ≡ [] }
+    requires waiting { (number : ℕ) → number < length rows.old.items → place < length (row_at rows.old.items number) }
+    requires new { (number : ℕ) → number < length rows.old.items → IsNewSeat (badge_at (row_at rows.old.items number) place) (held_at held.items number) }
     ensures count { (length result.items ≡ length rows.old.items) × (length rows.new.items ≡ length rows.old.items) }
-    ensures taken { (number : ℕ) → number < length rows.old.items → badge_at result.items number ≡ badge_at (row_at rows.old.items number) place }
+    ensures parts { (number : ℕ) → number < length rows.old.items →
+        IsPartOfSeat (badge_at (row_at rows.old.items number) place) (part_at result.items number) }
     ensures others { (number other : ℕ) → other ≢ place → badge_at (row_at rows.new.items number) other ≡ badge_at (row_at rows.old.items number) other }
     ensures lengths { (number : ℕ) → length (row_at rows.new.items number) ≡ length (row_at rows.old.items number) }
 {
     'rows: for number in 0..rows.len() {
-        seats.push_reserved(rows[number].take(place));
+        let seat = rows[number].take(place).into_seat();
+        parts.push_reserved(ShardPass::new(seat, held.remove(0)));
     }
-    seats
+    parts
 }

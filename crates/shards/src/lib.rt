@@ -8,6 +8,7 @@ mod closing;
 mod dealer;
 mod held;
 pub mod laws;
+mod lock;
 mod naming;
 mod new_shard;
 mod opening;
@@ -16,7 +17,9 @@ mod pass_fault;
 mod plain_opening;
 pub mod plain_shards;
 mod rule;
+mod shard_pass;
 mod sharing;
+mod showing;
 mod stopped;
 mod waiting;
 

@@ -1,4 +1,4 @@
-//! Names for the length words of all shards, and the plans of the shards: what the types of shards, passes and ports agree on.
+//! Names for the words of all shards, and the plans of the shards: what the types of shards, passes and ports agree on.
 
 use std::marker::Brand;
 
@@ -17,8 +17,7 @@ pub trait Naming {
 }
 
 impl Naming for Brand {
-    ghost use Rattle.shards.specs.LengthRule.{no_table};
-    ghost use Rattle.shards.specs.Seats.{no_plan};
+    ghost use Rattle.shards.specs.LockRule.{no_table, no_plan};
 
     ghost count = { 0 };
 

@@ -1,27 +1,30 @@
-//! A shard that was opened, with its length word and the seats that wait for its callers.
+//! A shard that was opened, with its word and the seats that wait for its callers.
 
-ghost use Rattle.std.specs.Prelude.{◌≡◌, ◌<◌, ◌+◌, [], IfOk, length};
+ghost use Rattle.std.specs.Prelude.{◌≡◌, ◌<◌, ◌≤◌, [], IfOk, length};
 ghost use Rattle.shard_core.specs.JournaledShard.{opened_shard};
-ghost use Rattle.shards.specs.LengthRule.{keeper_of};
+ghost use Rattle.shards.specs.HeldCells.{most_held};
+ghost use Rattle.shards.specs.LockRule.{dealer_of};
 ghost use Rattle.shards.specs.NewShards.{AreNewSeats};
+ghost use Rattle.shards.specs.Seats.{IsLock};
 
-use crate::rule::{Deals, Known, Length, LengthSeat};
+use crate::held::most_held;
+use crate::rule::{Deals, Known, Lock, LockSeat};
 use atomic_table::Badge;
 use shard_core::Shard;
 use std::alloc::{AllocError, Global};
 use std::marker::Model;
 
-/// Two cache lines: what stands so far from another word is on none of its lines.
-pub(crate) const LINE: [u64; 16] = [0; 16];
+/// The words of a table: the one that is used, with two cache lines of nothing before it and behind it, so that nothing else is on its lines.
+const LINES: [u64; 32] = [0; 32];
 
 /// A shard in which nothing has happened. Contracts see its plan, the name of its word, and how many seats wait.
 #[derive(Drop)]
 pub struct NewShard {
-    pub(crate) shard: Shard,
-    pub(crate) word: Length,
-    pub(crate) keeper: LengthSeat,
+    pub(crate) lock: Lock,
     /// The controller's, the reclaimer's, then the workers'.
     pub(crate) seats: Vec<Badge<Known>>,
+    /// How many cells a worker can hold in the shard.
+    pub(crate) room: usize,
 }
 
 impl Model for NewShard {
@@ -30,9 +33,9 @@ impl Model for NewShard {
 
     ghost Value = { NewShardView };
 
-    ghost view = { λ new. record { plan = new.shard.plan; table = new.word.shared.table_id; places = length new.seats.items } };
+    ghost view = { λ new. record { plan = new.lock.shared.key; table = new.lock.shared.table_id; places = length new.seats.items } };
 
-    ghost invariant = { λ new. IsNew new.shard new.word.shared.table_id new.keeper new.seats.items };
+    ghost invariant = { λ new. IsNew new.lock.shared.key new.lock.shared.table_id new.seats.items new.room };
 }
 
 impl NewShard {
@@ -42,41 +45,44 @@ impl NewShard {
         ensures plan { IfOk result (λ new. new.plan ≡ shard.plan) }
         ensures places { IfOk result (λ new. new.places ≡ callers) }
     {
-        let (word, mut keeper) = new_word(alloc)?;
-        let seats = new_seats(alloc, &word, &mut keeper, callers)?;
-        Ok(NewShard {
-            shard,
-            word,
-            keeper,
-            seats,
-        })
+        let room = most_held(shard.plan());
+        let (lock, mut dealer) = new_lock(alloc, shard)?;
+        let seats = new_seats(alloc, &lock, &mut dealer, callers)?;
+        Ok(NewShard { lock, seats, room })
     }
 }
 
-/// A word that says 0.
-fn new_word(alloc: Global) -> Result<(Length, LengthSeat), AllocError>
-    ensures word { IfOk result (λ new. 0 < new.0.shared.table_id.words) }
-    ensures seat { IfOk result (λ new. (new.1.table_id ≡ new.0.shared.table_id) × (new.1.me ≡ (keeper_of [] 0, []))) }
+/// A word that says 0, with the shard in its slot, and the seat that deals the callers' seats.
+fn new_lock(alloc: Global, shard: Shard) -> Result<(Lock, LockSeat), AllocError>
+    requires { shard ≡ opened_shard shard.plan }
+    ensures lock { IfOk result (λ new. IsLock new.0) }
+    ensures plan { IfOk result (λ new. new.0.shared.key ≡ shard.plan) }
+    ensures seat { IfOk result (λ new. (new.1.table_id ≡ new.0.shared.table_id) × (new.1.me ≡ (dealer_of shard.plan 0, []))) }
 {
-    Length::of_words(alloc, &LINE, &())
+    let plan = *shard.plan();
+    let mut slots = Vec::with_capacity(alloc, 1)?;
+    slots.push_reserved(shard);
+    match Lock::new(alloc, &LINES, slots, &plan) {
+        Ok(new) => Ok(new),
+        Err(_) => Err(AllocError),
+    }
 }
 
 /// A seat for each of so many callers, in the order of their places.
 fn new_seats(
     alloc: Global,
-    word: &Length,
-    keeper: &mut LengthSeat,
+    lock: &Lock,
+    dealer: &mut LockSeat,
     callers: usize,
 ) -> Result<Vec<Badge<Known>>, AllocError>
-    requires word { 0 < word.now.shared.table_id.words }
-    requires keeper { (keeper.old.table_id ≡ word.now.shared.table_id) × (keeper.old.me ≡ (keeper_of [] 0, [])) }
+    requires lock { IsLock lock.now }
+    requires dealer { (dealer.old.table_id ≡ lock.now.shared.table_id) × (dealer.old.me ≡ (dealer_of lock.now.shared.key 0, [])) }
     ensures count { IfOk result (λ seats. length seats.items ≡ callers) }
-    ensures seats { IfOk result (λ seats. AreNewSeats word.now.shared.table_id seats.items) }
-    ensures keeper { IfOk result (λ seats. (keeper.new.table_id ≡ word.now.shared.table_id) × (keeper.new.me ≡ (keeper_of [] callers, []))) }
+    ensures seats { IfOk result (λ seats. AreNewSeats lock.now.shared.table_id lock.now.shared.key seats.items) }
 {
     let mut seats = Vec::with_capacity(alloc, callers)?;
     'callers: for _ in 0..callers {
-        let seat = word.shared.split_seat::<Deals>(keeper);
+        let seat = lock.shared.split_seat::<Deals>(dealer);
         seats.push_reserved(seat.into_badge());
     }
     Ok(seats)

@@ -8,15 +8,14 @@ ghost use Rattle.map_rules.specs.declared.open_fault.OpenFault.TheVariants.{BadO
 ghost use Rattle.semantics.specs.Each.{Each};
 ghost use Rattle.shards.specs.NewShards.{AreUnused, IsMadeOf, IsNamed, IsNamedAt, IsRowOf};
 ghost use Rattle.shards.specs.HeldCells.{IsRoomOf};
-ghost use Rattle.shards.specs.SharedMaps.{AreWords};
+ghost use Rattle.shards.specs.SharedMaps.{AreLocks};
 
 use crate::dealer::Dealer;
-use crate::held::most_held;
 use crate::naming::Naming;
 use crate::new_shard::NewShard;
 use crate::plain_shards::{PlainShards, copied};
-use crate::rule::Length;
-use crate::sharing::{Desk, Shards};
+use crate::rule::Lock;
+use crate::sharing::Shards;
 use crate::waiting::Waiting;
 use ebpf_decode::{Image, MapDef};
 use map_rules::OpenFault;
@@ -24,10 +23,9 @@ use semantics::Options;
 use shard_core::Shard;
 use std::alloc::{AllocError, Global};
 use std::marker::{Model, PhantomData};
-use std::sync::Mutex;
 
 /// The shards of an image's maps, in which nothing has happened. Contracts see the maps, the options, and of each shard its plan and the
-/// name of its length word.
+/// name of its word.
 #[derive(Drop)]
 pub struct Opened {
     pub(crate) shards: Vec<NewShard>,
@@ -78,10 +76,9 @@ impl Opened {
         } = self;
         let dealt = vec![in alloc; false; options.workers as usize + 2]?;
         let journals = Vec::with_capacity(alloc, shards.len())?;
-        let (desks, words, rows, rooms) = parted::<B>(alloc, shards)?;
+        let (locks, rows, rooms) = parted::<B>(alloc, shards)?;
         let shards = Shards {
-            desks,
-            words,
+            locks,
             maps,
             options,
             journals,
@@ -123,34 +120,25 @@ fn new_shards(
     Ok(all)
 }
 
-/// Each shard under a lock, beside the lists of the words, of the seats that wait, and of how many cells a worker can hold there.
+/// The words with their shards, the lists of the seats that wait, and how many cells a worker can hold in each shard.
 fn parted<B: Naming>(
     alloc: Global,
     mut shards: Vec<NewShard>,
-) -> Result<(Vec<Mutex<Desk<B>>>, Vec<Length>, Vec<Waiting>, Vec<usize>), AllocError>
+) -> Result<(Vec<Lock>, Vec<Waiting>, Vec<usize>), AllocError>
     requires { Each (IsNamedAt B.table B.plan) 0 shards.items }
-    ensures desks { IfOk result (λ all. length all.0.items ≡ length shards.items) }
-    ensures words { IfOk result (λ all. (length all.1.items ≡ length shards.items) × AreWords B.table all.1.items) }
-    ensures rows { IfOk result (λ all. (length all.2.items ≡ length shards.items) × Each (IsRowOf B.table shards.items) 0 all.2.items) }
-    ensures rooms { IfOk result (λ all. (length all.3.items ≡ length shards.items) × Each (IsRoomOf B.plan) 0 all.3.items) }
+    ensures locks { IfOk result (λ all. (length all.0.items ≡ length shards.items) × AreLocks B.table B.plan all.0.items) }
+    ensures rows { IfOk result (λ all. (length all.1.items ≡ length shards.items) × Each (IsRowOf B.table B.plan shards.items) 0 all.1.items) }
+    ensures rooms { IfOk result (λ all. (length all.2.items ≡ length shards.items) × Each (IsRoomOf B.plan) 0 all.2.items) }
 {
     let count = shards.len();
-    let mut desks = Vec::with_capacity(alloc, count)?;
-    let mut words = Vec::with_capacity(alloc, count)?;
+    let mut locks = Vec::with_capacity(alloc, count)?;
     let mut rows = Vec::with_capacity(alloc, count)?;
     let mut rooms = Vec::with_capacity(alloc, count)?;
     'shards: for _number in 0..count {
-        let NewShard {
-            shard,
-            word,
-            keeper,
-            seats,
-        } = shards.remove(0);
-        let room = most_held(shard.plan());
-        desks.push_reserved(Mutex::new(Desk::new(shard, keeper)));
-        words.push_reserved(word);
+        let NewShard { lock, seats, room } = shards.remove(0);
+        locks.push_reserved(lock);
         rows.push_reserved(Waiting::new(seats));
         rooms.push_reserved(room);
     }
-    Ok((desks, words, rows, rooms))
+    Ok((locks, rows, rooms))
 }

@@ -1,51 +1,103 @@
-//! The word that says how long a shard's journal is, under the rule that ties it to what the lock and the passes know.
+//! The word that is the length of a shard's journal and the shard's lock, and the rule that ties it to what the seats know.
 
 use atomic_table::{Join, Play, Seat, Split, Table, TableRule};
-use semantics::{Caller, Entry};
+use semantics::{Caller, Entry, ShardPlan};
 use shard_core::Shard;
 use std::alloc::Global;
 use std::collections::LinkedList;
 
-/// What a seat knows. The lock's seat knows the whole history and how many seats were dealt; a caller's knows who the caller is, its
-/// own entries and a beginning of the history. No value of it is made: it is what contracts see of a seat.
+/// What a seat knows. No value of it is made: it is what contracts see of a seat.
 pub struct Known {
-    pub keeps: bool,
-    pub all: LinkedList<Entry>,
+    /// The shard's plan.
+    pub plan: ShardPlan,
+    /// Whether it is a seat: one that another took in is none any more.
+    pub seated: bool,
+    /// Whether it deals the callers' seats, and how many it dealt.
+    pub deals: bool,
     pub dealt: u64,
+    /// Whether it is a caller's, and then the caller, all entries that the caller made, and a beginning of the history that it has seen.
     pub acts: bool,
     pub who: Caller,
     pub own: LinkedList<Entry>,
     pub seen: LinkedList<Entry>,
+    /// Whether it has the shard, or closed it, and then the whole history as it was when it took it.
+    pub holds: bool,
+    pub ended: bool,
+    pub all: LinkedList<Entry>,
 }
 
-/// The word is the history's length.
-pub struct LengthRule;
+/// The word is four times the history's length, and the phase of the lock.
+pub struct LockRule;
 
-impl TableRule<Shard, Known, ()> for LengthRule {
-    ghost use Rattle.std.specs.Prelude.{[]};
-    ghost use Rattle.shards.specs.LengthRule.{IsKept, keeper_of};
+impl TableRule<Shard, Known, ShardPlan> for LockRule {
+    ghost use Rattle.shards.specs.LockRule.{IsKept, dealer_of};
 
-    ghost holds = { λ k s. IsKept s };
+    ghost holds = { λ plan s. IsKept plan s };
 
-    ghost first = { λ k. keeper_of [] 0 };
+    ghost first = { λ plan. dealer_of plan 0 };
 }
 
 /// A seat for one more caller.
 pub struct Deals;
 
 impl Split<Known> for Deals {
-    ghost use Rattle.shards.specs.LengthRule.{one_more, newcomer};
+    ghost use Rattle.shards.specs.LockRule.{one_more, newcomer};
 
     ghost left = { one_more };
 
     ghost right = { newcomer };
 }
 
-/// The lock's seat and a caller's, together and apart again.
+/// A step that makes a visitor's seat.
+pub struct Comes;
+
+impl Play<Shard, Known> for Comes {
+    ghost use Rattle.shards.specs.LockRule.{Comes};
+
+    ghost then = { Comes };
+}
+
+/// A step that takes the lock and the shard, where the word is as expected.
+pub struct Takes;
+
+impl Play<Shard, Known> for Takes {
+    ghost use Rattle.shards.specs.LockRule.{Takes};
+
+    ghost then = { Takes };
+}
+
+/// A step that notes that others may sleep.
+pub struct Marks;
+
+impl Play<Shard, Known> for Marks {
+    ghost use Rattle.shards.specs.LockRule.{Marks};
+
+    ghost then = { Marks };
+}
+
+/// A step that gives the shard back, with the entries that were made.
+pub struct Gives;
+
+impl Play<Shard, Known> for Gives {
+    ghost use Rattle.shards.specs.LockRule.{Gives};
+
+    ghost then = { Gives };
+}
+
+/// A step that puts the shard back for good.
+pub struct Ends;
+
+impl Play<Shard, Known> for Ends {
+    ghost use Rattle.shards.specs.LockRule.{Ends};
+
+    ghost then = { Ends };
+}
+
+/// A visitor's seat and a caller's, together and apart again.
 pub struct Both;
 
 impl Join<Known> for Both {
-    ghost use Rattle.shards.specs.LengthRule.{joined, nobody};
+    ghost use Rattle.shards.specs.LockRule.{joined, nobody};
 
     ghost both = { joined };
 
@@ -53,33 +105,24 @@ impl Join<Known> for Both {
 }
 
 impl Split<Known> for Both {
-    ghost use Rattle.shards.specs.LengthRule.{keeper_part, pass_part};
+    ghost use Rattle.shards.specs.LockRule.{visitor_part, pass_part};
 
-    ghost left = { keeper_part };
+    ghost left = { visitor_part };
 
     ghost right = { pass_part };
 }
 
-/// A step that adds the newest entry of the shard that it is told.
-pub struct Adds;
-
-impl Play<Shard, Known> for Adds {
-    ghost use Rattle.shards.specs.LengthRule.{Adds};
-
-    ghost then = { Adds };
-}
-
-/// A step that looks.
+/// A step that looks, while both are together.
 pub struct Sees;
 
 impl Play<Shard, Known> for Sees {
-    ghost use Rattle.shards.specs.LengthRule.{Sees};
+    ghost use Rattle.shards.specs.LockRule.{Sees};
 
     ghost then = { Sees };
 }
 
-/// The word of one shard.
-pub type Length = Table<Shard, Known, (), LengthRule, Global>;
+/// The word of a shard, with the shard in its slot.
+pub type Lock = Table<Shard, Known, ShardPlan, LockRule, Global>;
 
-/// The lock's seat or a caller's.
-pub type LengthSeat = Seat<Shard, Known>;
+/// A seat at a shard's word.
+pub type LockSeat = Seat<Shard, Known>;

@@ -3,10 +3,10 @@
 ghost use Rattle.std.specs.Prelude.{◌≡◌, ◌≢◌, ◌<◌, ℕ, length};
 ghost use Rattle.shards.specs.Passes.{badge_at};
 
-use crate::pass::taken;
 use crate::rule::Known;
 use atomic_table::Badge;
 use std::marker::Model;
+use std::mem;
 
 /// The controller's seat, the reclaimer's, then the workers'. Contracts see the list of them.
 #[derive(Drop)]
@@ -38,6 +38,6 @@ impl Waiting {
         ensures others { (other : ℕ) → other ≢ place → badge_at self.new other ≡ badge_at self.old other }
         ensures count { length self.new ≡ length self.old }
     {
-        taken(&mut self.seats, place)
+        mem::replace(&mut self.seats[place], Badge::blank())
     }
 }

@@ -1,16 +1,20 @@
-use Rattle.std.proofs.Common.{◌≡◌, ◌≢◌, ◌≤◌, ◌<◌, ℕ, length}
+use Rattle.std.proofs.Common.{◌≡◌, ◌≢◌, ◌≤◌, ◌<◌, ◌+◌, ℕ, length}
 use Rattle.std.specs.Prelude.{vec_capacity}
-use Rattle.shards.specs.NewShards.{row_at}
-use Rattle.shards.specs.Passes.{badge_at}
+use Rattle.semantics.specs.Each.{Each}
+use Rattle.shards.specs.HeldCells.{HeldIds, held_at}
+use Rattle.shards.specs.NewShards.{row_at, IsPartOfSeat}
+use Rattle.shards.specs.Passes.{badge_at, part_at}
 use Rattle.shards.proofs.dealer.column.Given as goal
 
 pub record Taken (l : goal.Live-rows) : Type 0 where
-  pub counted : length l.seats.items ≡ l.number
+  pub counted : length l.parts.items ≡ l.number
   pub end_is : l.number-end ≡ length l.fn.rows.items
   pub same_count : length l.rows.items ≡ length l.fn.rows.items
-  pub room : length l.fn.rows.items ≤ vec_capacity l.seats
+  pub room : length l.fn.rows.items ≤ vec_capacity l.parts
+  pub together : l.number + length l.held.items ≡ length l.fn.rows.items
+  pub waiting : Each (λ (k : ℕ) (held : HeldIds). held ≡ held_at l.fn.held.items k) l.number l.held.items
   pub left : (k : ℕ) → l.number ≤ k → row_at l.rows.items k ≡ row_at l.fn.rows.items k
-  pub taken : (k : ℕ) → k < l.number → badge_at l.seats.items k ≡ badge_at (row_at l.fn.rows.items k) l.place
+  pub made : (k : ℕ) → k < l.number → IsPartOfSeat (badge_at (row_at l.fn.rows.items k) l.place) (part_at l.parts.items k)
   pub others : (k other : ℕ) → other ≢ l.place → badge_at (row_at l.rows.items k) other ≡ badge_at (row_at l.fn.rows.items k) other
   pub lengths : (k : ℕ) → length (row_at l.rows.items k) ≡ length (row_at l.fn.rows.items k)
 

@@ -10,6 +10,6 @@ parted-requires g c =
 
 pub invariant_of-dealer : goal.invariant_of-dealer
 invariant_of-dealer g c =
-    all_wait g.B.Naming.table g.B.Naming.plan g.B.Naming.count c.in_ok-desks.rooms.items c.self.inside.maps.items c.self.inside.options c.self.inside.shards.items c.in_ok-desks.rows.items c.in_ok-dealt.dealt.items
+    all_wait g.B.Naming.table g.B.Naming.plan g.B.Naming.count c.in_ok-locks.rooms.items c.self.inside.maps.items c.self.inside.options c.self.inside.shards.items c.in_ok-locks.rows.items c.in_ok-dealt.dealt.items
     c.self.invariant (subst (λ (o : OpenedShards). IsNamed g.B.Naming.count g.B.Naming.table g.B.Naming.plan o) (sym c.self.view_is) c.requires.named)
-    c.in_ok-desks.ensures.rooms.0 c.in_ok-desks.ensures.rooms.1 c.in_ok-desks.ensures.rows.0 c.in_ok-desks.ensures.rows.1 (search rules)
+    c.in_ok-locks.ensures.rooms.0 c.in_ok-locks.ensures.rooms.1 c.in_ok-locks.ensures.rows.0 c.in_ok-locks.ensures.rows.1 (search rules)

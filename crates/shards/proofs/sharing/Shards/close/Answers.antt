@@ -5,18 +5,17 @@ use Rattle.semantics.specs.History.{IsLegalJournal}
 use Rattle.journals.specs.JournalsView.{JournalsView, entries_at}
 use Rattle.shards.specs.CallerView.{IsSettled}
 use Rattle.shards.specs.Passes.{pass_at, view_at}
-use Rattle.shards.specs.SharedMaps.{IsWordOf}
-use Rattle.semantics.proofs.shared.EachLemmas.{each_at}
+use Rattle.semantics.specs.Each.{Each}
+use Rattle.shards.specs.Seats.{IsLockOf}
+use Rattle.semantics.proofs.shared.EachLemmas.{each_first, each_rest}
 use Rattle.shards.proofs.Settling.{legal_more, settled_more, untouched_less}
 use Rattle.shards.proofs.sharing.Shards.close.Goals as goal
 
-pub settled-journal-requires-clause-word : goal.settled-journal-requires-clause-word
-settled-journal-requires-clause-word g c =
+pub settled-journal-requires-clause-lock : goal.settled-journal-requires-clause-lock
+settled-journal-requires-clause-lock g c =
     let i = c.shards.invariant in
-    let number = c.shards.number in
-    let within : number < length c.self.inside.words.items =
-    (let t = i.together in let e = c.shards-test.true in let w = i.words in omega (arith, t, e, w)) in
-    each_at (λ n w. IsWordOf (g.B.Naming.table n) w) c.self.inside.words.items number c.index.result.now i.words_are within c.index.ensures
+    let some_left : 0 < length c.shards.locks.items = (let t = i.together in let e = c.shards-test.true in omega (arith, t, e)) in
+    each_first (λ n lock. IsLockOf (g.B.Naming.table n) (g.B.Naming.plan n) lock) c.shards.number c.shards.locks.items c.remove.result i.left some_left c.remove.ensures.value
 
 pub shards-preserved : goal.shards-preserved
 shards-preserved g c =
@@ -31,10 +30,10 @@ shards-preserved g c =
     let items = c.push_reserved.ensures.items in
     record {
       count_is = i.count_is;
-      together = (let t = i.together in let shorter = c.remove.ensures.len in let a = c.shards.desks.ok.0 in let b = c.remove.new.self.ok.0 in let e = c.shards-test.true in omega (arith, t, shorter, a, b, e));
+      together = (let t = i.together in let shorter = c.remove.ensures.len in let a = c.shards.locks.ok.0 in let b = c.remove.new.self.ok.0 in let e = c.shards-test.true in omega (arith, t, shorter, a, b, e));
       small = i.small;
-      words = i.words;
-      words_are = i.words_are;
+      left = subst (λ xs. Each (λ n lock. IsLockOf (g.B.Naming.table n) (g.B.Naming.plan n) lock) (number + 1) xs) (sym c.remove.ensures.items)
+          (each_rest (λ n lock. IsLockOf (g.B.Naming.table n) (g.B.Naming.plan n) lock) number c.shards.locks.items i.left);
       maps = i.maps;
       options = i.options;
       maps_are = i.maps_are;

@@ -1,19 +1,19 @@
 use Rattle.std.proofs.Common.{◌≡◌, ◌≤◌, ◌<◌, ◌+◌, ◌*◌, ℕ, [], length}
 use Rattle.std.specs.Prelude.{vec_capacity, slice_index_or}
+use Rattle.semantics.specs.Each.{Each}
 use Rattle.semantics.specs.ShardPlan.{AreOptions}
 use Rattle.semantics.specs.History.{IsLegalJournal}
 use Rattle.journals.specs.JournalsView.{AreImageMaps}
 use Rattle.shards.specs.CallerView.{IsSettled}
 use Rattle.shards.specs.Passes.{pass_at, view_at}
-use Rattle.shards.specs.SharedMaps.{AreWords}
+use Rattle.shards.specs.Seats.{IsLockOf}
 use Rattle.shards.proofs.sharing.Shards.close.Given as goal
 
 pub record Closed (g : goal.Over) (l : goal.Live-shards g) : Type 0 where
   pub count_is : l.count ≡ g.B.Naming.count
-  pub together : l.number + length l.desks.items ≡ l.count
+  pub together : l.number + length l.locks.items ≡ l.count
   pub small : l.count ≤ 128
-  pub words : length l.words.items ≡ l.count
-  pub words_are : AreWords g.B.Naming.table l.words.items
+  pub left : Each (λ number lock. IsLockOf (g.B.Naming.table number) (g.B.Naming.plan number) lock) l.number l.locks.items
   pub maps : l.maps.items ≡ l.fn.self.maps
   pub options : l.options ≡ l.fn.self.options
   pub maps_are : AreImageMaps l.maps.items

@@ -1,0 +1,269 @@
+-- What a caller's part of a shard is after each of its steps.
+use Rattle.std.proofs.Common.{◌≡◌, ◌≤◌, ℕ, Bool, true, false, true≢false, List, [], ◌∷◌, ◌++◌, append_assoc, refl, sym, ap, ◌∙◌, subst, arith}
+use Rattle.std.specs.Prelude.{Result, Ok, Err, IfOk, IfErr, OnErr, reverse}
+use Rattle.atomic_table.specs.Table.{Me}
+use Rattle.atomic_table.specs.declared.shared.Seat.{Seat}
+use Rattle.semantics.specs.declared.call.Caller.{Caller}
+use Rattle.semantics.specs.declared.call.Caller.TheVariants.{Worker, Controller, Reclaimer}
+use Rattle.semantics.specs.declared.call.Call.{Call}
+use Rattle.semantics.specs.declared.call.Call.TheVariants.{Enter}
+use Rattle.journal.specs.Entries.{enter_entry}
+use Rattle.shard_core.specs.FewHeld.{FewAreHeld}
+use Rattle.semantics.specs.declared.call.Reply.{Reply}
+use Rattle.semantics.specs.declared.call.Entry.{Entry}
+use Rattle.semantics.specs.declared.full.JournalFull.{JournalFull}
+use Rattle.semantics.specs.declared.plan.ShardPlan.{ShardPlan}
+use Rattle.semantics.specs.CallerLaws.{own_entries}
+use Rattle.semantics.specs.History.{IsLegalHistory, IsJournalFull}
+use Rattle.shard_core.specs.JournaledShard.{JournaledShard}
+use Rattle.shards.specs.declared.rule.Known.{Known}
+use Rattle.shards.specs.declared.stopped.Stopped.{Stopped}
+use Rattle.shards.specs.declared.stopped.Stopped.TheVariants.{AtEnter, AtCall}
+use Rattle.shards.specs.Asked.{AreServed, IsStoppedAt}
+use Rattle.shards.specs.CallerView.{CallerView, BeginsWith, entry_of, IsServed, IsRefused, HasLooked}
+use Rattle.semantics.specs.Sections.{section_change}
+use Rattle.semantics.specs.Reclamation.{held_change}
+use Rattle.shards.specs.Passes.{flag_after}
+use Rattle.shards.specs.HeldCells.{HeldIds, AreHeldOf, HasRoomFor, most_held, room_of, held_when}
+use Rattle.shards.specs.LockRule.{HasTaken, IsKnownIn, pass_of, given}
+use Rattle.shards.specs.Seats.{IsHolding, has_shard, view_of}
+use Rattle.shards.specs.ShardPasses.{IsFlagOf, IsShardPass}
+use Rattle.shards.proofs.Callers.{own_of_maker}
+use Rattle.shards.proofs.Flags.{flag_moves}
+use Rattle.shards.proofs.HeldLemmas.{held_by_none, held_moves, room_when}
+use Rattle.shards.proofs.Holding.{with_shard, given_idle, given_seated, given_plan, given_who, given_acts}
+
+pub alone_view : (me : Me JournaledShard Known) → has_shard me ≡ false → view_of me ≡ (record { seen = me.0.seen; own = me.0.own })
+alone_view (v, []) alone = refl
+alone_view (v, (x ∷ xs)) alone = absurd (true≢false alone)
+
+pub knows_all : (me : Me JournaledShard Known) → has_shard me ≡ true → (view_of me).own ≡ own_entries me.0.who (view_of me).seen
+knows_all (v, []) taken = absurd (true≢false (sym taken))
+knows_all (v, (x ∷ xs)) taken = refl
+
+pub begins_twice : (a b c : List Entry) → BeginsWith a b → BeginsWith b c → BeginsWith a c
+begins_twice a b c ab bc = (ab.0 ++ bc.0, ab.1 ∙ ap (λ x. ab.0 ++ x) bc.1 ∙ sym (append_assoc ab.0 bc.0 c))
+
+-- ---- a new part
+
+flag_of_none : (who : Caller) → IsFlagOf who [] false
+flag_of_none (Worker number) = refl
+flag_of_none Controller = tt
+flag_of_none Reclaimer = tt
+
+pub new_part : (seat : Seat JournaledShard Known) (held : HeldIds) → seat.me ≡ (pass_of seat.me.0.plan seat.me.0.who [] [], []) → held.ids ≡ [] → room_of seat.me.0.who (most_held seat.me.0.plan) ≤ held.room →
+    IsShardPass seat false held
+new_part seat held is none enough = record {
+  seated = ap (λ (m : Me JournaledShard Known). m.0.seated) is;
+  acts = ap (λ (m : Me JournaledShard Known). m.0.acts) is;
+  holding = subst (λ (m : Me JournaledShard Known). IsHolding m.0 m.1) (sym is) refl;
+  flagged = subst (λ (m : Me JournaledShard Known). IsFlagOf seat.me.0.who (view_of m).own false) (sym is) (flag_of_none seat.me.0.who);
+  held_are = subst (λ (m : Me JournaledShard Known). AreHeldOf seat.me.0.who seat.me.0.plan (view_of m).own held) (sym is)
+      (held_by_none seat.me.0.who seat.me.0.plan (most_held seat.me.0.plan) held none enough (omega arith));
+  knows = subst (λ (m : Me JournaledShard Known). (view_of m).own ≡ own_entries seat.me.0.who (view_of m).seen) (sym is) refl;
+  legal = subst (λ (m : Me JournaledShard Known). IsLegalHistory seat.me.0.plan (view_of m).seen) (sym is) tt;
+}
+
+-- ---- a part whose seat has moved, and whose own entries are the same
+
+module _ (before after : Seat JournaledShard Known) (inside : Bool) (held : HeldIds) (is : IsShardPass before inside held) (same_plan : after.me.0.plan ≡ before.me.0.plan) (same_who : after.me.0.who ≡ before.me.0.who)
+    (same_own : (view_of after.me).own ≡ (view_of before.me).own) where
+  pub part_moved : after.me.0.seated ≡ true → after.me.0.acts ≡ true → IsHolding after.me.0 after.me.1 → (view_of after.me).own ≡ own_entries after.me.0.who (view_of after.me).seen → IsLegalHistory after.me.0.plan (view_of after.me).seen →
+      IsShardPass after inside held
+  part_moved seated acts holding knows legal = record {
+    seated = seated;
+    acts = acts;
+    holding = holding;
+    flagged = subst (λ (x : Caller × List Entry). IsFlagOf x.0 x.1 inside) (λ i. (sym same_who i, sym same_own i)) is.flagged;
+    held_are = subst (λ (x : Caller × ShardPlan × List Entry). AreHeldOf x.0 x.1 x.2 held) (λ i. (sym same_who i, sym same_plan i, sym same_own i)) is.held_are;
+    knows = knows;
+    legal = legal;
+  }
+
+-- ---- it has taken the shard
+
+module _ (before after : Seat JournaledShard Known) (inside : Bool) (held : HeldIds) (is : IsShardPass before inside held) (alone : has_shard before.me ≡ false) (taken : HasTaken before.me after.me)
+    (legal : IsLegalHistory after.me.0.plan (view_of after.me).seen) where
+  pub taken_plan : after.me.0.plan ≡ before.me.0.plan
+  taken_plan = ap (λ (m : Me JournaledShard Known). m.0.plan) taken.has
+
+  pub taken_who : after.me.0.who ≡ before.me.0.who
+  taken_who = ap (λ (m : Me JournaledShard Known). m.0.who) taken.has
+
+  taken_own : (view_of after.me).own ≡ (view_of before.me).own
+  taken_own = ap (λ (m : Me JournaledShard Known). (view_of m).own) taken.has ∙ sym (taken.known is.acts).own ∙ sym (ap (λ (v : CallerView). v.own) (alone_view before.me alone))
+
+  pub part_taken : IsShardPass after inside held
+  part_taken = part_moved before after inside held is taken_plan taken_who taken_own
+      (ap (λ (m : Me JournaledShard Known). m.0.seated) taken.has ∙ is.seated) (ap (λ (m : Me JournaledShard Known). m.0.acts) taken.has ∙ is.acts)
+      (with_shard before.me after.me taken) (subst (λ (m : Me JournaledShard Known). (view_of m).own ≡ own_entries m.0.who (view_of m).seen) (sym taken.has) refl) legal
+
+  pub looked_taken : HasLooked before.me.0.plan (view_of before.me) (view_of after.me)
+  looked_taken = record {
+    begins = subst (λ (m : Me JournaledShard Known). BeginsWith (view_of m).seen (view_of before.me).seen) (sym taken.has)
+        (subst (λ (v : CallerView). BeginsWith (reverse taken.shard.journal) v.seen) (sym (alone_view before.me alone)) (taken.known is.acts).begins);
+    legal = subst (λ (p : ShardPlan). IsLegalHistory p (view_of after.me).seen) taken_plan legal;
+    own = taken_own;
+  }
+
+-- ---- it has given it back
+
+pub part_given : (before after : Seat JournaledShard Known) (inside : Bool) (held : HeldIds) → IsShardPass before inside held → has_shard before.me ≡ true → after.me ≡ (given before.me.0 before.me.1, []) → view_of after.me ≡ view_of before.me →
+    IsLegalHistory after.me.0.plan (view_of after.me).seen → IsShardPass after inside held
+part_given before after inside held is taken given_is same legal =
+    let same_who : after.me.0.who ≡ before.me.0.who = ap (λ (m : Me JournaledShard Known). m.0.who) given_is ∙ given_who before.me in
+    part_moved before after inside held is (ap (λ (m : Me JournaledShard Known). m.0.plan) given_is ∙ given_plan before.me) same_who (ap (λ (v : CallerView). v.own) same)
+    (ap (λ (m : Me JournaledShard Known). m.0.seated) given_is ∙ given_seated before.me ∙ is.seated) (ap (λ (m : Me JournaledShard Known). m.0.acts) given_is ∙ given_acts before.me ∙ is.acts)
+    (subst (λ (m : Me JournaledShard Known). IsHolding m.0 m.1) (sym given_is) (given_idle before.me taken))
+    (ap (λ (v : CallerView). v.own) same ∙ is.knows ∙ (λ i. own_entries (sym same_who i) (sym same i).seen)) legal
+
+-- ---- it has made a call
+
+module _ {A : Type 0} (plan : ShardPlan) (who : Caller) (call : Call) (replies : A → Reply) (me me' : Me JournaledShard Known) (taken : has_shard me' ≡ true) (same : me'.0 ≡ me.0) (by : me.0.who ≡ who)
+    (knows : (view_of me).own ≡ own_entries me.0.who (view_of me).seen) (legal : IsLegalHistory plan (view_of me').seen) where
+  served_one : (a : A) → (view_of me').seen ≡ entry_of who call (replies a) ∷ (view_of me).seen → IsServed plan (view_of me) (view_of me') (entry_of who call (replies a))
+  served_one a next = record {
+    earlier = (view_of me).seen;
+    seen = next;
+    begins = ([], refl);
+    legal = legal;
+    own = knows_all me' taken ∙ ap (λ (v : Known). own_entries v.who (view_of me').seen) same ∙ ap (λ (w : Caller). own_entries w (view_of me').seen) by ∙ ap (own_entries who) next
+        ∙ own_of_maker (entry_of who call (replies a)) (view_of me).seen ∙ ap (λ (w : Caller). entry_of who call (replies a) ∷ own_entries w (view_of me).seen) (sym by)
+        ∙ ap (λ (l : List Entry). entry_of who call (replies a) ∷ l) (sym knows);
+  }
+
+  pub served_by : (answer : Result A JournalFull) → IfOk answer (λ a. (view_of me').seen ≡ entry_of who call (replies a) ∷ (view_of me).seen) → IfOk answer (λ a. IsServed plan (view_of me) (view_of me') (entry_of who call (replies a)))
+  served_by (Ok a) next = served_one a next
+  served_by (Err full) next = next
+
+  pub refused_by : (answer : Result A JournalFull) → OnErr answer (IsJournalFull plan (view_of me).seen call) → OnErr answer (view_of me' ≡ view_of me) → OnErr answer (IsRefused plan (view_of me) (view_of me') call)
+  refused_by (Ok a) full still = full
+  refused_by (Err e) full still = record {
+    begins = ([], ap (λ (v : CallerView). v.seen) still);
+    legal = legal;
+    full = subst (λ (v : CallerView). IsJournalFull plan v.seen call) (sym still) full;
+    own = ap (λ (v : CallerView). v.own) still;
+  }
+
+pub view_still : {A : Type 0} (before after : Seat JournaledShard Known) (answer : Result A JournalFull) → OnErr answer (after ≡ before) → OnErr answer (view_of after.me ≡ view_of before.me)
+view_still before after (Ok a) still = still
+view_still before after (Err full) still = ap (λ (s : Seat JournaledShard Known). view_of s.me) still
+
+module _ {A : Type 0} (call : Call) (replies : A → Reply) (before after : Seat JournaledShard Known) (inside : Bool) (held : HeldIds) (is : IsShardPass before inside held) (taken : has_shard after.me ≡ true) (same : after.me.0 ≡ before.me.0)
+    (holding : IsHolding after.me.0 after.me.1) (legal : IsLegalHistory before.me.0.plan (view_of after.me).seen) (answer : Result A JournalFull)
+    (served : IfOk answer (λ a. IsServed before.me.0.plan (view_of before.me) (view_of after.me) (entry_of before.me.0.who call (replies a)))) (refused : OnErr answer (IsRefused before.me.0.plan (view_of before.me) (view_of after.me) call)) where
+  pub part_asked : IsShardPass after (flag_after answer (section_change call) inside) (held_when answer (λ a. held_change call (replies a)) held)
+  part_asked = record {
+    seated = ap (λ (v : Known). v.seated) same ∙ is.seated;
+    acts = ap (λ (v : Known). v.acts) same ∙ is.acts;
+    holding = holding;
+    flagged = subst (λ (v : Known). IsFlagOf v.who (view_of after.me).own (flag_after answer (section_change call) inside)) (sym same)
+        (flag_moves answer before.me.0.plan before.me.0.who call replies (view_of before.me) (view_of after.me) inside served refused is.flagged);
+    held_are = subst (λ (v : Known). AreHeldOf v.who v.plan (view_of after.me).own (held_when answer (λ a. held_change call (replies a)) held)) (sym same)
+        (held_moves answer before.me.0.plan before.me.0.who call replies (view_of before.me) (view_of after.me) held served refused is.held_are);
+    knows = knows_all after.me taken;
+    legal = subst (λ (v : Known). IsLegalHistory v.plan (view_of after.me).seen) (sym same) legal;
+  }
+
+-- all of this, by what the call made of the seat
+module _ {A : Type 0} (who : Caller) (asks : ℕ → Call) (replies : ℕ → A → Reply) (before after : Seat JournaledShard Known) (inside : Bool) (held : HeldIds) (is : IsShardPass before inside held) (by : before.me.0.who ≡ who)
+    (taken : has_shard after.me ≡ true) (same : after.me.0 ≡ before.me.0) (legal : IsLegalHistory before.me.0.plan (view_of after.me).seen) (answer : Result A JournalFull)
+    (next : IfOk answer (λ a. (view_of after.me).seen ≡ entry_of who (asks before.me.0.plan.number) (replies before.me.0.plan.number a) ∷ (view_of before.me).seen))
+    (full : OnErr answer (IsJournalFull before.me.0.plan (view_of before.me).seen (asks before.me.0.plan.number))) (unchanged : OnErr answer (after ≡ before)) where
+  pub asked_served : IfOk answer (λ a. IsServed before.me.0.plan (view_of before.me) (view_of after.me) (entry_of who (asks before.me.0.plan.number) (replies before.me.0.plan.number a)))
+  asked_served = served_by before.me.0.plan who (asks before.me.0.plan.number) (replies before.me.0.plan.number) before.me after.me taken same by is.knows legal answer next
+
+  pub asked_refused : OnErr answer (IsRefused before.me.0.plan (view_of before.me) (view_of after.me) (asks before.me.0.plan.number))
+  asked_refused = refused_by before.me.0.plan who (asks before.me.0.plan.number) (replies before.me.0.plan.number) before.me after.me taken same by is.knows legal answer full (view_still before after answer unchanged)
+
+  own_served : IfOk answer (λ a. IsServed before.me.0.plan (view_of before.me) (view_of after.me) (entry_of before.me.0.who (asks before.me.0.plan.number) (replies before.me.0.plan.number a)))
+  own_served = subst (λ (w : Caller). IfOk answer (λ a. IsServed before.me.0.plan (view_of before.me) (view_of after.me) (entry_of w (asks before.me.0.plan.number) (replies before.me.0.plan.number a)))) (sym by) asked_served
+
+  pub asked_room : FewAreHeld before.me.0.plan (view_of after.me).seen → IfOk answer (λ a. HasRoomFor (held_change (asks before.me.0.plan.number) (replies before.me.0.plan.number a)) held)
+  asked_room few = room_when answer before.me.0.plan before.me.0.who (asks before.me.0.plan.number) (replies before.me.0.plan.number) (view_of before.me) (view_of after.me) held own_served
+      (subst (λ (v : Known). (view_of after.me).own ≡ own_entries v.who (view_of after.me).seen) same (knows_all after.me taken)) few is.held_are
+
+  pub asked_part : IsHolding after.me.0 after.me.1 → IsShardPass after (flag_after answer (section_change (asks before.me.0.plan.number)) inside) (held_when answer (λ a. held_change (asks before.me.0.plan.number) (replies before.me.0.plan.number a)) held)
+  asked_part holding = part_asked (asks before.me.0.plan.number) (replies before.me.0.plan.number) before after inside held is taken same holding legal answer own_served asked_refused
+
+-- ---- it was shown the whole history
+
+module _ (before after : Seat JournaledShard Known) (inside : Bool) (held : HeldIds) (plan : ShardPlan) (all : List Entry) (is : IsShardPass before inside held) (alone : has_shard before.me ≡ false)
+    (planned : plan ≡ before.me.0.plan) (shown : after.me ≡ (pass_of plan before.me.0.who before.me.0.own all, [])) (known : IsKnownIn all before.me.0) (legal : IsLegalHistory before.me.0.plan all) where
+  pub shown_plan : after.me.0.plan ≡ before.me.0.plan
+  shown_plan = ap (λ (m : Me JournaledShard Known). m.0.plan) shown ∙ planned
+
+  pub shown_who : after.me.0.who ≡ before.me.0.who
+  shown_who = ap (λ (m : Me JournaledShard Known). m.0.who) shown
+
+  pub own_before : (view_of before.me).own ≡ own_entries before.me.0.who all
+  own_before = ap (λ (v : CallerView). v.own) (alone_view before.me alone) ∙ known.own
+
+  pub begins_before : BeginsWith all (view_of before.me).seen
+  begins_before = subst (λ (v : CallerView). BeginsWith all v.seen) (sym (alone_view before.me alone)) known.begins
+
+  own_after : (view_of after.me).own ≡ (view_of before.me).own
+  own_after = ap (λ (m : Me JournaledShard Known). (view_of m).own) shown ∙ sym (ap (λ (v : CallerView). v.own) (alone_view before.me alone))
+
+  pub seen_after : (view_of after.me).seen ≡ all
+  seen_after = ap (λ (m : Me JournaledShard Known). (view_of m).seen) shown
+
+  pub part_shown : IsShardPass after inside held
+  part_shown = part_moved before after inside held is shown_plan shown_who own_after
+      (ap (λ (m : Me JournaledShard Known). m.0.seated) shown) (ap (λ (m : Me JournaledShard Known). m.0.acts) shown) (subst (λ (m : Me JournaledShard Known). IsHolding m.0 m.1) (sym shown) refl)
+      (own_after ∙ own_before ∙ (λ i. own_entries (sym shown_who i) (sym seen_after i)))
+      (subst (λ (x : ShardPlan × List Entry). IsLegalHistory x.0 x.1) (λ i. (sym shown_plan i, sym seen_after i)) legal)
+
+  pub looked_shown : HasLooked before.me.0.plan (view_of before.me) (view_of after.me)
+  looked_shown = record {
+    begins = subst (λ (l : List Entry). BeginsWith l (view_of before.me).seen) (sym seen_after) begins_before;
+    legal = subst (IsLegalHistory before.me.0.plan) (sym seen_after) legal;
+    own = own_after;
+  }
+
+-- ---- a look, and then calls
+
+module _ (p : ShardPlan) (old mid : CallerView) (looked : HasLooked p old mid) where
+  served_then : (new : CallerView) (entry : Entry) → IsServed p mid new entry → IsServed p old new entry
+  served_then new entry served = record { earlier = served.earlier; seen = served.seen; begins = begins_twice served.earlier mid.seen old.seen served.begins looked.begins; legal = served.legal; own = served.own ∙ ap (λ l. entry ∷ l) looked.own }
+
+  refused_then : (new : CallerView) (call : Call) → IsRefused p mid new call → IsRefused p old new call
+  refused_then new call refused = record { begins = begins_twice new.seen mid.seen old.seen refused.begins looked.begins; legal = refused.legal; full = refused.full; own = refused.own ∙ looked.own }
+
+  both_then : (new : CallerView) (one two : Entry) → AreServed p mid new one two → AreServed p old new one two
+  both_then new one two served = record { earlier = served.earlier; seen = served.seen; begins = begins_twice served.earlier mid.seen old.seen served.begins looked.begins; legal = served.legal; own = served.own ∙ ap (λ l. two ∷ one ∷ l) looked.own }
+
+  stopped_then : (new : CallerView) (number : ℕ) (who : Caller) (call : Call) (stopped : Stopped) → IsStoppedAt p number mid new who call stopped → IsStoppedAt p number old new who call stopped
+  stopped_then new number who call (AtEnter full) is = (refused_then new (Enter number) is.0, is.1)
+  stopped_then new number who call (AtCall full) is = (
+    record {
+      earlier = is.0.earlier;
+      seen = is.0.seen;
+      begins = begins_twice is.0.earlier mid.seen old.seen is.0.begins looked.begins;
+      legal = is.0.legal;
+      full = is.0.full;
+      own = is.0.own ∙ ap (λ l. enter_entry number who ∷ l) looked.own;
+    },
+    is.1,
+  )
+
+  module _ {A : Type 0} (p' : ShardPlan) (late new : CallerView) (same : p' ≡ p) (still : new ≡ late) (asks : ℕ → Call) (replies : ℕ → A → Reply) (who : Caller) where
+    pub looked_served : (answer : Result A JournalFull) → IfOk answer (λ a. IsServed p' mid late (entry_of who (asks p'.number) (replies p'.number a))) → IfOk answer (λ a. IsServed p old new (entry_of who (asks p.number) (replies p.number a)))
+    looked_served (Ok a) served = served_then new (entry_of who (asks p.number) (replies p.number a))
+        (subst (λ (x : ShardPlan × CallerView). IsServed x.0 mid x.1 (entry_of who (asks x.0.number) (replies x.0.number a))) (λ i. (same i, sym still i)) served)
+    looked_served (Err full) served = served
+
+    pub looked_refused : (answer : Result A JournalFull) → OnErr answer (IsRefused p' mid late (asks p'.number)) → OnErr answer (IsRefused p old new (asks p.number))
+    looked_refused (Ok a) refused = refused
+    looked_refused (Err full) refused = refused_then new (asks p.number) (subst (λ (x : ShardPlan × CallerView). IsRefused x.0 mid x.1 (asks x.0.number)) (λ i. (same i, sym still i)) refused)
+
+    pub looked_both : (one : ℕ → Entry) (answer : Result A Stopped) → IfOk answer (λ a. AreServed p' mid late (one p'.number) (entry_of who (asks p'.number) (replies p'.number a))) →
+        IfOk answer (λ a. AreServed p old new (one p.number) (entry_of who (asks p.number) (replies p.number a)))
+    looked_both one (Ok a) served = both_then new (one p.number) (entry_of who (asks p.number) (replies p.number a))
+        (subst (λ (x : ShardPlan × CallerView). AreServed x.0 mid x.1 (one x.0.number) (entry_of who (asks x.0.number) (replies x.0.number a))) (λ i. (same i, sym still i)) served)
+    looked_both one (Err full) served = served
+
+    pub looked_stopped : (answer : Result A Stopped) → IfErr answer (IsStoppedAt p' p'.number mid late who (asks p'.number)) → IfErr answer (IsStoppedAt p p.number old new who (asks p.number))
+    looked_stopped (Ok a) stopped = stopped
+    looked_stopped (Err full) stopped = stopped_then new p.number who (asks p.number) full
+        (subst (λ (x : ShardPlan × CallerView). IsStoppedAt x.0 x.0.number mid x.1 who (asks x.0.number) full) (λ i. (same i, sym still i)) stopped)

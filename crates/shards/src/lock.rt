@@ -1,0 +1,254 @@
+//! The steps on a shard's word: take, mark, give, and what is done with the shard in between.
+
+ghost use Rattle.std.specs.Prelude.{◌≡◌, ◌≢◌, ◌<◌, ◌≤◌, ◌+◌, ◌*◌, ◌%◌, ◌==◌, ◌∷◌, ◌^◌, ℕ, true, false, MatchBool, [], length, reverse, IfOk, IfErr, OnErr};
+ghost use Rattle.semantics.specs.History.{Meets, meets, IsLegalHistory, IsLegalJournal, IsJournalFull};
+ghost use Rattle.semantics.specs.CallerLaws.{own_entries};
+ghost use Rattle.shard_core.specs.FewHeld.{FewAreHeld};
+ghost use Rattle.shards.specs.CallerView.{entry_of};
+ghost use Rattle.shards.specs.LockRule.{HasTaken, given, visitor_of};
+ghost use Rattle.shards.specs.Seats.{IsLock, IsSeatOf, IsVisitor, has_shard, view_of};
+
+use crate::asks::Ask;
+use crate::rule::{Comes, Gives, Lock, LockSeat, Marks, Takes};
+use semantics::{Call, Caller, JournalFull, laws};
+use shard_core::{Shard, laws as shard_laws};
+use std::sync::Wait;
+
+/// Which of the table's words it is: what is before it and behind it keeps all else off its cache lines.
+pub(crate) const WORD: usize = 16;
+
+// ---- the lock
+
+/// Takes the shard. Waits while another has it.
+pub(crate) fn take(rt: &impl Wait, lock: &Lock, seat: &mut LockSeat)
+    requires lock { IsLock lock.now }
+    requires seat { IsSeatOf lock.now.shared.table_id seat.old }
+    requires alone { has_shard seat.old.me ≡ false }
+    ensures seat { IsSeatOf lock.now.shared.table_id seat.new }
+    ensures taken { HasTaken seat.old.me seat.new.me }
+    ensures legal { IsLegalHistory seat.new.me.0.plan (view_of seat.new.me).seen }
+{
+    let mut phase = 1;
+    'turns: for _ in rt.forever() {
+        if try_take(lock, seat, phase) {
+            return;
+        }
+        wait(rt, lock, seat);
+        phase = 2;
+    }
+    unreachable!()
+}
+
+/// Takes the shard, if nobody has it.
+fn try_take(lock: &Lock, seat: &mut LockSeat, phase: u64) -> bool
+    requires lock { IsLock lock.now }
+    requires seat { IsSeatOf lock.now.shared.table_id seat.old }
+    requires alone { has_shard seat.old.me ≡ false }
+    requires phase { (0 < phase) × (phase < 3) }
+    ensures seat { IsSeatOf lock.now.shared.table_id seat.new }
+    ensures taken { MatchBool result (HasTaken seat.old.me seat.new.me) (seat.new.me ≡ seat.old.me) }
+    ensures legal { result ≡ true → IsLegalHistory seat.new.me.0.plan (view_of seat.new.me).seen }
+{
+    let seen = lock.shared.peek(WORD);
+    if !is_free(seen) {
+        return false;
+    }
+    if take_from(lock, seat, seen, seen + phase) != seen {
+        return false;
+    }
+    let _legal = count(lock, seat);
+    true
+}
+
+/// Whether nobody has the shard, by its word.
+fn is_free(word: u64) -> bool
+    ensures { MatchBool result ((quarter : ℕ) × (word ≡ 4 * quarter)) (word % 4 ≢ 0) }
+{
+    word % 4 == 0
+}
+
+/// Waits for a while, if another has the shard, after a note that somebody does.
+fn wait(rt: &impl Wait, lock: &Lock, seat: &mut LockSeat)
+    requires lock { IsLock lock.now }
+    requires seat { IsSeatOf lock.now.shared.table_id seat.old }
+    requires alone { has_shard seat.old.me ≡ false }
+    ensures table { seat.new.table_id ≡ seat.old.table_id }
+    ensures same { seat.new.me ≡ seat.old.me }
+{
+    let seen = lock.shared.peek(WORD);
+    match seen % 4 {
+        1 => {
+            let _found = mark(lock, seat, seen);
+        }
+        2 => lock.shared.park(rt, WORD, (seen & 0xffff_ffff) as u32),
+        _ => {}
+    }
+}
+
+/// Gives the shard back, with all entries that it has more: one step, however many they are. Wakes one that may wait for it.
+pub(crate) fn give(lock: &Lock, seat: &mut LockSeat)
+    requires lock { IsLock lock.now }
+    requires seat { IsSeatOf lock.now.shared.table_id seat.old }
+    requires taken { has_shard seat.old.me ≡ true }
+    ensures seat { IsSeatOf lock.now.shared.table_id seat.new }
+    ensures given { seat.new.me ≡ (given seat.old.me.0 seat.old.me.1, []) }
+    ensures same { view_of seat.new.me ≡ view_of seat.old.me }
+    ensures legal { IsLegalHistory seat.new.me.0.plan (view_of seat.new.me).seen }
+{
+    let entries = count(lock, seat);
+    let found = give_to(lock, seat, entries);
+    if found % 4 == 2 {
+        lock.shared.wake_one(WORD);
+    }
+}
+
+// ---- single steps
+
+/// Takes the shard, where the word is still this one, by which nobody has it. Returns what the word was.
+fn take_from(lock: &Lock, seat: &mut LockSeat, free: u64, taken: u64) -> u64
+    requires lock { IsLock lock.now }
+    requires seat { IsSeatOf lock.now.shared.table_id seat.old }
+    requires alone { has_shard seat.old.me ≡ false }
+    requires free { (quarter : ℕ) × (free ≡ 4 * quarter) }
+    requires taken { (phase : ℕ) × (taken ≡ free + phase) × (0 < phase) × (phase < 3) }
+    ensures seat { IsSeatOf lock.now.shared.table_id seat.new }
+    ensures taken { MatchBool (result == free) (HasTaken seat.old.me seat.new.me) (seat.new.me ≡ seat.old.me) }
+{
+    lock.shared
+        .compare_exchange::<Takes>(seat, WORD, free, taken)
+}
+
+/// Notes that somebody may sleep, where the word is still this one, by which another has the shard.
+fn mark(lock: &Lock, seat: &mut LockSeat, taken: u64) -> u64
+    requires lock { IsLock lock.now }
+    requires seat { IsSeatOf lock.now.shared.table_id seat.old }
+    requires alone { has_shard seat.old.me ≡ false }
+    requires taken { (quarter : ℕ) × (taken ≡ 4 * quarter + 1) }
+    ensures table { seat.new.table_id ≡ seat.old.table_id }
+    ensures same { seat.new.me ≡ seat.old.me }
+{
+    lock.shared
+        .compare_exchange::<Marks>(seat, WORD, taken, taken + 1)
+}
+
+/// Gives the shard back, whose journal has so many entries. Returns what the word was.
+fn give_to(lock: &Lock, seat: &mut LockSeat, entries: u64) -> u64
+    requires lock { IsLock lock.now }
+    requires seat { IsSeatOf lock.now.shared.table_id seat.old }
+    requires taken { has_shard seat.old.me ≡ true }
+    requires entries { (entries ≡ length (view_of seat.old.me).seen) × (entries < 2 ^ 32) }
+    ensures table { seat.new.table_id ≡ seat.old.table_id }
+    ensures given { seat.new.me ≡ (given seat.old.me.0 seat.old.me.1, []) }
+{
+    lock.shared.swap::<Gives>(seat, WORD, 4 * entries)
+}
+
+// ---- with the shard
+
+/// How many entries the journal has.
+pub(crate) fn count(lock: &Lock, seat: &mut LockSeat) -> u64
+    requires lock { IsLock lock.now }
+    requires seat { IsSeatOf lock.now.shared.table_id seat.old }
+    requires taken { has_shard seat.old.me ≡ true }
+    ensures same { seat.new ≡ seat.old }
+    ensures count { result ≡ length (view_of seat.old.me).seen }
+    ensures few { result < 2 ^ 32 }
+    ensures legal { IsLegalHistory seat.old.me.0.plan (view_of seat.old.me).seen }
+{
+    entries(seat.slot_mut(&lock.shared, 0))
+}
+
+/// How many entries a shard's journal has.
+fn entries(shard: &Shard) -> u64
+    ensures count { result ≡ length shard.now.journal }
+    ensures few { result < 2 ^ 32 }
+    ensures legal { IsLegalJournal shard.now.plan shard.now.journal }
+{
+    shard_laws::leave_has_room();
+    let _plan = shard.plan();
+    shard.journal().len() as u64
+}
+
+/// Makes a call on the shard that the seat has, for its caller, who may make it.
+pub(crate) fn add<C: Ask>(
+    lock: &Lock,
+    seat: &mut LockSeat,
+    who: Caller,
+    ask: C,
+) -> Result<C::Answer, JournalFull>
+    requires lock { IsLock lock.now }
+    requires seat { IsSeatOf lock.now.shared.table_id seat.old }
+    requires caller { (seat.old.me.0.acts ≡ true) × (seat.old.me.0.who ≡ who) }
+    requires taken { has_shard seat.old.me ≡ true }
+    requires met { Meets seat.old.me.0.plan (view_of seat.old.me).own who (C.asks ask seat.old.me.0.plan.number) }
+    ensures seat { IsSeatOf lock.now.shared.table_id seat.new }
+    ensures taken { has_shard seat.new.me ≡ true }
+    ensures same { seat.new.me.0 ≡ seat.old.me.0 }
+    ensures next { IfOk result (λ answer. (view_of seat.new.me).seen ≡ entry_of who (C.asks ask seat.old.me.0.plan.number)
+        (C.replies seat.old.me.0.plan.number answer) ∷ (view_of seat.old.me).seen) }
+    ensures full { OnErr result (IsJournalFull seat.old.me.0.plan (view_of seat.old.me).seen (C.asks ask seat.old.me.0.plan.number)) }
+    ensures unchanged { OnErr result (seat.new ≡ seat.old) }
+    ensures legal { IsLegalHistory seat.old.me.0.plan (view_of seat.new.me).seen }
+    ensures few { FewAreHeld seat.old.me.0.plan (view_of seat.new.me).seen }
+    ensures names_the_shard { IfErr result (λ fault. fault.shard ≡ seat.old.me.0.plan.number) }
+{
+    add_to(seat.slot_mut(&lock.shared, 0), who, ask)
+}
+
+/// Makes a call on a shard for a caller that may make it by its own entries.
+fn add_to<C: Ask>(shard: &mut Shard, who: Caller, ask: C) -> Result<C::Answer, JournalFull>
+    requires { Meets shard.old.plan (own_entries who (reverse shard.old.journal)) who (C.asks ask shard.old.plan.number) }
+    ensures plan { shard.new.plan ≡ shard.old.plan }
+    ensures next { IfOk result (λ answer. reverse shard.new.journal ≡ entry_of who (C.asks ask shard.old.plan.number)
+        (C.replies shard.old.plan.number answer) ∷ reverse shard.old.journal) }
+    ensures full { OnErr result (IsJournalFull shard.old.plan (reverse shard.old.journal) (C.asks ask shard.old.plan.number)) }
+    ensures unchanged { OnErr result (shard.new ≡ shard.old) }
+    ensures legal { IsLegalHistory shard.old.plan (reverse shard.new.journal) }
+    ensures few { FewAreHeld shard.old.plan (reverse shard.new.journal) }
+    ensures names_the_shard { IfErr result (λ fault. fault.shard ≡ shard.old.plan.number) }
+{
+    laws::condition_is_own();
+    let answer = ask.make(shard, who);
+    shard.few_held();
+    answer
+}
+
+/// Whether a caller may make a call now, by the whole journal of the shard that the seat has.
+pub(crate) fn meets_now(lock: &Lock, seat: &mut LockSeat, who: Caller, call: &Call) -> bool
+    requires lock { IsLock lock.now }
+    requires seat { IsSeatOf lock.now.shared.table_id seat.old }
+    requires taken { has_shard seat.old.me ≡ true }
+    ensures same { seat.new ≡ seat.old }
+    ensures meets { result ≡ meets seat.old.me.0.plan (own_entries who (view_of seat.old.me).seen) who call.now }
+{
+    meets_own(seat.slot_mut(&lock.shared, 0), who, call)
+}
+
+/// Whether a caller may make a call now, which is a matter of its own entries.
+fn meets_own(shard: &Shard, who: Caller, call: &Call) -> bool
+    ensures { result ≡ meets shard.now.plan (own_entries who (reverse shard.now.journal)) who call.now }
+{
+    laws::condition_is_own();
+    shard.meets(&who, call)
+}
+
+// ---- visitors, who make no call
+
+/// A visitor that has the shard. Waits while another has it.
+pub(crate) fn visit(rt: &impl Wait, lock: &Lock) -> LockSeat
+    requires lock { IsLock lock.now }
+    ensures visitor { IsVisitor lock.now.shared.table_id lock.now.shared.key (view_of result.me).seen result }
+    ensures legal { IsLegalHistory lock.now.shared.key (view_of result.me).seen }
+{
+    let mut seat = visitor(lock);
+    take(rt, lock, &mut seat);
+    seat
+}
+
+/// A seat that makes no call, and has no shard.
+pub(crate) fn visitor(lock: &Lock) -> LockSeat
+    requires lock { IsLock lock.now }
+    ensures { (result.table_id ≡ lock.now.shared.table_id) × (result.me ≡ (visitor_of lock.now.shared.key, [])) }
+{
+    lock.shared.load_new_seat::<Comes>(WORD).1
+}
