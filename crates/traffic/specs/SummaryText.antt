@@ -1,5 +1,5 @@
 -- The summary of a replay's traffic: a line for each kind of frame that there is, with how many there are, and a line for each address to
--- which frames were sent. Each line begins with two spaces.
+-- which frames were sent.
 use Rattle.std.specs.Prelude.{◌≡◌, ℕ, ◌/◌, ◌%◌, ◌==◌, ◌++◌, List, [], ◌∷◌, codes, decimal, if◌then◌else◌}
 use Rattle.std.specs.Prelude.{unwrap_or}
 use Rattle.std.specs.List.{flat_map}
@@ -39,7 +39,7 @@ abbrev pub frames_word : ℕ → List ℕ
 frames_word count = if count == 1 then codes "frame" else codes "frames"
 
 abbrev pub count_line : ℕ → List ℕ → List ℕ → List ℕ
-count_line count word phrase = codes "  " ++ (decimal count ++ (codes " " ++ (word ++ (codes " " ++ (phrase ++ codes "\n")))))
+count_line count word phrase = decimal count ++ (codes " " ++ (word ++ (codes " " ++ (phrase ++ codes "\n"))))
 
 -- the line of frames of which this is said; nothing where there are none
 abbrev pub line_about : ℕ → List ℕ → List ℕ

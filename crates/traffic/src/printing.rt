@@ -62,7 +62,7 @@ fn frames_word(count: u64) -> &'static str
 fn count_line(alloc: Global, count: u64, word: &str, phrase: &str) -> Result<String, AllocError>
     ensures { IfOk result (λ line. string_bytes line ≡ count_line count word.now phrase.now) }
 {
-    format!(in alloc; "  {count} {word} {phrase}\n")
+    format!(in alloc; "{count} {word} {phrase}\n")
 }
 
 /// Appends the line of frames of which this is said, if there are any.
@@ -151,7 +151,7 @@ fn put_sent(alloc: Global, text: &mut String, sent: &[Sent]) -> Result<(), Alloc
 }
 
 /// What a replay's traffic was: a line for each kind of frame that the capture has; a line for each address to which frames were sent, by
-/// rising address; and a line for those that went elsewhere than the frame of their flow before. Each line begins with two spaces.
+/// rising address; and a line for those that went elsewhere than the frame of their flow before.
 pub fn summary(alloc: Global, captured: &[Sent], sent: &[Sent]) -> Result<String, AllocError>
     ensures { IfOk result (λ text. IsSummary captured.now sent.now (string_bytes text)) }
 {

@@ -95,7 +95,7 @@ fn tunnelled(alloc: Global, port: u8, backend: u8) -> Result<Sent, AllocError> {
 
 /// What the summary is of a capture of three datagrams, one at the limit and one above it, and of six sent frames of three flows.
 const SUMMARY: &str =
-    "  1 frame of TCP or UDP in packets of more than 1480 bytes\n  2 frames of TCP or UDP that fit into a tunnel\n  4 frames sent to 192.0.2.1\n  1 frame sent to 192.0.2.2\n  2 frames sent to another address than the frame of their flow before\n";
+    "1 frame of TCP or UDP in packets of more than 1480 bytes\n2 frames of TCP or UDP that fit into a tunnel\n4 frames sent to 192.0.2.1\n1 frame sent to 192.0.2.2\n2 frames sent to another address than the frame of their flow before\n";
 
 #[test]
 fn a_summary_counts_kinds_addresses_and_moves(rt: HostRuntime) {
