@@ -1,5 +1,5 @@
 /* Refuses memory and threads to a program that it is preloaded into, and counts what the program asks for. scripts/refuse-memory compiles it.
-   REFUSE_LOG names a file of 4,096 bytes, of which the first places count allocations, threads and texts for the standard output; from place 8 on stands,
+   REFUSE_LOG names a file of 4,096 bytes, of which the first places count allocations, threads and texts for the standard output; from place 8 on is,
    for each of these texts, how many allocations went before it. REFUSE_FIRST and REFUSE_LAST say which allocations are refused, counted from 1, and
    REFUSE_THREAD in which thread they count (0 is the first; without it, in all); REFUSE_START and REFUSE_STARTS which threads do not start. */
 #define _GNU_SOURCE

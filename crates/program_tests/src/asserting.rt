@@ -32,6 +32,11 @@ pub(crate) fn same_at<T: PartialEq + Debug>(
     assert_eq!(rt; *found, *wanted, "{what} {at}");
 }
 
+/// The same of a byte of a frame, of which the message names the place.
+pub(crate) fn same_byte(rt: &impl Abort, name: &str, place: usize, found: u8, wanted: u8) {
+    assert_eq!(rt; found, wanted, "{name}, byte {place}");
+}
+
 /// Ends the test where a fact does not hold; the message names it.
 pub(crate) fn holds(rt: &impl Abort, name: &str, is_so: bool) {
     assert!(rt; is_so, "{name}");

@@ -1,8 +1,10 @@
-//! Tests of the public calls of `isa`, `ebpf_decode`, `abstract_scalar`, `abstract_state`, `image_shape` and `verifier`.
+//! Tests of the public calls of `isa`, `ebpf_decode`, `abstract_scalar`, `abstract_state`, `image_shape`, `verifier`, `helpers` and `machine`.
 #![tactic(auto)]
 
 #[cfg(test)]
 mod asserting;
+#[cfg(test)]
+mod helper_rows;
 #[cfg(test)]
 mod images;
 #[cfg(test)]
@@ -21,5 +23,7 @@ mod program_structure;
 mod programs;
 #[cfg(test)]
 mod rows;
+#[cfg(test)]
+mod runs;
 #[cfg(test)]
 mod straight_code;

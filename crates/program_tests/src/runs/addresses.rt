@@ -1,8 +1,9 @@
 //! Addresses in values that a program of version 2 names itself, worked out by hand.
 
 use super::asking::{REPLIES, asks_of_arrays, ended};
-use super::listing::{EXIT, add, alu, copy, jump_if, load, mov, put, store};
+use super::listing::EXIT;
 use super::scripted::{Asked, Replies};
+use crate::rows::{add, alu, jump, load, mov, number, put, store};
 use ebpf_decode::{Insn, MapDef, MapKind};
 use isa::Register::{R0, R1, R2, R3, R4, R5, R6, R10};
 use isa::{AluOp, Size, Source, Test};
@@ -36,7 +37,7 @@ fn stores_at_an_address(rt: HostRuntime) -> Result<(), Fail> {
             map: 0,
             offset,
         }];
-        let tail = [put!(Size::U8, R6, distance, 5), mov!(R0, 3), EXIT];
+        let tail = [store!(Size::U8, R6, distance, 5), number!(R0, 3), EXIT];
         let asked = Asked::Store {
             handle: 1,
             offset: place,
@@ -68,17 +69,17 @@ const ADDRESS_AND_PACKET: [Insn; 7] = [
     },
     load!(Size::U32, R2, R1, 0),
     load!(Size::U32, R3, R1, 4),
-    copy!(R4, R2),
+    mov!(R4, R2),
     add!(R4, 14),
-    mov!(R0, 2),
-    jump_if!(Test::Gt, R4, Source::Reg(R3), 4),
+    number!(R0, 2),
+    jump!(Test::Gt, R4, Source::Reg(R3), 4),
 ];
 
 const AS_FAR_AS_IT_SAYS: [Insn; 5] = [
     load!(Size::U8, R5, R2, 13),
     alu!(AluOp::Add, R6, Source::Reg(R5)),
-    put!(Size::U8, R6, 0, 3),
-    mov!(R0, 3),
+    store!(Size::U8, R6, 0, 3),
+    number!(R0, 3),
     EXIT,
 ];
 
@@ -114,10 +115,10 @@ fn a_spilled_address(rt: HostRuntime) -> Result<(), Fail> {
             map: 0,
             offset: 24,
         },
-        store!(Size::U64, R10, -8, R6),
+        put!(Size::U64, R10, -8, R6),
         load!(Size::U64, R5, R10, -8),
     ];
-    let tail = [put!(Size::U32, R5, 4, 9), mov!(R0, 1), EXIT];
+    let tail = [store!(Size::U32, R5, 4, 9), number!(R0, 1), EXIT];
     let asked = Asked::Store {
         handle: 1,
         offset: 28,
@@ -149,14 +150,14 @@ static REFUSALS: [(&str, i32, u32, u32); 2] = [
 fn refused_addresses(rt: HostRuntime) -> Result<(), Fail> {
     for &(name, map, before_refusal, shard) in &REFUSALS {
         let head = [
-            put!(Size::U8, R10, -1, 1),
+            store!(Size::U8, R10, -1, 1),
             Insn::Ldval {
                 dst: R6,
                 map,
                 offset: 0,
             },
         ];
-        let tail = [put!(Size::U8, R6, 0, 5), mov!(R0, 3), EXIT];
+        let tail = [store!(Size::U8, R6, 0, 5), number!(R0, 3), EXIT];
         let replies = Replies {
             before_refusal,
             ..REPLIES

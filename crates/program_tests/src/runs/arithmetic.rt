@@ -1,8 +1,9 @@
 //! Each row of the arithmetic, as an instruction of a program that stores what it returns on the packet.
 
-use super::listing::{EXIT, checked, lddw, mov, store};
+use super::listing::{EXIT, checked, lddw};
 use super::programs::{MOMENT, accepted, has_number, ran};
 use crate::asserting::same;
+use crate::rows::{number, put};
 use ebpf_decode::Insn;
 use isa::Register::{R0, R2, R5, R6};
 use isa::{AluOp, ByteOrder, Extension, ShortExtension, Size, Source, SwapWidth, Test, Width};
@@ -34,7 +35,7 @@ fn gives(
         lddw!(R5, a),
         lddw!(R6, b),
         insn,
-        store!(Size::U64, R2, 0, R5),
+        put!(Size::U64, R2, 0, R5),
         EXIT,
     ];
     let verified = accepted(alloc, &[], &checked!(14, 6), &tail)?;
@@ -304,8 +305,8 @@ fn branches(
         source: Source::Reg(R6),
         distance: 1,
     };
-    let head = [lddw!(R5, a), lddw!(R6, b), mov!(R0, 2), jump];
-    let verified = accepted(alloc, &[], &head, &[mov!(R0, 1), EXIT])?;
+    let head = [lddw!(R5, a), lddw!(R6, b), number!(R0, 2), jump];
+    let verified = accepted(alloc, &[], &head, &[number!(R0, 1), EXIT])?;
     let exit = ran(alloc, &verified, &MOMENT, &[0; 14])?.exit;
     let verdict = if taken { Verdict::Pass } else { Verdict::Drop };
     let steps = if taken { 5 } else { 6 };

@@ -1,9 +1,10 @@
 //! What a run asks of a map by each instruction, and what it makes of the reply, worked out by hand.
 
-use super::listing::{EXIT, add, call, checked, copy, jump_if, lddw, load, mov, put, store};
+use super::listing::{EXIT, call, checked, lddw};
 use super::programs::{MOMENT, accepted, accepted_in};
 use super::scripted::{Asked, Replies, ScriptedPort};
 use crate::asserting::{same, same_fact};
+use crate::rows::{add, jump, load, mov, number, put, store};
 use ebpf_decode::{Insn, MapDef, MapKind, Version};
 use isa::Register::{R0, R1, R2, R3, R4, R5, R6, R10};
 use isa::{AluOp, AtomicOp, Size, Source, Test, Width};
@@ -84,14 +85,14 @@ fn asks_by(
 
 /// The value of key 7 in R6, where it is found.
 const FOUND: [Insn; 8] = [
-    put!(Size::U32, R10, -4, 7),
-    copy!(R2, R10),
+    store!(Size::U32, R10, -4, 7),
+    mov!(R2, R10),
     add!(R2, -4),
     Insn::Ldmap { dst: R1, map: 0 },
     call!(1),
-    jump_if!(Test::Ne, R0, Source::Imm(0), 1),
+    jump!(Test::Ne, R0, Source::Imm(0), 1),
     EXIT,
-    copy!(R6, R0),
+    mov!(R6, R0),
 ];
 
 pub(super) fn ended(verdict: Verdict, steps: u64) -> Result<Exit, Stop> {
@@ -114,8 +115,8 @@ fn stores_of_a_register(rt: HostRuntime) -> Result<(), Fail> {
     for &(name, size, offset, bytes, value) in &STORES {
         let tail = [
             lddw!(R5, NUMBER),
-            store!(size, R6, offset, R5),
-            mov!(R0, 3),
+            put!(size, R6, offset, R5),
+            number!(R0, 3),
             EXIT,
         ];
         let asked = Asked::Store {
@@ -151,7 +152,7 @@ static PUTS: [(&str, Size, i32, u64, u64); 4] = [
 #[test]
 fn stores_of_an_immediate(rt: HostRuntime) -> Result<(), Fail> {
     for &(name, size, immediate, bytes, value) in &PUTS {
-        let tail = [put!(size, R6, 8, immediate), mov!(R0, 3), EXIT];
+        let tail = [store!(size, R6, 8, immediate), number!(R0, 3), EXIT];
         let asked = Asked::Store {
             handle: 1,
             offset: 8,
@@ -200,7 +201,7 @@ fn atomic_operations(rt: HostRuntime) -> Result<(), Fail> {
                 src: R5,
                 offset: 8,
             };
-            let tail = [mov!(R0, 9), mov!(R5, 2), atomic, copy!(R0, R5), EXIT];
+            let tail = [number!(R0, 9), number!(R5, 2), atomic, mov!(R0, R5), EXIT];
             let asked = Asked::Atomic {
                 handle: 1,
                 offset: 8,
@@ -268,15 +269,15 @@ fn short_atomic_operations(rt: HostRuntime) -> Result<(), Fail> {
 fn a_spilled_value(rt: HostRuntime) -> Result<(), Fail> {
     let tail = [
         add!(R6, 8),
-        store!(Size::U64, R10, -16, R6),
+        put!(Size::U64, R10, -16, R6),
         Insn::Ldx {
             size: Size::U64,
             dst: R4,
             src: R10,
             offset: -16,
         },
-        put!(Size::U32, R4, 4, 5),
-        mov!(R0, 1),
+        store!(Size::U32, R4, 4, 5),
+        number!(R0, 1),
         EXIT,
     ];
     let asked = Asked::Store {
@@ -351,15 +352,15 @@ fn a_spilled_packet_end(rt: HostRuntime) -> Result<(), Fail> {
     let head = [
         load!(Size::U32, R2, R1, 0),
         load!(Size::U32, R3, R1, 4),
-        store!(Size::U64, R10, -8, R3),
-        mov!(R3, 0),
+        put!(Size::U64, R10, -8, R3),
+        number!(R3, 0),
         load!(Size::U64, R3, R10, -8),
-        copy!(R4, R2),
+        mov!(R4, R2),
         add!(R4, 20),
-        mov!(R0, 2),
-        jump_if!(Test::Gt, R4, Source::Reg(R3), 2),
+        number!(R0, 2),
+        jump!(Test::Gt, R4, Source::Reg(R3), 2),
     ];
-    let tail = [put!(Size::U8, R2, 19, 9), mov!(R0, 3), EXIT];
+    let tail = [store!(Size::U8, R2, 19, 9), number!(R0, 3), EXIT];
     let mut bytes = [0xaa; 20];
     bytes[19] = 9;
     asks(
@@ -391,14 +392,14 @@ fn value(bytes: &[u8]) -> Value {
 
 /// The key at -4 and the value at -24 of the stack, map 0 in R1 and the flags in R4: the arguments of updates and deletions.
 const ARGUMENTS: [Insn; 9] = [
-    put!(Size::U32, R10, -4, 0x0403_0201),
-    put!(Size::U64, R10, -24, 5),
-    put!(Size::U64, R10, -16, -1),
-    copy!(R2, R10),
+    store!(Size::U32, R10, -4, 0x0403_0201),
+    store!(Size::U64, R10, -24, 5),
+    store!(Size::U64, R10, -16, -1),
+    mov!(R2, R10),
     add!(R2, -4),
-    copy!(R3, R10),
+    mov!(R3, R10),
     add!(R3, -24),
-    mov!(R4, 1),
+    number!(R4, 1),
     Insn::Ldmap { dst: R1, map: 0 },
 ];
 
@@ -463,16 +464,16 @@ fn deletions(rt: HostRuntime) -> Result<(), Fail> {
 /// The packet's start moves 4 forward, so that 16 bytes are left, of which the first is written.
 #[test]
 fn a_moved_start(rt: HostRuntime) -> Result<(), Fail> {
-    let head = [copy!(R6, R1), mov!(R2, 4), call!(44), copy!(R1, R6)];
+    let head = [mov!(R6, R1), number!(R2, 4), call!(44), mov!(R1, R6)];
     let tail = [
         load!(Size::U32, R2, R1, 0),
         load!(Size::U32, R3, R1, 4),
-        copy!(R4, R2),
+        mov!(R4, R2),
         add!(R4, 16),
-        mov!(R0, 2),
-        jump_if!(Test::Gt, R4, Source::Reg(R3), 1),
-        put!(Size::U8, R2, 0, 7),
-        mov!(R0, 3),
+        number!(R0, 2),
+        jump!(Test::Gt, R4, Source::Reg(R3), 1),
+        store!(Size::U8, R2, 0, 7),
+        number!(R0, 3),
         EXIT,
     ];
     let mut bytes = [0xaa; 16];
@@ -501,7 +502,7 @@ static STAYS: [(&str, i32); 2] = [
 fn a_start_that_stays(rt: HostRuntime) -> Result<(), Fail> {
     for &(name, distance) in &STAYS {
         let tail = [add!(R0, 25), EXIT];
-        let head = [mov!(R2, distance), call!(44)];
+        let head = [number!(R2, distance), call!(44)];
         asks(
             &rt,
             rt.alloc(),
@@ -524,17 +525,17 @@ fn a_refusal_in_the_middle(rt: HostRuntime) -> Result<(), Fail> {
     let tail = [
         Insn::Ja { distance: 1 },
         EXIT,
-        put!(Size::U8, R2, 0, 1),
-        put!(Size::U32, R10, -4, 7),
-        copy!(R2, R10),
+        store!(Size::U8, R2, 0, 1),
+        store!(Size::U32, R10, -4, 7),
+        mov!(R2, R10),
         add!(R2, -4),
         Insn::Ldmap { dst: R1, map: 0 },
         call!(1),
-        jump_if!(Test::Ne, R0, Source::Imm(0), 1),
+        jump!(Test::Ne, R0, Source::Imm(0), 1),
         EXIT,
-        copy!(R6, R0),
-        put!(Size::U64, R6, 0, 6),
-        mov!(R0, 3),
+        mov!(R6, R0),
+        store!(Size::U64, R6, 0, 6),
+        number!(R0, 3),
         EXIT,
     ];
     let replies = Replies {

@@ -1,8 +1,9 @@
 //! Loads and stores of each size, on the packet and on the stack.
 
-use super::listing::{EXIT, checked, lddw, load, mov, put, store};
+use super::listing::{EXIT, checked, lddw};
 use super::programs::{MOMENT, accepted, ran};
 use crate::asserting::{same, same_fact};
+use crate::rows::{load, number, put, store};
 use ebpf_decode::Insn;
 use isa::Register::{R0, R1, R2, R5, R10};
 use isa::{Extension, Register, Size};
@@ -56,7 +57,7 @@ static STORES: [(&str, Size, i16, [u8; 16]); 5] = [
 #[test]
 fn stores_of_a_register(rt: HostRuntime) -> Result<(), Fail> {
     for &(name, size, offset, want) in &STORES {
-        let tail = [lddw!(R5, NUMBER), store!(size, R2, offset, R5), EXIT];
+        let tail = [lddw!(R5, NUMBER), put!(size, R2, offset, R5), EXIT];
         let head = checked!(16, 3);
         passes(&rt, rt.alloc(), &head, &tail, &[0xaa; 16], 9, &want, name)?;
     }
@@ -76,7 +77,7 @@ static IMMEDIATES: [(&str, Size, i32, u64); 6] = [
 #[test]
 fn stores_of_an_immediate(rt: HostRuntime) -> Result<(), Fail> {
     for &(name, size, immediate, want) in &IMMEDIATES {
-        let tail = [put!(size, R2, 0, immediate), EXIT];
+        let tail = [store!(size, R2, 0, immediate), EXIT];
         let head = checked!(16, 1);
         let bytes = want.to_le_bytes();
         passes(&rt, rt.alloc(), &head, &tail, &[0xaa; 16], 8, &bytes, name)?;
@@ -106,7 +107,7 @@ static LOADS: [(&str, Insn, u64); 11] = [
 #[test]
 fn loads_from_the_packet(rt: HostRuntime) -> Result<(), Fail> {
     for &(name, insn, want) in &LOADS {
-        let tail = [insn, store!(Size::U64, R2, 0, R5), EXIT];
+        let tail = [insn, put!(Size::U64, R2, 0, R5), EXIT];
         let head = checked!(16, 2);
         let bytes = want.to_le_bytes();
         passes(&rt, rt.alloc(), &head, &tail, &BYTES, 9, &bytes, name)?;
@@ -132,9 +133,9 @@ fn loads_from_the_stack(rt: HostRuntime) -> Result<(), Fail> {
     for &(name, place, insn, want) in &STACK_LOADS {
         let tail = [
             lddw!(R5, 0x80000000f37f8180),
-            store!(Size::U64, R10, place, R5),
+            put!(Size::U64, R10, place, R5),
             insn,
-            store!(Size::U64, R2, 0, R5),
+            put!(Size::U64, R2, 0, R5),
             EXIT,
         ];
         let head = checked!(14, 5);
@@ -148,10 +149,10 @@ fn loads_from_the_stack(rt: HostRuntime) -> Result<(), Fail> {
 #[test]
 fn a_word_of_two_halves(rt: HostRuntime) -> Result<(), Fail> {
     let tail = [
-        put!(Size::U32, R10, -16, 1),
-        put!(Size::U32, R10, -12, -2),
+        store!(Size::U32, R10, -16, 1),
+        store!(Size::U32, R10, -12, -2),
         load!(Size::U64, R5, R10, -16),
-        store!(Size::U64, R2, 0, R5),
+        put!(Size::U64, R2, 0, R5),
         EXIT,
     ];
     let head = checked!(14, 4);
@@ -172,9 +173,9 @@ fn a_word_of_two_halves(rt: HostRuntime) -> Result<(), Fail> {
 #[test]
 fn a_number_over_a_spilled_pointer(rt: HostRuntime) -> Result<(), Fail> {
     let head = [
-        mov!(R0, 0),
-        store!(Size::U64, R10, -8, R1),
-        put!(Size::U64, R10, -8, 2),
+        number!(R0, 0),
+        put!(Size::U64, R10, -8, R1),
+        store!(Size::U64, R10, -8, 2),
         load!(Size::U64, R0, R10, -8),
     ];
     passes(

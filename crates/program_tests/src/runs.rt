@@ -12,10 +12,11 @@ mod programs;
 mod scripted;
 
 use crate::asserting::{same, same_fact};
+use crate::rows::{add, alu, jump, load, mov, number, put};
 use ebpf_decode::Insn;
 use isa::Register::{R0, R1, R2, R3, R4, R5, R10};
 use isa::{AluOp, Register, Size, Source, Test, Width};
-use listing::{EXIT, add, alu, call, checked, copy, jump_if, load, mov, store};
+use listing::{EXIT, call, checked};
 use machine::{Exit, Moment, Stop};
 use programs::{MOMENT, accepted, ran};
 use semantics::Verdict;
@@ -79,7 +80,7 @@ fn one_instruction_and_an_exit(rt: HostRuntime) -> Result<(), Fail> {
 fn the_longest_run(rt: HostRuntime) -> Result<(), Fail> {
     let mut code = Vec::new(rt.alloc());
     for _ in 0..4095 {
-        code.push(mov!(R0, 1))?;
+        code.push(number!(R0, 1))?;
     }
     let want = exit(Verdict::Drop, 4096);
     ends(
@@ -138,10 +139,10 @@ fn a_byte_that_a_strict_test_covers(rt: HostRuntime) -> Result<(), Fail> {
     let head = [
         load!(Size::U32, R2, R1, 0),
         load!(Size::U32, R3, R1, 4),
-        copy!(R4, R2),
+        mov!(R4, R2),
         add!(R4, 14),
-        mov!(R0, 2),
-        jump_if!(Test::Ge, R4, Source::Reg(R3), 1),
+        number!(R0, 2),
+        jump!(Test::Ge, R4, Source::Reg(R3), 1),
     ];
     let tail = [load!(Size::U8, R0, R2, 14), EXIT];
     for &(name, bytes, want) in &STRICT_ROWS {
@@ -163,9 +164,9 @@ fn a_place_that_the_packet_tells(rt: HostRuntime) -> Result<(), Fail> {
     let tail = [
         load!(Size::U8, R5, R2, 13),
         alu!(AluOp::Add, R2, Source::Reg(R5)),
-        copy!(R4, R2),
+        mov!(R4, R2),
         add!(R4, 1),
-        jump_if!(Test::Gt, R4, Source::Reg(R3), 1),
+        jump!(Test::Gt, R4, Source::Reg(R3), 1),
         load!(Size::U8, R0, R2, 0),
         EXIT,
     ];
@@ -211,7 +212,7 @@ fn each_run_has_its_moment(rt: HostRuntime) -> Result<(), Fail> {
 #[test]
 fn a_spilled_context(rt: HostRuntime) -> Result<(), Fail> {
     let head = [
-        store!(Size::U64, R10, -8, R1),
+        put!(Size::U64, R10, -8, R1),
         load!(Size::U64, R2, R10, -8),
         load!(Size::U32, R0, R2, 12),
     ];
@@ -231,7 +232,7 @@ fn a_spilled_context(rt: HostRuntime) -> Result<(), Fail> {
 #[test]
 fn a_spilled_packet_pointer(rt: HostRuntime) -> Result<(), Fail> {
     let tail = [
-        store!(Size::U64, R10, -8, R2),
+        put!(Size::U64, R10, -8, R2),
         load!(Size::U64, R5, R10, -8),
         load!(Size::U8, R0, R5, 13),
         EXIT,
@@ -262,8 +263,8 @@ static JUMPS: [(&str, i32, Insn, Exit); 4] = [
 #[test]
 fn jumps_over_slots(rt: HostRuntime) -> Result<(), Fail> {
     for &(name, number, jump, want) in &JUMPS {
-        let head = [mov!(R0, number), jump_if!(Test::Eq, R0, Source::Imm(2), 2)];
-        let tail = [mov!(R0, 1), jump, mov!(R0, 3), EXIT];
+        let head = [number!(R0, number), jump!(Test::Eq, R0, Source::Imm(2), 2)];
+        let tail = [number!(R0, 1), jump, number!(R0, 3), EXIT];
         ends(&rt, rt.alloc(), &MOMENT, &head, &tail, &[0; 14], want, name)?;
     }
     Ok(())
