@@ -3,7 +3,7 @@
 ghost use Rattle.std.specs.Prelude.{◌≡◌, ◌<◌, ◌≤◌};
 
 use crate::asserting::same;
-use replay::{Actor, ActorEnded, Handled, RunEnd, Runner, run_all};
+use replay::{Actor, ActorEnded, Handled, Pace, RunEnd, Runner, run_all};
 use rx_queues::{Job, Queues, TakePass};
 use std::alloc::Global;
 use std::process::Abort;
@@ -178,6 +178,7 @@ fn run_beside<R: Abort + Threads + Wait + Sync>(
         &capture,
         &STARTS,
         1,
+        Pace::Free,
         &Passing,
         Hearing { first: 1 },
         Hearing { first: 0 },

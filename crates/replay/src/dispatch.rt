@@ -8,6 +8,7 @@ ghost use Rattle.replay.specs.Actors.{AreDispatched, ArePutAt, AreHandedOver, Ar
 ghost use Rattle.replay.specs.Puts.{ArePutWithEnd, with_record};
 ghost use Rattle.rx_queues.specs.declared.job.Job.TheVariants.{Note};
 
+use crate::pace::Pace;
 use rx_queues::{Caller, Job, PutPass, Queues, spread};
 use std::sync::Wait;
 use wire::{Capture, MIN_FRAME, Sent, flow_of};
@@ -118,6 +119,7 @@ pub(crate) struct Dispatch<'a> {
     pub starts: &'a [u32],
     pub first: usize,
     pub workers: usize,
+    pub pace: Pace,
     pub ghost few: { (workers_of queues.now ≡ workers) × (0 < workers) × (workers ≤ 8) },
 }
 

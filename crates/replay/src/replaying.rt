@@ -13,6 +13,7 @@ ghost use Rattle.replay.specs.declared.fault.ReplayFault.TheVariants.{BadOptions
 use crate::closing::closed;
 use crate::fault::ReplayFault;
 use crate::outcome::Outcome;
+use crate::pace::Pace;
 use crate::setting::{
     new_controller, new_reclaimer, new_workers, run_threads, starts_of, table_for,
 };
@@ -52,6 +53,7 @@ fn replay_over<B: Naming + Send + Sync, R: Threads + Wait + Sync, G: Gate + Sync
     opened: Opened,
     options: Options,
     gate: &G,
+    pace: Pace,
 ) -> Result<Outcome, ReplayFault>
     requires named { IsNamed B.count B.table B.plan opened }
     requires maps { opened.maps ≡ verified.now.maps }
@@ -89,8 +91,8 @@ fn replay_over<B: Naming + Send + Sync, R: Threads + Wait + Sync, G: Gate + Sync
     )?;
     let reclaimer = new_reclaimer(alloc, rt, &shards, &mut dealer, gate)?;
     match run_threads(
-        rt, alloc, &queues, capture, script, size, starts, first, &runner, controller, reclaimer,
-        put, takes, states,
+        rt, alloc, &queues, capture, script, size, starts, first, pace, &runner, controller,
+        reclaimer, put, takes, states,
     ) {
         Ok(
             AllEnded {
@@ -102,6 +104,33 @@ fn replay_over<B: Naming + Send + Sync, R: Threads + Wait + Sync, G: Gate + Sync
             rt, alloc, verified, capture, script, size, shards, handled, controller, reclaimer,
         )?),
         Err(fault) => Err(fault),
+    }
+}
+
+/// A replay at either pace.
+fn replay_at<R: Threads + Wait + Sync, G: Gate + Sync>(
+    rt: &R,
+    alloc: Global,
+    verified: &Verified,
+    capture: &Capture,
+    script: &Script,
+    options: Options,
+    gate: &G,
+    pace: Pace,
+) -> Result<Outcome, ReplayFault>
+    ensures accounted { IfOk result (IsAccounted (program_of verified.now options.shards) script.now options capture.now.records.items) }
+    ensures bad_options { IsErrOf result BadOptions ↔ (IsFalse (are_served_options verified.now.maps options) ⊎ HasNoTable
+        verified.now.maps script.now) }
+{
+    let image = verified.image();
+    let Some(size) = table_for(image.maps(), script.commands()) else {
+        return Err(ReplayFault::BadOptions);
+    };
+    match Opened::open(alloc, image, options) {
+        Ok(opened) => replay_over::<Brand, R, G>(
+            rt, alloc, verified, capture, script, size, opened, options, gate, pace,
+        ),
+        Err(fault) => Err(fault_of(fault)),
     }
 }
 
@@ -134,14 +163,45 @@ pub fn replay<R: Threads + Wait + Sync, G: Gate + Sync>(
     ensures bad_options { IsErrOf result BadOptions ↔ (IsFalse (are_served_options verified.now.maps options) ⊎ HasNoTable
         verified.now.maps script.now) }
 {
-    let image = verified.image();
-    let Some(size) = table_for(image.maps(), script.commands()) else {
-        return Err(ReplayFault::BadOptions);
-    };
-    match Opened::open(alloc, image, options) {
-        Ok(opened) => replay_over::<Brand, R, G>(
-            rt, alloc, verified, capture, script, size, opened, options, gate,
-        ),
-        Err(fault) => Err(fault_of(fault)),
-    }
+    replay_at(
+        rt,
+        alloc,
+        verified,
+        capture,
+        script,
+        options,
+        gate,
+        Pace::Free,
+    )
+}
+
+/// The same, with exact moments: a command takes effect after every frame before it was run to its end, and before any later one is handed
+/// to a worker; and so does each round of the reclaimer, after every 64 records. So two such replays of the same input send the same
+/// frames, by any number of workers, as long as flows share nothing that depends on their order; and by one worker they are the same in
+/// every entry of every journal. It takes longer, since the workers wait at each command and each round.
+///
+/// Returns and refuses what `replay` does.
+pub fn exact_replay<R: Threads + Wait + Sync, G: Gate + Sync>(
+    rt: &R,
+    alloc: Global,
+    verified: &Verified,
+    capture: &Capture,
+    script: &Script,
+    options: Options,
+    gate: &G,
+) -> Result<Outcome, ReplayFault>
+    ensures accounted { IfOk result (IsAccounted (program_of verified.now options.shards) script.now options capture.now.records.items) }
+    ensures bad_options { IsErrOf result BadOptions ↔ (IsFalse (are_served_options verified.now.maps options) ⊎ HasNoTable
+        verified.now.maps script.now) }
+{
+    replay_at(
+        rt,
+        alloc,
+        verified,
+        capture,
+        script,
+        options,
+        gate,
+        Pace::Exact,
+    )
 }

@@ -21,6 +21,7 @@ ghost use Rattle.replay.specs.declared.fault.ReplayFault.TheVariants.{BadOptions
 use crate::controller::{Commanded, Commander};
 use crate::dispatch::due;
 use crate::fault::ReplayFault;
+use crate::pace::Pace;
 use crate::reclaimer::Reclaiming;
 use crate::shard_runner::{ShardRunner, Working};
 use crate::threads::{AllEnded, run_all};
@@ -162,6 +163,7 @@ pub(crate) fn run_threads<'x, B: Naming + Send + Sync, R: Threads + Wait + Sync,
     size: u32,
     starts: &'x [u32],
     first: usize,
+    pace: Pace,
     runner: &'x ShardRunner<'x, B, R, G>,
     controller: Commander<'x, B, R, G>,
     reclaimer: Reclaiming<'x, B, R, G>,
@@ -191,7 +193,7 @@ pub(crate) fn run_threads<'x, B: Naming + Send + Sync, R: Threads + Wait + Sync,
     let _ = script;
     let _ = size;
     run_all(
-        rt, alloc, queues, capture, starts, first, runner, controller, reclaimer, put, takes,
+        rt, alloc, queues, capture, starts, first, pace, runner, controller, reclaimer, put, takes,
         states,
     )
 }

@@ -14,6 +14,7 @@ use crate::actor::{Actor, ActorThread, settled_actor, start_actor};
 use crate::crew::{Handled, abandon, finish_all, start_all};
 use crate::dispatch::{Dispatch, ask_round, end_all, end_both};
 use crate::fault::ReplayFault;
+use crate::pace::Pace;
 use crate::runner::Runner;
 use rx_queues::{PutPass, Queues, TakePass};
 use std::alloc::Global;
@@ -130,6 +131,7 @@ fn work_all<'s, X, S: Drop + Send + 's, W: Runner<S> + Sync + 's, R: Threads + W
     capture: &'s Capture,
     starts: &[u32],
     first: usize,
+    pace: Pace,
     runner: &'s W,
     put: &mut PutPass,
     takes: Vec<TakePass>,
@@ -159,6 +161,7 @@ fn work_all<'s, X, S: Drop + Send + 's, W: Runner<S> + Sync + 's, R: Threads + W
                 starts,
                 first,
                 workers,
+                pace,
             };
             dispatch.hand_all(rt, put);
             end_all(rt, queues, put, workers);
@@ -193,6 +196,7 @@ fn run_all_in<
     capture: &'s Capture,
     starts: &[u32],
     first: usize,
+    pace: Pace,
     runner: &'s W,
     controller: C,
     reclaimer: D,
@@ -221,7 +225,7 @@ fn run_all_in<
         return Err(ReplayFault::NoThread);
     };
     match work_all(
-        scope, rt, alloc, queues, capture, starts, first, runner, &mut put, takes, states,
+        scope, rt, alloc, queues, capture, starts, first, pace, runner, &mut put, takes, states,
     ) {
         Ok(handled) => match close_both(rt, queues, &mut put, commanding, reclaiming) {
             Some((controller, reclaimer)) => Ok(AllEnded {
@@ -261,6 +265,7 @@ pub fn run_all<
     capture: &'x Capture,
     starts: &'x [u32],
     first: usize,
+    pace: Pace,
     runner: &'x W,
     controller: C,
     reclaimer: D,
@@ -300,8 +305,8 @@ pub fn run_all<
             ensures served { ¬ IsErrOf result BadOptions }
         {
             run_all_in(
-                scope, rt, alloc, queues, capture, starts, first, runner, controller, reclaimer,
-                put, takes, states,
+                scope, rt, alloc, queues, capture, starts, first, pace, runner, controller,
+                reclaimer, put, takes, states,
             )
         },
     )
