@@ -14,7 +14,7 @@ ghost use Rattle.steered_replays.specs.Totals.{AreTotals};
 use crate::laws::{replays_are_steered, totals_are_exact};
 use crate::replays::all_are_of_capture;
 use control::Script;
-use replay::{Outcome, ReplayFault, replay as exact_replay};
+use replay::{Outcome, ReplayFault, exact_replay};
 use semantics::Options;
 use shard_port::Gate;
 use std::alloc::Global;

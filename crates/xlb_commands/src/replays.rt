@@ -44,7 +44,7 @@ use command_line::ReplayFiles;
 use control::{Script, parse_script};
 use folders::Folder;
 use guarantees::readers::readers_send_as_at_opening;
-use replay::{Outcome, ReplayFault, replay, replay as exact_replay};
+use replay::{Outcome, ReplayFault, exact_replay, replay};
 use semantics::Options;
 use semantics::facts::bytes_have_8_bits;
 use shard_port::Gate;
