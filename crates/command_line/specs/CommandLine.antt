@@ -82,16 +82,22 @@ replay_named = with_rule (with_rule (new_app (codes "replay")) (file_rule (codes
 -- the other files
 abbrev pub replay_files : App
 replay_files =
-    with_rule (with_rule (with_rule replay_named (option_rule (codes "image"))) (option_rule (codes "script"))) (option_rule (codes "journals"))
-
--- and its numbers
-abbrev pub replay_command : App
-replay_command =
     with_rule
     (with_rule
+    (with_rule (with_rule replay_named (option_rule (codes "image"))) (option_rule (codes "program")))
+    (option_rule (codes "script")))
+    (option_rule (codes "journals"))
+
+-- how its shards are opened
+abbrev pub replay_opened : App
+replay_opened =
+    with_rule
     (with_rule (with_rule replay_files (number_rule (codes "workers") 4294967295 (codes "1"))) (number_rule (codes "shards") 4294967295 (codes "1")))
-    (number_rule (codes "journal") 4294967295 (codes "65536")))
-    (number_rule (codes "ring") 4294967295 (codes "251"))
+    (number_rule (codes "journal") 4294967295 (codes "65536"))
+
+-- and the size of the lookup table, and whether commands take effect at exact moments
+abbrev pub replay_command : App
+replay_command = with_rule (with_rule replay_opened (number_rule (codes "ring") 4294967295 (codes "251"))) (switch_rule (codes "exact"))
 
 -- the name, with `--version`; a command has to be given, and `help` tells of the commands
 abbrev pub program_name : App

@@ -1,5 +1,5 @@
 -- What the settings are of a command and what was found for its arguments.
-use Rattle.std.specs.Prelude.{◌≡◌, ◌<◌, ◌^◌, ◌*◌, ◌+◌, ◌/◌, ℕ, Bool, List, [], length, true, false, ◌&&◌, Option, Some, option_map}
+use Rattle.std.specs.Prelude.{◌≡◌, ◌<◌, ◌^◌, ◌*◌, ◌+◌, ◌/◌, ℕ, Bool, List, [], length, true, false, ◌&&◌, Option, Some, None, option_map}
 use Rattle.std.specs.Prelude.{IsTrue, IsFalse, ◌||◌, codes, is_some, unwrap_or, slice_get, slice_index_or}
 use Rattle.std.specs.Borrow.{Bor}
 use Rattle.std.specs.Str.{bytes_eq}
@@ -14,9 +14,9 @@ use Rattle.command_line.specs.declared.commands.RunFiles.{RunFiles}
 use Rattle.command_line.specs.declared.commands.Settings.{Settings}
 use Rattle.command_line.specs.declared.commands.Settings.TheVariants.{Check, Run, Disasm, Audit, Explain, Asm, Shipped, Replay}
 use Rattle.command_line.specs.declared.words.WordsFault.{WordsFault}
-use Rattle.command_line.specs.declared.words.WordsFault.TheVariants.{Parser, UnknownFault, Both, Update}
+use Rattle.command_line.specs.declared.words.WordsFault.TheVariants.{Parser, UnknownFault, Both, TwoImages, Update}
 use Rattle.command_line.specs.declared.words.Asked.{Asked}
-use Rattle.command_line.specs.declared.words.Asked.TheVariants.{Command, NoSuchFault, ImageAndScript, NoUpdate}
+use Rattle.command_line.specs.declared.words.Asked.TheVariants.{Command, NoSuchFault, ImageAndScript, ImageAndProgram, NoUpdate}
 use Rattle.faults.specs.Explanations.{is_fault}
 use Rattle.map_updates.specs.UpdateWords.{IsWritten, IsMistaken}
 use Rattle.map_updates.specs.declared.reading.Mistake.{Mistake}
@@ -56,9 +56,14 @@ IsCommand name = IsTrue
     || bytes_eq name (codes "shipped")
     || bytes_eq name (codes "asm"))
 
--- a replay has both an image and a script
-abbrev pub names_both : ReplayFiles → Bool
-names_both files = is_some files.image && is_some files.script
+-- both of two options are given
+abbrev pub are_both_given : Text → Text → List Row → Bool
+are_both_given one other rows = is_some (first_of one rows) && is_some (first_of other rows)
+
+-- the first of two options that is given, if one is
+abbrev pub either : Option Text → Option Text → Option Text
+either (Some word) other = Some word
+either None other = other
 
 -- the files of a run are what was found for its arguments
 abbrev pub AreRunFiles : List Row → RunFiles → Type 0
@@ -94,7 +99,7 @@ pub record IsBadUpdate (words : List Text) (place : ℕ) (mistake : Mistake) : T
 abbrev pub AreReplayFiles : List Row → ReplayFiles → Type 0
 AreReplayFiles rows files = (files.capture.now ≡ word_of (codes "CAPTURE") rows)
     × (files.sent.now ≡ word_of (codes "SENT") rows)
-    × (text_of files.image ≡ first_of (codes "image") rows)
+    × (text_of files.image ≡ either (first_of (codes "image") rows) (first_of (codes "program") rows))
     × (text_of files.script ≡ first_of (codes "script") rows)
     × (text_of files.journals ≡ first_of (codes "journals") rows)
 
@@ -130,27 +135,33 @@ IsReadFrom name rows (Asm text out source) = is_named name (codes "asm")
 IsReadFrom name rows (Shipped out ring) = is_named name (codes "shipped")
     × (out.now ≡ word_of (codes "OUT") rows)
     × IsNumberOf 32 (codes "ring") rows ring
-IsReadFrom name rows (Replay files options ring) = is_named name (codes "replay")
+IsReadFrom name rows (Replay files options ring exact) = is_named name (codes "replay")
     × AreReplayFiles rows files
     × AreReplayOptions rows options
     × IsNumberOf 32 (codes "ring") rows ring
-    × IsFalse (names_both files)
+    × IsSwitchOf (codes "exact") rows exact
+    × IsFalse (are_both_given (codes "image") (codes "script") rows)
+    × IsFalse (are_both_given (codes "image") (codes "program") rows)
 
--- what was asked for: a command, what a number means that no fault has, a replay of both an image and a script, or a malformed update
+-- what was asked for: a command, what a number means that no fault has, a replay of both an image and a script or of two images, or a malformed update
 abbrev pub IsAsked : Text → List Row → Asked → Type 0
 IsAsked name rows (Command settings) = IsReadFrom name rows settings
 IsAsked name rows (NoSuchFault number) = is_named name (codes "explain")
     × IsNumberOf 32 (codes "NUMBER") rows number
     × (is_fault number ≡ false)
-IsAsked name rows ImageAndScript = is_named name (codes "replay")
-    × IsTrue (is_some (first_of (codes "image") rows) && is_some (first_of (codes "script") rows))
+IsAsked name rows ImageAndScript = is_named name (codes "replay") × IsTrue (are_both_given (codes "image") (codes "script") rows)
+IsAsked name rows ImageAndProgram = is_named name (codes "replay")
+    × IsFalse (are_both_given (codes "image") (codes "script") rows)
+    × IsTrue (are_both_given (codes "image") (codes "program") rows)
 IsAsked name rows (NoUpdate place mistake) = is_named name (codes "run")
     × IsBadUpdate (words_of (codes "update") rows) place mistake
 
--- the words ask for what there is not: what a number means that no fault has, a replay of both an image and a script, or a malformed update
+-- the words ask for what there is not: what a number means that no fault has, a replay of both an image and a script or of two images, or a malformed
+-- update
 abbrev pub AsksInVain : Text → List Row → WordsFault → Type 0
 AsksInVain name rows (UnknownFault number) = IsAsked name rows (NoSuchFault number)
 AsksInVain name rows Both = IsAsked name rows ImageAndScript
+AsksInVain name rows TwoImages = IsAsked name rows ImageAndProgram
 AsksInVain name rows (Update place mistake) = IsAsked name rows (NoUpdate place mistake)
 AsksInVain name rows (Parser error) = ⊥
 
@@ -163,4 +174,5 @@ abbrev pub kind_in : WordsFault → ErrorKind
 kind_in (Parser error) = kind_of error
 kind_in (UnknownFault number) = ValueValidation
 kind_in Both = ArgumentConflict
+kind_in TwoImages = ArgumentConflict
 kind_in (Update place mistake) = kind_of_mistake mistake

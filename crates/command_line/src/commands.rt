@@ -45,12 +45,14 @@ pub enum Settings<'a> {
         /// How many slots its lookup table has.
         ring: u32,
     },
-    /// Runs the frames of a capture by some workers over shared maps, and writes those that are sent. It has no image, or no script.
+    /// Runs the frames of a capture by some workers over shared maps, and writes those that are sent.
     Replay {
         files: ReplayFiles<'a>,
         options: Options,
         /// How many slots the lookup table of the shipped program has.
         ring: u32,
+        /// Whether a command takes effect exactly between the frames before and after it.
+        exact: bool,
     },
 }
 
@@ -69,7 +71,7 @@ pub struct ReplayFiles<'a> {
     pub capture: &'a str,
     /// Where the sent frames are written to.
     pub sent: &'a str,
-    /// The image's file; the shipped program is run where it is missing.
+    /// The image's file, of `--image` or of `--program`; the shipped program is run where it is missing.
     pub image: Option<&'a str>,
     pub script: Option<&'a str>,
     /// Where the journals are written to.

@@ -48,6 +48,12 @@ pub const SENT: &str = "SENT";
 /// The image of a replay.
 pub const REPLAY_IMAGE: &str = "image";
 
+/// The image of a replay that may have a script.
+pub const PROGRAM: &str = "program";
+
+/// Whether the commands of a replay take effect at exact moments.
+pub const EXACT: &str = "exact";
+
 /// The script of a replay.
 pub const SCRIPT: &str = "script";
 
@@ -146,7 +152,10 @@ each verdict:
 and for each command of the script that was refused
   command <its number, from 1> refused <fault number>
 in which case the status is 1. A frame is handled by the worker of its flow,
-so that a flow's frames stay in order.";
+so that a flow's frames stay in order. --image replays any program, without a
+script; --program one over the maps of the shipped program, with any size of
+the lookup table, and with a script. With --exact a command takes effect when
+all frames before it are done, and before a later one is begun.";
 
 /// A file that has to be named.
 fn file<'a>(alloc: Global, id: &'a str, help: &'a str) -> Arg<'a>
@@ -390,13 +399,23 @@ fn replay_files<'a>(alloc: Global) -> Result<Command<'a>, AllocError>
         REPLAY_IMAGE,
         "The image's file; without it the shipped program is run",
     );
+    let program = option(
+        alloc,
+        PROGRAM,
+        "The image's file, over the maps of steering; not with --image",
+    );
     let script = option(alloc, SCRIPT, "The controller's script; not with --image");
     let journals = option(alloc, JOURNALS_OUT, "The file to write the journals to");
-    replay_named(alloc)?.arg(image)?.arg(script)?.arg(journals)
+    replay_named(alloc)?
+        .arg(image)?
+        .arg(program)?
+        .arg(script)?
+        .arg(journals)
 }
 
-fn replay<'a>(alloc: Global) -> Result<Command<'a>, AllocError>
-    ensures app { IfOk result (λ command. app_of command ≡ line.replay_command) }
+/// The same with the numbers by which its shards are opened.
+fn replay_opened<'a>(alloc: Global) -> Result<Command<'a>, AllocError>
+    ensures app { IfOk result (λ command. app_of command ≡ line.replay_opened) }
     ensures local { IfOk result (λ command. (out-Command command).has_globals ≡ false) }
 {
     let workers = count(alloc, WORKERS, "1", "How many workers, 1 to 8");
@@ -412,11 +431,19 @@ fn replay<'a>(alloc: Global) -> Result<Command<'a>, AllocError>
         "65536",
         "How many calls each shard may have, 16 to 1048576",
     );
-    replay_files(alloc)?
-        .arg(workers)?
-        .arg(shards)?
-        .arg(journal)?
-        .arg(ring(alloc))
+    replay_files(alloc)?.arg(workers)?.arg(shards)?.arg(journal)
+}
+
+fn replay<'a>(alloc: Global) -> Result<Command<'a>, AllocError>
+    ensures app { IfOk result (λ command. app_of command ≡ line.replay_command) }
+    ensures local { IfOk result (λ command. (out-Command command).has_globals ≡ false) }
+{
+    let exact = switch(
+        alloc,
+        EXACT,
+        "Applies each command exactly between the frames before and after it",
+    );
+    replay_opened(alloc)?.arg(ring(alloc))?.arg(exact)
 }
 
 /// The program's commands.

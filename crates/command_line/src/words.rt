@@ -8,14 +8,15 @@ ghost use Rattle.map_updates.specs.UpdateWords.{IsWritten, IsMistaken};
 ghost use Rattle.clap.specs.Words.{Row, Text, fault_of, found_of, rows_of, subcommand_of};
 ghost use Rattle.command_line.specs.CommandLine.{program};
 ghost use Rattle.command_line.specs.Reading.{IsReadFrom, IsAsked, IsBadUpdate, IsCommand, IsSwitchOf, AreRunFiles, AreUpdates};
-ghost use Rattle.command_line.specs.Reading.{AreReplayFiles, AreReplayOptions, AsksInVain, IsNumberOf, kind_in, text_of, word_at};
+ghost use Rattle.command_line.specs.Reading.{AreReplayFiles, AreReplayOptions, AsksInVain, IsNumberOf, are_both_given, either, kind_in, text_of, word_at};
 ghost use Rattle.command_line.specs.Reading.{word_of, words_of};
 ghost use Rattle.clap.specs.declared.error.kind.ErrorKind.TheVariants.{DisplayHelp, DisplayVersion, OutOfMemory};
 
 use crate::commands::{ReplayFiles, RunFiles, Settings};
 use crate::grammar::{
-    CAPTURE, EXPLAIN, FRAME, IMAGE, JOURNAL, JOURNALS, JOURNALS_OUT, NOW, NUMBER, OUT,
-    REPLAY_IMAGE, RING, SCRIPT, SENT, SHARDS, SOURCE, TEXT, UPDATE, WORKER, WORKERS, program,
+    CAPTURE, EXACT, EXPLAIN, FRAME, IMAGE, JOURNAL, JOURNALS, JOURNALS_OUT, NOW, NUMBER, OUT,
+    PROGRAM, REPLAY_IMAGE, RING, SCRIPT, SENT, SHARDS, SOURCE, TEXT, UPDATE, WORKER, WORKERS,
+    program,
 };
 use clap::{ArgMatches, Error};
 use faults::Explanation;
@@ -28,6 +29,9 @@ use std::{fmt, io};
 /// What is told of a replay of both an image and a script.
 const TOGETHER: &str = "error: the options --image and --script cannot be used together";
 
+/// What is told of a replay of two images.
+const TWO_IMAGES: &str = "error: the options --image and --program cannot be used together";
+
 /// Why words are no command, or which text they ask for: help or the version.
 #[derive(Debug, Drop)]
 pub enum WordsFault {
@@ -37,6 +41,8 @@ pub enum WordsFault {
     UnknownFault(u32),
     /// A replay has both an image and a script.
     Both,
+    /// A replay has two images, of `--image` and of `--program`.
+    TwoImages,
     /// An update of a run, at this place among its updates, from 0, is malformed; or memory was refused for it.
     Update { place: usize, mistake: Mistake },
 }
@@ -50,6 +56,8 @@ enum Asked<'a> {
     NoSuchFault(u32),
     /// A replay of both an image and a script.
     ImageAndScript,
+    /// A replay of both `--image` and `--program`.
+    ImageAndProgram,
     /// A run with a malformed update.
     NoUpdate { place: usize, mistake: Mistake },
 }
@@ -64,6 +72,7 @@ impl WordsFault {
             WordsFault::Parser(error) => { if error.use_stderr() { 2 } else { 0 } }
             WordsFault::UnknownFault(_) => 2,
             WordsFault::Both => 2,
+            WordsFault::TwoImages => 2,
             WordsFault::Update { .. } => 2,
         }
     }
@@ -74,6 +83,7 @@ impl WordsFault {
             WordsFault::Parser(error) => error.print(rt),
             WordsFault::UnknownFault(number) => eprintln!(rt; "error: there is no fault {number}"),
             WordsFault::Both => eprintln!(rt; "{TOGETHER}"),
+            WordsFault::TwoImages => eprintln!(rt; "{TWO_IMAGES}"),
             WordsFault::Update { place, mistake } => {
                 let number = place.saturating_add(1);
                 eprintln!(rt; "error: update {number}: {mistake}")
@@ -88,6 +98,7 @@ impl fmt::Display for WordsFault {
             WordsFault::Parser(error) => write!(f, "{error}"),
             WordsFault::UnknownFault(number) => write!(f, "error: there is no fault {number}"),
             WordsFault::Both => write!(f, "{TOGETHER}"),
+            WordsFault::TwoImages => write!(f, "{TWO_IMAGES}"),
             WordsFault::Update { place, mistake } => {
                 let number = place.saturating_add(1);
                 write!(f, "error: update {number}: {mistake}")
@@ -99,8 +110,8 @@ impl fmt::Display for WordsFault {
 /// The command that the words say; the first word is the program's name.
 ///
 /// There is one exactly where the parser finds no fault in the words, and they don't ask what a number means that no fault has, for a
-/// replay of both an image and a script, or for a run with a malformed update. A fault is of the first kind that the parser finds, or one
-/// of these three, or memory was refused.
+/// replay of both an image and a script or of two images, or for a run with a malformed update. A fault is of the first kind that the
+/// parser finds, or one of these, or memory was refused.
 pub fn settings<'a, S: AsStr>(alloc: Global, words: &'a [S]) -> Result<Settings<'a>, WordsFault>
     ensures found { IfOk result (λ settings. (name : Text) × (rows : List Row)
         × (subcommand_of program (map S.text words.entry.now) ≡ Some (name, rows)) × IsReadFrom name rows settings) }
@@ -113,6 +124,7 @@ pub fn settings<'a, S: AsStr>(alloc: Global, words: &'a [S]) -> Result<Settings<
         Ok(Asked::Command(settings)) => Ok(settings),
         Ok(Asked::NoSuchFault(number)) => Err(WordsFault::UnknownFault(number)),
         Ok(Asked::ImageAndScript) => Err(WordsFault::Both),
+        Ok(Asked::ImageAndProgram) => Err(WordsFault::TwoImages),
         Ok(Asked::NoUpdate { place, mistake }) => Err(WordsFault::Update { place, mistake }),
         Err(error) => Err(WordsFault::Parser(error)),
     }
@@ -167,15 +179,35 @@ fn explain_of<'a>(found: &ArgMatches<'a>) -> Asked<'a>
 fn replay_of<'a>(found: &ArgMatches<'a>) -> Asked<'a>
     ensures { IsAsked (codes "replay") (rows_of (found_of found.now)) result }
 {
-    let files = replay_files_of(found);
-    if files.image.is_some() && files.script.is_some() {
+    if are_both_given(found, REPLAY_IMAGE, SCRIPT) {
         return Asked::ImageAndScript;
     }
+    if are_both_given(found, REPLAY_IMAGE, PROGRAM) {
+        return Asked::ImageAndProgram;
+    }
     Asked::Command(Settings::Replay {
-        files,
+        files: replay_files_of(found),
         options: options_of(found),
         ring: number_of(found, RING, 251),
+        exact: switch(found, EXACT),
     })
+}
+
+/// Whether both of two options are given.
+fn are_both_given(found: &ArgMatches<'_>, one: &str, other: &str) -> bool
+    ensures { result ≡ are_both_given one.now other.now (rows_of (found_of found.now)) }
+{
+    option(found, one).is_some() && option(found, other).is_some()
+}
+
+/// The first of two options that is given, if one is.
+fn either<'a>(one: Option<&'a str>, other: Option<&'a str>) -> Option<&'a str>
+    ensures { text_of result ≡ either (text_of one.entry) (text_of other.entry) }
+{
+    match one {
+        Some(word) => Some(word),
+        None => other,
+    }
 }
 
 /// The settings of the command that writes the shipped program.
@@ -195,7 +227,7 @@ fn replay_files_of<'a>(found: &ArgMatches<'a>) -> ReplayFiles<'a>
     ReplayFiles {
         capture: word(found, CAPTURE),
         sent: word(found, SENT),
-        image: option(found, REPLAY_IMAGE),
+        image: either(option(found, REPLAY_IMAGE), option(found, PROGRAM)),
         script: option(found, SCRIPT),
         journals: option(found, JOURNALS_OUT),
     }

@@ -6,6 +6,7 @@ ghost use Rattle.std.specs.Prelude.{◌≡◌, ◌-◌, ◌<◌, ◌^◌};
 
 mod assembling;
 mod audits;
+mod clashes;
 mod devices;
 mod explained;
 mod failing_devices;

@@ -33,7 +33,7 @@ fn is_of_capture(sent: &Sent)
 }
 
 /// Each record of a capture is one that a capture has: the type of each says so.
-fn all_are_of_capture(capture: &Capture)
+pub(crate) fn all_are_of_capture(capture: &Capture)
     ensures { AllByRecursion IsOfCapture capture.now.records.items }
 {
     'records: for number in 0..capture.records.len() {

@@ -34,7 +34,12 @@ fn shown(alloc: Global, settings: Settings<'_>) -> Result<String, AllocError> {
             files,
             options,
             ring,
-        } => replay_shown(alloc, files, options, ring),
+            exact,
+        } => {
+            let mut text = replay_shown(alloc, files, options, ring)?;
+            text.push_str(if exact { " exact" } else { "" })?;
+            Ok(text)
+        }
     }
 }
 
@@ -94,7 +99,7 @@ fn replay_shown(
 }
 
 #[rattlefmt::skip]
-const READ: [(&str, &str); 28] = [
+const READ: [(&str, &str); 30] = [
     ("xlb check a",                             "check a false"),
     ("xlb check --explain a",                   "check a true"),
     ("xlb check a --explain",                   "check a true"),
@@ -123,6 +128,8 @@ const READ: [(&str, &str); 28] = [
     ("xlb replay a b",                          "replay a b - - 1 1 65536 251 -"),
     ("xlb replay --script s a b --journals j",  "replay a b - s 1 1 65536 251 j"),
     ("xlb replay a b --image i --workers 4 --shards 8 --journal 16 --ring 7", "replay a b i - 4 8 16 7 -"),
+    ("xlb replay a b --program p --script s",   "replay a b p s 1 1 65536 251 -"),
+    ("xlb replay --exact a b --script s",       "replay a b - s 1 1 65536 251 - exact"),
 ];
 
 /// Compares the settings of a command line.
@@ -148,11 +155,14 @@ fn reads_commands(rt: HostRuntime) -> Result<(), Fail> {
 
 /// A command line, the status, and what its text begins with.
 #[rattlefmt::skip]
-const REFUSED: [(&str, u8, &str); 44] = [
+const REFUSED: [(&str, u8, &str); 47] = [
     ("xlb",                                     2, "error: 'xlb' requires a subcommand but one was not provided"),
     ("xlb play a b",                            2, "error: unrecognized subcommand 'play'"),
     ("xlb replay a",                            2, "error: the following required arguments were not provided:\n  <SENT>"),
     ("xlb replay a b --image i --script s",     2, "error: the options --image and --script cannot be used together"),
+    ("xlb replay a b --image i --program p",    2, "error: the options --image and --program cannot be used together"),
+    ("xlb replay a b --program p --image i --script s", 2, "error: the options --image and --script cannot be used together"),
+    ("xlb replay a b --exact --exact",          2, "error: the argument '--exact' cannot be used multiple times"),
     ("xlb help",                                0, "Replays captures through eBPF programs; checks, runs, audits, prints and assembles them"),
     ("xlb check",                               2, "error: the following required arguments were not provided:\n  <IMAGE>"),
     ("xlb check a b",                           2, "error: unexpected argument 'b' found"),

@@ -1,3 +1,4 @@
 -- The lemmas that proofs of this crate share.
 pub mod LongImages
+pub mod ReaderFiles
 pub mod Refusals

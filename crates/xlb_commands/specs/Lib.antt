@@ -1,5 +1,6 @@
 -- The definitions that the contracts of this crate cite, in reading order.
 pub mod Files
+pub mod Clashes
 pub mod Replays
 pub mod Results
 pub mod FaultLines

@@ -65,9 +65,10 @@ use Rattle.command_line.specs.declared.commands.Settings.TheVariants.{Check, Run
 use Rattle.xlb_commands.specs.declared.fault.Fault.{Fault}
 use Rattle.xlb_commands.specs.declared.fault.Fault.TheVariants as faults
 use Rattle.xlb_commands.specs.Files.{FileBytes, AreKept, AreOthersKept, IsImageFile}
+use Rattle.xlb_commands.specs.Clashes.{IsOver, clash_text}
 use Rattle.xlb_commands.specs.FaultLines.{fault_line, mistake_text}
 use Rattle.xlb_commands.specs.Replays.{IsProgramOf, IsScriptOf, IsCaptureOf, program_of_replay}
-use Rattle.xlb_commands.specs.Results.{IsDone, IsDoneInPart, IsReported, IsMistake, run_options, program_of_run, start_of_run}
+use Rattle.xlb_commands.specs.Results.{IsDone, IsDoneInPart, IsReported, IsMistake, Stream, run_options, program_of_run, start_of_run}
 
 -- ---- files
 
@@ -355,7 +356,7 @@ IsRefusedWith before after failed (Explain about) fault = fault ≡ faults.Memor
 IsRefusedWith before after failed (Asm text out false) fault = IsAsmRefusal before after failed text.now fault
 IsRefusedWith before after failed (Asm text out true) fault = IsSourceRefusal before after failed text.now fault
 IsRefusedWith before after failed (Shipped out ring) fault = IsShippedFileRefusal before after failed ring fault
-IsRefusedWith before after failed (Replay files options ring) fault = IsReplayRefusal before after failed files options ring fault
+IsRefusedWith before after failed (Replay files options ring exact) fault = IsReplayRefusal before after failed files options ring fault
 
 -- the fault that is told: the command was refused with it; or it was done, and what it prints could not be printed
 pub data IsToldFault (before after : FileBytes) (failed unprinted : Type 0) (settings : Settings) (fault : Fault) : Type 0 where
@@ -376,27 +377,40 @@ pub data PrintsRefusal (fault : Fault) (notes : List ℕ) (before after : Option
   in_full : (text : List ℕ) → IsRefusalText (fault_line fault) notes text → after ≡ append_known before text → PrintsRefusal fault notes before after
   lacks_text : after ≡ append_known before (codes "fault 8 Memory\n") → PrintsRefusal fault notes before after
 
--- a stream: what it was given, where that is known, and how many of its calls failed
-pub record Stream : Type 0 where
-  pub held : Option (List ℕ)
-  pub failures : ℕ
-
-abbrev pub stream : Option (List ℕ) → ℕ → Stream
-stream held failures = record { held = held; failures = failures }
-
 -- A stream that held `before` was given one text more: which update the image's maps do not take, and why. Where memory was refused for that text, it is
 -- the line of fault 8.
 pub data PrintsMistake (place : ℕ) (misfit : Misfit) (before after : Option (List ℕ)) : Type 0 where
   in_words : after ≡ append_known before (mistake_text place misfit) → PrintsMistake place misfit before after
   lacks_words : after ≡ append_known before (codes "fault 8 Memory\n") → PrintsMistake place misfit before after
 
+-- the same of a file that would be written over another one
+pub data PrintsClash (written other : List ℕ) (before after : Option (List ℕ)) : Type 0 where
+  in_line : after ≡ append_known before (clash_text written other) → PrintsClash written other before after
+  lacks_line : after ≡ append_known before (codes "fault 8 Memory\n") → PrintsClash written other before after
+
+-- a file would be written over another one that the command has, which are one by what the folder knows: that was told on `err`, unless that failed;
+-- nothing was read or written, and `out` was given nothing
+pub record IsClash (before after : FileBytes) (are_one : FileBytes) (settings : Settings) (out out' err err' : Stream) : Type 0 where
+  pub written : List ℕ
+  pub other : List ℕ
+  pub over : IsOver settings written other
+  pub one : are_one written other
+  pub kept : AreKept before after
+  pub told : err'.failures ≡ err.failures → PrintsClash written other err.held err'.held
+  pub nothing : out' ≡ out
+
 -- a mistake of the command line that shows in the image was told on `err`, unless that failed, and `out` was given nothing
-pub record IsMistaken (before after : FileBytes) (settings : Settings) (out out' err err' : Stream) : Type 0 where
+pub record IsMisfitTold (before after : FileBytes) (settings : Settings) (out out' err err' : Stream) : Type 0 where
   pub place : ℕ
   pub misfit : Misfit
   pub is : IsMistake before after settings place misfit
   pub told : err'.failures ≡ err.failures → PrintsMistake place misfit err.held err'.held
   pub nothing : out' ≡ out
+
+-- a mistake that shows only in the image, or in the files' names
+abbrev pub IsMistaken : FileBytes → FileBytes → FileBytes → Settings → Stream → Stream → Stream → Stream → Type 0
+IsMistaken before after are_one settings out out' err err' =
+    IsMisfitTold before after settings out out' err err' ⊎ IsClash before after are_one settings out out' err err'
 
 -- the line of the command's fault was given to `err`, unless that failed, and nothing to `out`, unless that failed
 pub record IsTold (before after : FileBytes) (failed : Type 0) (settings : Settings) (out out' err err' : Stream) : Type 0 where
@@ -409,4 +423,4 @@ pub record IsTold (before after : FileBytes) (failed : Type 0) (settings : Setti
 -- the command is refused: its report says so, or its fault was told
 abbrev pub IsRefused : FileBytes → FileBytes → Type 0 → Settings → Stream → Stream → Stream → Stream → Type 0
 IsRefused before after failed settings out out' err err' =
-    IsReported before after settings out.held out'.held err.held err'.held ⊎ IsTold before after failed settings out out' err err'
+    IsReported before after settings out.held out'.held err err' ⊎ IsTold before after failed settings out out' err err'

@@ -1,11 +1,15 @@
 -- What it means that a replay is done: the files that it read and wrote, and its report.
-use Rattle.std.specs.Prelude.{◌≡◌, ◌≢◌, ◌+◌, ◌++◌, ℕ, List, [], Option, Some, None, codes, decimal}
+use Rattle.std.specs.Prelude.{◌≡◌, ◌≢◌, ◌+◌, ◌++◌, ◌∷◌, ℕ, List, [], Option, Some, None, codes, decimal, length}
 use Rattle.std.specs.List.{flat_map}
 use Rattle.ebpf_decode.specs.ImageContents.{Contents}
 use Rattle.semantics.specs.Safety.{IsSafeImage}
 use Rattle.semantics.specs.declared.options.Options.{Options}
 use Rattle.semantics.specs.Program.{Program}
-use Rattle.wire.specs.CaptureFormat.{IsCaptureFile, capture_bytes}
+use Rattle.abstract_state.specs.declared.state.State.{State}
+use Rattle.verifier.specs.Dataflow.{Accepts}
+use Rattle.verifier.specs.Readers.{IsReader}
+use Rattle.byteorder.specs.Endian.{little_bytes}
+use Rattle.wire.specs.CaptureFormat.{IsCaptureFile, capture_bytes, header_bytes}
 use Rattle.wire.specs.declared.records.Sent.{Sent}
 use Rattle.steer.specs.ShippedProgram.{shipped_image}
 use Rattle.control.specs.declared.command.Command.{Command}
@@ -15,10 +19,11 @@ use Rattle.control.specs.ScriptText.{IsScriptText}
 use Rattle.journals.specs.JournalsView.{JournalsView}
 use Rattle.journals.specs.JournalText.{journals_text}
 use Rattle.replay.specs.declared.account.Counts.{Counts}
-use Rattle.replay.specs.Accounts.{frames_in}
+use Rattle.replay.specs.Accounts.{SentFrame, frames_in}
 use Rattle.replay.specs.declared.outcome.Applied.{Applied}
 use Rattle.replay.specs.declared.outcome.Outcome.{Outcome}
 use Rattle.replay.specs.Accounted.{IsAccounted}
+use Rattle.guarantees.specs.ReaderReplays.{all_sent_at_opening}
 use Rattle.steered_replays.specs.SteeredRuns.{IsSteeredReplay}
 use Rattle.steered_replays.specs.Totals.{AreTotals}
 use Rattle.command_line.specs.declared.commands.ReplayFiles.{ReplayFiles}
@@ -105,13 +110,35 @@ abbrev pub FollowsRule : Option (List ℕ) → ℕ → List Command → Options 
 FollowsRule (Some name) ring script options records outcome = Unit {0}
 FollowsRule None ring script options records outcome = IsByRule ring script options records outcome
 
+-- the record of a frame in a capture file: its moment, its length twice, its bytes
+abbrev pub frame_record : SentFrame → List ℕ
+frame_record frame =
+    (little_bytes 4 frame.seconds ++ little_bytes 4 frame.micros ++ little_bytes 4 (length frame.bytes) ++ little_bytes 4 (length frame.bytes))
+    ++ frame.bytes
+
+abbrev pub frame_records : List SentFrame → List ℕ
+frame_records [] = []
+frame_records (frame ∷ frames) = frame_record frame ++ frame_records frames
+
+-- the capture file of what runs send over maps in which nothing has happened. It is a function of the program, its shards and the capture.
+abbrev pub reader_file : Program → List Sent → List ℕ
+reader_file program records = header_bytes ++ frame_records (all_sent_at_opening program records (length records))
+
+-- Of a program that only reads, where the script has no commands and no run was stopped, the bytes of the sent frames' file follow from the program, the
+-- number of shards and the capture: so they are the same for every number of workers.
+abbrev pub SendsAlike : Contents → List (Option State) → List Command → Options → List Sent → Outcome → Type 0
+SendsAlike image states script options records outcome = IsReader image.code states → script ≡ [] → outcome.counts.stopped ≡ 0 →
+    capture_bytes outcome.sent.items ≡ reader_file (program_of_replay image options) records
+
 -- The program may run; script and capture are read from their files; the replay accounts for every record, every command and every entry
--- of the journals; the shipped program follows the steering rule; the sent frames and the journals are written to their files; and what is
+-- of the journals; the shipped program follows the steering rule; one that only reads sends the same for every number of workers; the sent frames and the journals are written to their files; and what is
 -- printed are the counts, and the commands that were refused.
 pub record IsReplayed (before after : FileBytes) (files : ReplayFiles) (options : Options) (ring : ℕ) (printed : List ℕ) (refused : List Applied) :
     Type 0 where
   pub program : Contents
   pub program_is : IsProgramOf before (text_of files.image) ring program
+  pub states : List (Option State)
+  pub accepted : Accepts program.version program.maps program.code states
   pub safe : IsSafeImage program.maps program.code
   pub script : List Command
   pub script_is : IsScriptOf before (text_of files.script) script
@@ -120,6 +147,7 @@ pub record IsReplayed (before after : FileBytes) (files : ReplayFiles) (options 
   pub outcome : Outcome
   pub accounted : IsAccounted (program_of_replay program options) script options records outcome
   pub by_rule : FollowsRule (text_of files.image) ring script options records outcome
+  pub readers : SendsAlike program states script options records outcome
   pub refused_are : outcome.refused.items ≡ refused
   -- the journals are written after the sent frames, over them where both have one name
   pub sent : text_of files.journals ≢ Some files.sent.now → after files.sent.now (capture_bytes outcome.sent.items)

@@ -24,6 +24,7 @@ use Rattle.journals.specs.JournalsView.{JournalsView}
 use Rattle.journals.specs.JournalReading.{IsJournalsFile}
 use Rattle.journals.specs.LegalJournals.{AreLegal}
 use Rattle.faults.specs.Explanations.{explanation_text}
+use Rattle.faults.specs.Refusals.{AreNotes}
 use Rattle.reasons.specs.Explanations.{IsExplanation}
 use Rattle.command_line.specs.Reading.{text_of}
 use Rattle.map_updates.specs.Misfits.{IsFirstMisfit}
@@ -184,11 +185,11 @@ IsDone before after (Explain about) printed = printed ≡ explanation_text about
 IsDone before after (Asm text out false) printed = IsAssembled before after text.now out.now × (printed ≡ [])
 IsDone before after (Asm text out true) printed = IsSourceAssembled before after text.now out.now × (printed ≡ [])
 IsDone before after (Shipped out ring) printed = IsShippedFile after out.now ring × (printed ≡ [])
-IsDone before after (Replay files options ring) printed = IsReplayedWhole before after files options ring printed
+IsDone before after (Replay files options ring exact) printed = IsReplayedWhole before after files options ring printed
 
 -- the command is done but for a part that was refused, as the report tells: commands of a replay's script
 abbrev pub IsDoneInPart : FileBytes → FileBytes → Settings → List ℕ → Type 0
-IsDoneInPart before after (Replay files options ring) printed = IsReplayedInPart before after files options ring printed
+IsDoneInPart before after (Replay files options ring exact) printed = IsReplayedInPart before after files options ring printed
 IsDoneInPart before after other printed = ⊥
 
 -- no file changes but those that the command is to write, whether it is done or refused
@@ -200,14 +201,33 @@ KeepsFiles before after (Audit image journals) = AreKept before after
 KeepsFiles before after (Explain about) = AreKept before after
 KeepsFiles before after (Asm text out source) = AreOthersKept before after out.now
 KeepsFiles before after (Shipped out ring) = AreOthersKept before after out.now
-KeepsFiles before after (Replay files options ring) = AreAllButKept before after files.sent.now (text_of files.journals)
+KeepsFiles before after (Replay files options ring exact) = AreAllButKept before after files.sent.now (text_of files.journals)
 
--- the report was printed, and nothing else
-pub record IsReported (before after : FileBytes) (settings : Settings) (out out' err err' : Option (List ℕ)) : Type 0 where
+-- a stream: what it was given, where that is known, and how many of its calls failed
+pub record Stream : Type 0 where
+  pub held : Option (List ℕ)
+  pub failures : ℕ
+
+abbrev pub stream : Option (List ℕ) → ℕ → Stream
+stream held failures = record { held = held; failures = failures }
+
+-- a stream was given lines that each begin with two blanks, or nothing, unless it failed
+pub record AreNotesPrinted (before after : Stream) : Type 0 where
+  pub notes : List ℕ
+  pub are_notes : AreNotes notes
+  pub told : after.failures ≡ before.failures → after.held ≡ append_known before.held notes
+
+-- what the error stream is given after a command's report: of a replay such lines, of another command nothing
+abbrev pub IsNoted : Settings → Stream → Stream → Type 0
+IsNoted (Replay files options ring exact) before after = AreNotesPrinted before after
+IsNoted other before after = after ≡ before
+
+-- the report was printed, and what follows it
+pub record IsReported (before after : FileBytes) (settings : Settings) (out out' : Option (List ℕ)) (err err' : Stream) : Type 0 where
   pub text : List ℕ
   pub done : IsDoneInPart before after settings text
   pub printed : out' ≡ append_known out text
-  pub quiet : err' ≡ err
+  pub noted : IsNoted settings err err'
 
 -- a mistake of the command line that shows in the image: its maps do not take an update of a run
 abbrev pub IsMistake : FileBytes → FileBytes → Settings → ℕ → Misfit → Type 0

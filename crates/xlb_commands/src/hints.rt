@@ -130,9 +130,35 @@ fn record_offset(bytes: &[u8], record: u64) -> usize {
     at
 }
 
+/// How many of the records of a capture, which has so many, keep fewer bytes than their frames had.
+pub(crate) fn cut_records(bytes: &[u8], records: usize) -> u64 {
+    let mut cut = 0u64;
+    let mut at = HEADER_LEN;
+    'records: for _ in 0..records {
+        let Some(kept) = kept_at(bytes, at) else {
+            return cut;
+        };
+        if had_at(bytes, at).unwrap_or(kept) > kept {
+            cut = cut.saturating_add(1);
+        }
+        at = at.saturating_add(HEAD_LEN + kept as usize);
+    }
+    cut
+}
+
 /// How many bytes the record at an offset keeps.
 fn kept_at(bytes: &[u8], at: usize) -> Option<u32> {
-    let field = bytes.get(at.saturating_add(8)..at.saturating_add(12))?;
+    number_at(bytes, at.saturating_add(8))
+}
+
+/// How many bytes the frame of the record at an offset had when it was captured.
+fn had_at(bytes: &[u8], at: usize) -> Option<u32> {
+    number_at(bytes, at.saturating_add(12))
+}
+
+/// The number in the four bytes at an offset.
+fn number_at(bytes: &[u8], at: usize) -> Option<u32> {
+    let field = bytes.get(at..at.saturating_add(4))?;
     let mut number = 0u32;
     for (place, byte) in field.iter().enumerate() {
         if place < 4 {

@@ -1,10 +1,12 @@
 //! What each command of `xlb` does: images of eBPF programs checked, run on a frame, printed and assembled, captures replayed, journals audited.
 #![tactic(auto)]
 
+mod clashes;
 mod commands;
 mod fault;
 mod fault_lines;
 mod hints;
+mod notes;
 mod one_run;
 mod progress;
 mod replays;

@@ -1,10 +1,14 @@
 //! What `xlb replay` does with its files.
 
+ghost use Rattle.std.specs.List.{AllByRecursion};
 ghost use Rattle.std.specs.Prelude.{◌≡◌, ◌≢◌, ◌==◌, ◌↔◌, ◌+◌, ◌++◌, ◌-◌, ◌<◌, ◌≤◌, ◌^◌, ◌⊎◌, ℕ, [], true, false};
 ghost use Rattle.std.specs.Prelude.{List, Some, None, IfErr, IfOk, IsErrOf, IsFalse, OnOk, length, string_bytes};
 ghost use Rattle.semantics.specs.Safety.{IsSafeImage};
 ghost use Rattle.semantics.specs.ShardPlan.{are_served_options};
+ghost use Rattle.verifier.specs.Dataflow.{Accepts};
+ghost use Rattle.verifier.specs.Readers.{IsReader};
 ghost use Rattle.machine.specs.Running.{program_of};
+ghost use Rattle.guarantees.specs.ReaderReplays.{IsCaptured, SendsAsAtOpening};
 ghost use Rattle.maglev.specs.RingSize.{IsRingSize};
 ghost use Rattle.steer.specs.ShippedProgram.{shipped_image};
 ghost use Rattle.wire.specs.CaptureFormat.{IsCaptureFile, capture_bytes};
@@ -18,17 +22,20 @@ ghost use Rattle.replay.specs.declared.fault.ReplayFault.TheVariants.{BadOptions
 ghost use Rattle.replay.specs.Accounted.{IsAccounted};
 ghost use Rattle.replay.specs.Accounts.{frames_in};
 ghost use Rattle.replay.specs.Parts.{HasNoTable};
+ghost use Rattle.steered_replays.specs.SteeredRuns.{IsSteeredReplay};
+ghost use Rattle.steered_replays.specs.Totals.{AreTotals};
 ghost use Rattle.journals.specs.JournalText.{journals_text};
 ghost use Rattle.command_line.specs.Reading.{text_of};
 ghost use Rattle.xlb_commands.specs.Files.{AreKept, AreAllButKept};
 ghost use Rattle.xlb_commands.specs.Refused.{HasFailed, LacksRoom, AreUnfiled, IsReplayProgramRefusal, IsScriptFileRefusal, IsScriptRefusal};
 ghost use Rattle.xlb_commands.specs.Refused.{IsNoCapture, IsCaptureRefusal, IsReplayRefusal};
-ghost use Rattle.xlb_commands.specs.Replays.{IsProgramOf, IsScriptOf, IsScriptFile, IsCaptureOf, IsReplayed, HasBytes, FollowsRule};
+ghost use Rattle.xlb_commands.specs.Replays.{IsProgramOf, IsScriptOf, IsScriptFile, IsCaptureOf, IsReplayed, HasBytes, FollowsRule, reader_file};
 ghost use Rattle.xlb_commands.specs.Replays.{counts_text, refusals_text};
 
 use crate::commands::{bytes_of, judged_of};
 use crate::fault::{Fault, Refusal};
 use crate::hints;
+use crate::notes::Notes;
 use crate::progress::{Progress, Rounds};
 use crate::report::{Report, replayed};
 use crate::shipping::shipped_program;
@@ -36,12 +43,15 @@ use crate::written::{journal_bytes, write_journals_to, write_to};
 use command_line::ReplayFiles;
 use control::{Script, parse_script};
 use folders::Folder;
-use replay::{Outcome, ReplayFault, replay};
+use guarantees::readers::readers_send_as_at_opening;
+use replay::{Outcome, ReplayFault, exact_replay, replay};
 use semantics::Options;
+use semantics::facts::bytes_have_8_bits;
 use shard_port::Gate;
 use std::alloc::{AllocError, Global};
 use std::sync::Wait;
 use std::thread::Threads;
+use steered_replays::exact::exact_shipped_replay;
 use steered_replays::replays::shipped_replay;
 use verifier::Verified;
 use wire::{Capture, MemorySink, MemorySource, Sent, read_capture, write_capture};
@@ -141,8 +151,13 @@ fn records_of(alloc: Global, bytes: &[u8]) -> Result<Capture, Refusal>
     }
 }
 
-/// The capture of a file.
-fn capture_of<D: Folder>(alloc: Global, folder: &mut D, name: &str) -> Result<Capture, Refusal>
+/// The capture of a file, and in `cut` how many of its records keep fewer bytes than their frames had.
+fn capture_of<D: Folder>(
+    alloc: Global,
+    folder: &mut D,
+    name: &str,
+    cut: &mut u64,
+) -> Result<Capture, Refusal>
     requires { D.failure_count folder.old < 2 ^ 64 - 1 }
     ensures capture { IfOk result (λ capture. IsCaptureOf (D.holds folder.old) name.now capture.records.items) }
     ensures kept { AreKept (D.holds folder.old) (D.holds folder.new) }
@@ -151,7 +166,9 @@ fn capture_of<D: Folder>(alloc: Global, folder: &mut D, name: &str) -> Result<Ca
         (HasFailed (D.failure_count folder.old) (D.failure_count folder.new)) name.now refusal.fault) }
 {
     let bytes = bytes_of(alloc, folder, name)?;
-    records_of(alloc, &bytes)
+    let capture = records_of(alloc, &bytes)?;
+    *cut = hints::cut_records(&bytes, capture.records.len());
+    Ok(capture)
 }
 
 /// The bytes of a capture file of these frames.
@@ -165,11 +182,61 @@ fn bytes_of_frames(alloc: Global, frames: &[Sent]) -> Result<MemorySink, AllocEr
     }
 }
 
+/// `replay`, or `exact_replay`, in which each command takes effect between the frames before and after it.
+fn replay_at<R: Threads + Wait + Sync, G: Gate + Sync>(
+    rt: &R,
+    alloc: Global,
+    exact: bool,
+    verified: &Verified,
+    capture: &Capture,
+    script: &Script,
+    options: Options,
+    gate: &G,
+) -> Result<Outcome, ReplayFault>
+    ensures accounted { IfOk result (IsAccounted (program_of verified.now options.shards) script.now options capture.now.records.items) }
+    ensures bad_options { IsErrOf result BadOptions ↔
+        (IsFalse (are_served_options verified.now.maps options) ⊎ HasNoTable verified.now.maps script.now) }
+{
+    if exact {
+        exact_replay(rt, alloc, verified, capture, script, options, gate)
+    } else {
+        replay(rt, alloc, verified, capture, script, options, gate)
+    }
+}
+
+/// The same of the shipped program for a lookup table of `ring` slots.
+fn shipped_replay_at<R: Threads + Wait + Sync, G: Gate + Sync>(
+    rt: &R,
+    alloc: Global,
+    exact: bool,
+    verified: &Verified,
+    ring: u32,
+    capture: &Capture,
+    script: &Script,
+    options: Options,
+    gate: &G,
+) -> Result<Outcome, ReplayFault>
+    requires size { IsRingSize ring }
+    requires image { record { version = verified.now.version; maps = verified.now.maps; code = verified.now.code } ≡ shipped_image ring }
+    ensures accounted { IfOk result (IsAccounted (program_of verified.now options.shards) script.now options capture.now.records.items) }
+    ensures steered { IfOk result (IsSteeredReplay ring script.now options capture.now.records.items) }
+    ensures totals { IfOk result (λ outcome. outcome.counts.stopped ≡ 0 → AreTotals outcome) }
+    ensures bad_options { IsErrOf result BadOptions ↔
+        (IsFalse (are_served_options verified.now.maps options) ⊎ HasNoTable verified.now.maps script.now) }
+{
+    if exact {
+        exact_shipped_replay(rt, alloc, verified, ring, capture, script, options, gate)
+    } else {
+        shipped_replay(rt, alloc, verified, ring, capture, script, options, gate)
+    }
+}
+
 /// Runs the frames of a capture: by the shipped program for a lookup table of `ring` slots, whose runs follow the steering rule, or by that
-/// of an image.
+/// of an image. `exact`: each command takes effect between the frames before and after it.
 fn outcome_of<R: Threads + Wait + Sync, G: Gate + Sync>(
     rt: &R,
     alloc: Global,
+    exact: bool,
     verified: &Verified,
     image: Option<&str>,
     ring: u32,
@@ -187,9 +254,72 @@ fn outcome_of<R: Threads + Wait + Sync, G: Gate + Sync>(
         (IsFalse (are_served_options verified.now.maps options) ⊎ HasNoTable verified.now.maps script.now) }
 {
     match image {
-        Some(_) => replay(rt, alloc, verified, capture, script, options, gate),
-        None => shipped_replay(rt, alloc, verified, ring, capture, script, options, gate),
+        Some(_) => replay_at(rt, alloc, exact, verified, capture, script, options, gate),
+        None => shipped_replay_at(
+            rt, alloc, exact, verified, ring, capture, script, options, gate,
+        ),
     }
+}
+
+/// A record with no more bytes than a captured frame may have is one that a capture has.
+fn is_captured(sent: &Sent)
+    requires { length sent.now.bytes.items ≤ 2048 }
+    ensures { IsCaptured sent.now }
+{
+    bytes_have_8_bits(&sent.bytes);
+}
+
+/// Each record of a capture is one that a capture has: the type of each says so.
+fn all_are_captured(capture: &Capture)
+    ensures { AllByRecursion IsCaptured capture.now.records.items }
+{
+    'records: for number in 0..capture.records.len() {
+        is_captured(&capture.records[number]);
+    }
+}
+
+/// What a replay of a program sends that only reads.
+fn readers_send_alike(verified: &Verified)
+    ensures sends { IsReader verified.now.code verified.now.states → SendsAsAtOpening verified.now.maps verified.now.code }
+    ensures accepted { Accepts verified.now.version verified.now.maps verified.now.code verified.now.states }
+{
+    let _ = verified.image();
+    if verified.is_reader() {
+        readers_send_as_at_opening(verified);
+    }
+}
+
+/// `outcome_of`, with what holds besides of a program that only reads.
+fn outcome_with<R: Threads + Wait + Sync, G: Gate + Sync>(
+    rt: &R,
+    alloc: Global,
+    exact: bool,
+    verified: &Verified,
+    image: Option<&str>,
+    ring: u32,
+    capture: &Capture,
+    script: &Script,
+    options: Options,
+    gate: &G,
+) -> Result<Outcome, ReplayFault>
+    requires size { text_of image ≡ None → IsRingSize ring }
+    requires shipped { text_of image ≡ None →
+        record { version = verified.now.version; maps = verified.now.maps; code = verified.now.code } ≡ shipped_image ring }
+    ensures accounted { IfOk result (IsAccounted (program_of verified.now options.shards) script.now options capture.now.records.items) }
+    ensures accepted { Accepts verified.now.version verified.now.maps verified.now.code verified.now.states }
+    ensures readers { IfOk result (λ outcome. IsReader verified.now.code verified.now.states → script.now ≡ [] →
+        outcome.counts.stopped ≡ 0 → capture_bytes outcome.sent.items ≡ reader_file (program_of verified.now options.shards) capture.now.records.items) }
+    ensures steered { IfOk result (FollowsRule (text_of image.entry) ring script.now options capture.now.records.items) }
+    ensures bad_options { IsErrOf result BadOptions ↔
+        (IsFalse (are_served_options verified.now.maps options) ⊎ HasNoTable verified.now.maps script.now) }
+{
+    readers_send_alike(verified);
+    all_are_captured(capture);
+    let outcome = outcome_of(
+        rt, alloc, exact, verified, image, ring, capture, script, options, gate,
+    )?;
+    let _ = outcome.journals.options();
+    Ok(outcome)
 }
 
 /// What a replay leaves, in memory: the bytes of its files, and its report.
@@ -200,12 +330,13 @@ struct Leavings {
     report: Report,
 }
 
-/// What a replay of so many frames leaves. The bytes of the journals are made where a file is named for them.
+/// What a replay of so many frames leaves, with these notes. The bytes of the journals are made where a file is named for them.
 fn left_of(
     alloc: Global,
     frames: usize,
     outcome: &Outcome,
     journals: Option<&str>,
+    notes: Option<String>,
 ) -> Result<Leavings, Refusal>
     requires { frames ≡ frames_in outcome.now.counts }
     ensures sent { IfOk result (λ left. left.sent.bytes ≡ capture_bytes outcome.now.sent.items) }
@@ -216,7 +347,7 @@ fn left_of(
 {
     let sent = bytes_of_frames(alloc, &outcome.sent)?;
     let journals = journal_bytes(alloc, journals, &outcome.journals)?;
-    let report = replayed(alloc, frames, outcome.counts, &outcome.refused)?;
+    let report = replayed(alloc, frames, outcome.counts, &outcome.refused, notes)?;
     Ok(Leavings {
         sent,
         journals,
@@ -253,6 +384,7 @@ pub fn replay_files<R: Threads + Wait + Sync, D: Folder, P: Progress + Sync>(
     files: &ReplayFiles<'_>,
     options: Options,
     ring: u32,
+    exact: bool,
     progress: &P,
 ) -> Result<Report, Refusal>
     requires { D.failure_count folder.old < 2 ^ 64 - 1 }
@@ -265,11 +397,13 @@ pub fn replay_files<R: Threads + Wait + Sync, D: Folder, P: Progress + Sync>(
 {
     let verified = program_of(alloc, folder, files.image, ring)?;
     let script = script_of(alloc, folder, files.script)?;
-    let capture = capture_of(alloc, folder, files.capture)?;
+    let mut cut = 0;
+    let capture = capture_of(alloc, folder, files.capture, &mut cut)?;
     let rounds = Rounds::of(progress, &verified, &options, &capture);
-    let outcome = match outcome_of(
+    let outcome = match outcome_with(
         rt,
         alloc,
+        exact,
         &verified,
         files.image,
         ring,
@@ -281,7 +415,19 @@ pub fn replay_files<R: Threads + Wait + Sync, D: Folder, P: Progress + Sync>(
         Ok(outcome) => outcome,
         Err(fault) => return Err(Refusal::from(Fault::Replay(fault))),
     };
-    let left = left_of(alloc, capture.records.len(), &outcome, files.journals)?;
+    let notes = Notes {
+        cut,
+        ring,
+        image: files.image,
+    };
+    let notes = notes.text(alloc, &outcome).ok();
+    let left = left_of(
+        alloc,
+        capture.records.len(),
+        &outcome,
+        files.journals,
+        notes,
+    )?;
     write_files(alloc, folder, files, &left)?;
     Ok(left.report)
 }

@@ -20,6 +20,8 @@ use wire::Frame;
 pub struct Report {
     pub text: String,
     pub is_refused: bool,
+    /// Lines for people, which go to the error stream.
+    pub notes: Option<String>,
 }
 
 impl Report {
@@ -30,6 +32,7 @@ impl Report {
         Report {
             text,
             is_refused: false,
+            notes: None,
         }
     }
 }
@@ -168,12 +171,13 @@ fn put_refusals(alloc: Global, text: &mut String, refused: &[Applied]) -> Result
     Ok(())
 }
 
-/// What a replay came to: its counts, of so many frames in all, and the commands that were refused.
+/// What a replay came to: its counts, of so many frames in all, and the commands that were refused; with these notes.
 pub fn replayed(
     alloc: Global,
     frames: usize,
     counts: Counts,
     refused: &[Applied],
+    notes: Option<String>,
 ) -> Result<Report, AllocError>
     requires { frames ≡ frames_in counts }
     ensures text { IfOk result (λ report. string_bytes report.text ≡ counts_text counts ++ refusals_text refused.now) }
@@ -184,5 +188,6 @@ pub fn replayed(
     Ok(Report {
         text,
         is_refused: !refused.is_empty(),
+        notes,
     })
 }

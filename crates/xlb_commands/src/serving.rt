@@ -1,12 +1,14 @@
-//! The program, but for its command line.
+//! The program, except its command line.
 
-ghost use Rattle.std.specs.Prelude.{◌≡◌, ◌+◌, ◌-◌, ◌<◌, ◌^◌, ℕ, List, true, false, IfErr, IfOk, OnOk, string_bytes};
+ghost use Rattle.std.specs.Prelude.{◌≡◌, ◌+◌, ◌-◌, ◌<◌, ◌≤◌, ◌^◌, ℕ, List, true, false, drop, length, IfErr, IfOk, OnOk, string_bytes};
 ghost use Rattle.std.specs.Io.KnownBytes.{append_known};
 ghost use Rattle.faults.specs.Refusals.{IsRefusalText};
+ghost use Rattle.xlb_commands.specs.Clashes.{AreApart};
 ghost use Rattle.xlb_commands.specs.FaultLines.{fault_line, mistake_text};
-ghost use Rattle.xlb_commands.specs.Results.{IsAnswer, IsDone, KeepsFiles};
-ghost use Rattle.xlb_commands.specs.Refused.{HasFailed, IsMistaken, IsRefused, IsRefusedWith, PrintsMistake, PrintsRefusal, notes_told, stream};
+ghost use Rattle.xlb_commands.specs.Results.{AreNotesPrinted, IsAnswer, IsDone, IsNoted, KeepsFiles, stream};
+ghost use Rattle.xlb_commands.specs.Refused.{HasFailed, IsMistaken, IsRefused, IsRefusedWith, PrintsClash, PrintsMistake, PrintsRefusal, notes_told};
 
+use crate::clashes::{Clash, clash_of};
 use crate::commands::{
     assemble_file, assemble_source_file, audit_file, check, check_explained, disassemble,
     disassemble_source,
@@ -110,8 +112,9 @@ fn answer<R: Threads + Wait + Sync, D: Folder, P: Progress + Sync>(
             files,
             options,
             ring,
+            exact,
         } => Ok(CommandAnswer::Reported(replay_files(
-            rt, alloc, folder, files, *options, *ring, progress,
+            rt, alloc, folder, files, *options, *ring, *exact, progress,
         )?)),
     }
 }
@@ -136,6 +139,61 @@ fn mistake<E: Sink>(alloc: Global, place: usize, misfit: Misfit, err: &mut E) ->
         Err(_no_memory) => print(err, b"fault 8 Memory\n"),
     }
     MISTAKEN
+}
+
+/// Tells of a file that would be written over another one. Where memory is refused, 8 is printed in its place.
+fn refuse_clash<E: Sink>(alloc: Global, clash: &Clash<'_>, err: &mut E) -> u8
+    requires { E.failure_count err.old < 2 ^ 64 - 1 }
+    ensures status { result ≡ 2 }
+    ensures told { E.failure_count err.new ≡ E.failure_count err.old →
+        PrintsClash clash.now.written.now clash.now.other.now (E.held err.old) (E.held err.new) }
+{
+    match clash.text(alloc) {
+        Ok(text) => print(err, text.as_bytes()),
+        Err(_no_memory) => print(err, b"fault 8 Memory\n"),
+    }
+    MISTAKEN
+}
+
+/// Prints a text without its first byte.
+fn print_below<E: Sink>(err: &mut E, text: &[u8])
+    requires err { E.failure_count err.old < 2 ^ 64 - 1 }
+    requires text { 1 ≤ length text.now }
+    ensures { E.failure_count err.new ≡ E.failure_count err.old → E.held err.new ≡ append_known (E.held err.old) (drop 1 text.now) }
+{
+    print(err, &text[1..]);
+}
+
+/// Prints the notes of a report as lines that each begin with two blanks: those below an empty line. Without memory for them nothing is printed.
+fn print_notes<E: Sink>(alloc: Global, report: &Report, err: &mut E)
+    requires { E.failure_count err.old < 2 ^ 64 - 1 }
+    ensures { AreNotesPrinted (stream (E.held err.old) (E.failure_count err.old)) (stream (E.held err.new) (E.failure_count err.new)) }
+{
+    let notes = match &report.notes {
+        Some(notes) => notes.as_str(),
+        None => "",
+    };
+    match refusal_text(alloc, "", notes) {
+        Ok(text) => print_below(err, &text),
+        Err(_no_memory) => print(err, b""),
+    }
+}
+
+/// Prints what a person is told of a replay that was made. Nothing is printed of another command.
+fn note<E: Sink>(alloc: Global, settings: &Settings<'_>, report: &Report, err: &mut E)
+    requires { E.failure_count err.old < 2 ^ 64 - 1 }
+    ensures { IsNoted settings.now (stream (E.held err.old) (E.failure_count err.old)) (stream (E.held err.new) (E.failure_count err.new)) }
+{
+    match settings {
+        Settings::Replay { .. } => print_notes(alloc, report, err),
+        Settings::Check { .. }
+        | Settings::Run { .. }
+        | Settings::Disasm { .. }
+        | Settings::Audit { .. }
+        | Settings::Explain { .. }
+        | Settings::Asm { .. }
+        | Settings::Shipped { .. } => {}
+    }
 }
 
 /// What is told of a refusal: the fault's line, and notes below it.
@@ -183,7 +241,8 @@ fn status_of(is_refused: bool) -> u8
 /// Does what the settings say, over the files of a folder: prints what the command prints and gives 0; or prints the line of the first fault of what
 /// the command reads on `err`, with notes for people below it, and gives 1. The fault is 7 where what the command prints could not be printed; the line is
 /// that of fault 8 where there was no memory for it. Where commands of a replay's script were refused, the report is printed and tells them, and the
-/// status is 1. Where the image's maps do not take an update of a run, that is told on `err`, and the status is 2, as of other mistakes in the command's words.
+/// status is 1. Where the image's maps do not take an update of a run, or a file that is to be written is another one of the command's, that is told on
+/// `err`, and the status is 2, as of other mistakes in the command's words. After the report of a replay lines for people may follow on `err`.
 pub fn serve<R: Threads + Wait + Sync, D: Folder, P: Progress + Sync, O: Sink, E: Sink>(
     rt: &R,
     alloc: Global,
@@ -199,20 +258,27 @@ pub fn serve<R: Threads + Wait + Sync, D: Folder, P: Progress + Sync, O: Sink, E
     ensures status { result < 3 }
     ensures done { result ≡ 0 → (text : List ℕ) × IsDone (D.holds folder.old) (D.holds folder.new) settings.now text
         × (O.held out.new ≡ append_known (O.held out.old) text) }
-    ensures quiet { result ≡ 0 → E.held err.new ≡ E.held err.old }
+    ensures noted { result ≡ 0 → IsNoted settings.now (stream (E.held err.old) (E.failure_count err.old)) (stream (E.held err.new) (E.failure_count err.new)) }
+    ensures apart { result < 2 → AreApart settings.now }
     ensures kept { KeepsFiles (D.holds folder.old) (D.holds folder.new) settings.now }
     ensures refused { result ≡ 1 → IsRefused (D.holds folder.old) (D.holds folder.new)
         (HasFailed (D.failure_count folder.old) (D.failure_count folder.new)) settings.now
         (stream (O.held out.old) (O.failure_count out.old)) (stream (O.held out.new) (O.failure_count out.new))
         (stream (E.held err.old) (E.failure_count err.old)) (stream (E.held err.new) (E.failure_count err.new)) }
-    ensures mistaken { result ≡ 2 → IsMistaken (D.holds folder.old) (D.holds folder.new) settings.now
+    ensures mistaken { result ≡ 2 → IsMistaken (D.holds folder.old) (D.holds folder.new) (D.are_one folder.old) settings.now
         (stream (O.held out.old) (O.failure_count out.old)) (stream (O.held out.new) (O.failure_count out.new))
         (stream (E.held err.old) (E.failure_count err.old)) (stream (E.held err.new) (E.failure_count err.new)) }
 {
+    if let Some(clash) = clash_of(folder, settings) {
+        return refuse_clash(alloc, &clash, err);
+    }
     match answer(rt, alloc, settings, folder, progress) {
         Ok(CommandAnswer::Mistaken { place, misfit }) => mistake(alloc, place, misfit, err),
         Ok(CommandAnswer::Reported(report)) => match write_all(out, report.text.as_bytes()) {
-            Ok(()) => status_of(report.is_refused),
+            Ok(()) => {
+                note(alloc, settings, &report, err);
+                status_of(report.is_refused)
+            }
             Err(Failed) => refuse(alloc, &Refusal::from(Fault::Output), err),
         },
         Err(refusal) => refuse(alloc, &refusal, err),

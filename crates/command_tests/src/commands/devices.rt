@@ -46,6 +46,8 @@ struct FullFolder {
 impl Folder for FullFolder {
     ghost holds = { λ _ _ _. Unit {0} };
 
+    ghost are_one = { λ _ _ _. Unit {0} };
+
     ghost failure_count = { λ folder. folder.failures };
 
     fn read(&mut self, alloc: Global, _name: &str) -> Result<Vec<u8>, FolderFault> {
@@ -72,6 +74,10 @@ impl Folder for FullFolder {
             }
             FolderFault::Memory => Err(FolderFault::Memory),
         }
+    }
+
+    fn is_same(&self, name: &str, other: &str) -> bool {
+        name == other
     }
 
     fn failures(&self) -> u64 {

@@ -40,6 +40,26 @@ const ZEROS_13: &str = "\
     01000000020000000d0000000d000000\
     00000000000000000000000000";
 
+/// A capture of two frames of 64 bytes, of which 14 zeros were kept, and one of 14 zeros.
+const CUT_FRAMES: &str = "\
+    d4c3b2a1020004000000000000000000ffff000001000000\
+    01000000020000000e00000040000000\
+    0000000000000000000000000000\
+    01000000020000000e00000040000000\
+    0000000000000000000000000000\
+    01000000020000000e0000000e000000\
+    0000000000000000000000000000";
+
+/// A capture of three frames of 14 zeros.
+const THREE_ZEROS: &str = "\
+    d4c3b2a1020004000000000000000000ffff000001000000\
+    01000000020000000e0000000e000000\
+    0000000000000000000000000000\
+    01000000020000000e0000000e000000\
+    0000000000000000000000000000\
+    01000000020000000e0000000e000000\
+    0000000000000000000000000000";
+
 /// A capture of five frames of 14 zeros.
 const FIVE_ZEROS: &str = "\
     d4c3b2a1020004000000000000000000ffff000001000000\
@@ -98,6 +118,18 @@ const ONE_PASS: &str = "frames 1\nshort 0\nstopped 0\naborted 0\ndrop 0\npass 1\
 
 const ONE_TX: &str = "frames 1\nshort 0\nstopped 0\naborted 0\ndrop 0\npass 0\ntx 1\n";
 
+const THREE_TX: &str = "frames 3\nshort 0\nstopped 0\naborted 0\ndrop 0\npass 0\ntx 3\n";
+
+/// Notes below reports.
+const FULL: &str =
+    "  the journal of shard 0 is full, of map 0\n  frames whose run needs a full journal are not run to their end: --journal N, at most 1048576, and --shards N, at most 8, make more room\n";
+
+const CUT_TWO: &str =
+    "  cut 2: bytes were left out when these records were captured; flows of such frames may be judged wrongly\n";
+
+const RING_8: &str =
+    "  --ring 8 has no effect: it is the size of the shipped program's lookup table\n";
+
 const FIVE: &str = "frames 5\nshort 0\nstopped 1\naborted 0\ndrop 0\npass 4\ntx 0\n";
 
 /// A service, the tunnel and a backend.
@@ -131,13 +163,15 @@ type Row = (
 );
 
 #[rattlefmt::skip]
-const ROWS: [Row; 15] = [
+const ROWS: [Row; 17] = [
     ("one frame is sent",        COUNTS_TO_THREE, "", ZEROS_14, "--image image --journal 16", 0, ONE_TX, "", ZEROS_14),
     ("none is",                  SENDS, "", HEAD, "--image image", 0, NO_FRAME, "", HEAD),
     ("13 bytes are short",       SENDS, "", ZEROS_13, "--image image", 0, ONE_SHORT, "", HEAD),
     ("eight workers",            SENDS, "", ZEROS_14, "--image image --workers 8 --shards 8", 0, ONE_TX, "", ZEROS_14),
-    ("the ring is not read",     SENDS, "", ZEROS_14, "--image image --ring 8", 0, ONE_TX, "", ZEROS_14),
-    ("a full journal",           READS_ONE, "", FIVE_ZEROS, "--image image --journal 16", 0, FIVE, "", HEAD),
+    ("the ring is not read",     SENDS, "", ZEROS_14, "--image image --ring 8", 0, ONE_TX, RING_8, ZEROS_14),
+    ("the ring that is the default", SENDS, "", ZEROS_14, "--image image --ring 251", 0, ONE_TX, "", ZEROS_14),
+    ("records that were cut",    SENDS, "", CUT_FRAMES, "--image image", 0, THREE_TX, CUT_TWO, THREE_ZEROS),
+    ("a full journal",           READS_ONE, "", FIVE_ZEROS, "--image image --journal 16", 0, FIVE, FULL, HEAD),
     ("a backend that isn't up",  "", "0 down 3\n", HEAD, "--script script", 1, "frames 0\nshort 0\nstopped 0\naborted 0\ndrop 0\npass 0\ntx 0\ncommand 1 refused 91\n", "", HEAD),
     ("a backend twice",          "", "0 up 0 10.0.0.1\n0 up 0 10.0.0.1\n", HEAD, "--script script", 1, "frames 0\nshort 0\nstopped 0\naborted 0\ndrop 0\npass 0\ntx 0\ncommand 2 refused 92\n", "", HEAD),
     ("a down and a full journal", "", "0 up 0 10.0.0.1\n0 up 1 10.0.0.2\n0 down 0\n0 up 2 10.0.0.3\n", HEAD, "--script script --journal 400", 1, "frames 0\nshort 0\nstopped 0\naborted 0\ndrop 0\npass 0\ntx 0\ncommand 3 refused 94\ncommand 4 refused 94\n", "", HEAD),

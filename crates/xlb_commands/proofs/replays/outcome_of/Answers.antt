@@ -26,6 +26,6 @@ where_none name ring script options records outcome none rule =
 
 pub returns-in-None-clause-steered : goal.returns-in-None-clause-steered
 returns-in-None-clause-steered g c =
-    IfOk-weaker c.shipped_replay.result _ _
+    IfOk-weaker c.shipped_replay_at.result _ _
     (λ outcome rule. where_none (text_of c.args.image) c.args.ring _ _ _ outcome (ap text_of c.in-None.is) rule)
-    (by_rule c.args.ring _ _ _ c.shipped_replay.result c.shipped_replay.ensures.steered c.shipped_replay.ensures.totals)
+    (by_rule c.args.ring _ _ _ c.shipped_replay_at.result c.shipped_replay_at.ensures.steered c.shipped_replay_at.ensures.totals)

@@ -53,8 +53,8 @@ shipped_of : (files : FileBytes) (name : Option (List ℕ)) (ring : ℕ) (progra
     name ≡ None → program ≡ shipped_image ring
 shipped_of files name ring program is none = subst (λ (other : Option (List ℕ)). IsProgramOf files other ring program) none is
 
-pub outcome_of-requires-clause-shipped : goal.outcome_of-requires-clause-shipped
-outcome_of-requires-clause-shipped g c κs outlives =
+pub outcome_with-requires-clause-shipped : goal.outcome_with-requires-clause-shipped
+outcome_with-requires-clause-shipped g c κs outlives =
     shipped_of (g.D.Folder.holds c.args.folder.now) (text_of c.args.files.now.image) c.args.ring
     (record { version = c.in_ok-verified.verified.version; maps = c.in_ok-verified.verified.maps; code = c.in_ok-verified.verified.code })
     c.in_ok-verified.ensures.program
@@ -69,6 +69,8 @@ returns-clause-done g c = (
   record {
     program = record { version = c.in_ok-verified.verified.version; maps = c.in_ok-verified.verified.maps; code = c.in_ok-verified.verified.code };
     program_is = c.in_ok-verified.ensures.program;
+    states = c.in_ok-verified.verified.states;
+    accepted = c.outcome_with.ensures.accepted;
     safe = c.in_ok-verified.ensures.safe;
     script = c.in_ok-script.script;
     script_is = script_before _ _ c.program_of.ensures.kept _ _ c.in_ok-script.ensures.script;
@@ -77,6 +79,7 @@ returns-clause-done g c = (
     outcome = c.in-Ok.outcome;
     accounted = c.in-Ok.ensures.accounted;
     by_rule = c.in-Ok.ensures.steered;
+    readers = c.in-Ok.ensures.readers;
     refused_are = refl;
     sent = λ other. subst (λ (it : List ℕ). g.D.Folder.holds c.write_files.new.folder c.args.files.now.sent.now it) c.in_ok-left.ensures.sent
         (c.in_ok-write_files.ensures.sent other);

@@ -43,7 +43,7 @@ returns-in-Ok-clause-refused g c =
       text = string_bytes c.in-Ok-Reported.report.text;
       done = known.1 (c.status_of.ensures.part is);
       printed = c.in-Ok.ensures.written ∙ ap (append_known _) bytes_are;
-      quiet = refl;
+      noted = c.note.ensures;
     })
 
 pub returns-clause-done : goal.returns-clause-done

@@ -1,0 +1,52 @@
+//! The replay of the shipped program in which commands take effect at exact moments.
+
+ghost use Rattle.std.specs.Prelude.{◌≡◌, ◌⊎◌, ◌↔◌, IfOk, IsErrOf, IsFalse};
+ghost use Rattle.machine.specs.Running.{program_of};
+ghost use Rattle.maglev.specs.RingSize.{IsRingSize};
+ghost use Rattle.semantics.specs.ShardPlan.{are_served_options};
+ghost use Rattle.steer.specs.ShippedProgram.{shipped_image};
+ghost use Rattle.replay.specs.Accounted.{IsAccounted};
+ghost use Rattle.replay.specs.Parts.{HasNoTable};
+ghost use Rattle.replay.specs.declared.fault.ReplayFault.TheVariants.{BadOptions};
+ghost use Rattle.steered_replays.specs.SteeredRuns.{IsSteeredReplay};
+ghost use Rattle.steered_replays.specs.Totals.{AreTotals};
+
+use crate::laws::{replays_are_steered, totals_are_exact};
+use crate::replays::all_are_of_capture;
+use control::Script;
+use replay::{Outcome, ReplayFault, exact_replay};
+use semantics::Options;
+use shard_port::Gate;
+use std::alloc::Global;
+use std::sync::Wait;
+use std::thread::Threads;
+use verifier::Verified;
+use wire::Capture;
+
+/// What `shipped_replay` does, by `exact_replay`, in which each command takes effect between the frames before and after it.
+pub fn exact_shipped_replay<R: Threads + Wait + Sync, G: Gate + Sync>(
+    rt: &R,
+    alloc: Global,
+    verified: &Verified,
+    size: u32,
+    capture: &Capture,
+    script: &Script,
+    options: Options,
+    gate: &G,
+) -> Result<Outcome, ReplayFault>
+    requires size { IsRingSize size }
+    requires image { record { version = verified.now.version; maps = verified.now.maps; code = verified.now.code } ≡ shipped_image size }
+    ensures accounted { IfOk result (IsAccounted (program_of verified.now options.shards) script.now options capture.now.records.items) }
+    ensures steered { IfOk result (IsSteeredReplay size script.now options capture.now.records.items) }
+    ensures totals { IfOk result (λ outcome. outcome.counts.stopped ≡ 0 → AreTotals outcome) }
+    ensures bad_options { IsErrOf result BadOptions ↔
+        (IsFalse (are_served_options verified.now.maps options) ⊎ HasNoTable verified.now.maps script.now) }
+{
+    replays_are_steered();
+    totals_are_exact();
+    all_are_of_capture(capture);
+    let outcome = exact_replay(rt, alloc, verified, capture, script, options, gate)?;
+    let _ = outcome.journals.options();
+    let _ = size;
+    Ok(outcome)
+}

@@ -1,0 +1,38 @@
+-- The file of what a replay sends of a program that only reads.
+use Rattle.std.proofs.Common.{◌≡◌, ◌∙◌, ◌++◌, ◌∷◌, ℕ, List, [], ap, refl, subst}
+use Rattle.std.specs.List.{AllByRecursion}
+use Rattle.ebpf_decode.specs.declared.insn.Insn.{Insn}
+use Rattle.ebpf_decode.specs.declared.map.MapDef.{MapDef}
+use Rattle.semantics.specs.declared.options.Options.{Options}
+use Rattle.semantics.specs.Program.{Program}
+use Rattle.semantics.specs.ShardPlan.{AreOptions}
+use Rattle.control.specs.declared.command.Command.{Command}
+use Rattle.wire.specs.declared.records.Sent.{Sent}
+use Rattle.wire.specs.CaptureFormat.{header_bytes, record_bytes, records_bytes, capture_bytes}
+use Rattle.replay.specs.Accounts.{SentFrame, sent_frames}
+use Rattle.replay.specs.Accounted.{IsAccounted}
+use Rattle.replay.specs.declared.outcome.Outcome.{Outcome}
+use Rattle.guarantees.specs.ReaderReplays.{IsCaptured, SendsAsAtOpening}
+use Rattle.xlb_commands.specs.Replays.{frame_records, reader_file}
+
+records_are : (sents : List Sent) → records_bytes sents ≡ frame_records (sent_frames sents)
+records_are [] = refl
+records_are (sent ∷ sents) = ap (λ (rest : List ℕ). record_bytes sent ++ rest) (records_are sents)
+
+abbrev program_over : List MapDef → List Insn → ℕ → Program
+program_over maps code shards = record { code = code; maps = maps; shards = shards }
+
+-- a replay without commands, in which no run was stopped
+pub reader_file_is : (maps : List MapDef) (code : List Insn) (script : List Command) (options : Options) (records : List Sent) (outcome : Outcome)
+    → SendsAsAtOpening maps code → AreOptions outcome.journals.maps outcome.journals.options → AllByRecursion IsCaptured records
+    → IsAccounted (program_over maps code options.shards) script options records outcome → script ≡ [] → outcome.counts.stopped ≡ 0
+    → capture_bytes outcome.sent.items ≡ reader_file (program_over maps code options.shards) records
+reader_file_is maps code script options records outcome alike fit captured accounted none unstopped =
+    let fits : AreOptions maps options =
+    subst (λ (o : Options). AreOptions maps o) accounted.options_are
+    (subst (λ (m : List MapDef). AreOptions m outcome.journals.options) accounted.maps fit) in
+    let without : IsAccounted (program_over maps code options.shards) [] options records outcome =
+    subst (λ (commands : List Command). IsAccounted (program_over maps code options.shards) commands options records outcome) none accounted in
+    ap (λ (rest : List ℕ). header_bytes ++ rest)
+    (records_are outcome.sent.items
+    ∙ ap (λ (frames : List SentFrame). frame_records frames) (alike options records outcome fits captured without unstopped))

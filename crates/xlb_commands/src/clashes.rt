@@ -1,0 +1,114 @@
+//! Files that a command would write over others that it has.
+
+ghost use Rattle.std.specs.Prelude.{◌≡◌, ◌≢◌, ◌⊎◌, ℕ, List, Some, None, IfOk, IfSome, string_bytes};
+ghost use Rattle.command_line.specs.Reading.{text_of};
+ghost use Rattle.xlb_commands.specs.Clashes.{AreApart, IsOver, IsReplayInput, clash_text};
+
+use command_line::{ReplayFiles, RunFiles, Settings};
+use folders::Folder;
+use std::alloc::{AllocError, Global};
+
+/// Two names of one file.
+#[derive(Clone, Copy, Debug, PartialEq, Eq)]
+pub(crate) struct Clash<'a> {
+    /// What is to be written.
+    pub written: &'a str,
+    /// What is read, or written before.
+    pub other: &'a str,
+}
+
+impl Clash<'_> {
+    /// What is told of it.
+    pub(crate) fn text(&self, alloc: Global) -> Result<String, AllocError>
+        ensures { IfOk result (λ text. string_bytes text ≡ clash_text self.now.written.now self.now.other.now) }
+    {
+        let Clash { written, other } = self;
+        format!(in alloc; "error: {written} would be written over {other}: they are one file\n")
+    }
+}
+
+/// Whether a file that is written, if there is one, is another one, if there is that.
+fn over<'a, D: Folder>(
+    folder: &D,
+    written: Option<&'a str>,
+    other: Option<&'a str>,
+) -> Option<Clash<'a>>
+    ensures found { IfSome result (λ clash. (text_of written.entry ≡ Some clash.written.now) × (text_of other.entry ≡ Some clash.other.now)
+        × D.are_one folder.now clash.written.now clash.other.now) }
+    ensures none { result ≡ None → (name second : List ℕ) → text_of written.entry ≡ Some name → text_of other.entry ≡ Some second → name ≢ second }
+{
+    let (Some(written), Some(other)) = (written, other) else {
+        return None;
+    };
+    if folder.is_same(written, other) {
+        Some(Clash { written, other })
+    } else {
+        None
+    }
+}
+
+/// Whether a file that is written, if there is one, is one that a replay reads.
+fn over_inputs<'a, D: Folder>(
+    folder: &D,
+    written: Option<&'a str>,
+    files: &ReplayFiles<'a>,
+) -> Option<Clash<'a>>
+    ensures found { IfSome result (λ clash. (text_of written.entry ≡ Some clash.written.now) × IsReplayInput files.now clash.other.now
+        × D.are_one folder.now clash.written.now clash.other.now) }
+    ensures none { result ≡ None → (name second : List ℕ) → text_of written.entry ≡ Some name → IsReplayInput files.now second → name ≢ second }
+{
+    if let Some(clash) = over(folder, written, Some(files.capture)) {
+        return Some(clash);
+    }
+    if let Some(clash) = over(folder, written, files.image) {
+        return Some(clash);
+    }
+    over(folder, written, files.script)
+}
+
+/// The same of all that a replay writes.
+fn over_in_replay<'a, D: Folder>(folder: &D, files: &ReplayFiles<'a>) -> Option<Clash<'a>>
+    ensures found { IfSome result (λ clash. ((clash.written.now ≡ files.now.sent.now) × IsReplayInput files.now clash.other.now)
+        ⊎ ((text_of files.now.journals ≡ Some clash.written.now)
+        × (IsReplayInput files.now clash.other.now ⊎ (clash.other.now ≡ files.now.sent.now)))) }
+    ensures one { IfSome result (λ clash. D.are_one folder.now clash.written.now clash.other.now) }
+    ensures sent { result ≡ None → (second : List ℕ) → IsReplayInput files.now second → files.now.sent.now ≢ second }
+    ensures journals { result ≡ None → (name second : List ℕ) → text_of files.now.journals ≡ Some name
+        → IsReplayInput files.now second ⊎ (second ≡ files.now.sent.now) → name ≢ second }
+{
+    if let Some(clash) = over_inputs(folder, Some(files.sent), files) {
+        return Some(clash);
+    }
+    if let Some(clash) = over_inputs(folder, files.journals, files) {
+        return Some(clash);
+    }
+    over(folder, files.journals, Some(files.sent))
+}
+
+/// The same of the journals of a run.
+fn over_in_run<'a, D: Folder>(folder: &D, files: &RunFiles<'a>) -> Option<Clash<'a>>
+    ensures found { IfSome result (λ clash. (text_of files.now.journals ≡ Some clash.written.now)
+        × ((clash.other.now ≡ files.now.image.now) ⊎ (clash.other.now ≡ files.now.frame.now))) }
+    ensures one { IfSome result (λ clash. D.are_one folder.now clash.written.now clash.other.now) }
+    ensures none { result ≡ None → (name second : List ℕ) → text_of files.now.journals ≡ Some name
+        → (second ≡ files.now.image.now) ⊎ (second ≡ files.now.frame.now) → name ≢ second }
+{
+    if let Some(clash) = over(folder, files.journals, Some(files.image)) {
+        return Some(clash);
+    }
+    over(folder, files.journals, Some(files.frame))
+}
+
+/// The first file that a command would write over another one that it has.
+pub(crate) fn clash_of<'a, D: Folder>(folder: &D, settings: &Settings<'a>) -> Option<Clash<'a>>
+    ensures found { IfSome result (λ clash. IsOver settings.now clash.written.now clash.other.now) }
+    ensures one { IfSome result (λ clash. D.are_one folder.now clash.written.now clash.other.now) }
+    ensures none { result ≡ None → AreApart settings.now }
+{
+    match settings {
+        Settings::Asm { text, out, .. } => over(folder, Some(*out), Some(*text)),
+        Settings::Run { files, .. } => over_in_run(folder, files),
+        Settings::Replay { files, .. } => over_in_replay(folder, files),
+        _ => None,
+    }
+}

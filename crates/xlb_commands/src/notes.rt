@@ -1,0 +1,84 @@
+//! What a person is told of a replay that was made, besides its report.
+
+use journals::Journals;
+use replay::Outcome;
+use std::alloc::{AllocError, Global};
+
+/// The slots of the shipped program's lookup table, where the command line names no others.
+const RING: u32 = 251;
+
+/// The room that a full journal may still have: no run enters a shard without room for its Leave.
+const LAST: u64 = 1;
+
+/// What is told of a replay.
+#[derive(Clone, Copy)]
+pub(crate) struct Notes<'a> {
+    /// How many records have fewer bytes than the frames that were captured.
+    pub cut: u64,
+    /// The slots of the shipped program's lookup table.
+    pub ring: u32,
+    /// The image's file, if one is named.
+    pub image: Option<&'a str>,
+}
+
+impl Notes<'_> {
+    /// The lines of a replay, or none.
+    pub(crate) fn text(&self, alloc: Global, outcome: &Outcome) -> Result<String, AllocError> {
+        let mut text = String::new(alloc);
+        self.put_ring(alloc, &mut text)?;
+        self.put_cut(alloc, &mut text)?;
+        if outcome.counts.stopped > 0 {
+            put_full(alloc, &mut text, &outcome.journals)?;
+        }
+        Ok(text)
+    }
+
+    /// A size of the lookup table that is not used.
+    fn put_ring(&self, alloc: Global, text: &mut String) -> Result<(), AllocError> {
+        let ring = self.ring;
+        if self.image.is_none() || ring == RING {
+            return Ok(());
+        }
+        let line = format!(in alloc;
+            "--ring {ring} has no effect: it is the size of the shipped program's lookup table\n"
+        )?;
+        text.push_str(line.as_str())
+    }
+
+    /// Records that were cut when they were captured.
+    fn put_cut(&self, alloc: Global, text: &mut String) -> Result<(), AllocError> {
+        let cut = self.cut;
+        if cut == 0 {
+            return Ok(());
+        }
+        let line = format!(in alloc;
+            "cut {cut}: bytes were left out when these records were captured; flows of such frames may be judged wrongly\n"
+        )?;
+        text.push_str(line.as_str())
+    }
+}
+
+/// Which journals are full, and what makes more room.
+fn put_full(alloc: Global, text: &mut String, journals: &Journals) -> Result<(), AllocError> {
+    'shards: for number in 0..journals.count() {
+        let held = journals.journal(number).len() as u64;
+        if held.saturating_add(LAST) >= journals.options().journal as u64 {
+            put_shard(alloc, text, number, journals.options().shards as usize)?;
+        }
+    }
+    text.push_str(
+        "frames whose run needs a full journal are not run to their end: --journal N, at most 1048576, and --shards N, at most 8, make more room\n",
+    )
+}
+
+/// A shard whose journal is full.
+fn put_shard(
+    alloc: Global,
+    text: &mut String,
+    number: usize,
+    shards: usize,
+) -> Result<(), AllocError> {
+    let map = number.checked_div(shards).unwrap_or(0);
+    let line = format!(in alloc; "the journal of shard {number} is full, of map {map}\n")?;
+    text.push_str(line.as_str())
+}
