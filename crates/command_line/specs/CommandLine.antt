@@ -95,9 +95,11 @@ replay_opened =
     (with_rule (with_rule replay_files (number_rule (codes "workers") 4294967295 (codes "1"))) (number_rule (codes "shards") 4294967295 (codes "1")))
     (number_rule (codes "journal") 4294967295 (codes "65536"))
 
--- and the size of the lookup table, and whether commands take effect at exact moments
+-- and the size of the lookup table, whether commands take effect at exact moments, and whether a summary is printed
 abbrev pub replay_command : App
-replay_command = with_rule (with_rule replay_opened (number_rule (codes "ring") 4294967295 (codes "251"))) (switch_rule (codes "exact"))
+replay_command =
+    with_rule (with_rule (with_rule replay_opened (number_rule (codes "ring") 4294967295 (codes "251"))) (switch_rule (codes "exact")))
+    (switch_rule (codes "summary"))
 
 -- the name, with `--version`; a command has to be given, and `help` tells of the commands
 abbrev pub program_name : App

@@ -135,11 +135,12 @@ IsReadFrom name rows (Asm text out source) = is_named name (codes "asm")
 IsReadFrom name rows (Shipped out ring) = is_named name (codes "shipped")
     × (out.now ≡ word_of (codes "OUT") rows)
     × IsNumberOf 32 (codes "ring") rows ring
-IsReadFrom name rows (Replay files options ring exact) = is_named name (codes "replay")
+IsReadFrom name rows (Replay files options ring exact summary) = is_named name (codes "replay")
     × AreReplayFiles rows files
     × AreReplayOptions rows options
     × IsNumberOf 32 (codes "ring") rows ring
     × IsSwitchOf (codes "exact") rows exact
+    × IsSwitchOf (codes "summary") rows summary
     × IsFalse (are_both_given (codes "image") (codes "script") rows)
     × IsFalse (are_both_given (codes "image") (codes "program") rows)
 

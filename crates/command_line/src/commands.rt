@@ -53,6 +53,8 @@ pub enum Settings<'a> {
         ring: u32,
         /// Whether a command takes effect exactly between the frames before and after it.
         exact: bool,
+        /// Whether lines on the error stream say what the traffic was.
+        summary: bool,
     },
 }
 

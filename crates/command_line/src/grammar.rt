@@ -54,6 +54,9 @@ pub const PROGRAM: &str = "program";
 /// Whether the commands of a replay take effect at exact moments.
 pub const EXACT: &str = "exact";
 
+/// Whether a replay prints what its traffic was.
+pub const SUMMARY: &str = "summary";
+
 /// The script of a replay.
 pub const SCRIPT: &str = "script";
 
@@ -155,7 +158,9 @@ in which case the status is 1. A frame is handled by the worker of its flow,
 so that a flow's frames stay in order. --image replays any program, without a
 script; --program one over the maps of the shipped program, with any size of
 the lookup table, and with a script. With --exact a command takes effect when
-all frames before it are done, and before a later one is begun.";
+all frames before it are done, and before a later one is begun. With --summary
+lines on the standard error say how many frames of which kind the capture has,
+and how many were sent to which address.";
 
 /// A file that has to be named.
 fn file<'a>(alloc: Global, id: &'a str, help: &'a str) -> Arg<'a>
@@ -443,7 +448,15 @@ fn replay<'a>(alloc: Global) -> Result<Command<'a>, AllocError>
         EXACT,
         "Applies each command exactly between the frames before and after it",
     );
-    replay_opened(alloc)?.arg(ring(alloc))?.arg(exact)
+    let summary = switch(
+        alloc,
+        SUMMARY,
+        "Prints the kinds of frames and where frames were sent, on the standard error",
+    );
+    replay_opened(alloc)?
+        .arg(ring(alloc))?
+        .arg(exact)?
+        .arg(summary)
 }
 
 /// The program's commands.

@@ -15,8 +15,8 @@ ghost use Rattle.clap.specs.declared.error.kind.ErrorKind.TheVariants.{DisplayHe
 use crate::commands::{ReplayFiles, RunFiles, Settings};
 use crate::grammar::{
     CAPTURE, EXACT, EXPLAIN, FRAME, IMAGE, JOURNAL, JOURNALS, JOURNALS_OUT, NOW, NUMBER, OUT,
-    PROGRAM, REPLAY_IMAGE, RING, SCRIPT, SENT, SHARDS, SOURCE, TEXT, UPDATE, WORKER, WORKERS,
-    program,
+    PROGRAM, REPLAY_IMAGE, RING, SCRIPT, SENT, SHARDS, SOURCE, SUMMARY, TEXT, UPDATE, WORKER,
+    WORKERS, program,
 };
 use clap::{ArgMatches, Error};
 use faults::Explanation;
@@ -190,6 +190,7 @@ fn replay_of<'a>(found: &ArgMatches<'a>) -> Asked<'a>
         options: options_of(found),
         ring: number_of(found, RING, 251),
         exact: switch(found, EXACT),
+        summary: switch(found, SUMMARY),
     })
 }
 

@@ -35,9 +35,11 @@ fn shown(alloc: Global, settings: Settings<'_>) -> Result<String, AllocError> {
             options,
             ring,
             exact,
+            summary,
         } => {
             let mut text = replay_shown(alloc, files, options, ring)?;
             text.push_str(if exact { " exact" } else { "" })?;
+            text.push_str(if summary { " summary" } else { "" })?;
             Ok(text)
         }
     }
@@ -99,7 +101,7 @@ fn replay_shown(
 }
 
 #[rattlefmt::skip]
-const READ: [(&str, &str); 30] = [
+const READ: [(&str, &str); 31] = [
     ("xlb check a",                             "check a false"),
     ("xlb check --explain a",                   "check a true"),
     ("xlb check a --explain",                   "check a true"),
@@ -130,6 +132,7 @@ const READ: [(&str, &str); 30] = [
     ("xlb replay a b --image i --workers 4 --shards 8 --journal 16 --ring 7", "replay a b i - 4 8 16 7 -"),
     ("xlb replay a b --program p --script s",   "replay a b p s 1 1 65536 251 -"),
     ("xlb replay --exact a b --script s",       "replay a b - s 1 1 65536 251 - exact"),
+    ("xlb replay a b --summary",                "replay a b - - 1 1 65536 251 - summary"),
 ];
 
 /// Compares the settings of a command line.

@@ -14,7 +14,7 @@ abbrev pub IsOver : Settings → List ℕ → List ℕ → Type 0
 IsOver (Asm text out source) written other = (written ≡ out.now) × (other ≡ text.now)
 IsOver (Run files now worker updates) written other =
     (text_of files.journals ≡ Some written) × ((other ≡ files.image.now) ⊎ (other ≡ files.frame.now))
-IsOver (Replay files options ring exact) written other = ((written ≡ files.sent.now) × IsReplayInput files other)
+IsOver (Replay files options ring exact summary) written other = ((written ≡ files.sent.now) × IsReplayInput files other)
     ⊎ ((text_of files.journals ≡ Some written) × (IsReplayInput files other ⊎ (other ≡ files.sent.now)))
 IsOver settings written other = ⊥
 

@@ -356,7 +356,7 @@ IsRefusedWith before after failed (Explain about) fault = fault ≡ faults.Memor
 IsRefusedWith before after failed (Asm text out false) fault = IsAsmRefusal before after failed text.now fault
 IsRefusedWith before after failed (Asm text out true) fault = IsSourceRefusal before after failed text.now fault
 IsRefusedWith before after failed (Shipped out ring) fault = IsShippedFileRefusal before after failed ring fault
-IsRefusedWith before after failed (Replay files options ring exact) fault = IsReplayRefusal before after failed files options ring fault
+IsRefusedWith before after failed (Replay files options ring exact summary) fault = IsReplayRefusal before after failed files options ring fault
 
 -- the fault that is told: the command was refused with it; or it was done, and what it prints could not be printed
 pub data IsToldFault (before after : FileBytes) (failed unprinted : Type 0) (settings : Settings) (fault : Fault) : Type 0 where

@@ -185,11 +185,11 @@ IsDone before after (Explain about) printed = printed ≡ explanation_text about
 IsDone before after (Asm text out false) printed = IsAssembled before after text.now out.now × (printed ≡ [])
 IsDone before after (Asm text out true) printed = IsSourceAssembled before after text.now out.now × (printed ≡ [])
 IsDone before after (Shipped out ring) printed = IsShippedFile after out.now ring × (printed ≡ [])
-IsDone before after (Replay files options ring exact) printed = IsReplayedWhole before after files options ring printed
+IsDone before after (Replay files options ring exact summary) printed = IsReplayedWhole before after files options ring printed
 
 -- the command is done but for a part that was refused, as the report tells: commands of a replay's script
 abbrev pub IsDoneInPart : FileBytes → FileBytes → Settings → List ℕ → Type 0
-IsDoneInPart before after (Replay files options ring exact) printed = IsReplayedInPart before after files options ring printed
+IsDoneInPart before after (Replay files options ring exact summary) printed = IsReplayedInPart before after files options ring printed
 IsDoneInPart before after other printed = ⊥
 
 -- no file changes but those that the command is to write, whether it is done or refused
@@ -201,7 +201,7 @@ KeepsFiles before after (Audit image journals) = AreKept before after
 KeepsFiles before after (Explain about) = AreKept before after
 KeepsFiles before after (Asm text out source) = AreOthersKept before after out.now
 KeepsFiles before after (Shipped out ring) = AreOthersKept before after out.now
-KeepsFiles before after (Replay files options ring exact) = AreAllButKept before after files.sent.now (text_of files.journals)
+KeepsFiles before after (Replay files options ring exact summary) = AreAllButKept before after files.sent.now (text_of files.journals)
 
 -- a stream: what it was given, where that is known, and how many of its calls failed
 pub record Stream : Type 0 where
@@ -219,7 +219,7 @@ pub record AreNotesPrinted (before after : Stream) : Type 0 where
 
 -- what the error stream is given after a command's report: of a replay such lines, of another command nothing
 abbrev pub IsNoted : Settings → Stream → Stream → Type 0
-IsNoted (Replay files options ring exact) before after = AreNotesPrinted before after
+IsNoted (Replay files options ring exact summary) before after = AreNotesPrinted before after
 IsNoted other before after = after ≡ before
 
 -- the report was printed, and what follows it

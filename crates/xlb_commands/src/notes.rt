@@ -3,6 +3,7 @@
 use journals::Journals;
 use replay::Outcome;
 use std::alloc::{AllocError, Global};
+use wire::Capture;
 
 /// The slots of the shipped program's lookup table, where the command line names no others.
 const RING: u32 = 251;
@@ -19,16 +20,26 @@ pub(crate) struct Notes<'a> {
     pub ring: u32,
     /// The image's file, if one is named.
     pub image: Option<&'a str>,
+    /// Whether it is told what the traffic was.
+    pub summary: bool,
 }
 
 impl Notes<'_> {
     /// The lines of a replay, or none.
-    pub(crate) fn text(&self, alloc: Global, outcome: &Outcome) -> Result<String, AllocError> {
+    pub(crate) fn text(
+        &self,
+        alloc: Global,
+        capture: &Capture,
+        outcome: &Outcome,
+    ) -> Result<String, AllocError> {
         let mut text = String::new(alloc);
         self.put_ring(alloc, &mut text)?;
         self.put_cut(alloc, &mut text)?;
         if outcome.counts.stopped > 0 {
             put_full(alloc, &mut text, &outcome.journals)?;
+        }
+        if self.summary {
+            text.push_str(&traffic::summary(alloc, &capture.records, &outcome.sent)?)?;
         }
         Ok(text)
     }

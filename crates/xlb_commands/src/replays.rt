@@ -385,6 +385,7 @@ pub fn replay_files<R: Threads + Wait + Sync, D: Folder, P: Progress + Sync>(
     options: Options,
     ring: u32,
     exact: bool,
+    summary: bool,
     progress: &P,
 ) -> Result<Report, Refusal>
     requires { D.failure_count folder.old < 2 ^ 64 - 1 }
@@ -419,8 +420,9 @@ pub fn replay_files<R: Threads + Wait + Sync, D: Folder, P: Progress + Sync>(
         cut,
         ring,
         image: files.image,
+        summary,
     };
-    let notes = notes.text(alloc, &outcome).ok();
+    let notes = notes.text(alloc, &capture, &outcome).ok();
     let left = left_of(
         alloc,
         capture.records.len(),

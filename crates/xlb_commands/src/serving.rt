@@ -113,8 +113,9 @@ fn answer<R: Threads + Wait + Sync, D: Folder, P: Progress + Sync>(
             options,
             ring,
             exact,
+            summary,
         } => Ok(CommandAnswer::Reported(replay_files(
-            rt, alloc, folder, files, *options, *ring, *exact, progress,
+            rt, alloc, folder, files, *options, *ring, *exact, *summary, progress,
         )?)),
     }
 }

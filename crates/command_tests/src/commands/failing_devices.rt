@@ -98,6 +98,8 @@ impl<D: Folder> WeakFolder<D> {
 impl<D: Folder> Folder for WeakFolder<D> {
     ghost holds = { λ folder. D.holds folder.files };
 
+    ghost are_one = { λ folder. D.are_one folder.files };
+
     ghost failure_count = { λ folder. folder.failures };
 
     fn read(&mut self, alloc: Global, name: &str) -> Result<Vec<u8>, FolderFault> {
@@ -131,6 +133,10 @@ impl<D: Folder> Folder for WeakFolder<D> {
             Err(FolderFault::Memory) => Err(FolderFault::Memory),
             Err(FolderFault::Device) => Err(self.fail()),
         }
+    }
+
+    fn is_same(&self, name: &str, other: &str) -> bool {
+        self.files.is_same(name, other)
     }
 
     fn failures(&self) -> u64 {

@@ -185,7 +185,7 @@ const ROWS: [Row; 17] = [
 
 /// Frames that the shipped program steers.
 #[rattlefmt::skip]
-const STEERED: [Row; 8] = [
+const STEERED: [Row; 10] = [
     ("a service's backend",      "", ONE_BACKEND, DATAGRAM, "--script script", 0, ONE_TX, "", IN_A_TUNNEL),
     ("without tracking",         "", UNTRACKED, DATAGRAM, "--script script", 0, ONE_TX, "", IN_A_TUNNEL),
     ("no backend",               "", NO_BACKEND, DATAGRAM, "--script script --ring 7", 0, ONE_DROP, "", HEAD),
@@ -194,6 +194,8 @@ const STEERED: [Row; 8] = [
     ("a time to live of 0",      "", ONE_BACKEND, NOT_TO_LIVE, "--script script", 0, ONE_DROP, "", HEAD),
     ("no tunnel",                "", NO_TUNNEL, DATAGRAM, "--script script", 0, ONE_DROP, "", HEAD),
     ("no script",                "", "", DATAGRAM, "--script script", 0, ONE_PASS, "", HEAD),
+    ("a summary of one frame",   "", ONE_BACKEND, DATAGRAM, "--script script --summary", 0, ONE_TX, "  1 frame of TCP or UDP that fit into a tunnel\n  1 frame sent to 192.0.2.1\n", IN_A_TUNNEL),
+    ("a summary of one that has expired", "", ONE_BACKEND, NOT_TO_LIVE, "--script script --summary", 0, ONE_DROP, "  1 frame of TCP or UDP with a time to live of 0\n", HEAD),
 ];
 
 /// The files of a replay: a script, the bytes of a capture's digits, and the image of a text where there is one.
