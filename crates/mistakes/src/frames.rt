@@ -1,0 +1,48 @@
+//! Of a file that is no frame: what it is.
+
+ghost use Rattle.std.specs.Prelude.{string_bytes, IfOk};
+ghost use Rattle.mistakes.specs.Notes.{AreNotes};
+
+use crate::kinds::{Kind, kind_of, name_of};
+use crate::notes::notes_of;
+use std::alloc::{AllocError, Global};
+
+/// How a frame is made of the file, or where it belongs.
+#[rattlefmt::skip]
+fn remedy_of(kind: Kind) -> &'static str {
+    match kind {
+        Kind::HexDigits => "xxd -r -p FRAME NEW makes bytes of hexadecimal digits",
+        Kind::Capture => "xlb replay runs the frames of a capture",
+        Kind::BigEndianCapture | Kind::NanosecondCapture | Kind::Pcapng
+            => "xlb replay runs the frames of a classic capture; editcap -F pcap CAPTURE NEW makes one of this file (editcap comes with Wireshark)",
+        Kind::Gzip => "unpack it first: gzip -d FILE",
+        Kind::Image | Kind::Elf | Kind::ImageText | Kind::Journals | Kind::Script => "the frame comes after the image on the command line: are two names swapped?",
+        Kind::Empty | Kind::Frame | Kind::Text | Kind::Unknown => "",
+    }
+}
+
+/// Lines for people on a file that is no frame (faults 6 and 9): what it is, and how a frame is made of it, or how long it is.
+///
+/// At most three lines, each with two spaces at its beginning and a line feed at its end. It can fail only for lack of memory.
+pub fn about_frame(alloc: Global, bytes: &[u8]) -> Result<String, AllocError>
+    ensures { IfOk result (λ text. AreNotes 3 (string_bytes text)) }
+{
+    let all = bytes.len();
+    let long = if all > 2048 {
+        String::from_str(alloc, "the file has more than 2048 bytes")?
+    } else {
+        format!(in alloc; "the file has {all} bytes")?
+    };
+    let kind = kind_of(alloc, bytes);
+    let what = if remedy_of(kind).is_empty() {
+        long.as_str()
+    } else {
+        name_of(kind)
+    };
+    notes_of(
+        alloc,
+        what,
+        "expected the bytes of one Ethernet frame, 14 to 2048 of them",
+        remedy_of(kind),
+    )
+}

@@ -1,0 +1,134 @@
+//! What kind of file some bytes are, by how they begin.
+
+use control::parse_script;
+use std::alloc::Global;
+
+/// A kind of file that people hand over where another one is wanted.
+#[derive(Clone, Copy, Debug, PartialEq, Eq)]
+pub(crate) enum Kind {
+    Empty,
+    Image,
+    /// An ELF object, as compilers write it.
+    Elf,
+    /// A classic capture as this program reads it: low byte first, microseconds.
+    Capture,
+    /// A classic capture whose numbers have the high byte first.
+    BigEndianCapture,
+    /// A classic capture with nanoseconds, in either order of bytes.
+    NanosecondCapture,
+    Pcapng,
+    Gzip,
+    /// An image's exact text or source.
+    ImageText,
+    Journals,
+    Script,
+    /// Hexadecimal digits and nothing else.
+    HexDigits,
+    /// An Ethernet frame of IPv4, IPv6 or ARP.
+    Frame,
+    /// Text of another kind.
+    Text,
+    Unknown,
+}
+
+/// The kinds that begin with bytes of their own.
+#[rattlefmt::skip]
+const MAGICS: [(&[u8], Kind); 10] = [
+    (b"XLBP",              Kind::Image),
+    (b"\x7fELF",           Kind::Elf),
+    (b"\xd4\xc3\xb2\xa1",  Kind::Capture),
+    (b"\xa1\xb2\xc3\xd4",  Kind::BigEndianCapture),
+    (b"\x4d\x3c\xb2\xa1",  Kind::NanosecondCapture),
+    (b"\xa1\xb2\x3c\x4d",  Kind::NanosecondCapture),
+    (b"\x0a\x0d\x0d\x0a",  Kind::Pcapng),
+    (b"\x1f\x8b",          Kind::Gzip),
+    (b"version ",          Kind::ImageText),
+    (b"XLBJ ",             Kind::Journals),
+];
+
+/// The kind whose first bytes these are.
+fn by_magic(bytes: &[u8]) -> Option<Kind> {
+    for (magic, kind) in &MAGICS {
+        if bytes.starts_with(*magic) {
+            return Some(*kind);
+        }
+    }
+    None
+}
+
+/// A digit of a hexadecimal number, or what stands between such digits.
+fn is_hex_byte(byte: u8) -> bool {
+    byte.is_ascii_hexdigit() || byte.is_ascii_whitespace() || byte == b':'
+}
+
+fn is_hex_digits(bytes: &[u8]) -> bool {
+    bytes.iter().all(|byte| is_hex_byte(*byte))
+}
+
+/// The type field of an Ethernet frame says IPv4, IPv6 or ARP, and the byte behind it fits.
+fn is_frame(bytes: &[u8]) -> bool {
+    match bytes.get(12..15) {
+        Some(field) => field.starts_with(b"\x08\x00\x45")
+            || field.starts_with(b"\x86\xdd\x60")
+            || field.starts_with(b"\x08\x06\x00"),
+        None => false,
+    }
+}
+
+fn is_text_byte(byte: u8) -> bool {
+    byte == b'\n' || byte == b'\r' || byte == b'\t' || (byte >= b' ' && byte < 127)
+}
+
+fn is_text(bytes: &[u8]) -> bool {
+    bytes.iter().all(|byte| is_text_byte(*byte))
+}
+
+fn is_script(alloc: Global, bytes: &[u8]) -> bool {
+    parse_script(alloc, bytes).is_ok()
+}
+
+/// The kind of file that the bytes are, as far as they show it.
+pub(crate) fn kind_of(alloc: Global, bytes: &[u8]) -> Kind {
+    if bytes.is_empty() {
+        return Kind::Empty;
+    }
+    if let Some(kind) = by_magic(bytes) {
+        return kind;
+    }
+    if is_frame(bytes) {
+        return Kind::Frame;
+    }
+    if is_hex_digits(bytes) {
+        return Kind::HexDigits;
+    }
+    if !is_text(bytes) {
+        return Kind::Unknown;
+    }
+    if is_script(alloc, bytes) {
+        Kind::Script
+    } else {
+        Kind::Text
+    }
+}
+
+/// What a kind is called.
+#[rattlefmt::skip]
+pub(crate) fn name_of(kind: Kind) -> &'static str {
+    match kind {
+        Kind::Empty             => "the file is empty",
+        Kind::Image             => "the file is an image",
+        Kind::Elf               => "the file is an ELF object, as compilers write it",
+        Kind::Capture           => "the file is a capture",
+        Kind::BigEndianCapture  => "the file is a capture whose numbers have the high byte first",
+        Kind::NanosecondCapture => "the file is a capture with nanoseconds",
+        Kind::Pcapng            => "the file is a pcapng capture",
+        Kind::Gzip              => "the file is compressed with gzip",
+        Kind::ImageText         => "the file is the text of an image",
+        Kind::Journals          => "the file has journals",
+        Kind::Script            => "the file is a script of commands",
+        Kind::HexDigits         => "the file has hexadecimal digits in place of bytes",
+        Kind::Frame             => "the file is an Ethernet frame",
+        Kind::Text              => "the file is a text",
+        Kind::Unknown           => "",
+    }
+}

@@ -1,0 +1,5 @@
+//! What is said of each mistake.
+
+mod asserting;
+mod files;
+mod scripts;
