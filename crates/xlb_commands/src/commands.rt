@@ -147,7 +147,7 @@ pub(crate) fn image_of<D: Folder>(
 fn refused_image(alloc: Global, bytes: &[u8], fault: DecodeFault) -> Refusal
     ensures { result.fault ≡ Fault.Decode fault }
 {
-    Refusal::hinted(Fault::Decode(fault), hints::of_image(alloc, bytes))
+    Refusal::hinted(Fault::Decode(fault), hints::of_image(alloc, bytes, fault))
 }
 
 /// The image of a file, if the verifier accepts it.
@@ -204,7 +204,7 @@ pub(crate) fn frame_of<D: Folder>(
 fn refused_frame(alloc: Global, bytes: &[u8], fault: FrameFault) -> Refusal
     ensures { result.fault ≡ Fault.Frame fault }
 {
-    Refusal::hinted(Fault::Frame(fault), hints::of_frame(alloc, bytes))
+    Refusal::hinted(Fault::Frame(fault), hints::of_frame(alloc, bytes, fault))
 }
 
 /// Judges an image.

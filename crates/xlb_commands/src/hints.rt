@@ -1,19 +1,14 @@
-//! What a person is told below a fault's line: where to look, and which arguments may be swapped.
+//! Lines for people below a fault's line: what the file is, and where it is wrong.
 
+use control::ControlFault;
+use ebpf_decode::DecodeFault;
+use mistakes::{about_capture, about_frame, about_image, about_map, about_script};
 use source_form::{SourceFault, assemble_source};
 use std::alloc::{AllocError, Global};
-use wire::CaptureFault;
+use wire::{CaptureFault, FrameFault};
 
-/// The first bytes of images and of captures.
+/// The first bytes of images.
 const IMAGE_MAGIC: &[u8] = b"XLBP";
-
-const CAPTURE_MAGIC: &[u8] = b"\xd4\xc3\xb2\xa1";
-
-/// How every text of an image begins.
-const TEXT_HEAD: &[u8] = b"version ";
-
-/// How every file of journals begins.
-const JOURNALS_HEAD: &[u8] = b"XLBJ ";
 
 /// The bytes of a capture's header, and of the head of a record.
 const HEADER_LEN: usize = 24;
@@ -26,40 +21,40 @@ fn note(alloc: Global, words: &str) -> Result<Option<String>, AllocError> {
 }
 
 /// Of bytes that are no image.
-pub(crate) fn of_image(alloc: Global, bytes: &[u8]) -> Result<Option<String>, AllocError> {
-    if bytes.starts_with(CAPTURE_MAGIC) {
-        return note(
-            alloc,
-            "IMAGE begins as a capture does: are the arguments swapped?",
-        );
+pub(crate) fn of_image(
+    alloc: Global,
+    bytes: &[u8],
+    fault: DecodeFault,
+) -> Result<Option<String>, AllocError> {
+    match fault {
+        DecodeFault::BadHead => Ok(Some(about_image(alloc, bytes)?)),
+        DecodeFault::BadMap { map } => Ok(Some(about_map(alloc, bytes, map)?)),
+        _ => Ok(None),
     }
-    if bytes.starts_with(TEXT_HEAD) {
-        return note(alloc, "IMAGE is a text: 'xlb asm' makes an image of it");
-    }
-    if bytes.starts_with(JOURNALS_HEAD) {
-        return note(
-            alloc,
-            "IMAGE begins as a file of journals does: are the arguments swapped?",
-        );
-    }
-    Ok(None)
 }
 
 /// Of bytes that are no frame.
-pub(crate) fn of_frame(alloc: Global, bytes: &[u8]) -> Result<Option<String>, AllocError> {
-    if bytes.starts_with(IMAGE_MAGIC) {
-        return note(
-            alloc,
-            "FRAME begins as an image does: are the arguments swapped?",
-        );
+pub(crate) fn of_frame(
+    alloc: Global,
+    bytes: &[u8],
+    fault: FrameFault,
+) -> Result<Option<String>, AllocError> {
+    match fault {
+        FrameFault::Memory => Ok(None),
+        _ => Ok(Some(about_frame(alloc, bytes)?)),
     }
-    if bytes.starts_with(CAPTURE_MAGIC) {
-        return note(
-            alloc,
-            "FRAME begins as a capture does: 'xlb replay' runs its frames",
-        );
+}
+
+/// Of bytes that are no script.
+pub(crate) fn of_script(
+    alloc: Global,
+    bytes: &[u8],
+    fault: ControlFault,
+) -> Result<Option<String>, AllocError> {
+    match fault {
+        ControlFault::BadLine { line } => Ok(Some(about_script(alloc, bytes, line)?)),
+        _ => Ok(None),
     }
-    Ok(None)
 }
 
 /// Of bytes that are no exact text.
@@ -87,24 +82,16 @@ fn of_source(alloc: Global, text: &str) -> Result<Option<String>, AllocError> {
     }
 }
 
-/// Of bytes that are no capture: at which byte.
+/// Of bytes that are no capture: what the file is, or at which byte it is wrong.
 pub(crate) fn of_capture(
     alloc: Global,
     bytes: &[u8],
     fault: CaptureFault,
 ) -> Result<Option<String>, AllocError> {
     let offset = match fault {
-        CaptureFault::BadMagic => {
-            if bytes.starts_with(IMAGE_MAGIC) {
-                return note(
-                    alloc,
-                    "CAPTURE begins as an image does: are the arguments swapped?",
-                );
-            }
-            0
+        CaptureFault::BadMagic | CaptureFault::BadVersion | CaptureFault::BadLink => {
+            return Ok(Some(about_capture(alloc, bytes)?));
         }
-        CaptureFault::BadVersion => 4,
-        CaptureFault::BadLink => 20,
         CaptureFault::CutHead { record } => record_offset(bytes, record),
         CaptureFault::CutFrame { record } => record_offset(bytes, record),
         CaptureFault::FrameTooLong { record } => record_offset(bytes, record),

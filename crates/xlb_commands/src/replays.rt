@@ -90,7 +90,10 @@ fn parsed(alloc: Global, bytes: &[u8]) -> Result<Script, Refusal>
 {
     match parse_script(alloc, bytes) {
         Ok(script) => Ok(script),
-        Err(fault) => Err(Refusal::from(Fault::Script(fault))),
+        Err(fault) => Err(Refusal::hinted(
+            Fault::Script(fault),
+            hints::of_script(alloc, bytes, fault),
+        )),
     }
 }
 

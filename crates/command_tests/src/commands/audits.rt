@@ -171,7 +171,7 @@ const NOT_THERE: [(&str, &str); 3] = [
     ),
     (
         "xlb audit journals nosuch",
-        "fault 10 BadHead\n  IMAGE begins as a file of journals does: are the arguments swapped?\n",
+        "fault 10 BadHead\n  the file has journals\n  expected an image, which begins with 58 4c 42 50 (XLBP)\n  the image comes first on the command line: are two names swapped?\n",
     ),
     (
         "xlb audit image nosuch",

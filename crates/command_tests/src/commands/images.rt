@@ -12,13 +12,13 @@ type Row = (&'static str, &'static str, &'static str);
 
 #[rattlefmt::skip]
 const ROWS: [Row; 19] = [
-    ("no bytes",                    "",                                                                       "fault 10 BadHead\n"),
-    ("a cut head",                  "584c4250010000",                                                         "fault 10 BadHead\n"),
-    ("another magic",               "584c425101000000b7000000020000009500000000000000",                       "fault 10 BadHead\n"),
-    ("another version",             "584c425003000000b7000000020000009500000000000000",                       "fault 10 BadHead\n"),
-    ("17 maps",                     "584c425001110000b7000000020000009500000000000000",                       "fault 10 BadHead\n"),
-    ("a cut map list",              "584c425001010000020000000400000008000000",                               "fault 10 BadHead\n"),
-    ("a map of keys of five bytes", "584c42500101000002000000050000000800000001000000b7000000020000009500000000000000", "fault 11 BadMap map 0\n"),
+    ("no bytes",                    "",                                                                       "fault 10 BadHead\n  the file is empty\n  expected an image, which begins with 58 4c 42 50 (XLBP)\n"),
+    ("a cut head",                  "584c4250010000",                                                         "fault 10 BadHead\n  the file ends after 7 bytes, within its head of 8 bytes\n"),
+    ("another magic",               "584c425101000000b7000000020000009500000000000000",                       "fault 10 BadHead\n  the file begins with the bytes 58 4c 42 51 01 00 00 00\n  expected an image, which begins with 58 4c 42 50 (XLBP)\n"),
+    ("another version",             "584c425003000000b7000000020000009500000000000000",                       "fault 10 BadHead\n  byte 4, the version, is 3: expected 1 or 2\n"),
+    ("17 maps",                     "584c425001110000b7000000020000009500000000000000",                       "fault 10 BadHead\n  byte 5, the number of maps, is 17: expected 0 to 16\n"),
+    ("a cut map list",              "584c425001010000020000000400000008000000",                               "fault 10 BadHead\n  the file ends after 20 bytes, within its list of 1 maps: the list ends at byte 24\n"),
+    ("a map of keys of five bytes", "584c42500101000002000000050000000800000001000000b7000000020000009500000000000000", "fault 11 BadMap map 0\n  map 0: its keys have 5 bytes\n  expected 4: the keys of an array are numbers of 4 bytes\n"),
     ("no slots",                    "584c425001000000",                                                       "fault 12 Empty\n"),
     ("half a slot",                 "584c425001000000b7000000",                                               "fault 13 NotWhole\n"),
     ("div with offset 2",           "584c4250010000003700020001000000",                                       "fault 15 UnknownOpcode slot 0\n"),

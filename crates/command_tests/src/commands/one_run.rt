@@ -131,7 +131,11 @@ fn refuses_4097_instructions(rt: HostRuntime) {
 /// What a row shows, how many bytes a frame has, and what is printed.
 const SIZES: [(&str, usize, &str); 2] = [
     ("2048 bytes", 2048, ""),
-    ("2049 bytes", 2049, "fault 6 FrameTooLong\n"),
+    (
+        "2049 bytes",
+        2049,
+        "fault 6 FrameTooLong\n  the file has more than 2048 bytes\n  expected the bytes of one Ethernet frame, 14 to 2048 of them\n",
+    ),
 ];
 
 /// Holds what is printed of a run over this many bytes against what is to be printed.
