@@ -4,6 +4,7 @@ mod holding;
 mod many_shards;
 mod rows;
 mod two_workers;
+mod waiting;
 
 ghost use Rattle.std.specs.Prelude.{IfOk};
 ghost use Rattle.shards.specs.NewShards.{IsNamed};
