@@ -8,6 +8,7 @@ use rx_queues::{Job, Queues, TakePass};
 use std::alloc::Global;
 use std::process::Abort;
 use std::sync::Wait;
+use std::sync::atomic::{AtomicU64, Ordering};
 use std::test::Fail;
 use std::thread::Threads;
 use wire::{Capture, MemorySink, MemorySource, Sent, read_capture, write_capture};
@@ -34,6 +35,38 @@ impl Runner<u64> for Passing {
     }
 }
 
+/// Passes each frame, except that one worker is refused memory at one of its runs, counted from 1.
+#[derive(Drop)]
+struct Refusing {
+    worker: u8,
+    run: u64,
+    /// How many frames that worker was asked to run.
+    asked: AtomicU64,
+}
+
+impl Runner<u64> for Refusing {
+    ghost use Rattle.std.specs.Prelude.{⊤};
+
+    ghost is_new = { λ _ _ _. ⊤ };
+
+    ghost is_idle = { λ _ _ _. ⊤ };
+
+    ghost runs = { λ _ _ _ _ _ _. ⊤ };
+
+    fn run(&self, alloc: Global, worker: u8, sent: &Sent, state: &mut u64) -> Option<RunEnd> {
+        let _ = alloc;
+        let _ = sent;
+        *state = state.wrapping_add(1);
+        if worker == self.worker {
+            self.asked.fetch_add(1, Ordering::SeqCst);
+            if *state == self.run {
+                return None;
+            }
+        }
+        Some(RunEnd::Passed)
+    }
+}
+
 /// What an actor was handed: the command that comes next where all came in order, and how many rounds it was asked for.
 #[derive(Clone, Copy, Debug, PartialEq, Eq)]
 struct Heard {
@@ -45,6 +78,7 @@ struct Heard {
 #[derive(Drop)]
 struct Hearing {
     first: usize,
+    is_refused: bool,
 }
 
 impl Actor<Heard> for Hearing {
@@ -79,8 +113,16 @@ impl Actor<Heard> for Hearing {
         ActorEnded {
             take,
             given,
-            is_refused: false,
+            is_refused: self.is_refused,
         }
+    }
+}
+
+/// One that has memory.
+fn hearing(first: usize) -> Hearing {
+    Hearing {
+        first,
+        is_refused: false,
     }
 }
 
@@ -160,11 +202,12 @@ fn are_runs(rt: &impl Abort, workers: &[Handled<u64>], want: &[u64]) {
     }
 }
 
-/// Runs the row with a controller and a reclaimer, and compares.
+/// Runs the row with a controller and a reclaimer at a pace, and compares.
 fn run_beside<R: Abort + Threads + Wait + Sync>(
     rt: &R,
     alloc: Global,
     row: Row<'_>,
+    pace: Pace,
 ) -> Result<(), Fail>
     requires { (0 < row.workers) × (row.workers ≤ 8) }
 {
@@ -178,10 +221,10 @@ fn run_beside<R: Abort + Threads + Wait + Sync>(
         &capture,
         &STARTS,
         1,
-        Pace::Free,
+        pace,
         &Passing,
-        Hearing { first: 1 },
-        Hearing { first: 0 },
+        hearing(1),
+        hearing(0),
         put,
         takes,
         states,
@@ -205,7 +248,91 @@ fn run_beside<R: Abort + Threads + Wait + Sync>(
 fn each_record_is_run_once(rt: HostRuntime) -> Result<(), Fail> {
     for row in ROWS {
         prove!(0 < row.workers && row.workers <= 8);
-        run_beside(&rt, rt.alloc(), row)?;
+        run_beside(&rt, rt.alloc(), row, Pace::Free)?;
+    }
+    Ok(())
+}
+
+#[test]
+fn each_record_is_run_once_at_exact_moments(rt: HostRuntime) -> Result<(), Fail> {
+    for row in ROWS {
+        prove!(0 < row.workers && row.workers <= 8);
+        run_beside(&rt, rt.alloc(), row, Pace::Exact)?;
+    }
+    Ok(())
+}
+
+/// Which worker is refused memory at which of its runs (0: at none), whether the controller and the reclaimer are, the fault (0: none), and how many
+/// frames that worker is asked to run. Of 1000 frames by four workers the first one runs 250, so that its queue is full several times after it was
+/// refused.
+type Refusal = (&'static str, u8, u64, bool, bool, u8, u64);
+
+#[rattlefmt::skip]
+const REFUSALS: [Refusal; 8] = [
+    ("nobody",                          0, 0,   false, false, 0,  250),
+    ("the first worker at once",        0, 1,   false, false, 52, 1),
+    ("a middle worker at once",         1, 1,   false, false, 52, 1),
+    ("the last worker at once",         3, 1,   false, false, 52, 1),
+    ("the first worker at the last",    0, 250, false, false, 52, 250),
+    ("a middle worker on the way",      2, 100, false, false, 52, 100),
+    ("the controller",                  0, 0,   true,  false, 52, 250),
+    ("the reclaimer",                   0, 0,   false, true,  52, 250),
+];
+
+/// Runs 1000 frames by four workers, of which one or an actor is refused memory: the number of the fault, and how many frames that worker was asked to
+/// run.
+fn refused<R: Abort + Threads + Wait + Sync>(
+    rt: &R,
+    alloc: Global,
+    refusal: &Refusal,
+    pace: Pace,
+) -> Result<(u8, u64), Fail> {
+    let (_, worker, run, controller, reclaimer, ..) = *refusal;
+    let capture = capture(alloc, 1000)?;
+    let (queues, put, takes) = Queues::open(alloc, 4)?;
+    let states = vec![in alloc; 0; 4]?;
+    let runner = Refusing {
+        worker,
+        run,
+        asked: AtomicU64::new(0),
+    };
+    let controller = Hearing {
+        first: 1,
+        is_refused: controller,
+    };
+    let reclaimer = Hearing {
+        first: 0,
+        is_refused: reclaimer,
+    };
+    let ended = run_all(
+        rt, alloc, &queues, &capture, &STARTS, 1, pace, &runner, controller, reclaimer, put, takes,
+        states,
+    );
+    let fault = match ended {
+        Ok(_) => 0,
+        Err(fault) => fault.number(),
+    };
+    Ok((fault, runner.asked.load(Ordering::SeqCst)))
+}
+
+/// Compares a refusal's fault and runs at both paces.
+fn is_refused<R: Abort + Threads + Wait + Sync>(
+    rt: &R,
+    alloc: Global,
+    refusal: &Refusal,
+) -> Result<(), Fail> {
+    let (name, _, _, _, _, fault, asked) = *refusal;
+    for pace in [Pace::Free, Pace::Exact] {
+        let found = refused(rt, alloc, refusal, pace)?;
+        same(rt, name, &found, &(fault, asked));
+    }
+    Ok(())
+}
+
+#[test]
+fn whoever_is_refused_memory_takes_its_jobs_to_the_end(rt: HostRuntime) -> Result<(), Fail> {
+    for refusal in &REFUSALS {
+        is_refused(&rt, rt.alloc(), refusal)?;
     }
     Ok(())
 }

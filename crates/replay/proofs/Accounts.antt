@@ -30,7 +30,7 @@ use Rattle.replay.specs.declared.crew.Handled.{Handled}
 use Rattle.replay.specs.declared.runner.Ran.{Ran}
 use Rattle.replay.specs.declared.runner.RunEnd.{RunEnd}
 use Rattle.replay.specs.declared.runner.RunEnd.TheVariants.{Stopped, Aborted, Dropped, Passed, Sent as IsSent}
-use Rattle.replay.specs.Accounts.{lists_of, runs_at, AreRunsOfShares}
+use Rattle.replay.specs.Accounts.{runs_at, AreRunsOfShares}
 use Rattle.semantics.specs.Each.{Each}
 use Rattle.replay.specs.Crews.{IsHandled, IsPart}
 use Rattle.replay.specs.RunsInOrder.{IsRunAt, IsChainOfRuns, HasHandled}
@@ -210,14 +210,6 @@ pass_there : {B : Type 0} (working : List (Working B)) (j : ℕ) (x : Working B)
 pass_there [] j x e = absurd (some-ne-none x (sym e))
 pass_there (y ∷ ys) zero x e = ap pass_in (sym (some-injective y x e))
 pass_there (y ∷ ys) (suc j) x e = pass_there ys j x e
-
--- what is said of a list of the workers' runs, said of an equal one, as many as there are workers
-module _ {A : Type 0} (P : ℕ → List (List Ran) → Type 0) (read lists : List (Vec Ran A)) (workers : ℕ) where
-  pub of_lists : read ≡ lists → length lists ≡ workers → P (length read) (lists_of read) → P workers (lists_of lists)
-  of_lists same many is = subst (λ (n : ℕ). P n (lists_of lists)) many (subst (λ (l : List (Vec Ran A)). P (length l) (lists_of l)) same is)
-
-  pub of_read : read ≡ lists → length lists ≡ workers → P workers (lists_of lists) → P (length read) (lists_of read)
-  of_read same many is = subst (λ (l : List (Vec Ran A)). P (length l) (lists_of l)) (sym same) (subst (λ (n : ℕ). P n (lists_of lists)) (sym many) is)
 
 -- ---- the workers
 

@@ -41,6 +41,8 @@ both_ended workers before middle after first second =
     let one = one_put workers End before middle first in
     let two = one_put (workers + 1) End middle after second in
     let count = one.count in record {
+      others = λ place below. two.elsewhere place (λ same. absurd (omega (arith, same, below)))
+          ∙ one.elsewhere place (λ same. absurd (omega (arith, same, below)));
       controller = λ within. two.elsewhere workers (λ same. absurd (omega (arith, same))) ∙ one.here within;
       reclaimer = λ within. two.here (omega (arith, count, within)) ∙ ap (λ jobs. jobs ++ End ∷ []) (one.elsewhere (workers + 1) (λ same. absurd (omega (arith, same))));
     }

@@ -1,6 +1,6 @@
 -- What became of each record, by the runs of the workers, and what is counted and sent of it.
 use Rattle.std.specs.Prelude.{◌≡◌, ℕ, zero, suc, ◌+◌, List, [], ◌∷◌, ◌++◌, length, map, Option, Some, None, Vec, slice_index}
-use Rattle.std.specs.Prelude.{slice_index_or, ◌<◌, if◌then◌else◌}
+use Rattle.std.specs.Prelude.{slice_index_or, ◌<◌, ◌≤◌, if◌then◌else◌}
 use Rattle.wire.specs.declared.records.Sent.{Sent}
 use Rattle.replay.specs.declared.account.Counts.{Counts}
 use Rattle.replay.specs.declared.runner.RunEnd.{RunEnd}
@@ -80,6 +80,11 @@ sent_of frames workers runs (suc number) = sent_of frames workers runs number ++
 -- each worker ran its records, in order
 abbrev pub AreRunsOfShares : List (List ℕ) → ℕ → ℕ → List (List Ran) → Type 0
 AreRunsOfShares frames workers count runs = (worker : ℕ) → worker < workers → records_of (runs_at runs worker) ≡ share frames workers worker count
+
+-- what became of the records from one on is said by other runs as by these
+abbrev pub AreFatesFrom : ℕ → List (List ℕ) → ℕ → List (List Ran) → List (List Ran) → Type 0
+AreFatesFrom first frames workers runs others =
+    (number : ℕ) → first ≤ number → fate_of frames workers others number ≡ fate_of frames workers runs number
 
 -- of each worker, how many of its records stand before this one
 pub record AreNext (frames : List (List ℕ)) (workers number : ℕ) (next : List ℕ) : Type 0 where

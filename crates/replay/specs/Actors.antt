@@ -71,7 +71,12 @@ pub record AreDispatched (frames : List (List ℕ)) (starts : List ℕ) (workers
   pub notes : put_at puts (workers + 1) ≡ replicate (number / 64) Note
   pub in_time : AreInTime starts (length frames) number first next
 
--- both were told to end
+-- every thread was told to end, and handed nothing after that, whether or not it was started
+abbrev pub AreAllEnded : ℕ → List (List Job) → Type 0
+AreAllEnded queues puts = (place : ℕ) → place < queues → EndsOnce (put_at puts place)
+
+-- both were told to end, and nobody else was handed anything
 pub record AreBothEnded (workers : ℕ) (before after : List (List Job)) : Type 0 where
+  pub others : (place : ℕ) → place < workers → put_at after place ≡ put_at before place
   pub controller : workers < length before → put_at after workers ≡ put_at before workers ++ End ∷ []
   pub reclaimer : workers + 1 < length before → put_at after (workers + 1) ≡ put_at before (workers + 1) ++ End ∷ []

@@ -6,6 +6,7 @@ pub mod RunsInOrder
 pub mod Accounts
 pub mod Crews
 pub mod Actors
+pub mod Resting
 pub mod SharedUpdates
 pub mod SharedLaws
 pub mod Commands

@@ -1,92 +1,95 @@
 //! What became of the records, counted and gathered in the capture's order.
 
-ghost use Rattle.std.specs.Prelude.{◌≡◌, ◌<◌, ◌≤◌, ◌+◌, ◌++◌, ℕ, length, option_map, IfOk, OnOk, ◌^◌};
-ghost use Rattle.replay.specs.Shares.{frames_of, share};
-ghost use Rattle.replay.specs.Accounts.{lists_of, fate_of, counts_of, frames_in, sent_of, sent_by};
-ghost use Rattle.replay.specs.Accounts.{sent_frame, sent_frames, AreRunsOfShares, AreNext, no_counts, counted};
+ghost use Rattle.std.specs.Prelude.{◌≡◌, ◌<◌, ◌+◌, ◌++◌, ℕ, Some, length, IfOk, OnOk, ◌^◌};
+ghost use Rattle.replay.specs.Shares.{frames_of};
+ghost use Rattle.replay.specs.RunJobs.{records_of};
+ghost use Rattle.replay.specs.Accounts.{lists_of, end_at, fate_of, counts_of, frames_in, sent_of, sent_by, AreFatesFrom};
+ghost use Rattle.replay.specs.Accounts.{sent_frames, AreRunsOfShares, AreNext, no_counts, counted};
 
 use crate::dispatch::{is_short, worker_of};
 use crate::runner::{Ran, RunEnd};
 use std::alloc::{AllocError, Global};
+use std::mem;
 use wire::{Capture, Sent};
 
-/// A copy of a frame and its moment.
-fn copy_of(alloc: Global, sent: &Sent) -> Result<Sent, AllocError>
-    ensures { IfOk result (λ copy. sent_frame copy ≡ sent_frame sent.now) }
-{
-    let bytes = Vec::from_slice(alloc, &sent.bytes)?;
-    Ok(Sent {
-        seconds: sent.seconds,
-        micros: sent.micros,
-        bytes,
-    })
-}
-
 /// Puts a frame behind those that are sent, if it is sent.
-fn send(alloc: Global, all: &mut Vec<Sent>, fate: Option<&RunEnd>) -> Result<(), AllocError>
-    ensures { OnOk result (sent_frames all.new.items ≡ sent_frames all.old.items ++ sent_by (option_map (λ end. end.now) fate.entry)) }
+fn send(all: &mut Vec<Sent>, fate: Option<RunEnd>) -> Result<(), AllocError>
+    ensures { OnOk result (sent_frames all.new.items ≡ sent_frames all.old.items ++ sent_by fate) }
 {
     match fate {
-        Some(RunEnd::Sent { sent }) => {
-            let copy = copy_of(alloc, sent)?;
-            Ok(all.push(copy)?)
-        }
+        Some(RunEnd::Sent { sent }) => Ok(all.push(sent)?),
         _ => Ok(()),
     }
 }
 
-/// What became of the next record: none where it is short, else how the next run of its worker ended.
-fn next_fate<'a>(
+/// Takes out how a run ended. Its place then says that its frame was dropped.
+fn taken_out(runs: &mut Vec<Ran>, place: usize) -> RunEnd
+    requires { place < length runs.old.items }
+    ensures end { Some result ≡ end_at runs.old.items place }
+    ensures others { (other : ℕ) → ¬ (other ≡ place) → end_at runs.new.items other ≡ end_at runs.old.items other }
+    ensures records { records_of runs.new.items ≡ records_of runs.old.items }
+{
+    let ran = &mut runs[place];
+    mem::replace(&mut ran.end, RunEnd::Dropped)
+}
+
+/// What became of the next record: none where it is short, else how the next run of its worker ended, which is taken out. So what is said of
+/// the later records stays.
+fn next_fate(
     capture: &Capture,
-    runs: &'a [Vec<Ran>],
+    runs: &mut Vec<Vec<Ran>>,
     next: &mut Vec<usize>,
     number: usize,
-) -> Option<&'a RunEnd>
+) -> Option<RunEnd>
     requires number { number < length capture.now.records.items }
-    requires workers { 0 < length runs.now }
-    requires runs { AreRunsOfShares (frames_of capture.now.records.items) (length runs.now) (length capture.now.records.items)
-        (lists_of runs.now) }
-    requires next { AreNext (frames_of capture.now.records.items) (length runs.now) number next.old.items }
-    ensures next { AreNext (frames_of capture.now.records.items) (length runs.now) (number + 1) next.new.items }
-    ensures fate { option_map (λ end. end.now) result ≡ fate_of (frames_of capture.now.records.items) (length runs.now) (lists_of
-        runs.now) number }
+    requires workers { 0 < length runs.old.items }
+    requires runs { AreRunsOfShares (frames_of capture.now.records.items) (length runs.old.items) (length capture.now.records.items)
+        (lists_of runs.old.items) }
+    requires next { AreNext (frames_of capture.now.records.items) (length runs.old.items) number next.old.items }
+    ensures count { length runs.new.items ≡ length runs.old.items }
+    ensures runs { AreRunsOfShares (frames_of capture.now.records.items) (length runs.old.items) (length capture.now.records.items)
+        (lists_of runs.new.items) }
+    ensures next { AreNext (frames_of capture.now.records.items) (length runs.old.items) (number + 1) next.new.items }
+    ensures fate { result ≡ fate_of (frames_of capture.now.records.items) (length runs.old.items) (lists_of runs.old.items) number }
+    ensures later { AreFatesFrom (number + 1) (frames_of capture.now.records.items) (length runs.old.items) (lists_of runs.old.items) (lists_of
+        runs.new.items) }
 {
     let sent = &capture.records[number];
     if is_short(sent) {
         return None;
     }
     let worker = worker_of(&sent.bytes, runs.len());
-    let list = &runs[worker];
     let place = next[worker];
-    let ran = &list[place];
+    let list = &mut runs[worker];
+    let end = taken_out(list, place);
     next[worker] = place + 1;
-    Some(&ran.end)
+    Some(end)
 }
 
-/// Counts all records, and gathers what is sent, in the capture's order.
+/// Counts all records, and gathers what is sent, in the capture's order. Frames are moved from the runs, not copied.
 pub(crate) fn account(
     alloc: Global,
     capture: &Capture,
-    runs: &[Vec<Ran>],
+    mut runs: Vec<Vec<Ran>>,
 ) -> Result<(Counts, Vec<Sent>), AllocError>
-    requires workers { 0 < length runs.now }
-    requires runs { AreRunsOfShares (frames_of capture.now.records.items) (length runs.now) (length capture.now.records.items)
-        (lists_of runs.now) }
-    ensures counts { IfOk result (λ account. account.0 ≡ counts_of (frames_of capture.now.records.items) (length runs.now) (lists_of
-        runs.now)
+    requires workers { 0 < length runs.items }
+    requires runs { AreRunsOfShares (frames_of capture.now.records.items) (length runs.items) (length capture.now.records.items)
+        (lists_of runs.items) }
+    ensures counts { IfOk result (λ account. account.0 ≡ counts_of (frames_of capture.now.records.items) (length runs.items) (lists_of
+        runs.items)
         (length capture.now.records.items)) }
     ensures frames { IfOk result (λ account. frames_in account.0 ≡ length capture.now.records.items) }
     ensures sent { IfOk result (λ account. sent_frames account.1.items ≡ sent_of (frames_of capture.now.records.items) (length
-        runs.now) (lists_of runs.now)
+        runs.items) (lists_of runs.items)
         (length capture.now.records.items)) }
 {
     let mut next = vec![in alloc; 0; runs.len()]?;
     let mut counts = Counts::none();
     let mut all = Vec::new(alloc);
     'records: for number in 0..capture.records.len() {
-        let fate = next_fate(capture, runs, &mut next, number);
-        counts.count(fate);
-        send(alloc, &mut all, fate)?;
+        let fate = next_fate(capture, &mut runs, &mut next, number);
+        counts.count(&fate);
+        send(&mut all, fate)?;
     }
     Ok((counts, all))
 }
@@ -127,9 +130,9 @@ impl Counts {
     }
 
     /// Counts one record: a short one, or what became of it.
-    pub(crate) fn count(&mut self, fate: Option<&RunEnd>)
+    pub(crate) fn count(&mut self, fate: &Option<RunEnd>)
         requires { frames_in self.old + 1 < 2 ^ 64 }
-        ensures counted { self.new ≡ counted self.old (option_map (λ end. end.now) fate.entry) }
+        ensures counted { self.new ≡ counted self.old fate.now }
         ensures one_more { frames_in self.new ≡ frames_in self.old + 1 }
     {
         match fate {

@@ -108,7 +108,7 @@ pub(crate) fn closed<B: Naming, R: Wait>(
     let _ = size;
     shards.planned();
     let (runs, working) = parted(alloc, handled)?;
-    let (counts, sent) = account(alloc, capture, &runs)?;
+    let (counts, sent) = account(alloc, capture, runs)?;
     let Commanded { pass, noted } = commanded;
     let passes = all_passes(alloc, working, pass, reclaimed)?;
     let journals = shards.close(rt, passes);

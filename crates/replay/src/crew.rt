@@ -1,18 +1,16 @@
 //! All workers.
 
-ghost use Rattle.std.specs.Prelude.{◌≡◌, ◌<◌, ◌≤◌, ◌++◌, ◌∷◌, [], length, IfOk, IfErr, IfSome, IsSome};
+ghost use Rattle.std.specs.Prelude.{◌≡◌, ◌<◌, ◌≤◌, ◌++◌, ◌∷◌, [], length, IfOk, IfSome, IsSome, vec_capacity};
 ghost use Rattle.rx_queues.specs.declared.job.Job.TheVariants.{End};
 ghost use Rattle.rx_queues.specs.Passes.{IsPutPassOf, TakeAtTheirPlaces, workers_of, jobs_put};
 ghost use Rattle.replay.specs.Accounts.{lists_of};
 ghost use Rattle.semantics.specs.Each.{Each};
 ghost use Rattle.replay.specs.Crews.{IsReadyAt, IsLane, AreHandled, IsPart};
-ghost use Rattle.replay.specs.Puts.{AreAllPut, put_at, frame_jobs};
+ghost use Rattle.replay.specs.Puts.{AreAllPut, ArePutWithEnd, put_at, frame_jobs};
 ghost use Rattle.replay.specs.RunsInOrder.{IsRunAt, HasHandled};
 ghost use Rattle.replay.specs.Shares.{frames_of, share};
-ghost use Rattle.replay.specs.declared.fault.ReplayFault.TheVariants.{BadOptions};
 
 use crate::dispatch::end_all;
-use crate::fault::ReplayFault;
 use crate::runner::{Ran, Runner};
 use crate::worker::{Lane, WorkerEnded, start};
 use rx_queues::{PutPass, Queues, TakePass};
@@ -28,7 +26,8 @@ pub struct Handled<S> {
     pub state: S,
 }
 
-/// Starts each worker, on the first rights to take and with its state. Where one can't be started, those that were are given back.
+/// Starts each worker, on the first rights to take and with its state, and puts its side behind `lanes`, which are none and have room for
+/// all. Where one can't be started, those that were are given back.
 pub(crate) fn start_all<
     's,
     E,
@@ -42,24 +41,21 @@ pub(crate) fn start_all<
     queues: &'s Queues,
     capture: &'s Capture,
     runner: &'s W,
+    mut lanes: Vec<Lane<'s, S, W>>,
     mut takes: Vec<TakePass>,
     mut states: Vec<S>,
-) -> Result<Vec<Lane<'s, S, W>>, (ReplayFault, Vec<Lane<'s, S, W>>)>
+) -> Result<Vec<Lane<'s, S, W>>, Vec<Lane<'s, S, W>>>
     requires few { length states.items ≤ 8 }
+    requires room { (lanes.items ≡ []) × (length states.items ≤ vec_capacity lanes) }
     requires takes { (length states.items ≤ length takes.items) × TakeAtTheirPlaces queues.now takes.items }
     requires states { Each (IsReadyAt (W.is_new runner.now) (W.is_idle runner.now)) 0 states.items }
     ensures count { IfOk result (λ lanes. length lanes.items ≡ length states.items) }
     ensures lanes { IfOk result (λ lanes. Each (IsLane queues.now capture.now runner.now) 0 lanes.items) }
-    ensures fault { IfErr result (λ it. ¬ (it.0 ≡ BadOptions)) }
 {
     let count = states.len();
-    let mut lanes = Vec::new(alloc);
     'workers: for worker in 0..count {
         let take = takes.remove(0);
         let state = states.remove(0);
-        if lanes.reserve(1).is_err() {
-            return Err((ReplayFault::Memory, lanes));
-        }
         match start(
             scope,
             rt,
@@ -72,7 +68,7 @@ pub(crate) fn start_all<
             state,
         ) {
             Some(lane) => lanes.push_reserved(lane),
-            None => return Err((ReplayFault::NoThread, lanes)),
+            None => return Err(lanes),
         }
     }
     Ok(lanes)
@@ -89,6 +85,7 @@ pub(crate) fn abandon<S: Drop, W: Runner<S>, R: Threads + Wait>(
     requires workers { (workers_of queues.now ≡ workers) × (workers ≤ 8) }
     requires put { IsPutPassOf queues.now put.old }
     ensures put { IsPutPassOf queues.now put.new }
+    ensures ended { ArePutWithEnd workers (jobs_put put.old) (jobs_put put.new) }
 {
     end_all(rt, queues, put, workers);
     'lanes: for lane in lanes {

@@ -19,6 +19,10 @@
 //! that breaks it is refused where it is written. Behind the last record come the commands that are left. Commands of frame 0 are
 //! applied before the threads start (`setting`).
 //!
+//! In an exact replay the dispatcher also waits: before it hands over a command or a note until all that it handed over is done, and after
+//! it until this is done. A job is done when its thread asks for the next one and finds none (`Queues::wait_for_rest`). The methods require
+//! that the dispatcher has waited (`IsAtRest`, `AreActorsAtRest`).
+//!
 //! # Passes
 //!
 //! Who calls a shard, and who puts or takes a job, needs a pass. It can't be copied, and knows what was done through it. The dispatcher

@@ -1,5 +1,7 @@
 //! Whole replays, each with threads.
 
+mod exact;
+mod moments;
 mod schedules;
 mod shipped_program;
 

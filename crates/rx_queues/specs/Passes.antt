@@ -28,9 +28,16 @@ HasQueue workers who = Unit
 abbrev pub workers_of : Queues → ℕ
 workers_of queues = queues.workers
 
+abbrev pub lists_put : List (Pass Job JobsKnown) → List (List Job)
+lists_put passes = map (λ (one : Pass Job JobsKnown). (view one).put) passes
+
 -- what was put through the pass, queue by queue
 abbrev pub jobs_put : PutPass → List (List Job)
-jobs_put pass = map (λ (one : Pass Job JobsKnown). (view one).put) pass.passes.items
+jobs_put pass = lists_put pass.passes.items
+
+-- what was put through the pass, queue by queue, when its owner last waited until all of it was done
+abbrev pub jobs_at_rest : PutPass → List (List Job)
+jobs_at_rest pass = lists_put pass.at_rest.value.items
 
 -- what was taken through the pass
 abbrev pub jobs_taken : TakePass → List Job

@@ -4,6 +4,8 @@ ghost use Rattle.std.specs.Prelude.{◌≡◌, ◌+◌, length};
 
 use crate::patience::Bell;
 use crate::rule::{Queue, QueuePass};
+use std::snapshot::Snapshot;
+use std::sync::atomic::AtomicUsize;
 
 /// A queue for each worker, one for the controller and one for the reclaimer. Threads share it by reference.
 #[derive(Drop)]
@@ -11,14 +13,20 @@ pub struct Queues {
     pub(crate) queues: Vec<Queue>,
     pub(crate) workers: usize,
     pub(crate) bell: Bell,
+    /// Of each queue, how many of its jobs were done when whoever takes from it last found it empty, modulo 2^64.
+    pub(crate) done: Vec<AtomicUsize>,
     ghost sized: { length queues.items ≡ workers + 2 },
+    ghost counted: { length done.items ≡ workers + 2 },
 }
 
 /// The right to put into every queue of some [`Queues`](crate::Queues). Contracts see what was put through it, queue by queue
-/// (`jobs_put`).
+/// (`jobs_put`), and what of it was put when all was last at rest (`jobs_at_rest`).
 #[derive(Drop)]
 pub struct PutPass {
     pub(crate) passes: Vec<QueuePass>,
+    /// How many jobs were put, modulo 2^64.
+    pub(crate) count: usize,
+    pub(crate) at_rest: Snapshot<Vec<QueuePass>>,
 }
 
 /// The right to take from one queue. Contracts see which one, and what was taken through it (`jobs_taken`).
@@ -26,6 +34,8 @@ pub struct PutPass {
 pub struct TakePass {
     pub(crate) queue: usize,
     pub(crate) pass: QueuePass,
+    /// How many jobs were taken, modulo 2^64.
+    pub(crate) taken: usize,
     /// How often it asked for a job, modulo 256.
     pub(crate) questions: u8,
 }

@@ -5,7 +5,7 @@ ghost use Rattle.std.specs.Prelude.{MatchOption, slice_index_or};
 ghost use Rattle.crossbeam_queue.specs.Passes.{view, IsPassOf, ruled_capacity};
 ghost use Rattle.rx_queues.specs.Fifo.{IsTakenInOrder, known};
 ghost use Rattle.rx_queues.specs.Passes.{queue_of, HasQueue, workers_of, jobs_put, jobs_taken, jobs_put_for, with_job_at, IsPutPassOf};
-ghost use Rattle.rx_queues.specs.Passes.{IsTakePassOf, place_taken_from, AreTakePasses, IsPutPassFor, IsTakePassFor, WasFull};
+ghost use Rattle.rx_queues.specs.Passes.{IsTakePassOf, place_taken_from, AreTakePasses, IsPutPassFor, IsTakePassFor, WasFull, jobs_at_rest};
 ghost use Rattle.map_rules.specs.declared.open_fault.OpenFault.TheVariants.{BadOptions};
 
 use crate::job::Job;
@@ -16,7 +16,9 @@ use map_rules::OpenFault;
 use semantics::Caller;
 use std::alloc::{AllocError, Global};
 use std::hint;
+use std::snapshot::Snapshot;
 use std::sync::Wait;
+use std::sync::atomic::{AtomicUsize, Ordering};
 
 /// How many jobs a queue holds at most.
 const CAPACITY: usize = 64;
@@ -31,6 +33,7 @@ impl Queues {
     ) -> Result<(Queues, PutPass, Vec<TakePass>), OpenFault>
         ensures workers { IfOk result (λ opened. workers_of opened.0 ≡ workers) }
         ensures put { IfOk result (λ opened. IsPutPassOf opened.0 opened.1 × (jobs_put opened.1 ≡ replicate (workers + 2) [])) }
+        ensures at_rest { IfOk result (λ opened. jobs_at_rest opened.1 ≡ jobs_put opened.1) }
         ensures take { IfOk result (λ opened. AreTakePasses opened.0 opened.2.items) }
         ensures bad_options { IsErrOf result BadOptions ↔ ¬ ((1 ≤ workers) × (workers ≤ 8)) }
     {
@@ -40,6 +43,7 @@ impl Queues {
         let mut queues = Vec::new(alloc);
         let mut puts = Vec::new(alloc);
         let mut takes = Vec::new(alloc);
+        let mut done = Vec::new(alloc);
         'queues: for queue in 0..workers + 2 {
             let (line, put, take) = opened(alloc)?;
             queues.push(line)?;
@@ -47,17 +51,25 @@ impl Queues {
             takes.push(TakePass {
                 queue,
                 pass: take,
+                taken: 0,
                 questions: 0,
             })?;
+            done.push(AtomicUsize::new(0))?;
         }
         let bell = Bell::new();
+        let at_rest = Snapshot::of(&puts);
         Ok((
             Queues {
                 queues,
                 workers,
                 bell,
+                done,
             },
-            PutPass { passes: puts },
+            PutPass {
+                passes: puts,
+                count: 0,
+                at_rest,
+            },
             takes,
         ))
     }
@@ -84,11 +96,14 @@ impl Queues {
         ensures put { OnOk result (jobs_put pass.new ≡ with_job_at (queue_of (workers_of self.now) who) job (jobs_put pass.old)) }
         ensures back { IfErr result (λ back. (back ≡ job) × (jobs_put pass.new ≡ jobs_put pass.old)) }
         ensures full { OnErr result (WasFull (jobs_put_for self.now who pass.old)) }
+        ensures at_rest { jobs_at_rest pass.new ≡ jobs_at_rest pass.old }
     {
         let place = self.place(who);
         let queue = &self.queues[place];
         let mine = &mut pass.passes[place];
-        push(rt, queue, mine, job)
+        let put = push(rt, queue, mine, job);
+        pass.count = pass.count.wrapping_add(usize::from(put.is_ok()));
+        put
     }
 
     /// Takes the oldest job from the pass's queue. None only where the queue was empty at one moment of the call. Takes no memory,
@@ -101,7 +116,12 @@ impl Queues {
         pass.questions = pass.questions.wrapping_add(1);
         self.bell.ring(pass.queue, pass.questions);
         let queue = &self.queues[pass.queue];
-        pop(rt, queue, &mut pass.pass)
+        let job = pop(rt, queue, &mut pass.pass);
+        match job {
+            Some(_) => pass.taken = pass.taken.wrapping_add(1),
+            None => self.done[pass.queue].store(pass.taken, Ordering::SeqCst),
+        }
+        job
     }
 }
 
@@ -113,6 +133,7 @@ impl Queues {
         requires pass { IsPutPassOf self.now pass.old }
         ensures pass { IsPutPassOf self.now pass.new }
         ensures put { jobs_put pass.new ≡ with_job_at (queue_of (workers_of self.now) who) job (jobs_put pass.old) }
+        ensures at_rest { jobs_at_rest pass.new ≡ jobs_at_rest pass.old }
     {
         let place = self.place(who);
         let mut spins = SPINS;
@@ -146,12 +167,40 @@ impl Queues {
         unreachable!()
     }
 
+    /// How many jobs are done, as far as whoever took them said by finding nothing more to take, modulo 2^64.
+    fn count_done(&self) -> usize {
+        let mut count: usize = 0;
+        'queues: for done in &self.done {
+            count = count.wrapping_add(done.load(Ordering::SeqCst));
+        }
+        count
+    }
+
+    /// Waits until all jobs that were put are done: until whoever takes from a queue has taken all of them and then found it empty, for
+    /// each queue. Takes no memory. It may not return: where nobody takes from a queue, its jobs are never done.
+    pub fn wait_for_rest<R: Wait>(&self, rt: &R, pass: &mut PutPass)
+        requires pass { IsPutPassOf self.now pass.old }
+        ensures pass { IsPutPassOf self.now pass.new }
+        ensures put { jobs_put pass.new ≡ jobs_put pass.old }
+        ensures at_rest { jobs_at_rest pass.new ≡ jobs_put pass.old }
+    {
+        let mut patience = Patience::new(true);
+        'tries: for _ in rt.forever() {
+            if self.count_done() == pass.count {
+                break;
+            }
+            patience.wait(rt);
+        }
+        pass.at_rest = Snapshot::of(&pass.passes);
+    }
+
     /// Ends a right to take: what was taken through it, in order, is a beginning of what was put into its queue, whichever threads
     /// put and took. Takes no memory.
     pub fn settle(&self, put: &mut PutPass, take: TakePass)
         requires put { IsPutPassOf self.now put.old }
         requires take { IsTakePassOf self.now take }
         ensures pass { IsPutPassOf self.now put.new × (jobs_put put.new ≡ jobs_put put.old) }
+        ensures at_rest { jobs_at_rest put.new ≡ jobs_at_rest put.old }
         ensures in_order { IsTakenInOrder (jobs_taken take) (slice_index_or (jobs_put put.old) (place_taken_from take) []) }
     {
         let TakePass {

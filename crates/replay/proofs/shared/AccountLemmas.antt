@@ -7,7 +7,7 @@ use Rattle.semantics.proofs.shared.EachLemmas.{or_set_here, or_set_else, set_cou
 use Rattle.replay.specs.declared.runner.Ran.{Ran}
 use Rattle.replay.specs.Shares.{frames_of, frame_at, is_short, worker_of_frame, is_handed, share}
 use Rattle.replay.specs.RunJobs.{records_of}
-use Rattle.replay.specs.Accounts.{lists_of, runs_at, end_at, fate_of, AreRunsOfShares, AreNext}
+use Rattle.replay.specs.Accounts.{lists_of, runs_at, end_at, AreRunsOfShares, AreNext}
 use Rattle.replay.proofs.ShareLemmas.{share_handed, share_not, handed_within}
 
 pub handed_short : (frames : List (List ℕ)) (workers worker number : ℕ) → is_short (frame_at frames number) ≡ true → is_handed frames workers worker number ≡ false
@@ -123,20 +123,6 @@ next_after frames workers count number runs next worker place list at =
     let below : worker_of_frame (frame_at frames number) workers < workers = subst (λ w. w < workers) (sym at.who) at.below in
     subst (λ (y : ℕ × ℕ). AreNext frames workers y.0 (set next y.1 (place + 1))) (λ i. (sym (add-one number) i, at.who i))
     (next_long frames workers number next place at.long below (at.place_is ∙ ap (slice_index next) (sym at.who)) at.is_next)
-
-pub fate_there : (frames : List (List ℕ)) (workers count number : ℕ) (runs : List (List Ran)) (next : List ℕ) (worker place : ℕ) (list : List Ran) (ran : Ran)
-    → IsNextAt frames workers count number runs next worker place list → ran ≡ get_or list place ran → Some ran.end ≡ fate_of frames workers runs number
-fate_there frames workers count number runs next worker place list ran at is =
-    sym (unfold_long frames workers runs number at.long
-    ∙ ap (λ w. end_at (runs_at runs w) (length (share frames workers w number))) at.who
-    ∙ ap (λ p. end_at (runs_at runs worker) p) (sym (place_of at))
-    ∙ ap (λ (l : List Ran). end_at l place) at.list_is
-    ∙ end_there list place ran (place_within frames workers count number runs next worker place list at) is)
-  where
-    unfold_long : (frames : List (List ℕ)) (workers : ℕ) (runs : List (List Ran)) (number : ℕ) → is_short (frame_at frames number) ≡ false
-        → fate_of frames workers runs number ≡ end_at (runs_at runs (worker_of_frame (frame_at frames number) workers))
-        (length (share frames workers (worker_of_frame (frame_at frames number) workers) number))
-    unfold_long frames workers runs number long = rw long refl
 
 pub next_at : {A : Type 0} (records : List Sent) (runs : List (Vec Ran A)) (number : ℕ) (sent : Sent) (next : List ℕ) (worker place : ℕ) (list : Vec Ran A)
     → number < length records → sent ≡ get_or records number sent → is_short sent.bytes.items ≡ false

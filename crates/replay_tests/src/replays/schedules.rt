@@ -328,7 +328,7 @@ fn replies_are_counted_over_all_runs(rt: HostRuntime) -> Result<(), Fail> {
 }
 
 /// The fourth table meets a full journal after three of its slots. The updates made stand, and each later command is refused.
-const A_FULL_JOURNAL: Row<'static> = Row {
+pub(super) const A_FULL_JOURNAL: Row<'static> = Row {
     name: "a down that meets a full journal",
     program: SENDS_ALL,
     script: "0 up 0 192.0.2.1
@@ -352,7 +352,7 @@ const FOURTH: &str =
     "2 c update 02000000 0000000000000000 0 answer 0\n3 c update 00000000 c000020101000000 0 answer 0\n";
 
 /// Whether these are commands 3 and 4, each for a full journal.
-fn are_the_last_two(refused: &[Applied]) -> bool {
+pub(super) fn are_the_last_two(refused: &[Applied]) -> bool {
     refused
         .iter()
         .map(|one| (one.command, one.fault.map(|fault| fault.number())))

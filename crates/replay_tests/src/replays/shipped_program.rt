@@ -83,10 +83,11 @@ impl Gate for Order {
 }
 
 /// What the controller does before the first frame beside the service, with ten replies in all.
-const AT_FIRST: &str = "0 gateway 10.0.0.9 02:00:00:00:00:0a 02:00:00:00:00:0b\n0 up 0 192.0.2.1\n";
+pub(super) const AT_FIRST: &str =
+    "0 gateway 10.0.0.9 02:00:00:00:00:0a 02:00:00:00:00:0b\n0 up 0 192.0.2.1\n";
 
 /// What it does later. The service of another port, with one reply, is where the gate holds it until the frames before are done.
-const LATER: &str = "2 vip 203.0.113.1 81 tcp
+pub(super) const LATER: &str = "2 vip 203.0.113.1 81 tcp
 2 up 1 192.0.2.2
 5 vip 203.0.113.1 81 tcp
 5 down 0
@@ -113,48 +114,73 @@ struct Row {
     notes: usize,
 }
 
+pub(super) const TRACKED: &str = "0 vip 203.0.113.1 80 tcp\n";
+
+pub(super) const UNTRACKED: &str = "0 vip 203.0.113.1 80 tcp notrack\n";
+
+/// The frames of the first two rows, the ports of their flows.
+pub(super) const FRAMES: &[u16] = &[
+    40002, 40001, 40002, 40003, 40005, 40002, 40005, 40005, 40008, 40007, 40005,
+];
+
+/// Where they go with tracking.
+#[rattlefmt::skip]
+pub(super) const KEPT: &[(u16, u8)] = &[
+    (40002, 1), (40001, 1), (40002, 1), (40003, 2), (40005, 1), (40002, 2), (40005, 2), (40005, 2), (40008, 1), (40007, 2),
+];
+
+/// And without.
+#[rattlefmt::skip]
+pub(super) const OWNED: &[(u16, u8)] = &[
+    (40002, 1), (40001, 1), (40002, 2), (40003, 2), (40005, 1), (40002, 2), (40005, 2), (40005, 1), (40008, 1), (40007, 2),
+];
+
+/// The frames of the last row, and where they go.
+pub(super) const FEW_FRAMES: &[u16] = &[40002, 40003, 40002, 40003, 40004, 40002, 40003];
+
+#[rattlefmt::skip]
+pub(super) const FEW_KEPT: &[(u16, u8)] = &[
+    (40002, 1), (40003, 1), (40002, 1), (40003, 1), (40004, 2), (40002, 2), (40003, 2),
+];
+
 /// A new flow has 14 replies, a noted backend that is up 12, one that is not up 17, and a frame of a service without tracking 12. Backend 1 comes up with 4
 /// replies, backend 0 goes down and comes up with 5 each.
 #[rattlefmt::skip]
 const ROWS: [Row; 3] = [
     Row {
         name: "a flow keeps its backend while that is up",
-        service: "0 vip 203.0.113.1 80 tcp\n",
+        service: TRACKED,
         workers: 1,
         holds: &[
             (C, 11, [28, 0, 0]), (W0, 29, [0, 0, 15]), (C, 16, [68, 0, 0]), (W0, 69, [0, 0, 21]),
             (C, 22, [102, 0, 0]), (W0, 103, [0, 0, 27]), (C, 28, [142, 0, 0]), (W0, 143, [0, 0, 40]),
         ],
-        frames: &[40002, 40001, 40002, 40003, 40005, 40002, 40005, 40005, 40008, 40007, 40005],
-        sent: &[
-            (40002, 1), (40001, 1), (40002, 1), (40003, 2), (40005, 1), (40002, 2), (40005, 2), (40005, 2), (40008, 1), (40007, 2),
-        ],
+        frames: FRAMES,
+        sent: KEPT,
         notes: 8,
     },
     Row {
         name: "without tracking it has the owner of its slot",
-        service: "0 vip 203.0.113.1 80 tcp notrack\n",
+        service: UNTRACKED,
         workers: 1,
         holds: &[
             (C, 11, [24, 0, 0]), (W0, 25, [0, 0, 15]), (C, 16, [60, 0, 0]), (W0, 61, [0, 0, 21]),
             (C, 22, [84, 0, 0]), (W0, 85, [0, 0, 27]), (C, 28, [120, 0, 0]), (W0, 121, [0, 0, 40]),
         ],
-        frames: &[40002, 40001, 40002, 40003, 40005, 40002, 40005, 40005, 40008, 40007, 40005],
-        sent: &[
-            (40002, 1), (40001, 1), (40002, 2), (40003, 2), (40005, 1), (40002, 2), (40005, 2), (40005, 1), (40008, 1), (40007, 2),
-        ],
+        frames: FRAMES,
+        sent: OWNED,
         notes: 0,
     },
     Row {
         name: "flows of two workers",
-        service: "0 vip 203.0.113.1 80 tcp\n",
+        service: TRACKED,
         workers: 2,
         holds: &[
             (C, 11, [14, 14, 0]), (W0, 15, [0, 0, 15]), (W1, 15, [0, 0, 15]),
             (C, 16, [40, 26, 0]), (W0, 41, [0, 0, 21]), (W1, 27, [0, 0, 21]), (C, 22, [57, 43, 0]),
         ],
-        frames: &[40002, 40003, 40002, 40003, 40004, 40002, 40003],
-        sent: &[(40002, 1), (40003, 1), (40002, 1), (40003, 1), (40004, 2), (40002, 2), (40003, 2)],
+        frames: FEW_FRAMES,
+        sent: FEW_KEPT,
         notes: 5,
     },
 ];
@@ -178,7 +204,7 @@ fn in_a_tunnel(port: u16, backend: u8) -> [u8; 74] {
 }
 
 /// The place of the first frame that is not in its tunnel.
-fn first_wrong(sent: &[Sent], want: &[(u16, u8)]) -> Option<usize> {
+pub(super) fn first_wrong(sent: &[Sent], want: &[(u16, u8)]) -> Option<usize> {
     for (place, (one, (port, backend))) in sent.iter().zip(want).enumerate() {
         if one.bytes.as_slice() != in_a_tunnel(*port, *backend).as_slice() {
             return Some(place);
@@ -188,7 +214,7 @@ fn first_wrong(sent: &[Sent], want: &[(u16, u8)]) -> Option<usize> {
 }
 
 /// A segment of each of these ports.
-fn segments(alloc: Global, ports: &[u16]) -> Result<Capture, Fail> {
+pub(super) fn segments(alloc: Global, ports: &[u16]) -> Result<Capture, Fail> {
     let mut records = Vec::new(alloc);
     for port in ports {
         records.push(one_record(alloc, 1, &segment(*port))?)?;

@@ -9,7 +9,7 @@ use Rattle.replay.specs.Parts.{IsScriptAccounted, rounds_of}
 use Rattle.replay.specs.RunsOverShards.{pass_in}
 use Rattle.replay.specs.Accounted.{IsAccounted}
 use Rattle.replay.specs.declared.outcome.Outcome.{Outcome}
-use Rattle.replay.proofs.Accounts.{shares, work, of_lists, of_read, outcome_is}
+use Rattle.replay.proofs.Accounts.{shares, work, outcome_is}
 use Rattle.replay.proofs.PartLemmas.{all_settled, script_stands, rounds_stand}
 use Rattle.replay.proofs.closing.closed.Goals as goal
 
@@ -18,8 +18,7 @@ account-requires-clause-runs g c =
     let records = c.args.capture.now.records.items in
     let workers = c.args.shards.options.workers in
     let lists = c.in_ok-runs.runs.items in
-    of_read (λ n runs. AreRunsOfShares (frames_of records) n (length records) runs) c.deref.result.now lists workers c.deref.ensures.value
-    (c.in_ok-runs.ensures.count.0 ∙ c.requires.count)
+    subst (λ n. AreRunsOfShares (frames_of records) n (length records) (lists_of lists)) (sym (c.in_ok-runs.ensures.count.0 ∙ c.requires.count))
     (shares g.B.Naming.count g.B.Naming.plan (program_of c.args.verified.now c.args.shards.options.shards) records workers c.args.handled.items
     (lists_of lists) c.in_ok-runs.working.items c.requires.count c.requires.handled c.in_ok-runs.ensures.parts)
 
@@ -52,11 +51,9 @@ returns g c =
         work = work g.B.Naming.count g.B.Naming.plan program records workers c.args.handled.items (lists_of lists) working (map pass_in working) journals
             c.requires.count c.requires.handled c.in_ok-runs.ensures.parts (λ worker below. refl)
             (λ worker below. settled.first worker (omega (arith, below, workers_passes)));
-        counts = of_lists (λ n runs. c.in_ok-counts.counts ≡ counts_of frames n runs (length records)) c.deref.result.now lists workers c.deref.ensures.value as_many
-            c.in_ok-counts.ensures.counts;
+        counts = subst (λ n. c.in_ok-counts.counts ≡ counts_of frames n (lists_of lists) (length records)) as_many c.in_ok-counts.ensures.counts;
         each_once = c.in_ok-counts.ensures.frames;
-        sent = of_lists (λ n runs. sent_frames c.in_ok-counts.sent.items ≡ sent_of frames n runs (length records)) c.deref.result.now lists workers c.deref.ensures.value
-            as_many c.in_ok-counts.ensures.sent;
+        sent = subst (λ n. sent_frames c.in_ok-counts.sent.items ≡ sent_of frames n (lists_of lists) (length records)) as_many c.in_ok-counts.ensures.sent;
         commands = subst (λ maps. IsScriptAccounted g.B.Naming.plan maps c.args.shards.options g.B.Naming.count c.args.script.now journals c.outcome_of.result.refused.items)
             c.requires.maps
             (script_stands g.B.Naming.plan c.args.shards.maps c.args.shards.options g.B.Naming.count c.args.script.now c.args.size c.args.commanded.noted.items

@@ -1,4 +1,5 @@
 use Rattle.std.proofs.Common.{◌≡◌, ◌+◌, ◌≤◌, [], ℕ, length}
+use Rattle.std.specs.Prelude.{vec_capacity}
 use Rattle.rx_queues.specs.declared.passes.TakePass.{TakePass}
 use Rattle.rx_queues.specs.declared.passes.Queues.{Queues}
 use Rattle.rx_queues.specs.Passes.{IsTakePassOf, place_taken_from, jobs_taken}
@@ -16,6 +17,7 @@ pub record Started (g : goal.Over) (l : goal.Live-workers g) : Type 0 where
   pub states_left : l.worker + length l.states.items ≡ l.count
   pub states : Each (IsReadyAt (g.W.Runner.is_new l.runner) (g.W.Runner.is_idle l.runner)) l.worker l.states.items
   pub counted : length l.lanes.items ≡ l.worker
+  pub room : l.count ≤ vec_capacity l.lanes
   pub lanes : Each (IsLane l.queues l.capture l.runner) 0 l.lanes.items
 
 abbrev pub invariant-workers : goal.invariant-workers

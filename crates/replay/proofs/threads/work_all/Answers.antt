@@ -1,10 +1,12 @@
-use Rattle.std.proofs.Common.{◌≡◌, ◌+◌, [], length, replicate, ap, ◌∙◌, subst, arith}
+use Rattle.std.proofs.Common.{◌≡◌, ◌+◌, [], length, replicate, sym, ap, ◌∙◌, subst, arith}
 use Rattle.rx_queues.specs.Passes.{jobs_put, workers_of}
 use Rattle.semantics.specs.Each.{Each}
 use Rattle.replay.specs.Crews.{IsHandled}
 use Rattle.replay.specs.Shares.{frames_of}
-use Rattle.replay.specs.Puts.{put_at, AreAllPut}
+use Rattle.replay.specs.Actors.{HasNoEnd, AreAllEnded}
+use Rattle.replay.specs.Puts.{put_at, AreAllPut, AreNonePut}
 use Rattle.replay.proofs.DispatchLemmas.{none_dispatched, all_commands}
+use Rattle.replay.proofs.EndLemmas.{workers_ended, workers_done, actors_go_on, none_ran_at_all, none_ended_once, actors_idle}
 use Rattle.replay.proofs.PutLemmas.{all_put}
 use Rattle.replay.proofs.threads.work_all.Goals as goal
 
@@ -47,3 +49,83 @@ pub returns-in-Some-clause-handled : goal.returns-in-Some-clause-handled
 returns-in-Some-clause-handled g c =
     subst (λ n. Each (IsHandled (g.W.Runner.is_new c.args.runner.now) (g.W.Runner.runs c.args.runner.now) c.args.capture.now.records.items n) 0 c.in-Some.all.items)
     c.in-Ok.ensures.count c.in-Some.ensures.handled
+
+pub returns-in-Some-clause-ended : goal.returns-in-Some-clause-ended
+returns-in-Some-clause-ended g c =
+    let frames = frames_of c.args.capture.now.records.items in
+    let records = length c.args.capture.now.records.items in
+    let all : c.len-workers.result ≡ length c.args.states.items = (let is = c.len-workers.ensures in let ok = c.args.states.ok.0 in omega (arith, is, ok)) in
+    subst (λ n. AreAllEnded n (jobs_put c.finish_all.new.put)) all
+    (workers_ended frames c.len-workers.result records (jobs_put c.finish_all.new.put)
+    (workers_done frames c.len-workers.result records (jobs_put c.hand_all.new.put) (jobs_put c.end_all.new.put) (jobs_put c.finish_all.new.put)
+    c.hand_all.ensures.put.are_put c.end_all.ensures.put c.finish_all.ensures.put.1))
+
+pub returns-in-None-clause-ended : goal.returns-in-None-clause-ended
+returns-in-None-clause-ended g c =
+    let frames = frames_of c.args.capture.now.records.items in
+    let records = length c.args.capture.now.records.items in
+    let all : c.len-workers.result ≡ length c.args.states.items = (let is = c.len-workers.ensures in let ok = c.args.states.ok.0 in omega (arith, is, ok)) in
+    subst (λ n. AreAllEnded n (jobs_put c.finish_all.new.put)) all
+    (workers_ended frames c.len-workers.result records (jobs_put c.finish_all.new.put)
+    (workers_done frames c.len-workers.result records (jobs_put c.hand_all.new.put) (jobs_put c.end_all.new.put) (jobs_put c.finish_all.new.put)
+    c.hand_all.ensures.put.are_put c.end_all.ensures.put c.finish_all.ensures.put.1))
+
+pub returns-in-None-clause-handed : goal.returns-in-None-clause-handed
+returns-in-None-clause-handed g c = λ is.
+    let frames = frames_of c.args.capture.now.records.items in
+    let records = length c.args.capture.now.records.items in
+    let all : c.len-workers.result ≡ length c.args.states.items = (let is = c.len-workers.ensures in let ok = c.args.states.ok.0 in omega (arith, is, ok)) in
+    subst (λ n. AreAllPut frames n records (jobs_put c.finish_all.new.put)) all
+    (workers_done frames c.len-workers.result records (jobs_put c.hand_all.new.put) (jobs_put c.end_all.new.put) (jobs_put c.finish_all.new.put)
+    c.hand_all.ensures.put.are_put c.end_all.ensures.put c.finish_all.ensures.put.1)
+
+pub returns-in-Some-clause-handed : goal.returns-in-Some-clause-handed
+returns-in-Some-clause-handed g c = λ is.
+    let frames = frames_of c.args.capture.now.records.items in
+    let records = length c.args.capture.now.records.items in
+    let all : c.len-workers.result ≡ length c.args.states.items = (let is = c.len-workers.ensures in let ok = c.args.states.ok.0 in omega (arith, is, ok)) in
+    subst (λ n. AreAllPut frames n records (jobs_put c.finish_all.new.put)) all
+    (workers_done frames c.len-workers.result records (jobs_put c.hand_all.new.put) (jobs_put c.end_all.new.put) (jobs_put c.finish_all.new.put)
+    c.hand_all.ensures.put.are_put c.end_all.ensures.put c.finish_all.ensures.put.1)
+
+pub returns-in-Some-clause-others : goal.returns-in-Some-clause-others
+returns-in-Some-clause-others g c =
+    let here : c.len-workers.result ≡ workers_of c.args.queues.now =
+    (let a = c.len-workers.ensures in let ok = c.args.states.ok.0 in let w = c.requires.workers.0 in omega (arith, a, ok, w)) in
+    subst (λ n. HasNoEnd (put_at (jobs_put c.finish_all.new.put) n) × HasNoEnd (put_at (jobs_put c.finish_all.new.put) (n + 1))) here
+    (actors_go_on (frames_of c.args.capture.now.records.items) c.args.starts.now c.len-workers.result (length c.args.capture.now.records.items)
+    c.args.first (length c.args.starts.now) (jobs_put c.hand_all.new.put) (jobs_put c.end_all.new.put) (jobs_put c.finish_all.new.put)
+    c.hand_all.ensures.put c.end_all.ensures.put c.finish_all.ensures.put.1)
+
+pub returns-in-None-clause-others : goal.returns-in-None-clause-others
+returns-in-None-clause-others g c =
+    let here : c.len-workers.result ≡ workers_of c.args.queues.now =
+    (let a = c.len-workers.ensures in let ok = c.args.states.ok.0 in let w = c.requires.workers.0 in omega (arith, a, ok, w)) in
+    subst (λ n. HasNoEnd (put_at (jobs_put c.finish_all.new.put) n) × HasNoEnd (put_at (jobs_put c.finish_all.new.put) (n + 1))) here
+    (actors_go_on (frames_of c.args.capture.now.records.items) c.args.starts.now c.len-workers.result (length c.args.capture.now.records.items)
+    c.args.first (length c.args.starts.now) (jobs_put c.hand_all.new.put) (jobs_put c.end_all.new.put) (jobs_put c.finish_all.new.put)
+    c.hand_all.ensures.put c.end_all.ensures.put c.finish_all.ensures.put.1)
+
+pub returns-in-Err-clause-no_thread : goal.returns-in-Err-clause-no_thread
+returns-in-Err-clause-no_thread g c = λ is.
+    let all : c.len-workers.result ≡ length c.args.states.items = (let is = c.len-workers.ensures in let ok = c.args.states.ok.0 in omega (arith, is, ok)) in
+    subst (λ n. AreNonePut n (jobs_put c.abandon.new.put)) all
+    (none_ran_at_all c.len-workers.result (jobs_put c.args.put.now) (jobs_put c.abandon.new.put)
+    (c.requires.put.1 ∙ ap (λ n. replicate (n + 2) []) (sym all)) c.abandon.ensures.ended)
+
+pub returns-in-Err-clause-ended : goal.returns-in-Err-clause-ended
+returns-in-Err-clause-ended g c =
+    let all : c.len-workers.result ≡ length c.args.states.items = (let is = c.len-workers.ensures in let ok = c.args.states.ok.0 in omega (arith, is, ok)) in
+    subst (λ n. AreAllEnded n (jobs_put c.abandon.new.put)) all
+    (none_ended_once c.len-workers.result (jobs_put c.abandon.new.put)
+    (none_ran_at_all c.len-workers.result (jobs_put c.args.put.now) (jobs_put c.abandon.new.put)
+    (c.requires.put.1 ∙ ap (λ n. replicate (n + 2) []) (sym all)) c.abandon.ensures.ended))
+
+pub returns-in-Err-clause-others : goal.returns-in-Err-clause-others
+returns-in-Err-clause-others g c =
+    let all : c.len-workers.result ≡ length c.args.states.items = (let is = c.len-workers.ensures in let ok = c.args.states.ok.0 in omega (arith, is, ok)) in
+    let here : c.len-workers.result ≡ workers_of c.args.queues.now =
+    (let a = c.len-workers.ensures in let ok = c.args.states.ok.0 in let w = c.requires.workers.0 in omega (arith, a, ok, w)) in
+    subst (λ n. HasNoEnd (put_at (jobs_put c.abandon.new.put) n) × HasNoEnd (put_at (jobs_put c.abandon.new.put) (n + 1))) here
+    (actors_idle c.len-workers.result (jobs_put c.args.put.now) (jobs_put c.abandon.new.put)
+    (c.requires.put.1 ∙ ap (λ n. replicate (n + 2) []) (sym all)) c.abandon.ensures.ended)
