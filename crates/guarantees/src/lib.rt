@@ -2,9 +2,10 @@
 //! what the public calls of the crates below ensure. What a single call promises by itself is that call's contract; docs/GUARANTEES.md
 //! says where.
 //!
-//! `headline` comes first. Its whole statement is in nine files, about 1,000 lines, to be read in this order: `specs/Headline.antt` here;
+//! `headline` comes first. Its statement is in nine files, about 1,000 lines, to be read in this order: `specs/Headline.antt` here;
 //! `specs/SystemRuns.antt` and `specs/Steps.antt` here (runs and steps of the system); `Safety`, `System`, `RunTrace` and `History` of
-//! crates/semantics/specs; `specs/FrameRuns.antt` of crates/runs and `specs/Accounted.antt` of crates/replay.
+//! crates/semantics/specs; `specs/FrameRuns.antt` of crates/runs and `specs/Accounted.antt` of crates/replay. Each file says by its imports
+//! where the smaller definitions are that it cites: shares, counts and passes of replay, sessions of shard_port, own entries of semantics.
 //!
 //! The other laws of this page say what these definitions come to. The laws of `step_laws` show that they are not empty, those of
 //! `place_laws` that a worker is inside and holds a cell by places in the history alone. `one_caller` speaks of runs one after the other

@@ -31,8 +31,8 @@ pub fn runs_have_one_outcome()
 {}
 
 /// One run of the system, computed: its program's verdict is the sum of the frame's last byte and a number in a map. With another verdict
-/// or another last state it is no run, on a frame with another last byte it is none, nor without one of its entries, nor without all of
-/// them. And one run that a full journal stopped.
+/// or another last state it is no run; with the same verdict it is none on a frame with another last byte, nor without its Load, nor
+/// without all of its entries. And one run that a full journal stopped.
 pub fn runs_are_computed()
     ensures { RunRows }
 {}

@@ -316,8 +316,7 @@ pub record AreReplayInputs (files : FileBytes) (names : ReplayFiles) (ring : ℕ
 abbrev pub IsGivenUp : List MapDef → List Command → Options → ReplayFault → Type 0
 IsGivenUp maps script options why = (why ≡ replays.BadOptions) ↔ (IsFalse (are_served_options maps options) ⊎ HasNoTable maps script)
 
--- The files of a replay were not written: that of the sent frames, and no other file changed; or that of the journals, and the sent frames stand in theirs,
--- unless both have one name.
+-- The files of a replay were not written: that of the sent frames, and no other file changed; or that of the journals, and the sent frames are in theirs.
 pub data AreUnfiled (before after : FileBytes) (failed : Type 0) (names : ReplayFiles) (sent : List ℕ) (fault : Fault) : Type 0 where
   no_sent_file : AreOthersKept before after names.sent.now → IsUnserved failed fault → AreUnfiled before after failed names sent fault
   no_journals_file : (text_of names.journals ≢ Some names.sent.now → after names.sent.now sent) → AreUnwritten (text_of names.journals) failed fault

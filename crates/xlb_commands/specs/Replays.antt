@@ -149,7 +149,7 @@ pub record IsReplayed (before after : FileBytes) (files : ReplayFiles) (options 
   pub by_rule : FollowsRule (text_of files.image) ring script options records outcome
   pub readers : SendsAlike program states script options records outcome
   pub refused_are : outcome.refused.items ≡ refused
-  -- the journals are written after the sent frames, over them where both have one name
+  -- the journals are written after the sent frames; both have one name in no command that is done (Clashes)
   pub sent : text_of files.journals ≢ Some files.sent.now → after files.sent.now (capture_bytes outcome.sent.items)
   pub journals : AreWritten after (text_of files.journals) outcome.journals
   pub lines : printed ≡ counts_text outcome.counts ++ refusals_text refused
