@@ -19,7 +19,7 @@ still_put frames workers count place jobs before after past put were = record {
 }
 
 -- a record goes to none but its worker's queue
-pub record_elsewhere : (frame : List ℕ) (workers number place : ℕ) (puts : List (List Job)) → worker_of_frame frame workers < workers → workers ≤ place
+record_elsewhere : (frame : List ℕ) (workers number place : ℕ) (puts : List (List Job)) → worker_of_frame frame workers < workers → workers ≤ place
     → put_at (with_record frame workers number puts) place ≡ put_at puts place
 record_elsewhere frame workers number place puts below past = by_test (is_short frame) refl where
   by_test : (test : Bool) → is_short frame ≡ test → put_at (with_record frame workers number puts) place ≡ put_at puts place

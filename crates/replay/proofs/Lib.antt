@@ -6,7 +6,6 @@ pub mod RunLemmas
 pub mod CrewParts
 pub mod HandLemmas
 pub mod DispatchLemmas
-pub mod RestLemmas
 pub mod EndLemmas
 pub mod TakingOut
 pub mod TakeLemmas

@@ -2,7 +2,7 @@
 //! notes to the reclaimer.
 
 ghost use Rattle.std.specs.Prelude.{◌≡◌, ◌<◌, ◌≤◌, ◌+◌, ◌∷◌, [], length, ◌%◌, ◌==◌, slice_index, if◌then◌else◌};
-ghost use Rattle.rx_queues.specs.Passes.{IsPutPassOf, HasQueue, queue_of, with_job_at, workers_of, jobs_put, jobs_at_rest};
+ghost use Rattle.rx_queues.specs.Passes.{IsPutPassOf, HasQueue, queue_of, with_job_at, workers_of, jobs_put, are_actors_at_rest};
 ghost use Rattle.replay.specs.Shares.{frames_of, frame_at, is_short, worker_of_frame};
 ghost use Rattle.replay.specs.Actors.{AreDispatched, ArePutAt, AreHandedOver, AreDue, AreBothEnded};
 ghost use Rattle.replay.specs.Puts.{ArePutWithEnd, with_record};
@@ -42,6 +42,7 @@ fn rest<R: Wait>(rt: &R, queues: &Queues, put: &mut PutPass, pace: Pace)
     ensures pass { IsPutPassOf queues.now put.new }
     ensures put { jobs_put put.new ≡ jobs_put put.old }
     ensures at_rest { IsAtRest pace put.new }
+    ensures actors { AreActorsAtRest pace put.new }
 {
     match pace {
         Pace::Free => {}
@@ -83,6 +84,7 @@ fn hand_alone<R: Wait>(
     ensures pass { IsPutPassOf queues.now put.new }
     ensures put { jobs_put put.new ≡ with_job_at (queue_of (workers_of queues.now) who) job (jobs_put put.old) }
     ensures at_rest { IsAtRest pace put.new }
+    ensures actors { AreActorsAtRest pace put.new }
 {
     rest(rt, queues, put, pace); // until what was handed over before is done
     hand_at_rest(rt, queues, put, who, job, pace);
@@ -102,7 +104,7 @@ fn hand<R: Wait>(
     requires workers { (workers_of queues.now ≡ workers) × (0 < workers) × (workers ≤ 8) }
     requires pass { IsPutPassOf queues.now put.old }
     ensures pass { IsPutPassOf queues.now put.new }
-    ensures at_rest { jobs_at_rest put.new ≡ jobs_at_rest put.old }
+    ensures at_rest { are_actors_at_rest put.new ≡ are_actors_at_rest put.old }
     ensures put { jobs_put put.new ≡ with_record (frame_at (frames_of capture.now.records.items) number) workers number (jobs_put put.old) }
 {
     let sent = &capture.records[number];
@@ -132,9 +134,9 @@ fn hand_beside_rest<R: Wait>(
     requires number { number < length capture.now.records.items }
     requires workers { (workers_of queues.now ≡ workers) × (0 < workers) × (workers ≤ 8) }
     requires pass { IsPutPassOf queues.now put.old }
-    requires actors { AreActorsAtRest pace workers put.old }
+    requires actors { AreActorsAtRest pace put.old }
     ensures pass { IsPutPassOf queues.now put.new }
-    ensures actors { AreActorsAtRest pace workers put.new }
+    ensures actors { AreActorsAtRest pace put.new }
     ensures put { jobs_put put.new ≡ with_record (frame_at (frames_of capture.now.records.items) number) workers number (jobs_put put.old) }
 {
     let _ = pace;
@@ -165,9 +167,9 @@ fn hand_commands<R: Wait>(
 )
     requires up { next ≤ end }
     requires pass { IsPutPassOf queues.now put.old }
-    requires actors { AreActorsAtRest pace (workers_of queues.now) put.old }
+    requires actors { AreActorsAtRest pace put.old }
     ensures pass { IsPutPassOf queues.now put.new }
-    ensures actors { AreActorsAtRest pace (workers_of queues.now) put.new }
+    ensures actors { AreActorsAtRest pace put.new }
     ensures put { AreHandedOver (workers_of queues.now) next end (jobs_put put.old) (jobs_put put.new) }
 {
     'commands: for number in next..end {
@@ -194,9 +196,9 @@ pub(crate) fn ask_round<R: Wait>(rt: &R, queues: &Queues, put: &mut PutPass)
 /// Asks the reclaimer for a round where so many records were dispatched that one is due.
 fn ask_due_round<R: Wait>(rt: &R, queues: &Queues, put: &mut PutPass, number: usize, pace: Pace)
     requires pass { IsPutPassOf queues.now put.old }
-    requires actors { AreActorsAtRest pace (workers_of queues.now) put.old }
+    requires actors { AreActorsAtRest pace put.old }
     ensures pass { IsPutPassOf queues.now put.new }
-    ensures actors { AreActorsAtRest pace (workers_of queues.now) put.new }
+    ensures actors { AreActorsAtRest pace put.new }
     ensures put { ArePutAt (workers_of queues.now + 1) (if number % 64 == 0 then Note ∷ [] else []) (jobs_put put.old) (jobs_put put.new) }
 {
     if number % ROUND_EVERY == 0 {
@@ -223,11 +225,11 @@ impl<'a> Dispatch<'a> {
     fn hand_due<R: Wait>(&self, rt: &R, put: &mut PutPass, next: usize, number: usize) -> usize
         requires next { next ≤ length self.now.starts.now }
         requires pass { IsPutPassOf self.now.queues.now put.old }
-        requires actors { AreActorsAtRest self.now.pace self.now.workers put.old }
+        requires actors { AreActorsAtRest self.now.pace put.old }
         requires dispatched { AreDispatched (frames_of self.now.capture.now.records.items) self.now.starts.now self.now.workers number
             self.now.first next (jobs_put put.old) }
         ensures pass { IsPutPassOf self.now.queues.now put.new }
-        ensures actors { AreActorsAtRest self.now.pace self.now.workers put.new }
+        ensures actors { AreActorsAtRest self.now.pace put.new }
         ensures due { AreDue self.now.starts.now next number result }
         ensures dispatched { AreDispatched (frames_of self.now.capture.now.records.items) self.now.starts.now self.now.workers number
             self.now.first result (jobs_put put.new) }
@@ -242,11 +244,11 @@ impl<'a> Dispatch<'a> {
         requires number { number < length self.now.capture.now.records.items }
         requires none_due { next < length self.now.starts.now → number < slice_index self.now.starts.now next }
         requires pass { IsPutPassOf self.now.queues.now put.old }
-        requires actors { AreActorsAtRest self.now.pace self.now.workers put.old }
+        requires actors { AreActorsAtRest self.now.pace put.old }
         requires dispatched { AreDispatched (frames_of self.now.capture.now.records.items) self.now.starts.now self.now.workers number
             self.now.first next (jobs_put put.old) }
         ensures pass { IsPutPassOf self.now.queues.now put.new }
-        ensures actors { AreActorsAtRest self.now.pace self.now.workers put.new }
+        ensures actors { AreActorsAtRest self.now.pace put.new }
         ensures dispatched { AreDispatched (frames_of self.now.capture.now.records.items) self.now.starts.now self.now.workers (number + 1)
             self.now.first next (jobs_put put.new) }
     {
@@ -267,11 +269,11 @@ impl<'a> Dispatch<'a> {
     fn hand_left<R: Wait>(&self, rt: &R, put: &mut PutPass, next: usize)
         requires next { next ≤ length self.now.starts.now }
         requires pass { IsPutPassOf self.now.queues.now put.old }
-        requires actors { AreActorsAtRest self.now.pace self.now.workers put.old }
+        requires actors { AreActorsAtRest self.now.pace put.old }
         requires dispatched { AreDispatched (frames_of self.now.capture.now.records.items) self.now.starts.now self.now.workers
             (length self.now.capture.now.records.items) self.now.first next (jobs_put put.old) }
         ensures pass { IsPutPassOf self.now.queues.now put.new }
-        ensures actors { AreActorsAtRest self.now.pace self.now.workers put.new }
+        ensures actors { AreActorsAtRest self.now.pace put.new }
         ensures dispatched { AreDispatched (frames_of self.now.capture.now.records.items) self.now.starts.now self.now.workers
             (length self.now.capture.now.records.items) self.now.first (length self.now.starts.now) (jobs_put put.new) }
     {
@@ -285,7 +287,7 @@ impl<'a> Dispatch<'a> {
         requires nothing { AreDispatched (frames_of self.now.capture.now.records.items) self.now.starts.now self.now.workers 0
             self.now.first self.now.first (jobs_put put.old) }
         ensures pass { IsPutPassOf self.now.queues.now put.new }
-        ensures actors { AreActorsAtRest self.now.pace self.now.workers put.new }
+        ensures actors { AreActorsAtRest self.now.pace put.new }
         ensures put { AreDispatched (frames_of self.now.capture.now.records.items) self.now.starts.now self.now.workers
             (length self.now.capture.now.records.items) self.now.first (length self.now.starts.now) (jobs_put put.new) }
     {

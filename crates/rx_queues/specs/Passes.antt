@@ -1,5 +1,5 @@
 -- Which queue is whose, which passes belong to which queues, and what a queue's passes have put and taken.
-use Rattle.std.specs.Prelude.{◌≡◌, ℕ, zero, suc, ◌+◌, ◌<◌, true, List, [], ◌∷◌, ◌++◌, map, length, slice_index_or, Option}
+use Rattle.std.specs.Prelude.{◌≡◌, ℕ, zero, suc, ◌+◌, ◌<◌, Bool, true, false, List, [], ◌∷◌, ◌++◌, map, length, slice_index_or, Option}
 use mathlib.Core.Option.{some}
 use lib.ListN.{get_elem?}
 use Rattle.crossbeam_queue.specs.declared.array_queue.Doing.{Doing}
@@ -28,16 +28,22 @@ HasQueue workers who = Unit
 abbrev pub workers_of : Queues → ℕ
 workers_of queues = queues.workers
 
-abbrev pub lists_put : List (Pass Job JobsKnown) → List (List Job)
-lists_put passes = map (λ (one : Pass Job JobsKnown). (view one).put) passes
-
 -- what was put through the pass, queue by queue
 abbrev pub jobs_put : PutPass → List (List Job)
-jobs_put pass = lists_put pass.passes.items
+jobs_put pass = map (λ (one : Pass Job JobsKnown). (view one).put) pass.passes.items
 
--- what was put through the pass, queue by queue, when its owner last waited until all of it was done
-abbrev pub jobs_at_rest : PutPass → List (List Job)
-jobs_at_rest pass = lists_put pass.at_rest.value.items
+-- the pass's owner has waited until all was done that was put, and put nothing since
+abbrev pub is_at_rest : PutPass → Bool
+is_at_rest pass = pass.all_rest
+
+-- it has put nothing for the controller and the reclaimer since
+abbrev pub are_actors_at_rest : PutPass → Bool
+are_actors_at_rest pass = pass.actors_rest
+
+-- whether those two are still at rest after a put for a caller
+abbrev pub rest_after : Caller → Bool → Bool
+rest_after (Worker number) rest = rest
+rest_after who rest = false
 
 -- what was taken through the pass
 abbrev pub jobs_taken : TakePass → List Job

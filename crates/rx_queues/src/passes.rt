@@ -4,7 +4,6 @@ ghost use Rattle.std.specs.Prelude.{◌≡◌, ◌+◌, length};
 
 use crate::patience::Bell;
 use crate::rule::{Queue, QueuePass};
-use std::snapshot::Snapshot;
 use std::sync::atomic::AtomicUsize;
 
 /// A queue for each worker, one for the controller and one for the reclaimer. Threads share it by reference.
@@ -20,13 +19,16 @@ pub struct Queues {
 }
 
 /// The right to put into every queue of some [`Queues`](crate::Queues). Contracts see what was put through it, queue by queue
-/// (`jobs_put`), and what of it was put when all was last at rest (`jobs_at_rest`).
+/// (`jobs_put`), and whether its owner has waited since until all was done (`is_at_rest`, `are_actors_at_rest`).
 #[derive(Drop)]
 pub struct PutPass {
     pub(crate) passes: Vec<QueuePass>,
     /// How many jobs were put, modulo 2^64.
     pub(crate) count: usize,
-    pub(crate) at_rest: Snapshot<Vec<QueuePass>>,
+    /// Nothing was put since its owner last waited for rest.
+    pub(crate) all_rest: bool,
+    /// Nothing was put for the controller or the reclaimer since then.
+    pub(crate) actors_rest: bool,
 }
 
 /// The right to take from one queue. Contracts see which one, and what was taken through it (`jobs_taken`).

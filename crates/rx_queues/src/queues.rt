@@ -1,11 +1,12 @@
 //! The queues, and what is done with them.
 
-ghost use Rattle.std.specs.Prelude.{◌≡◌, ◌<◌, ◌≤◌, ◌+◌, ◌∷◌, ◌++◌, ◌↔◌, [], ℕ, length, map, replicate, IfOk, IfErr, OnErr, IsErrOf, OnOk};
+ghost use Rattle.std.specs.Prelude.{◌≡◌, ◌<◌, ◌≤◌, ◌+◌, ◌∷◌, ◌++◌, ◌↔◌, [], ℕ, length, map, replicate, IfOk, IfErr, OnErr, IsErrOf, OnOk, true, false};
 ghost use Rattle.std.specs.Prelude.{MatchOption, slice_index_or};
 ghost use Rattle.crossbeam_queue.specs.Passes.{view, IsPassOf, ruled_capacity};
 ghost use Rattle.rx_queues.specs.Fifo.{IsTakenInOrder, known};
 ghost use Rattle.rx_queues.specs.Passes.{queue_of, HasQueue, workers_of, jobs_put, jobs_taken, jobs_put_for, with_job_at, IsPutPassOf};
-ghost use Rattle.rx_queues.specs.Passes.{IsTakePassOf, place_taken_from, AreTakePasses, IsPutPassFor, IsTakePassFor, WasFull, jobs_at_rest};
+ghost use Rattle.rx_queues.specs.Passes.{IsTakePassOf, place_taken_from, AreTakePasses, IsPutPassFor, IsTakePassFor, WasFull};
+ghost use Rattle.rx_queues.specs.Passes.{is_at_rest, are_actors_at_rest, rest_after};
 ghost use Rattle.map_rules.specs.declared.open_fault.OpenFault.TheVariants.{BadOptions};
 
 use crate::job::Job;
@@ -16,7 +17,6 @@ use map_rules::OpenFault;
 use semantics::Caller;
 use std::alloc::{AllocError, Global};
 use std::hint;
-use std::snapshot::Snapshot;
 use std::sync::Wait;
 use std::sync::atomic::{AtomicUsize, Ordering};
 
@@ -33,7 +33,7 @@ impl Queues {
     ) -> Result<(Queues, PutPass, Vec<TakePass>), OpenFault>
         ensures workers { IfOk result (λ opened. workers_of opened.0 ≡ workers) }
         ensures put { IfOk result (λ opened. IsPutPassOf opened.0 opened.1 × (jobs_put opened.1 ≡ replicate (workers + 2) [])) }
-        ensures at_rest { IfOk result (λ opened. jobs_at_rest opened.1 ≡ jobs_put opened.1) }
+        ensures at_rest { IfOk result (λ opened. (is_at_rest opened.1 ≡ true) × (are_actors_at_rest opened.1 ≡ true)) }
         ensures take { IfOk result (λ opened. AreTakePasses opened.0 opened.2.items) }
         ensures bad_options { IsErrOf result BadOptions ↔ ¬ ((1 ≤ workers) × (workers ≤ 8)) }
     {
@@ -57,7 +57,6 @@ impl Queues {
             done.push(AtomicUsize::new(0))?;
         }
         let bell = Bell::new();
-        let at_rest = Snapshot::of(&puts);
         Ok((
             Queues {
                 queues,
@@ -68,7 +67,8 @@ impl Queues {
             PutPass {
                 passes: puts,
                 count: 0,
-                at_rest,
+                all_rest: true,
+                actors_rest: true,
             },
             takes,
         ))
@@ -96,13 +96,15 @@ impl Queues {
         ensures put { OnOk result (jobs_put pass.new ≡ with_job_at (queue_of (workers_of self.now) who) job (jobs_put pass.old)) }
         ensures back { IfErr result (λ back. (back ≡ job) × (jobs_put pass.new ≡ jobs_put pass.old)) }
         ensures full { OnErr result (WasFull (jobs_put_for self.now who pass.old)) }
-        ensures at_rest { jobs_at_rest pass.new ≡ jobs_at_rest pass.old }
+        ensures at_rest { (is_at_rest pass.new ≡ false) × (are_actors_at_rest pass.new ≡ rest_after who (are_actors_at_rest pass.old)) }
     {
         let place = self.place(who);
         let queue = &self.queues[place];
         let mine = &mut pass.passes[place];
         let put = push(rt, queue, mine, job);
         pass.count = pass.count.wrapping_add(usize::from(put.is_ok()));
+        pass.all_rest = false;
+        pass.actors_rest = rest_after(who, pass.actors_rest);
         put
     }
 
@@ -133,7 +135,7 @@ impl Queues {
         requires pass { IsPutPassOf self.now pass.old }
         ensures pass { IsPutPassOf self.now pass.new }
         ensures put { jobs_put pass.new ≡ with_job_at (queue_of (workers_of self.now) who) job (jobs_put pass.old) }
-        ensures at_rest { jobs_at_rest pass.new ≡ jobs_at_rest pass.old }
+        ensures at_rest { (is_at_rest pass.new ≡ false) × (are_actors_at_rest pass.new ≡ rest_after who (are_actors_at_rest pass.old)) }
     {
         let place = self.place(who);
         let mut spins = SPINS;
@@ -182,7 +184,7 @@ impl Queues {
         requires pass { IsPutPassOf self.now pass.old }
         ensures pass { IsPutPassOf self.now pass.new }
         ensures put { jobs_put pass.new ≡ jobs_put pass.old }
-        ensures at_rest { jobs_at_rest pass.new ≡ jobs_put pass.old }
+        ensures at_rest { (is_at_rest pass.new ≡ true) × (are_actors_at_rest pass.new ≡ true) }
     {
         let mut patience = Patience::new(true);
         'tries: for _ in rt.forever() {
@@ -191,7 +193,8 @@ impl Queues {
             }
             patience.wait(rt);
         }
-        pass.at_rest = Snapshot::of(&pass.passes);
+        pass.all_rest = true;
+        pass.actors_rest = true;
     }
 
     /// Ends a right to take: what was taken through it, in order, is a beginning of what was put into its queue, whichever threads
@@ -200,7 +203,7 @@ impl Queues {
         requires put { IsPutPassOf self.now put.old }
         requires take { IsTakePassOf self.now take }
         ensures pass { IsPutPassOf self.now put.new × (jobs_put put.new ≡ jobs_put put.old) }
-        ensures at_rest { jobs_at_rest put.new ≡ jobs_at_rest put.old }
+        ensures at_rest { (is_at_rest put.new ≡ is_at_rest put.old) × (are_actors_at_rest put.new ≡ are_actors_at_rest put.old) }
         ensures in_order { IsTakenInOrder (jobs_taken take) (slice_index_or (jobs_put put.old) (place_taken_from take) []) }
     {
         let TakePass {
@@ -211,6 +214,17 @@ impl Queues {
         let queue = &self.queues[place];
         let mine = &mut put.passes[place];
         join(queue, mine, pass);
+    }
+}
+
+// Whether the controller and the reclaimer are still at rest after a put for a caller.
+fn rest_after(who: Caller, rest: bool) -> bool
+    ensures { result ≡ rest_after who rest }
+{
+    match who {
+        Caller::Worker { .. } => rest,
+        Caller::Controller => false,
+        Caller::Reclaimer => false,
     }
 }
 

@@ -1,5 +1,4 @@
 use Rattle.replay.proofs.HandLemmas.{none_handed, one_handed}
-use Rattle.replay.proofs.RestLemmas.{actors_rest}
 use Rattle.replay.proofs.dispatch.hand_commands.Goals as goal
 
 pub commands-init : goal.commands-init
@@ -9,5 +8,5 @@ pub commands-preserved : goal.commands-preserved
 commands-preserved g c = (
   c.hand_alone.ensures.pass,
   one_handed _ _ _ _ _ _ c.commands.invariant.1 c.hand_alone.ensures.put,
-  actors_rest c.args.pace _ c.hand_alone.new.put c.hand_alone.ensures.at_rest,
+  c.hand_alone.ensures.actors,
 )

@@ -5,4 +5,4 @@ use Rattle.replay.proofs.dispatch.hand_commands.Given as goal
 
 abbrev pub invariant-commands : goal.invariant-commands
 invariant-commands g l = IsPutPassOf l.queues l.put × AreHandedOver (workers_of l.queues) l.fn.next l.number (jobs_put l.fn.put) (jobs_put l.put)
-    × AreActorsAtRest l.pace (workers_of l.queues) l.put
+    × AreActorsAtRest l.pace l.put

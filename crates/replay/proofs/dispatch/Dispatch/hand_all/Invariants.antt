@@ -8,4 +8,4 @@ use Rattle.replay.proofs.dispatch.Dispatch.hand_all.Given as goal
 abbrev pub invariant-records : goal.invariant-records
 invariant-records g l = IsPutPassOf l.self.queues.now l.put × (l.next ≤ length l.self.starts.now)
     × AreDispatched (frames_of l.self.capture.now.records.items) l.self.starts.now l.self.workers l.number l.self.first l.next (jobs_put l.put)
-    × AreActorsAtRest l.self.pace l.self.workers l.put
+    × AreActorsAtRest l.self.pace l.put
