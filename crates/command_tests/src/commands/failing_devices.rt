@@ -18,7 +18,10 @@ use xlb_commands::{NoProgress, serve};
 /// A number of a call that no command here reaches.
 const NEVER: u64 = 1000;
 
-/// A stream that takes at most seven bytes at a time, and fails at the call of this number, counted from 0.
+/// The most bytes that a weak stream takes at a time.
+const MOST: usize = 16;
+
+/// A stream that takes so many bytes at a time, and fails at the call of this number, counted from 0.
 #[derive(Drop)]
 struct WeakStream {
     taken: Vec<u8>,
@@ -47,7 +50,7 @@ impl Sink for WeakStream {
     ghost failure_count = { λ sink. sink.failures };
 
     fn write(&mut self, bytes: &[u8]) -> Result<usize, Failed> {
-        let count = bytes.len().min(7);
+        let count = bytes.len().min(MOST);
         let fails = self.calls == self.fails_at;
         self.calls = self.calls.wrapping_add(1);
         if fails || self.taken.extend_from_slice(&bytes[..count]).is_err() {
@@ -176,7 +179,7 @@ const ROWS: [Row; 10] = [
     ("xlb shipped made", 1, &["made"]),
     ("xlb audit image journals", 2, &[]),
     ("xlb explain 7", 0, &[]),
-    ("xlb replay capture made --script script --journals more", 4, &["made", "more"]),
+    ("xlb replay capture made --script script --ring 7 --journal 256 --journals more", 4, &["made", "more"]),
 ];
 
 /// The files that the commands read.
@@ -305,21 +308,15 @@ fn compare_folder<R: Abort + Threads + Wait + Sync>(rt: &R, alloc: Global, row: 
 fn compare_output<R: Abort + Threads + Wait + Sync>(
     rt: &R,
     alloc: Global,
-    row: &Row,
+    line: &str,
+    whole: &[u8],
     call: u64,
 ) -> bool {
-    let (line, _calls, _made) = *row;
-    let whole = left_by(rt, alloc, line, SOUND);
     let found = left_by(rt, alloc, line, Failing { out: call, ..SOUND });
-    holds(
-        rt,
-        "a beginning",
-        line,
-        whole.out.taken.starts_with(&found.out.taken),
-    );
+    holds(rt, "a beginning", line, whole.starts_with(&found.out.taken));
     if found.out.failures == 0 {
         same_status(rt, line, found.status, 0);
-        same_bytes(rt, "output", line, &found.out.taken, &whole.out.taken);
+        same_bytes(rt, "output", line, &found.out.taken, whole);
         return false;
     }
     same_status(rt, line, found.status, 1);
@@ -328,19 +325,18 @@ fn compare_output<R: Abort + Threads + Wait + Sync>(
         rt,
         "a part",
         line,
-        found.out.taken.len() == 7 * call as usize,
+        found.out.taken.len() == MOST * call as usize,
     );
     true
 }
 
 /// How many calls of the output a command makes until it is done, with each of them failing in turn.
 fn compare_outputs<R: Abort + Threads + Wait + Sync>(rt: &R, alloc: Global, row: &Row) {
-    let mut call = 0;
-    for _ in 0..NEVER {
-        if !compare_output(rt, alloc, row, call) {
+    let whole = left_by(rt, alloc, row.0, SOUND);
+    for call in 0..NEVER {
+        if !compare_output(rt, alloc, row.0, &whole.out.taken, call) {
             return;
         }
-        call += 1;
     }
     holds(rt, "an end", row.0, false);
 }
@@ -370,7 +366,7 @@ fn compare_error<R: Abort + Threads + Wait + Sync>(rt: &R, alloc: Global, line: 
         rt,
         "a part",
         line,
-        found.err.taken.len() == 7 * call as usize,
+        found.err.taken.len() == MOST * call as usize,
     );
 }
 
@@ -395,12 +391,12 @@ fn each_call_of_an_output_fails_in_turn(rt: HostRuntime) {
 
 #[test]
 fn an_error_stream_fails_at_each_of_its_calls(rt: HostRuntime) {
-    for call in 0..3 {
+    for call in 0..2 {
         compare_error(&rt, rt.alloc(), "xlb check image", call);
         compare_error(
             &rt,
             rt.alloc(),
-            "xlb replay capture made --script script",
+            "xlb replay capture made --script script --ring 7 --journal 256",
             call,
         );
     }

@@ -177,7 +177,7 @@ const ROWS: [Row; 17] = [
     ("a down and a full journal", "", "0 up 0 10.0.0.1\n0 up 1 10.0.0.2\n0 down 0\n0 up 2 10.0.0.3\n", HEAD, "--script script --journal 400", 1, "frames 0\nshort 0\nstopped 0\naborted 0\ndrop 0\npass 0\ntx 0\ncommand 3 refused 94\ncommand 4 refused 94\n", "", HEAD),
     ("an image before a script", UNSET, "0 up\n", "", "--image image", 1, "", "fault 35 UnsetRegister slot 0 register 0\n", ""),
     ("a ring before a script",   "", "0 up\n", "", "--script script --ring 8", 1, "", "fault 73 BadSize\n", ""),
-    ("a script before a capture", "", "0 vip 203.0.113.1 80 udp  notrack\n", "", "--script script", 1, "", "fault 90 BadLine line 1\n  line 1, column 25: \"  \": two spaces\n  expected one space between words\n  for example: 0 vip 203.0.113.1 80 tcp\n", ""),
+    ("a script before a capture", "", "0 vip 203.0.113.1 80 udp  notrack\n", "", "--script script", 1, "", "fault 90 BadLine line 1\n  line 1, column 25: \"  \": two spaces\n  expected one space between words\n  for example: 0 vip 203.0.113.1 80 tcp, with notrack as its last word where flows are not tracked\n", ""),
     ("an empty capture",         SENDS, "", "", "--image image --workers 9", 1, "", "fault 4 CutHead record 0\n  at byte 0 of 0\n", ""),
     ("a cut third record",       SENDS, "", CUT_ZEROS, "--image image", 1, "", "fault 5 CutFrame record 3\n  at byte 84 of 101\n", ""),
     ("nine workers",             SENDS, "", ZEROS_14, "--image image --workers 9", 1, "", "fault 51 BadOptions\n", ""),
