@@ -119,7 +119,7 @@ impl Actor<Heard> for Hearing {
 }
 
 /// One that has memory.
-fn hearing(first: usize) -> Hearing {
+fn actor_with_memory(first: usize) -> Hearing {
     Hearing {
         first,
         is_refused: false,
@@ -223,8 +223,8 @@ fn run_beside<R: Abort + Threads + Wait + Sync>(
         1,
         pace,
         &Passing,
-        hearing(1),
-        hearing(0),
+        actor_with_memory(1),
+        actor_with_memory(0),
         put,
         takes,
         states,

@@ -89,7 +89,7 @@ impl Gate for Held {
 
 /// A hundred frames of one flow by one worker, which is held at its first frame. Then the queue takes 64 frames more: so 65 were handed out, and no
 /// more. The command of frame 65 comes then, that of frame 66 only when the first frame is done.
-fn held<R: Threads + Abort + Wait + Sync>(rt: &R, alloc: Global) -> Result<(), Fail> {
+fn compare_held<R: Threads + Abort + Wait + Sync>(rt: &R, alloc: Global) -> Result<(), Fail> {
     let name = "a worker that is held at the first frame";
     let verified = verify(alloc, shipped(alloc, 7)?)?;
     let script = format!(in alloc;
@@ -134,5 +134,5 @@ fn held<R: Threads + Abort + Wait + Sync>(rt: &R, alloc: Global) -> Result<(), F
 
 #[test]
 fn no_command_comes_before_its_number_of_records(rt: HostRuntime) -> Result<(), Fail> {
-    held(&rt, rt.alloc())
+    compare_held(&rt, rt.alloc())
 }
