@@ -1,7 +1,7 @@
 //! Devices that fail at one call, whichever it is: the command is then refused with 7, has printed a beginning of what it prints, and
 //! leaves no file in part.
 
-ghost use Rattle.std.specs.Prelude.{None, ◌≡◌, ◌<◌, ◌-◌, ◌^◌, false};
+ghost use Rattle.std.specs.Prelude.{None, ◌≡◌, ◌+◌, ◌<◌, ◌-◌, ◌^◌, false};
 
 use super::first_path::IMAGE;
 use super::{put, put_digits};
