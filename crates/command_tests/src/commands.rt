@@ -9,7 +9,6 @@ mod audits;
 mod clashes;
 mod devices;
 mod explained;
-mod failing_devices;
 mod fault_texts;
 mod first_path;
 mod images;
