@@ -15,7 +15,7 @@ use Rattle.semantics.proofs.shared.ConditionLemmas.{second_true}
 
 -- ---- a worker that may call is one of the plan's
 
-worker_below : (plan : ShardPlan) (history : List Entry) (worker : ℕ) (call : Call) → IsTrue (meets plan history (Worker worker) call) → worker < plan.workers
+pub worker_below : (plan : ShardPlan) (history : List Entry) (worker : ℕ) (call : Call) → IsTrue (meets plan history (Worker worker) call) → worker < plan.workers
 worker_below plan history worker call met =
     part_below plan history worker call (second_true (shard_of_call call == plan.number) (meets_part plan history (Worker worker) call) met)
 

@@ -33,6 +33,7 @@ use Rattle.guarantees.proofs.EveryEntry.{all_both}
 use Rattle.guarantees.proofs.LegalEntries.{entry_is_step}
 use Rattle.guarantees.proofs.NoneStopped.{is_long}
 use Rattle.guarantees.proofs.OpenedReplays.{record_of}
+use Rattle.guarantees.proofs.ReplayMoves.{has_moves}
 use Rattle.guarantees.proofs.SharedRuns.{ran_in_system, stopped_in_system}
 
 -- ---- the records that are run have a whole header
@@ -120,7 +121,7 @@ module _ (ran : RunsAreOfTheSystem) (stopped : StoppedRunsAreOfTheSystem) (verif
 
 -- ---- all runs of a worker
 
-work_of : RunsAreOfTheSystem → StoppedRunsAreOfTheSystem → (verified : Verified) (options : Options) → options.workers ≤ 8 →
+pub work_of : RunsAreOfTheSystem → StoppedRunsAreOfTheSystem → (verified : Verified) (options : Options) → options.workers ≤ 8 →
     (plan : ℕ → ShardPlan) (count worker : ℕ) → worker < options.workers → (journals : JournalsView) (records : List Sent) →
     AllByRecursion IsCaptured records → (runs : List Ran) →
     IsWorkOf (IsRunAt (IsRunIn plan count (program_of verified options.shards) worker journals) records)
@@ -156,18 +157,24 @@ work_of ran stopped verified options few plan count worker below journals record
 
 pub replays_keep_it : RunsAreOfTheSystem → StoppedRunsAreOfTheSystem → (verified : Verified) → IsSafeImage verified.maps verified.code →
     ReplaysKeepIt verified
-replays_keep_it ran stopped verified safe script options records outcome fit captured accounted = record {
-  safe = safe;
-  count = accounted.count;
-  count_is = accounted.count_is;
-  plan = accounted.plan;
-  plans = accounted.plans;
-  legal = accounted.legal;
-  own_place = λ number below earlier later entry place. entry_is_step (accounted.plan number) earlier later entry
-      (subst (IsLegalJournal (accounted.plan number)) place (accounted.legal number below));
-  runs = accounted.runs;
-  workers = accounted.workers;
-  work = λ worker below. work_of ran stopped verified options fit.at_most_eight accounted.plan accounted.count worker below outcome.journals records
-      captured (runs_at accounted.runs worker) (accounted.work worker below);
-  sent = accounted.sent;
-}
+replays_keep_it ran stopped verified safe script options records outcome fit captured accounted =
+    let work : (worker : ℕ) → worker < options.workers →
+        IsWorkOf (IsRunAt (IsEitherOfImage verified options accounted.plan accounted.count worker) records)
+        (share (frames_of records) options.workers worker (length records)) worker (runs_at accounted.runs worker) accounted.count outcome.journals =
+    λ worker below. work_of ran stopped verified options fit.at_most_eight accounted.plan accounted.count worker below outcome.journals records captured
+    (runs_at accounted.runs worker) (accounted.work worker below) in
+    record {
+      safe = safe;
+      count = accounted.count;
+      count_is = accounted.count_is;
+      plan = accounted.plan;
+      plans = accounted.plans;
+      legal = accounted.legal;
+      own_place = λ number below earlier later entry place. entry_is_step (accounted.plan number) earlier later entry
+          (subst (IsLegalJournal (accounted.plan number)) place (accounted.legal number below));
+      runs = accounted.runs;
+      workers = accounted.workers;
+      work = work;
+      moves = has_moves verified options accounted.plan accounted.count records accounted.runs outcome.journals work;
+      sent = accounted.sent;
+    }

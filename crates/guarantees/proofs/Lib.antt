@@ -25,4 +25,6 @@ pub mod Callers
 pub mod NoneStopped
 pub mod OpenedRuns
 pub mod OpenedReplays
+pub mod ReplayMoves
 pub mod HeadlineRuns
+pub mod OneShard

@@ -12,11 +12,8 @@ use Rattle.replay.specs.Accounts.{counted, counts_of, fate_of, runs_at, end_at}
 use Rattle.replay.specs.RunJobs.{records_of}
 use Rattle.replay.specs.Shares.{frame_at, is_short, is_handed, worker_of_frame, share}
 use Rattle.semantics.proofs.shared.ConditionLemmas.{second_true}
+use Rattle.guarantees.specs.ReplayMoves.{IsNotStopped}
 use Rattle.guarantees.proofs.ShareOrder.{IsHandedAt, handed_at, each_run}
-
-abbrev pub IsNotStopped : RunEnd → Type 0
-IsNotStopped Stopped = ⊥
-IsNotStopped end = Unit {0}
 
 abbrev pub WasNotStopped : Option RunEnd → Type 0
 WasNotStopped (Some end) = IsNotStopped end

@@ -24,13 +24,13 @@ use Rattle.guarantees.proofs.EventLemmas.{Reaches, Exited, reached, all_leave, a
 
 -- ---- what a step does is its worker's, on one of the shards
 
-abbrev IsOwnDeed : ℕ → ℕ → Deed → Type 0
+abbrev pub IsOwnDeed : ℕ → ℕ → Deed → Type 0
 IsOwnDeed count worker deed = (shard_of_deed deed < count) × (is_deed_of worker deed ≡ true)
 
 its_own : (worker : ℕ) → (worker == worker) ≡ true
 its_own worker = grind (arith, nat_tests)
 
-own_deeds : (setting : Setting) (count worker : ℕ) (before : WorkerState) (move : Move) (after : WorkerState) →
+pub own_deeds : (setting : Setting) (count worker : ℕ) (before : WorkerState) (move : Move) (after : WorkerState) →
     IsStep setting count worker before move after → AllByRecursion (IsOwnDeed count worker) (deeds_asked worker move.asked)
 own_deeds setting count worker before move after (RunBegins frame now told few input early low) = tt
 own_deeds setting count worker before move after (RunGoesOn state next entered is) = tt
@@ -42,7 +42,7 @@ own_deeds setting count worker before move after (CallIsRefused state entered ca
 own_deeds setting count worker before move after (EnterIsRefused state entered call next is within outside) = ((within, its_own worker), tt)
 own_deeds setting count worker before move after (ShardIsLeft shard entered within inside) = ((within, its_own worker), tt)
 
-all_own : (setting : Setting) (count worker : ℕ) (moves : List Move) (before after : WorkerState) → AreSteps setting count worker before moves after →
+pub all_own : (setting : Setting) (count worker : ℕ) (moves : List Move) (before after : WorkerState) → AreSteps setting count worker before moves after →
     AllByRecursion (IsOwnDeed count worker) (deeds_in worker moves)
 all_own setting count worker [] before after steps = tt
 all_own setting count worker (move ∷ moves) before after steps =
@@ -85,7 +85,7 @@ all_entries worker (move ∷ moves) = entries_are worker move.asked (deeds_in wo
 
 -- ---- no look at a full journal
 
-abbrev IsWritten : Deed → Type 0
+abbrev pub IsWritten : Deed → Type 0
 IsWritten (Wrote entry) = Unit {0}
 IsWritten (MetFull worker call) = ⊥
 
@@ -99,7 +99,7 @@ all_written worker [] none = tt
 all_written worker (move ∷ moves) none =
     all_both IsWritten (deeds_asked worker move.asked) (deeds_in worker moves) (asked_writes worker move.asked none.0) (all_written worker moves none.1)
 
-no_look : (earlier later : List Deed) (worker : ℕ) (call : Call) → AllByRecursion IsWritten (earlier ++ MetFull worker call ∷ later) → ⊥
+pub no_look : (earlier later : List Deed) (worker : ℕ) (call : Call) → AllByRecursion IsWritten (earlier ++ MetFull worker call ∷ later) → ⊥
 no_look [] later worker call all = all.0
 no_look (deed ∷ earlier) later worker call all = no_look earlier later worker call all.1
 
@@ -127,7 +127,7 @@ none_of setting count worker other (move ∷ moves) before after steps none apar
 
 -- ---- what the controller set before
 
-abbrev deeds_set : List Entry → List Deed
+abbrev pub deeds_set : List Entry → List Deed
 deeds_set set = map (λ (entry : Entry). Wrote entry) set
 
 set_within : (count : ℕ) (set : List Entry) → AllByRecursion (IsSetBefore count) set →
@@ -135,7 +135,7 @@ set_within : (count : ℕ) (set : List Entry) → AllByRecursion (IsSetBefore co
 set_within count [] all = tt
 set_within count (entry ∷ set) all = (all.0.within, set_within count set all.1)
 
-set_written : (set : List Entry) → AllByRecursion IsWritten (deeds_set set)
+pub set_written : (set : List Entry) → AllByRecursion IsWritten (deeds_set set)
 set_written [] = tt
 set_written (entry ∷ set) = (tt, set_written set)
 
@@ -205,7 +205,7 @@ no_refusal setting count worker before move after (EnterIsRefused state entered 
     absurd (over_is_not entered here is)
 no_refusal setting count worker before move after (ShardIsLeft shard entered within inside) here is = refl
 
-run_refuses_none : (setting : Setting) (count worker : ℕ) (moves : List Move) (before after : InRun) →
+pub run_refuses_none : (setting : Setting) (count worker : ℕ) (moves : List Move) (before after : InRun) →
     AreStepsOfRun setting count worker before moves after → NoneRefused moves
 run_refuses_none setting count worker [] before after steps = tt
 run_refuses_none setting count worker (move ∷ moves) before after steps = (
@@ -213,11 +213,11 @@ run_refuses_none setting count worker (move ∷ moves) before after steps = (
   run_refuses_none setting count worker moves steps.0 after steps.2,
 )
 
-leavings_refuse_none : (worker : ℕ) (left : List ℕ) → NoneRefused (leavings worker left)
+pub leavings_refuse_none : (worker : ℕ) (left : List ℕ) → NoneRefused (leavings worker left)
 leavings_refuse_none worker [] = tt
 leavings_refuse_none worker (shard ∷ left) = (refl, leavings_refuse_none worker left)
 
-as_steps : (setting : Setting) (count worker : ℕ) (moves later : List Move) (before after : InRun) (last : WorkerState) →
+pub as_steps : (setting : Setting) (count worker : ℕ) (moves later : List Move) (before after : InRun) (last : WorkerState) →
     AreStepsOfRun setting count worker before moves after → AreSteps setting count worker (running after) later last →
     AreSteps setting count worker (running before) (moves ++ later) last
 as_steps setting count worker [] later before after last steps more =

@@ -38,7 +38,8 @@ use Rattle.replay.specs.RunsOverShards.{IsRunIn, IsExit}
 use Rattle.guarantees.specs.ReaderRuns.{is_quiet, AreQuiet, IsReadAtOpening}
 use Rattle.guarantees.specs.ReaderReplays.{IsCaptured, sent_at_opening, sent_if_there, all_sent_at_opening}
 use Rattle.guarantees.proofs.Callers.{all_of_callers, all_own}
-use Rattle.guarantees.proofs.NoneStopped.{IsNotStopped, IsWhole, all_whole, fate_is}
+use Rattle.guarantees.specs.ReplayMoves.{IsNotStopped}
+use Rattle.guarantees.proofs.NoneStopped.{IsWhole, all_whole, fate_is}
 use Rattle.guarantees.proofs.OpenedRuns.{IsReading, program_at, stays_quiet, earlier, sends_as_opened}
 use Rattle.guarantees.proofs.QuietShards.{quiet_shards}
 use Rattle.guarantees.proofs.ShareOrder.{run_there, share_at}

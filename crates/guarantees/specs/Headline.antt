@@ -31,6 +31,7 @@ use Rattle.replay.specs.declared.outcome.Outcome.{Outcome}
 use Rattle.replay.specs.Accounted.{IsWorkOf, IsAccounted}
 use Rattle.replay.specs.RunsOverShards.{time_of, start_of, IsTold}
 use Rattle.guarantees.specs.SystemRuns.{setting_of, RanInSystem, HasStoppedInSystem}
+use Rattle.guarantees.specs.ReplayMoves.{HasMoves}
 use Rattle.guarantees.specs.ReaderReplays.{IsCaptured}
 
 -- when a worker runs a record's frame
@@ -88,6 +89,8 @@ pub record Headline (verified : Verified) (options : Options) (records : List Se
       (worker : ℕ) → worker < options.workers →
       IsWorkOf (IsRunAt (IsEitherOfImage verified options plan count worker) records)
       (share (frames_of records) options.workers worker (length records)) worker (runs_at runs worker) count outcome.journals
+  -- and the worker's runs are one list of steps, from idle to idle, which wrote on each shard what its journal has of this worker, in order
+  pub moves : HasMoves (setting_of verified options) count runs outcome.journals
   -- the frames that were sent are those of these runs
   pub sent : sent_frames outcome.sent.items ≡ sent_of (frames_of records) options.workers runs (length records)
 

@@ -1,6 +1,7 @@
 pub mod Steps
 pub mod Moves
 pub mod SystemRuns
+pub mod ReplayMoves
 pub mod Headline
 pub mod SystemLaws
 pub mod StepLaws
@@ -12,3 +13,4 @@ pub mod Guarantees
 pub mod SameRuns
 pub mod ReaderRuns
 pub mod ReaderReplays
+pub mod OneShard

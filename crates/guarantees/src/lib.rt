@@ -2,10 +2,11 @@
 //! what the public calls of the crates below ensure. What a single call promises by itself is that call's contract; docs/GUARANTEES.md
 //! says where.
 //!
-//! `headline` comes first. Its statement is in nine files, about 1,000 lines, to be read in this order: `specs/Headline.antt` here;
-//! `specs/SystemRuns.antt` and `specs/Steps.antt` here (runs and steps of the system); `Safety`, `System`, `RunTrace` and `History` of
-//! crates/semantics/specs; `specs/FrameRuns.antt` of crates/runs and `specs/Accounted.antt` of crates/replay. Each file says by its imports
-//! where the smaller definitions are that it cites: shares, counts and passes of replay, sessions of shard_port, own entries of semantics.
+//! `headline` comes first. Its statement is in ten files, about 1,000 lines, to be read in this order: `specs/Headline.antt` here;
+//! `specs/ReplayMoves.antt`, `specs/SystemRuns.antt` and `specs/Steps.antt` here (the moves of a worker, runs and steps of the system);
+//! `Safety`, `System`, `RunTrace` and `History` of crates/semantics/specs; `specs/FrameRuns.antt` of crates/runs and `specs/Accounted.antt`
+//! of crates/replay. Each file says by its imports where the smaller definitions are that it cites: shares, counts and passes of replay,
+//! sessions of shard_port, own entries of semantics.
 //!
 //! The other laws of this page say what these definitions come to. The laws of `step_laws` show that they are not empty, those of
 //! `place_laws` that a worker is inside and holds a cell by places in the history alone. `one_caller` speaks of runs one after the other
@@ -25,6 +26,7 @@ ghost use Rattle.guarantees.specs.Headline.{ReplaysKeepIt};
 ghost use Rattle.guarantees.specs.Guarantees.{EntriesAreSteps, EntriesAreAnswered};
 ghost use Rattle.guarantees.specs.SystemLaws.{RunsAreOfTheSystem, StoppedRunsAreOfTheSystem};
 ghost use Rattle.guarantees.specs.Merging.{OneOrderIsOneList, OneWorkerIsOneList, RunAloneIsOneList};
+ghost use Rattle.guarantees.specs.OneShard.{OneShardIsOneList};
 
 pub use one_caller::{
     opened_shards_are_ready, runs_are_their_meaning, runs_leave_others_alone,
@@ -41,14 +43,26 @@ use verifier::laws::accepted_is_safe;
 /// slots. Each shard has one legal history, its journal, in which each reply is the one-thread map's at the entry's own place. Each
 /// worker ran its records one after the other; each run is a list of steps of the system around this image, from idle to idle, and its
 /// calls, verdict, frame and number of instructions are the run trace on its replies, or, where a full journal stopped it, a beginning of
-/// that.
+/// that. So each worker has one list of steps for the whole replay, and each shard alone agrees with it: what the list wrote there is what
+/// the shard's journal has of this worker, in the journal's order.
 ///
 /// That the workers' lists of steps make one list of events is the law `one_order_is_one_list`, for an order of all entries that fits every
-/// shard and every caller. That there is such an order for shards that threads share is not proved.
+/// shard and every caller. Where there is one shard and no run was stopped, its journal is such an order (`one_shard_is_one_list`). That
+/// there is one for several shards that threads share is not proved.
 pub fn headline(verified: &Verified)
     ensures { ReplaysKeepIt verified.now }
 {
     accepted_images_are_safe(verified);
+    runs_are_of_the_system();
+    stopped_runs_are_of_the_system();
+}
+
+/// All callers at once, where there is one shard and no run was stopped: the moves of all workers, with what the controller and the reclaimer
+/// did, are one list of events of the system, which can all happen from the opening on; each worker's events are in its own order in it; after it
+/// the history is the journal, and every worker is idle.
+pub fn one_shard_is_one_list()
+    ensures { OneShardIsOneList }
+{
     runs_are_of_the_system();
     stopped_runs_are_of_the_system();
 }

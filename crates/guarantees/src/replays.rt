@@ -34,7 +34,7 @@ fn is_captured(sent: &Sent)
 }
 
 /// Each record of a capture is one that a capture has: the type of each says so.
-fn all_are_captured(capture: &Capture)
+pub fn all_are_captured(capture: &Capture)
     ensures { AllByRecursion IsCaptured capture.now.records.items }
 {
     'records: for number in 0..capture.records.len() {

@@ -8,6 +8,7 @@ use Rattle.semantics.specs.Program.{Program}
 use Rattle.abstract_state.specs.declared.state.State.{State}
 use Rattle.verifier.specs.Dataflow.{Accepts}
 use Rattle.verifier.specs.Readers.{IsReader}
+use Rattle.verifier.specs.Verified.{Verified}
 use Rattle.byteorder.specs.Endian.{little_bytes}
 use Rattle.wire.specs.CaptureFormat.{IsCaptureFile, capture_bytes, header_bytes}
 use Rattle.wire.specs.declared.records.Sent.{Sent}
@@ -23,6 +24,7 @@ use Rattle.replay.specs.Accounts.{SentFrame, frames_in}
 use Rattle.replay.specs.declared.outcome.Applied.{Applied}
 use Rattle.replay.specs.declared.outcome.Outcome.{Outcome}
 use Rattle.replay.specs.Accounted.{IsAccounted}
+use Rattle.guarantees.specs.Headline.{Headline}
 use Rattle.guarantees.specs.ReaderReplays.{all_sent_at_opening}
 use Rattle.steered_replays.specs.SteeredRuns.{IsSteeredReplay}
 use Rattle.steered_replays.specs.Totals.{AreTotals}
@@ -130,8 +132,14 @@ abbrev pub SendsAlike : Contents → List (Option State) → List Command → Op
 SendsAlike image states script options records outcome = IsReader image.code states → script ≡ [] → outcome.counts.stopped ≡ 0 →
     capture_bytes outcome.sent.items ≡ reader_file (program_of_replay image options) records
 
+-- the headline, of what the verifier made of the image
+pub record KeepsHeadline (image : Contents) (options : Options) (records : List Sent) (outcome : Outcome) : Type 0 where
+  pub verified : Verified
+  pub image_is : record { version = verified.version; maps = verified.maps; code = verified.code } ≡ image
+  pub kept : Headline verified options records outcome
+
 -- The program may run; script and capture are read from their files; the replay accounts for every record, every command and every entry
--- of the journals; the shipped program follows the steering rule; one that only reads sends the same for every number of workers; the sent frames and the journals are written to their files; and what is
+-- of the journals; the headline holds of it; the shipped program follows the steering rule; one that only reads sends the same for every number of workers; the sent frames and the journals are written to their files; and what is
 -- printed are the counts, and the commands that were refused.
 pub record IsReplayed (before after : FileBytes) (files : ReplayFiles) (options : Options) (ring : ℕ) (printed : List ℕ) (refused : List Applied) :
     Type 0 where
@@ -146,6 +154,7 @@ pub record IsReplayed (before after : FileBytes) (files : ReplayFiles) (options 
   pub capture : IsCaptureOf before files.capture.now records
   pub outcome : Outcome
   pub accounted : IsAccounted (program_of_replay program options) script options records outcome
+  pub headline : KeepsHeadline program options records outcome
   pub by_rule : FollowsRule (text_of files.image) ring script options records outcome
   pub readers : SendsAlike program states script options records outcome
   pub refused_are : outcome.refused.items ≡ refused

@@ -1,6 +1,5 @@
 //! What `xlb replay` does with its files.
 
-ghost use Rattle.std.specs.List.{AllByRecursion};
 ghost use Rattle.std.specs.Prelude.{◌≡◌, ◌≢◌, ◌==◌, ◌↔◌, ◌+◌, ◌++◌, ◌-◌, ◌<◌, ◌≤◌, ◌^◌, ◌⊎◌, ℕ, [], true, false};
 ghost use Rattle.std.specs.Prelude.{List, Some, None, IfErr, IfOk, IsErrOf, IsFalse, OnOk, length, string_bytes};
 ghost use Rattle.semantics.specs.Safety.{IsSafeImage};
@@ -8,7 +7,8 @@ ghost use Rattle.semantics.specs.ShardPlan.{are_served_options};
 ghost use Rattle.verifier.specs.Dataflow.{Accepts};
 ghost use Rattle.verifier.specs.Readers.{IsReader};
 ghost use Rattle.machine.specs.Running.{program_of};
-ghost use Rattle.guarantees.specs.ReaderReplays.{IsCaptured, SendsAsAtOpening};
+ghost use Rattle.guarantees.specs.Headline.{Headline};
+ghost use Rattle.guarantees.specs.ReaderReplays.{SendsAsAtOpening};
 ghost use Rattle.maglev.specs.RingSize.{IsRingSize};
 ghost use Rattle.steer.specs.ShippedProgram.{shipped_image};
 ghost use Rattle.wire.specs.CaptureFormat.{IsCaptureFile, capture_bytes};
@@ -43,10 +43,11 @@ use crate::written::{journal_bytes, write_journals_to, write_to};
 use command_line::ReplayFiles;
 use control::{Script, parse_script};
 use folders::Folder;
+use guarantees::headline;
 use guarantees::readers::readers_send_as_at_opening;
+use guarantees::replays::all_are_captured;
 use replay::{Outcome, ReplayFault, exact_replay, replay};
 use semantics::Options;
-use semantics::facts::bytes_have_8_bits;
 use shard_port::Gate;
 use std::alloc::{AllocError, Global};
 use std::sync::Wait;
@@ -264,23 +265,6 @@ fn outcome_of<R: Threads + Wait + Sync, G: Gate + Sync>(
     }
 }
 
-/// A record with no more bytes than a captured frame may have is one that a capture has.
-fn is_captured(sent: &Sent)
-    requires { length sent.now.bytes.items ≤ 2048 }
-    ensures { IsCaptured sent.now }
-{
-    bytes_have_8_bits(&sent.bytes);
-}
-
-/// Each record of a capture is one that a capture has: the type of each says so.
-fn all_are_captured(capture: &Capture)
-    ensures { AllByRecursion IsCaptured capture.now.records.items }
-{
-    'records: for number in 0..capture.records.len() {
-        is_captured(&capture.records[number]);
-    }
-}
-
 /// What a replay of a program sends that only reads.
 fn readers_send_alike(verified: &Verified)
     ensures sends { IsReader verified.now.code verified.now.states → SendsAsAtOpening verified.now.maps verified.now.code }
@@ -292,7 +276,7 @@ fn readers_send_alike(verified: &Verified)
     }
 }
 
-/// `outcome_of`, with what holds besides of a program that only reads.
+/// `outcome_of`, with the headline, and with what holds besides of a program that only reads.
 fn outcome_with<R: Threads + Wait + Sync, G: Gate + Sync>(
     rt: &R,
     alloc: Global,
@@ -310,12 +294,14 @@ fn outcome_with<R: Threads + Wait + Sync, G: Gate + Sync>(
         record { version = verified.now.version; maps = verified.now.maps; code = verified.now.code } ≡ shipped_image ring }
     ensures accounted { IfOk result (IsAccounted (program_of verified.now options.shards) script.now options capture.now.records.items) }
     ensures accepted { Accepts verified.now.version verified.now.maps verified.now.code verified.now.states }
+    ensures headline { IfOk result (Headline verified.now options capture.now.records.items) }
     ensures readers { IfOk result (λ outcome. IsReader verified.now.code verified.now.states → script.now ≡ [] →
         outcome.counts.stopped ≡ 0 → capture_bytes outcome.sent.items ≡ reader_file (program_of verified.now options.shards) capture.now.records.items) }
     ensures steered { IfOk result (FollowsRule (text_of image.entry) ring script.now options capture.now.records.items) }
     ensures bad_options { IsErrOf result BadOptions ↔
         (IsFalse (are_served_options verified.now.maps options) ⊎ HasNoTable verified.now.maps script.now) }
 {
+    headline(verified);
     readers_send_alike(verified);
     all_are_captured(capture);
     let outcome = outcome_of(

@@ -78,6 +78,7 @@ returns-clause-done g c = (
     capture = capture_before _ _ _ c.program_of.ensures.kept c.script_of.ensures.kept _ _ c.in_ok-capture.ensures.capture;
     outcome = c.in-Ok.outcome;
     accounted = c.in-Ok.ensures.accounted;
+    headline = record { verified = c.in_ok-verified.verified; image_is = refl; kept = c.in-Ok.ensures.headline };
     by_rule = c.in-Ok.ensures.steered;
     readers = c.in-Ok.ensures.readers;
     refused_are = refl;

@@ -1,0 +1,229 @@
+-- The moves of each worker over a whole replay, and one list of all callers' events where there is one shard.
+use Rattle.std.proofs.Common.{◌≡◌, ℕ, ◌<◌, ◌≤◌, Bool, true, false, cond, nat_lt, List, [], ◌∷◌, ◌++◌, length, reverse, refl, sym, ◌∙◌, ap, subst, arith, append_assoc, append-nil}
+use Rattle.std.specs.Prelude.{filter, IsFalse}
+use Rattle.std.specs.List.{AllByRecursion}
+use Rattle.std.proofs.lemmas.Bool.Decides.{nat_tests}
+use Rattle.std.proofs.lemmas.List.{reverse-append, reverse-reverse}
+use mathlib.Core.List.{reverse-cons}
+use Rattle.std.proofs.lemmas.List.Elements.{filter-append}
+use Rattle.wire.specs.declared.records.Sent.{Sent}
+use Rattle.semantics.specs.declared.call.Caller.TheVariants.{Worker}
+use Rattle.semantics.specs.declared.call.Entry.{Entry}
+use Rattle.semantics.specs.declared.options.Options.{Options}
+use Rattle.semantics.specs.declared.plan.ShardPlan.{ShardPlan}
+use Rattle.semantics.specs.CallerLaws.{own_entries}
+use Rattle.semantics.specs.Reclamation.{is_worker}
+use Rattle.semantics.specs.System.{Setting, WorkerState, Idle, run_over}
+use Rattle.verifier.specs.Verified.{Verified}
+use Rattle.wire.specs.FrameView.{FrameView}
+use Rattle.machine.specs.declared.exit.Stop.{Stop}
+use Rattle.machine.specs.declared.exit.Stop.TheVariants.{JournalFull}
+use Rattle.machine.specs.declared.moment.Moment.{Moment}
+use Rattle.journals.specs.JournalsView.{JournalsView, entries_at}
+use Rattle.shards.specs.CallerView.{CallerView}
+use Rattle.shards.specs.Passes.{PassView, own_at}
+use Rattle.replay.specs.declared.runner.Ran.{Ran}
+use Rattle.replay.specs.declared.runner.RunEnd.{RunEnd}
+use Rattle.replay.specs.declared.runner.RunEnd.TheVariants.{Stopped, Aborted, Dropped, Passed, Sent as IsSent}
+use Rattle.replay.specs.Accounts.{runs_at}
+use Rattle.replay.specs.Accounted.{IsWorkOf}
+use Rattle.replay.specs.RunsInOrder.{IsRunAt, IsChainOfRuns}
+use Rattle.replay.specs.Shares.{frames_of, share}
+use Rattle.guarantees.specs.Steps.{Move, Refused, AreSteps, running, begins, does, asks, beginning, leavings, entries_on}
+use Rattle.guarantees.specs.SystemRuns.{setting_of, HaveGrown, RanInSystem, HasStoppedInSystem}
+use Rattle.guarantees.specs.Merging.{is_refusal, NoneRefused}
+use Rattle.guarantees.specs.Headline.{moment_of, IsRunOfImage, IsStopOfImage, IsEitherOfImage}
+use Rattle.guarantees.specs.ReplayMoves.{IsNotStopped, AreMovesOf, HasMoves}
+use Rattle.guarantees.proofs.EventLemmas.{append_on}
+use Rattle.guarantees.proofs.EveryEntry.{all_both}
+use Rattle.guarantees.proofs.OneWorker.{as_steps, run_refuses_none, leavings_refuse_none}
+
+-- ---- moves from idle to idle, and what a pass has more after them
+
+record Walks (setting : Setting) (count worker : ℕ) (before after : PassView) (moves : List Move) : Type 0 where
+  steps : AreSteps setting count worker Idle moves Idle
+  grown : HaveGrown count moves before after
+
+then_steps : (setting : Setting) (count worker : ℕ) (moves later : List Move) (before middle after : WorkerState) →
+    AreSteps setting count worker before moves middle → AreSteps setting count worker middle later after →
+    AreSteps setting count worker before (moves ++ later) after
+then_steps setting count worker [] later before middle after steps more =
+    subst (λ (state : WorkerState). AreSteps setting count worker state later after) (sym steps) more
+then_steps setting count worker (move ∷ moves) later before middle after steps more =
+    (steps.0, steps.1, then_steps setting count worker moves later steps.0 middle after steps.2 more)
+
+walks_on : (setting : Setting) (count worker : ℕ) (before middle after : PassView) (first second : List Move) →
+    Walks setting count worker before middle first → Walks setting count worker middle after second →
+    Walks setting count worker before after (first ++ second)
+walks_on setting count worker before middle after first second one two = record {
+  steps = then_steps setting count worker first second Idle Idle Idle one.steps two.steps;
+  grown = λ number within.
+      two.grown number within
+      ∙ ap (λ (own : List Entry). reverse (entries_on number second) ++ own) (one.grown number within)
+      ∙ sym (append_assoc (reverse (entries_on number second)) (reverse (entries_on number first)) (own_at before number))
+      ∙ ap (λ (own : List Entry). own ++ own_at before number) (sym (reverse-append (entries_on number first) (entries_on number second)))
+      ∙ ap (λ (list : List Entry). reverse list ++ own_at before number) (sym (append_on number first second));
+}
+
+-- ---- one run
+
+record RunMoves (setting : Setting) (count worker : ℕ) (before after : PassView) (end : RunEnd) : Type 0 where
+  moves : List Move
+  walks : Walks setting count worker before after moves
+  met_none : IsNotStopped end → NoneRefused moves
+
+run_moves : (setting : Setting) (count worker : ℕ) (moment : Moment) (frame : List ℕ) (before after : PassView) (sent : FrameView)
+    (verdict : Verdict) (steps : ℕ) (end : RunEnd) → RanInSystem setting worker moment frame count before after verdict steps sent →
+    RunMoves setting count worker before after end
+run_moves setting count worker moment frame before after sent verdict steps end ran =
+    let is = ran.of_system in
+    let start = beginning frame moment.worker moment.now_ns in
+    let ending : List Move = does worker ∷ leavings worker is.left in
+    let moves : List Move = begins worker frame moment.now_ns moment.worker ∷ is.run ++ ending in
+    record {
+      moves = moves;
+      walks = record {
+        steps = (
+          running start,
+          is.begins_so,
+          as_steps setting count worker is.run ending start is.ending Idle is.goes_on (run_over is.ending.entered, is.ends, is.leaves),
+        );
+        grown = λ number within. is.written number within
+            ∙ ap (λ (list : List Entry). reverse list ++ own_at before number)
+            (append_on number is.run (leavings worker is.left) ∙ sym (append_on number is.run ending));
+      };
+      met_none = λ _. (
+        refl,
+        all_both (λ (move : Move). IsFalse (is_refusal move.asked)) is.run ending
+            (run_refuses_none setting count worker is.run start is.ending is.goes_on) (refl, leavings_refuse_none worker is.left),
+      );
+    }
+
+stopped_moves : (setting : Setting) (count worker : ℕ) (plan : ℕ → ShardPlan) (moment : Moment) (frame : List ℕ) (before after : PassView)
+    (kept_back : FrameView) (stop : Stop) → HasStoppedInSystem setting worker moment frame plan count before after kept_back stop →
+    RunMoves setting count worker before after Stopped
+stopped_moves setting count worker plan moment frame before after kept_back (JournalFull shard) stopped =
+    let is = stopped.of_system in
+    let start = beginning frame moment.worker moment.now_ns in
+    let ending : List Move = asks worker (Refused is.refused) ∷ leavings worker is.left in
+    record {
+      moves = begins worker frame moment.now_ns moment.worker ∷ is.run ++ ending;
+      walks = record {
+        steps = (
+          running start,
+          is.begins_so,
+          as_steps setting count worker is.run ending start (record { state = stopped.waiting; entered = is.entered }) Idle is.goes_on
+              (run_over is.entered, is.refuses, is.leaves),
+        );
+        grown = λ number within. is.written number within
+            ∙ ap (λ (list : List Entry). reverse list ++ own_at before number)
+            (append_on number is.run (leavings worker is.left) ∙ sym (append_on number is.run ending));
+      };
+      met_none = λ none. absurd none;
+    }
+
+module _ (verified : Verified) (options : Options) (plan : ℕ → ShardPlan) (count worker : ℕ) where
+  ended : (captured : Sent) (before after : PassView) (end : RunEnd) → IsRunOfImage verified options count worker captured before end after →
+      RunMoves (setting_of verified options) count worker before after end
+  ended captured before after end run =
+      run_moves (setting_of verified options) count worker (moment_of captured worker) captured.bytes.items before after run.frame run.verdict run.steps end
+      run.of_system
+
+  one_run : (captured : Sent) (before after : PassView) (end : RunEnd) → IsEitherOfImage verified options plan count worker captured before end after →
+      RunMoves (setting_of verified options) count worker before after end
+  one_run captured before after Stopped run =
+      stopped_moves (setting_of verified options) count worker plan (moment_of captured worker) captured.bytes.items before after run.frame run.stop
+      run.of_system
+  one_run captured before after Aborted run = ended captured before after Aborted run
+  one_run captured before after Dropped run = ended captured before after Dropped run
+  one_run captured before after Passed run = ended captured before after Passed run
+  one_run captured before after (IsSent sent) run = ended captured before after (IsSent sent) run
+
+  -- ---- all runs of a worker
+
+  record AllMoves (runs : List Ran) (before after : PassView) : Type 0 where
+    moves : List Move
+    walks : Walks (setting_of verified options) count worker before after moves
+    met_none : AllByRecursion (λ (ran : Ran). IsNotStopped ran.end) runs → NoneRefused moves
+
+  all_runs : (records : List Sent) (runs : List Ran) (before after : PassView) →
+      IsChainOfRuns (IsRunAt (IsEitherOfImage verified options plan count worker) records) before runs after → AllMoves runs before after
+  all_runs records [] before after same = record {
+    moves = [];
+    walks = record { steps = refl; grown = λ number within. ap (λ (pass : PassView). own_at pass number) (sym same) };
+    met_none = λ _. tt;
+  }
+  all_runs records (ran ∷ later) before after chain =
+      let one = one_run chain.1.sent before chain.0 ran.end chain.1.run in
+      let rest = all_runs records later chain.0 after chain.2 in
+      record {
+        moves = one.moves ++ rest.moves;
+        walks = walks_on (setting_of verified options) count worker before chain.0 after one.moves rest.moves one.walks rest.walks;
+        met_none = λ none. all_both (λ (move : Move). IsFalse (is_refusal move.asked)) one.moves rest.moves (one.met_none none.0) (rest.met_none none.1);
+      }
+
+-- ---- what they wrote, beside the journals
+
+by_test : (entry : Entry) (own : List Entry) (test : Bool) →
+    reverse own ++ cond test (entry ∷ []) [] ≡ reverse (cond test (entry ∷ own) own)
+by_test entry own true = sym (reverse-cons entry own)
+by_test entry own false = append-nil (reverse own)
+
+own_reversed : (test : Entry → Bool) (entries : List Entry) → filter test (reverse entries) ≡ reverse (filter test entries)
+own_reversed test [] = refl
+own_reversed test (entry ∷ later) =
+    ap (filter test) (reverse-cons entry later) ∙ filter-append test (reverse later) (entry ∷ [])
+    ∙ ap (λ (own : List Entry). own ++ filter test (entry ∷ [])) (own_reversed test later)
+    ∙ by_test entry (filter test later) (test entry)
+
+module _ (verified : Verified) (options : Options) (plan : ℕ → ShardPlan) (count : ℕ) (records : List Sent) (runs : List (List Ran))
+    (journals : JournalsView)
+    (work : (worker : ℕ) → worker < options.workers → IsWorkOf (IsRunAt (IsEitherOfImage verified options plan count worker) records)
+    (share (frames_of records) options.workers worker (length records)) worker (runs_at runs worker) count journals) where
+  record IsMoved (worker : ℕ) : Type 0 where
+    moves : List Move
+    are : AreMovesOf (setting_of verified options) count worker (runs_at runs worker) journals moves
+
+  moved : (worker : ℕ) → worker < options.workers → IsMoved worker
+  moved worker below =
+      let did = work worker below in
+      let all = all_runs verified options plan count worker records (runs_at runs worker) did.handled.before did.after did.handled.chain in
+      record {
+        moves = all.moves;
+        are = record {
+          steps = all.walks.steps;
+          written = λ number within.
+              let wrote : List Entry = entries_on number all.moves in
+              let journal : List Entry = entries_at journals number in
+              let none : own_at did.handled.before number ≡ [] = ap (λ (view : CallerView). view.own) (did.handled.is_new.nothing number) in
+              let newest : reverse wrote ≡ own_entries (Worker worker) (reverse journal) =
+              sym (append-nil (reverse wrote)) ∙ ap (λ (own : List Entry). reverse wrote ++ own) (sym none) ∙ sym (all.walks.grown number within)
+              ∙ did.own number within in
+              sym (reverse-reverse wrote) ∙ ap reverse (newest ∙ own_reversed (λ (entry : Entry). is_worker worker entry.who) journal)
+              ∙ reverse-reverse (own_entries (Worker worker) journal);
+          met_none = all.met_none;
+        };
+      }
+
+  less : (worker : ℕ) → nat_lt worker options.workers ≡ true → worker < options.workers
+  less worker is = grind (arith, nat_tests, is)
+
+  chosen : (worker : ℕ) (test : Bool) → nat_lt worker options.workers ≡ test → List Move
+  chosen worker true is = (moved worker (less worker is)).moves
+  chosen worker false is = []
+
+  chosen_are : (worker : ℕ) (test : Bool) → (is : nat_lt worker options.workers ≡ test) → worker < options.workers →
+      AreMovesOf (setting_of verified options) count worker (runs_at runs worker) journals (chosen worker test is)
+  chosen_are worker true is below = (moved worker (less worker is)).are
+  chosen_are worker false is below = absurd (grind (arith, nat_tests, is, below))
+
+  none_chosen : (worker : ℕ) (test : Bool) → (is : nat_lt worker options.workers ≡ test) → options.workers ≤ worker → chosen worker test is ≡ []
+  none_chosen worker true is past = absurd (let below = less worker is in omega (arith, below, past))
+  none_chosen worker false is past = refl
+
+  pub has_moves : HasMoves (setting_of verified options) count runs journals
+  has_moves = record {
+    moves = λ worker. chosen worker (nat_lt worker options.workers) refl;
+    of_worker = λ worker below. chosen_are worker (nat_lt worker options.workers) refl below;
+    of_others = λ worker past. none_chosen worker (nat_lt worker options.workers) refl past;
+  }
