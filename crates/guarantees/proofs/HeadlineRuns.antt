@@ -159,8 +159,8 @@ pub replays_keep_it : RunsAreOfTheSystem → StoppedRunsAreOfTheSystem → (veri
     ReplaysKeepIt verified
 replays_keep_it ran stopped verified safe script options records outcome fit captured accounted =
     let work : (worker : ℕ) → worker < options.workers →
-        IsWorkOf (IsRunAt (IsEitherOfImage verified options accounted.plan accounted.count worker) records)
-        (share (frames_of records) options.workers worker (length records)) worker (runs_at accounted.runs worker) accounted.count outcome.journals =
+    IsWorkOf (IsRunAt (IsEitherOfImage verified options accounted.plan accounted.count worker) records)
+    (share (frames_of records) options.workers worker (length records)) worker (runs_at accounted.runs worker) accounted.count outcome.journals =
     λ worker below. work_of ran stopped verified options fit.at_most_eight accounted.plan accounted.count worker below outcome.journals records captured
     (runs_at accounted.runs worker) (accounted.work worker below) in
     record {
