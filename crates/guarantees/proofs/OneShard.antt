@@ -168,7 +168,7 @@ module _ (setting : Setting) (plan : ShardPlan) (fit : AreOptions setting.maps s
     (planned : plan_at setting.maps setting.options 0 ≡ Some plan) (runs : List (List Ran)) (journals : JournalsView)
     (legal : IsLegalJournal plan (entries_at journals 0)) (has : HasMoves setting 1 runs journals)
     (none : (worker : ℕ) → worker < setting.options.workers → AllByRecursion (λ (ran : Ran). IsNotStopped ran.end) (runs_at runs worker)) where
-  journal : List Entry
+  abbrev pub journal : List Entry
   journal = entries_at journals 0
 
   all_of_plan : AllByRecursion (IsOfPlan plan) journal

@@ -11,6 +11,7 @@ use Rattle.semantics.specs.declared.call.Caller.TheVariants.{Worker}
 use Rattle.semantics.specs.declared.call.Entry.{Entry}
 use Rattle.semantics.specs.declared.options.Options.{Options}
 use Rattle.semantics.specs.declared.plan.ShardPlan.{ShardPlan}
+use Rattle.semantics.specs.declared.verdict.Verdict.{Verdict}
 use Rattle.semantics.specs.CallerLaws.{own_entries}
 use Rattle.semantics.specs.Reclamation.{is_worker}
 use Rattle.semantics.specs.System.{Setting, WorkerState, Idle, run_over}
@@ -44,13 +45,13 @@ record Walks (setting : Setting) (count worker : ℕ) (before after : PassView) 
   steps : AreSteps setting count worker Idle moves Idle
   grown : HaveGrown count moves before after
 
-then_steps : (setting : Setting) (count worker : ℕ) (moves later : List Move) (before middle after : WorkerState) →
-    AreSteps setting count worker before moves middle → AreSteps setting count worker middle later after →
+then_steps : (setting : Setting) (count worker : ℕ) (moves later : List Move) (before between after : WorkerState) →
+    AreSteps setting count worker before moves between → AreSteps setting count worker between later after →
     AreSteps setting count worker before (moves ++ later) after
-then_steps setting count worker [] later before middle after steps more =
+then_steps setting count worker [] later before between after steps more =
     subst (λ (state : WorkerState). AreSteps setting count worker state later after) (sym steps) more
-then_steps setting count worker (move ∷ moves) later before middle after steps more =
-    (steps.0, steps.1, then_steps setting count worker moves later steps.0 middle after steps.2 more)
+then_steps setting count worker (move ∷ moves) later before between after steps more =
+    (steps.0, steps.1, then_steps setting count worker moves later steps.0 between after steps.2 more)
 
 walks_on : (setting : Setting) (count worker : ℕ) (before middle after : PassView) (first second : List Move) →
     Walks setting count worker before middle first → Walks setting count worker middle after second →
@@ -214,10 +215,12 @@ module _ (verified : Verified) (options : Options) (plan : ℕ → ShardPlan) (c
 
   chosen_are : (worker : ℕ) (test : Bool) → (is : nat_lt worker options.workers ≡ test) → worker < options.workers →
       AreMovesOf (setting_of verified options) count worker (runs_at runs worker) journals (chosen worker test is)
+  unfolding chosen moved
   chosen_are worker true is below = (moved worker (less worker is)).are
   chosen_are worker false is below = absurd (grind (arith, nat_tests, is, below))
 
   none_chosen : (worker : ℕ) (test : Bool) → (is : nat_lt worker options.workers ≡ test) → options.workers ≤ worker → chosen worker test is ≡ []
+  unfolding chosen
   none_chosen worker true is past = absurd (let below = less worker is in omega (arith, below, past))
   none_chosen worker false is past = refl
 
