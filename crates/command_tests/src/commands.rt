@@ -9,6 +9,7 @@ mod audits;
 mod clashes;
 mod devices;
 mod explained;
+mod failing_devices;
 mod fault_texts;
 mod first_path;
 mod images;

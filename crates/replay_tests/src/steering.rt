@@ -6,6 +6,7 @@ mod calls;
 mod cases;
 mod endings;
 mod frames;
+mod lines;
 mod numbers;
 mod program_runs;
 mod sessions;

@@ -151,10 +151,10 @@ fn differs_so(
     Ok(false)
 }
 
-/// The program with another instruction differs from the rule, as it should.
+/// The program with another line differs from the rule, as it should.
 fn is_wrong(rt: &impl Abort, alloc: Global, wrong: &Wrong) -> Result<(), Fail> {
-    let (name, old, new, want) = wrong;
-    let verified = wrong_program(alloc, old, *new)?;
+    let (name, _block, _old, _new, want) = wrong;
+    let verified = wrong_program(alloc, wrong)?;
     let differs = differs_so(rt, alloc, &verified, *want)?;
     holds(rt, name, "the difference", differs);
     Ok(())
