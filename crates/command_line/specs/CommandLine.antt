@@ -5,7 +5,7 @@ use Rattle.clap.specs.Simple.{App, new_app, new_rule, on_top, with_rule, with_su
 use Rattle.clap.specs.declared.builder.action.ArgAction.TheVariants.{Append, Set, SetTrue}
 use Rattle.clap.specs.declared.builder.value_parser.ValueParser.TheVariants.{Unsigned}
 
--- a file that has to be named
+-- a file, or another word, that has to be given
 abbrev pub file_rule : Text → Rule
 file_rule id = record (new_rule id) { required = true; action = Some Set }
 
@@ -26,10 +26,6 @@ number_rule id most default = record (new_rule id) {
   parser = Some (Unsigned 0 most);
   defaults = default ∷ [];
 }
-
--- a number of at most `most` that has to be named
-abbrev pub named_number_rule : Text → ℕ → Rule
-named_number_rule id most = record (new_rule id) { required = true; action = Some Set; parser = Some (Unsigned 0 most) }
 
 -- a switch `--id`, which may be missing
 abbrev pub switch_rule : Text → Rule
@@ -67,7 +63,7 @@ abbrev pub audit_command : App
 audit_command = with_rule (with_rule (new_app (codes "audit")) (file_rule (codes "IMAGE"))) (file_rule (codes "JOURNALS"))
 
 abbrev pub explain_command : App
-explain_command = with_rule (new_app (codes "explain")) (named_number_rule (codes "NUMBER") 4294967295)
+explain_command = with_rule (new_app (codes "explain")) (file_rule (codes "FAULT"))
 
 abbrev pub shipped_command : App
 shipped_command =

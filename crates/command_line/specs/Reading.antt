@@ -1,5 +1,5 @@
 -- What the settings are of a command and what was found for its arguments.
-use Rattle.std.specs.Prelude.{◌≡◌, ◌<◌, ◌^◌, ◌*◌, ◌+◌, ◌/◌, ℕ, Bool, List, [], length, true, false, ◌&&◌, Option, Some, None, option_map}
+use Rattle.std.specs.Prelude.{◌≡◌, ◌<◌, ◌^◌, ◌*◌, ◌+◌, ◌/◌, ℕ, Bool, List, [], length, true, false, ◌&&◌, Option, Some, None, option_map, ◌⊎◌}
 use Rattle.std.specs.Prelude.{IsTrue, IsFalse, ◌||◌, codes, is_some, unwrap_or, slice_get, slice_index_or}
 use Rattle.std.specs.Borrow.{Bor}
 use Rattle.std.specs.Str.{bytes_eq}
@@ -18,6 +18,7 @@ use Rattle.command_line.specs.declared.words.WordsFault.TheVariants.{Parser, Unk
 use Rattle.command_line.specs.declared.words.Asked.{Asked}
 use Rattle.command_line.specs.declared.words.Asked.TheVariants.{Command, NoSuchFault, ImageAndScript, ImageAndProgram, NoUpdate}
 use Rattle.faults.specs.Explanations.{is_fault}
+use Rattle.faults.specs.FaultTable.{IsRowOf, row_of}
 use Rattle.map_updates.specs.UpdateWords.{IsWritten, IsMistaken}
 use Rattle.map_updates.specs.declared.reading.Mistake.{Mistake}
 use Rattle.map_updates.specs.declared.reading.Mistake.TheVariants.{Memory}
@@ -64,6 +65,27 @@ are_both_given one other rows = is_some (first_of one rows) && is_some (first_of
 abbrev pub either : Option Text → Option Text → Option Text
 either (Some word) other = Some word
 either None other = other
+
+-- the word writes this number
+abbrev pub Writes : Text → ℕ → Type 0
+Writes word number =
+    IsNumeral 10 (without_leading_plus word) × (digits_value 10 (without_leading_plus word) ≡ number)
+
+-- the word is the name of this fault
+abbrev pub IsName : Text → ℕ → Type 0
+IsName word number = (is_fault number ≡ true) × (word ≡ (row_of number).name)
+
+-- and no fault of a lower number has that name
+abbrev pub IsFirstName : Text → ℕ → Type 0
+IsFirstName word number = IsName word number × ((lower : ℕ) → lower < number → ¬ IsName word lower)
+
+-- the word says this fault, by its number or by its name
+abbrev pub Says : Text → ℕ → Type 0
+Says word number = Writes word number ⊎ IsFirstName word number
+
+-- the word is neither the number nor the name of a fault
+abbrev pub SaysNone : Text → Type 0
+SaysNone word = (number : ℕ) → is_fault number ≡ true → ¬ Writes word number × ¬ IsName word number
 
 -- the files of a run are what was found for its arguments
 abbrev pub AreRunFiles : List Row → RunFiles → Type 0
@@ -126,7 +148,8 @@ IsReadFrom name rows (Audit image journals) = is_named name (codes "audit")
     × (image.now ≡ word_of (codes "IMAGE") rows)
     × (journals.now ≡ word_of (codes "JOURNALS") rows)
 IsReadFrom name rows (Explain about) = is_named name (codes "explain")
-    × IsNumberOf 32 (codes "NUMBER") rows about.number
+    × Says (word_of (codes "FAULT") rows) about.number
+    × IsRowOf about.number about
     × (is_fault about.number ≡ true)
 IsReadFrom name rows (Asm text out source) = is_named name (codes "asm")
     × (text.now ≡ word_of (codes "TEXT") rows)
@@ -144,12 +167,12 @@ IsReadFrom name rows (Replay files options ring exact summary) = is_named name (
     × IsFalse (are_both_given (codes "image") (codes "script") rows)
     × IsFalse (are_both_given (codes "image") (codes "program") rows)
 
--- what was asked for: a command, what a number means that no fault has, a replay of both an image and a script or of two images, or a malformed update
+-- what was asked for: a command, what a word means that is no fault, a replay of both an image and a script or of two images, or a malformed update
 abbrev pub IsAsked : Text → List Row → Asked → Type 0
 IsAsked name rows (Command settings) = IsReadFrom name rows settings
-IsAsked name rows (NoSuchFault number) = is_named name (codes "explain")
-    × IsNumberOf 32 (codes "NUMBER") rows number
-    × (is_fault number ≡ false)
+IsAsked name rows (NoSuchFault word) = is_named name (codes "explain")
+    × (word.now ≡ word_of (codes "FAULT") rows)
+    × SaysNone word.now
 IsAsked name rows ImageAndScript = is_named name (codes "replay") × IsTrue (are_both_given (codes "image") (codes "script") rows)
 IsAsked name rows ImageAndProgram = is_named name (codes "replay")
     × IsFalse (are_both_given (codes "image") (codes "script") rows)
@@ -157,10 +180,10 @@ IsAsked name rows ImageAndProgram = is_named name (codes "replay")
 IsAsked name rows (NoUpdate place mistake) = is_named name (codes "run")
     × IsBadUpdate (words_of (codes "update") rows) place mistake
 
--- the words ask for what there is not: what a number means that no fault has, a replay of both an image and a script or of two images, or a malformed
+-- the words ask for what there is not: what a word means that is no fault, a replay of both an image and a script or of two images, or a malformed
 -- update
 abbrev pub AsksInVain : Text → List Row → WordsFault → Type 0
-AsksInVain name rows (UnknownFault number) = IsAsked name rows (NoSuchFault number)
+AsksInVain name rows (UnknownFault word) = IsAsked name rows (NoSuchFault word)
 AsksInVain name rows Both = IsAsked name rows ImageAndScript
 AsksInVain name rows TwoImages = IsAsked name rows ImageAndProgram
 AsksInVain name rows (Update place mistake) = IsAsked name rows (NoUpdate place mistake)
@@ -173,7 +196,7 @@ kind_of_mistake mistake = ValueValidation
 
 abbrev pub kind_in : WordsFault → ErrorKind
 kind_in (Parser error) = kind_of error
-kind_in (UnknownFault number) = ValueValidation
+kind_in (UnknownFault word) = ValueValidation
 kind_in Both = ArgumentConflict
 kind_in TwoImages = ArgumentConflict
 kind_in (Update place mistake) = kind_of_mistake mistake

@@ -24,8 +24,8 @@ pub const TEXT: &str = "TEXT";
 /// The file that is written.
 pub const OUT: &str = "OUT";
 
-/// The number of a fault.
-pub const NUMBER: &str = "NUMBER";
+/// The number or the name of a fault.
+pub const FAULT: &str = "FAULT";
 
 /// Whether a check tells why.
 pub const EXPLAIN: &str = "explain";
@@ -87,7 +87,7 @@ const AFTER: &str = "\
 A file that cannot be read, or that is refused, is told on the standard error
 as `fault <number> <name>`, with what it is about, and the status is 1. The
 status is 2 where the command line is wrong, and 0 where the command is done.
-'xlb <COMMAND> --help' tells more of a command, and 'xlb explain <NUMBER>' of a
+'xlb <COMMAND> --help' tells more of a command, and 'xlb explain <FAULT>' of a
 fault.";
 
 const AFTER_CHECK: &str = "\
@@ -133,8 +133,10 @@ journal. Else the first entry that is not is told, by its shard and its place
 there, counted from 0. Only the image's maps count: its program is not judged.";
 
 const AFTER_EXPLAIN: &str = "\
-Prints what the fault means, what mostly leads to it, and an example. A number
-that no fault has is a mistake of the command line.";
+Prints what the fault means, what mostly leads to it, and an example. FAULT is
+its number or its name: of faults with one name (Memory, JournalFull) that with
+the least number is meant. A number or a name that no fault has is a mistake of
+the command line.";
 
 const AFTER_SHIPPED: &str = "\
 Prints nothing. The image is the program that replay runs where it is given
@@ -157,12 +159,15 @@ and for each command of the script that was refused
 in which case the status is 1. A frame is handled by the worker of its flow,
 so that a flow's frames stay in order. --image replays any program, without a
 script; --program one over the maps of the shipped program, with any size of
-the lookup table, and with a script. With --exact a command takes effect when
+the lookup table, and with a script. The controller works beside the workers: a
+command may take effect up to some 64 frames for each worker too early, because
+a worker's queue holds 64 frames, or later. With --exact it takes effect when
 all frames before it are done, and before a later one is begun. With --summary
 lines on the standard error say how many frames of which kind the capture has,
-and how many were sent to which address.";
+how many were sent to which address, and, as the last line, how many of these
+were sent to another address than the frame of their flow before.";
 
-/// A file that has to be named.
+/// A file, or another word, that has to be given.
 fn file<'a>(alloc: Global, id: &'a str, help: &'a str) -> Arg<'a>
     ensures rule { rule_of result ≡ line.file_rule id.entry.now }
     ensures local { result.global ≡ false }
@@ -208,18 +213,6 @@ fn number<'a>(alloc: Global, id: &'a str, most: u64, default: &'a str, help: &'a
         .value_name("N")
         .value_parser(ValueParser::unsigned(0, most))
         .default_value(default)
-        .help(help)
-}
-
-/// A number that has to be named, at most `most`.
-fn named_number<'a>(alloc: Global, id: &'a str, most: u64, help: &'a str) -> Arg<'a>
-    ensures rule { rule_of result ≡ line.named_number_rule id.entry.now most }
-    ensures local { result.global ≡ false }
-{
-    Arg::new(alloc, id)
-        .required(true)
-        .action(ArgAction::Set)
-        .value_parser(ValueParser::unsigned(0, most))
         .help(help)
 }
 
@@ -337,8 +330,8 @@ fn explain<'a>(alloc: Global) -> Result<Command<'a>, AllocError>
     ensures app { IfOk result (λ command. app_of command ≡ line.explain_command) }
     ensures local { IfOk result (λ command. (out-Command command).has_globals ≡ false) }
 {
-    let number = named_number(alloc, NUMBER, u32::MAX as u64, "The fault's number");
-    command(alloc, "explain", "Tells what a fault means", AFTER_EXPLAIN).arg(number)
+    let fault = file(alloc, FAULT, "The fault's number or name");
+    command(alloc, "explain", "Tells what a fault means", AFTER_EXPLAIN).arg(fault)
 }
 
 /// A number of 32 bits that may be given.

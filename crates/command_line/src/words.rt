@@ -1,20 +1,23 @@
 //! The command line, read.
 
-ghost use Rattle.std.specs.Prelude.{◌≡◌, ◌≢◌, ◌⊎◌, ◌<◌, ◌+◌, ◌*◌, ◌/◌, List, [], Some, IfOk, IfErr, IsFalse, length, map, codes};
+ghost use Rattle.std.specs.Prelude.{ℕ, ◌≡◌, ◌≢◌, ◌⊎◌, true, MatchOption, ◌<◌, ◌+◌, ◌*◌, ◌/◌, List, [], Some, IfOk, IfErr, IsFalse, length, map, codes};
 ghost use Rattle.std.specs.Str.{bytes_eq};
+ghost use Rattle.faults.specs.Explanations.{is_fault};
+ghost use Rattle.faults.specs.FaultTable.{IsRowOf};
 ghost use Rattle.clap.specs.Kinds.{FailsBy, IsAmong};
 ghost use Rattle.clap.specs.Walk.{first_of, texts};
 ghost use Rattle.map_updates.specs.UpdateWords.{IsWritten, IsMistaken};
 ghost use Rattle.clap.specs.Words.{Row, Text, fault_of, found_of, rows_of, subcommand_of};
 ghost use Rattle.command_line.specs.CommandLine.{program};
 ghost use Rattle.command_line.specs.Reading.{IsReadFrom, IsAsked, IsBadUpdate, IsCommand, IsSwitchOf, AreRunFiles, AreUpdates};
+ghost use Rattle.command_line.specs.Reading.{IsFirstName, IsName, Says, SaysNone, Writes};
 ghost use Rattle.command_line.specs.Reading.{AreReplayFiles, AreReplayOptions, AsksInVain, IsNumberOf, are_both_given, either, kind_in, text_of, word_at};
 ghost use Rattle.command_line.specs.Reading.{word_of, words_of};
 ghost use Rattle.clap.specs.declared.error.kind.ErrorKind.TheVariants.{DisplayHelp, DisplayVersion, OutOfMemory};
 
 use crate::commands::{ReplayFiles, RunFiles, Settings};
 use crate::grammar::{
-    CAPTURE, EXACT, EXPLAIN, FRAME, IMAGE, JOURNAL, JOURNALS, JOURNALS_OUT, NOW, NUMBER, OUT,
+    CAPTURE, EXACT, EXPLAIN, FAULT, FRAME, IMAGE, JOURNAL, JOURNALS, JOURNALS_OUT, NOW, OUT,
     PROGRAM, REPLAY_IMAGE, RING, SCRIPT, SENT, SHARDS, SOURCE, SUMMARY, TEXT, UPDATE, WORKER,
     WORKERS, program,
 };
@@ -34,11 +37,11 @@ const TWO_IMAGES: &str = "error: the options --image and --program cannot be use
 
 /// Why words are no command, or which text they ask for: help or the version.
 #[derive(Debug, Drop)]
-pub enum WordsFault {
+pub enum WordsFault<'a> {
     /// The parser's own answer, whose text is for the user.
     Parser(Error),
-    /// No fault has the number that was asked about.
-    UnknownFault(u32),
+    /// No fault has the number or the name that was asked about.
+    UnknownFault(&'a str),
     /// A replay has both an image and a script.
     Both,
     /// A replay has two images, of `--image` and of `--program`.
@@ -52,8 +55,8 @@ pub enum WordsFault {
 enum Asked<'a> {
     /// A command.
     Command(Settings<'a>),
-    /// What a number means that no fault has.
-    NoSuchFault(u32),
+    /// What a word means that is neither the number nor the name of a fault.
+    NoSuchFault(&'a str),
     /// A replay of both an image and a script.
     ImageAndScript,
     /// A replay of both `--image` and `--program`.
@@ -62,7 +65,7 @@ enum Asked<'a> {
     NoUpdate { place: usize, mistake: Mistake },
 }
 
-impl WordsFault {
+impl WordsFault<'_> {
     /// The status that the program ends with: 0 where help or the version was asked for, 2 for a mistake.
     pub fn status(&self) -> u8
         ensures shown { (kind_in self.now ≡ DisplayHelp) ⊎ (kind_in self.now ≡ DisplayVersion) → result ≡ 0 }
@@ -81,7 +84,7 @@ impl WordsFault {
     pub fn print<R: Print + Eprint>(&self, rt: &R) -> io::Result<()> {
         match self {
             WordsFault::Parser(error) => error.print(rt),
-            WordsFault::UnknownFault(number) => eprintln!(rt; "error: there is no fault {number}"),
+            WordsFault::UnknownFault(word) => eprintln!(rt; "error: there is no fault {word}"),
             WordsFault::Both => eprintln!(rt; "{TOGETHER}"),
             WordsFault::TwoImages => eprintln!(rt; "{TWO_IMAGES}"),
             WordsFault::Update { place, mistake } => {
@@ -92,11 +95,11 @@ impl WordsFault {
     }
 }
 
-impl fmt::Display for WordsFault {
+impl fmt::Display for WordsFault<'_> {
     fn fmt<W: fmt::Write>(&self, f: &mut fmt::Formatter<W>) -> fmt::Result {
         match self {
             WordsFault::Parser(error) => write!(f, "{error}"),
-            WordsFault::UnknownFault(number) => write!(f, "error: there is no fault {number}"),
+            WordsFault::UnknownFault(word) => write!(f, "error: there is no fault {word}"),
             WordsFault::Both => write!(f, "{TOGETHER}"),
             WordsFault::TwoImages => write!(f, "{TWO_IMAGES}"),
             WordsFault::Update { place, mistake } => {
@@ -109,10 +112,10 @@ impl fmt::Display for WordsFault {
 
 /// The command that the words say; the first word is the program's name.
 ///
-/// There is one exactly where the parser finds no fault in the words, and they don't ask what a number means that no fault has, for a
+/// There is one exactly where the parser finds no fault in the words, and they don't ask what a word means that is no fault, for a
 /// replay of both an image and a script or of two images, or for a run with a malformed update. A fault is of the first kind that the
 /// parser finds, or one of these, or memory was refused.
-pub fn settings<'a, S: AsStr>(alloc: Global, words: &'a [S]) -> Result<Settings<'a>, WordsFault>
+pub fn settings<'a, S: AsStr>(alloc: Global, words: &'a [S]) -> Result<Settings<'a>, WordsFault<'a>>
     ensures found { IfOk result (λ settings. (name : Text) × (rows : List Row)
         × (subcommand_of program (map S.text words.entry.now) ≡ Some (name, rows)) × IsReadFrom name rows settings) }
     ensures faultless { IfOk result (λ _. fault_of program (map S.text words.entry.now) ≡ []) }
@@ -122,7 +125,7 @@ pub fn settings<'a, S: AsStr>(alloc: Global, words: &'a [S]) -> Result<Settings<
 {
     match parsed(alloc, words) {
         Ok(Asked::Command(settings)) => Ok(settings),
-        Ok(Asked::NoSuchFault(number)) => Err(WordsFault::UnknownFault(number)),
+        Ok(Asked::NoSuchFault(word)) => Err(WordsFault::UnknownFault(word)),
         Ok(Asked::ImageAndScript) => Err(WordsFault::Both),
         Ok(Asked::ImageAndProgram) => Err(WordsFault::TwoImages),
         Ok(Asked::NoUpdate { place, mistake }) => Err(WordsFault::Update { place, mistake }),
@@ -164,14 +167,64 @@ fn asked_of<'a>(alloc: Global, name: &str, found: &ArgMatches<'a>) -> Asked<'a>
     Asked::Command(command_of(name, found))
 }
 
-/// What is asked of a fault's number.
+/// What is asked of a fault.
 fn explain_of<'a>(found: &ArgMatches<'a>) -> Asked<'a>
     ensures { IsAsked (codes "explain") (rows_of (found_of found.now)) result }
 {
-    let number = number_of(found, NUMBER, 0);
-    match Explanation::of(number) {
+    let word = word(found, FAULT);
+    match fault_said(word) {
         Some(about) => Asked::Command(Settings::Explain { about }),
-        None => Asked::NoSuchFault(number),
+        None => Asked::NoSuchFault(word),
+    }
+}
+
+/// The fault that a word says, by its number or by its name.
+fn fault_said(word: &str) -> Option<Explanation>
+    ensures { MatchOption result (SaysNone word.now) (λ about.
+        Says word.now about.number × IsRowOf about.number about × (is_fault about.number ≡ true)) }
+{
+    match fault_numbered(word) {
+        Some(about) => Some(about),
+        None => fault_named(word),
+    }
+}
+
+/// The fault whose number a word writes.
+fn fault_numbered(word: &str) -> Option<Explanation>
+    ensures { MatchOption result ((number : ℕ) → is_fault number ≡ true → ¬ Writes word.now number) (λ about.
+        Writes word.now about.number × IsRowOf about.number about × (is_fault about.number ≡ true)) }
+{
+    match word.parse::<u32>() {
+        Ok(number) => Explanation::of(number),
+        Err(_) => None,
+    }
+}
+
+/// The fault of this name; of several that with the least number.
+fn fault_named(word: &str) -> Option<Explanation>
+    ensures { MatchOption result ((number : ℕ) → ¬ IsName word.now number) (λ about.
+        IsFirstName word.now about.number × IsRowOf about.number about × (is_fault about.number ≡ true)) }
+{
+    'numbers: for number in 1..96 {
+        if let Some(about) = fault_if_named(number, word) {
+            return Some(about);
+        }
+    }
+    None
+}
+
+/// The fault of this number, where it has this name.
+fn fault_if_named(number: u32, word: &str) -> Option<Explanation>
+    ensures { MatchOption result (¬ IsName word.now number) (λ about. (about.number ≡ number)
+        × IsName word.now number × IsRowOf number about) }
+{
+    match Explanation::of(number) {
+        Some(about) => if about.name == word {
+            Some(about)
+        } else {
+            None
+        },
+        None => None,
     }
 }
 

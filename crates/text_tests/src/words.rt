@@ -101,7 +101,7 @@ fn replay_shown(
 }
 
 #[rattlefmt::skip]
-const READ: [(&str, &str); 31] = [
+const READ: [(&str, &str); 36] = [
     ("xlb check a",                             "check a false"),
     ("xlb check --explain a",                   "check a true"),
     ("xlb check a --explain",                   "check a true"),
@@ -113,6 +113,11 @@ const READ: [(&str, &str); 31] = [
     ("xlb audit a b",                           "audit a b"),
     ("xlb explain 1",                           "explain 1"),
     ("xlb explain +095",                        "explain 95"),
+    ("xlb explain PacketBounds",                "explain 37"),
+    ("xlb explain NotPlainIpv4",                "explain 83"),
+    ("xlb explain Empty",                       "explain 12"),
+    ("xlb explain JournalFull",                 "explain 50"),
+    ("xlb explain Memory",                      "explain 8"),
     ("xlb run a b",                             "run a b 0 0 -"),
     ("xlb run a b --now 5",                     "run a b 5 0 -"),
     ("xlb run --worker=9 a b --now=7",          "run a b 7 9 -"),
@@ -158,7 +163,7 @@ fn reads_commands(rt: HostRuntime) -> Result<(), Fail> {
 
 /// A command line, the status, and what its text begins with.
 #[rattlefmt::skip]
-const REFUSED: [(&str, u8, &str); 47] = [
+const REFUSED: [(&str, u8, &str); 50] = [
     ("xlb",                                     2, "error: 'xlb' requires a subcommand but one was not provided"),
     ("xlb play a b",                            2, "error: unrecognized subcommand 'play'"),
     ("xlb replay a",                            2, "error: the following required arguments were not provided:\n  <SENT>"),
@@ -192,11 +197,14 @@ const REFUSED: [(&str, u8, &str); 47] = [
     ("xlb check a --source",                    2, "error: unexpected argument '--source' found"),
     ("xlb disasm",                              2, "error: the following required arguments were not provided:\n  <IMAGE>"),
     ("xlb audit a",                             2, "error: the following required arguments were not provided:\n  <JOURNALS>"),
-    ("xlb explain",                             2, "error: the following required arguments were not provided:\n  <NUMBER>"),
+    ("xlb explain",                             2, "error: the following required arguments were not provided:\n  <FAULT>"),
     ("xlb explain 0",                           2, "error: there is no fault 0"),
     ("xlb explain 24",                          2, "error: there is no fault 24"),
-    ("xlb explain PacketBounds",                2, "error: invalid value 'PacketBounds' for '<NUMBER>'"),
-    ("xlb explain 4294967296",                  2, "error: invalid value '4294967296' for '<NUMBER>'"),
+    ("xlb explain packetbounds",                2, "error: there is no fault packetbounds"),
+    ("xlb explain PacketBound",                 2, "error: there is no fault PacketBound"),
+    ("xlb explain -1",                          2, "error: unexpected argument '-1' found"),
+    ("xlb explain 8 Memory",                    2, "error: unexpected argument 'Memory' found"),
+    ("xlb explain 4294967296",                  2, "error: there is no fault 4294967296"),
     ("xlb help nosuch",                         2, "error: unrecognized subcommand 'nosuch'"),
     ("xlb asm a",                               2, "error: the following required arguments were not provided:\n  <OUT>"),
     ("xlb shipped",                             2, "error: the following required arguments were not provided:\n  <OUT>"),
@@ -217,7 +225,7 @@ fn told(alloc: Global, line: &str) -> Result<(u8, String), Fail> {
     }
 }
 
-fn text_of(alloc: Global, fault: &WordsFault) -> Result<String, Fail> {
+fn text_of(alloc: Global, fault: &WordsFault<'_>) -> Result<String, Fail> {
     Ok(format!(in alloc; "{fault}")?)
 }
 

@@ -21,7 +21,7 @@ const BAD_WORDS: u8 = 2;
 const NO_MEMORY: &str = "fault 8 Memory";
 
 /// Whether memory was refused while words were read.
-fn lacks_memory(fault: &WordsFault) -> bool {
+fn lacks_memory(fault: &WordsFault<'_>) -> bool {
     match fault {
         WordsFault::Parser(error) => error.kind() == ErrorKind::OutOfMemory,
         WordsFault::Update { mistake, .. } => *mistake == Mistake::Memory,
@@ -41,7 +41,7 @@ fn unread<R: Eprint>(rt: &R, error: &io::Error) -> u8 {
 
 /// Tells why words are no command, or the help or the version that they ask for. Gives the status of the words, whatever the standard error takes; where
 /// the standard output does not take the help or the version, that is fault 7.
-fn tell<R: Print + Eprint>(rt: &R, fault: &WordsFault) -> u8 {
+fn tell<R: Print + Eprint>(rt: &R, fault: &WordsFault<'_>) -> u8 {
     if lacks_memory(fault) {
         let _ = eprintln!(rt; "{NO_MEMORY}");
         return BAD_WORDS;
