@@ -3,13 +3,13 @@ use Rattle.std.specs.Prelude.{reverse}
 use Rattle.atomic_table.specs.Table.{Me}
 use Rattle.semantics.specs.declared.call.Entry.{Entry}
 use Rattle.semantics.specs.History.{IsLegalHistory}
-use Rattle.shard_core.specs.JournaledShard.{JournaledShard}
+use Rattle.shards.specs.Lodged.{Lodged}
 use Rattle.shards.specs.declared.rule.Known.{Known}
 use Rattle.shards.specs.Passes.{no_pass, pass_at, view_at}
 use Rattle.shards.specs.Seats.{view_of}
 use Rattle.semantics.proofs.shared.EachLemmas.{or_within, set_count}
 use Rattle.shards.proofs.Holding.{visitor_same}
-use Rattle.shards.proofs.Settling.{IsShown, shown_more, left_less, callers_stay, others_stay, settled_by}
+use Rattle.shards.proofs.Settling.{IsShown, shown_more, left_less, callers_stay, deeds_stay, others_stay, settled_by}
 use Rattle.shards.proofs.closing.settled.Goals as goal
 
 pub passes-preserved : goal.passes-preserved
@@ -26,7 +26,7 @@ passes-preserved g c =
     let untouched = i.left place (omega arith) in
     let elsewhere = c.see.ensures.elsewhere in
     let same = c.see.ensures.visitor in
-    let seen_is = ap (λ (m : Me JournaledShard Known). (view_of m).seen) same.1 in
+    let seen_is = ap (λ (m : Me Lodged Known). (view_of m).seen) same.1 in
     record {
       end_is = i.end_is;
       count = set_count now place after ∙ i.count;
@@ -37,6 +37,7 @@ passes-preserved g c =
           (shown_more old now number place (view_of c.passes.guest.me).seen before after below is untouched elsewhere (record { own = c.see.ensures.own; begins = c.see.ensures.begins }) i.shown);
       left = left_less old now number place before after below is untouched elsewhere i.left;
       callers = callers_stay old now number place before after below is untouched elsewhere i.callers;
+      deeds = deeds_stay old now number place before after below is untouched elsewhere c.see.ensures.did i.deeds;
       others = others_stay old now number place before after below is untouched elsewhere i.others;
     }
 
@@ -53,3 +54,4 @@ returns-clause-legal g c =
     let written : reverse c.written.result ≡ (view_of c.passes.guest.me).seen =
     ap (λ (j : List Entry). reverse j) (c.written.ensures ∙ c.into_journal.ensures.entries) ∙ c.close.ensures.written in
     subst (IsLegalHistory (g.B.Naming.plan c.args.number)) (sym written) i.legal
+

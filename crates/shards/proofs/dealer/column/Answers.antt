@@ -38,7 +38,7 @@ into_seat-seat-requires c =
     let badge_is : c.take.result ≡ badge_at (row_at old number) c.args.place =
     c.take.ensures.badge ∙ ap (λ (r : List (Badge Known)). badge_at r c.args.place) (row_there c.rows.rows.items number c.index_mut.result.now below c.index_mut.ensures.value ∙ i.left number (omega arith)) in
     let new = c.requires.new number there in
-    (pass_of new.plan new.who [] [], ap (λ (b : Badge Known). b.views) badge_is ∙ new.fresh)
+    (pass_of new.key new.who [] [], ap (λ (b : Badge Known). b.views) badge_is ∙ new.fresh)
 
 pub new-requires-clause-seat : goal.new-requires-clause-seat
 new-requires-clause-seat c =

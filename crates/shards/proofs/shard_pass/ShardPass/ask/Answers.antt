@@ -18,14 +18,14 @@ add-answer-requires-clause-seat g c =
 pub keep-requires : goal.keep-requires
 keep-requires g c =
     let a = c.add-answer.ensures in (
-      c.self.inside.seat.me.0.plan.number,
+      c.self.inside.seat.me.0.key.plan.number,
       asked_room c.args.who (g.C.Ask.asks c.args.ask) g.C.Ask.replies c.self.inside.seat c.add-answer.new.seat c.self.inside.inside c.self.inside.held c.self.invariant
           (ap (λ (v : ShardPassView). v.who) c.self.view_is ∙ c.requires.who) a.taken a.same a.legal c.add-answer.result a.next a.full a.unchanged a.few,
     )
 
 pub invariant_of-self : goal.invariant_of-self
 invariant_of-self g c =
-    let n = c.self.inside.seat.me.0.plan.number in
+    let n = c.self.inside.seat.me.0.key.plan.number in
     let a = c.add-answer.ensures in
     subst (λ (x : Bool × HeldIds). IsShardPass c.add-answer.new.seat x.0 x.1)
     (λ i. (sym (c.change.ensures ∙ ap (λ (s : SectionChange). flag_after c.add-answer.result s c.self.inside.inside) (c.section.ensures n)) i, sym (c.keep.ensures n) i))

@@ -6,6 +6,7 @@ use Rattle.journals.specs.JournalsView.{JournalsView, entries_at}
 use Rattle.shards.specs.CallerView.{IsSettled}
 use Rattle.shards.specs.Passes.{pass_at, view_at}
 use Rattle.semantics.specs.Each.{Each}
+use Rattle.shards.specs.Lodged.{keyed}
 use Rattle.shards.specs.Seats.{IsLockOf}
 use Rattle.semantics.proofs.shared.EachLemmas.{each_first, each_rest}
 use Rattle.shards.proofs.Settling.{legal_more, settled_more, untouched_less}
@@ -15,7 +16,7 @@ pub settled-journal-requires-clause-lock : goal.settled-journal-requires-clause-
 settled-journal-requires-clause-lock g c =
     let i = c.shards.invariant in
     let some_left : 0 < length c.shards.locks.items = (let t = i.together in let e = c.shards-test.true in omega (arith, t, e)) in
-    each_first (λ n lock. IsLockOf (g.B.Naming.table n) (g.B.Naming.plan n) lock) c.shards.number c.shards.locks.items c.remove.result i.left some_left c.remove.ensures.value
+    each_first (λ n lock. IsLockOf (g.B.Naming.table n) (keyed (g.B.Naming.plan n) g.B.Naming.order) lock) c.shards.number c.shards.locks.items c.remove.result i.left some_left c.remove.ensures.value
 
 pub shards-preserved : goal.shards-preserved
 shards-preserved g c =
@@ -32,8 +33,8 @@ shards-preserved g c =
       count_is = i.count_is;
       together = (let t = i.together in let shorter = c.remove.ensures.len in let a = c.shards.locks.ok.0 in let b = c.remove.new.self.ok.0 in let e = c.shards-test.true in omega (arith, t, shorter, a, b, e));
       small = i.small;
-      left = subst (λ xs. Each (λ n lock. IsLockOf (g.B.Naming.table n) (g.B.Naming.plan n) lock) (number + 1) xs) (sym c.remove.ensures.items)
-          (each_rest (λ n lock. IsLockOf (g.B.Naming.table n) (g.B.Naming.plan n) lock) number c.shards.locks.items i.left);
+      left = subst (λ xs. Each (λ n lock. IsLockOf (g.B.Naming.table n) (keyed (g.B.Naming.plan n) g.B.Naming.order) lock) (number + 1) xs) (sym c.remove.ensures.items)
+          (each_rest (λ n lock. IsLockOf (g.B.Naming.table n) (keyed (g.B.Naming.plan n) g.B.Naming.order) lock) number c.shards.locks.items i.left);
       maps = i.maps;
       options = i.options;
       maps_are = i.maps_are;

@@ -6,6 +6,7 @@ use Rattle.semantics.specs.History.{IsLegalJournal}
 use Rattle.journals.specs.JournalsView.{AreImageMaps}
 use Rattle.shards.specs.CallerView.{IsSettled}
 use Rattle.shards.specs.Passes.{pass_at, view_at}
+use Rattle.shards.specs.Lodged.{keyed}
 use Rattle.shards.specs.Seats.{IsLockOf}
 use Rattle.shards.proofs.sharing.Shards.close.Given as goal
 
@@ -13,7 +14,7 @@ pub record Closed (g : goal.Over) (l : goal.Live-shards g) : Type 0 where
   pub count_is : l.count ≡ g.B.Naming.count
   pub together : l.number + length l.locks.items ≡ l.count
   pub small : l.count ≤ 128
-  pub left : Each (λ number lock. IsLockOf (g.B.Naming.table number) (g.B.Naming.plan number) lock) l.number l.locks.items
+  pub left : Each (λ number lock. IsLockOf (g.B.Naming.table number) (keyed (g.B.Naming.plan number) g.B.Naming.order) lock) l.number l.locks.items
   pub maps : l.maps.items ≡ l.fn.self.maps
   pub options : l.options ≡ l.fn.self.options
   pub maps_are : AreImageMaps l.maps.items
