@@ -17,6 +17,7 @@ pub mod OrderMoves
 pub mod OrderOpening
 pub mod OrderPlans
 pub mod OrderClosing
+pub mod OrderShards
 pub mod Openings
 pub mod Names
 pub mod Transport

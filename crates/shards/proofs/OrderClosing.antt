@@ -3,6 +3,7 @@ use Rattle.std.proofs.Common.{◌≡◌, ◌≢◌, ◌⊎◌, ℕ, zero, suc, �
 use Rattle.std.specs.Prelude.{reverse, slice_index_or}
 use Rattle.std.proofs.lemmas.List.{reverse-reverse}
 use Rattle.atomic_table.specs.Table.{Me}
+use Rattle.atomic_table.specs.declared.badge.Badge.{Badge}
 use Rattle.semantics.specs.declared.call.Call.{Call}
 use Rattle.semantics.specs.declared.call.Caller.{Caller}
 use Rattle.semantics.specs.declared.call.Entry.{Entry}
@@ -16,10 +17,10 @@ use Rattle.shards.specs.declared.deeds.Part.TheVariants.{OnShard, ByCaller}
 use Rattle.shards.specs.declared.deeds.Account.{Account}
 use Rattle.shards.specs.Deeds.{shard_of_deed, entries_made, made_on, deeds_of, AreMet, AreWithin}
 use Rattle.shards.specs.ClosedOrders.{HasGathered, IsOneOrder, account_of}
-use Rattle.shards.specs.OrderRule.{account, deeds_in, plan_in, with_first, HasAccount, IsEnd}
+use Rattle.shards.specs.OrderRule.{account, deeds_at, deeds_in, plan_in, with_first, HasAccount, IsEnd}
 use Rattle.shards.specs.Passes.{PassView, pass_at}
 use Rattle.shards.proofs.Settling.{same_or_other}
-use Rattle.shards.proofs.OrderMoves.{made_by_deeds}
+use Rattle.shards.proofs.OrderMoves.{made_by_deeds, view_there, sits_so}
 use Rattle.semantics.proofs.shared.EachLemmas.{or_push_here, or_push_else}
 
 -- the account of the shard of this number, whose entries are the journal
@@ -55,6 +56,19 @@ pub gathered : {S : Type 0} (before after other : Me S (List Account)) (part : P
     other ≡ (account part (deeds_in other.0) ∷ [], []) → deeds_in other.0 ≡ deeds → after ≡ (account part deeds ∷ before.0, before.1)
 gathered {S} before after other part deeds both is same =
     both ∙ ap (λ (m : Me S (List Account)). (with_first before.0 m.0, before.1)) is ∙ ap (λ (l : List Deed). (account part l ∷ before.0, before.1)) same
+
+-- one more caller's
+pub callers_more : (passes : List PassView) (number : ℕ) (pass : PassView) (before after : List Account) → pass ≡ pass_at passes number → after ≡ account_of pass ∷ before →
+    ((place : ℕ) → place < number → HasAccount (account_of (pass_at passes place)) before) → (place : ℕ) → place < number + 1 → HasAccount (account_of (pass_at passes place)) after
+callers_more passes number pass before after first is were place within = subst (λ (l : List Account). HasAccount (account_of (pass_at passes place)) l) (sym is) (⊎_elim
+    (λ (here : place ≡ number). inl (ap account_of (first ∙ ap (λ (n : ℕ). pass_at passes n) (sym here))))
+    (λ (apart : place ≢ number). inr (were place (omega (arith, within, apart)))) (same_or_other place number))
+
+-- the seat of a place
+pub seat_of_place : {S : Type 0} (place : Badge (List Account)) (me : Me S (List Account)) (part : Part) → place.views ≡ (account part (deeds_at place) ∷ []) ∷ [] → place.views ≡ me.0 ∷ [] → me.1 ≡ [] →
+    (me ≡ (account part (deeds_in me.0) ∷ [], [])) × (deeds_in me.0 ≡ deeds_at place)
+seat_of_place {S} place me part rests is empty =
+    let there : me.0 ≡ account part (deeds_at place) ∷ [] = view_there place me.0 part is rests in sits_so me part (deeds_at place) (λ i. (there i, empty i))
 
 -- plans that agree on the shards
 met_alike : (plan other : ℕ → ShardPlan) (count : ℕ) → ((number : ℕ) → number < count → plan number ≡ other number) → (deeds : List Deed) → AreWithin count deeds → AreMet plan deeds → AreMet other deeds

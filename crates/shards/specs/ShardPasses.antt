@@ -51,4 +51,5 @@ pub record IsShardPass (seat : Seat Lodged Known) (inside : Bool) (held : HeldId
 pub record IsSameShard (before after : ShardPassView) : Type 0 where
   pub table : after.table ≡ before.table
   pub key : after.key ≡ before.key
+  pub plan : after.key.plan ≡ before.key.plan
   pub who : after.who ≡ before.who

@@ -251,9 +251,9 @@ impl<B: Naming> Shards<B> {
     }
 
     /// The order, which knows the shard of this number.
-    fn order_at(&self, _shard: u32) -> &Order
-        requires { _shard < B.count }
-        ensures { KnowsShard (keyed (B.plan _shard) B.order) result.now }
+    fn order_at(&self, shard: u32) -> &Order
+        requires { shard < B.count }
+        ensures { KnowsShard (keyed (B.plan shard) B.order) result.now }
     {
         &self.order
     }

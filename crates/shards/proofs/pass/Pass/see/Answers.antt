@@ -54,3 +54,6 @@ returns-clause-own g c =
 pub returns-clause-begins : goal.returns-clause-begins
 returns-clause-begins g c =
     subst (λ (v : CallerView). BeginsWith (view_of c.args.guest.now.me).seen v.seen) (before_is g.B.Naming.table (keys g.B.Naming.plan g.B.Naming.order) g.B.Naming.count c.self.inside.who c.self.inside.parts.items (deeds_in c.self.inside.seat.me.0) (deeds_in c.self.inside.seat.me.0) c.args.self.now c.args.number c.index_mut.result.now c.see.new.self c.self.invariant.0 c.self.view_is c.requires.number c.index_mut.ensures.value) c.see.ensures.begins
+
+pub returns-clause-did : goal.returns-clause-did
+returns-clause-did g c = ap (λ (p : PassView). p.deeds) c.self.view_is
