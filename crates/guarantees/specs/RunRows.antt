@@ -21,7 +21,7 @@ row_setting = setting_over Array first_path
 
 -- a pass of worker 0 which has these entries on shard 0, the newest first
 abbrev pub pass_with : List Entry → PassView
-pass_with entries = record { who = Worker 0; views = (record { seen = entries; own = entries }) ∷ [] }
+pass_with entries = record { who = Worker 0; views = (record { seen = entries; own = entries }) ∷ []; deeds = [] }
 
 abbrev pub lookup_entry : Entry
 lookup_entry = by_worker (Lookup 0 (key_of 0)) (Cell (cell_at 0))
@@ -51,7 +51,7 @@ abbrev pub full_history : List Entry
 full_history = replicate 15 (by_controller (Update 0 (key_of 0) (value_of 5) 0) (Answer (pos 0)))
 
 abbrev pub pass_that_saw : List Entry → PassView
-pass_that_saw entries = record { who = Worker 0; views = (record { seen = entries; own = [] }) ∷ [] }
+pass_that_saw entries = record { who = Worker 0; views = (record { seen = entries; own = [] }) ∷ []; deeds = [] }
 
 pub record RunRows : Type 0 where
   -- on a frame that ends with byte 3 the run sends it

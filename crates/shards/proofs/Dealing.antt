@@ -25,7 +25,7 @@ abbrev first_known : List Known → Known
 first_known [] = nobody
 first_known (v ∷ vs) = v
 
-caller_is : (who : Caller) → caller_at (place_of who) ≡ who
+pub caller_is : (who : Caller) → caller_at (place_of who) ≡ who
 caller_is (Worker number) = refl
 caller_is Controller = refl
 caller_is Reclaimer = refl

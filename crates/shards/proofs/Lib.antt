@@ -18,6 +18,7 @@ pub mod OrderOpening
 pub mod OrderPlans
 pub mod OrderClosing
 pub mod OrderShards
+pub mod OrderDealing
 pub mod Openings
 pub mod Names
 pub mod Transport

@@ -250,7 +250,7 @@ impl<B: Naming> Shards<B> {
         &self.locks[shard as usize]
     }
 
-    /// The order, which knows the shard of this number.
+    /// The order of all deeds, which knows the shard of this number.
     fn order_at(&self, shard: u32) -> &Order
         requires { shard < B.count }
         ensures { KnowsShard (keyed (B.plan shard) B.order) result.now }
