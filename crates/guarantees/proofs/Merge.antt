@@ -44,7 +44,7 @@ put_other worker other moves rest apart = ap (λ (test : Bool). cond test moves 
 entries_append : (first second : List Deed) → entries_made (first ++ second) ≡ entries_made first ++ entries_made second
 entries_append [] second = refl
 entries_append (Wrote entry ∷ first) second = ap (λ (list : List Entry). entry ∷ list) (entries_append first second)
-entries_append (MetFull worker call ∷ first) second = entries_append first second
+entries_append (MetFull who call ∷ first) second = entries_append first second
 
 made_append : (number : ℕ) (first second : List Deed) → made_on number (first ++ second) ≡ made_on number first ++ made_on number second
 made_append number first second =
@@ -201,11 +201,11 @@ after_entry count earlier system after entry shards within histories same number
     ∙ sym (made_append number earlier (Wrote entry ∷ []))))
     (cases_eq number shard)
 
-after_look : (count : ℕ) (earlier : List Deed) (system after : SystemState) (worker : ℕ) (call : Call) → HaveHistories count earlier system →
-    after.histories ≡ system.histories → HaveHistories count (earlier ++ MetFull worker call ∷ []) after
-after_look count earlier system after worker call histories same number below =
+after_look : (count : ℕ) (earlier : List Deed) (system after : SystemState) (who : Caller) (call : Call) → HaveHistories count earlier system →
+    after.histories ≡ system.histories → HaveHistories count (earlier ++ MetFull who call ∷ []) after
+after_look count earlier system after who call histories same number below =
     ap (λ list. slice_index_or list number []) same ∙ histories number below
-    ∙ ap reverse (sym (append-nil (made_on number earlier)) ∙ sym (made_append number earlier (MetFull worker call ∷ [])))
+    ∙ ap reverse (sym (append-nil (made_on number earlier)) ∙ sym (made_append number earlier (MetFull who call ∷ [])))
 
 -- ---- a worker's deed
 
@@ -397,23 +397,51 @@ wrote setting plan count journal moves deeds earlier later entry system rest ord
 
 met_full : (setting : Setting) (plan : ℕ → ShardPlan) (count : ℕ) (journal : ℕ → List Entry) (moves : ℕ → List Move) (deeds earlier later : List Deed)
     (worker : ℕ) (call : Call) (system : SystemState) (rest : ℕ → List Move) → IsOneOrder setting plan count journal moves deeds →
-    Stands setting count deeds earlier (MetFull worker call ∷ later) system rest →
-    MergesFrom setting count deeds (earlier ++ MetFull worker call ∷ []) later → Merged setting count deeds system rest
+    Stands setting count deeds earlier (MetFull (Worker worker) call ∷ later) system rest →
+    MergesFrom setting count deeds (earlier ++ MetFull (Worker worker) call ∷ []) later → Merged setting count deeds system rest
 met_full setting plan count journal moves deeds earlier later worker call system rest order stands onward =
     let shard : ℕ = shard_of_call call in
     let same : (worker == worker) ≡ true = grind (arith, nat_tests) in
     let known : plan_at setting.maps setting.options shard ≡ Some (plan shard) = order.plans shard stands.within.0 in
     let history : history_of system (plan shard).number ≡ reverse (made_on shard earlier) =
     ap (history_of system) (numbered setting shard (plan shard) known) ∙ stands.histories shard stands.within.0 in
-    by_worker setting count worker deeds earlier later (MetFull worker call) (Refused call) system rest order.options.at_most_eight stands refl same
+    by_worker setting count worker deeds earlier later (MetFull (Worker worker) call) (Refused call) system rest order.options.at_most_eight stands refl same
     (λ other apart. ne_eqb worker other (λ same. apart (sym same)))
     (record {
       plan = plan shard;
       known = known;
-      full = subst (λ (list : List Entry). IsJournalFull (plan shard) list call) (sym history) (order.full earlier later worker call stands.split);
+      full = subst (λ (list : List Entry). IsJournalFull (plan shard) list call) (sym history) (order.full earlier later (Worker worker) call stands.split);
     })
-    (λ after same. after_look count earlier system after worker call stands.histories same)
+    (λ after same. after_look count earlier system after (Worker worker) call stands.histories same)
     onward
+
+-- who is no worker has no moves
+met_by_nobody : (setting : Setting) (plan : ℕ → ShardPlan) (count : ℕ) (journal : ℕ → List Entry) (moves : ℕ → List Move) (deeds earlier later : List Deed)
+    (who : Caller) (call : Call) (system : SystemState) (rest : ℕ → List Move) → Stands setting count deeds earlier (MetFull who call ∷ later) system rest →
+    ((worker : ℕ) → is_worker worker who ≡ false) → MergesFrom setting count deeds (earlier ++ MetFull who call ∷ []) later → Merged setting count deeds system rest
+met_by_nobody setting plan count journal moves deeds earlier later who call system rest stands not_theirs onward =
+    onward system rest
+    (record {
+      split = stands.split ∙ sym (append_assoc earlier (MetFull who call ∷ []) later);
+      within = stands.within.1;
+      eight = stands.eight;
+      shards = stands.shards;
+      histories = after_look count earlier system system who call stands.histories refl;
+      steps = stands.steps;
+      own = λ worker. stands.own worker
+          ∙ ap (λ (test : Bool). cond test (MetFull who call ∷ filter (is_deed_of worker) later) (filter (is_deed_of worker) later)) (not_theirs worker);
+    })
+
+met : (setting : Setting) (plan : ℕ → ShardPlan) (count : ℕ) (journal : ℕ → List Entry) (moves : ℕ → List Move) (deeds earlier later : List Deed)
+    (who : Caller) (call : Call) (system : SystemState) (rest : ℕ → List Move) → IsOneOrder setting plan count journal moves deeds →
+    Stands setting count deeds earlier (MetFull who call ∷ later) system rest →
+    MergesFrom setting count deeds (earlier ++ MetFull who call ∷ []) later → Merged setting count deeds system rest
+met setting plan count journal moves deeds earlier later (Worker worker) call system rest order stands onward =
+    met_full setting plan count journal moves deeds earlier later worker call system rest order stands onward
+met setting plan count journal moves deeds earlier later Controller call system rest order stands onward =
+    met_by_nobody setting plan count journal moves deeds earlier later Controller call system rest stands (λ worker. refl) onward
+met setting plan count journal moves deeds earlier later Reclaimer call system rest order stands onward =
+    met_by_nobody setting plan count journal moves deeds earlier later Reclaimer call system rest stands (λ worker. refl) onward
 
 merge : (setting : Setting) (plan : ℕ → ShardPlan) (count : ℕ) (journal : ℕ → List Entry) (moves : ℕ → List Move) (deeds : List Deed) →
     IsOneOrder setting plan count journal moves deeds → (later earlier : List Deed) → MergesFrom setting count deeds earlier later
@@ -425,9 +453,9 @@ merge setting plan count journal moves deeds order [] earlier system rest stands
 merge setting plan count journal moves deeds order (Wrote entry ∷ later) earlier system rest stands =
     wrote setting plan count journal moves deeds earlier later entry system rest order stands
     (merge setting plan count journal moves deeds order later (earlier ++ Wrote entry ∷ [])) entry.who refl
-merge setting plan count journal moves deeds order (MetFull worker call ∷ later) earlier system rest stands =
-    met_full setting plan count journal moves deeds earlier later worker call system rest order stands
-    (merge setting plan count journal moves deeds order later (earlier ++ MetFull worker call ∷ []))
+merge setting plan count journal moves deeds order (MetFull who call ∷ later) earlier system rest stands =
+    met setting plan count journal moves deeds earlier later who call system rest order stands
+    (merge setting plan count journal moves deeds order later (earlier ++ MetFull who call ∷ []))
 
 -- ---- from the opening on
 

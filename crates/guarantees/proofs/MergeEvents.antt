@@ -8,6 +8,7 @@ use Rattle.semantics.specs.System.{Setting, SystemState, SystemEvent, BeginsRun,
 use Rattle.semantics.proofs.shared.SystemSteps.{state_there, state_elsewhere}
 use Rattle.guarantees.specs.Steps.{Asked, Nothing, Writes, Refused, Move, IsStep, RunBegins, RunGoesOn, RunEnds, CallIsServed, ShardIsEntered, CallIsRefused, EnterIsRefused, ShardIsLeft, AreSteps}
 use Rattle.guarantees.specs.Moves.{IsMove, IsAskedSo, after_asked, is_event_of}
+use Rattle.semantics.specs.declared.call.Caller.TheVariants.{Worker}
 use Rattle.guarantees.specs.Merging.{Deed, Wrote, MetFull, deeds_asked, deeds_in, events_of}
 use Rattle.guarantees.proofs.MoveLemmas.{steps_are_moves}
 
@@ -114,12 +115,12 @@ same_asked worker (Writes entry) Nothing deed is also = absurd cc
 same_asked worker (Writes entry) (Writes another) deed is also =
     let first : Wrote entry ≡ deed = cc in let second : Wrote another ≡ deed = cc in let same : entry ≡ another = cc in ap Writes same
 same_asked worker (Writes entry) (Refused call) deed is also =
-    let first : Wrote entry ≡ deed = cc in let second : MetFull worker call ≡ deed = cc in absurd cc
+    let first : Wrote entry ≡ deed = cc in let second : MetFull (Worker worker) call ≡ deed = cc in absurd cc
 same_asked worker (Refused call) Nothing deed is also = absurd cc
 same_asked worker (Refused call) (Writes entry) deed is also =
-    let first : MetFull worker call ≡ deed = cc in let second : Wrote entry ≡ deed = cc in absurd cc
+    let first : MetFull (Worker worker) call ≡ deed = cc in let second : Wrote entry ≡ deed = cc in absurd cc
 same_asked worker (Refused call) (Refused another) deed is also =
-    let first : MetFull worker call ≡ deed = cc in let second : MetFull worker another ≡ deed = cc in let same : call ≡ another = cc in
+    let first : MetFull (Worker worker) call ≡ deed = cc in let second : MetFull (Worker worker) another ≡ deed = cc in let same : call ≡ another = cc in
     ap Refused same
 
 -- ---- up to a worker's next deed
@@ -217,9 +218,9 @@ advance_by setting count worker asked deed later move moves before onward few on
     (is ∙ same_asked worker (Writes entry) asked deed (ap (λ (one : Deed). one ∷ []) same) one) few
     (steps_are_moves setting count worker (worker_state before worker) move steps.0 steps.1) asks steps.2 rest
 advance_by setting count worker asked deed later move moves before onward few one asks made steps (Refused call) is =
-    let all : MetFull worker call ∷ deeds_in worker moves ≡ deed ∷ later =
+    let all : MetFull (Worker worker) call ∷ deeds_in worker moves ≡ deed ∷ later =
     ap (λ (own : Asked). deeds_asked worker own ++ deeds_in worker moves) (sym is) ∙ made in
-    let same : MetFull worker call ≡ deed = cc in
+    let same : MetFull (Worker worker) call ≡ deed = cc in
     let rest : deeds_in worker moves ≡ later = cc in
     the_deed setting count worker before move moves asked later steps.0
     (is ∙ same_asked worker (Refused call) asked deed (ap (λ (one : Deed). one ∷ []) same) one) few
@@ -276,7 +277,7 @@ out_by setting count worker move moves before onward few none steps (Writes entr
     let some : Wrote entry ∷ deeds_in worker moves ≡ [] = ap (λ (own : Asked). deeds_asked worker own ++ deeds_in worker moves) (sym is) ∙ none in
     absurd cc
 out_by setting count worker move moves before onward few none steps (Refused call) is =
-    let some : MetFull worker call ∷ deeds_in worker moves ≡ [] =
+    let some : MetFull (Worker worker) call ∷ deeds_in worker moves ≡ [] =
     ap (λ (own : Asked). deeds_asked worker own ++ deeds_in worker moves) (sym is) ∙ none in
     absurd cc
 

@@ -87,7 +87,7 @@ all_entries worker (move ∷ moves) = entries_are worker move.asked (deeds_in wo
 
 abbrev IsWritten : Deed → Type 0
 IsWritten (Wrote entry) = Unit {0}
-IsWritten (MetFull worker call) = ⊥
+IsWritten (MetFull who call) = ⊥
 
 asked_writes : (worker : ℕ) (asked : Asked) → IsFalse (is_refusal asked) → AllByRecursion IsWritten (deeds_asked worker asked)
 asked_writes worker Nothing none = tt
@@ -99,9 +99,9 @@ all_written worker [] none = tt
 all_written worker (move ∷ moves) none =
     all_both IsWritten (deeds_asked worker move.asked) (deeds_in worker moves) (asked_writes worker move.asked none.0) (all_written worker moves none.1)
 
-no_look : (earlier later : List Deed) (worker : ℕ) (call : Call) → AllByRecursion IsWritten (earlier ++ MetFull worker call ∷ later) → ⊥
-no_look [] later worker call all = all.0
-no_look (deed ∷ earlier) later worker call all = no_look earlier later worker call all.1
+no_look : (earlier later : List Deed) (who : Caller) (call : Call) → AllByRecursion IsWritten (earlier ++ MetFull who call ∷ later) → ⊥
+no_look [] later who call all = all.0
+no_look (deed ∷ earlier) later who call all = no_look earlier later who call all.1
 
 -- ---- whose caller is the worker is not another's
 

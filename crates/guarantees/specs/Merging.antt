@@ -2,7 +2,8 @@
 use Rattle.std.specs.Prelude.{◌≡◌, ℕ, ◌<◌, ◌*◌, ◌==◌, ◌^◌, Bool, true, false, List, [], ◌∷◌, ◌++◌}
 use Rattle.std.specs.Prelude.{length, reverse, filter, map, Some, if◌then◌else◌, IsFalse}
 use Rattle.std.specs.List.{AllByRecursion}
-use Rattle.semantics.specs.declared.call.Caller.TheVariants.{Controller}
+use Rattle.semantics.specs.declared.call.Caller.{Caller}
+use Rattle.semantics.specs.declared.call.Caller.TheVariants.{Worker, Controller}
 use Rattle.semantics.specs.declared.call.Call.{Call}
 use Rattle.semantics.specs.declared.verdict.Verdict.{Verdict}
 use Rattle.semantics.specs.MachineState.{MachineState, initial_state}
@@ -17,29 +18,21 @@ use Rattle.semantics.specs.Reclamation.{is_worker}
 use Rattle.semantics.specs.History.{shard_of_call, IsJournalFull, IsLegalJournal}
 use Rattle.semantics.specs.System.{Setting, program_of, IsInputFrame, input_frame, SystemEvent, Idle}
 use Rattle.semantics.specs.System.{worker_state, history_of, system_after, CanAllHappen}
+pub use Rattle.shards.specs.declared.deeds.Deed.{Deed}
+pub use Rattle.shards.specs.declared.deeds.Deed.TheVariants.{Wrote, MetFull}
+pub use Rattle.shards.specs.Deeds.{shard_of_deed, caller_of_deed, entries_made, made_on}
 use Rattle.guarantees.specs.Steps.{Asked, Nothing, Writes, Refused, Move, AreSteps, is_of_shard, entries_on, begins}
 use Rattle.guarantees.specs.Moves.{is_event_of}
 
--- what a caller did on a shard
-pub data Deed : Type 0 where
-  -- it made this entry
-  Wrote : (entry : Entry) → Deed
-  -- it is a worker, and its call met a full journal
-  MetFull : (worker : ℕ) → (call : Call) → Deed
-
-abbrev pub shard_of_deed : Deed → ℕ
-shard_of_deed (Wrote entry) = shard_of_call entry.call
-shard_of_deed (MetFull worker call) = shard_of_call call
-
+-- it is a worker's
 abbrev pub is_deed_of : ℕ → Deed → Bool
-is_deed_of worker (Wrote entry) = is_worker worker entry.who
-is_deed_of worker (MetFull one call) = one == worker
+is_deed_of worker deed = is_worker worker (caller_of_deed deed)
 
 -- what a worker's moves do on shards, in order
 abbrev pub deeds_asked : ℕ → Asked → List Deed
 deeds_asked worker Nothing = []
 deeds_asked worker (Writes entry) = Wrote entry ∷ []
-deeds_asked worker (Refused call) = MetFull worker call ∷ []
+deeds_asked worker (Refused call) = MetFull (Worker worker) call ∷ []
 
 abbrev pub is_refusal : Asked → Bool
 is_refusal (Refused call) = true
@@ -49,19 +42,10 @@ abbrev pub deeds_in : ℕ → List Move → List Deed
 deeds_in worker [] = []
 deeds_in worker (move ∷ later) = deeds_asked worker move.asked ++ deeds_in worker later
 
--- the entries of deeds, in order, and those on the shard of a number
-abbrev pub entries_made : List Deed → List Entry
-entries_made [] = []
-entries_made (Wrote entry ∷ later) = entry ∷ entries_made later
-entries_made (MetFull worker call ∷ later) = entries_made later
-
-abbrev pub made_on : ℕ → List Deed → List Entry
-made_on number deeds = filter (is_of_shard number) (entries_made deeds)
-
 -- each deed of a full journal met one: after the entries that stand before it in the order
 abbrev pub MeetFullJournals : (ℕ → ShardPlan) → List Deed → Type 0
 MeetFullJournals plan deeds =
-    (earlier later : List Deed) (worker : ℕ) (call : Call) → deeds ≡ earlier ++ MetFull worker call ∷ later →
+    (earlier later : List Deed) (who : Caller) (call : Call) → deeds ≡ earlier ++ MetFull who call ∷ later →
     IsJournalFull (plan (shard_of_call call)) (reverse (made_on (shard_of_call call) earlier)) call
 
 -- The deeds of all callers in one order. Shard by shard they are its journal, which is legal; caller by caller they are what its own

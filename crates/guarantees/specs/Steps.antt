@@ -1,4 +1,5 @@
 -- The steps of one worker: each way in which it can go on, what that needs, what it asks of a shard, and where the worker then is.
+pub use Rattle.shards.specs.Deeds.{is_of_shard}
 use Rattle.std.specs.Prelude.{◌≡◌, ℕ, ◌<◌, ◌^◌, ◌==◌, Bool, true, false, List, [], ◌∷◌, ◌++◌, filter, map}
 use Rattle.semantics.specs.declared.call.Call.{Call}
 use Rattle.semantics.specs.declared.call.Call.TheVariants.{Enter}
@@ -125,8 +126,5 @@ entries_in [] = []
 entries_in (move ∷ later) = entries_asked move.asked ++ entries_in later
 
 -- those on the shard of this number
-abbrev pub is_of_shard : ℕ → Entry → Bool
-is_of_shard number entry = shard_of_call entry.call == number
-
 abbrev pub entries_on : ℕ → List Move → List Entry
 entries_on number moves = filter (is_of_shard number) (entries_in moves)

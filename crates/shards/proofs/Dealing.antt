@@ -72,7 +72,7 @@ module _ (table : ℕ → TableId) (key : ℕ → KeyedPlan) (count : ℕ) (room
       each = λ number less.
           let below : number < length rows = (let sized = dealer.sized in omega (arith, sized, less)) in
           subst (IsPartOf (table number) (key number) who) (sym (part_is number below))
-          (record { table_is = (new_at_seat number below).table_is; plan_is = refl; caller = refl; alone = refl });
+          (record { table_is = (new_at_seat number below).table_is; key_is = refl; caller = refl; alone = refl });
     }
 
 pub rest_of_rows : (table : ℕ → TableId) (key : ℕ → KeyedPlan) (count : ℕ) (rooms : List ℕ) (dealt : List Bool) (rows rows' : List (List (Badge Known))) (place : ℕ) →

@@ -64,7 +64,8 @@ impl Opened {
         let shards = PlainShards::open(alloc, image, options)?.into_list();
         let maps = copied(alloc, image.maps())?;
         let callers = options.workers as usize + 2;
-        let (order, seats, places) = open_order(alloc, plans_of(alloc, &shards)?, callers)?;
+        let plans = plans_of(alloc, &shards)?;
+        let (order, seats, places) = open_order(alloc, plans, callers)?;
         let shards = new_shards(alloc, &order, shards, seats, callers)?;
         Ok(Opened {
             shards,

@@ -1,4 +1,4 @@
-use Rattle.std.proofs.Common.{◌≡◌, ◌+◌, ◌≤◌, ℕ, length}
+use Rattle.std.proofs.Common.{◌≡◌, ◌+◌, ◌≤◌, ℕ, List, length}
 use Rattle.std.specs.Prelude.{vec_capacity}
 use Rattle.shard_core.specs.JournaledShard.{JournaledShard}
 use Rattle.semantics.specs.Each.{Each}

@@ -1,4 +1,4 @@
-use Rattle.std.proofs.Common.{◌≡◌, ◌<◌, ◌+◌, ℕ, List, [], ◌∷◌, length, length-append, sym, ap, ◌∙◌, subst, arith}
+use Rattle.std.proofs.Common.{◌≡◌, ◌<◌, ◌+◌, ℕ, List, [], ◌∷◌, length, length-append, refl, sym, ap, ◌∙◌, subst, arith}
 use Rattle.semantics.specs.declared.plan.ShardPlan.{ShardPlan}
 use Rattle.semantics.specs.Each.{Each}
 use Rattle.shard_core.specs.JournaledShard.{JournaledShard, opened_shard}
@@ -13,8 +13,8 @@ IsPlanAt shards number plan = plan ≡ (shard_at shards number).plan
 pub plans-init : goal.plans-init
 plans-init c = record {
   counted = ap (λ xs. length xs) c.in_ok-plans.ensures.items;
-  end_is = (let n = c.len-number-end.ensures in omega (arith, n));
-  room = (let enough = c.in_ok-plans.ensures.capacity in let n = c.len.ensures in omega (arith, enough, n));
+  end_is = refl;
+  room = (let enough = c.in_ok-plans.ensures.capacity in omega (arith, enough));
   are = subst (λ xs. Each (IsPlanAt c.args.shards.now) 0 xs) (sym c.in_ok-plans.ensures.items) (each_none (IsPlanAt c.args.shards.now) 0);
 }
 
@@ -26,7 +26,7 @@ plans-preserved c =
     let below : number < length shards = (let t = c.plans-test.true in let e = i.end_is in omega (arith, t, e)) in
     let more = c.push_reserved.ensures.items in
     let one : IsPlanAt shards number c.plan.result.now =
-    c.plan.ensures.plan ∙ ap (λ (s : JournaledShard). s.plan) (c.index.ensures ∙ or_within shards c.index.result.now (opened_shard no_plan) number below) in record {
+    c.plan.ensures.plan ∙ ap (λ (s : JournaledShard). s.plan) (c.index-shards-number.ensures ∙ or_within shards c.index-shards-number.result.now (opened_shard no_plan) number below) in record {
       counted = ap (λ xs. length xs) more ∙ length-append c.plans.plans.items (c.plan.result.now ∷ []) ∙ ap (λ n. n + 1) i.counted;
       end_is = i.end_is;
       room = (let r = i.room in let grown = c.push_reserved.ensures.capacity in omega (arith, r, grown));

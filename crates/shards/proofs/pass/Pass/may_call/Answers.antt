@@ -1,11 +1,10 @@
 use Rattle.std.proofs.Common.{sym, ap, ◌∙◌, subst}
 use Rattle.shards.specs.CallerView.{CallerView}
 use Rattle.shards.specs.Seats.{IsLockOf}
-use Rattle.semantics.specs.declared.plan.ShardPlan.{ShardPlan}
 use Rattle.shards.proofs.PartLemmas.{part_is, after_is, elsewhere, pass_after, looked_at}
 use Rattle.semantics.specs.History.{meets}
 use Rattle.shards.specs.Passes.{PassView}
-use Rattle.shards.specs.Lodged.{keys}
+use Rattle.shards.specs.Lodged.{KeyedPlan, keys}
 use Rattle.shards.specs.OrderRule.{deeds_in}
 use Rattle.shards.proofs.pass.Pass.may_call.Goals as goal
 
@@ -35,7 +34,7 @@ returns-clause-looked g c = looked_at g.B.Naming.table (keys g.B.Naming.plan g.B
 pub returns-clause-meets : goal.returns-clause-meets
 returns-clause-meets g c =
     let part = part_is g.B.Naming.table (keys g.B.Naming.plan g.B.Naming.order) g.B.Naming.count c.self.inside.who c.self.inside.parts.items (deeds_in c.self.inside.seat.me.0) (deeds_in c.self.inside.seat.me.0) c.args.self.now c.args.number c.index_mut.result.now c.index_mut.result.now c.self.invariant.0 c.self.view_is c.requires.number c.index_mut.ensures.value in
-    c.may_call.ensures.meets ∙ ap (λ (p : ShardPlan). meets p c.may_call.new.self.view.own c.self.inside.who c.args.call.now) part.key_is
+    c.may_call.ensures.meets ∙ ap (λ (p : KeyedPlan). meets p.plan c.may_call.new.self.view.own c.self.inside.who c.args.call.now) part.key_is
     ∙ ap (λ (v : CallerView). meets (g.B.Naming.plan c.args.number) v.own c.self.inside.who c.args.call.now) (after_is g.B.Naming.table (keys g.B.Naming.plan g.B.Naming.order) g.B.Naming.count c.self.inside.who c.self.inside.parts.items (deeds_in c.self.inside.seat.me.0) (deeds_in c.self.inside.seat.me.0) c.args.self.now c.args.number c.index_mut.result.now c.may_call.new.self c.self.invariant.0 c.self.view_is c.requires.number c.index_mut.ensures.value)
 
 pub returns-clause-did : goal.returns-clause-did

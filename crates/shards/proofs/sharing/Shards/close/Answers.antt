@@ -72,13 +72,13 @@ returns-clause-settled g c =
 pub settled-journal-requires-clause-numbered : goal.settled-journal-requires-clause-numbered
 settled-journal-requires-clause-numbered g c =
     let i = c.shards.invariant in
-    numbered c.shards.maps.items c.shards.options g.B.Naming.count g.B.Naming.plan c.shards.number i.plans (let e = i.count_is in let t = c.shards-test.true in omega (arith, e, t))
+    numbered _ _ g.B.Naming.count g.B.Naming.plan c.shards.number i.plans (let e = i.count_is in let t = c.shards-test.true in omega (arith, e, t))
 
 pub returns-clause-did : goal.returns-clause-did
 returns-clause-did g c =
     let i = c.shards.invariant in
     let end = c.gather_all.ensures in
-    one_order g.B.Naming.plan g.B.Naming.count c.shards.order.shared.key.plans.items c.of.result c.args.passes.items c.gather_all.new.seat.me.0 c.end.ensures i.order_is.sized i.order_is.plans
+    one_order g.B.Naming.plan g.B.Naming.count _ c.of.result c.args.passes.items c.gather_all.new.seat.me.0 c.end.ensures i.order_is.sized i.order_is.plans
     (λ number below. let was = i.gathered number (let t = i.together in let e = c.shards-test.false in let n = i.count_is in omega (arith, t, e, n, below)) in
     subst (λ (js : JournalsView). HasShard number (entries_at js number) c.gather_all.new.seat.me.0) (sym c.of.ensures)
     (record { deeds = was.deeds; written = was.written; has = end.kept _ was.has }))
