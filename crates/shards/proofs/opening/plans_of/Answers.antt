@@ -26,7 +26,7 @@ plans-preserved c =
     let below : number < length shards = (let t = c.plans-test.true in let e = i.end_is in omega (arith, t, e)) in
     let more = c.push_reserved.ensures.items in
     let one : IsPlanAt shards number c.plan.result.now =
-    c.plan.ensures.plan ∙ ap (λ (s : JournaledShard). s.plan) (c.index-shards-number.ensures ∙ or_within shards c.index-shards-number.result.now (opened_shard no_plan) number below) in record {
+    c.plan.ensures.plan ∙ ap (λ (s : JournaledShard). s.plan) (c.index-shards-number.is ∙ or_within shards _ (opened_shard no_plan) number below) in record {
       counted = ap (λ xs. length xs) more ∙ length-append c.plans.plans.items (c.plan.result.now ∷ []) ∙ ap (λ n. n + 1) i.counted;
       end_is = i.end_is;
       room = (let r = i.room in let grown = c.push_reserved.ensures.capacity in omega (arith, r, grown));

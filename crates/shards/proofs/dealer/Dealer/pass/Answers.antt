@@ -62,12 +62,12 @@ returns-clause-nothing g c =
     nothing_at g.B.Naming.table (keys g.B.Naming.plan g.B.Naming.order) g.B.Naming.count c.self.inside.rooms.items c.self.inside.dealt.items c.self.inside.rows.items c.place_of-place.result c.args.who c.self.invariant.0 waits c.place_of-place.ensures
     c.column-parts.result.items c.column-parts.ensures.count.0 c.column-parts.ensures.parts (deeds_in c.into_seat-seat.result.me.0)
 
-pub index_mut-2-requires : goal.index_mut-2-requires
-index_mut-2-requires g c =
+pub index_mut-requires-2 : goal.index_mut-requires-2
+index_mut-requires-2 g c =
     let below : c.place_of-place.result < length c.self.inside.dealt.items = (let n = c.len.ensures in let ok = c.self.inside.dealt.ok.0 in let t = c.if-place-len.false in omega (arith, n, ok, t)) in
     let waits : is_dealt_at c.self.inside.dealt.items c.place_of-place.result ≡ false =
     or_within c.self.inside.dealt.items true c.index.result.now c.place_of-place.result below ∙ sym c.index.ensures ∙ c.if-index.false in
-    place_there g.B.Naming.order c.self.inside.dealt.items c.self.inside.places.items c.place_of-place.result c.args.who c.self.invariant.1 waits c.place_of-place.ensures
+    (let there = place_there g.B.Naming.order c.self.inside.dealt.items c.self.inside.places.items c.place_of-place.result c.args.who c.self.invariant.1 waits c.place_of-place.ensures in let ok = c.self.inside.places.ok.0 in omega (arith, there, ok))
 
 pub into_seat-seat-requires : goal.into_seat-seat-requires
 into_seat-seat-requires g c =

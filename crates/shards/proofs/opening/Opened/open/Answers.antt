@@ -27,9 +27,9 @@ invariant_of-result c =
     let order = c.in_ok-order.ensures in
     let plans = order.plans in
     let shards = c.into_list-shards.result.items in
-    let counted : length c.in_ok-plans.plans.items ≡ length shards = c.in_ok-plans.ensures.count ∙ ap (λ (l : List JournaledShard). length l) c.deref.ensures in
+    let counted : length c.in_ok-plans.plans.items ≡ length shards = c.in_ok-plans.ensures.count ∙ ap (λ (l : List JournaledShard). length l) c.deref.ensures.value in
     let each : Each (λ (number : ℕ) (plan : ShardPlan). plan ≡ (shard_at shards number).plan) 0 c.in_ok-plans.plans.items =
-    subst (λ (l : List JournaledShard). Each (λ (number : ℕ) (plan : ShardPlan). plan ≡ (shard_at l number).plan) 0 c.in_ok-plans.plans.items) c.deref.ensures c.in_ok-plans.ensures.plans in (
+    subst (λ (l : List JournaledShard). Each (λ (number : ℕ) (plan : ShardPlan). plan ≡ (shard_at l number).plan) 0 c.in_ok-plans.plans.items) c.deref.ensures.value c.in_ok-plans.ensures.plans in (
       is_opening c.args.image.now.maps c.in_ok-maps.maps.items c.args.options c.in_ok-order.order.shared.table_id c.into_list-shards.result.items _ c.in_ok-shards.shards.items
           (image_maps c.args.image.now.version c.args.image.now.maps c.args.image.now.code c.maps.ensures.encodable) c.in_ok-open.ensures.options opened (c.in_ok-maps.ensures ∙ c.maps.ensures.maps) refl c.in_ok-shards.ensures.count c.in_ok-shards.ensures.made,
       record {
