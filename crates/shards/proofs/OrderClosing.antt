@@ -1,11 +1,9 @@
 -- What the seats know when the shards are closed makes one order of all deeds.
-use Rattle.std.proofs.Common.{◌≡◌, ◌≢◌, ◌⊎◌, ℕ, zero, suc, ◌+◌, ◌<◌, List, [], ◌∷◌, ◌++◌, length, refl, sym, ap, ◌∙◌, subst, ⊎_elim, inl, inr, arith}
+use Rattle.std.proofs.Common.{◌≡◌, ◌≢◌, ℕ, ◌+◌, ◌<◌, List, [], ◌∷◌, ◌++◌, length, sym, ap, ◌∙◌, subst, ⊎_elim, inl, inr, arith}
 use Rattle.std.specs.Prelude.{reverse, slice_index_or}
 use Rattle.std.proofs.lemmas.List.{reverse-reverse}
 use Rattle.atomic_table.specs.Table.{Me}
 use Rattle.atomic_table.specs.declared.badge.Badge.{Badge}
-use Rattle.semantics.specs.declared.call.Call.{Call}
-use Rattle.semantics.specs.declared.call.Caller.{Caller}
 use Rattle.semantics.specs.declared.call.Entry.{Entry}
 use Rattle.semantics.specs.declared.plan.ShardPlan.{ShardPlan}
 use Rattle.semantics.specs.History.{shard_of_call, IsJournalFull}
@@ -13,9 +11,9 @@ use Rattle.journals.specs.JournalsView.{JournalsView, entries_at}
 use Rattle.shards.specs.declared.deeds.Deed.{Deed}
 use Rattle.shards.specs.declared.deeds.Deed.TheVariants.{Wrote, MetFull}
 use Rattle.shards.specs.declared.deeds.Part.{Part}
-use Rattle.shards.specs.declared.deeds.Part.TheVariants.{OnShard, ByCaller}
+use Rattle.shards.specs.declared.deeds.Part.TheVariants.{OnShard}
 use Rattle.shards.specs.declared.deeds.Account.{Account}
-use Rattle.shards.specs.Deeds.{shard_of_deed, entries_made, made_on, deeds_of, AreMet, AreWithin}
+use Rattle.shards.specs.Deeds.{entries_made, made_on, deeds_of, AreMet, AreWithin}
 use Rattle.shards.specs.ClosedOrders.{HasGathered, IsOneOrder, account_of}
 use Rattle.shards.specs.OrderRule.{account, deeds_at, deeds_in, plan_in, with_first, HasAccount, IsEnd}
 use Rattle.shards.specs.Passes.{PassView, pass_at}

@@ -1,5 +1,5 @@
 -- A caller's seat at the order is taken out of its place.
-use Rattle.std.proofs.Common.{◌≡◌, ◌≢◌, ◌<◌, ℕ, Bool, true, false, true≢false, List, [], ◌∷◌, length, refl, sym, ap, ◌∙◌, subst, arith}
+use Rattle.std.proofs.Common.{◌≡◌, ◌≢◌, ◌<◌, ℕ, Bool, true, false, true≢false, List, [], ◌∷◌, length, sym, ap, ◌∙◌, subst, arith}
 use Rattle.std.specs.Prelude.{slice_set, slice_index_or}
 use Rattle.atomic_table.specs.Seated.{TableId}
 use Rattle.atomic_table.specs.declared.badge.Badge.{Badge}
@@ -10,7 +10,7 @@ use Rattle.shards.specs.declared.deeds.Deed.{Deed}
 use Rattle.shards.specs.declared.deeds.Part.TheVariants.{ByCaller}
 use Rattle.shards.specs.LockRule.{caller_at, place_of}
 use Rattle.shards.specs.NewShards.{AreAtOrder, is_dealt_at}
-use Rattle.shards.specs.OrderRule.{account, deeds_in, deeds_at, deeds_viewed, place_at, no_place, IsFresh, IsSeatFor}
+use Rattle.shards.specs.OrderRule.{account, deeds_in, deeds_at, deeds_viewed, no_place, IsFresh, IsSeatFor}
 use Rattle.shards.proofs.Dealing.{caller_is}
 use Rattle.shards.proofs.OrderClosing.{seat_of_place}
 use Rattle.semantics.proofs.shared.EachLemmas.{or_set_here, or_set_else, or_within, set_count}

@@ -1,9 +1,9 @@
 -- Each step on the order keeps its rule.
-use Rattle.std.proofs.Common.{◌≡◌, ◌≢◌, ℕ, zero, suc, ◌+◌, ◌*◌, ◌<◌, ◌==◌, cond, Bool, List, [], ◌∷◌, ◌++◌, length, set, true, false, refl, sym, ap, ◌∙◌, subst, ⊎_elim, arith, eq-eqb, ne_eqb}
-use Rattle.std.specs.Prelude.{slice_index, filter}
-use mathlib.Core.Option.{some, none, some-ne-none, some-injective}
+use Rattle.std.proofs.Common.{◌≡◌, ◌≢◌, ℕ, zero, suc, ◌*◌, ◌<◌, ◌==◌, cond, Bool, List, [], ◌∷◌, ◌++◌, length, set, true, false, refl, sym, ap, ◌∙◌, subst, ⊎_elim, arith, eq-eqb, ne_eqb}
+use Rattle.std.specs.Prelude.{slice_index}
+use mathlib.Core.Option.{some, some-ne-none, some-injective}
 use lib.ListN.{get_elem?}
-use Rattle.atomic_table.specs.Table.{Allows, Splits, Joins, Enters, Final, Seen, Me, Act, keeps, State, stepped, opening, step}
+use Rattle.atomic_table.specs.Table.{Allows, Splits, Joins, Enters, Final, Seen, Me, keeps, State, stepped, opening}
 use Rattle.atomic_table.proofs.Lists.{at_set}
 use Rattle.atomic_table.specs.declared.badge.Badge.{Badge}
 use Rattle.semantics.proofs.shared.EachLemmas.{at_snoc}
@@ -11,16 +11,15 @@ use Rattle.semantics.specs.declared.call.Caller.{Caller}
 use Rattle.semantics.specs.declared.call.Call.{Call}
 use Rattle.semantics.specs.declared.call.Entry.{Entry}
 use Rattle.semantics.specs.declared.plan.ShardPlan.{ShardPlan}
-use Rattle.semantics.specs.CallerLaws.{is_caller}
 use Rattle.semantics.specs.History.{shard_of_call}
 use Rattle.shards.specs.declared.deeds.Deed.{Deed}
 use Rattle.shards.specs.declared.deeds.Deed.TheVariants.{Wrote, MetFull}
 use Rattle.shards.specs.declared.deeds.Part.{Part}
 use Rattle.shards.specs.declared.deeds.Part.TheVariants.{OnShard, ByCaller}
 use Rattle.shards.specs.declared.deeds.Account.{Account}
-use Rattle.shards.specs.LockRule.{caller_at, place_of}
-use Rattle.shards.specs.Deeds.{shard_of_deed, caller_of_deed, is_deed_of, deeds_of, entries_made, is_of_shard, made_on, IsMetBehind, AreMet, AreWithin}
-use Rattle.shards.specs.OrderRule.{code_of, plan_in, account, caller_accounts, first_accounts, all_others, first_alone, with_first, AreOther, AreApart, deeds_in, deeds_viewed, deeds_at, IsAccount, AreAccounts, IsOrder, IsEnd, HasAccount, noted, Adds, Comes}
+use Rattle.shards.specs.LockRule.{caller_at}
+use Rattle.shards.specs.Deeds.{shard_of_deed, caller_of_deed, is_deed_of, deeds_of, entries_made, made_on, IsMetBehind}
+use Rattle.shards.specs.OrderRule.{code_of, plan_in, account, caller_accounts, first_accounts, all_others, first_alone, with_first, AreOther, deeds_in, deeds_viewed, deeds_at, IsAccount, AreAccounts, IsOrder, IsEnd, HasAccount, noted, Adds, Comes}
 use Rattle.shards.proofs.Callers.{is_own, is_other}
 use Rattle.shards.proofs.Moves.{moved, moved_here, moved_else}
 

@@ -1,13 +1,11 @@
 -- The seats of the order as it is opened: one account after another is dealt.
-use Rattle.std.proofs.Common.{◌≡◌, ◌≢◌, ℕ, zero, suc, ◌+◌, ◌*◌, ◌<◌, List, [], ◌∷◌, length, drop, refl, sym, ap, ◌∙◌, subst, arith}
+use Rattle.std.proofs.Common.{◌≡◌, ℕ, zero, suc, ◌+◌, ◌*◌, ◌<◌, List, [], ◌∷◌, length, drop, refl, sym, ap, ◌∙◌, subst, arith}
 use Rattle.atomic_table.specs.Seated.{TableId}
 use Rattle.atomic_table.specs.declared.badge.Badge.{Badge}
-use Rattle.semantics.specs.Each.{Each}
 use Rattle.semantics.proofs.shared.EachLemmas.{within}
-use Rattle.shards.specs.declared.deeds.Part.{Part}
 use Rattle.shards.specs.declared.deeds.Part.TheVariants.{OnShard, ByCaller}
 use Rattle.shards.specs.declared.deeds.Account.{Account}
-use Rattle.shards.specs.LockRule.{caller_at, place_of}
+use Rattle.shards.specs.LockRule.{caller_at}
 use Rattle.shards.specs.OrderRule.{code_of, account, account_at, caller_accounts, first_accounts, AreOther, AreApart, IsPlaced, ArePlaces, AreShardPlaces, AreCallerPlaces}
 use Rattle.shards.proofs.Callers.{place_at}
 

@@ -1,5 +1,5 @@
 -- What all callers did on all shards, in one order: the newest deed first.
-use Rattle.std.specs.Prelude.{◌≡◌, ℕ, ◌==◌, ◌<◌, Bool, true, false, List, [], ◌∷◌, filter, reverse, length, Result, Ok, Err}
+use Rattle.std.specs.Prelude.{ℕ, ◌==◌, ◌<◌, Bool, true, false, List, [], ◌∷◌, filter, Result, Ok, Err}
 use Rattle.std.specs.List.{AllByRecursion}
 use Rattle.semantics.specs.declared.call.Caller.{Caller}
 use Rattle.semantics.specs.declared.call.Call.{Call}

@@ -1,4 +1,4 @@
-use Rattle.std.proofs.Common.{◌≡◌, ◌<◌, ◌+◌, ℕ, List, [], ◌∷◌, length, sym, ap, ◌∙◌, subst, inl, inr, refl, arith}
+use Rattle.std.proofs.Common.{◌≡◌, ◌<◌, ◌+◌, ℕ, List, ◌∷◌, length, sym, ap, ◌∙◌, subst, inr, arith}
 use Rattle.atomic_table.specs.Table.{Me}
 use Rattle.semantics.specs.Each.{Each}
 use Rattle.semantics.proofs.shared.EachLemmas.{each_first, each_rest, each_start, at_or}

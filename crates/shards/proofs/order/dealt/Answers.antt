@@ -1,7 +1,6 @@
-use Rattle.std.proofs.Common.{◌≡◌, ◌<◌, ◌+◌, ℕ, suc, List, [], ◌∷◌, drop, length, length-append, refl, sym, ap, ◌∙◌, subst, arith}
+use Rattle.std.proofs.Common.{◌≡◌, ◌<◌, ◌+◌, ℕ, suc, List, [], ◌∷◌, drop, length, length-append, sym, ap, ◌∙◌, subst, arith}
 use Rattle.atomic_table.specs.Table.{Me}
 use Rattle.atomic_table.specs.declared.badge.Badge.{Badge}
-use Rattle.semantics.specs.Each.{Each}
 use Rattle.semantics.proofs.shared.EachLemmas.{each_push, each_none}
 use Rattle.shards.specs.declared.deeds.Account.{Account}
 use Rattle.shards.specs.OrderRule.{account_at, all_others, first_alone, IsPlaced, ArePlaces}

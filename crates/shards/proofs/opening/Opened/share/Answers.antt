@@ -1,6 +1,6 @@
-use Rattle.std.proofs.Common.{rules, ◌+◌, sym, ap, subst}
+use Rattle.std.proofs.Common.{rules, ◌+◌, sym, subst}
 use Rattle.shards.specs.NewShards.{OpenedShards, IsNamed, AreAtOrder}
-use Rattle.shards.proofs.Names.{named_each, all_wait, order_named, at_order}
+use Rattle.shards.proofs.Names.{named_each, all_wait, at_order}
 use Rattle.shards.proofs.opening.Opened.share.Goals as goal
 
 pub parted-requires : goal.parted-requires

@@ -1,5 +1,3 @@
-use Rattle.std.proofs.Common.{◌≡◌, ◌<◌, length, sym, ap, ◌∙◌, subst, arith}
-use Rattle.shards.proofs.Names.{number_of}
 use Rattle.shards.proofs.OrderShards.{knows_shard}
 use Rattle.shards.proofs.sharing.Shards.order_at.Goals as goal
 
