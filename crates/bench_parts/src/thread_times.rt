@@ -94,7 +94,7 @@ fn timed_four<B: Naming + Send + Sync, R: Clock + Threads + Wait + Sync>(
     opened: Opened,
     are_apart: bool,
 ) -> Result<u128, Error>
-    requires { IsNamed B.count B.table B.plan opened }
+    requires { IsNamed B.count B.table B.plan B.order opened }
 {
     let (shards, mut dealer) = opened.share::<B>(alloc)?;
     let first = task_of(alloc, &shards, &mut dealer, 0, shard_of(0, are_apart))?;
@@ -112,7 +112,7 @@ fn timed_one<B: Naming, R: Clock + Wait>(
     alloc: Global,
     opened: Opened,
 ) -> Result<u128, Error>
-    requires { IsNamed B.count B.table B.plan opened }
+    requires { IsNamed B.count B.table B.plan B.order opened }
 {
     let (shards, mut dealer) = opened.share::<B>(alloc)?;
     let task = task_of(alloc, &shards, &mut dealer, 0, 0)?;

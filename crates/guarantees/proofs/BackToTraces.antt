@@ -23,6 +23,7 @@ use Rattle.runs.specs.FrameRuns.{AreFormed}
 use Rattle.guarantees.specs.Steps.{Move, Writes, asks, leave, IsStep, RunBegins, RunGoesOn, RunEnds, CallIsServed, ShardIsEntered, CallIsRefused, EnterIsRefused, ShardIsLeft, AreSteps, InRun, AreStepsOfRun, beginning, leavings, entries_on}
 use Rattle.guarantees.specs.StepLaws.{IsListedNext, RunsAreTraces}
 use Rattle.guarantees.proofs.EventLemmas.{is_some_entry, since, call_on, enter_on, call_in, enter_in, or_false, nothing_since, append_on, closed}
+use Rattle.guarantees.proofs.Leaving.{still_in}
 use Rattle.guarantees.proofs.ListedSteps.{steps_are_listed}
 
 -- ---- from its end back to its beginning
@@ -181,18 +182,6 @@ leaves_this setting count worker shard (one ∷ entered) two next =
       subst (λ (number : ℕ). is_entered number (one ∷ entered) ≡ true) same next.inside,
       next.after_is ∙ ap (λ (number : ℕ). run_over (without_shard number (one ∷ entered))) same,
     )
-
-still_in : (shard number : ℕ) (entered : List ℕ) → (shard == number) ≡ false → is_entered number (without_shard shard entered) ≡ is_entered number entered
-still_in shard number [] apart = refl
-still_in shard number (one ∷ entered) apart = by_test (still_in shard number entered apart) (one == shard) refl
-  where
-    by_test : is_entered number (without_shard shard entered) ≡ is_entered number entered → (test : Bool) → (one == shard) ≡ test →
-        is_entered number (cond (not test) (one ∷ without_shard shard entered) (without_shard shard entered)) ≡ ((one == number) || is_entered number entered)
-    by_test rest true is =
-        let same : one ≡ shard = eqb-true one shard is in
-        let off : (one == number) ≡ false = ap (λ (n : ℕ). n == number) same ∙ apart in
-        rest ∙ ap (λ (test : Bool). test || is_entered number entered) (sym off)
-    by_test rest false is = ap (λ (test : Bool). (one == number) || test) rest
 
 leaves_write : (setting : Setting) (count worker number : ℕ) (left entered : List ℕ) →
     AreSteps setting count worker (run_over entered) (leavings worker left) Idle →

@@ -1,5 +1,5 @@
 -- A trace on the replies that a run was given, as the events of its worker.
-use Rattle.std.proofs.Common.{◌≡◌, ℕ, zero, suc, ◌<◌, ◌==◌, ◌||◌, Bool, true, false, cond, not, List, [], ◌∷◌, ◌++◌, map, reverse, refl, sym, ◌∙◌, ap, subst, arith, append_assoc}
+use Rattle.std.proofs.Common.{◌≡◌, ℕ, zero, suc, ◌<◌, ◌==◌, ◌||◌, Bool, true, false, cond, List, [], ◌∷◌, ◌++◌, map, reverse, refl, sym, ◌∙◌, ap, subst, arith, append_assoc}
 use Rattle.std.specs.Prelude.{filter, if◌then◌else◌}
 use Rattle.std.proofs.lemmas.Bool.{eqb-true}
 use Rattle.std.proofs.lemmas.Bool.Decides.{nat_tests}
@@ -13,16 +13,21 @@ use Rattle.semantics.specs.Step.{Step, Continues, CallsMap, Exits, Traps}
 use Rattle.semantics.specs.Semantics.{next_step}
 use Rattle.semantics.specs.RunTrace.{RunTrace, HasExited, HasTrapped, GoesOn, trace_of, trace_from, IsReplyTo}
 use Rattle.semantics.specs.History.{shard_of_call}
-use Rattle.semantics.specs.System.{Setting, Idle, Runs, Leaves, is_entered, without_shard, run_over, IsInputFrame, input_frame}
+use Rattle.semantics.specs.System.{Setting, Idle, Runs, is_entered, run_over, IsInputFrame, input_frame}
 use Rattle.semantics.specs.System as model
 use Rattle.map_port.specs.Exchanges.{Exchange, calls_in, replies_in}
-use Rattle.shards.specs.Passes.{own_at}
+use Rattle.shards.specs.declared.deeds.Deed.{Deed}
+use Rattle.shards.specs.declared.deeds.Deed.TheVariants.{Wrote}
+use Rattle.shards.specs.Deeds.{is_of_shard}
+use Rattle.shards.specs.Passes.{PassView, own_at}
 use Rattle.shard_port.specs.Asking.{enter_by, leave_by}
 use Rattle.shard_port.specs.Sessions.{entry_of, is_at, entries_at, begun, session}
 use Rattle.shard_port.specs.PassSessions.{AreWithin}
+use Rattle.shard_port.specs.PassDeeds.{asked_deeds, entered_by, rising, leaving_deeds, run_deeds}
 use Rattle.runs.specs.FrameRuns.{AreFormed}
-use Rattle.guarantees.specs.Steps.{Writes, Move, does, asks, leave, IsStep, RunBegins, RunGoesOn, RunEnds, CallIsServed, ShardIsEntered, ShardIsLeft, AreSteps, AreStepsOfRun, leavings, is_of_shard, entries_asked, entries_in, entries_on}
+use Rattle.guarantees.specs.Steps.{Writes, Move, does, asks, IsStep, RunBegins, RunGoesOn, RunEnds, CallIsServed, ShardIsEntered, AreStepsOfRun, leavings, entries_asked, entries_in, entries_on, deeds_asked, deeds_in}
 use Rattle.guarantees.specs.SystemLaws.{RunsAreOfTheSystem}
+use Rattle.guarantees.proofs.Leaving.{AreEntered, all_leave, left_on, deeds_left}
 
 -- ---- tests and lists
 
@@ -33,56 +38,6 @@ is_some_entry (first ∷ later) = true
 pub or_true : (test : Bool) → (test || true) ≡ true
 or_true true = refl
 or_true false = refl
-
--- the shards that a run is in are some of so many, each once
-abbrev pub AreEntered : ℕ → List ℕ → Type 0
-AreEntered count [] = Unit {0}
-AreEntered count (shard ∷ entered) = (is_entered shard entered ≡ false) × (shard < count) × AreEntered count entered
-
-pub kept_all : (shard : ℕ) (entered : List ℕ) → is_entered shard entered ≡ false → without_shard shard entered ≡ entered
-kept_all shard [] out = refl
-kept_all shard (one ∷ entered) out = by_test (kept_all shard entered) (one == shard) out
-  where
-    by_test : (is_entered shard entered ≡ false → without_shard shard entered ≡ entered) → (test : Bool) → (test || is_entered shard entered) ≡ false →
-        cond (not test) (one ∷ without_shard shard entered) (without_shard shard entered) ≡ one ∷ entered
-    by_test rest true now = absurd cc
-    by_test rest false now = ap (λ (list : List ℕ). one ∷ list) (rest now)
-
-without_first : (shard : ℕ) (entered : List ℕ) → is_entered shard entered ≡ false → without_shard shard (shard ∷ entered) ≡ entered
-without_first shard entered out =
-    let same : (shard == shard) ≡ true = grind (arith, nat_tests) in
-    ap (λ (test : Bool). cond (not test) (shard ∷ without_shard shard entered) (without_shard shard entered)) same ∙ kept_all shard entered out
-
--- ---- leaving
-
-pub all_leave : (setting : Setting) (count worker : ℕ) (entered : List ℕ) → AreEntered count entered →
-    AreSteps setting count worker (run_over entered) (leavings worker entered) Idle
-all_leave setting count worker [] distinct = refl
-all_leave setting count worker (shard ∷ entered) distinct =
-    let same : (shard == shard) ≡ true = grind (arith, nat_tests) in
-    let first : is_entered shard (shard ∷ entered) ≡ true = ap (λ (test : Bool). test || is_entered shard entered) same in (
-      run_over entered,
-      subst (λ (rest : List ℕ). IsStep setting count worker (Leaves (shard ∷ entered)) (leave worker shard) (run_over rest))
-          (without_first shard entered distinct.0) (ShardIsLeft shard (shard ∷ entered) distinct.1 first),
-      all_leave setting count worker entered distinct.2,
-    )
-
-pub leaves_on : (count worker number : ℕ) (entered : List ℕ) → AreEntered count entered →
-    entries_on number (leavings worker entered) ≡ (if is_entered number entered then leave_by worker number ∷ [] else [])
-leaves_on count worker number [] distinct = refl
-leaves_on count worker number (shard ∷ entered) distinct = by_test (leaves_on count worker number entered distinct.2) (shard == number) refl
-  where
-    by_test : entries_on number (leavings worker entered) ≡ (if is_entered number entered then leave_by worker number ∷ [] else []) →
-        (test : Bool) → (shard == number) ≡ test →
-        cond test (leave_by worker shard ∷ entries_on number (leavings worker entered)) (entries_on number (leavings worker entered))
-        ≡ (if (test || is_entered number entered) then leave_by worker number ∷ [] else [])
-    by_test rest false is = rest
-    by_test rest true is =
-        let same : shard ≡ number = eqb-true shard number is in
-        let out : is_entered number entered ≡ false = subst (λ (n : ℕ). is_entered n entered ≡ false) same distinct.0 in
-        ap (λ (n : ℕ). leave_by worker n ∷ entries_on number (leavings worker entered)) same
-        ∙ ap (λ (list : List Entry). leave_by worker number ∷ list)
-        (rest ∙ ap (λ (test : Bool). if test then leave_by worker number ∷ [] else []) out)
 
 -- ---- what the events of a run write
 
@@ -160,6 +115,29 @@ enter_in worker number exchange later entered after rest = by_test (shard_of_cal
     by_test false now = now
     by_test true now = now ∙ sym (or_true (is_entered number entered))
 
+-- ---- what they do over all shards
+
+-- what a run does that asks a shard which it has entered or not, by that
+abbrev asked_from : ℕ → List ℕ → Exchange → List Exchange → Bool → List Deed
+asked_from worker entered exchange later inside =
+    (if inside then [] else Wrote (enter_by worker (shard_of_call exchange.call)) ∷ []) ++ Wrote (entry_of worker exchange) ∷
+    asked_deeds worker (if inside then entered else shard_of_call exchange.call ∷ entered) later
+
+asked_by : (worker : ℕ) (entered : List ℕ) (exchange : Exchange) (later : List Exchange) (inside : Bool) →
+    is_entered (shard_of_call exchange.call) entered ≡ inside →
+    asked_from worker entered exchange later inside ≡ asked_deeds worker entered (exchange ∷ later)
+asked_by worker entered exchange later inside is = ap (asked_from worker entered exchange later) (sym is)
+
+enters_by : (entered : List ℕ) (exchange : Exchange) (later : List Exchange) (inside : Bool) →
+    is_entered (shard_of_call exchange.call) entered ≡ inside →
+    entered_by (if inside then entered else shard_of_call exchange.call ∷ entered) later ≡ entered_by entered (exchange ∷ later)
+enters_by entered exchange later inside is =
+    ap (λ (test : Bool). entered_by (if test then entered else shard_of_call exchange.call ∷ entered) later) (sym is)
+
+now_inside : (shard : ℕ) (entered : List ℕ) → is_entered shard (shard ∷ entered) ≡ true
+now_inside shard entered =
+    let same : (shard == shard) ≡ true = grind (arith, nat_tests) in ap (λ (test : Bool). test || is_entered shard entered) same
+
 -- ---- a run to its end
 
 -- to a state of which this is said
@@ -174,6 +152,8 @@ pub record Reaches (said : MachineState → Type 0) (setting : Setting) (count w
   pub writes : (number : ℕ) → entries_on number run ≡ since (is_entered number entered) worker number (entries_at worker number exchanges)
   pub stays : (number : ℕ) →
       is_entered number after ≡ (is_entered number entered || is_some_entry (entries_at worker number exchanges))
+  pub deeds : deeds_in worker run ≡ asked_deeds worker entered exchanges
+  pub enters : after ≡ entered_by entered exchanges
 
 -- one instruction that calls nothing
 pub reach_on : (said : MachineState → Type 0) (setting : Setting) (count worker : ℕ) (state next : MachineState) (entered : List ℕ)
@@ -188,6 +168,8 @@ reach_on said setting count worker state next entered exchanges is rest = record
   distinct = rest.distinct;
   writes = rest.writes;
   stays = rest.stays;
+  deeds = rest.deeds;
+  enters = rest.enters;
 }
 
 -- one call inside its shard
@@ -210,6 +192,8 @@ reach_call said setting count worker state next entered exchange later is within
   distinct = rest.distinct;
   writes = λ number. call_on worker number exchange later entered rest.run inside (rest.writes number);
   stays = λ number. call_in worker number exchange later entered rest.after inside (rest.stays number);
+  deeds = ap (λ (list : List Deed). Wrote (entry_of worker exchange) ∷ list) rest.deeds ∙ asked_by worker entered exchange later true inside;
+  enters = rest.enters ∙ enters_by entered exchange later true inside;
 }
 
 -- the first call of a shard: the run enters it before
@@ -231,6 +215,15 @@ reach_enter said setting count worker state next entered exchange later is withi
   distinct = rest.distinct;
   writes = λ number. enter_on worker number exchange later entered rest.run outside (rest.writes number);
   stays = λ number. enter_in worker number exchange later entered rest.after (rest.stays number);
+  deeds =
+      ap (λ (list : List Deed). Wrote (enter_by worker (shard_of_call exchange.call)) ∷ list)
+      (rest.deeds
+      ∙ sym (asked_by worker (shard_of_call exchange.call ∷ entered) exchange later true (now_inside (shard_of_call exchange.call) entered)))
+      ∙ asked_by worker entered exchange later false outside;
+  enters =
+      rest.enters
+      ∙ sym (enters_by (shard_of_call exchange.call ∷ entered) exchange later true (now_inside (shard_of_call exchange.call) entered))
+      ∙ enters_by entered exchange later false outside;
 }
 
 pub reach_here : (said : MachineState → Type 0) (setting : Setting) (count worker : ℕ) (state : MachineState) (next : Reply → MachineState)
@@ -243,9 +236,8 @@ pub reach_here : (said : MachineState → Type 0) (setting : Setting) (count wor
 reach_here said setting count worker state next entered exchange later true is within formed inside distinct rest =
     reach_call said setting count worker state next entered exchange later is within formed inside (rest entered distinct)
 reach_here said setting count worker state next entered exchange later false is within formed outside distinct rest =
-    let same : (shard_of_call exchange.call == shard_of_call exchange.call) ≡ true = grind (arith, nat_tests) in
     let first : is_entered (shard_of_call exchange.call) (shard_of_call exchange.call ∷ entered) ≡ true =
-    ap (λ (test : Bool). test || is_entered (shard_of_call exchange.call) entered) same in
+    now_inside (shard_of_call exchange.call) entered in
     reach_enter said setting count worker state next entered exchange later is within outside
     (reach_call said setting count worker state next (shard_of_call exchange.call ∷ entered) exchange later is within formed first
     (rest (shard_of_call exchange.call ∷ entered) (outside, within, distinct)))
@@ -299,17 +291,11 @@ by_step setting count worker steps verdict last later state entered [] distinct 
       runs = refl;
       ended = is ∙ ap (λ one. Exits one final) same ∙ ap (λ one. Exits verdict one) left;
       distinct = distinct;
-      writes = λ number. nothing_since (is_entered number entered) number;
+      writes = λ number. nothing_since worker number (is_entered number entered);
       stays = λ number. sym (or_false (is_entered number entered));
+      deeds = refl;
+      enters = refl;
     }
-  where
-    nothing_since : (test : Bool) (number : ℕ) → [] ≡ since test worker number []
-    nothing_since true number = refl
-    nothing_since false number = refl
-
-    or_false : (test : Bool) → (test || false) ≡ test
-    or_false true = refl
-    or_false false = refl
 by_step setting count worker steps verdict last later state entered (exchange ∷ more) distinct within formed (Exits ended final) is trace =
     absurd (let made : [] ≡ exchange.call ∷ calls_in more = ap (λ (one : RunTrace). one.calls) trace in cc)
 by_step setting count worker steps verdict last later state entered exchanges distinct within formed (Traps cause) is trace =
@@ -345,14 +331,30 @@ closed worker number (first ∷ later) = refl
 
 pub whole_session : (said : MachineState → Type 0) (setting : Setting) (count worker : ℕ) (state : MachineState) (exchanges : List Exchange)
     (reaches : Reaches said setting count worker state [] exchanges) (number : ℕ) →
-    entries_on number (reaches.run ++ leavings worker reaches.after) ≡ session worker number (entries_at worker number exchanges)
+    entries_on number (reaches.run ++ leavings worker (rising count reaches.after)) ≡ session worker number (entries_at worker number exchanges)
 whole_session said setting count worker state exchanges reaches number =
-    append_on number reaches.run (leavings worker reaches.after)
-    ∙ ap (λ (list : List Entry). list ++ entries_on number (leavings worker reaches.after)) (reaches.writes number)
+    append_on number reaches.run (leavings worker (rising count reaches.after))
+    ∙ ap (λ (list : List Entry). list ++ entries_on number (leavings worker (rising count reaches.after))) (reaches.writes number)
     ∙ ap (λ (list : List Entry). since false worker number (entries_at worker number exchanges) ++ list)
-    (leaves_on count worker number reaches.after reaches.distinct
+    (left_on count worker number reaches.after reaches.distinct
     ∙ ap (λ (test : Bool). if test then leave_by worker number ∷ [] else []) (reaches.stays number))
     ∙ closed worker number (entries_at worker number exchanges)
+
+pub append_deeds : (worker : ℕ) (first second : List Move) → deeds_in worker (first ++ second) ≡ deeds_in worker first ++ deeds_in worker second
+append_deeds worker [] second = refl
+append_deeds worker (move ∷ first) second =
+    ap (λ (list : List Deed). deeds_asked worker move.asked ++ list) (append_deeds worker first second)
+    ∙ sym (append_assoc (deeds_asked worker move.asked) (deeds_in worker first) (deeds_in worker second))
+
+whole_deeds : (said : MachineState → Type 0) (setting : Setting) (count worker : ℕ) (state : MachineState) (exchanges : List Exchange)
+    (reaches : Reaches said setting count worker state [] exchanges) →
+    deeds_in worker (reaches.run ++ leavings worker (rising count reaches.after)) ≡ run_deeds worker count exchanges
+whole_deeds said setting count worker state exchanges reaches =
+    append_deeds worker reaches.run (leavings worker (rising count reaches.after))
+    ∙ ap (λ (list : List Deed). list ++ deeds_in worker (leavings worker (rising count reaches.after))) reaches.deeds
+    ∙ ap (λ (list : List Deed). asked_deeds worker [] exchanges ++ list)
+    (deeds_left worker (rising count reaches.after)
+    ∙ ap (λ (list : List ℕ). leaving_deeds worker (rising count list)) reaches.enters)
 
 pub run_is_of_system : RunsAreOfTheSystem
 run_is_of_system setting worker told now frame count steps before after exchanges verdict last few input early low trace formed sessions =
@@ -366,9 +368,11 @@ run_is_of_system setting worker told now frame count steps before after exchange
       goes_on = reaches.runs;
       exits = reaches.ended;
       ends = RunEnds reaches.ending last verdict reaches.after reaches.ended;
-      left = reaches.after;
+      left = rising count reaches.after;
       leaves = all_leave setting count worker reaches.after reaches.distinct;
       written = λ number within. sessions.written number within
           ∙ ap (λ (list : List Entry). reverse list ++ own_at before number)
           (sym (whole_session (Exited setting verdict last) setting count worker state exchanges reaches number));
+      did = sessions.did
+          ∙ ap (λ (list : List Deed). reverse list ++ before.deeds) (sym (whole_deeds (Exited setting verdict last) setting count worker state exchanges reaches));
     }

@@ -1,12 +1,14 @@
 -- The runs of a replay as runs of the system around its image.
-use Rattle.std.proofs.Common.{◌≡◌, ℕ, zero, suc, ◌<◌, ◌≤◌, Bool, true, false, nat_lt, List, [], ◌∷◌, ◌++◌, length, refl, sym, ◌∙◌, ap, subst, arith}
+use Rattle.std.proofs.Common.{◌≡◌, ℕ, zero, suc, ◌<◌, ◌≤◌, Bool, true, false, nat_lt, List, [], ◌∷◌, ◌++◌, length, reverse, refl, sym, ◌∙◌, ap, subst, arith}
 use Rattle.std.specs.Prelude.{if◌then◌else◌}
 use Rattle.std.specs.List.{AllByRecursion}
 use Rattle.std.proofs.lemmas.Bool.Decides.{nat_tests}
+use Rattle.std.proofs.lemmas.List.{reverse-reverse}
 use Rattle.wire.specs.FrameView.{FrameView}
 use Rattle.wire.specs.declared.records.Sent.{Sent}
 use Rattle.semantics.specs.declared.options.Options.{Options}
 use Rattle.semantics.specs.declared.plan.ShardPlan.{ShardPlan}
+use Rattle.semantics.specs.ShardPlan.{AreOptions}
 use Rattle.semantics.specs.System.{IsInputFrame}
 use Rattle.semantics.specs.History.{IsLegalJournal}
 use Rattle.semantics.specs.Safety.{IsSafeImage}
@@ -14,8 +16,11 @@ use Rattle.verifier.specs.Verified.{Verified}
 use Rattle.machine.specs.declared.exit.Stop.{Stop}
 use Rattle.machine.specs.declared.exit.Stop.TheVariants.{JournalFull}
 use Rattle.machine.specs.Running.{program_of}
-use Rattle.journals.specs.JournalsView.{JournalsView}
+use Rattle.journals.specs.JournalsView.{JournalsView, entries_at}
+use Rattle.shards.specs.declared.deeds.Deed.{Deed}
+use Rattle.shards.specs.Deeds.{shard_of_deed, AreMet}
 use Rattle.shards.specs.Passes.{PassView}
+use Rattle.shards.specs.SharedMaps.{ArePlans}
 use Rattle.runs.specs.FrameRuns.{HasStopped}
 use Rattle.replay.specs.declared.runner.RunEnd.{RunEnd}
 use Rattle.replay.specs.declared.runner.RunEnd.TheVariants.{Stopped, Aborted, Dropped, Passed, Sent as IsSent}
@@ -24,13 +29,18 @@ use Rattle.replay.specs.Accounts.{runs_at}
 use Rattle.replay.specs.RunJobs.{records_of}
 use Rattle.replay.specs.RunsInOrder.{IsRunAt, IsChainOfRuns}
 use Rattle.replay.specs.Shares.{frames_of, frame_at, is_short, is_handed, share}
-use Rattle.replay.specs.Accounted.{IsWorkOf}
+use Rattle.replay.specs.Accounted.{IsWorkOf, IsOrderOf}
 use Rattle.replay.specs.RunsOverShards.{start_of, IsExit, IsStopIn, StopsFor, IsRunIn}
 use Rattle.guarantees.specs.ReaderReplays.{IsCaptured}
 use Rattle.guarantees.specs.SystemLaws.{RunsAreOfTheSystem, StoppedRunsAreOfTheSystem}
+use Rattle.guarantees.specs.SystemRuns.{setting_of}
+use Rattle.guarantees.specs.Merging.{IsOneList}
+use Rattle.guarantees.specs.ReplayMoves.{HasMoves}
 use Rattle.guarantees.specs.Headline.{moment_of, IsRunOfImage, IsStopOfImage, IsEitherOfImage, ReplaysKeepIt}
-use Rattle.guarantees.proofs.EveryEntry.{all_both}
+use Rattle.guarantees.proofs.DeedLemmas.{is_deed_by, chosen_reversed, made_reversed}
+use Rattle.guarantees.proofs.EveryEntry.{all_both, all_reverse}
 use Rattle.guarantees.proofs.LegalEntries.{entry_is_step}
+use Rattle.guarantees.proofs.Merge.{one_order_is_one_list}
 use Rattle.guarantees.proofs.NoneStopped.{is_long}
 use Rattle.guarantees.proofs.OpenedReplays.{record_of}
 use Rattle.guarantees.proofs.ReplayMoves.{has_moves}
@@ -122,13 +132,13 @@ module _ (ran : RunsAreOfTheSystem) (stopped : StoppedRunsAreOfTheSystem) (verif
 -- ---- all runs of a worker
 
 pub work_of : RunsAreOfTheSystem → StoppedRunsAreOfTheSystem → (verified : Verified) (options : Options) → options.workers ≤ 8 →
-    (plan : ℕ → ShardPlan) (count worker : ℕ) → worker < options.workers → (journals : JournalsView) (records : List Sent) →
+    (plan : ℕ → ShardPlan) (count worker : ℕ) → worker < options.workers → (journals : JournalsView) (order : List Deed) (records : List Sent) →
     AllByRecursion IsCaptured records → (runs : List Ran) →
     IsWorkOf (IsRunAt (IsRunIn plan count (program_of verified options.shards) worker journals) records)
-    (share (frames_of records) options.workers worker (length records)) worker runs count journals →
+    (share (frames_of records) options.workers worker (length records)) worker runs count journals order →
     IsWorkOf (IsRunAt (IsEitherOfImage verified options plan count worker) records)
-    (share (frames_of records) options.workers worker (length records)) worker runs count journals
-work_of ran stopped verified options few plan count worker below journals records captured runs work =
+    (share (frames_of records) options.workers worker (length records)) worker runs count journals order
+work_of ran stopped verified options few plan count worker below journals order records captured runs work =
     let IsLong : Ran → Type 0 = λ (one : Ran). is_short (frame_at (frames_of records) one.number) ≡ false in
     let all : AllByRecursion IsLong runs =
     of_runs (λ (number : ℕ). is_short (frame_at (frames_of records) number) ≡ false) runs
@@ -153,16 +163,41 @@ work_of ran stopped verified options few plan count worker below journals record
             runs all work.handled.before work.after work.handled.chain;
       };
       own = work.own;
+      did = work.did;
     }
+
+-- ---- all callers at once
+
+one_list : (verified : Verified) (options : Options) → AreOptions verified.maps options → (plan : ℕ → ShardPlan) (count : ℕ) →
+    ArePlans verified.maps options count plan → (runs : List (List Ran)) (journals : JournalsView) →
+    ((number : ℕ) → number < count → IsLegalJournal (plan number) (entries_at journals number)) → (order : List Deed) →
+    IsOrderOf plan count journals order → (moves : HasMoves (setting_of verified options) count runs journals order) →
+    IsOneList (setting_of verified options) count (λ number. entries_at journals number) moves.moves
+one_list verified options fit plan count plans runs journals legal order ordered moves =
+    one_order_is_one_list (setting_of verified options) plan count (λ number. entries_at journals number) moves.moves (reverse order)
+    (record {
+      options = fit;
+      count_is = plans.count_is;
+      plans = plans.each;
+      within = all_reverse (λ (deed : Deed). shard_of_deed deed < count) order ordered.within;
+      journals = λ number below. made_reversed number order ∙ sym (ordered.journals_are number below);
+      legal = legal;
+      met = subst (AreMet plan) (sym (reverse-reverse order)) ordered.met;
+      own = λ worker below. (moves.of_worker worker below).did ∙ sym (chosen_reversed (is_deed_by worker) order);
+      steps = λ worker below. (moves.of_worker worker below).steps;
+      of_others = moves.of_others;
+    })
 
 pub replays_keep_it : RunsAreOfTheSystem → StoppedRunsAreOfTheSystem → (verified : Verified) → IsSafeImage verified.maps verified.code →
     ReplaysKeepIt verified
 replays_keep_it ran stopped verified safe script options records outcome fit captured accounted =
     let work : (worker : ℕ) → worker < options.workers →
     IsWorkOf (IsRunAt (IsEitherOfImage verified options accounted.plan accounted.count worker) records)
-    (share (frames_of records) options.workers worker (length records)) worker (runs_at accounted.runs worker) accounted.count outcome.journals =
-    λ worker below. work_of ran stopped verified options fit.at_most_eight accounted.plan accounted.count worker below outcome.journals records captured
-    (runs_at accounted.runs worker) (accounted.work worker below) in
+    (share (frames_of records) options.workers worker (length records)) worker (runs_at accounted.runs worker) accounted.count outcome.journals accounted.order =
+    λ worker below. work_of ran stopped verified options fit.at_most_eight accounted.plan accounted.count worker below outcome.journals accounted.order records
+    captured (runs_at accounted.runs worker) (accounted.work worker below) in
+    let moves : HasMoves (setting_of verified options) accounted.count accounted.runs outcome.journals accounted.order =
+    has_moves verified options accounted.plan accounted.count records accounted.runs outcome.journals accounted.order work in
     record {
       safe = safe;
       count = accounted.count;
@@ -174,7 +209,11 @@ replays_keep_it ran stopped verified safe script options records outcome fit cap
           (subst (IsLegalJournal (accounted.plan number)) place (accounted.legal number below));
       runs = accounted.runs;
       workers = accounted.workers;
+      order = accounted.order;
+      ordered = accounted.ordered;
       work = work;
-      moves = has_moves verified options accounted.plan accounted.count records accounted.runs outcome.journals work;
+      moves = moves;
+      list = one_list verified options fit accounted.plan accounted.count accounted.plans accounted.runs outcome.journals accounted.legal accounted.order
+          accounted.ordered moves;
       sent = accounted.sent;
     }

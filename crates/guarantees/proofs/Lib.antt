@@ -5,12 +5,14 @@ pub mod SameSteps
 pub mod ReaderTraces
 pub mod MoveLemmas
 pub mod ListedSteps
+pub mod Leaving
 pub mod EventLemmas
 pub mod StopLemmas
 pub mod SharedRuns
 pub mod BackToTraces
 pub mod OneOutcome
 pub mod RowRuns
+pub mod DeedLemmas
 pub mod MergeEvents
 pub mod Merge
 pub mod OneWorker
@@ -27,4 +29,3 @@ pub mod OpenedRuns
 pub mod OpenedReplays
 pub mod ReplayMoves
 pub mod HeadlineRuns
-pub mod OneShard

@@ -1,30 +1,37 @@
 -- One order of all callers' deeds makes one list of events: by induction on the order, in which each deed is one event of its caller, after the
 -- instructions that its worker does before it. Other workers stay where they are.
-use Rattle.std.proofs.Common.{◌≡◌, ◌≢◌, ℕ, zero, suc, ◌*◌, ◌<◌, ◌≤◌, ◌==◌, ◌&&◌, Bool, true, false, cond, List, [], ◌∷◌, ◌++◌, length, reverse, Some, refl, sym, ◌∙◌, ap, subst, arith, append_assoc, append-nil, ⊎_elim}
-use Rattle.std.specs.Prelude.{filter, IsTrue, slice_index_or, if◌then◌else◌}
+use Rattle.std.proofs.Common.{◌≡◌, ◌≢◌, ◌⊎◌, ℕ, zero, suc, ◌*◌, ◌/◌, ◌%◌, ◌<◌, ◌≤◌, ◌==◌, ◌&&◌, Bool, true, false, cond, List, [], ◌∷◌, ◌++◌, length, reverse, Option, Some, None, refl, sym, ◌∙◌, ap, subst, arith, append_assoc, append-nil, ⊎_elim}
+use Rattle.std.specs.Prelude.{filter, IsTrue, slice_index_or, slice_get, if◌then◌else◌}
 use Rattle.std.specs.List.{AllByRecursion}
-use Rattle.std.proofs.lemmas.Bool.{cases_eq, ne_eqb}
+use Rattle.std.proofs.lemmas.Bool.{cases_lt, cases_eq, ne_eqb}
 use Rattle.std.proofs.lemmas.Bool.Decides.{nat_tests}
 use Rattle.std.proofs.lemmas.List.{reverse-append, reverse-reverse, length-set, length-replicate}
 use Rattle.std.proofs.lemmas.List.Elements.{filter-append}
+use Rattle.ebpf_decode.specs.declared.map.MapDef.{MapDef}
 use Rattle.semantics.specs.declared.call.Caller.{Caller}
 use Rattle.semantics.specs.declared.call.Caller.TheVariants.{Worker, Controller, Reclaimer}
 use Rattle.semantics.specs.declared.call.Call.{Call}
 use Rattle.semantics.specs.declared.call.Call.TheVariants.{Enter, Leave, Lookup, Load, Store, Atomic, Update, Delete, Reclaim}
 use Rattle.semantics.specs.declared.call.Entry.{Entry}
 use Rattle.semantics.specs.declared.call.Reply.{Reply}
+use Rattle.semantics.specs.declared.options.Options.{Options}
 use Rattle.semantics.specs.declared.plan.ShardPlan.{ShardPlan}
 use Rattle.semantics.specs.Reclamation.{is_worker}
-use Rattle.semantics.specs.ShardPlan.{plan_at}
+use Rattle.semantics.specs.ShardPlan.{plan_at, plan_for_map}
 use Rattle.semantics.specs.History.{shard_of_call, meets, IsJournalFull, IsLegalJournal, IsLegalStep}
 use Rattle.semantics.specs.System.{Setting, SystemState, SystemEvent, Controls, Reclaims, WorkerState, Idle, worker_state, history_of, with_entry, entry_for, after_call, MayCall, is_key_change, CanHappen, after_event, opening_system}
 use Rattle.semantics.proofs.shared.SystemSteps.{history_there, history_elsewhere, same_everywhere}
-use Rattle.guarantees.specs.Steps.{Asked, Nothing, Writes, Refused, Move, AreSteps, is_of_shard}
+use Rattle.shards.specs.declared.deeds.Deed.{Deed}
+use Rattle.shards.specs.declared.deeds.Deed.TheVariants.{Wrote, MetFull}
+use Rattle.shards.specs.Deeds.{shard_of_deed, made_on}
+use Rattle.guarantees.specs.Steps.{Asked, Nothing, Writes, Refused, Move, AreSteps, deeds_asked, deeds_in}
 use Rattle.guarantees.specs.Moves.{Answers, IsAskedSo, after_asked, is_event_of}
-use Rattle.guarantees.specs.Merging.{Deed, Wrote, MetFull, shard_of_deed, is_deed_of, deeds_asked, deeds_in, entries_made, made_on, IsOneOrder, events_of, OneOrderIsOneList}
+use Rattle.guarantees.specs.Merging.{IsOneOrder, events_of, OneOrderIsOneList}
+use Rattle.guarantees.proofs.Callers.{worker_below}
 use Rattle.guarantees.proofs.LegalEntries.{entry_is_legal}
 use Rattle.guarantees.proofs.MoveLemmas.{numbered}
-use Rattle.guarantees.proofs.MergeEvents.{HappenFrom, then_happen, IsListed, listed, AreOwn, own_stay, own_go, one_of_eight, Advance, advance, RunsOut, runs_out}
+use Rattle.guarantees.proofs.DeedLemmas.{is_deed_by, made_append, met_at}
+use Rattle.guarantees.proofs.MergeEvents.{HappenFrom, then_happen, IsListed, listed, AreOwn, own_stay, own_go, Advance, advance, RunsOut, runs_out}
 
 -- ---- what is left to do, by worker
 
@@ -39,17 +46,6 @@ put_there worker moves rest =
 put_other : (worker other : ℕ) (moves : List Move) (rest : ℕ → List Move) → other ≢ worker → put worker moves rest other ≡ rest other
 put_other worker other moves rest apart = ap (λ (test : Bool). cond test moves (rest other)) (ne_eqb other worker apart)
 
--- ---- the entries of deeds
-
-entries_append : (first second : List Deed) → entries_made (first ++ second) ≡ entries_made first ++ entries_made second
-entries_append [] second = refl
-entries_append (Wrote entry ∷ first) second = ap (λ (list : List Entry). entry ∷ list) (entries_append first second)
-entries_append (MetFull worker call ∷ first) second = entries_append first second
-
-made_append : (number : ℕ) (first second : List Deed) → made_on number (first ++ second) ≡ made_on number first ++ made_on number second
-made_append number first second =
-    ap (filter (is_of_shard number)) (entries_append first second) ∙ filter-append (is_of_shard number) (entries_made first) (entries_made second)
-
 -- ---- where the order has come to
 
 record Stands (setting : Setting) (count : ℕ) (deeds earlier later : List Deed) (system : SystemState) (rest : ℕ → List Move) : Type 0 where
@@ -59,7 +55,8 @@ record Stands (setting : Setting) (count : ℕ) (deeds earlier later : List Deed
   shards : length system.histories ≡ count
   histories : (number : ℕ) → number < count → history_of system number ≡ reverse (made_on number earlier)
   steps : (worker : ℕ) → AreSteps setting count worker (worker_state system worker) (rest worker) Idle
-  own : (worker : ℕ) → deeds_in worker (rest worker) ≡ filter (is_deed_of worker) later
+  own : (worker : ℕ) → worker < setting.options.workers → deeds_in worker (rest worker) ≡ filter (is_deed_by worker) later
+  none : (worker : ℕ) → setting.options.workers ≤ worker → rest worker ≡ []
 
 record Merged (setting : Setting) (count : ℕ) (deeds : List Deed) (system : SystemState) (rest : ℕ → List Move) : Type 0 where
   events : List SystemEvent
@@ -124,9 +121,10 @@ steps_at setting count worker other before after moves rest here others steps = 
 abbrev OnlyBelow : ℕ → (ℕ → List Move) → Type 0
 OnlyBelow most rest = (worker : ℕ) → most ≤ worker → rest worker ≡ []
 
-finish : (setting : Setting) (count : ℕ) (deeds : List Deed) (most : ℕ) → most ≤ 8 → (system : SystemState) (rest : ℕ → List Move) →
-    Stands setting count deeds deeds [] system rest → OnlyBelow most rest → Merged setting count deeds system rest
-finish setting count deeds zero fits system rest stands none = record {
+finish : (setting : Setting) (count : ℕ) (deeds : List Deed) (most : ℕ) → setting.options.workers ≤ 8 → most ≤ setting.options.workers →
+    (system : SystemState) (rest : ℕ → List Move) → Stands setting count deeds deeds [] system rest → OnlyBelow most rest →
+    Merged setting count deeds system rest
+finish setting count deeds zero small fits system rest stands none = record {
   events = [];
   last = system;
   happen = refl;
@@ -135,12 +133,13 @@ finish setting count deeds zero fits system rest stands none = record {
   idle = λ worker. subst (λ (list : List Move). AreSteps setting count worker (worker_state system worker) list Idle) (none worker (omega arith))
       (stands.steps worker);
 }
-finish setting count deeds (suc most) fits system rest stands none =
+finish setting count deeds (suc most) small fits system rest stands none =
     let eight : length system.workers ≡ 8 = stands.eight in
-    let few : most < length system.workers = omega (arith, fits, eight) in
-    let out : RunsOut setting most system (rest most) = runs_out setting count most (rest most) system few (stands.own most) (stands.steps most) in
+    let few : most < length system.workers = omega (arith, fits, small, eight) in
+    let out : RunsOut setting most system (rest most) =
+    runs_out setting count most (rest most) system few (stands.own most (omega (arith, fits))) (stands.steps most) in
     go_on setting count most deeds system out.after rest [] (events_of (rest most)) out.happen out.own (sym (append-nil (events_of (rest most))))
-    (finish setting count deeds most (omega (arith, fits)) out.after (put most [] rest)
+    (finish setting count deeds most small (omega (arith, fits)) out.after (put most [] rest)
     (record {
       split = stands.split;
       within = tt;
@@ -148,10 +147,11 @@ finish setting count deeds (suc most) fits system rest stands none =
       shards = ap length out.histories ∙ stands.shards;
       histories = λ number within. ap (λ list. slice_index_or list number []) out.histories ∙ stands.histories number within;
       steps = λ other. steps_at setting count most other system out.after [] rest out.idle out.others stands.steps;
-      own = λ other. ⊎_elim
+      own = λ other below. ⊎_elim
           (λ same. subst (λ (one : ℕ). deeds_in one (put most [] rest one) ≡ []) (sym same) (ap (deeds_in most) (put_there most [] rest)))
-          (λ apart. ap (deeds_in other) (put_other most other [] rest apart) ∙ stands.own other)
+          (λ apart. ap (deeds_in other) (put_other most other [] rest apart) ∙ stands.own other below)
           (cases_eq other most);
+      none = λ worker past. put_other most worker [] rest (λ same. omega (arith, same, past, fits)) ∙ stands.none worker past;
     })
     (λ worker past. ⊎_elim
     (λ same. subst (λ (one : ℕ). put most [] rest one ≡ []) (sym same) (put_there most [] rest))
@@ -160,13 +160,6 @@ finish setting count deeds (suc most) fits system rest stands none =
   where
     further : (most worker : ℕ) → most ≤ worker → worker ≢ most → suc most ≤ worker
     further most worker past apart = grind (arith, past, apart)
-
-none_past : (setting : Setting) (count worker : ℕ) (system : SystemState) (moves : List Move) → setting.options.workers ≤ 8 →
-    length system.workers ≡ 8 → 8 ≤ worker → AreSteps setting count worker (worker_state system worker) moves Idle → moves ≡ []
-none_past setting count worker system [] most eight past steps = refl
-none_past setting count worker system (move ∷ moves) most eight past steps =
-    let few : worker < length system.workers = one_of_eight setting count worker system move moves most eight steps in
-    absurd (omega (arith, few, eight, past))
 
 -- ---- the histories after one deed
 
@@ -201,20 +194,13 @@ after_entry count earlier system after entry shards within histories same number
     ∙ sym (made_append number earlier (Wrote entry ∷ []))))
     (cases_eq number shard)
 
-after_look : (count : ℕ) (earlier : List Deed) (system after : SystemState) (worker : ℕ) (call : Call) → HaveHistories count earlier system →
-    after.histories ≡ system.histories → HaveHistories count (earlier ++ MetFull worker call ∷ []) after
-after_look count earlier system after worker call histories same number below =
+after_look : (count : ℕ) (earlier : List Deed) (system after : SystemState) (who : Caller) (call : Call) → HaveHistories count earlier system →
+    after.histories ≡ system.histories → HaveHistories count (earlier ++ MetFull who call ∷ []) after
+after_look count earlier system after who call histories same number below =
     ap (λ list. slice_index_or list number []) same ∙ histories number below
-    ∙ ap reverse (sym (append-nil (made_on number earlier)) ∙ sym (made_append number earlier (MetFull worker call ∷ [])))
+    ∙ ap reverse (sym (append-nil (made_on number earlier)) ∙ sym (made_append number earlier (MetFull who call ∷ [])))
 
 -- ---- a worker's deed
-
-some_of_eight : (setting : Setting) (count worker : ℕ) (system : SystemState) (moves : List Move) (deed : Deed) (later : List Deed) →
-    setting.options.workers ≤ 8 → length system.workers ≡ 8 → deeds_in worker moves ≡ deed ∷ later →
-    AreSteps setting count worker (worker_state system worker) moves Idle → worker < length system.workers
-some_of_eight setting count worker system [] deed later most eight made steps = absurd cc
-some_of_eight setting count worker system (move ∷ moves) deed later most eight made steps =
-    one_of_eight setting count worker system move moves most eight steps
 
 asked_shards : (system : SystemState) (asked : Asked) → length (after_asked system asked).histories ≡ length system.histories
 asked_shards system Nothing = refl
@@ -227,19 +213,19 @@ MergesFrom setting count deeds earlier later =
     (system : SystemState) (rest : ℕ → List Move) → Stands setting count deeds earlier later system rest → Merged setting count deeds system rest
 
 by_worker : (setting : Setting) (count worker : ℕ) (deeds earlier later : List Deed) (deed : Deed) (asked : Asked) (system : SystemState)
-    (rest : ℕ → List Move) → setting.options.workers ≤ 8 → Stands setting count deeds earlier (deed ∷ later) system rest →
-    deeds_asked worker asked ≡ deed ∷ [] → is_deed_of worker deed ≡ true →
-    ((other : ℕ) → other ≢ worker → is_deed_of other deed ≡ false) → IsAskedSo setting system asked →
+    (rest : ℕ → List Move) → setting.options.workers ≤ 8 → worker < setting.options.workers →
+    Stands setting count deeds earlier (deed ∷ later) system rest → deeds_asked worker asked ≡ deed ∷ [] → is_deed_by worker deed ≡ true →
+    ((other : ℕ) → other ≢ worker → is_deed_by other deed ≡ false) → IsAskedSo setting system asked →
     ((after : SystemState) → after.histories ≡ (after_asked system asked).histories → HaveHistories count (earlier ++ deed ∷ []) after) →
     MergesFrom setting count deeds (earlier ++ deed ∷ []) later → Merged setting count deeds system rest
-by_worker setting count worker deeds earlier later deed asked system rest most stands one own_deed not_others asks histories onward =
-    let made : deeds_in worker (rest worker) ≡ deed ∷ filter (is_deed_of worker) later =
-    stands.own worker
-    ∙ ap (λ (test : Bool). cond test (deed ∷ filter (is_deed_of worker) later) (filter (is_deed_of worker) later)) own_deed in
-    let few : worker < length system.workers =
-    some_of_eight setting count worker system (rest worker) deed (filter (is_deed_of worker) later) most stands.eight made (stands.steps worker) in
-    let ahead : Advance setting count worker system (rest worker) asked (filter (is_deed_of worker) later) =
-    advance setting count worker asked deed (filter (is_deed_of worker) later) (rest worker) system few one asks made (stands.steps worker) in
+by_worker setting count worker deeds earlier later deed asked system rest small below stands one own_deed not_others asks histories onward =
+    let made : deeds_in worker (rest worker) ≡ deed ∷ filter (is_deed_by worker) later =
+    stands.own worker below
+    ∙ ap (λ (test : Bool). cond test (deed ∷ filter (is_deed_by worker) later) (filter (is_deed_by worker) later)) own_deed in
+    let eight : length system.workers ≡ 8 = stands.eight in
+    let few : worker < length system.workers = omega (arith, below, small, eight) in
+    let ahead : Advance setting count worker system (rest worker) asked (filter (is_deed_by worker) later) =
+    advance setting count worker asked deed (filter (is_deed_by worker) later) (rest worker) system few one asks made (stands.steps worker) in
     go_on setting count worker deeds system ahead.after rest ahead.rest (events_of ahead.done) ahead.happen ahead.own ahead.parts
     (onward ahead.after (put worker ahead.rest rest)
     (record {
@@ -249,13 +235,33 @@ by_worker setting count worker deeds earlier later deed asked system rest most s
       shards = ap length ahead.histories ∙ asked_shards system asked ∙ stands.shards;
       histories = histories ahead.after ahead.histories;
       steps = λ other. steps_at setting count worker other system ahead.after ahead.rest rest ahead.steps ahead.others stands.steps;
-      own = λ other. ⊎_elim
-          (λ same. subst (λ (n : ℕ). deeds_in n (put worker ahead.rest rest n) ≡ filter (is_deed_of n) later) (sym same)
+      own = λ other among. ⊎_elim
+          (λ same. subst (λ (n : ℕ). deeds_in n (put worker ahead.rest rest n) ≡ filter (is_deed_by n) later) (sym same)
           (ap (deeds_in worker) (put_there worker ahead.rest rest) ∙ ahead.deeds))
-          (λ apart. ap (deeds_in other) (put_other worker other ahead.rest rest apart) ∙ stands.own other
-          ∙ ap (λ (test : Bool). cond test (deed ∷ filter (is_deed_of other) later) (filter (is_deed_of other) later)) (not_others other apart))
+          (λ apart. ap (deeds_in other) (put_other worker other ahead.rest rest apart) ∙ stands.own other among
+          ∙ ap (λ (test : Bool). cond test (deed ∷ filter (is_deed_by other) later) (filter (is_deed_by other) later)) (not_others other apart))
           (cases_eq other worker);
+      none = λ other past. put_other worker other ahead.rest rest (λ same. omega (arith, same, past, below)) ∙ stands.none other past;
     }))
+
+-- a deed that is no event: a look at a full journal by no worker of the options
+passed_over : (setting : Setting) (count : ℕ) (deeds earlier later : List Deed) (deed : Deed) (system : SystemState) (rest : ℕ → List Move) →
+    Stands setting count deeds earlier (deed ∷ later) system rest →
+    ((worker : ℕ) → worker < setting.options.workers → is_deed_by worker deed ≡ false) → HaveHistories count (earlier ++ deed ∷ []) system →
+    MergesFrom setting count deeds (earlier ++ deed ∷ []) later → Merged setting count deeds system rest
+passed_over setting count deeds earlier later deed system rest stands not_theirs histories onward =
+    onward system rest
+    (record {
+      split = stands.split ∙ sym (append_assoc earlier (deed ∷ []) later);
+      within = stands.within.1;
+      eight = stands.eight;
+      shards = stands.shards;
+      histories = histories;
+      steps = stands.steps;
+      own = λ worker below. stands.own worker below
+          ∙ ap (λ (test : Bool). cond test (deed ∷ filter (is_deed_by worker) later) (filter (is_deed_by worker) later)) (not_theirs worker below);
+      none = stands.none;
+    })
 
 -- ---- what a deed meets at its own place
 
@@ -282,6 +288,23 @@ at_place setting plan count journal moves deeds earlier later entry system rest 
     let history : history_of system (plan shard).number ≡ reverse (made_on shard earlier) =
     ap (history_of system) (numbered setting shard (plan shard) known) ∙ stands.histories shard within in
     record { known = known; step = subst (λ (list : List Entry). IsLegalStep (plan shard) list entry) (sym history) step }
+
+-- the plan is for the workers of the options
+workers_by : (options : Options) (number : ℕ) (found : Option MapDef) (plan : ShardPlan) → plan_for_map options number found ≡ Some plan →
+    plan.workers ≡ options.workers
+workers_by options number None plan is = absurd cc
+workers_by options number (Some definition) plan is =
+    let same : (record { number = number; part = number % options.shards; parts = options.shards; definition = definition; workers = options.workers; reserve = options.journal }) ≡ plan = cc
+    in sym (ap (λ (one : ShardPlan). one.workers) same)
+
+-- so a worker of which there is an entry is one of these
+worker_at : (setting : Setting) (plan : ShardPlan) (system : SystemState) (entry : Entry) (worker : ℕ) → entry.who ≡ Worker worker →
+    IsAtPlace setting plan system entry → worker < setting.options.workers
+worker_at setting plan system entry worker is place =
+    subst (λ (most : ℕ). worker < most)
+    (workers_by setting.options (shard_of_call entry.call) (slice_get setting.maps (shard_of_call entry.call / setting.options.shards)) plan place.known)
+    (worker_below plan (history_of system plan.number) worker entry.call
+    (subst (λ (one : Caller). IsTrue (meets plan (history_of system plan.number) one entry.call)) is place.step.step.met))
 
 answers_at : (setting : Setting) (plan : ShardPlan) (system : SystemState) (entry : Entry) → IsAtPlace setting plan system entry →
     Answers setting system entry
@@ -339,7 +362,7 @@ may_call setting plan system entry who is place =
 by_nobody : (setting : Setting) (count : ℕ) (deeds earlier later : List Deed) (entry : Entry) (event : SystemEvent) (system : SystemState)
     (rest : ℕ → List Move) → Stands setting count deeds earlier (Wrote entry ∷ later) system rest → CanHappen setting system event →
     after_event setting system event ≡ with_entry system (shard_of_call entry.call) entry → ((worker : ℕ) → is_event_of worker event ≡ false) →
-    ((worker : ℕ) → is_deed_of worker (Wrote entry) ≡ false) →
+    ((worker : ℕ) → is_deed_by worker (Wrote entry) ≡ false) →
     MergesFrom setting count deeds (earlier ++ Wrote entry ∷ []) later → Merged setting count deeds system rest
 by_nobody setting count deeds earlier later entry event system rest stands can leads nobody not_theirs onward =
     let after : SystemState = with_entry system (shard_of_call entry.call) entry in
@@ -353,8 +376,9 @@ by_nobody setting count deeds earlier later entry event system rest stands can l
       shards = asked_shards system (Writes entry) ∙ stands.shards;
       histories = after_entry count earlier system after entry stands.shards stands.within.0 stands.histories refl;
       steps = stands.steps;
-      own = λ worker. stands.own worker
-          ∙ ap (λ (test : Bool). cond test (Wrote entry ∷ filter (is_deed_of worker) later) (filter (is_deed_of worker) later)) (not_theirs worker);
+      own = λ worker below. stands.own worker below
+          ∙ ap (λ (test : Bool). cond test (Wrote entry ∷ filter (is_deed_by worker) later) (filter (is_deed_by worker) later)) (not_theirs worker);
+      none = stands.none;
     })))
 
 -- ---- every deed
@@ -366,7 +390,8 @@ wrote : (setting : Setting) (plan : ℕ → ShardPlan) (count : ℕ) (journal : 
 wrote setting plan count journal moves deeds earlier later entry system rest order stands onward (Worker worker) is =
     let place = at_place setting plan count journal moves deeds earlier later entry system rest order stands in
     let same : (worker == worker) ≡ true = grind (arith, nat_tests) in
-    by_worker setting count worker deeds earlier later (Wrote entry) (Writes entry) system rest order.options.at_most_eight stands refl
+    by_worker setting count worker deeds earlier later (Wrote entry) (Writes entry) system rest order.options.at_most_eight
+    (worker_at setting (plan (shard_of_call entry.call)) system entry worker is place) stands refl
     (ap (is_worker worker) is ∙ same)
     (λ other apart. ap (is_worker other) is ∙ ne_eqb worker other (λ same. apart (sym same)))
     (answers_at setting (plan (shard_of_call entry.call)) system entry place)
@@ -395,39 +420,59 @@ wrote setting plan count journal moves deeds earlier later entry system rest ord
     ∙ served setting (plan shard) system entry Reclaimer is place)
     (λ worker. refl) (λ worker. ap (is_worker worker) is) onward
 
-met_full : (setting : Setting) (plan : ℕ → ShardPlan) (count : ℕ) (journal : ℕ → List Entry) (moves : ℕ → List Move) (deeds earlier later : List Deed)
+looked : (setting : Setting) (plan : ℕ → ShardPlan) (count : ℕ) (journal : ℕ → List Entry) (moves : ℕ → List Move) (deeds earlier later : List Deed)
     (worker : ℕ) (call : Call) (system : SystemState) (rest : ℕ → List Move) → IsOneOrder setting plan count journal moves deeds →
-    Stands setting count deeds earlier (MetFull worker call ∷ later) system rest →
-    MergesFrom setting count deeds (earlier ++ MetFull worker call ∷ []) later → Merged setting count deeds system rest
-met_full setting plan count journal moves deeds earlier later worker call system rest order stands onward =
+    worker < setting.options.workers → Stands setting count deeds earlier (MetFull (Worker worker) call ∷ later) system rest →
+    MergesFrom setting count deeds (earlier ++ MetFull (Worker worker) call ∷ []) later → Merged setting count deeds system rest
+looked setting plan count journal moves deeds earlier later worker call system rest order below stands onward =
     let shard : ℕ = shard_of_call call in
     let same : (worker == worker) ≡ true = grind (arith, nat_tests) in
     let known : plan_at setting.maps setting.options shard ≡ Some (plan shard) = order.plans shard stands.within.0 in
     let history : history_of system (plan shard).number ≡ reverse (made_on shard earlier) =
     ap (history_of system) (numbered setting shard (plan shard) known) ∙ stands.histories shard stands.within.0 in
-    by_worker setting count worker deeds earlier later (MetFull worker call) (Refused call) system rest order.options.at_most_eight stands refl same
+    by_worker setting count worker deeds earlier later (MetFull (Worker worker) call) (Refused call) system rest order.options.at_most_eight below stands refl
+    same
     (λ other apart. ne_eqb worker other (λ same. apart (sym same)))
     (record {
       plan = plan shard;
       known = known;
-      full = subst (λ (list : List Entry). IsJournalFull (plan shard) list call) (sym history) (order.full earlier later worker call stands.split);
+      full = subst (λ (list : List Entry). IsJournalFull (plan shard) list call) (sym history)
+          (met_at plan deeds earlier later (Worker worker) call stands.split order.met);
     })
-    (λ after same. after_look count earlier system after worker call stands.histories same)
+    (λ after same. after_look count earlier system after (Worker worker) call stands.histories same)
     onward
+
+met_full : (setting : Setting) (plan : ℕ → ShardPlan) (count : ℕ) (journal : ℕ → List Entry) (moves : ℕ → List Move) (deeds earlier later : List Deed)
+    (who : Caller) (call : Call) (system : SystemState) (rest : ℕ → List Move) → IsOneOrder setting plan count journal moves deeds →
+    Stands setting count deeds earlier (MetFull who call ∷ later) system rest →
+    MergesFrom setting count deeds (earlier ++ MetFull who call ∷ []) later → Merged setting count deeds system rest
+met_full setting plan count journal moves deeds earlier later (Worker worker) call system rest order stands onward = ⊎_elim
+    (λ (below : worker < setting.options.workers).
+    looked setting plan count journal moves deeds earlier later worker call system rest order below stands onward)
+    (λ (past : setting.options.workers ≤ worker).
+    passed_over setting count deeds earlier later (MetFull (Worker worker) call) system rest stands
+    (λ other below. ne_eqb worker other (λ same. omega (arith, same, past, below)))
+    (after_look count earlier system system (Worker worker) call stands.histories refl) onward)
+    (cases_lt worker setting.options.workers)
+met_full setting plan count journal moves deeds earlier later Controller call system rest order stands onward =
+    passed_over setting count deeds earlier later (MetFull Controller call) system rest stands (λ worker below. refl)
+    (after_look count earlier system system Controller call stands.histories refl) onward
+met_full setting plan count journal moves deeds earlier later Reclaimer call system rest order stands onward =
+    passed_over setting count deeds earlier later (MetFull Reclaimer call) system rest stands (λ worker below. refl)
+    (after_look count earlier system system Reclaimer call stands.histories refl) onward
 
 merge : (setting : Setting) (plan : ℕ → ShardPlan) (count : ℕ) (journal : ℕ → List Entry) (moves : ℕ → List Move) (deeds : List Deed) →
     IsOneOrder setting plan count journal moves deeds → (later earlier : List Deed) → MergesFrom setting count deeds earlier later
 merge setting plan count journal moves deeds order [] earlier system rest stands =
     let all : earlier ≡ deeds = sym (stands.split ∙ append-nil earlier) in
-    finish setting count deeds 8 (omega arith) system rest
-    (subst (λ (list : List Deed). Stands setting count deeds list [] system rest) all stands)
-    (λ worker past. none_past setting count worker system (rest worker) order.options.at_most_eight stands.eight past (stands.steps worker))
+    finish setting count deeds setting.options.workers order.options.at_most_eight (omega arith) system rest
+    (subst (λ (list : List Deed). Stands setting count deeds list [] system rest) all stands) stands.none
 merge setting plan count journal moves deeds order (Wrote entry ∷ later) earlier system rest stands =
     wrote setting plan count journal moves deeds earlier later entry system rest order stands
     (merge setting plan count journal moves deeds order later (earlier ++ Wrote entry ∷ [])) entry.who refl
-merge setting plan count journal moves deeds order (MetFull worker call ∷ later) earlier system rest stands =
-    met_full setting plan count journal moves deeds earlier later worker call system rest order stands
-    (merge setting plan count journal moves deeds order later (earlier ++ MetFull worker call ∷ []))
+merge setting plan count journal moves deeds order (MetFull who call ∷ later) earlier system rest stands =
+    met_full setting plan count journal moves deeds earlier later who call system rest order stands
+    (merge setting plan count journal moves deeds order later (earlier ++ MetFull who call ∷ []))
 
 -- ---- from the opening on
 
@@ -443,8 +488,12 @@ one_order_is_one_list setting plan count journal moves deeds order =
       shards = length-replicate (length setting.maps * setting.options.shards) [] ∙ sym order.count_is;
       histories = λ number below. same_everywhere (length setting.maps * setting.options.shards) number [];
       steps = λ worker. subst (λ (state : WorkerState). AreSteps setting count worker state (moves worker) Idle) (sym (same_everywhere 8 worker Idle))
-          (order.steps worker);
+          (⊎_elim (order.steps worker)
+          (λ (past : setting.options.workers ≤ worker).
+          subst (λ (list : List Move). AreSteps setting count worker Idle list Idle) (sym (order.of_others worker past)) refl)
+          (cases_lt worker setting.options.workers));
       own = order.own;
+      none = order.of_others;
     }) in
     let all = listed setting [] merged.events merged.last tt merged.happen in
     let same : reverse merged.events ++ [] ≡ reverse merged.events = append-nil (reverse merged.events) in

@@ -1,14 +1,17 @@
 -- Events of one worker, and of no worker, from a state of the system on.
-use Rattle.std.proofs.Common.{◌≡◌, ◌≢◌, ℕ, ◌<◌, ◌≤◌, ◌==◌, Bool, true, false, cond, List, [], ◌∷◌, ◌++◌, length, reverse, refl, sym, ◌∙◌, ap, subst, arith, append_assoc, ⊎_elim}
+use Rattle.std.proofs.Common.{◌≡◌, ◌≢◌, ℕ, ◌<◌, ◌==◌, Bool, true, false, cond, List, [], ◌∷◌, ◌++◌, length, reverse, refl, sym, ◌∙◌, ap, subst, append_assoc}
 use Rattle.std.specs.Prelude.{filter}
 use Rattle.std.specs.List.{AllByRecursion}
-use Rattle.std.proofs.lemmas.Bool.{cases_lt, ne_eqb, eqb-true}
-use Rattle.std.proofs.lemmas.List.{reverse-append, get_or_past, length-set}
+use Rattle.std.proofs.lemmas.Bool.{ne_eqb, eqb-true}
+use Rattle.std.proofs.lemmas.List.{reverse-append, length-set}
+use Rattle.semantics.specs.declared.call.Caller.TheVariants.{Worker}
 use Rattle.semantics.specs.System.{Setting, SystemState, SystemEvent, BeginsRun, DoesInstruction, CallsShard, LeavesShard, Controls, Reclaims, WorkerState, Idle, worker_state, with_worker, CanHappen, after_event, system_after, CanAllHappen}
 use Rattle.semantics.proofs.shared.SystemSteps.{state_there, state_elsewhere}
-use Rattle.guarantees.specs.Steps.{Asked, Nothing, Writes, Refused, Move, IsStep, RunBegins, RunGoesOn, RunEnds, CallIsServed, ShardIsEntered, CallIsRefused, EnterIsRefused, ShardIsLeft, AreSteps}
+use Rattle.shards.specs.declared.deeds.Deed.{Deed}
+use Rattle.shards.specs.declared.deeds.Deed.TheVariants.{Wrote, MetFull}
+use Rattle.guarantees.specs.Steps.{Asked, Nothing, Writes, Refused, Move, IsStep, AreSteps, deeds_asked, deeds_in}
 use Rattle.guarantees.specs.Moves.{IsMove, IsAskedSo, after_asked, is_event_of}
-use Rattle.guarantees.specs.Merging.{Deed, Wrote, MetFull, deeds_asked, deeds_in, events_of}
+use Rattle.guarantees.specs.Merging.{events_of}
 use Rattle.guarantees.proofs.MoveLemmas.{steps_are_moves}
 
 -- ---- lists of events, the oldest first
@@ -65,30 +68,6 @@ own_go worker other (event ∷ events) apart own =
     (not_anothers worker other event apart own.0)
     ∙ own_go worker other events apart own.1
 
--- ---- who takes a step is one of eight
-
-begins_few : (setting : Setting) (count worker : ℕ) (before : WorkerState) (move : Move) (after : WorkerState) →
-    IsStep setting count worker before move after → before ≡ Idle → worker < setting.options.workers
-begins_few setting count worker before move after (RunBegins frame now told few input early low) idle = few
-begins_few setting count worker before move after (RunGoesOn state next entered is) idle = absurd cc
-begins_few setting count worker before move after (RunEnds state last verdict entered is) idle = absurd cc
-begins_few setting count worker before move after (CallIsServed state entered call next reply is within inside formed) idle = absurd cc
-begins_few setting count worker before move after (ShardIsEntered state entered call next is within outside) idle = absurd cc
-begins_few setting count worker before move after (CallIsRefused state entered call next is within inside) idle = absurd cc
-begins_few setting count worker before move after (EnterIsRefused state entered call next is within outside) idle = absurd cc
-begins_few setting count worker before move after (ShardIsLeft shard entered within inside) idle = absurd cc
-
-pub one_of_eight : (setting : Setting) (count worker : ℕ) (system : SystemState) (move : Move) (moves : List Move) →
-    setting.options.workers ≤ 8 → length system.workers ≡ 8 → AreSteps setting count worker (worker_state system worker) (move ∷ moves) Idle →
-    worker < length system.workers
-one_of_eight setting count worker system move moves most eight steps = ⊎_elim
-    (λ below. below)
-    (λ past.
-    let few : worker < setting.options.workers =
-    begins_few setting count worker (worker_state system worker) move steps.0 steps.1 (get_or_past system.workers worker Idle past) in
-    omega (arith, few, most, eight))
-    (cases_lt worker (length system.workers))
-
 -- ---- what is asked of a shard changes no worker
 
 pub asked_workers : (system : SystemState) (asked : Asked) → (after_asked system asked).workers ≡ system.workers
@@ -114,12 +93,12 @@ same_asked worker (Writes entry) Nothing deed is also = absurd cc
 same_asked worker (Writes entry) (Writes another) deed is also =
     let first : Wrote entry ≡ deed = cc in let second : Wrote another ≡ deed = cc in let same : entry ≡ another = cc in ap Writes same
 same_asked worker (Writes entry) (Refused call) deed is also =
-    let first : Wrote entry ≡ deed = cc in let second : MetFull worker call ≡ deed = cc in absurd cc
+    let first : Wrote entry ≡ deed = cc in let second : MetFull (Worker worker) call ≡ deed = cc in absurd cc
 same_asked worker (Refused call) Nothing deed is also = absurd cc
 same_asked worker (Refused call) (Writes entry) deed is also =
-    let first : MetFull worker call ≡ deed = cc in let second : Wrote entry ≡ deed = cc in absurd cc
+    let first : MetFull (Worker worker) call ≡ deed = cc in let second : Wrote entry ≡ deed = cc in absurd cc
 same_asked worker (Refused call) (Refused another) deed is also =
-    let first : MetFull worker call ≡ deed = cc in let second : MetFull worker another ≡ deed = cc in let same : call ≡ another = cc in
+    let first : MetFull (Worker worker) call ≡ deed = cc in let second : MetFull (Worker worker) another ≡ deed = cc in let same : call ≡ another = cc in
     ap Refused same
 
 -- ---- up to a worker's next deed
@@ -217,9 +196,9 @@ advance_by setting count worker asked deed later move moves before onward few on
     (is ∙ same_asked worker (Writes entry) asked deed (ap (λ (one : Deed). one ∷ []) same) one) few
     (steps_are_moves setting count worker (worker_state before worker) move steps.0 steps.1) asks steps.2 rest
 advance_by setting count worker asked deed later move moves before onward few one asks made steps (Refused call) is =
-    let all : MetFull worker call ∷ deeds_in worker moves ≡ deed ∷ later =
+    let all : MetFull (Worker worker) call ∷ deeds_in worker moves ≡ deed ∷ later =
     ap (λ (own : Asked). deeds_asked worker own ++ deeds_in worker moves) (sym is) ∙ made in
-    let same : MetFull worker call ≡ deed = cc in
+    let same : MetFull (Worker worker) call ≡ deed = cc in
     let rest : deeds_in worker moves ≡ later = cc in
     the_deed setting count worker before move moves asked later steps.0
     (is ∙ same_asked worker (Refused call) asked deed (ap (λ (one : Deed). one ∷ []) same) one) few
@@ -276,7 +255,7 @@ out_by setting count worker move moves before onward few none steps (Writes entr
     let some : Wrote entry ∷ deeds_in worker moves ≡ [] = ap (λ (own : Asked). deeds_asked worker own ++ deeds_in worker moves) (sym is) ∙ none in
     absurd cc
 out_by setting count worker move moves before onward few none steps (Refused call) is =
-    let some : MetFull worker call ∷ deeds_in worker moves ≡ [] =
+    let some : MetFull (Worker worker) call ∷ deeds_in worker moves ≡ [] =
     ap (λ (own : Asked). deeds_asked worker own ++ deeds_in worker moves) (sym is) ∙ none in
     absurd cc
 

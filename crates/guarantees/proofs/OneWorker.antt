@@ -1,36 +1,62 @@
 -- One worker's own order is an order of all deeds.
-use Rattle.std.proofs.Common.{◌≡◌, ◌≢◌, ⊎_elim, ℕ, ◌<◌, ◌==◌, Bool, true, false, cond, List, [], ◌∷◌, ◌++◌, refl, sym, ◌∙◌, ap, subst, arith}
+use Rattle.std.proofs.Common.{◌≡◌, ◌≢◌, ⊎_elim, ℕ, ◌<◌, ◌≤◌, ◌==◌, Bool, true, false, cond, List, [], ◌∷◌, ◌++◌, reverse, refl, sym, ◌∙◌, ap, subst, arith}
 use Rattle.std.specs.Prelude.{filter, map, IsFalse}
-use Rattle.std.proofs.lemmas.List.Elements.{filter-append}
-use Rattle.semantics.specs.MachineState.{MachineState, initial_state}
-use Rattle.shard_port.specs.PassSessions.{session_at}
 use Rattle.std.specs.List.{AllByRecursion}
 use Rattle.std.proofs.lemmas.Bool.{cases_eq, ne_eqb, eqb-true}
 use Rattle.std.proofs.lemmas.Bool.Decides.{nat_tests}
+use Rattle.std.proofs.lemmas.List.Elements.{filter-append}
+use Rattle.semantics.specs.MachineState.{MachineState, initial_state}
 use Rattle.semantics.specs.declared.call.Caller.{Caller}
 use Rattle.semantics.specs.declared.call.Caller.TheVariants.{Worker, Controller, Reclaimer}
-use Rattle.semantics.specs.declared.call.Call.{Call}
-use Rattle.semantics.specs.Reclamation.{is_worker}
 use Rattle.semantics.specs.declared.call.Entry.{Entry}
+use Rattle.semantics.specs.declared.plan.ShardPlan.{ShardPlan}
+use Rattle.semantics.specs.Reclamation.{is_worker}
 use Rattle.semantics.specs.History.{IsLegalJournal}
 use Rattle.semantics.specs.System.{Setting, WorkerState, Idle, Runs, run_over, input_frame}
+use Rattle.shards.specs.declared.deeds.Deed.{Deed}
+use Rattle.shards.specs.declared.deeds.Deed.TheVariants.{Wrote, MetFull}
+use Rattle.shards.specs.Deeds.{shard_of_deed, is_of_shard, entries_made, AreMet, AreWithin as DeedsAreWithin}
+use Rattle.shard_port.specs.PassDeeds.{rising}
+use Rattle.shard_port.specs.PassSessions.{session_at}
 use Rattle.guarantees.specs.Steps.{begins, does, InRun, running, AreStepsOfRun, beginning, leavings, entries_on}
-use Rattle.guarantees.specs.Steps.{Asked, Nothing, Writes, Refused, Move, IsStep, RunBegins, RunGoesOn, RunEnds, CallIsServed, ShardIsEntered, CallIsRefused, EnterIsRefused, ShardIsLeft, AreSteps, is_of_shard, entries_asked, entries_in}
-use Rattle.guarantees.specs.Merging.{Deed, Wrote, MetFull, shard_of_deed, is_deed_of, deeds_asked, is_refusal, deeds_in, entries_made, NoneRefused, moves_of, OneWorkerIsOneList}
+use Rattle.guarantees.specs.Steps.{Asked, Nothing, Writes, Refused, Move, IsStep, RunBegins, RunGoesOn, RunEnds, CallIsServed, ShardIsEntered, CallIsRefused, EnterIsRefused, ShardIsLeft, AreSteps, entries_asked, entries_in, deeds_asked, deeds_in}
+use Rattle.guarantees.specs.Merging.{is_refusal, NoneRefused, moves_of, OneWorkerIsOneList}
 use Rattle.guarantees.specs.Merging.{IsSetBefore, set_and_done, RunAloneIsOneList}
-use Rattle.guarantees.proofs.EveryEntry.{all_both}
+use Rattle.guarantees.proofs.DeedLemmas.{is_deed_by}
+use Rattle.guarantees.proofs.EveryEntry.{all_both, all_reverse}
 use Rattle.guarantees.proofs.Merge.{one_order_is_one_list}
-use Rattle.guarantees.proofs.EventLemmas.{Reaches, Exited, reached, all_leave, append_on, whole_session}
+use Rattle.guarantees.proofs.Leaving.{all_leave}
+use Rattle.guarantees.proofs.EventLemmas.{Reaches, Exited, reached, append_on, whole_session}
+
+-- ---- an idle worker that takes a step is one of the options
+
+begins_few : (setting : Setting) (count worker : ℕ) (before : WorkerState) (move : Move) (after : WorkerState) →
+    IsStep setting count worker before move after → before ≡ Idle → worker < setting.options.workers
+begins_few setting count worker before move after (RunBegins frame now told few input early low) idle = few
+begins_few setting count worker before move after (RunGoesOn state next entered is) idle = absurd cc
+begins_few setting count worker before move after (RunEnds state last verdict entered is) idle = absurd cc
+begins_few setting count worker before move after (CallIsServed state entered call next reply is within inside formed) idle = absurd cc
+begins_few setting count worker before move after (ShardIsEntered state entered call next is within outside) idle = absurd cc
+begins_few setting count worker before move after (CallIsRefused state entered call next is within inside) idle = absurd cc
+begins_few setting count worker before move after (EnterIsRefused state entered call next is within outside) idle = absurd cc
+begins_few setting count worker before move after (ShardIsLeft shard entered within inside) idle = absurd cc
+
+none_past : (setting : Setting) (count worker : ℕ) (moves : List Move) (after : WorkerState) → setting.options.workers ≤ worker →
+    AreSteps setting count worker Idle moves after → moves ≡ []
+none_past setting count worker [] after past steps = refl
+none_past setting count worker (move ∷ moves) after past steps =
+    let few : worker < setting.options.workers = begins_few setting count worker Idle move steps.0 steps.1 refl in
+    absurd (omega (arith, few, past))
 
 -- ---- what a step does is its worker's, on one of the shards
 
-abbrev pub IsOwnDeed : ℕ → ℕ → Deed → Type 0
-IsOwnDeed count worker deed = (shard_of_deed deed < count) × (is_deed_of worker deed ≡ true)
+abbrev IsOwnDeed : ℕ → ℕ → Deed → Type 0
+IsOwnDeed count worker deed = (shard_of_deed deed < count) × (is_deed_by worker deed ≡ true)
 
 its_own : (worker : ℕ) → (worker == worker) ≡ true
 its_own worker = grind (arith, nat_tests)
 
-pub own_deeds : (setting : Setting) (count worker : ℕ) (before : WorkerState) (move : Move) (after : WorkerState) →
+own_deeds : (setting : Setting) (count worker : ℕ) (before : WorkerState) (move : Move) (after : WorkerState) →
     IsStep setting count worker before move after → AllByRecursion (IsOwnDeed count worker) (deeds_asked worker move.asked)
 own_deeds setting count worker before move after (RunBegins frame now told few input early low) = tt
 own_deeds setting count worker before move after (RunGoesOn state next entered is) = tt
@@ -42,33 +68,32 @@ own_deeds setting count worker before move after (CallIsRefused state entered ca
 own_deeds setting count worker before move after (EnterIsRefused state entered call next is within outside) = ((within, its_own worker), tt)
 own_deeds setting count worker before move after (ShardIsLeft shard entered within inside) = ((within, its_own worker), tt)
 
-pub all_own : (setting : Setting) (count worker : ℕ) (moves : List Move) (before after : WorkerState) → AreSteps setting count worker before moves after →
+all_own : (setting : Setting) (count worker : ℕ) (moves : List Move) (before after : WorkerState) → AreSteps setting count worker before moves after →
     AllByRecursion (IsOwnDeed count worker) (deeds_in worker moves)
 all_own setting count worker [] before after steps = tt
 all_own setting count worker (move ∷ moves) before after steps =
     all_both (IsOwnDeed count worker) (deeds_asked worker move.asked) (deeds_in worker moves)
     (own_deeds setting count worker before move steps.0 steps.1) (all_own setting count worker moves steps.0 after steps.2)
 
-within_of : (count worker : ℕ) (deeds : List Deed) → AllByRecursion (IsOwnDeed count worker) deeds →
-    AllByRecursion (λ (deed : Deed). shard_of_deed deed < count) deeds
+within_of : (count worker : ℕ) (deeds : List Deed) → AllByRecursion (IsOwnDeed count worker) deeds → DeedsAreWithin count deeds
 within_of count worker [] own = tt
 within_of count worker (deed ∷ deeds) own = (own.0.0, within_of count worker deeds own.1)
 
-all_stay : (count worker : ℕ) (deeds : List Deed) → AllByRecursion (IsOwnDeed count worker) deeds → filter (is_deed_of worker) deeds ≡ deeds
+all_stay : (count worker : ℕ) (deeds : List Deed) → AllByRecursion (IsOwnDeed count worker) deeds → filter (is_deed_by worker) deeds ≡ deeds
 all_stay count worker [] own = refl
 all_stay count worker (deed ∷ deeds) own =
-    ap (λ (test : Bool). cond test (deed ∷ filter (is_deed_of worker) deeds) (filter (is_deed_of worker) deeds)) own.0.1
+    ap (λ (test : Bool). cond test (deed ∷ filter (is_deed_by worker) deeds) (filter (is_deed_by worker) deeds)) own.0.1
     ∙ ap (λ (list : List Deed). deed ∷ list) (all_stay count worker deeds own.1)
 
 -- ---- nothing of another's
 
 written_by : (worker other : ℕ) (asked : Asked) (later : List Deed) → IsFalse (is_refusal asked) → other ≢ worker →
-    AllByRecursion (λ (deed : Deed). is_deed_of worker deed ≡ true) (deeds_asked worker asked) →
-    ((entry : Entry) → is_deed_of worker (Wrote entry) ≡ true → is_deed_of other (Wrote entry) ≡ false) →
-    filter (is_deed_of other) later ≡ [] → filter (is_deed_of other) (deeds_asked worker asked ++ later) ≡ []
+    AllByRecursion (λ (deed : Deed). is_deed_by worker deed ≡ true) (deeds_asked worker asked) →
+    ((entry : Entry) → is_deed_by worker (Wrote entry) ≡ true → is_deed_by other (Wrote entry) ≡ false) →
+    filter (is_deed_by other) later ≡ [] → filter (is_deed_by other) (deeds_asked worker asked ++ later) ≡ []
 written_by worker other Nothing later none apart own others rest = rest
 written_by worker other (Writes entry) later none apart own others rest =
-    ap (λ (test : Bool). cond test (Wrote entry ∷ filter (is_deed_of other) later) (filter (is_deed_of other) later)) (others entry own.0) ∙ rest
+    ap (λ (test : Bool). cond test (Wrote entry ∷ filter (is_deed_by other) later) (filter (is_deed_by other) later)) (others entry own.0) ∙ rest
 written_by worker other (Refused call) later none apart own others rest = absurd cc
 
 -- ---- entries
@@ -85,9 +110,9 @@ all_entries worker (move ∷ moves) = entries_are worker move.asked (deeds_in wo
 
 -- ---- no look at a full journal
 
-abbrev pub IsWritten : Deed → Type 0
+abbrev IsWritten : Deed → Type 0
 IsWritten (Wrote entry) = Unit {0}
-IsWritten (MetFull worker call) = ⊥
+IsWritten (MetFull who call) = ⊥
 
 asked_writes : (worker : ℕ) (asked : Asked) → IsFalse (is_refusal asked) → AllByRecursion IsWritten (deeds_asked worker asked)
 asked_writes worker Nothing none = tt
@@ -99,13 +124,14 @@ all_written worker [] none = tt
 all_written worker (move ∷ moves) none =
     all_both IsWritten (deeds_asked worker move.asked) (deeds_in worker moves) (asked_writes worker move.asked none.0) (all_written worker moves none.1)
 
-pub no_look : (earlier later : List Deed) (worker : ℕ) (call : Call) → AllByRecursion IsWritten (earlier ++ MetFull worker call ∷ later) → ⊥
-no_look [] later worker call all = all.0
-no_look (deed ∷ earlier) later worker call all = no_look earlier later worker call all.1
+none_looks : (plan : ℕ → ShardPlan) (deeds : List Deed) → AllByRecursion IsWritten deeds → AreMet plan deeds
+none_looks plan [] all = tt
+none_looks plan (Wrote entry ∷ deeds) all = (tt, none_looks plan deeds all.1)
+none_looks plan (MetFull who call ∷ deeds) all = absurd all.0
 
 -- ---- whose caller is the worker is not another's
 
-one_caller : (worker other : ℕ) → other ≢ worker → (entry : Entry) → is_deed_of worker (Wrote entry) ≡ true → is_deed_of other (Wrote entry) ≡ false
+one_caller : (worker other : ℕ) → other ≢ worker → (entry : Entry) → is_deed_by worker (Wrote entry) ≡ true → is_deed_by other (Wrote entry) ≡ false
 one_caller worker other apart entry own = by_who entry.who own
   where
     by_who : (who : Caller) → is_worker worker who ≡ true → is_worker other who ≡ false
@@ -114,28 +140,27 @@ one_caller worker other apart entry own = by_who entry.who own
     by_who Reclaimer is = refl
 
 none_of : (setting : Setting) (count worker other : ℕ) (moves : List Move) (before after : WorkerState) →
-    AreSteps setting count worker before moves after → NoneRefused moves → other ≢ worker → filter (is_deed_of other) (deeds_in worker moves) ≡ []
+    AreSteps setting count worker before moves after → NoneRefused moves → other ≢ worker → filter (is_deed_by other) (deeds_in worker moves) ≡ []
 none_of setting count worker other [] before after steps none apart = refl
 none_of setting count worker other (move ∷ moves) before after steps none apart =
     written_by worker other move.asked (deeds_in worker moves) none.0 apart
     (marks (deeds_asked worker move.asked) (own_deeds setting count worker before move steps.0 steps.1)) (one_caller worker other apart)
     (none_of setting count worker other moves steps.0 after steps.2 none.1 apart)
   where
-    marks : (deeds : List Deed) → AllByRecursion (IsOwnDeed count worker) deeds → AllByRecursion (λ (deed : Deed). is_deed_of worker deed ≡ true) deeds
+    marks : (deeds : List Deed) → AllByRecursion (IsOwnDeed count worker) deeds → AllByRecursion (λ (deed : Deed). is_deed_by worker deed ≡ true) deeds
     marks [] own = tt
     marks (deed ∷ deeds) own = (own.0.1, marks deeds own.1)
 
 -- ---- what the controller set before
 
-abbrev pub deeds_set : List Entry → List Deed
+abbrev deeds_set : List Entry → List Deed
 deeds_set set = map (λ (entry : Entry). Wrote entry) set
 
-set_within : (count : ℕ) (set : List Entry) → AllByRecursion (IsSetBefore count) set →
-    AllByRecursion (λ (deed : Deed). shard_of_deed deed < count) (deeds_set set)
+set_within : (count : ℕ) (set : List Entry) → AllByRecursion (IsSetBefore count) set → DeedsAreWithin count (deeds_set set)
 set_within count [] all = tt
 set_within count (entry ∷ set) all = (all.0.within, set_within count set all.1)
 
-pub set_written : (set : List Entry) → AllByRecursion IsWritten (deeds_set set)
+set_written : (set : List Entry) → AllByRecursion IsWritten (deeds_set set)
 set_written [] = tt
 set_written (entry ∷ set) = (tt, set_written set)
 
@@ -144,10 +169,10 @@ set_entries [] later = refl
 set_entries (entry ∷ set) later = ap (λ (list : List Entry). entry ∷ list) (set_entries set later)
 
 of_no_worker : (count worker : ℕ) (set : List Entry) (later : List Deed) → AllByRecursion (IsSetBefore count) set →
-    filter (is_deed_of worker) (deeds_set set ++ later) ≡ filter (is_deed_of worker) later
+    filter (is_deed_by worker) (deeds_set set ++ later) ≡ filter (is_deed_by worker) later
 of_no_worker count worker [] later all = refl
 of_no_worker count worker (entry ∷ set) later all =
-    ap (λ (test : Bool). cond test (Wrote entry ∷ filter (is_deed_of worker) (deeds_set set ++ later)) (filter (is_deed_of worker) (deeds_set set ++ later)))
+    ap (λ (test : Bool). cond test (Wrote entry ∷ filter (is_deed_by worker) (deeds_set set ++ later)) (filter (is_deed_by worker) (deeds_set set ++ later)))
     (ap (is_worker worker) all.0.who)
     ∙ of_no_worker count worker set later all.1
 
@@ -168,21 +193,26 @@ one_worker_is_one_list setting plan count worker set moves options count_is plan
           ap (filter (is_of_shard number)) (set_entries set (deeds_in worker moves) ∙ ap (λ (list : List Entry). set ++ list) (all_entries worker moves))
           ∙ filter-append (is_of_shard number) set (entries_in moves);
       legal = legal;
-      full = λ earlier later other call split. absurd (no_look earlier later other call
-          (subst (AllByRecursion IsWritten) split
-          (all_both IsWritten (deeds_set set) (deeds_in worker moves) (set_written set) (all_written worker moves none))));
-      own = λ other. ⊎_elim
-          (λ same. subst (λ (one : ℕ). deeds_in one (moves_of worker moves one) ≡ filter (is_deed_of one) deeds) (sym same)
+      met = none_looks plan (reverse deeds)
+          (all_reverse IsWritten deeds (all_both IsWritten (deeds_set set) (deeds_in worker moves) (set_written set) (all_written worker moves none)));
+      own = λ other below. ⊎_elim
+          (λ same. subst (λ (one : ℕ). deeds_in one (moves_of worker moves one) ≡ filter (is_deed_by one) deeds) (sym same)
           (ap (λ (test : Bool). deeds_in worker (cond test moves [])) (its_own worker)
           ∙ sym (of_no_worker count worker set (deeds_in worker moves) before ∙ all_stay count worker (deeds_in worker moves) own)))
           (λ apart. ap (λ (test : Bool). deeds_in other (cond test moves [])) (ne_eqb other worker apart)
           ∙ sym (of_no_worker count other set (deeds_in worker moves) before
           ∙ none_of setting count worker other moves Idle Idle steps none apart))
           (cases_eq other worker);
-      steps = λ other. ⊎_elim
+      steps = λ other below. ⊎_elim
           (λ same. subst (λ (one : ℕ). AreSteps setting count one Idle (moves_of worker moves one) Idle) (sym same)
           (subst (λ (test : Bool). AreSteps setting count worker Idle (cond test moves []) Idle) (sym (its_own worker)) steps))
           (λ apart. subst (λ (test : Bool). AreSteps setting count other Idle (cond test moves []) Idle) (sym (ne_eqb other worker apart)) refl)
+          (cases_eq other worker);
+      of_others = λ other past. ⊎_elim
+          (λ same. subst (λ (one : ℕ). moves_of worker moves one ≡ []) (sym same)
+          (ap (λ (test : Bool). cond test moves []) (its_own worker)
+          ∙ none_past setting count worker moves Idle (subst (λ (one : ℕ). setting.options.workers ≤ one) same past) steps))
+          (λ apart. ap (λ (test : Bool). cond test moves []) (ne_eqb other worker apart))
           (cases_eq other worker);
     })
 
@@ -230,7 +260,8 @@ run_alone_is_one_list setting plan count worker told now frame set exchanges ver
     let start : MachineState = initial_state (input_frame frame) told now in
     let there : Reaches (Exited setting verdict last) setting count worker start [] exchanges =
     reached setting count worker run.instructions verdict last start [] exchanges tt run.within run.formed run.trace in
-    let ending : List Move = does worker ∷ leavings worker there.after in
+    let left : List ℕ = rising count there.after in
+    let ending : List Move = does worker ∷ leavings worker left in
     let moves : List Move = begins worker frame now told ∷ there.run ++ ending in
     let steps : AreSteps setting count worker Idle moves Idle = (
       Runs start [],
@@ -245,10 +276,10 @@ run_alone_is_one_list setting plan count worker told now frame set exchanges ver
       refl,
       all_both (λ (move : Move). IsFalse (is_refusal move.asked)) there.run ending
           (run_refuses_none setting count worker there.run (beginning frame told now) (record { state = there.ending; entered = there.after }) there.runs)
-          (refl, leavings_refuse_none worker there.after),
+          (refl, leavings_refuse_none worker left),
     ) in
     let done : (number : ℕ) → entries_on number moves ≡ session_at worker number exchanges =
-    λ number. append_on number there.run ending ∙ sym (append_on number there.run (leavings worker there.after))
+    λ number. append_on number there.run ending ∙ sym (append_on number there.run (leavings worker left))
     ∙ whole_session (Exited setting verdict last) setting count worker start exchanges there number in
     let made = one_worker_is_one_list setting plan count worker set moves options count_is plans before steps none
     (λ number below. subst (λ (list : List Entry). IsLegalJournal (plan number) (filter (is_of_shard number) set ++ list)) (sym (done number))

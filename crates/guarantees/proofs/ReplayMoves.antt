@@ -1,11 +1,9 @@
--- The moves of each worker over a whole replay, and one list of all callers' events where there is one shard.
-use Rattle.std.proofs.Common.{◌≡◌, ℕ, ◌<◌, ◌≤◌, Bool, true, false, cond, nat_lt, List, [], ◌∷◌, ◌++◌, length, reverse, refl, sym, ◌∙◌, ap, subst, arith, append_assoc, append-nil}
-use Rattle.std.specs.Prelude.{filter, IsFalse}
+-- The moves of each worker over a whole replay.
+use Rattle.std.proofs.Common.{◌≡◌, ℕ, ◌<◌, ◌≤◌, Bool, true, false, nat_lt, List, [], ◌∷◌, ◌++◌, length, reverse, refl, sym, ◌∙◌, ap, subst, arith, append_assoc, append-nil}
+use Rattle.std.specs.Prelude.{IsFalse}
 use Rattle.std.specs.List.{AllByRecursion}
 use Rattle.std.proofs.lemmas.Bool.Decides.{nat_tests}
 use Rattle.std.proofs.lemmas.List.{reverse-append, reverse-reverse}
-use mathlib.Core.List.{reverse-cons}
-use Rattle.std.proofs.lemmas.List.Elements.{filter-append}
 use Rattle.wire.specs.declared.records.Sent.{Sent}
 use Rattle.semantics.specs.declared.call.Caller.TheVariants.{Worker}
 use Rattle.semantics.specs.declared.call.Entry.{Entry}
@@ -22,6 +20,9 @@ use Rattle.machine.specs.declared.exit.Stop.TheVariants.{JournalFull}
 use Rattle.machine.specs.declared.moment.Moment.{Moment}
 use Rattle.journals.specs.JournalsView.{JournalsView, entries_at}
 use Rattle.shards.specs.CallerView.{CallerView}
+use Rattle.shards.specs.declared.deeds.Deed.{Deed}
+use Rattle.shards.specs.declared.deeds.Part.TheVariants.{ByCaller}
+use Rattle.shards.specs.Deeds.{deeds_of}
 use Rattle.shards.specs.Passes.{PassView, own_at}
 use Rattle.replay.specs.declared.runner.Ran.{Ran}
 use Rattle.replay.specs.declared.runner.RunEnd.{RunEnd}
@@ -30,12 +31,13 @@ use Rattle.replay.specs.Accounts.{runs_at}
 use Rattle.replay.specs.Accounted.{IsWorkOf}
 use Rattle.replay.specs.RunsInOrder.{IsRunAt, IsChainOfRuns}
 use Rattle.replay.specs.Shares.{frames_of, share}
-use Rattle.guarantees.specs.Steps.{Move, Refused, AreSteps, running, begins, does, asks, beginning, leavings, entries_on}
-use Rattle.guarantees.specs.SystemRuns.{setting_of, HaveGrown, RanInSystem, HasStoppedInSystem}
+use Rattle.guarantees.specs.Steps.{Move, Refused, AreSteps, running, begins, does, asks, beginning, leavings, entries_on, deeds_in}
+use Rattle.guarantees.specs.SystemRuns.{setting_of, HaveGrown, HaveDone, RanInSystem, HasStoppedInSystem}
 use Rattle.guarantees.specs.Merging.{is_refusal, NoneRefused}
 use Rattle.guarantees.specs.Headline.{moment_of, IsRunOfImage, IsStopOfImage, IsEitherOfImage}
 use Rattle.guarantees.specs.ReplayMoves.{IsNotStopped, AreMovesOf, HasMoves}
-use Rattle.guarantees.proofs.EventLemmas.{append_on}
+use Rattle.guarantees.proofs.DeedLemmas.{chosen_reversed}
+use Rattle.guarantees.proofs.EventLemmas.{append_on, append_deeds}
 use Rattle.guarantees.proofs.EveryEntry.{all_both}
 use Rattle.guarantees.proofs.OneWorker.{as_steps, run_refuses_none, leavings_refuse_none}
 
@@ -44,6 +46,7 @@ use Rattle.guarantees.proofs.OneWorker.{as_steps, run_refuses_none, leavings_ref
 record Walks (setting : Setting) (count worker : ℕ) (before after : PassView) (moves : List Move) : Type 0 where
   steps : AreSteps setting count worker Idle moves Idle
   grown : HaveGrown count moves before after
+  done : HaveDone worker moves before after
 
 then_steps : (setting : Setting) (count worker : ℕ) (moves later : List Move) (before between after : WorkerState) →
     AreSteps setting count worker before moves between → AreSteps setting count worker between later after →
@@ -64,6 +67,12 @@ walks_on setting count worker before middle after first second one two = record 
       ∙ sym (append_assoc (reverse (entries_on number second)) (reverse (entries_on number first)) (own_at before number))
       ∙ ap (λ (own : List Entry). own ++ own_at before number) (sym (reverse-append (entries_on number first) (entries_on number second)))
       ∙ ap (λ (list : List Entry). reverse list ++ own_at before number) (sym (append_on number first second));
+  done =
+      two.done
+      ∙ ap (λ (deeds : List Deed). reverse (deeds_in worker second) ++ deeds) one.done
+      ∙ sym (append_assoc (reverse (deeds_in worker second)) (reverse (deeds_in worker first)) before.deeds)
+      ∙ ap (λ (deeds : List Deed). deeds ++ before.deeds) (sym (reverse-append (deeds_in worker first) (deeds_in worker second)))
+      ∙ ap (λ (list : List Deed). reverse list ++ before.deeds) (sym (append_deeds worker first second));
 }
 
 -- ---- one run
@@ -92,6 +101,9 @@ run_moves setting count worker moment frame before after sent verdict steps end 
         grown = λ number within. is.written number within
             ∙ ap (λ (list : List Entry). reverse list ++ own_at before number)
             (append_on number is.run (leavings worker is.left) ∙ sym (append_on number is.run ending));
+        done = is.did
+            ∙ ap (λ (list : List Deed). reverse list ++ before.deeds)
+            (append_deeds worker is.run (leavings worker is.left) ∙ sym (append_deeds worker is.run ending));
       };
       met_none = λ _. (
         refl,
@@ -119,6 +131,7 @@ stopped_moves setting count worker plan moment frame before after kept_back (Jou
         grown = λ number within. is.written number within
             ∙ ap (λ (list : List Entry). reverse list ++ own_at before number)
             (append_on number is.run (leavings worker is.left) ∙ sym (append_on number is.run ending));
+        done = is.did;
       };
       met_none = λ none. absurd none;
     }
@@ -151,7 +164,11 @@ module _ (verified : Verified) (options : Options) (plan : ℕ → ShardPlan) (c
       IsChainOfRuns (IsRunAt (IsEitherOfImage verified options plan count worker) records) before runs after → AllMoves runs before after
   all_runs records [] before after same = record {
     moves = [];
-    walks = record { steps = refl; grown = λ number within. ap (λ (pass : PassView). own_at pass number) (sym same) };
+    walks = record {
+      steps = refl;
+      grown = λ number within. ap (λ (pass : PassView). own_at pass number) (sym same);
+      done = ap (λ (pass : PassView). pass.deeds) (sym same);
+    };
     met_none = λ _. tt;
   }
   all_runs records (ran ∷ later) before after chain =
@@ -165,25 +182,13 @@ module _ (verified : Verified) (options : Options) (plan : ℕ → ShardPlan) (c
 
 -- ---- what they wrote, beside the journals
 
-by_test : (entry : Entry) (own : List Entry) (test : Bool) →
-    reverse own ++ cond test (entry ∷ []) [] ≡ reverse (cond test (entry ∷ own) own)
-by_test entry own true = sym (reverse-cons entry own)
-by_test entry own false = append-nil (reverse own)
-
-own_reversed : (test : Entry → Bool) (entries : List Entry) → filter test (reverse entries) ≡ reverse (filter test entries)
-own_reversed test [] = refl
-own_reversed test (entry ∷ later) =
-    ap (filter test) (reverse-cons entry later) ∙ filter-append test (reverse later) (entry ∷ [])
-    ∙ ap (λ (own : List Entry). own ++ filter test (entry ∷ [])) (own_reversed test later)
-    ∙ by_test entry (filter test later) (test entry)
-
 module _ (verified : Verified) (options : Options) (plan : ℕ → ShardPlan) (count : ℕ) (records : List Sent) (runs : List (List Ran))
-    (journals : JournalsView)
+    (journals : JournalsView) (order : List Deed)
     (work : (worker : ℕ) → worker < options.workers → IsWorkOf (IsRunAt (IsEitherOfImage verified options plan count worker) records)
-    (share (frames_of records) options.workers worker (length records)) worker (runs_at runs worker) count journals) where
+    (share (frames_of records) options.workers worker (length records)) worker (runs_at runs worker) count journals order) where
   record IsMoved (worker : ℕ) : Type 0 where
     moves : List Move
-    are : AreMovesOf (setting_of verified options) count worker (runs_at runs worker) journals moves
+    are : AreMovesOf (setting_of verified options) count worker (runs_at runs worker) journals order moves
 
   moved : (worker : ℕ) → worker < options.workers → IsMoved worker
   moved worker below =
@@ -200,8 +205,15 @@ module _ (verified : Verified) (options : Options) (plan : ℕ → ShardPlan) (c
               let newest : reverse wrote ≡ own_entries (Worker worker) (reverse journal) =
               sym (append-nil (reverse wrote)) ∙ ap (λ (own : List Entry). reverse wrote ++ own) (sym none) ∙ sym (all.walks.grown number within)
               ∙ did.own number within in
-              sym (reverse-reverse wrote) ∙ ap reverse (newest ∙ own_reversed (λ (entry : Entry). is_worker worker entry.who) journal)
+              sym (reverse-reverse wrote) ∙ ap reverse (newest ∙ chosen_reversed (λ (entry : Entry). is_worker worker entry.who) journal)
               ∙ reverse-reverse (own_entries (Worker worker) journal);
+          did =
+              let done : List Deed = deeds_in worker all.moves in
+              let own : List Deed = deeds_of (ByCaller (Worker worker)) order in
+              let newest : reverse done ≡ own =
+              sym (append-nil (reverse done)) ∙ ap (λ (deeds : List Deed). reverse done ++ deeds) (sym did.handled.is_new.idle)
+              ∙ sym all.walks.done ∙ did.did in
+              sym (reverse-reverse done) ∙ ap reverse newest;
           met_none = all.met_none;
         };
       }
@@ -214,7 +226,7 @@ module _ (verified : Verified) (options : Options) (plan : ℕ → ShardPlan) (c
   chosen worker false is = []
 
   chosen_are : (worker : ℕ) (test : Bool) → (is : nat_lt worker options.workers ≡ test) → worker < options.workers →
-      AreMovesOf (setting_of verified options) count worker (runs_at runs worker) journals (chosen worker test is)
+      AreMovesOf (setting_of verified options) count worker (runs_at runs worker) journals order (chosen worker test is)
   unfolding chosen moved
   chosen_are worker true is below = (moved worker (less worker is)).are
   chosen_are worker false is below = absurd (grind (arith, nat_tests, is, below))
@@ -224,7 +236,7 @@ module _ (verified : Verified) (options : Options) (plan : ℕ → ShardPlan) (c
   none_chosen worker true is past = absurd (let below = less worker is in omega (arith, below, past))
   none_chosen worker false is past = refl
 
-  pub has_moves : HasMoves (setting_of verified options) count runs journals
+  pub has_moves : HasMoves (setting_of verified options) count runs journals order
   has_moves = record {
     moves = λ worker. chosen worker (nat_lt worker options.workers) refl;
     of_worker = λ worker below. chosen_are worker (nat_lt worker options.workers) refl below;

@@ -64,6 +64,7 @@ row_sessions = record {
   seen_on = only_zero (λ number. (later : List Entry) × (seen_at (pass_with row_entries) number ≡ later ++ seen_at (pass_with []) number))
       (row_entries, refl);
   outside = only_zero _ refl;
+  did = refl;
 }
 
 row_at : (byte : ℕ) (verdict : Verdict) (last : MachineState) → IsInputFrame (frame_of byte) →
@@ -172,7 +173,7 @@ stopped_sessions = record {
   outside = only_zero _ refl;
   full_at = full_history;
   full_seen = ([], refl);
-  full = inr (record { first_call = refl; nothing = refl; full = refl });
+  full = inr (record { kept_out = record { first_call = refl; nothing = refl; full = refl }; did = refl });
 }
 
 row_stops : IsStoppedInSystem row_setting 0 0 0 (frame_of 3) (λ number. row_plan) 1 (pass_with []) (pass_that_saw full_history)

@@ -1,9 +1,9 @@
 -- A trace that waits for a reply which a full journal refused, as the events of its worker.
-use Rattle.std.proofs.Common.{◌≡◌, ◌≢◌, ◌⊎◌, inl, inr, ⊎_elim, ℕ, zero, suc, ◌+◌, ◌<◌, ◌^◌, ◌==◌, ◌||◌, Bool, true, false, nat_lt, List, [], ◌∷◌, ◌++◌, length, reverse, refl, sym, ◌∙◌, ap, subst, arith, append-nil}
-use Rattle.std.specs.Prelude.{IsTrue, if◌then◌else◌}
+use Rattle.std.proofs.Common.{◌≡◌, ◌≢◌, ◌⊎◌, inl, inr, ⊎_elim, ℕ, zero, suc, ◌<◌, ◌^◌, ◌==◌, ◌||◌, Bool, true, false, List, [], ◌∷◌, ◌++◌, reverse, refl, sym, ◌∙◌, ap, subst, append-nil}
+use Rattle.std.specs.Prelude.{if◌then◌else◌}
 use Rattle.std.proofs.lemmas.Bool.{cases_eq, ne_eqb}
-use Rattle.std.proofs.lemmas.Bool.Decides.{nat_tests}
 use Rattle.semantics.specs.declared.plan.ShardPlan.{ShardPlan}
+use Rattle.semantics.specs.declared.call.Caller.TheVariants.{Worker}
 use Rattle.semantics.specs.declared.call.Call.{Call}
 use Rattle.semantics.specs.declared.call.Call.TheVariants.{Enter}
 use Rattle.semantics.specs.declared.call.Reply.{Reply}
@@ -12,31 +12,31 @@ use Rattle.semantics.specs.MachineState.{MachineState, initial_state}
 use Rattle.semantics.specs.Step.{Step, Continues, CallsMap, Exits, Traps}
 use Rattle.semantics.specs.Semantics.{next_step}
 use Rattle.semantics.specs.RunTrace.{RunTrace, HasExited, HasTrapped, Waits, GoesOn, trace_of, trace_from}
-use Rattle.semantics.specs.declared.call.SectionChange.{SectionChange}
-use Rattle.semantics.specs.declared.call.SectionChange.TheVariants.{Begins, Ends, Stays}
-use Rattle.semantics.specs.Sections.{section_change}
-use Rattle.semantics.specs.Reclamation.{inside_count}
-use Rattle.semantics.specs.History.{shard_of_call, lacks_room, room_for_leave, IsJournalFull}
-use Rattle.semantics.specs.System.{Setting, Runs, is_entered, run_over, IsInputFrame, input_frame}
+use Rattle.semantics.specs.History.{shard_of_call}
+use Rattle.semantics.specs.System.{Setting, is_entered, IsInputFrame, input_frame}
 use Rattle.semantics.specs.System as model
 use Rattle.map_port.specs.Exchanges.{Exchange, calls_in, replies_in}
+use Rattle.shards.specs.declared.deeds.Deed.{Deed}
+use Rattle.shards.specs.declared.deeds.Deed.TheVariants.{Wrote, MetFull}
 use Rattle.shards.specs.Passes.{PassView, own_at}
 use Rattle.shard_port.specs.Asking.{enter_by, leave_by}
-use Rattle.shard_port.specs.Sessions.{entries_at}
-use Rattle.shard_port.specs.PassSessions.{session_at, AreWithin, IsKeptOut, IsVisitedAt, HasRefusedSessions}
+use Rattle.shard_port.specs.Sessions.{entries_at, session}
+use Rattle.shard_port.specs.PassSessions.{session_at, AreWithin, IsVisitedAt, StoppedAtCall, StoppedAtEnter, HasRefusedSessions}
+use Rattle.shard_port.specs.PassDeeds.{asked_deeds, entered_by, rising, leaving_deeds, deeds_to_call}
 use Rattle.runs.specs.FrameRuns.{AreFormed}
-use Rattle.guarantees.specs.Steps.{Writes, Move, asks, IsStep, RunBegins, ShardIsEntered, CallIsRefused, EnterIsRefused, InRun, running, AreStepsOfRun, beginning, leavings, entries_on}
+use Rattle.guarantees.specs.Steps.{Writes, Refused, Move, asks, IsStep, RunBegins, ShardIsEntered, CallIsRefused, EnterIsRefused, InRun, running, AreStepsOfRun, beginning, leavings, entries_on, deeds_in}
 use Rattle.guarantees.specs.SystemRuns.{HaveGrown, IsStoppedInSystem}
 use Rattle.guarantees.specs.SystemLaws.{StoppedRunsAreOfTheSystem}
-use Rattle.guarantees.proofs.EventLemmas.{is_some_entry, AreEntered, all_leave, leaves_on, append_on, since, nothing_since, or_false, Reaches, reach_on, reach_here, whole_session}
+use Rattle.guarantees.proofs.Leaving.{itself, AreEntered, all_leave, left_on, deeds_left}
+use Rattle.guarantees.proofs.EventLemmas.{is_some_entry, append_on, append_deeds, since, nothing_since, or_false, Reaches, reach_on, reach_here, whole_session}
 
 -- ---- to the state in which the run waits
 
 -- the state is this one, and its next instruction makes the call
-record WaitsFor (setting : Setting) (call : Call) (waiting ending : MachineState) : Type 0 where
-  is : ending ≡ waiting
-  next : Reply → MachineState
-  asks_it : next_step (model.program_of setting) waiting ≡ CallsMap call next
+pub record WaitsFor (setting : Setting) (call : Call) (waiting ending : MachineState) : Type 0 where
+  pub is : ending ≡ waiting
+  pub next : Reply → MachineState
+  pub asks_it : next_step (model.program_of setting) waiting ≡ CallsMap call next
 
 abbrev IsLed : Setting → ℕ → ℕ → ℕ → Call → MachineState → Type 0
 IsLed setting count worker steps call waiting =
@@ -74,6 +74,8 @@ by_step setting count worker steps call waiting later state entered [] distinct 
       distinct = distinct;
       writes = λ number. nothing_since worker number (is_entered number entered);
       stays = λ number. sym (or_false (is_entered number entered));
+      deeds = refl;
+      enters = refl;
     }
 by_step setting count worker steps call waiting later state entered (exchange ∷ more) distinct within formed (CallsMap made next) is trace =
     let rest : RunTrace = trace_of steps (model.program_of setting) (next exchange.reply) (replies_in more) in
@@ -109,43 +111,39 @@ none_there : (entries : List Entry) → is_some_entry entries ≡ false → entr
 none_there [] none = refl
 none_there (first ∷ later) none = absurd cc
 
--- what the pass has more, where every session is whole
-all_written : (setting : Setting) (worker : ℕ) (state : MachineState) (plan : ℕ → ShardPlan) (count : ℕ) (before after : PassView)
-    (exchanges : List Exchange) (call : Call) (said : MachineState → Type 0) (reaches : Reaches said setting count worker state [] exchanges) →
+-- what the pass has more, where every session is whole; the step that meets a full journal writes nothing
+all_written : (setting : Setting) (worker : ℕ) (state : MachineState) (count : ℕ) (before after : PassView) (exchanges : List Exchange)
+    (said : MachineState → Type 0) (reaches : Reaches said setting count worker state [] exchanges) →
     ((number : ℕ) → number < count → own_at after number ≡ reverse (session_at worker number exchanges) ++ own_at before number) →
-    HaveGrown count (reaches.run ++ leavings worker reaches.after) before after
-all_written setting worker state plan count before after exchanges call said reaches written = λ number within.
+    HaveGrown count (reaches.run ++ leavings worker (rising count reaches.after)) before after
+all_written setting worker state count before after exchanges said reaches written = λ number within.
     written number within
     ∙ ap (λ (list : List Entry). reverse list ++ own_at before number) (sym (whole_session said setting count worker state exchanges reaches number))
 
--- an Enter asks for more room than any call that a journal can refuse
-full_for_enter : (plan : ShardPlan) (history : List Entry) (shard : ℕ) (call : Call) → IsJournalFull plan history call →
-    IsJournalFull plan history (Enter shard)
-full_for_enter plan history shard call full = by_change (section_change call) (length history + inside_count history) full
-  where
-    by_change : (change : SectionChange) (taken : ℕ) → IsTrue (lacks_room change plan (taken + room_for_leave change + 1)) →
-        IsTrue (nat_lt plan.reserve (taken + 1 + 1))
-    by_change Begins taken full = full
-    by_change Ends taken full = absurd cc
-    by_change Stays taken full = grind (arith, nat_tests)
+-- ---- what the run did
 
--- the worker was outside: the Enter's refusal is one
-enter_is_full : (plan : ShardPlan) (full_at : List Entry) (worker : ℕ) (exchanges : List Exchange) (call : Call) (shard : ℕ)
-    (before after : List Entry) → IsJournalFull plan full_at call ⊎ IsKeptOut plan full_at worker exchanges shard before after →
-    IsJournalFull plan full_at (Enter shard)
-enter_is_full plan full_at worker exchanges call shard before after (inl full) = full_for_enter plan full_at shard call full
-enter_is_full plan full_at worker exchanges call shard before after (inr kept) = kept.full
+-- steps that did this, then one that meets a full journal, and then the worker leaves
+stop_deeds : (worker : ℕ) (run : List Move) (done : List Deed) (refused : Call) (left : List ℕ) → deeds_in worker run ≡ done →
+    deeds_in worker (run ++ asks worker (Refused refused) ∷ leavings worker left) ≡ done ++ MetFull (Worker worker) refused ∷ leaving_deeds worker left
+stop_deeds worker run done refused left is =
+    append_deeds worker run (asks worker (Refused refused) ∷ leavings worker left)
+    ∙ ap (λ (list : List Deed). list ++ MetFull (Worker worker) refused ∷ deeds_in worker (leavings worker left)) is
+    ∙ ap (λ (list : List Deed). done ++ MetFull (Worker worker) refused ∷ list) (deeds_left worker left)
 
--- the worker was inside, or came in: what was refused is the call
-call_is_full : (plan : ShardPlan) (full_at : List Entry) (worker : ℕ) (exchanges : List Exchange) (call : Call) (shard : ℕ)
-    (before after : List Entry) → (IsKeptOut plan full_at worker exchanges shard before after → ⊥) →
-    IsJournalFull plan full_at call ⊎ IsKeptOut plan full_at worker exchanges shard before after → IsJournalFull plan full_at call
-call_is_full plan full_at worker exchanges call shard before after in_there (inl full) = full
-call_is_full plan full_at worker exchanges call shard before after in_there (inr kept) = absurd (in_there kept)
+-- a call that was refused, by the shards that the run had entered, and by whether the call's is one of them
+abbrev called_from : ℕ → ℕ → List Exchange → Call → List ℕ → Bool → List Deed
+called_from worker count exchanges call entered inside =
+    asked_deeds worker [] exchanges ++ (if inside then [] else Wrote (enter_by worker (shard_of_call call)) ∷ []) ++
+    MetFull (Worker worker) call ∷ leaving_deeds worker (rising count (if inside then entered else shard_of_call call ∷ entered))
 
--- a list is not the same with two more at its front
-two_more : (xs : List Entry) (a b : Entry) → xs ≡ a ∷ b ∷ xs → ⊥
-two_more xs a b same = let longer : length xs ≡ length (a ∷ b ∷ xs) = ap length same in omega (arith, longer)
+called_by : (worker count : ℕ) (exchanges : List Exchange) (call : Call) (entered : List ℕ) (inside : Bool) → entered ≡ entered_by [] exchanges →
+    is_entered (shard_of_call call) entered ≡ inside →
+    called_from worker count exchanges call entered inside ≡ deeds_to_call worker count exchanges call
+called_by worker count exchanges call entered inside enters is =
+    ap (called_from worker count exchanges call entered) (sym is)
+    ∙ ap (λ (list : List ℕ). called_from worker count exchanges call list (is_entered (shard_of_call call) list)) enters
+
+-- ---- each of the ways to stop
 
 led_there : (setting : Setting) (count worker told now : ℕ) (frame : List ℕ) (call : Call) (waiting : MachineState) (exchanges : List Exchange)
     (reaches : Reaches (WaitsFor setting call waiting) setting count worker (initial_state (input_frame frame) told now) [] exchanges) →
@@ -153,80 +151,6 @@ led_there : (setting : Setting) (count worker told now : ℕ) (frame : List ℕ)
 led_there setting count worker told now frame call waiting exchanges reaches =
     subst (λ (one : MachineState). AreStepsOfRun setting count worker (beginning frame told now) reaches.run (record { state = one; entered = reaches.after }))
     reaches.ended.is reaches.runs
-
--- the call's shard has a session already: the call was refused inside
-inside_stop : (setting : Setting) (worker told now : ℕ) (frame : List ℕ) (plan : ℕ → ShardPlan) (count : ℕ) (before after : PassView)
-    (exchanges : List Exchange) (call : Call) (waiting : MachineState) → worker < setting.options.workers → IsInputFrame frame →
-    now < 2 ^ 64 → told < 8 → HasRefusedSessions plan count worker exchanges call before after →
-    (reaches : Reaches (WaitsFor setting call waiting) setting count worker (initial_state (input_frame frame) told now) [] exchanges) →
-    is_entered (shard_of_call call) reaches.after ≡ true → IsStoppedInSystem setting worker told now frame plan count before after call waiting
-inside_stop setting worker told now frame plan count before after exchanges call waiting few input early low sessions reaches inside = record {
-  begins_so = RunBegins frame now told few input early low;
-  run = reaches.run;
-  entered = reaches.after;
-  goes_on = led_there setting count worker told now frame call waiting exchanges reaches;
-  next = reaches.ended.next;
-  waits = reaches.ended.asks_it;
-  refused = call;
-  refused_is = inl refl;
-  refuses = CallIsRefused waiting reaches.after call reaches.ended.next reaches.ended.asks_it sessions.refused_within inside;
-  left = reaches.after;
-  leaves = all_leave setting count worker reaches.after reaches.distinct;
-  full_at = sessions.full_at;
-  full_seen = sessions.full_seen;
-  full = call_is_full (plan (shard_of_call call)) sessions.full_at worker exchanges call (shard_of_call call)
-      (own_at before (shard_of_call call)) (own_at after (shard_of_call call)) not_kept_out sessions.full;
-  written = all_written setting worker (initial_state (input_frame frame) told now) plan count before after exchanges call
-      (WaitsFor setting call waiting) reaches
-      (λ number within. ⊎_elim (λ same. same)
-      (λ (visited : IsVisitedAt worker exchanges call number (own_at before number) (own_at after number)).
-      absurd (not_visited number visited))
-      (sessions.written number within));
-}
-  where
-    not_kept_out : IsKeptOut (plan (shard_of_call call)) sessions.full_at worker exchanges (shard_of_call call) (own_at before (shard_of_call call))
-        (own_at after (shard_of_call call)) → ⊥
-    not_kept_out kept =
-        let some : is_entered (shard_of_call call) reaches.after ≡ is_some_entry (entries_at worker (shard_of_call call) exchanges) =
-        reaches.stays (shard_of_call call) in
-        let none : is_some_entry (entries_at worker (shard_of_call call) exchanges) ≡ false = ap is_some_entry kept.first_call in cc
-
-    not_visited : (number : ℕ) → IsVisitedAt worker exchanges call number (own_at before number) (own_at after number) → ⊥
-    not_visited number visited =
-        let some : is_entered number reaches.after ≡ is_some_entry (entries_at worker number exchanges) = reaches.stays number in
-        let none : is_some_entry (entries_at worker number exchanges) ≡ false = ap is_some_entry visited.first_call in
-        let there : is_entered number reaches.after ≡ true =
-        subst (λ (one : ℕ). is_entered one reaches.after ≡ true) visited.own_shard inside in cc
-
--- the Enter was refused
-outside_stop : (setting : Setting) (worker told now : ℕ) (frame : List ℕ) (plan : ℕ → ShardPlan) (count : ℕ) (before after : PassView)
-    (exchanges : List Exchange) (call : Call) (waiting : MachineState) → worker < setting.options.workers → IsInputFrame frame →
-    now < 2 ^ 64 → told < 8 → HasRefusedSessions plan count worker exchanges call before after →
-    (reaches : Reaches (WaitsFor setting call waiting) setting count worker (initial_state (input_frame frame) told now) [] exchanges) →
-    is_entered (shard_of_call call) reaches.after ≡ false →
-    ((number : ℕ) → number < count → own_at after number ≡ reverse (session_at worker number exchanges) ++ own_at before number) →
-    IsStoppedInSystem setting worker told now frame plan count before after call waiting
-outside_stop setting worker told now frame plan count before after exchanges call waiting few input early low sessions reaches outside written = record {
-  begins_so = RunBegins frame now told few input early low;
-  run = reaches.run;
-  entered = reaches.after;
-  goes_on = led_there setting count worker told now frame call waiting exchanges reaches;
-  next = reaches.ended.next;
-  waits = reaches.ended.asks_it;
-  refused = Enter (shard_of_call call);
-  refused_is = inr refl;
-  refuses = EnterIsRefused waiting reaches.after call reaches.ended.next reaches.ended.asks_it sessions.refused_within outside;
-  left = reaches.after;
-  leaves = all_leave setting count worker reaches.after reaches.distinct;
-  full_at = sessions.full_at;
-  full_seen = sessions.full_seen;
-  full = enter_is_full (plan (shard_of_call call)) sessions.full_at worker exchanges call (shard_of_call call)
-      (own_at before (shard_of_call call)) (own_at after (shard_of_call call)) sessions.full;
-  written = all_written setting worker (initial_state (input_frame frame) told now) plan count before after exchanges call
-      (WaitsFor setting call waiting) reaches written;
-}
-
--- ---- entered for the refused call alone
 
 -- steps of which the last one is told apart
 steps_end : (setting : Setting) (count worker : ℕ) (before between after : InRun) (moves : List Move) (last : Move) →
@@ -237,139 +161,193 @@ steps_end setting count worker before between after [] last are ends =
 steps_end setting count worker before between after (move ∷ moves) last are ends =
     (are.0, are.1, steps_end setting count worker are.0 between after moves last are.2 ends)
 
--- what the moves write where the run entered a shard at its end
-visit_writes : (said : MachineState → Type 0) (setting : Setting) (count worker shard number : ℕ) (state : MachineState) (exchanges : List Exchange)
-    (reaches : Reaches said setting count worker state [] exchanges) (here : Bool) → (shard == number) ≡ here →
-    entries_on number ((reaches.run ++ asks worker (Writes (enter_by worker shard)) ∷ []) ++ leavings worker (shard ∷ reaches.after))
-    ≡ (entries_on number reaches.run ++ (if here then enter_by worker shard ∷ [] else []))
-    ++ (if here then leave_by worker shard ∷ entries_on number (leavings worker reaches.after)
-    else entries_on number (leavings worker reaches.after))
-visit_writes said setting count worker shard number state exchanges reaches here is =
-    append_on number (reaches.run ++ asks worker (Writes (enter_by worker shard)) ∷ []) (leavings worker (shard ∷ reaches.after))
-    ∙ ap (λ (list : List Entry). list ++ entries_on number (leavings worker (shard ∷ reaches.after)))
-    (append_on number reaches.run (asks worker (Writes (enter_by worker shard)) ∷ []))
-    ∙ ap (λ (test : Bool). (entries_on number reaches.run ++ (if test then enter_by worker shard ∷ [] else []))
-    ++ (if test then leave_by worker shard ∷ entries_on number (leavings worker reaches.after)
-    else entries_on number (leavings worker reaches.after))) is
+module _ (setting : Setting) (worker told now : ℕ) (frame : List ℕ) (plan : ℕ → ShardPlan) (count : ℕ) (before after : PassView)
+    (exchanges : List Exchange) (call : Call) (waiting : MachineState) (few : worker < setting.options.workers) (input : IsInputFrame frame)
+    (early : now < 2 ^ 64) (low : told < 8) (sessions : HasRefusedSessions plan count worker exchanges call before after)
+    (reaches : Reaches (WaitsFor setting call waiting) setting count worker (initial_state (input_frame frame) told now) [] exchanges) where
+  abbrev start : MachineState
+  start = initial_state (input_frame frame) told now
 
-visit_elsewhere : (said : MachineState → Type 0) (setting : Setting) (count worker shard number : ℕ) (state : MachineState) (exchanges : List Exchange)
-    (reaches : Reaches said setting count worker state [] exchanges) → (shard == number) ≡ false →
-    entries_on number ((reaches.run ++ asks worker (Writes (enter_by worker shard)) ∷ []) ++ leavings worker (shard ∷ reaches.after))
-    ≡ session_at worker number exchanges
-visit_elsewhere said setting count worker shard number state exchanges reaches is =
-    visit_writes said setting count worker shard number state exchanges reaches false is
-    ∙ ap (λ (list : List Entry). list ++ entries_on number (leavings worker reaches.after)) (append-nil (entries_on number reaches.run))
-    ∙ sym (append_on number reaches.run (leavings worker reaches.after))
-    ∙ whole_session said setting count worker state exchanges reaches number
+  abbrev IsStop : Type 0
+  IsStop = IsStoppedInSystem setting worker told now frame plan count before after call waiting
 
-visit_there : (said : MachineState → Type 0) (setting : Setting) (count worker shard number : ℕ) (state : MachineState) (exchanges : List Exchange)
-    (reaches : Reaches said setting count worker state [] exchanges) → (shard == number) ≡ true → is_entered number reaches.after ≡ false →
-    entries_at worker number exchanges ≡ [] →
-    entries_on number ((reaches.run ++ asks worker (Writes (enter_by worker shard)) ∷ []) ++ leavings worker (shard ∷ reaches.after))
-    ≡ enter_by worker shard ∷ leave_by worker shard ∷ []
-visit_there said setting count worker shard number state exchanges reaches is outside none =
-    let before : entries_on number reaches.run ≡ [] =
-    reaches.writes number ∙ ap (λ (list : List Entry). since false worker number list) none in
-    let after : entries_on number (leavings worker reaches.after) ≡ [] =
-    leaves_on count worker number reaches.after reaches.distinct
-    ∙ ap (λ (test : Bool). if test then leave_by worker number ∷ [] else []) outside in
-    visit_writes said setting count worker shard number state exchanges reaches true is
-    ∙ ap (λ (list : List Entry). (list ++ enter_by worker shard ∷ []) ++ leave_by worker shard ∷ entries_on number (leavings worker reaches.after)) before
-    ∙ ap (λ (list : List Entry). enter_by worker shard ∷ leave_by worker shard ∷ list) after
+  abbrev AtCall : Type 0
+  AtCall = StoppedAtCall (plan (shard_of_call call)) sessions.full_at count worker exchanges call before after
 
-apart_from : (shard number : ℕ) → number ≢ shard → (shard == number) ≡ false
-apart_from shard number apart = ne_eqb shard number (λ same. apart (sym same))
+  abbrev AtEnter : Type 0
+  AtEnter = StoppedAtEnter (plan (shard_of_call call)) sessions.full_at count worker exchanges call before after
 
-visit_stop : (setting : Setting) (worker told now : ℕ) (frame : List ℕ) (plan : ℕ → ShardPlan) (count : ℕ) (before after : PassView)
-    (exchanges : List Exchange) (call : Call) (waiting : MachineState) → worker < setting.options.workers → IsInputFrame frame →
-    now < 2 ^ 64 → told < 8 → HasRefusedSessions plan count worker exchanges call before after →
-    (reaches : Reaches (WaitsFor setting call waiting) setting count worker (initial_state (input_frame frame) told now) [] exchanges) →
-    is_entered (shard_of_call call) reaches.after ≡ false →
-    IsVisitedAt worker exchanges call (shard_of_call call) (own_at before (shard_of_call call)) (own_at after (shard_of_call call)) →
-    IsStoppedInSystem setting worker told now frame plan count before after call waiting
-visit_stop setting worker told now frame plan count before after exchanges call waiting few input early low sessions reaches outside visited =
-    let shard : ℕ = shard_of_call call in
-    let start : MachineState = initial_state (input_frame frame) told now in
-    let same : (shard == shard) ≡ true = grind (arith, nat_tests) in
-    let first : is_entered shard (shard ∷ reaches.after) ≡ true = ap (λ (test : Bool). test || is_entered shard reaches.after) same in
-    let there : AreStepsOfRun setting count worker (beginning frame told now) reaches.run (record { state = waiting; entered = reaches.after }) =
-    led_there setting count worker told now frame call waiting exchanges reaches in
-    record {
-      begins_so = RunBegins frame now told few input early low;
-      run = reaches.run ++ asks worker (Writes (enter_by worker shard)) ∷ [];
-      entered = shard ∷ reaches.after;
-      goes_on = steps_end setting count worker (beginning frame told now) (record { state = waiting; entered = reaches.after })
-          (record { state = waiting; entered = shard ∷ reaches.after }) reaches.run (asks worker (Writes (enter_by worker shard))) there
-          (ShardIsEntered waiting reaches.after call reaches.ended.next reaches.ended.asks_it sessions.refused_within outside);
-      next = reaches.ended.next;
-      waits = reaches.ended.asks_it;
-      refused = call;
-      refused_is = inl refl;
-      refuses = CallIsRefused waiting (shard ∷ reaches.after) call reaches.ended.next reaches.ended.asks_it sessions.refused_within first;
-      left = shard ∷ reaches.after;
-      leaves = all_leave setting count worker (shard ∷ reaches.after) (outside, sessions.refused_within, reaches.distinct);
-      full_at = sessions.full_at;
-      full_seen = sessions.full_seen;
-      full = call_is_full (plan shard) sessions.full_at worker exchanges call shard (own_at before shard) (own_at after shard)
-          (λ (kept : IsKeptOut (plan shard) sessions.full_at worker exchanges shard (own_at before shard) (own_at after shard)).
-          two_more (own_at before shard) (leave_by worker shard) (enter_by worker shard) (sym kept.nothing ∙ visited.written)) sessions.full;
-      written = λ number within. ⊎_elim
-          (λ (here : number ≡ shard). visited_own number here)
-          (λ (apart : number ≢ shard).
-          elsewhere_own number within apart
-          ∙ ap (λ (list : List Entry). reverse list ++ own_at before number)
-          (sym (visit_elsewhere (WaitsFor setting call waiting) setting count worker shard number start exchanges reaches (apart_from shard number apart))))
-          (cases_eq number shard);
-    }
-  where
-    visited_own : (number : ℕ) → number ≡ shard_of_call call →
-        own_at after number ≡ reverse (entries_on number ((reaches.run ++ asks worker (Writes (enter_by worker (shard_of_call call))) ∷ [])
-        ++ leavings worker (shard_of_call call ∷ reaches.after))) ++ own_at before number
-    visited_own number here =
-        let there : (shard_of_call call == number) ≡ true = grind (arith, nat_tests) in
-        let out : is_entered number reaches.after ≡ false = subst (λ (one : ℕ). is_entered one reaches.after ≡ false) (sym here) outside in
-        let none : entries_at worker number exchanges ≡ [] =
-        subst (λ (one : ℕ). entries_at worker one exchanges ≡ []) (sym here) visited.first_call in
-        let own : own_at after number ≡ leave_by worker (shard_of_call call) ∷ enter_by worker (shard_of_call call) ∷ own_at before number =
-        subst (λ (one : ℕ). own_at after one ≡ leave_by worker (shard_of_call call) ∷ enter_by worker (shard_of_call call) ∷ own_at before one)
-        (sym here) visited.written in
-        own ∙ ap (λ (list : List Entry). reverse list ++ own_at before number)
-        (sym (visit_there (WaitsFor setting call waiting) setting count worker (shard_of_call call) number (initial_state (input_frame frame) told now)
-        exchanges reaches there out none))
+  -- the run has called a shard exactly where it has entered it
+  called_none : (number : ℕ) → is_entered number reaches.after ≡ false → entries_at worker number exchanges ≡ []
+  called_none number out = none_there (entries_at worker number exchanges) (sym (reaches.stays number) ∙ out)
 
-    elsewhere_own : (number : ℕ) → number < count → number ≢ shard_of_call call →
-        own_at after number ≡ reverse (session_at worker number exchanges) ++ own_at before number
-    elsewhere_own number within apart = ⊎_elim (λ same. same)
-        (λ (it : IsVisitedAt worker exchanges call number (own_at before number) (own_at after number)). absurd (apart (sym it.own_shard)))
-        (sessions.written number within)
+  called_some : (number : ℕ) → is_entered number reaches.after ≡ true → entries_at worker number exchanges ≡ [] → ⊥
+  called_some number inside none =
+      let some : is_entered number reaches.after ≡ is_some_entry (entries_at worker number exchanges) = reaches.stays number in
+      let no : is_some_entry (entries_at worker number exchanges) ≡ false = ap is_some_entry none in cc
 
--- ---- all three
+  -- the call's shard has a session already: the call was refused inside
+  inside_stop : is_entered (shard_of_call call) reaches.after ≡ true → AtCall → IsStop
+  inside_stop inside at = record {
+    begins_so = RunBegins frame now told few input early low;
+    run = reaches.run;
+    entered = reaches.after;
+    goes_on = led_there setting count worker told now frame call waiting exchanges reaches;
+    next = reaches.ended.next;
+    waits = reaches.ended.asks_it;
+    refused = call;
+    refused_is = inl refl;
+    refuses = CallIsRefused waiting reaches.after call reaches.ended.next reaches.ended.asks_it sessions.refused_within inside;
+    left = rising count reaches.after;
+    leaves = all_leave setting count worker reaches.after reaches.distinct;
+    full_at = sessions.full_at;
+    full_seen = sessions.full_seen;
+    full = at.full;
+    written = all_written setting worker start count before after exchanges (WaitsFor setting call waiting) reaches
+        (λ number within. ⊎_elim (λ same. same)
+        (λ (visited : IsVisitedAt worker exchanges call number (own_at before number) (own_at after number)).
+        absurd (called_some number (subst (λ (one : ℕ). is_entered one reaches.after ≡ true) visited.own_shard inside) visited.first_call))
+        (sessions.written number within));
+    did = at.did ∙ ap (λ (list : List Deed). reverse list ++ before.deeds)
+        (sym (stop_deeds worker reaches.run (asked_deeds worker [] exchanges ++ []) call (rising count reaches.after)
+        (reaches.deeds ∙ sym (append-nil (asked_deeds worker [] exchanges)))
+        ∙ called_by worker count exchanges call reaches.after true reaches.enters inside));
+  }
 
-all_sessions : (plan : ℕ → ShardPlan) (count worker : ℕ) (before after : PassView) (exchanges : List Exchange) (call : Call) →
-    HasRefusedSessions plan count worker exchanges call before after →
-    own_at after (shard_of_call call) ≡ reverse (session_at worker (shard_of_call call) exchanges) ++ own_at before (shard_of_call call) →
-    (number : ℕ) → number < count → own_at after number ≡ reverse (session_at worker number exchanges) ++ own_at before number
-all_sessions plan count worker before after exchanges call sessions own number within = ⊎_elim (λ same. same)
-    (λ (it : IsVisitedAt worker exchanges call number (own_at before number) (own_at after number)).
-    subst (λ (one : ℕ). own_at after one ≡ reverse (session_at worker one exchanges) ++ own_at before one) it.own_shard own)
-    (sessions.written number within)
+  -- elsewhere every session is whole
+  elsewhere_own : (number : ℕ) → number < count → number ≢ shard_of_call call →
+      own_at after number ≡ reverse (session_at worker number exchanges) ++ own_at before number
+  elsewhere_own number within apart = ⊎_elim (λ same. same)
+      (λ (it : IsVisitedAt worker exchanges call number (own_at before number) (own_at after number)). absurd (apart (sym it.own_shard)))
+      (sessions.written number within)
 
-by_inside : (setting : Setting) (worker told now : ℕ) (frame : List ℕ) (plan : ℕ → ShardPlan) (count : ℕ) (before after : PassView)
-    (exchanges : List Exchange) (call : Call) (waiting : MachineState) → worker < setting.options.workers → IsInputFrame frame →
-    now < 2 ^ 64 → told < 8 → HasRefusedSessions plan count worker exchanges call before after →
-    (reaches : Reaches (WaitsFor setting call waiting) setting count worker (initial_state (input_frame frame) told now) [] exchanges) →
-    (inside : Bool) → is_entered (shard_of_call call) reaches.after ≡ inside →
-    IsStoppedInSystem setting worker told now frame plan count before after call waiting
-by_inside setting worker told now frame plan count before after exchanges call waiting few input early low sessions reaches true is =
-    inside_stop setting worker told now frame plan count before after exchanges call waiting few input early low sessions reaches is
-by_inside setting worker told now frame plan count before after exchanges call waiting few input early low sessions reaches false is =
-    ⊎_elim
-    (λ (same : own_at after (shard_of_call call) ≡ reverse (session_at worker (shard_of_call call) exchanges) ++ own_at before (shard_of_call call)).
-    outside_stop setting worker told now frame plan count before after exchanges call waiting few input early low sessions reaches is
-    (all_sessions plan count worker before after exchanges call sessions same))
-    (λ (visited : IsVisitedAt worker exchanges call (shard_of_call call) (own_at before (shard_of_call call)) (own_at after (shard_of_call call))).
-    visit_stop setting worker told now frame plan count before after exchanges call waiting few input early low sessions reaches is visited)
-    (sessions.written (shard_of_call call) sessions.refused_within)
+  -- the Enter was refused
+  outside_stop : is_entered (shard_of_call call) reaches.after ≡ false → AtEnter → IsStop
+  outside_stop outside at = record {
+    begins_so = RunBegins frame now told few input early low;
+    run = reaches.run;
+    entered = reaches.after;
+    goes_on = led_there setting count worker told now frame call waiting exchanges reaches;
+    next = reaches.ended.next;
+    waits = reaches.ended.asks_it;
+    refused = Enter (shard_of_call call);
+    refused_is = inr refl;
+    refuses = EnterIsRefused waiting reaches.after call reaches.ended.next reaches.ended.asks_it sessions.refused_within outside;
+    left = rising count reaches.after;
+    leaves = all_leave setting count worker reaches.after reaches.distinct;
+    full_at = sessions.full_at;
+    full_seen = sessions.full_seen;
+    full = at.kept_out.full;
+    written = all_written setting worker start count before after exchanges (WaitsFor setting call waiting) reaches
+        (λ number within. ⊎_elim (λ (here : number ≡ shard_of_call call). nothing_there number here)
+        (λ (apart : number ≢ shard_of_call call). elsewhere_own number within apart) (cases_eq number (shard_of_call call)));
+    did = at.did ∙ ap (λ (list : List Deed). reverse list ++ before.deeds)
+        (sym (stop_deeds worker reaches.run (asked_deeds worker [] exchanges) (Enter (shard_of_call call)) (rising count reaches.after) reaches.deeds
+        ∙ ap (λ (list : List ℕ). asked_deeds worker [] exchanges ++ MetFull (Worker worker) (Enter (shard_of_call call)) ∷
+        leaving_deeds worker (rising count list)) reaches.enters));
+  }
+    where
+      nothing_there : (number : ℕ) → number ≡ shard_of_call call →
+          own_at after number ≡ reverse (session_at worker number exchanges) ++ own_at before number
+      nothing_there number here =
+          subst (λ (one : ℕ). own_at after one ≡ reverse (session_at worker one exchanges) ++ own_at before one) (sym here)
+          (at.kept_out.nothing
+          ∙ ap (λ (list : List Entry). reverse (session worker (shard_of_call call) list) ++ own_at before (shard_of_call call)) (sym at.kept_out.first_call))
+
+  -- ---- entered for the refused call alone
+
+  abbrev visits : List Move
+  visits = reaches.run ++ asks worker (Writes (enter_by worker (shard_of_call call))) ∷ []
+
+  -- what the moves write then
+  visit_writes : (number : ℕ) (here : Bool) → (shard_of_call call == number) ≡ here → is_entered (shard_of_call call) reaches.after ≡ false →
+      entries_on number (visits ++ leavings worker (rising count (shard_of_call call ∷ reaches.after)))
+      ≡ (entries_on number reaches.run ++ (if here then enter_by worker (shard_of_call call) ∷ [] else []))
+      ++ (if (here || is_entered number reaches.after) then leave_by worker number ∷ [] else [])
+  visit_writes number here is outside =
+      append_on number visits (leavings worker (rising count (shard_of_call call ∷ reaches.after)))
+      ∙ ap (λ (list : List Entry). list ++ entries_on number (leavings worker (rising count (shard_of_call call ∷ reaches.after))))
+      (append_on number reaches.run (asks worker (Writes (enter_by worker (shard_of_call call))) ∷ []))
+      ∙ ap (λ (list : List Entry). (entries_on number reaches.run
+      ++ (if shard_of_call call == number then enter_by worker (shard_of_call call) ∷ [] else [])) ++ list)
+      (left_on count worker number (shard_of_call call ∷ reaches.after) (outside, sessions.refused_within, reaches.distinct))
+      ∙ ap (λ (test : Bool). (entries_on number reaches.run ++ (if test then enter_by worker (shard_of_call call) ∷ [] else []))
+      ++ (if (test || is_entered number reaches.after) then leave_by worker number ∷ [] else [])) is
+
+  visit_elsewhere : (number : ℕ) → number ≢ shard_of_call call → is_entered (shard_of_call call) reaches.after ≡ false →
+      entries_on number (visits ++ leavings worker (rising count (shard_of_call call ∷ reaches.after))) ≡ session_at worker number exchanges
+  visit_elsewhere number apart outside =
+      visit_writes number false (ne_eqb (shard_of_call call) number (λ same. apart (sym same))) outside
+      ∙ ap (λ (list : List Entry). list ++ (if is_entered number reaches.after then leave_by worker number ∷ [] else []))
+      (append-nil (entries_on number reaches.run))
+      ∙ ap (λ (list : List Entry). entries_on number reaches.run ++ list) (sym (left_on count worker number reaches.after reaches.distinct))
+      ∙ sym (append_on number reaches.run (leavings worker (rising count reaches.after)))
+      ∙ whole_session (WaitsFor setting call waiting) setting count worker start exchanges reaches number
+
+  visit_there : is_entered (shard_of_call call) reaches.after ≡ false →
+      entries_on (shard_of_call call) (visits ++ leavings worker (rising count (shard_of_call call ∷ reaches.after)))
+      ≡ enter_by worker (shard_of_call call) ∷ leave_by worker (shard_of_call call) ∷ []
+  visit_there outside =
+      let before : entries_on (shard_of_call call) reaches.run ≡ [] =
+      reaches.writes (shard_of_call call)
+      ∙ ap (λ (list : List Entry). since false worker (shard_of_call call) list) (called_none (shard_of_call call) outside) in
+      visit_writes (shard_of_call call) true (itself (shard_of_call call)) outside
+      ∙ ap (λ (list : List Entry). (list ++ enter_by worker (shard_of_call call) ∷ []) ++ leave_by worker (shard_of_call call) ∷ []) before
+
+  visit_own : is_entered (shard_of_call call) reaches.after ≡ false → AtCall → (number : ℕ) → number < count →
+      own_at after number
+      ≡ reverse (entries_on number (visits ++ leavings worker (rising count (shard_of_call call ∷ reaches.after)))) ++ own_at before number
+  visit_own outside at number within = ⊎_elim
+      (λ (here : number ≡ shard_of_call call).
+      subst (λ (one : ℕ). own_at after one
+      ≡ reverse (entries_on one (visits ++ leavings worker (rising count (shard_of_call call ∷ reaches.after)))) ++ own_at before one) (sym here)
+      (at.visited (called_none (shard_of_call call) outside)
+      ∙ ap (λ (list : List Entry). reverse list ++ own_at before (shard_of_call call)) (sym (visit_there outside))))
+      (λ (apart : number ≢ shard_of_call call).
+      elsewhere_own number within apart
+      ∙ ap (λ (list : List Entry). reverse list ++ own_at before number) (sym (visit_elsewhere number apart outside)))
+      (cases_eq number (shard_of_call call))
+
+  visit_deeds : is_entered (shard_of_call call) reaches.after ≡ false →
+      deeds_in worker (visits ++ asks worker (Refused call) ∷ leavings worker (rising count (shard_of_call call ∷ reaches.after)))
+      ≡ deeds_to_call worker count exchanges call
+  visit_deeds outside =
+      let enter : List Deed = Wrote (enter_by worker (shard_of_call call)) ∷ [] in
+      stop_deeds worker visits (asked_deeds worker [] exchanges ++ enter) call (rising count (shard_of_call call ∷ reaches.after))
+      (append_deeds worker reaches.run (asks worker (Writes (enter_by worker (shard_of_call call))) ∷ [])
+      ∙ ap (λ (list : List Deed). list ++ Wrote (enter_by worker (shard_of_call call)) ∷ []) reaches.deeds)
+      ∙ called_by worker count exchanges call reaches.after false reaches.enters outside
+
+  visit_stop : is_entered (shard_of_call call) reaches.after ≡ false → AtCall → IsStop
+  visit_stop outside at = record {
+    begins_so = RunBegins frame now told few input early low;
+    run = visits;
+    entered = shard_of_call call ∷ reaches.after;
+    goes_on = steps_end setting count worker (beginning frame told now) (record { state = waiting; entered = reaches.after })
+        (record { state = waiting; entered = shard_of_call call ∷ reaches.after }) reaches.run
+        (asks worker (Writes (enter_by worker (shard_of_call call)))) (led_there setting count worker told now frame call waiting exchanges reaches)
+        (ShardIsEntered waiting reaches.after call reaches.ended.next reaches.ended.asks_it sessions.refused_within outside);
+    next = reaches.ended.next;
+    waits = reaches.ended.asks_it;
+    refused = call;
+    refused_is = inl refl;
+    refuses = CallIsRefused waiting (shard_of_call call ∷ reaches.after) call reaches.ended.next reaches.ended.asks_it sessions.refused_within
+        (ap (λ (test : Bool). test || is_entered (shard_of_call call) reaches.after) (itself (shard_of_call call)));
+    left = rising count (shard_of_call call ∷ reaches.after);
+    leaves = all_leave setting count worker (shard_of_call call ∷ reaches.after) (outside, sessions.refused_within, reaches.distinct);
+    full_at = sessions.full_at;
+    full_seen = sessions.full_seen;
+    full = at.full;
+    written = λ number within. visit_own outside at number within;
+    did = at.did ∙ ap (λ (list : List Deed). reverse list ++ before.deeds) (sym (visit_deeds outside));
+  }
+
+  -- ---- all three
+
+  pub by_inside : (inside : Bool) → is_entered (shard_of_call call) reaches.after ≡ inside → IsStop
+  by_inside true is = ⊎_elim (λ (at : AtCall). inside_stop is at)
+      (λ (at : AtEnter). absurd (called_some (shard_of_call call) is at.kept_out.first_call)) sessions.full
+  by_inside false is = ⊎_elim (λ (at : AtCall). visit_stop is at) (λ (at : AtEnter). outside_stop is at) sessions.full
 
 pub stopped_is_of_system : StoppedRunsAreOfTheSystem
 stopped_is_of_system setting worker told now frame plan count steps before after exchanges call waiting few input early low trace formed sessions =

@@ -1,6 +1,7 @@
 -- What a replay of a verified image promises, in the order of the sentence: the image is safe; each shard has one legal history, in which
 -- each reply is the one-thread map's at its own place; each run is a list of steps of the system around this image, with the verdict, the
--- frame and the number of instructions of its program's trace on the replies that it was given.
+-- frame and the number of instructions of its program's trace on the replies that it was given; the steps of all workers, with what the
+-- controller and the reclaimer did, are one list of events.
 use Rattle.std.specs.Prelude.{◌≡◌, ℕ, ◌<◌, List, ◌∷◌, ◌++◌, length, reverse}
 use Rattle.std.specs.List.{AllByRecursion}
 use Rattle.wire.specs.FrameView.{FrameView}
@@ -17,6 +18,7 @@ use Rattle.machine.specs.declared.exit.Stop.{Stop}
 use Rattle.machine.specs.declared.moment.Moment.{Moment}
 use Rattle.machine.specs.Running.{program_of}
 use Rattle.journals.specs.JournalsView.{entries_at}
+use Rattle.shards.specs.declared.deeds.Deed.{Deed}
 use Rattle.shards.specs.Passes.{PassView}
 use Rattle.shards.specs.SharedMaps.{ArePlans}
 use Rattle.runs.specs.FrameRuns.{HasRun, HasStopped}
@@ -28,10 +30,11 @@ use Rattle.replay.specs.RunsInOrder.{IsRunAt}
 use Rattle.replay.specs.Shares.{frames_of, share}
 use Rattle.control.specs.declared.command.Command.{Command}
 use Rattle.replay.specs.declared.outcome.Outcome.{Outcome}
-use Rattle.replay.specs.Accounted.{IsWorkOf, IsAccounted}
+use Rattle.replay.specs.Accounted.{IsWorkOf, IsOrderOf, IsAccounted}
 use Rattle.replay.specs.RunsOverShards.{time_of, start_of, IsTold}
 use Rattle.guarantees.specs.SystemRuns.{setting_of, RanInSystem, HasStoppedInSystem}
 use Rattle.guarantees.specs.ReplayMoves.{HasMoves}
+use Rattle.guarantees.specs.Merging.{IsOneList}
 use Rattle.guarantees.specs.ReaderReplays.{IsCaptured}
 
 -- when a worker runs a record's frame
@@ -81,16 +84,24 @@ pub record Headline (verified : Verified) (options : Options) (records : List Se
   pub own_place :
       (number : ℕ) → number < count → (earlier later : List Entry) (entry : Entry) →
       entries_at outcome.journals number ≡ earlier ++ entry ∷ later → IsSequentialStep (plan number) (reverse earlier) entry
-  -- each worker ran its records, one after the other, and in each journal its entries are those of its runs; each run is one of the
-  -- system around this image, and has the verdict, the frame and the number of instructions of its program's trace on its replies
+  -- what all callers did on all shards is one order: shard by shard it is the journal, and each look at a full journal met one
+  pub order : List Deed
+  pub ordered : IsOrderOf plan count outcome.journals order
+  -- each worker ran its records, one after the other; in each journal its entries are those of its runs, and its deeds in the order are
+  -- theirs; each run is one of the system around this image, and has the verdict, the frame and the number of instructions of its program's
+  -- trace on its replies
   pub runs : List (List Ran)
   pub workers : length runs ≡ options.workers
   pub work :
       (worker : ℕ) → worker < options.workers →
       IsWorkOf (IsRunAt (IsEitherOfImage verified options plan count worker) records)
-      (share (frames_of records) options.workers worker (length records)) worker (runs_at runs worker) count outcome.journals
-  -- and the worker's runs are one list of steps, from idle to idle, which wrote on each shard what its journal has of this worker, in order
-  pub moves : HasMoves (setting_of verified options) count runs outcome.journals
+      (share (frames_of records) options.workers worker (length records)) worker (runs_at runs worker) count outcome.journals order
+  -- and the worker's runs are one list of steps, from idle to idle, which wrote on each shard what its journal has of this worker, in order,
+  -- and did over all shards what the order has of it
+  pub moves : HasMoves (setting_of verified options) count runs outcome.journals order
+  -- the steps of all workers, with what the controller and the reclaimer did, are one list of events of the system, which can all happen
+  -- from the opening on; each worker's are in their order in it; after it the histories are the journals, and every worker is idle
+  pub list : IsOneList (setting_of verified options) count (λ number. entries_at outcome.journals number) moves.moves
   -- the frames that were sent are those of these runs
   pub sent : sent_frames outcome.sent.items ≡ sent_of (frames_of records) options.workers runs (length records)
 

@@ -13,4 +13,3 @@ pub mod Guarantees
 pub mod SameRuns
 pub mod ReaderRuns
 pub mod ReaderReplays
-pub mod OneShard

@@ -1,9 +1,8 @@
 -- One order of what all callers did on the shards, and the one list of events that it makes.
-use Rattle.std.specs.Prelude.{◌≡◌, ℕ, ◌<◌, ◌*◌, ◌==◌, ◌^◌, Bool, true, false, List, [], ◌∷◌, ◌++◌}
+use Rattle.std.specs.Prelude.{◌≡◌, ℕ, ◌<◌, ◌≤◌, ◌*◌, ◌==◌, ◌^◌, Bool, true, false, List, [], ◌∷◌, ◌++◌}
 use Rattle.std.specs.Prelude.{length, reverse, filter, map, Some, if◌then◌else◌, IsFalse}
 use Rattle.std.specs.List.{AllByRecursion}
-use Rattle.semantics.specs.declared.call.Caller.TheVariants.{Controller}
-use Rattle.semantics.specs.declared.call.Call.{Call}
+use Rattle.semantics.specs.declared.call.Caller.TheVariants.{Worker, Controller}
 use Rattle.semantics.specs.declared.verdict.Verdict.{Verdict}
 use Rattle.semantics.specs.MachineState.{MachineState, initial_state}
 use Rattle.semantics.specs.RunTrace.{HasExited, trace_of}
@@ -13,70 +12,34 @@ use Rattle.runs.specs.FrameRuns.{AreFormed}
 use Rattle.semantics.specs.declared.call.Entry.{Entry}
 use Rattle.semantics.specs.declared.plan.ShardPlan.{ShardPlan}
 use Rattle.semantics.specs.ShardPlan.{plan_at, AreOptions}
-use Rattle.semantics.specs.Reclamation.{is_worker}
-use Rattle.semantics.specs.History.{shard_of_call, IsJournalFull, IsLegalJournal}
+use Rattle.semantics.specs.History.{shard_of_call, IsLegalJournal}
 use Rattle.semantics.specs.System.{Setting, program_of, IsInputFrame, input_frame, SystemEvent, Idle}
 use Rattle.semantics.specs.System.{worker_state, history_of, system_after, CanAllHappen}
-use Rattle.guarantees.specs.Steps.{Asked, Nothing, Writes, Refused, Move, AreSteps, is_of_shard, entries_on, begins}
+use Rattle.shards.specs.declared.deeds.Deed.{Deed}
+use Rattle.shards.specs.declared.deeds.Part.TheVariants.{ByCaller}
+use Rattle.shards.specs.Deeds.{deeds_of, is_of_shard, made_on, AreMet, AreWithin as DeedsAreWithin}
+use Rattle.guarantees.specs.Steps.{Asked, Refused, Move, AreSteps, entries_on, deeds_in, begins}
 use Rattle.guarantees.specs.Moves.{is_event_of}
-
--- what a caller did on a shard
-pub data Deed : Type 0 where
-  -- it made this entry
-  Wrote : (entry : Entry) → Deed
-  -- it is a worker, and its call met a full journal
-  MetFull : (worker : ℕ) → (call : Call) → Deed
-
-abbrev pub shard_of_deed : Deed → ℕ
-shard_of_deed (Wrote entry) = shard_of_call entry.call
-shard_of_deed (MetFull worker call) = shard_of_call call
-
-abbrev pub is_deed_of : ℕ → Deed → Bool
-is_deed_of worker (Wrote entry) = is_worker worker entry.who
-is_deed_of worker (MetFull one call) = one == worker
-
--- what a worker's moves do on shards, in order
-abbrev pub deeds_asked : ℕ → Asked → List Deed
-deeds_asked worker Nothing = []
-deeds_asked worker (Writes entry) = Wrote entry ∷ []
-deeds_asked worker (Refused call) = MetFull worker call ∷ []
 
 abbrev pub is_refusal : Asked → Bool
 is_refusal (Refused call) = true
 is_refusal asked = false
 
-abbrev pub deeds_in : ℕ → List Move → List Deed
-deeds_in worker [] = []
-deeds_in worker (move ∷ later) = deeds_asked worker move.asked ++ deeds_in worker later
-
--- the entries of deeds, in order, and those on the shard of a number
-abbrev pub entries_made : List Deed → List Entry
-entries_made [] = []
-entries_made (Wrote entry ∷ later) = entry ∷ entries_made later
-entries_made (MetFull worker call ∷ later) = entries_made later
-
-abbrev pub made_on : ℕ → List Deed → List Entry
-made_on number deeds = filter (is_of_shard number) (entries_made deeds)
-
--- each deed of a full journal met one: after the entries that stand before it in the order
-abbrev pub MeetFullJournals : (ℕ → ShardPlan) → List Deed → Type 0
-MeetFullJournals plan deeds =
-    (earlier later : List Deed) (worker : ℕ) (call : Call) → deeds ≡ earlier ++ MetFull worker call ∷ later →
-    IsJournalFull (plan (shard_of_call call)) (reverse (made_on (shard_of_call call) earlier)) call
-
--- The deeds of all callers in one order. Shard by shard they are its journal, which is legal; caller by caller they are what its own
--- moves did, which lead a worker from idle to idle.
+-- The deeds of all callers in one order, the oldest first. Shard by shard they are its journal, which is legal, and each look at a full
+-- journal met one; caller by caller they are what its own moves did, which lead a worker from idle to idle. Of callers that are no worker
+-- of the options a look at a full journal is no event, and is passed over.
 pub record IsOneOrder (setting : Setting) (plan : ℕ → ShardPlan) (count : ℕ) (journal : ℕ → List Entry)
     (moves : ℕ → List Move) (deeds : List Deed) : Type 0 where
   pub options : AreOptions setting.maps setting.options
   pub count_is : count ≡ length setting.maps * setting.options.shards
   pub plans : (number : ℕ) → number < count → plan_at setting.maps setting.options number ≡ Some (plan number)
-  pub within : AllByRecursion (λ (deed : Deed). shard_of_deed deed < count) deeds
+  pub within : DeedsAreWithin count deeds
   pub journals : (number : ℕ) → number < count → made_on number deeds ≡ journal number
   pub legal : (number : ℕ) → number < count → IsLegalJournal (plan number) (journal number)
-  pub full : MeetFullJournals plan deeds
-  pub own : (worker : ℕ) → deeds_in worker (moves worker) ≡ filter (is_deed_of worker) deeds
-  pub steps : (worker : ℕ) → AreSteps setting count worker Idle (moves worker) Idle
+  pub met : AreMet plan (reverse deeds)
+  pub own : (worker : ℕ) → worker < setting.options.workers → deeds_in worker (moves worker) ≡ deeds_of (ByCaller (Worker worker)) deeds
+  pub steps : (worker : ℕ) → worker < setting.options.workers → AreSteps setting count worker Idle (moves worker) Idle
+  pub of_others : (worker : ℕ) → setting.options.workers ≤ worker → moves worker ≡ []
 
 abbrev pub events_of : List Move → List SystemEvent
 events_of moves = map (λ (move : Move). move.event) moves

@@ -1,6 +1,6 @@
 -- One run of the system, by computation, and what is none: with another verdict, on another frame, without one of its entries; and one
 -- run that a full journal stopped.
-use Rattle.std.specs.Prelude.{◌≡◌, ℕ, pos, List, [], ◌∷◌, replicate}
+use Rattle.std.specs.Prelude.{◌≡◌, ℕ, pos, List, [], ◌∷◌, map, replicate}
 use Rattle.ebpf_decode.specs.declared.map.MapKind.TheVariants.{Array}
 use Rattle.semantics.specs.declared.call.Caller.TheVariants.{Worker}
 use Rattle.semantics.specs.declared.call.Call.TheVariants.{Enter, Leave, Lookup, Load, Update}
@@ -12,6 +12,7 @@ use Rattle.semantics.specs.declared.verdict.Verdict.TheVariants.{Tx}
 use Rattle.semantics.specs.MachineState.{MachineState}
 use Rattle.semantics.specs.System.{Setting}
 use Rattle.semantics.specs.SystemRows.{setting_over, first_path, frame_of, by_worker, by_controller, key_of, value_of, cell_at}
+use Rattle.shards.specs.declared.deeds.Deed.TheVariants.{Wrote, MetFull}
 use Rattle.shards.specs.Passes.{PassView}
 use Rattle.guarantees.specs.SystemRuns.{IsRunOfSystem, IsStoppedInSystem}
 
@@ -19,9 +20,13 @@ use Rattle.guarantees.specs.SystemRuns.{IsRunOfSystem, IsStoppedInSystem}
 abbrev pub row_setting : Setting
 row_setting = setting_over Array first_path
 
--- a pass of worker 0 which has these entries on shard 0, the newest first
+-- a pass of worker 0 which has these entries on shard 0, the newest first, and did nothing else
 abbrev pub pass_with : List Entry → PassView
-pass_with entries = record { who = Worker 0; views = (record { seen = entries; own = entries }) ∷ [] }
+pass_with entries = record {
+  who = Worker 0;
+  views = (record { seen = entries; own = entries }) ∷ [];
+  deeds = map (λ (entry : Entry). Wrote entry) entries;
+}
 
 abbrev pub lookup_entry : Entry
 lookup_entry = by_worker (Lookup 0 (key_of 0)) (Cell (cell_at 0))
@@ -50,8 +55,13 @@ row_plan = record {
 abbrev pub full_history : List Entry
 full_history = replicate 15 (by_controller (Update 0 (key_of 0) (value_of 5) 0) (Answer (pos 0)))
 
+-- a pass of worker 0 which has seen these entries on shard 0, and whose only deed is an Enter that met a full journal
 abbrev pub pass_that_saw : List Entry → PassView
-pass_that_saw entries = record { who = Worker 0; views = (record { seen = entries; own = [] }) ∷ [] }
+pass_that_saw entries = record {
+  who = Worker 0;
+  views = (record { seen = entries; own = [] }) ∷ [];
+  deeds = MetFull (Worker 0) (Enter 0) ∷ [];
+}
 
 pub record RunRows : Type 0 where
   -- on a frame that ends with byte 3 the run sends it

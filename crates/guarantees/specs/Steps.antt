@@ -1,5 +1,6 @@
 -- The steps of one worker: each way in which it can go on, what that needs, what it asks of a shard, and where the worker then is.
-use Rattle.std.specs.Prelude.{◌≡◌, ℕ, ◌<◌, ◌^◌, ◌==◌, Bool, true, false, List, [], ◌∷◌, ◌++◌, filter, map}
+use Rattle.std.specs.Prelude.{◌≡◌, ℕ, ◌<◌, ◌^◌, true, false, List, [], ◌∷◌, ◌++◌, filter, map}
+use Rattle.semantics.specs.declared.call.Caller.TheVariants.{Worker}
 use Rattle.semantics.specs.declared.call.Call.{Call}
 use Rattle.semantics.specs.declared.call.Call.TheVariants.{Enter}
 use Rattle.semantics.specs.declared.call.Reply.{Reply}
@@ -12,6 +13,9 @@ use Rattle.semantics.specs.Step.{Continues, CallsMap, Exits}
 use Rattle.semantics.specs.Semantics.{next_step}
 use Rattle.semantics.specs.System.{Setting, program_of, SystemEvent, BeginsRun, DoesInstruction, CallsShard, LeavesShard}
 use Rattle.semantics.specs.System.{WorkerState, Idle, Runs, Leaves, is_entered, run_over, without_shard, IsInputFrame, input_frame}
+use Rattle.shards.specs.declared.deeds.Deed.{Deed}
+use Rattle.shards.specs.declared.deeds.Deed.TheVariants.{Wrote, MetFull}
+use Rattle.shards.specs.Deeds.{is_of_shard}
 use Rattle.shard_port.specs.Asking.{enter_by, leave_by, asked_entry}
 
 -- ---- what a worker's event asks of a shard
@@ -125,8 +129,15 @@ entries_in [] = []
 entries_in (move ∷ later) = entries_asked move.asked ++ entries_in later
 
 -- those on the shard of this number
-abbrev pub is_of_shard : ℕ → Entry → Bool
-is_of_shard number entry = shard_of_call entry.call == number
-
 abbrev pub entries_on : ℕ → List Move → List Entry
 entries_on number moves = filter (is_of_shard number) (entries_in moves)
+
+-- what a worker's moves do on shards, in order: the entries that they write, and the calls that meet a full journal
+abbrev pub deeds_asked : ℕ → Asked → List Deed
+deeds_asked worker Nothing = []
+deeds_asked worker (Writes entry) = Wrote entry ∷ []
+deeds_asked worker (Refused call) = MetFull (Worker worker) call ∷ []
+
+abbrev pub deeds_in : ℕ → List Move → List Deed
+deeds_in worker [] = []
+deeds_in worker (move ∷ later) = deeds_asked worker move.asked ++ deeds_in worker later

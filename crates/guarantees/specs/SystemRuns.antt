@@ -1,6 +1,6 @@
 -- A run over shared shards as steps of its worker in the system: from idle to idle, on this frame, to this verdict, with what its steps
 -- write.
-use Rattle.std.specs.Prelude.{◌≡◌, ◌⊎◌, ℕ, ◌<◌, ◌≤◌, List, ◌++◌, reverse}
+use Rattle.std.specs.Prelude.{◌≡◌, ◌⊎◌, ℕ, ◌<◌, ◌≤◌, List, ◌∷◌, ◌++◌, reverse}
 use Rattle.ebpf_decode.specs.InstructionEncoding.{total_slots}
 use Rattle.wire.specs.FrameView.{FrameView}
 use Rattle.semantics.specs.declared.call.Call.{Call}
@@ -22,15 +22,20 @@ use Rattle.machine.specs.declared.moment.Moment.{Moment}
 use Rattle.shards.specs.CallerView.{BeginsWith}
 use Rattle.shards.specs.Passes.{PassView, own_at, seen_at}
 use Rattle.guarantees.specs.Steps.{Move, Refused, begins, does, asks, IsStep, AreSteps, InRun}
-use Rattle.guarantees.specs.Steps.{running, AreStepsOfRun, beginning, leavings, entries_on}
+use Rattle.guarantees.specs.Steps.{running, AreStepsOfRun, beginning, leavings, entries_on, deeds_in}
 
 -- the worker's own entries on each of so many shards have grown by what its moves wrote there, newest first
 abbrev pub HaveGrown : ℕ → List Move → PassView → PassView → Type 0
 HaveGrown count moves before after =
     (number : ℕ) → number < count → own_at after number ≡ reverse (entries_on number moves) ++ own_at before number
 
+-- what the worker did over all shards has grown by what its moves did, newest first
+abbrev pub HaveDone : ℕ → List Move → PassView → PassView → Type 0
+HaveDone worker moves before after = after.deeds ≡ reverse (deeds_in worker moves) ++ before.deeds
+
 -- The worker is idle, and begins a run on the frame; steps of this one run lead to the instruction that ends it with this verdict and
--- this last state; then the worker leaves the shards that it entered, and is idle. What these steps wrote is what its pass has more.
+-- this last state; then the worker leaves the shards that it entered, and is idle. What these steps wrote on each shard, and what they did over
+-- all shards, is what its pass has more.
 pub record IsRunOfSystem (setting : Setting) (worker told now : ℕ) (frame : List ℕ) (count : ℕ) (before after : PassView)
     (verdict : Verdict) (last : MachineState) : Type 0 where
   pub begins_so : IsStep setting count worker Idle (begins worker frame now told) (running (beginning frame told now))
@@ -42,6 +47,7 @@ pub record IsRunOfSystem (setting : Setting) (worker told now : ℕ) (frame : Li
   pub left : List ℕ
   pub leaves : AreSteps setting count worker (run_over ending.entered) (leavings worker left) Idle
   pub written : HaveGrown count (run ++ leavings worker left) before after
+  pub did : HaveDone worker (run ++ leavings worker left) before after
 
 -- The same, where a shard's journal had no room: steps of the run lead to the state in which it waits for the reply to this call; the
 -- step in which it asks meets a full journal, for the call or for the Enter before it, at the end of a history that the worker's pass has
@@ -63,6 +69,7 @@ pub record IsStoppedInSystem (setting : Setting) (worker told now : ℕ) (frame 
   pub left : List ℕ
   pub leaves : AreSteps setting count worker (run_over entered) (leavings worker left) Idle
   pub written : HaveGrown count (run ++ leavings worker left) before after
+  pub did : HaveDone worker (run ++ asks worker (Refused refused) ∷ leavings worker left) before after
 
 -- the system of a verified image, over shards that were opened so
 abbrev pub setting_of : Verified → Options → Setting

@@ -2,11 +2,12 @@
 //! what the public calls of the crates below ensure. What a single call promises by itself is that call's contract; docs/GUARANTEES.md
 //! says where.
 //!
-//! `headline` comes first. Its statement is in ten files, about 1,000 lines, to be read in this order: `specs/Headline.antt` here;
-//! `specs/ReplayMoves.antt`, `specs/SystemRuns.antt` and `specs/Steps.antt` here (the moves of a worker, runs and steps of the system);
-//! `Safety`, `System`, `RunTrace` and `History` of crates/semantics/specs; `specs/FrameRuns.antt` of crates/runs and `specs/Accounted.antt`
-//! of crates/replay. Each file says by its imports where the smaller definitions are that it cites: shares, counts and passes of replay,
-//! sessions of shard_port, own entries of semantics.
+//! `headline` comes first. Its statement is in twelve files, about 1,300 lines, to be read in this order: `specs/Headline.antt` here;
+//! `specs/Merging.antt` (its first half), `specs/ReplayMoves.antt`, `specs/SystemRuns.antt` and `specs/Steps.antt` here (one list of all
+//! events, the moves of a worker, runs and steps of the system); `Safety`, `System`, `RunTrace` and `History` of crates/semantics/specs;
+//! `specs/Deeds.antt` of crates/shards, `specs/FrameRuns.antt` of crates/runs and `specs/Accounted.antt` of crates/replay. Each file says by
+//! its imports where the smaller definitions are that it cites: shares, counts and passes of replay, sessions of shard_port, own entries of
+//! semantics.
 //!
 //! The other laws of this page say what these definitions come to. The laws of `step_laws` show that they are not empty, those of
 //! `place_laws` that a worker is inside and holds a cell by places in the history alone. `one_caller` speaks of runs one after the other
@@ -26,7 +27,6 @@ ghost use Rattle.guarantees.specs.Headline.{ReplaysKeepIt};
 ghost use Rattle.guarantees.specs.Guarantees.{EntriesAreSteps, EntriesAreAnswered};
 ghost use Rattle.guarantees.specs.SystemLaws.{RunsAreOfTheSystem, StoppedRunsAreOfTheSystem};
 ghost use Rattle.guarantees.specs.Merging.{OneOrderIsOneList, OneWorkerIsOneList, RunAloneIsOneList};
-ghost use Rattle.guarantees.specs.OneShard.{OneShardIsOneList};
 
 pub use one_caller::{
     opened_shards_are_ready, runs_are_their_meaning, runs_leave_others_alone,
@@ -46,23 +46,14 @@ use verifier::laws::accepted_is_safe;
 /// that. So each worker has one list of steps for the whole replay, and each shard alone agrees with it: what the list wrote there is what
 /// the shard's journal has of this worker, in the journal's order.
 ///
-/// That the workers' lists of steps make one list of events is the law `one_order_is_one_list`, for an order of all entries that fits every
-/// shard and every caller. Where there is one shard and no run was stopped, its journal is such an order (`one_shard_is_one_list`). That
-/// there is one for several shards that threads share is not proved.
+/// All callers at once: the steps of all workers, with what the controller and the reclaimer did, are one list of events of the system. These
+/// can all happen, one after the other, from the opening on; each worker's are in its own order in the list; after it each shard's history is
+/// its journal, and every worker is idle. For what all callers did on all shards is one order, which fits each shard and each caller
+/// (`IsAccounted`), and such an order is one list of events (`one_order_is_one_list`).
 pub fn headline(verified: &Verified)
     ensures { ReplaysKeepIt verified.now }
 {
     accepted_images_are_safe(verified);
-    runs_are_of_the_system();
-    stopped_runs_are_of_the_system();
-}
-
-/// All callers at once, where there is one shard and no run was stopped: the moves of all workers, with what the controller and the reclaimer
-/// did, are one list of events of the system, which can all happen from the opening on; each worker's events are in its own order in it; after it
-/// the history is the journal, and every worker is idle.
-pub fn one_shard_is_one_list()
-    ensures { OneShardIsOneList }
-{
     runs_are_of_the_system();
     stopped_runs_are_of_the_system();
 }
@@ -81,7 +72,7 @@ pub fn accepted_images_are_safe(verified: &Verified)
 /// Where `run` ensures a trace that ends, on replies of their calls' form that stand in the port's sessions: the worker begins its run on
 /// the frame; each step leads from where the one before it left the worker; the last instruction ends the run with this verdict and
 /// state; then the worker leaves every shard that it entered. What these steps write on each shard is what the worker's own entries there
-/// have more. The order in which it leaves the shards is one of many.
+/// have more, and what they do over all shards, in order, is what the pass has done more. The shards are left in rising order.
 pub fn runs_are_of_the_system()
     ensures { RunsAreOfTheSystem }
 {}
@@ -106,9 +97,9 @@ pub fn entries_are_answered()
 {}
 
 /// One order of what all callers did makes one list of events. If a list of entries, and of looks at full journals, is shard by shard the
-/// shard's legal journal and caller by caller what that caller did, and each worker's own steps lead from idle to idle, then one list of
-/// events of the system can all happen from the opening on; it has each worker's own events in their order; after it the histories are the
-/// journals, and every worker is idle.
+/// shard's legal journal and worker by worker what that worker did, each look met a full journal, and each worker's own steps lead from idle
+/// to idle, then one list of events of the system can all happen from the opening on; it has each worker's own events in their order; after it
+/// the histories are the journals, and every worker is idle. A look by the controller or the reclaimer is no event.
 pub fn one_order_is_one_list()
     ensures { OneOrderIsOneList }
 {}

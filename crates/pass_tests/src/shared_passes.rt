@@ -121,7 +121,7 @@ fn two_passes<B: Naming>(
     alloc: Global,
     opened: Opened,
 ) -> Result<(Shards<B>, Pass<B>, Pass<B>), Fail>
-    requires { IsNamed B.count B.table B.plan opened }
+    requires { IsNamed B.count B.table B.plan B.order opened }
 {
     let (shards, mut dealer) = opened.share::<B>(alloc)?;
     let first = dealer.pass(alloc, Caller::Worker { number: 0 })?;
@@ -131,7 +131,7 @@ fn two_passes<B: Naming>(
 
 /// New shards, and the pass of the first worker.
 fn one_pass<B: Naming>(alloc: Global, opened: Opened) -> Result<(Shards<B>, Pass<B>), Fail>
-    requires { IsNamed B.count B.table B.plan opened }
+    requires { IsNamed B.count B.table B.plan B.order opened }
 {
     let (shards, mut dealer) = opened.share::<B>(alloc)?;
     let pass = dealer.pass(alloc, Caller::Worker { number: 0 })?;
@@ -168,7 +168,7 @@ fn turn<B: Naming, R: Abort + Wait>(
 }
 
 fn in_turn<B: Naming, R: Abort + Wait>(rt: &R, alloc: Global, opened: Opened) -> Result<(), Fail>
-    requires { IsNamed B.count B.table B.plan opened }
+    requires { IsNamed B.count B.table B.plan B.order opened }
 {
     let (shards, mut first, mut second) = two_passes::<B>(alloc, opened)?;
     for (name, is_first, step, want, inside) in IN_TURN {
@@ -203,7 +203,7 @@ const DEALT: [(&str, Caller, Option<PassFault>); 7] = [
 ];
 
 fn dealt<B: Naming, R: Abort + Wait>(rt: &R, alloc: Global, opened: Opened) -> Result<(), Fail>
-    requires { IsNamed B.count B.table B.plan opened }
+    requires { IsNamed B.count B.table B.plan B.order opened }
 {
     let (_shards, mut dealer) = opened.share::<B>(alloc)?;
     for (name, who, want) in DEALT {
@@ -238,7 +238,7 @@ fn by_two_threads<B: Naming + Send + Sync, R: Threads + Abort + Wait + Sync>(
     alloc: Global,
     opened: Opened,
 ) -> Result<(), Fail>
-    requires { IsNamed B.count B.table B.plan opened }
+    requires { IsNamed B.count B.table B.plan B.order opened }
 {
     let (shards, first, second) = two_passes::<B>(alloc, opened)?;
     let (one, two) = join(
@@ -263,7 +263,7 @@ fn two_threads_on_one_shard(rt: HostRuntime) -> Result<(), Fail> {
 }
 
 fn held<B: Naming, R: Abort + Wait>(rt: &R, alloc: Global, opened: Opened) -> Result<(), Fail>
-    requires { IsNamed B.count B.table B.plan opened }
+    requires { IsNamed B.count B.table B.plan B.order opened }
 {
     let (shards, mut pass) = one_pass::<B>(alloc, opened)?;
     holds(rt, "there are two shards", 1 < shards.count());
@@ -311,7 +311,7 @@ fn filled<B: Naming, R: Abort + Wait>(
     opened: Opened,
     runs: &[Run],
 ) -> Result<(), Fail>
-    requires { IsNamed B.count B.table B.plan opened }
+    requires { IsNamed B.count B.table B.plan B.order opened }
 {
     let (shards, mut pass) = one_pass::<B>(alloc, opened)?;
     for (name, lookups, want) in runs {

@@ -55,7 +55,7 @@ fn replay_over<B: Naming + Send + Sync, R: Threads + Wait + Sync, G: Gate + Sync
     gate: &G,
     pace: Pace,
 ) -> Result<Outcome, ReplayFault>
-    requires named { IsNamed B.count B.table B.plan opened }
+    requires named { IsNamed B.count B.table B.plan B.order opened }
     requires maps { opened.maps ≡ verified.now.maps }
     requires options { opened.options ≡ options }
     requires workers { (0 < options.workers) × (options.workers ≤ 8) }

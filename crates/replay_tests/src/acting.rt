@@ -141,7 +141,7 @@ fn applied<B: Naming, R: Abort + Wait>(
     opened: Opened,
     row: &Row<'_>,
 ) -> Result<(), Fail>
-    requires { IsNamed B.count B.table B.plan opened }
+    requires { IsNamed B.count B.table B.plan B.order opened }
 {
     let script = parse_script(alloc, row.text.as_bytes())?;
     let gate = nothing_told();
@@ -242,7 +242,7 @@ fn reclaimed<B: Naming, R: Abort + Wait>(
     opened: Opened,
     row: &Row<'_>,
 ) -> Result<(), Fail>
-    requires { IsNamed B.count B.table B.plan opened }
+    requires { IsNamed B.count B.table B.plan B.order opened }
 {
     let gate = nothing_told();
     let (shards, mut dealer) = opened.share::<B>(alloc)?;
@@ -330,7 +330,7 @@ fn commanded<B: Naming, R: Abort + Wait>(
     opened: Opened,
     row: &Row<'_>,
 ) -> Result<(), Fail>
-    requires { IsNamed B.count B.table B.plan opened }
+    requires { IsNamed B.count B.table B.plan B.order opened }
 {
     let script = parse_script(alloc, row.text.as_bytes())?;
     let (shards, mut dealer) = opened.share::<B>(alloc)?;
@@ -388,7 +388,7 @@ fn asked<B: Naming, R: Abort + Wait>(
     opened: Opened,
     row: &Row<'_>,
 ) -> Result<(), Fail>
-    requires { IsNamed B.count B.table B.plan opened }
+    requires { IsNamed B.count B.table B.plan B.order opened }
 {
     let (shards, mut dealer) = opened.share::<B>(alloc)?;
     let pass = dealer.pass(alloc, Caller::Reclaimer)?;

@@ -5,12 +5,12 @@ use Rattle.atomic_table.specs.Seated.{TableId}
 use Rattle.atomic_table.specs.declared.badge.Badge.{Badge}
 use Rattle.semantics.specs.declared.call.Caller.{Caller}
 use Rattle.semantics.specs.declared.call.Caller.TheVariants.{Worker, Controller, Reclaimer}
-use Rattle.semantics.specs.declared.plan.ShardPlan.{ShardPlan}
 use Rattle.shards.specs.declared.rule.Known.{Known}
 use Rattle.shards.specs.CallerView.{nothing_seen}
 use Rattle.atomic_table.specs.Table.{Me}
 use Rattle.atomic_table.specs.declared.shared.Seat.{Seat}
-use Rattle.shard_core.specs.JournaledShard.{JournaledShard}
+use Rattle.shards.specs.declared.deeds.Deed.{Deed}
+use Rattle.shards.specs.Lodged.{KeyedPlan, Lodged}
 use Rattle.shards.specs.LockRule.{caller_at, place_of, pass_of, nobody}
 use Rattle.shards.specs.Seats.{has_shard, view_of}
 use Rattle.shards.specs.ShardPasses.{ShardPassView, shard_pass_view}
@@ -25,7 +25,7 @@ abbrev first_known : List Known → Known
 first_known [] = nobody
 first_known (v ∷ vs) = v
 
-caller_is : (who : Caller) → caller_at (place_of who) ≡ who
+pub caller_is : (who : Caller) → caller_at (place_of who) ≡ who
 caller_is (Worker number) = refl
 caller_is Controller = refl
 caller_is Reclaimer = refl
@@ -35,29 +35,29 @@ room_enough (Worker number) most room enough = enough
 room_enough Controller most room enough = omega arith
 room_enough Reclaimer most room enough = omega arith
 
-module _ (table : ℕ → TableId) (plan : ℕ → ShardPlan) (count : ℕ) (rooms : List ℕ) (dealt : List Bool) (rows : List (List (Badge Known))) (place : ℕ) (who : Caller)
-    (dealer : IsDealer table plan count rooms dealt rows) (waits : is_dealt_at dealt place ≡ false) (placed : place ≡ place_of who) where
+module _ (table : ℕ → TableId) (key : ℕ → KeyedPlan) (count : ℕ) (rooms : List ℕ) (dealt : List Bool) (rows : List (List (Badge Known))) (place : ℕ) (who : Caller)
+    (dealer : IsDealer table key count rooms dealt rows) (waits : is_dealt_at dealt place ≡ false) (placed : place ≡ place_of who) where
   pub place_within : (number : ℕ) → number < length rows → place < length (row_at rows number)
   place_within number below = (dealer.waiting number (let sized = dealer.sized in omega (arith, sized, below)) place waits).0
 
-  new_at_seat : (number : ℕ) → number < length rows → IsNewBadge (table number) (plan number) who (badge_at (row_at rows number) place)
-  new_at_seat number below = subst (λ (w : Caller). IsNewBadge (table number) (plan number) w (badge_at (row_at rows number) place)) (ap caller_at placed ∙ caller_is who)
+  new_at_seat : (number : ℕ) → number < length rows → IsNewBadge (table number) (key number) who (badge_at (row_at rows number) place)
+  new_at_seat number below = subst (λ (w : Caller). IsNewBadge (table number) (key number) w (badge_at (row_at rows number) place)) (ap caller_at placed ∙ caller_is who)
       (dealer.waiting number (let sized = dealer.sized in omega (arith, sized, below)) place waits).1
 
   pub new_seat : (number : ℕ) (held : HeldIds) → number < length rows → room_of who (room_at rooms number) ≤ held.room → IsNewSeat (badge_at (row_at rows number) place) held
   new_seat number held below enough = record {
-    plan = plan number;
+    key = key number;
     who = who;
     fresh = (new_at_seat number below).fresh;
-    room = (let more = room_enough who (most_held (plan number)) (room_at rooms number) (dealer.enough number (let sized = dealer.sized in omega (arith, sized, below))) in omega (arith, more, enough));
+    room = (let more = room_enough who (most_held (key number).plan) (room_at rooms number) (dealer.enough number (let sized = dealer.sized in omega (arith, sized, below))) in omega (arith, more, enough));
   }
 
   module _ (parts : List ShardPassView) (same_count : length parts ≡ length rows) (made : (number : ℕ) → number < length rows → IsPartOfSeat (badge_at (row_at rows number) place) (part_at parts number)) where
-    part_is : (number : ℕ) → number < length rows → part_at parts number ≡ view_of_known (badge_at (row_at rows number) place).table_id (pass_of (plan number) who [] [])
-    part_is number below = made number below (pass_of (plan number) who [] []) (new_at_seat number below).fresh
+    part_is : (number : ℕ) → number < length rows → part_at parts number ≡ view_of_known (badge_at (row_at rows number) place).table_id (pass_of (key number) who [] [])
+    part_is number below = made number below (pass_of (key number) who [] []) (new_at_seat number below).fresh
 
-    pub nothing_at : (number : ℕ) → view_at (pass_view who parts) number ≡ nothing_seen
-    nothing_at number = view_is who parts number ∙ ⊎_elim
+    pub nothing_at : (deeds : List Deed) (number : ℕ) → view_at (pass_view who parts deeds) number ≡ nothing_seen
+    nothing_at deeds number = view_is who parts deeds number ∙ ⊎_elim
         (λ (below : number < length parts). ap (λ (p : ShardPassView). p.view) (part_is number (omega (arith, same_count, below))))
         (λ (past : length parts ≤ number). ap (λ (p : ShardPassView). p.view) (or_past parts no_part number past)) (below_or_past number (length parts))
       where
@@ -66,21 +66,21 @@ module _ (table : ℕ → TableId) (plan : ℕ → ShardPlan) (count : ℕ) (roo
         below_or_past zero (suc b) = inl (omega arith)
         below_or_past (suc a) (suc b) = ⊎_elim (λ (h : a < b). inl (omega (arith, h))) (λ (h : b ≤ a). inr (omega (arith, h))) (below_or_past a b)
 
-    pub new_pass : IsPass table plan count who parts
+    pub new_pass : IsPass table key count who parts
     new_pass = record {
       sized = same_count ∙ dealer.sized;
       each = λ number less.
           let below : number < length rows = (let sized = dealer.sized in omega (arith, sized, less)) in
-          subst (IsPartOf (table number) (plan number) who) (sym (part_is number below))
-          (record { table_is = (new_at_seat number below).table_is; plan_is = refl; caller = refl; alone = refl });
+          subst (IsPartOf (table number) (key number) who) (sym (part_is number below))
+          (record { table_is = (new_at_seat number below).table_is; key_is = refl; caller = refl; alone = refl });
     }
 
-pub rest_of_rows : (table : ℕ → TableId) (plan : ℕ → ShardPlan) (count : ℕ) (rooms : List ℕ) (dealt : List Bool) (rows rows' : List (List (Badge Known))) (place : ℕ) →
-    IsDealer table plan count rooms dealt rows → place < length dealt → length rows' ≡ length rows →
+pub rest_of_rows : (table : ℕ → TableId) (key : ℕ → KeyedPlan) (count : ℕ) (rooms : List ℕ) (dealt : List Bool) (rows rows' : List (List (Badge Known))) (place : ℕ) →
+    IsDealer table key count rooms dealt rows → place < length dealt → length rows' ≡ length rows →
     ((number other : ℕ) → other ≢ place → badge_at (row_at rows' number) other ≡ badge_at (row_at rows number) other) →
     ((number : ℕ) → length (row_at rows' number) ≡ length (row_at rows number)) →
-    IsDealer table plan count rooms (slice_set dealt place true) rows'
-rest_of_rows table plan count room dealt rows rows' place dealer below same_count others lengths = record {
+    IsDealer table key count rooms (slice_set dealt place true) rows'
+rest_of_rows table key count room dealt rows rows' place dealer below same_count others lengths = record {
   sized = same_count ∙ dealer.sized;
   waiting = λ number within other waits.
       let apart : other ≢ place = λ same. true≢false (sym (ap (is_dealt_at (slice_set dealt place true)) same ∙ or_set_here dealt place true true below) ∙ waits) in
@@ -88,7 +88,7 @@ rest_of_rows table plan count room dealt rows rows' place dealer below same_coun
       let was = dealer.waiting number within other still in
       let long = lengths number in
       let here = was.0 in
-      (omega (arith, long, here), subst (IsNewBadge (table number) (plan number) (caller_at other)) (sym (others number other apart)) was.1);
+      (omega (arith, long, here), subst (IsNewBadge (table number) (key number) (caller_at other)) (sym (others number other apart)) was.1);
   roomed = dealer.roomed;
   enough = dealer.enough;
 }
@@ -131,20 +131,20 @@ parts_more P parts grown number part counted is new were k within = ⊎_elim
 -- ---- the seat of a badge
 
 -- what a new seat of a badge knows, and the part that is made of it
-module _ (badge : Badge Known) (held : HeldIds) (new : IsNewSeat badge held) (me : Me JournaledShard Known) (knows : badge.views ≡ me.0 ∷ []) (empty : me.1 ≡ []) where
-  known_is : me.0 ≡ pass_of new.plan new.who [] []
+module _ (badge : Badge Known) (held : HeldIds) (new : IsNewSeat badge held) (me : Me Lodged Known) (knows : badge.views ≡ me.0 ∷ []) (empty : me.1 ≡ []) where
+  known_is : me.0 ≡ pass_of new.key new.who [] []
   known_is = ap (λ (vs : List Known). first_known vs) (sym knows ∙ new.fresh)
 
-  pub seat_of_new : me ≡ (pass_of me.0.plan me.0.who [] [], [])
+  pub seat_of_new : me ≡ (pass_of me.0.key me.0.who [] [], [])
   seat_of_new =
-      let is : me ≡ (pass_of new.plan new.who [] [], []) = (λ i. (known_is i, empty i)) in
-      is ∙ ap (λ (v : Known). (pass_of v.plan v.who [] [], [])) (sym known_is)
+      let is : me ≡ (pass_of new.key new.who [] [], []) = (λ i. (known_is i, empty i)) in
+      is ∙ ap (λ (v : Known). (pass_of v.key v.who [] [], [])) (sym known_is)
 
-  pub room_of_new : room_of me.0.who (most_held me.0.plan) ≤ held.room
-  room_of_new = subst (λ (v : Known). room_of v.who (most_held v.plan) ≤ held.room) (sym known_is) new.room
+  pub room_of_new : room_of me.0.who (most_held me.0.key.plan) ≤ held.room
+  room_of_new = subst (λ (v : Known). room_of v.who (most_held v.key.plan) ≤ held.room) (sym known_is) new.room
 
-pub part_of_seat : (badge : Badge Known) (seat : Seat JournaledShard Known) (part : ShardPassView) → seat.table_id ≡ badge.table_id → badge.views ≡ seat.me.0 ∷ [] → seat.me.1 ≡ [] → part ≡ shard_pass_view seat → IsPartOfSeat badge part
+pub part_of_seat : (badge : Badge Known) (seat : Seat Lodged Known) (part : ShardPassView) → seat.table_id ≡ badge.table_id → badge.views ≡ seat.me.0 ∷ [] → seat.me.1 ≡ [] → part ≡ shard_pass_view seat → IsPartOfSeat badge part
 part_of_seat badge seat part same knows empty is v views =
     let known : seat.me.0 ≡ v = ap (λ (vs : List Known). first_known vs) (sym knows ∙ views) in
-    is ∙ (λ i. record { table = seat.table_id; plan = seat.me.0.plan; who = seat.me.0.who; has_it = has_shard (seat.me.0, empty i); view = view_of (seat.me.0, empty i) })
+    is ∙ (λ i. record { table = seat.table_id; key = seat.me.0.key; who = seat.me.0.who; has_it = has_shard (seat.me.0, empty i); view = view_of (seat.me.0, empty i) })
     ∙ (λ i. view_of_known (same i) (known i))

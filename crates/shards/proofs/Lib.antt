@@ -13,6 +13,12 @@ pub mod EntryLemmas
 pub mod Flags
 pub mod HeldLemmas
 pub mod Moves
+pub mod OrderMoves
+pub mod OrderOpening
+pub mod OrderPlans
+pub mod OrderClosing
+pub mod OrderShards
+pub mod OrderDealing
 pub mod Openings
 pub mod Names
 pub mod Transport

@@ -1,6 +1,7 @@
 -- What shards that were opened, and the new shards that are made of them, have to do with their plans.
 use Rattle.std.proofs.Common.{◌≡◌, ◌<◌, ◌+◌, ℕ, zero, suc, List, [], ◌∷◌, length, get_or, refl, sym, ap, ◌∙◌, subst, arith}
 use Rattle.std.specs.Prelude.{Option, Some, None, slice_get, option_map}
+use Rattle.atomic_table.specs.Seated.{TableId}
 use Rattle.ebpf_decode.specs.declared.map.MapDef.{MapDef}
 use Rattle.semantics.specs.declared.options.Options.{Options}
 use Rattle.semantics.specs.declared.plan.ShardPlan.{ShardPlan}
@@ -38,7 +39,7 @@ by_plan shard (Some plan) same =
     let planned : shard.plan ≡ plan = ap (λ (s : JournaledShard). s.plan) is in
     (is ∙ ap opened_shard (sym planned), ap Some (sym planned))
 
-opened_at : (maps : List MapDef) (options : Options) (shards : List JournaledShard) → AreOpened maps options shards → (number : ℕ) → number < length shards →
+pub opened_at : (maps : List MapDef) (options : Options) (shards : List JournaledShard) → AreOpened maps options shards → (number : ℕ) → number < length shards →
     IsUnused (shard_at shards number) × (plan_at maps options number ≡ Some (shard_at shards number).plan)
 opened_at maps options shards opened number below =
     by_plan (shard_at shards number) (plan_at maps options number) (sym (get_is shards number (opened_shard no_plan) below) ∙ opened.each number below)
@@ -47,17 +48,18 @@ pub unused_when_opened : (maps : List MapDef) (options : Options) (shards : List
 unused_when_opened maps options shards opened place shard there =
     subst IsUnused (sym (at_or shards place shard (opened_shard no_plan) there)) (opened_at maps options shards opened place (within shards place shard there)).0
 
-pub is_opening : (maps copy : List MapDef) (options : Options) (shards : List JournaledShard) (callers : ℕ) (all : List NewShardView) →
+pub is_opening : (maps copy : List MapDef) (options : Options) (order : TableId) (shards : List JournaledShard) (callers : ℕ) (all : List NewShardView) →
     AreImageMaps maps → AreOptions maps options → AreOpened maps options shards → copy ≡ maps → callers ≡ options.workers + 2 → length all ≡ length shards →
-    Each (IsMadeOf shards callers) 0 all → IsOpening copy options all
-is_opening maps copy options shards callers all allowed fit opened same_maps enough same_count made =
-    let made_at : (number : ℕ) → number < length all → IsMadeOf shards callers number (new_at all number) =
-    λ number below. each_at (IsMadeOf shards callers) all number (new_at all number) made below (default_is number below) in
-    subst (λ (ms : List MapDef). IsOpening ms options all) (sym same_maps) (record {
+    Each (IsMadeOf shards order callers) 0 all → IsOpening copy options order all
+is_opening maps copy options order shards callers all allowed fit opened same_maps enough same_count made =
+    let made_at : (number : ℕ) → number < length all → IsMadeOf shards order callers number (new_at all number) =
+    λ number below. each_at (IsMadeOf shards order callers) all number (new_at all number) made below (default_is number below) in
+    subst (λ (ms : List MapDef). IsOpening ms options order all) (sym same_maps) (record {
       maps_are = allowed;
       options_fit = fit;
       count = same_count ∙ opened.count;
       plans = λ number below. (opened_at maps options shards opened number (omega (arith, same_count))).1 ∙ ap Some (sym (made_at number below).plan_is);
+      orders = λ number below. (made_at number below).order_is;
       places = λ number below. (made_at number below).places_are ∙ enough;
     })
   where

@@ -49,6 +49,12 @@ module _ (old passes : List PassView) (number place : ℕ) where
         ∙ elsewhere.who ∙ ap (λ (p : PassView). p.who) (is ∙ untouched) ∙ ap (λ (n : ℕ). (pass_at old n).who) (sym here))
         (λ (apart : k ≢ place). ap (λ (p : PassView). p.who) (or_set_else passes place k after no_pass apart) ∙ were k) (same_or_other k place)
 
+    pub deeds_stay : after.deeds ≡ before.deeds → ((k : ℕ) → (pass_at passes k).deeds ≡ (pass_at old k).deeds) → (k : ℕ) → (pass_at (slice_set passes place after) k).deeds ≡ (pass_at old k).deeds
+    deeds_stay same were k = ⊎_elim
+        (λ (here : k ≡ place). ap (λ (n : ℕ). (pass_at (slice_set passes place after) n).deeds) here ∙ ap (λ (p : PassView). p.deeds) (or_set_here passes place after no_pass below)
+        ∙ same ∙ ap (λ (p : PassView). p.deeds) (is ∙ untouched) ∙ ap (λ (n : ℕ). (pass_at old n).deeds) (sym here))
+        (λ (apart : k ≢ place). ap (λ (p : PassView). p.deeds) (or_set_else passes place k after no_pass apart) ∙ were k) (same_or_other k place)
+
     pub others_stay : ((k other : ℕ) → other ≢ number → view_at (pass_at passes k) other ≡ view_at (pass_at old k) other) →
         (k other : ℕ) → other ≢ number → view_at (pass_at (slice_set passes place after) k) other ≡ view_at (pass_at old k) other
     others_stay were k other apart_from = ⊎_elim

@@ -2,7 +2,11 @@
 pub mod Opening
 pub mod Lending
 pub mod CallerView
+pub mod Lodged
 pub mod LockRule
+pub mod Deeds
+pub mod OrderRule
+pub mod Lodging
 pub mod EntryCounts
 pub mod Seats
 pub mod HeldCells
@@ -11,4 +15,6 @@ pub mod Passes
 pub mod Asked
 pub mod SharedMaps
 pub mod NewShards
+pub mod OpenedOrders
+pub mod ClosedOrders
 pub mod PassFaultNumber

@@ -12,7 +12,7 @@ use Rattle.semantics.specs.declared.call.Entry.{Entry}
 use Rattle.semantics.specs.declared.plan.ShardPlan.{ShardPlan}
 use Rattle.semantics.specs.CallerLaws.{own_entries}
 use Rattle.shards.specs.CallerView.{BeginsWith}
-use Rattle.shard_core.specs.JournaledShard.{JournaledShard}
+use Rattle.shards.specs.Lodged.{KeyedPlan, Lodged, keyed}
 use Rattle.shards.specs.declared.rule.Known.{Known}
 use Rattle.ebpf_decode.specs.declared.map.MapKind.TheVariants.{Array}
 
@@ -31,9 +31,9 @@ place_of (Worker number) = suc (suc number)
 -- ---- what a seat knows
 
 -- the seat that deals the others
-abbrev pub dealer_of : ShardPlan → ℕ → Known
-dealer_of plan dealt = record {
-  plan = plan;
+abbrev pub dealer_of : KeyedPlan → ℕ → Known
+dealer_of key dealt = record {
+  key = key;
   seated = true;
   deals = true;
   dealt = dealt;
@@ -47,9 +47,9 @@ dealer_of plan dealt = record {
 }
 
 -- a caller's seat
-abbrev pub pass_of : ShardPlan → Caller → List Entry → List Entry → Known
-pass_of plan who own seen = record {
-  plan = plan;
+abbrev pub pass_of : KeyedPlan → Caller → List Entry → List Entry → Known
+pass_of key who own seen = record {
+  key = key;
   seated = true;
   deals = false;
   dealt = 0;
@@ -63,9 +63,9 @@ pass_of plan who own seen = record {
 }
 
 -- a seat that makes no call, without the shard, and with a shard of this history
-abbrev pub visitor_of : ShardPlan → Known
-visitor_of plan = record {
-  plan = plan;
+abbrev pub visitor_of : KeyedPlan → Known
+visitor_of key = record {
+  key = key;
   seated = true;
   deals = false;
   dealt = 0;
@@ -78,9 +78,9 @@ visitor_of plan = record {
   all = [];
 }
 
-abbrev pub visiting : ShardPlan → List Entry → Known
-visiting plan all = record {
-  plan = plan;
+abbrev pub visiting : KeyedPlan → List Entry → Known
+visiting key all = record {
+  key = key;
   seated = true;
   deals = false;
   dealt = 0;
@@ -104,10 +104,17 @@ no_plan = record {
   reserve = 16;
 }
 
+-- the name of no table
+abbrev pub no_table : TableId
+no_table = record { words = 0; slots = 0; views_name = 0; atom = 0; block = 0; offset = 0; slot_names = [] }
+
+abbrev pub no_key : KeyedPlan
+no_key = keyed no_plan no_table
+
 -- what is left of a seat that another took in
 abbrev pub nobody : Known
 nobody = record {
-  plan = no_plan;
+  key = no_key;
   seated = false;
   deals = false;
   dealt = 0;
@@ -152,21 +159,21 @@ pub record EndFits (phase : ℕ) (log : List Entry) (v : Known) : Type 0 where
   pub closed : phase ≡ 3
   pub all : v.all ≡ log
 
-pub record Fits (plan : ShardPlan) (dealer dealt : ℕ) (seat : ℕ → ℕ) (holder phase : ℕ) (log : List Entry) (id : ℕ) (v : Known) : Type 0 where
-  pub planned : v.seated ≡ true → v.plan ≡ plan
+pub record Fits (key : KeyedPlan) (dealer dealt : ℕ) (seat : ℕ → ℕ) (holder phase : ℕ) (log : List Entry) (id : ℕ) (v : Known) : Type 0 where
+  pub planned : v.seated ≡ true → v.key ≡ key
   pub dealing : v.deals ≡ true → DealerFits dealer dealt id v
   pub acting : v.acts ≡ true → PassFits dealt seat log id v
   pub holding : v.holds ≡ true → HolderFits holder phase log id v
   pub ending : v.ended ≡ true → EndFits phase log v
 
 -- the shard is in its slot, and its journal is the history
-pub record IsHome (plan : ShardPlan) (homes : List (Option JournaledShard)) (log : List Entry) : Type 0 where
-  pub shard : JournaledShard
+pub record IsHome (key : KeyedPlan) (homes : List (Option Lodged)) (log : List Entry) : Type 0 where
+  pub shard : Lodged
   pub there : get_elem? homes 0 ≡ some (some shard)
-  pub planned : shard.plan ≡ plan
+  pub planned : shard.key ≡ key
   pub written : reverse shard.journal ≡ log
 
-pub record IsKept (plan : ShardPlan) (s : State JournaledShard Known) : Type 0 where
+pub record IsKept (key : KeyedPlan) (s : State Lodged Known) : Type 0 where
   -- the dealing seat, how many seats were dealt, the seat of each caller, the seat that took the lock last, and the history
   pub dealer : ℕ
   pub dealt : ℕ
@@ -178,27 +185,27 @@ pub record IsKept (plan : ShardPlan) (s : State JournaledShard Known) : Type 0 w
   pub some_word : lock_place < length s.words
   pub counted : slice_index s.words lock_place ≡ 4 * length log + phase
   pub few : phase < 4
-  pub free : phase ≡ 0 → IsHome plan s.homes log
-  pub closed : phase ≡ 3 → IsHome plan s.homes log
+  pub free : phase ≡ 0 → IsHome key s.homes log
+  pub closed : phase ≡ 3 → IsHome key s.homes log
   pub none_yet : (who : Caller) → dealt ≤ place_of who → own_entries who log ≡ []
-  pub fits : (id : ℕ) (v : Known) → get_elem? s.views id ≡ some v → Fits plan dealer dealt seat holder phase log id v
+  pub fits : (id : ℕ) (v : Known) → get_elem? s.views id ≡ some v → Fits key dealer dealt seat holder phase log id v
 
 -- ---- the steps
 
 -- a seat for the next caller is dealt
 abbrev pub one_more : Known → Known
-one_more v = dealer_of v.plan (suc v.dealt)
+one_more v = dealer_of v.key (suc v.dealt)
 
 abbrev pub newcomer : Known → Known
-newcomer v = pass_of v.plan (caller_at v.dealt) [] []
+newcomer v = pass_of v.key (caller_at v.dealt) [] []
 
--- a visitor comes; the table tells it the plan
-abbrev pub Comes : Step JournaledShard → Me JournaledShard Known → ℕ → Me JournaledShard Known → Type 0
-Comes s v found w = w ≡ (visitor_of v.0.plan, [])
+-- a visitor comes; the table tells it the key
+abbrev pub Comes : Step Lodged → Me Lodged Known → ℕ → Me Lodged Known → Type 0
+Comes s v found w = w ≡ (visitor_of v.0.key, [])
 
 abbrev pub taking : Known → List Entry → Known
 taking v all = record {
-  plan = v.plan;
+  key = v.key;
   seated = v.seated;
   deals = v.deals;
   dealt = v.dealt;
@@ -213,25 +220,25 @@ taking v all = record {
 
 -- the seat has the shard, as it was planned. If it is a caller's, it learns that its own entries are all of its caller's, and that what it saw is a
 -- beginning of the history
-pub record HasTaken (before after : Me JournaledShard Known) : Type 0 where
-  pub shard : JournaledShard
-  pub planned : shard.plan ≡ before.0.plan
+pub record HasTaken (before after : Me Lodged Known) : Type 0 where
+  pub shard : Lodged
+  pub planned : shard.key ≡ before.0.key
   pub has : after ≡ (taking before.0 (reverse shard.journal), (0, shard) ∷ [])
   pub known : before.0.acts ≡ true → IsKnownIn (reverse shard.journal) before.0
 
 -- the lock is taken, where the word was the one expected
-abbrev pub Takes : Step JournaledShard → Me JournaledShard Known → ℕ → Me JournaledShard Known → Type 0
+abbrev pub Takes : Step Lodged → Me Lodged Known → ℕ → Me Lodged Known → Type 0
 Takes s v found w = MatchBool (found == s.first) (HasTaken v w) (w ≡ v)
 
 -- the lock is marked, where the word was the one expected
-abbrev pub Marks : Step JournaledShard → Me JournaledShard Known → ℕ → Me JournaledShard Known → Type 0
+abbrev pub Marks : Step Lodged → Me Lodged Known → ℕ → Me Lodged Known → Type 0
 Marks s v found w = w ≡ v
 
 -- the shard is given back: its journal is the history now, and the seat has seen all of it
-abbrev pub given : Known → List (ℕ × JournaledShard) → Known
+abbrev pub given : Known → List (ℕ × Lodged) → Known
 given v [] = v
 given v (x ∷ xs) = record {
-  plan = v.plan;
+  key = v.key;
   seated = v.seated;
   deals = v.deals;
   dealt = v.dealt;
@@ -244,13 +251,13 @@ given v (x ∷ xs) = record {
   all = [];
 }
 
-abbrev pub Gives : Step JournaledShard → Me JournaledShard Known → ℕ → Me JournaledShard Known → Type 0
+abbrev pub Gives : Step Lodged → Me Lodged Known → ℕ → Me Lodged Known → Type 0
 Gives s v found w = w ≡ (given v.0 v.1, [])
 
 -- the shard is put back for good, as it was found
 abbrev pub ending : Known → Known
 ending v = record {
-  plan = v.plan;
+  key = v.key;
   seated = v.seated;
   deals = v.deals;
   dealt = v.dealt;
@@ -263,14 +270,14 @@ ending v = record {
   all = v.all;
 }
 
-abbrev pub Ends : Step JournaledShard → Me JournaledShard Known → ℕ → Me JournaledShard Known → Type 0
+abbrev pub Ends : Step Lodged → Me Lodged Known → ℕ → Me Lodged Known → Type 0
 Ends s v found w = w ≡ (ending v.0, [])
 
 -- ---- a visitor's seat with a caller's, and both apart again
 
 abbrev pub joined : Known → Known → Known
 joined v w = record {
-  plan = v.plan;
+  key = v.key;
   seated = v.seated;
   deals = v.deals;
   dealt = v.dealt;
@@ -284,14 +291,14 @@ joined v w = record {
 }
 
 abbrev pub visitor_part : Known → Known
-visitor_part v = visiting v.plan v.all
+visitor_part v = visiting v.key v.all
 
 abbrev pub pass_part : Known → Known
-pass_part v = pass_of v.plan v.who v.own v.seen
+pass_part v = pass_of v.key v.who v.own v.seen
 
 abbrev pub all_seen : Known → Known
 all_seen v = record {
-  plan = v.plan;
+  key = v.key;
   seated = v.seated;
   deals = v.deals;
   dealt = v.dealt;
@@ -305,9 +312,5 @@ all_seen v = record {
 }
 
 -- the caller has seen all, and knows all of its own
-abbrev pub Sees : Step JournaledShard → Me JournaledShard Known → ℕ → Me JournaledShard Known → Type 0
+abbrev pub Sees : Step Lodged → Me Lodged Known → ℕ → Me Lodged Known → Type 0
 Sees s v found w = (w ≡ (all_seen v.0, v.1)) × IsKnownIn v.0.all v.0
-
--- the name of no table
-abbrev pub no_table : TableId
-no_table = record { words = 0; slots = 0; views_name = 0; atom = 0; block = 0; offset = 0; slot_names = [] }

@@ -10,17 +10,20 @@ use Rattle.semantics.specs.declared.full.JournalFull.{JournalFull}
 use Rattle.semantics.specs.CallerLaws.{own_entries}
 use Rattle.semantics.specs.Reclamation.{is_inside}
 use Rattle.semantics.specs.declared.call.Entry.{Entry}
-use Rattle.semantics.specs.declared.plan.ShardPlan.{ShardPlan}
 use Rattle.journals.specs.JournalsView.{JournalsView, entries_at}
 use Rattle.shards.specs.declared.rule.Known.{Known}
+use Rattle.shards.specs.declared.deeds.Deed.{Deed}
+use Rattle.shards.specs.Lodged.{KeyedPlan}
 use Rattle.shards.specs.CallerView.{CallerView, nothing_seen, IsSettled}
-use Rattle.shards.specs.LockRule.{no_plan, no_table}
+use Rattle.shards.specs.LockRule.{no_key, no_table}
 use Rattle.shards.specs.ShardPasses.{ShardPassView}
 
 pub record PassView : Type 0 where
   pub who : Caller
   -- by the shards' numbers
   pub views : List CallerView
+  -- what the caller did, over all shards: the newest deed first
+  pub deeds : List Deed
 
 -- what the pass knows of the shard of this number
 abbrev pub view_at : PassView → ℕ → CallerView
@@ -39,7 +42,7 @@ KnowsItsOwn number pass = own_at pass number ≡ own_entries pass.who (seen_at p
 
 -- the pass of nobody, which stands past the end of a list
 abbrev pub no_pass : PassView
-no_pass = record { who = Reclaimer; views = [] }
+no_pass = record { who = Reclaimer; views = []; deeds = [] }
 
 abbrev pub pass_at : List PassView → ℕ → PassView
 pass_at passes place = slice_index_or passes place no_pass
@@ -80,22 +83,22 @@ abbrev pub badge_at : List (Badge Known) → ℕ → Badge Known
 badge_at badges number = slice_index_or badges number blank
 
 abbrev pub no_part : ShardPassView
-no_part = record { table = no_table; plan = no_plan; who = Reclaimer; has_it = false; view = nothing_seen }
+no_part = record { table = no_table; key = no_key; who = Reclaimer; has_it = false; view = nothing_seen }
 
 abbrev pub part_at : List ShardPassView → ℕ → ShardPassView
 part_at parts number = slice_index_or parts number no_part
 
-abbrev pub pass_view : Caller → List ShardPassView → PassView
-pass_view who parts = record { who = who; views = map (λ (part : ShardPassView). part.view) parts }
+abbrev pub pass_view : Caller → List ShardPassView → List Deed → PassView
+pass_view who parts deeds = record { who = who; views = map (λ (part : ShardPassView). part.view) parts; deeds = deeds }
 
--- this caller's, for the shard of this word and plan, which it does not have
-pub record IsPartOf (table : TableId) (plan : ShardPlan) (who : Caller) (part : ShardPassView) : Type 0 where
+-- this caller's, for the shard of this word, plan and order, which it does not have
+pub record IsPartOf (table : TableId) (key : KeyedPlan) (who : Caller) (part : ShardPassView) : Type 0 where
   pub table_is : part.table ≡ table
-  pub plan_is : part.plan ≡ plan
+  pub key_is : part.key ≡ key
   pub caller : part.who ≡ who
   pub alone : part.has_it ≡ false
 
 -- one for each shard
-pub record IsPass (table : ℕ → TableId) (plan : ℕ → ShardPlan) (count : ℕ) (who : Caller) (parts : List ShardPassView) : Type 0 where
+pub record IsPass (table : ℕ → TableId) (key : ℕ → KeyedPlan) (count : ℕ) (who : Caller) (parts : List ShardPassView) : Type 0 where
   pub sized : length parts ≡ count
-  pub each : (number : ℕ) → number < count → IsPartOf (table number) (plan number) who (part_at parts number)
+  pub each : (number : ℕ) → number < count → IsPartOf (table number) (key number) who (part_at parts number)

@@ -5,28 +5,27 @@ use Rattle.atomic_table.specs.declared.shared.Seat.{Seat}
 use Rattle.semantics.specs.declared.call.Caller.{Caller}
 use Rattle.semantics.specs.declared.call.Caller.TheVariants.{Worker}
 use Rattle.semantics.specs.declared.call.Entry.{Entry}
-use Rattle.semantics.specs.declared.plan.ShardPlan.{ShardPlan}
 use Rattle.semantics.specs.CallerLaws.{own_entries}
 use Rattle.semantics.specs.History.{IsLegalHistory}
 use Rattle.semantics.specs.Reclamation.{is_inside}
-use Rattle.shard_core.specs.JournaledShard.{JournaledShard}
+use Rattle.shards.specs.Lodged.{KeyedPlan, Lodged}
 use Rattle.shards.specs.declared.rule.Known.{Known}
 use Rattle.shards.specs.CallerView.{CallerView}
 use Rattle.shards.specs.Seats.{view_of, has_shard, IsHolding}
 use Rattle.shards.specs.HeldCells.{HeldIds, AreHeldOf}
 
--- the table of the shard's word, the shard's plan, the caller, whether it has the shard, and what it has seen
+-- the table of the shard's word, the shard's plan with the order, the caller, whether it has the shard, and what it has seen
 pub record ShardPassView : Type 0 where
   pub table : TableId
-  pub plan : ShardPlan
+  pub key : KeyedPlan
   pub who : Caller
   pub has_it : Bool
   pub view : CallerView
 
-abbrev pub shard_pass_view : Seat JournaledShard Known → ShardPassView
+abbrev pub shard_pass_view : Seat Lodged Known → ShardPassView
 shard_pass_view seat = record {
   table = seat.table_id;
-  plan = seat.me.0.plan;
+  key = seat.me.0.key;
   who = seat.me.0.who;
   has_it = has_shard seat.me;
   view = view_of seat.me;
@@ -39,17 +38,18 @@ IsFlagOf who own flag = Unit {0}
 
 -- a caller's seat, with or without the shard; a flag, and a list of the cells that the caller holds, by its own entries. Its own entries are all of the
 -- caller's in what it has seen, and what it has seen is legal
-pub record IsShardPass (seat : Seat JournaledShard Known) (inside : Bool) (held : HeldIds) : Type 0 where
+pub record IsShardPass (seat : Seat Lodged Known) (inside : Bool) (held : HeldIds) : Type 0 where
   pub seated : seat.me.0.seated ≡ true
   pub acts : seat.me.0.acts ≡ true
   pub holding : IsHolding seat.me.0 seat.me.1
   pub flagged : IsFlagOf seat.me.0.who (view_of seat.me).own inside
-  pub held_are : AreHeldOf seat.me.0.who seat.me.0.plan (view_of seat.me).own held
+  pub held_are : AreHeldOf seat.me.0.who seat.me.0.key.plan (view_of seat.me).own held
   pub knows : (view_of seat.me).own ≡ own_entries seat.me.0.who (view_of seat.me).seen
-  pub legal : IsLegalHistory seat.me.0.plan (view_of seat.me).seen
+  pub legal : IsLegalHistory seat.me.0.key.plan (view_of seat.me).seen
 
 -- the same caller at the same shard
 pub record IsSameShard (before after : ShardPassView) : Type 0 where
   pub table : after.table ≡ before.table
-  pub plan : after.plan ≡ before.plan
+  pub key : after.key ≡ before.key
+  pub plan : after.key.plan ≡ before.key.plan
   pub who : after.who ≡ before.who

@@ -9,6 +9,7 @@ use Rattle.semantics.specs.declared.plan.ShardPlan.{ShardPlan}
 use Rattle.semantics.specs.ShardPlan.{plan_at, AreOptions}
 use Rattle.journals.specs.JournalsView.{AreImageMaps}
 use Rattle.semantics.specs.Each.{Each}
+use Rattle.shards.specs.Lodged.{KeyedPlan, keys}
 use Rattle.shards.specs.Seats.{IsLockOf}
 
 -- what they were opened for
@@ -17,17 +18,17 @@ pub record SharedMaps : Type 0 where
   pub options : Options
 
 -- each word is that of its number
-abbrev pub AreLocks : {S V P A : Type 0} → (ℕ → TableId) → (ℕ → ShardPlan) → List (Table S V ShardPlan P A) → Type 0
-AreLocks {S} {V} {P} {A} table plan locks = Each (λ (number : ℕ) (lock : Table S V ShardPlan P A). IsLockOf (table number) (plan number) lock) 0 locks
+abbrev pub AreLocks : {S V P A : Type 0} → (ℕ → TableId) → (ℕ → KeyedPlan) → List (Table S V KeyedPlan P A) → Type 0
+AreLocks {S} {V} {P} {A} table key locks = Each (λ (number : ℕ) (lock : Table S V KeyedPlan P A). IsLockOf (table number) (key number) lock) 0 locks
 
 -- so many shards, each as its plan has it
 pub record ArePlans (maps : List MapDef) (options : Options) (count : ℕ) (plan : ℕ → ShardPlan) : Type 0 where
   pub count_is : count ≡ length maps * options.shards
   pub each : (number : ℕ) → number < count → plan_at maps options number ≡ Some (plan number)
 
-pub record AreShared {S V P A : Type 0} (table : ℕ → TableId) (plan : ℕ → ShardPlan) (count : ℕ) (locks : List (Table S V ShardPlan P A))
+pub record AreShared {S V P A : Type 0} (table : ℕ → TableId) (plan : ℕ → ShardPlan) (order : TableId) (count : ℕ) (locks : List (Table S V KeyedPlan P A))
     (maps : List MapDef) (options : Options) (journals : List (List Entry)) (room : ℕ) : Type 0 where
-  pub locks_are : AreLocks table plan locks
+  pub locks_are : AreLocks table (keys plan order) locks
   pub sized : length locks ≡ count
   pub plans : ArePlans maps options count plan
   pub options_fit : AreOptions maps options

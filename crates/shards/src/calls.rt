@@ -1,9 +1,11 @@
 //! A call of each kind.
 
-ghost use Rattle.std.specs.Prelude.{◌≡◌, ◌<◌, IfOk, IfErr, OnOk, OnErr};
+ghost use Rattle.std.specs.Prelude.{◌≡◌, ◌<◌, ◌∷◌, IfOk, IfErr, OnOk, OnErr};
 ghost use Rattle.semantics.specs.declared.call.Call.TheVariants.{Enter, Leave, Lookup, Update, Delete, Reclaim};
 ghost use Rattle.semantics.specs.declared.call.Reply.TheVariants.{Entered, Left, Word, Done, Answer, Freed};
-ghost use Rattle.journal.specs.Entries.{found_reply};
+ghost use Rattle.journal.specs.Entries.{found_reply, leave_entry};
+ghost use Rattle.shards.specs.declared.deeds.Deed.TheVariants.{Wrote};
+ghost use Rattle.shards.specs.Deeds.{deed_by};
 ghost use Rattle.shards.specs.Passes.{KnowsItsOwn, IsElsewhereSame};
 ghost use Rattle.journal.specs.Entries.{load_on, store_on, atomic_on};
 ghost use Rattle.shards.specs.Asked.{MayAsk, IsAnswered, IsTurnedAway};
@@ -27,6 +29,7 @@ impl<B: Naming> Shards<B> {
         ensures served { OnOk result (IsAnswered (B.plan shard) shard pass.old pass.new (Enter shard) Entered) }
         ensures refused { OnErr result (IsTurnedAway (B.plan shard) shard pass.old pass.new (Enter shard)) }
         ensures names_the_shard { IfErr result (λ fault. fault.shard ≡ shard) }
+        ensures did { pass.new.deeds ≡ deed_by pass.old.who (Enter shard) (λ (done : Unit {0}). Entered) result ∷ pass.old.deeds }
     {
         self.ask(rt, pass, shard, Enters)
     }
@@ -38,6 +41,7 @@ impl<B: Naming> Shards<B> {
         ensures elsewhere { IsElsewhereSame shard pass.old pass.new }
         ensures own { KnowsItsOwn shard pass.new }
         ensures served { IsAnswered (B.plan shard) shard pass.old pass.new (Leave shard) Left }
+        ensures did { pass.new.deeds ≡ Wrote (leave_entry shard pass.old.who) ∷ pass.old.deeds }
     {
         if self.ask(rt, pass, shard, Leaves).is_err() {
             unreachable!()
@@ -59,6 +63,7 @@ impl<B: Naming> Shards<B> {
         ensures served { IfOk result (λ found. IsAnswered (B.plan shard) shard pass.old pass.new (Lookup shard key.now) (found_reply shard found)) }
         ensures refused { OnErr result (IsTurnedAway (B.plan shard) shard pass.old pass.new (Lookup shard key.now)) }
         ensures names_the_shard { IfErr result (λ fault. fault.shard ≡ shard) }
+        ensures did { pass.new.deeds ≡ deed_by pass.old.who (Lookup shard key.now) (found_reply shard) result ∷ pass.old.deeds }
     {
         self.ask(rt, pass, shard, Looks { key })
     }
@@ -78,6 +83,7 @@ impl<B: Naming> Shards<B> {
         ensures served { IfOk result (λ value. IsAnswered (B.plan shard) shard pass.old pass.new (load_on shard range.now) (Word value)) }
         ensures refused { OnErr result (IsTurnedAway (B.plan shard) shard pass.old pass.new (load_on shard range.now)) }
         ensures names_the_shard { IfErr result (λ fault. fault.shard ≡ shard) }
+        ensures did { pass.new.deeds ≡ deed_by pass.old.who (load_on shard range.now) Word result ∷ pass.old.deeds }
     {
         self.ask(rt, pass, shard, Loads { range })
     }
@@ -98,6 +104,7 @@ impl<B: Naming> Shards<B> {
         ensures served { OnOk result (IsAnswered (B.plan shard) shard pass.old pass.new (store_on shard range.now value) Done) }
         ensures refused { OnErr result (IsTurnedAway (B.plan shard) shard pass.old pass.new (store_on shard range.now value)) }
         ensures names_the_shard { IfErr result (λ fault. fault.shard ≡ shard) }
+        ensures did { pass.new.deeds ≡ deed_by pass.old.who (store_on shard range.now value) (λ (done : Unit {0}). Done) result ∷ pass.old.deeds }
     {
         self.ask(rt, pass, shard, Stores { range, value })
     }
@@ -118,6 +125,7 @@ impl<B: Naming> Shards<B> {
         ensures served { IfOk result (λ value. IsAnswered (B.plan shard) shard pass.old pass.new (atomic_on shard range.now change.now) (Word value)) }
         ensures refused { OnErr result (IsTurnedAway (B.plan shard) shard pass.old pass.new (atomic_on shard range.now change.now)) }
         ensures names_the_shard { IfErr result (λ fault. fault.shard ≡ shard) }
+        ensures did { pass.new.deeds ≡ deed_by pass.old.who (atomic_on shard range.now change.now) Word result ∷ pass.old.deeds }
     {
         self.ask(rt, pass, shard, Changes { range, change })
     }
@@ -139,6 +147,7 @@ impl<B: Naming> Shards<B> {
         ensures served { IfOk result (λ code. IsAnswered (B.plan shard) shard pass.old pass.new (Update shard key.now value.now flags) (Answer code)) }
         ensures refused { OnErr result (IsTurnedAway (B.plan shard) shard pass.old pass.new (Update shard key.now value.now flags)) }
         ensures names_the_shard { IfErr result (λ fault. fault.shard ≡ shard) }
+        ensures did { pass.new.deeds ≡ deed_by pass.old.who (Update shard key.now value.now flags) Answer result ∷ pass.old.deeds }
     {
         self.ask(rt, pass, shard, Updates { key, value, flags })
     }
@@ -158,6 +167,7 @@ impl<B: Naming> Shards<B> {
         ensures served { IfOk result (λ code. IsAnswered (B.plan shard) shard pass.old pass.new (Delete shard key.now) (Answer code)) }
         ensures refused { OnErr result (IsTurnedAway (B.plan shard) shard pass.old pass.new (Delete shard key.now)) }
         ensures names_the_shard { IfErr result (λ fault. fault.shard ≡ shard) }
+        ensures did { pass.new.deeds ≡ deed_by pass.old.who (Delete shard key.now) Answer result ∷ pass.old.deeds }
     {
         self.ask(rt, pass, shard, Deletes { key })
     }
@@ -176,6 +186,7 @@ impl<B: Naming> Shards<B> {
         ensures served { IfOk result (λ count. IsAnswered (B.plan shard) shard pass.old pass.new (Reclaim shard) (Freed count)) }
         ensures refused { OnErr result (IsTurnedAway (B.plan shard) shard pass.old pass.new (Reclaim shard)) }
         ensures names_the_shard { IfErr result (λ fault. fault.shard ≡ shard) }
+        ensures did { pass.new.deeds ≡ deed_by pass.old.who (Reclaim shard) Freed result ∷ pass.old.deeds }
     {
         self.ask(rt, pass, shard, Reclaims)
     }

@@ -4,11 +4,17 @@ ghost use Rattle.std.specs.Prelude.{◌≡◌, ◌≢◌, ◌<◌, ℕ, length};
 ghost use Rattle.semantics.specs.History.{IsLegalJournal};
 ghost use Rattle.journals.specs.JournalsView.{entries_at};
 ghost use Rattle.shards.specs.CallerView.{IsSettled};
+ghost use Rattle.shards.specs.declared.deeds.Account.{Account};
+ghost use Rattle.shards.specs.ClosedOrders.{HasGathered, IsOneOrder, account_of};
+ghost use Rattle.shards.specs.Lodged.{keyed};
+ghost use Rattle.shards.specs.OrderRule.{HasAccount};
 ghost use Rattle.shards.specs.Passes.{pass_at, view_at, AreSettled};
 ghost use Rattle.shards.specs.Seats.{IsLockOf};
 
 use crate::lock::visit;
 use crate::naming::Naming;
+use crate::order::{end, gather, visitor};
+use crate::order_rule::{Order, OrderSeat};
 use crate::pass::Pass;
 use crate::rule::Lock;
 use crate::sharing::Shards;
@@ -25,19 +31,31 @@ impl<B: Naming> Shards<B> {
         ensures count { length result.shards ≡ B.count }
         ensures legal { (number : ℕ) → number < B.count → IsLegalJournal (B.plan number) (entries_at result number) }
         ensures settled { (place : ℕ) → place < length passes.items → AreSettled B.count result (pass_at passes.items place) }
+        ensures did { IsOneOrder B.plan B.count result passes.items }
     {
         let Shards {
             mut locks,
+            order,
             maps,
             options,
             mut journals,
             ..
         } = self;
         let count = locks.len();
+        let mut seat = visitor(&order);
         'shards: for number in 0..count {
-            let journal = settled(rt, locks.remove(0), number as u32, &mut passes);
+            let journal = settled(
+                rt,
+                locks.remove(0),
+                number as u32,
+                &order,
+                &mut seat,
+                &mut passes,
+            );
             journals.push_reserved(journal);
         }
+        gather_all(&order, &mut seat, passes);
+        end(order, seat);
         Journals::of(maps, options, journals)
     }
 }
@@ -47,15 +65,23 @@ fn settled<B: Naming>(
     rt: &impl Wait,
     lock: Lock,
     number: u32,
+    order: &Order,
+    seat: &mut OrderSeat,
     passes: &mut Vec<Pass<B>>,
 ) -> ShardJournal
     requires number { number < B.count }
-    requires lock { IsLockOf (B.table number) (B.plan number) lock }
+    requires lock { IsLockOf (B.table number) (keyed (B.plan number) B.order) lock }
+    requires numbered { (B.plan number).number ≡ number }
+    requires order { (order.now.shared.table_id ≡ B.order) × (0 < B.order.words) }
+    requires seat { seat.old.table_id ≡ B.order }
     ensures legal { IsLegalJournal (B.plan number) result }
     ensures settled { (place : ℕ) → place < length passes.old.items →
         IsSettled (pass_at passes.old.items place).who (view_at (pass_at passes.old.items place) number) result }
     ensures count { length passes.new.items ≡ length passes.old.items }
     ensures callers { (place : ℕ) → (pass_at passes.new.items place).who ≡ (pass_at passes.old.items place).who }
+    ensures deeds { (place : ℕ) → (pass_at passes.new.items place).deeds ≡ (pass_at passes.old.items place).deeds }
+    ensures seat { seat.new.table_id ≡ B.order }
+    ensures taken { HasGathered number result seat.old.me seat.new.me }
     ensures others { (place other : ℕ) → other ≢ number →
         view_at (pass_at passes.new.items place) other ≡ view_at (pass_at passes.old.items place) other }
 {
@@ -63,5 +89,21 @@ fn settled<B: Naming>(
     'passes: for place in 0..passes.len() {
         passes[place].see(&lock, number, &mut guest);
     }
-    ShardJournal::written(close(lock, guest).into_journal())
+    let (shard, place) = close(lock, guest).into_parts();
+    gather(order, seat, place.into_seat());
+    ShardJournal::written(shard.into_journal())
+}
+
+/// The seat takes in those of the passes.
+fn gather_all<B: Naming>(order: &Order, seat: &mut OrderSeat, mut passes: Vec<Pass<B>>)
+    requires order { (order.now.shared.table_id ≡ B.order) × (0 < B.order.words) }
+    requires seat { seat.old.table_id ≡ B.order }
+    ensures seat { seat.new.table_id ≡ B.order }
+    ensures kept { (one : Account) → HasAccount one seat.old.me.0 → HasAccount one seat.new.me.0 }
+    ensures all { (place : ℕ) → place < length passes.items → HasAccount (account_of (pass_at passes.items place)) seat.new.me.0 }
+{
+    let count = passes.len();
+    'passes: for _place in 0..count {
+        gather(order, seat, passes.remove(0).into_seat());
+    }
 }

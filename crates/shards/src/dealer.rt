@@ -10,13 +10,16 @@ ghost use Rattle.shards.specs.declared.pass_fault.PassFault.TheVariants.{BadOpti
 
 use crate::held::{HeldCells, none_held};
 use crate::naming::Naming;
+use crate::order_rule::Place;
 use crate::pass::Pass;
 use crate::pass_fault::PassFault;
 use crate::shard_pass::ShardPass;
 use crate::waiting::Waiting;
+use atomic_table::Badge;
 use semantics::Caller;
 use std::alloc::Global;
 use std::marker::{Model, PhantomData};
+use std::mem;
 
 /// The right to deal each caller its one pass: what is not dealt yet cannot be shared, so it stands beside the shards. Contracts see which
 /// passes were dealt: the controller's, the reclaimer's, then the workers' by their numbers.
@@ -25,6 +28,8 @@ pub struct Dealer<B: Naming> {
     /// The seats of each shard.
     pub(crate) rows: Vec<Waiting>,
     pub(crate) dealt: Vec<bool>,
+    /// The seats at the order.
+    pub(crate) places: Vec<Place>,
     /// How many cells a worker can hold in each shard.
     pub(crate) rooms: Vec<usize>,
     pub(crate) names: PhantomData<B>,
@@ -32,13 +37,15 @@ pub struct Dealer<B: Naming> {
 
 impl<B: Naming> Model for Dealer<B> {
     ghost use Rattle.std.specs.Prelude.{List, Bool};
-    ghost use Rattle.shards.specs.NewShards.{IsDealer};
+    ghost use Rattle.shards.specs.Lodged.{keys};
+    ghost use Rattle.shards.specs.NewShards.{IsDealer, AreAtOrder};
 
     ghost Value = { List Bool };
 
     ghost view = { λ dealer. dealer.dealt.items };
 
-    ghost invariant = { λ dealer. IsDealer B.table B.plan B.count dealer.rooms.items dealer.dealt.items dealer.rows.items };
+    ghost invariant = { λ dealer. IsDealer B.table (keys B.plan B.order) B.count dealer.rooms.items dealer.dealt.items dealer.rows.items
+        × AreAtOrder B.order dealer.dealt.items dealer.places.items };
 }
 
 impl<B: Naming> Dealer<B> {
@@ -47,6 +54,7 @@ impl<B: Naming> Dealer<B> {
     pub fn pass(&mut self, alloc: Global, who: Caller) -> Result<Pass<B>, PassFault>
         ensures who { IfOk result (λ pass. pass.who ≡ who) }
         ensures nothing { IfOk result (λ pass. (number : ℕ) → view_at pass number ≡ nothing_seen) }
+        ensures idle { IfOk result (λ pass. pass.deeds ≡ []) }
         ensures dealt { OnOk result (self.new ≡ slice_set self.old (place_of who) true) }
         ensures bad_options { IsErrOf result BadOptions ↔ (length self.old ≤ place_of who) }
         ensures taken { IsErrOf result PassTaken ↔ (place_of who < length self.old) × (is_dealt_at self.old (place_of who) ≡ true) }
@@ -63,9 +71,11 @@ impl<B: Naming> Dealer<B> {
         let parts = Vec::with_capacity(alloc, self.rows.len())?;
         self.dealt[place] = true;
         let parts = column(&mut self.rows, place, held, parts);
+        let seat = mem::replace(&mut self.places[place], Badge::blank()).into_seat();
         Ok(Pass {
             who,
             parts,
+            seat,
             names: PhantomData,
         })
     }

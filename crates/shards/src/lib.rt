@@ -6,12 +6,18 @@ mod asks;
 mod calls;
 mod closing;
 mod dealer;
+mod deeds;
 mod held;
+mod item;
 pub mod laws;
 mod lock;
+mod lock_key;
+mod lodger;
 mod naming;
 mod new_shard;
 mod opening;
+mod order;
+mod order_rule;
 mod pass;
 mod pass_fault;
 mod plain_opening;
@@ -27,6 +33,7 @@ pub use asks::{
     Ask, Calls, Changes, Deletes, Enters, Leaves, Loads, Looks, Reclaims, Stores, Updates,
 };
 pub use dealer::Dealer;
+pub use deeds::Deed;
 pub use map_rules::OpenFault;
 pub use naming::Naming;
 pub use opening::Opened;

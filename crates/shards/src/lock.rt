@@ -1,17 +1,20 @@
 //! The steps on a shard's word: take, mark, give, and what is done with the shard in between.
 
 ghost use Rattle.std.specs.Prelude.{◌≡◌, ◌≢◌, ◌<◌, ◌≤◌, ◌+◌, ◌*◌, ◌%◌, ◌==◌, ◌∷◌, ◌^◌, ℕ, true, false, MatchBool, [], length, reverse, IfOk, IfErr, OnErr};
-ghost use Rattle.semantics.specs.History.{Meets, meets, IsLegalHistory, IsLegalJournal, IsJournalFull};
+ghost use Rattle.semantics.specs.History.{Meets, meets, IsLegalHistory, IsJournalFull};
 ghost use Rattle.semantics.specs.CallerLaws.{own_entries};
 ghost use Rattle.shard_core.specs.FewHeld.{FewAreHeld};
 ghost use Rattle.shards.specs.CallerView.{entry_of};
+ghost use Rattle.shards.specs.declared.deeds.Part.TheVariants.{ByCaller};
+ghost use Rattle.shards.specs.Deeds.{deed_by};
+ghost use Rattle.shards.specs.OrderRule.{IsSeatFor, KnowsShard, deeds_in};
 ghost use Rattle.shards.specs.LockRule.{HasTaken, given, visitor_of};
 ghost use Rattle.shards.specs.Seats.{IsLock, IsSeatOf, IsVisitor, has_shard, view_of};
 
 use crate::asks::Ask;
+use crate::order_rule::{Order, OrderSeat};
 use crate::rule::{Comes, Gives, Lock, LockSeat, Marks, Takes};
-use semantics::{Call, Caller, JournalFull, laws};
-use shard_core::{Shard, laws as shard_laws};
+use semantics::{Call, Caller, JournalFull};
 use std::sync::Wait;
 
 /// Which of the table's words it is: what is before it and behind it keeps all else off its cache lines.
@@ -26,7 +29,7 @@ pub(crate) fn take(rt: &impl Wait, lock: &Lock, seat: &mut LockSeat)
     requires alone { has_shard seat.old.me ≡ false }
     ensures seat { IsSeatOf lock.now.shared.table_id seat.new }
     ensures taken { HasTaken seat.old.me seat.new.me }
-    ensures legal { IsLegalHistory seat.new.me.0.plan (view_of seat.new.me).seen }
+    ensures legal { IsLegalHistory seat.new.me.0.key.plan (view_of seat.new.me).seen }
 {
     let mut phase = 1;
     'turns: for _ in rt.forever() {
@@ -47,7 +50,7 @@ fn try_take(lock: &Lock, seat: &mut LockSeat, phase: u64) -> bool
     requires phase { (0 < phase) × (phase < 3) }
     ensures seat { IsSeatOf lock.now.shared.table_id seat.new }
     ensures taken { MatchBool result (HasTaken seat.old.me seat.new.me) (seat.new.me ≡ seat.old.me) }
-    ensures legal { result ≡ true → IsLegalHistory seat.new.me.0.plan (view_of seat.new.me).seen }
+    ensures legal { result ≡ true → IsLegalHistory seat.new.me.0.key.plan (view_of seat.new.me).seen }
 {
     let seen = lock.shared.peek(WORD);
     if !is_free(seen) {
@@ -93,7 +96,7 @@ pub(crate) fn give(lock: &Lock, seat: &mut LockSeat)
     ensures seat { IsSeatOf lock.now.shared.table_id seat.new }
     ensures given { seat.new.me ≡ (given seat.old.me.0 seat.old.me.1, []) }
     ensures same { view_of seat.new.me ≡ view_of seat.old.me }
-    ensures legal { IsLegalHistory seat.new.me.0.plan (view_of seat.new.me).seen }
+    ensures legal { IsLegalHistory seat.new.me.0.key.plan (view_of seat.new.me).seen }
 {
     let entries = count(lock, seat);
     let found = give_to(lock, seat, entries);
@@ -153,26 +156,17 @@ pub(crate) fn count(lock: &Lock, seat: &mut LockSeat) -> u64
     ensures same { seat.new ≡ seat.old }
     ensures count { result ≡ length (view_of seat.old.me).seen }
     ensures few { result < 2 ^ 32 }
-    ensures legal { IsLegalHistory seat.old.me.0.plan (view_of seat.old.me).seen }
+    ensures legal { IsLegalHistory seat.old.me.0.key.plan (view_of seat.old.me).seen }
 {
-    entries(seat.slot_mut(&lock.shared, 0))
+    seat.slot_mut(&lock.shared, 0).entries()
 }
 
-/// How many entries a shard's journal has.
-fn entries(shard: &Shard) -> u64
-    ensures count { result ≡ length shard.now.journal }
-    ensures few { result < 2 ^ 32 }
-    ensures legal { IsLegalJournal shard.now.plan shard.now.journal }
-{
-    shard_laws::leave_has_room();
-    let _plan = shard.plan();
-    shard.journal().len() as u64
-}
-
-/// Makes a call on the shard that the seat has, for its caller, who may make it.
+/// Makes a call on the shard that the seat has, for its caller, who may make it, and adds what the caller did to the order.
 pub(crate) fn add<C: Ask>(
     lock: &Lock,
     seat: &mut LockSeat,
+    order: &Order,
+    mine: &mut OrderSeat,
     who: Caller,
     ask: C,
 ) -> Result<C::Answer, JournalFull>
@@ -180,37 +174,23 @@ pub(crate) fn add<C: Ask>(
     requires seat { IsSeatOf lock.now.shared.table_id seat.old }
     requires caller { (seat.old.me.0.acts ≡ true) × (seat.old.me.0.who ≡ who) }
     requires taken { has_shard seat.old.me ≡ true }
-    requires met { Meets seat.old.me.0.plan (view_of seat.old.me).own who (C.asks ask seat.old.me.0.plan.number) }
+    requires met { Meets seat.old.me.0.key.plan (view_of seat.old.me).own who (C.asks ask seat.old.me.0.key.plan.number) }
+    requires order { KnowsShard seat.old.me.0.key order.now }
+    requires mine { IsSeatFor seat.old.me.0.key.order (ByCaller who) mine.old }
     ensures seat { IsSeatOf lock.now.shared.table_id seat.new }
     ensures taken { has_shard seat.new.me ≡ true }
     ensures same { seat.new.me.0 ≡ seat.old.me.0 }
-    ensures next { IfOk result (λ answer. (view_of seat.new.me).seen ≡ entry_of who (C.asks ask seat.old.me.0.plan.number)
-        (C.replies seat.old.me.0.plan.number answer) ∷ (view_of seat.old.me).seen) }
-    ensures full { OnErr result (IsJournalFull seat.old.me.0.plan (view_of seat.old.me).seen (C.asks ask seat.old.me.0.plan.number)) }
+    ensures next { IfOk result (λ answer. (view_of seat.new.me).seen ≡ entry_of who (C.asks ask seat.old.me.0.key.plan.number)
+        (C.replies seat.old.me.0.key.plan.number answer) ∷ (view_of seat.old.me).seen) }
+    ensures full { OnErr result (IsJournalFull seat.old.me.0.key.plan (view_of seat.old.me).seen (C.asks ask seat.old.me.0.key.plan.number)) }
     ensures unchanged { OnErr result (seat.new ≡ seat.old) }
-    ensures legal { IsLegalHistory seat.old.me.0.plan (view_of seat.new.me).seen }
-    ensures few { FewAreHeld seat.old.me.0.plan (view_of seat.new.me).seen }
-    ensures names_the_shard { IfErr result (λ fault. fault.shard ≡ seat.old.me.0.plan.number) }
+    ensures legal { IsLegalHistory seat.old.me.0.key.plan (view_of seat.new.me).seen }
+    ensures few { FewAreHeld seat.old.me.0.key.plan (view_of seat.new.me).seen }
+    ensures names_the_shard { IfErr result (λ fault. fault.shard ≡ seat.old.me.0.key.plan.number) }
+    ensures mine { IsSeatFor seat.old.me.0.key.order (ByCaller who) mine.new }
+    ensures did { deeds_in mine.new.me.0 ≡ deed_by who (C.asks ask seat.old.me.0.key.plan.number) (C.replies seat.old.me.0.key.plan.number) result ∷ deeds_in mine.old.me.0 }
 {
-    add_to(seat.slot_mut(&lock.shared, 0), who, ask)
-}
-
-/// Makes a call on a shard for a caller that may make it by its own entries.
-fn add_to<C: Ask>(shard: &mut Shard, who: Caller, ask: C) -> Result<C::Answer, JournalFull>
-    requires { Meets shard.old.plan (own_entries who (reverse shard.old.journal)) who (C.asks ask shard.old.plan.number) }
-    ensures plan { shard.new.plan ≡ shard.old.plan }
-    ensures next { IfOk result (λ answer. reverse shard.new.journal ≡ entry_of who (C.asks ask shard.old.plan.number)
-        (C.replies shard.old.plan.number answer) ∷ reverse shard.old.journal) }
-    ensures full { OnErr result (IsJournalFull shard.old.plan (reverse shard.old.journal) (C.asks ask shard.old.plan.number)) }
-    ensures unchanged { OnErr result (shard.new ≡ shard.old) }
-    ensures legal { IsLegalHistory shard.old.plan (reverse shard.new.journal) }
-    ensures few { FewAreHeld shard.old.plan (reverse shard.new.journal) }
-    ensures names_the_shard { IfErr result (λ fault. fault.shard ≡ shard.old.plan.number) }
-{
-    laws::condition_is_own();
-    let answer = ask.make(shard, who);
-    shard.few_held();
-    answer
+    seat.slot_mut(&lock.shared, 0).add(order, mine, who, ask)
 }
 
 /// Whether a caller may make a call now, by the whole journal of the shard that the seat has.
@@ -219,17 +199,9 @@ pub(crate) fn meets_now(lock: &Lock, seat: &mut LockSeat, who: Caller, call: &Ca
     requires seat { IsSeatOf lock.now.shared.table_id seat.old }
     requires taken { has_shard seat.old.me ≡ true }
     ensures same { seat.new ≡ seat.old }
-    ensures meets { result ≡ meets seat.old.me.0.plan (own_entries who (view_of seat.old.me).seen) who call.now }
+    ensures meets { result ≡ meets seat.old.me.0.key.plan (own_entries who (view_of seat.old.me).seen) who call.now }
 {
-    meets_own(seat.slot_mut(&lock.shared, 0), who, call)
-}
-
-/// Whether a caller may make a call now, which is a matter of its own entries.
-fn meets_own(shard: &Shard, who: Caller, call: &Call) -> bool
-    ensures { result ≡ meets shard.now.plan (own_entries who (reverse shard.now.journal)) who call.now }
-{
-    laws::condition_is_own();
-    shard.meets(&who, call)
+    seat.slot_mut(&lock.shared, 0).meets(who, call)
 }
 
 // ---- visitors, who make no call
@@ -238,7 +210,7 @@ fn meets_own(shard: &Shard, who: Caller, call: &Call) -> bool
 pub(crate) fn visit(rt: &impl Wait, lock: &Lock) -> LockSeat
     requires lock { IsLock lock.now }
     ensures visitor { IsVisitor lock.now.shared.table_id lock.now.shared.key (view_of result.me).seen result }
-    ensures legal { IsLegalHistory lock.now.shared.key (view_of result.me).seen }
+    ensures legal { IsLegalHistory lock.now.shared.key.plan (view_of result.me).seen }
 {
     let mut seat = visitor(lock);
     take(rt, lock, &mut seat);

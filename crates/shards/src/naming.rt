@@ -2,7 +2,7 @@
 
 use std::marker::Brand;
 
-/// How many shards there are, and which word and which plan the shard of a number has. A program picks them once, where it makes its shards
+/// How many shards there are, and which word and which plan the shard of a number has, and which order all deeds are in. A program picks them once, where it makes its shards
 /// known to a function that is generic in them (`std::marker::Brand`).
 pub trait Naming {
     ghost use Rattle.std.specs.Prelude.{ℕ};
@@ -14,6 +14,8 @@ pub trait Naming {
     ghost table: { ℕ → TableId };
 
     ghost plan: { ℕ → ShardPlan };
+
+    ghost order: { TableId };
 }
 
 impl Naming for Brand {
@@ -24,4 +26,6 @@ impl Naming for Brand {
     ghost table = { λ number. no_table };
 
     ghost plan = { λ number. no_plan };
+
+    ghost order = { no_table };
 }

@@ -4,10 +4,17 @@ ghost use Rattle.std.specs.Prelude.{◌≡◌, ◌<◌, ◌≤◌, [], IfOk, len
 ghost use Rattle.shard_core.specs.JournaledShard.{opened_shard};
 ghost use Rattle.shards.specs.HeldCells.{most_held};
 ghost use Rattle.shards.specs.LockRule.{dealer_of};
+ghost use Rattle.shards.specs.declared.deeds.Part.TheVariants.{OnShard};
+ghost use Rattle.shards.specs.Lodged.{keyed};
+ghost use Rattle.shards.specs.OrderRule.{IsFresh};
 ghost use Rattle.shards.specs.NewShards.{AreNewSeats};
 ghost use Rattle.shards.specs.Seats.{IsLock};
 
 use crate::held::most_held;
+use crate::lock_key::LockKey;
+use crate::lodger::Lodger;
+use crate::order::visitor;
+use crate::order_rule::{Order, Place};
 use crate::rule::{Deals, Known, Lock, LockSeat};
 use atomic_table::Badge;
 use shard_core::Shard;
@@ -33,36 +40,57 @@ impl Model for NewShard {
 
     ghost Value = { NewShardView };
 
-    ghost view = { λ new. record { plan = new.lock.shared.key; table = new.lock.shared.table_id; places = length new.seats.items } };
+    ghost view = { λ new. record {
+        plan = new.lock.shared.key.plan;
+        order = new.lock.shared.key.order;
+        table = new.lock.shared.table_id;
+        places = length new.seats.items;
+    } };
 
     ghost invariant = { λ new. IsNew new.lock.shared.key new.lock.shared.table_id new.seats.items new.room };
 }
 
 impl NewShard {
     /// The shard with seats for so many callers. Fails only for lack of memory.
-    pub(crate) fn of(alloc: Global, shard: Shard, callers: usize) -> Result<Self, AllocError>
-        requires { shard ≡ opened_shard shard.plan }
+    pub(crate) fn of(
+        alloc: Global,
+        order: &Order,
+        shard: Shard,
+        place: Place,
+        callers: usize,
+    ) -> Result<Self, AllocError>
+        requires unused { shard ≡ opened_shard shard.plan }
+        requires order { 0 < order.now.shared.table_id.words }
+        requires fresh { IsFresh order.now.shared.table_id (OnShard shard.plan.number) place }
         ensures plan { IfOk result (λ new. new.plan ≡ shard.plan) }
+        ensures order { IfOk result (λ new. new.order ≡ order.now.shared.table_id) }
         ensures places { IfOk result (λ new. new.places ≡ callers) }
     {
         let room = most_held(shard.plan());
-        let (lock, mut dealer) = new_lock(alloc, shard)?;
+        let (lock, mut dealer) = new_lock(alloc, order, shard, place)?;
         let seats = new_seats(alloc, &lock, &mut dealer, callers)?;
         Ok(NewShard { lock, seats, room })
     }
 }
 
 /// A word that says 0, with the shard in its slot, and the seat that deals the callers' seats.
-fn new_lock(alloc: Global, shard: Shard) -> Result<(Lock, LockSeat), AllocError>
-    requires { shard ≡ opened_shard shard.plan }
+fn new_lock(
+    alloc: Global,
+    order: &Order,
+    shard: Shard,
+    place: Place,
+) -> Result<(Lock, LockSeat), AllocError>
+    requires unused { shard ≡ opened_shard shard.plan }
+    requires order { 0 < order.now.shared.table_id.words }
+    requires fresh { IsFresh order.now.shared.table_id (OnShard shard.plan.number) place }
     ensures lock { IfOk result (λ new. IsLock new.0) }
-    ensures plan { IfOk result (λ new. new.0.shared.key ≡ shard.plan) }
-    ensures seat { IfOk result (λ new. (new.1.table_id ≡ new.0.shared.table_id) × (new.1.me ≡ (dealer_of shard.plan 0, []))) }
+    ensures key { IfOk result (λ new. new.0.shared.key ≡ keyed shard.plan order.now.shared.table_id) }
+    ensures seat { IfOk result (λ new. (new.1.table_id ≡ new.0.shared.table_id) × (new.1.me ≡ (dealer_of (keyed shard.plan order.now.shared.table_id) 0, []))) }
 {
-    let plan = *shard.plan();
+    let key = LockKey::new(*shard.plan(), visitor(order).into_badge());
     let mut slots = Vec::with_capacity(alloc, 1)?;
-    slots.push_reserved(shard);
-    match Lock::new(alloc, &LINES, slots, &plan) {
+    slots.push_reserved(Lodger::new(shard, place));
+    match Lock::new(alloc, &LINES, slots, &key) {
         Ok(new) => Ok(new),
         Err(_) => Err(AllocError),
     }

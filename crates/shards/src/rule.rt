@@ -1,15 +1,16 @@
 //! The word that is the length of a shard's journal and the shard's lock, and the rule that ties it to what the seats know.
 
+use crate::lock_key::LockKey;
+use crate::lodger::Lodger;
 use atomic_table::{Join, Play, Seat, Split, Table, TableRule};
-use semantics::{Caller, Entry, ShardPlan};
-use shard_core::Shard;
+use semantics::{Caller, Entry};
 use std::alloc::Global;
 use std::collections::LinkedList;
 
 /// What a seat knows. No value of it is made: it is what contracts see of a seat.
 pub struct Known {
-    /// The shard's plan.
-    pub plan: ShardPlan,
+    /// The shard's plan, and the order of all deeds.
+    pub key: LockKey,
     /// Whether it is a seat: one that another took in is none any more.
     pub seated: bool,
     /// Whether it deals the callers' seats, and how many it dealt.
@@ -29,12 +30,12 @@ pub struct Known {
 /// The word is four times the history's length, and the phase of the lock.
 pub struct LockRule;
 
-impl TableRule<Shard, Known, ShardPlan> for LockRule {
+impl TableRule<Lodger, Known, LockKey> for LockRule {
     ghost use Rattle.shards.specs.LockRule.{IsKept, dealer_of};
 
-    ghost holds = { λ plan s. IsKept plan s };
+    ghost holds = { λ key s. IsKept key s };
 
-    ghost first = { λ plan. dealer_of plan 0 };
+    ghost first = { λ key. dealer_of key 0 };
 }
 
 /// A seat for one more caller.
@@ -51,7 +52,7 @@ impl Split<Known> for Deals {
 /// A step that makes a visitor's seat.
 pub struct Comes;
 
-impl Play<Shard, Known> for Comes {
+impl Play<Lodger, Known> for Comes {
     ghost use Rattle.shards.specs.LockRule.{Comes};
 
     ghost then = { Comes };
@@ -60,7 +61,7 @@ impl Play<Shard, Known> for Comes {
 /// A step that takes the lock and the shard, where the word is as expected.
 pub struct Takes;
 
-impl Play<Shard, Known> for Takes {
+impl Play<Lodger, Known> for Takes {
     ghost use Rattle.shards.specs.LockRule.{Takes};
 
     ghost then = { Takes };
@@ -69,7 +70,7 @@ impl Play<Shard, Known> for Takes {
 /// A step that notes that others may sleep.
 pub struct Marks;
 
-impl Play<Shard, Known> for Marks {
+impl Play<Lodger, Known> for Marks {
     ghost use Rattle.shards.specs.LockRule.{Marks};
 
     ghost then = { Marks };
@@ -78,7 +79,7 @@ impl Play<Shard, Known> for Marks {
 /// A step that gives the shard back, with the entries that were made.
 pub struct Gives;
 
-impl Play<Shard, Known> for Gives {
+impl Play<Lodger, Known> for Gives {
     ghost use Rattle.shards.specs.LockRule.{Gives};
 
     ghost then = { Gives };
@@ -87,7 +88,7 @@ impl Play<Shard, Known> for Gives {
 /// A step that puts the shard back for good.
 pub struct Ends;
 
-impl Play<Shard, Known> for Ends {
+impl Play<Lodger, Known> for Ends {
     ghost use Rattle.shards.specs.LockRule.{Ends};
 
     ghost then = { Ends };
@@ -115,14 +116,14 @@ impl Split<Known> for Both {
 /// A step that looks, while both are together.
 pub struct Sees;
 
-impl Play<Shard, Known> for Sees {
+impl Play<Lodger, Known> for Sees {
     ghost use Rattle.shards.specs.LockRule.{Sees};
 
     ghost then = { Sees };
 }
 
-/// The word of a shard, with the shard in its slot.
-pub type Lock = Table<Shard, Known, ShardPlan, LockRule, Global>;
+/// The word of a shard, with the shard and its seat at the order in its slot.
+pub type Lock = Table<Lodger, Known, LockKey, LockRule, Global>;
 
 /// A seat at a shard's word.
-pub type LockSeat = Seat<Shard, Known>;
+pub type LockSeat = Seat<Lodger, Known>;

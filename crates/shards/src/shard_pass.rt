@@ -1,12 +1,15 @@
 //! What a caller's pass has for one shard.
 
-ghost use Rattle.std.specs.Prelude.{◌≡◌, ◌≤◌, ◌∷◌, ℕ, [], true, false, IfOk, IfErr, OnErr};
+ghost use Rattle.std.specs.Prelude.{◌≡◌, ◌≤◌, ◌∷◌, ◌++◌, ℕ, [], true, false, IfOk, IfErr, OnErr};
 ghost use Rattle.semantics.specs.CallerLaws.{own_entries};
 ghost use Rattle.semantics.specs.History.{Meets, meets, IsLegalHistory};
 ghost use Rattle.semantics.specs.Reclamation.{held_change};
 ghost use Rattle.semantics.specs.declared.call.Call.TheVariants.{Enter};
 ghost use Rattle.journal.specs.Entries.{enter_entry};
 ghost use Rattle.shards.specs.CallerView.{entry_of, nothing_seen, BeginsWith, HasLooked, IsServed, IsRefused};
+ghost use Rattle.shards.specs.declared.deeds.Part.TheVariants.{ByCaller};
+ghost use Rattle.shards.specs.Deeds.{deed_by, deeds_by_both};
+ghost use Rattle.shards.specs.OrderRule.{IsSeatFor, KnowsShard, deeds_in};
 ghost use Rattle.shards.specs.LockRule.{pass_of};
 ghost use Rattle.shards.specs.Seats.{IsLockOf, IsVisitor, view_of};
 ghost use Rattle.shards.specs.HeldCells.{HasRoomFor, held_when, holds_own, most_held, room_of};
@@ -17,6 +20,7 @@ ghost use Rattle.shards.specs.Asked.{AreServed, IsStoppedAt};
 use crate::asks::{Ask, Enters};
 use crate::held::HeldCells;
 use crate::lock::{add, give, meets_now, take, visitor};
+use crate::order_rule::{Order, OrderSeat};
 use crate::rule::{Lock, LockSeat};
 use crate::showing::show;
 use crate::stopped::Stopped;
@@ -49,9 +53,9 @@ impl Model for ShardPass {
 impl ShardPass {
     /// The part of a caller that has made no call.
     pub(crate) fn new(seat: LockSeat, held: HeldCells) -> Self
-        requires seat { seat.me ≡ (pass_of seat.me.0.plan seat.me.0.who [] [], []) }
+        requires seat { seat.me ≡ (pass_of seat.me.0.key seat.me.0.who [] [], []) }
         requires none { held.ids ≡ [] }
-        requires room { room_of seat.me.0.who (most_held seat.me.0.plan) ≤ held.room }
+        requires room { room_of seat.me.0.who (most_held seat.me.0.key.plan) ≤ held.room }
         ensures { result ≡ shard_pass_view seat }
     {
         ShardPass {
@@ -65,7 +69,7 @@ impl ShardPass {
     /// into a proof.
     pub(crate) fn knows(&self)
         ensures own { self.now.view.own ≡ own_entries self.now.who self.now.view.seen }
-        ensures legal { IsLegalHistory self.now.plan self.now.view.seen }
+        ensures legal { IsLegalHistory self.now.key.plan self.now.view.seen }
     {
         let _inside = self.inside;
     }
@@ -91,23 +95,29 @@ impl ShardPass {
         &mut self,
         rt: &impl Wait,
         lock: &Lock,
+        order: &Order,
+        mine: &mut OrderSeat,
         who: Caller,
         ask: C,
     ) -> Result<C::Answer, JournalFull>
-        requires lock { IsLockOf self.old.table self.old.plan lock.now }
+        requires lock { IsLockOf self.old.table self.old.key lock.now }
         requires who { self.old.who ≡ who }
         requires alone { self.old.has_it ≡ false }
-        requires met { Meets self.old.plan self.old.view.own who (C.asks ask self.old.plan.number) }
+        requires met { Meets self.old.key.plan self.old.view.own who (C.asks ask self.old.key.plan.number) }
+        requires order { KnowsShard self.old.key order.now }
+        requires mine { IsSeatFor self.old.key.order (ByCaller who) mine.old }
         ensures same { IsSameShard self.old self.new }
         ensures alone { self.new.has_it ≡ false }
         ensures own { self.new.view.own ≡ own_entries who self.new.view.seen }
-        ensures served { IfOk result (λ answer. IsServed self.old.plan self.old.view self.new.view
-            (entry_of who (C.asks ask self.old.plan.number) (C.replies self.old.plan.number answer))) }
-        ensures refused { OnErr result (IsRefused self.old.plan self.old.view self.new.view (C.asks ask self.old.plan.number)) }
-        ensures names_the_shard { IfErr result (λ fault. fault.shard ≡ self.old.plan.number) }
+        ensures served { IfOk result (λ answer. IsServed self.old.key.plan self.old.view self.new.view
+            (entry_of who (C.asks ask self.old.key.plan.number) (C.replies self.old.key.plan.number answer))) }
+        ensures refused { OnErr result (IsRefused self.old.key.plan self.old.view self.new.view (C.asks ask self.old.key.plan.number)) }
+        ensures names_the_shard { IfErr result (λ fault. fault.shard ≡ self.old.key.plan.number) }
+        ensures mine { IsSeatFor self.old.key.order (ByCaller who) mine.new }
+        ensures did { deeds_in mine.new.me.0 ≡ deed_by who (C.asks ask self.old.key.plan.number) (C.replies self.old.key.plan.number) result ∷ deeds_in mine.old.me.0 }
     {
         self.take(rt, lock);
-        let answer = self.ask(lock, who, ask);
+        let answer = self.ask(lock, order, mine, who, ask);
         self.give(lock);
         answer
     }
@@ -117,36 +127,42 @@ impl ShardPass {
         &mut self,
         rt: &impl Wait,
         lock: &Lock,
+        order: &Order,
+        mine: &mut OrderSeat,
         who: Caller,
         ask: C,
     ) -> Result<C::Answer, Stopped>
-        requires lock { IsLockOf self.old.table self.old.plan lock.now }
+        requires lock { IsLockOf self.old.table self.old.key lock.now }
         requires who { self.old.who ≡ who }
         requires alone { self.old.has_it ≡ false }
-        requires may_enter { Meets self.old.plan self.old.view.own who (Enter self.old.plan.number) }
-        requires met { Meets self.old.plan (enter_entry self.old.plan.number who ∷ self.old.view.own) who (C.asks ask self.old.plan.number) }
+        requires may_enter { Meets self.old.key.plan self.old.view.own who (Enter self.old.key.plan.number) }
+        requires met { Meets self.old.key.plan (enter_entry self.old.key.plan.number who ∷ self.old.view.own) who (C.asks ask self.old.key.plan.number) }
+        requires order { KnowsShard self.old.key order.now }
+        requires mine { IsSeatFor self.old.key.order (ByCaller who) mine.old }
         ensures same { IsSameShard self.old self.new }
         ensures alone { self.new.has_it ≡ false }
         ensures own { self.new.view.own ≡ own_entries who self.new.view.seen }
-        ensures served { IfOk result (λ answer. AreServed self.old.plan self.old.view self.new.view (enter_entry self.old.plan.number who)
-            (entry_of who (C.asks ask self.old.plan.number) (C.replies self.old.plan.number answer))) }
-        ensures refused { IfErr result (IsStoppedAt self.old.plan self.old.plan.number self.old.view self.new.view who (C.asks ask self.old.plan.number)) }
+        ensures served { IfOk result (λ answer. AreServed self.old.key.plan self.old.view self.new.view (enter_entry self.old.key.plan.number who)
+            (entry_of who (C.asks ask self.old.key.plan.number) (C.replies self.old.key.plan.number answer))) }
+        ensures refused { IfErr result (IsStoppedAt self.old.key.plan self.old.key.plan.number self.old.view self.new.view who (C.asks ask self.old.key.plan.number)) }
+        ensures mine { IsSeatFor self.old.key.order (ByCaller who) mine.new }
+        ensures did { deeds_in mine.new.me.0 ≡ deeds_by_both self.old.key.plan.number who (C.asks ask self.old.key.plan.number) (C.replies self.old.key.plan.number) result ++ deeds_in mine.old.me.0 }
     {
         self.take(rt, lock);
-        let answer = self.ask_inside(lock, who, ask);
+        let answer = self.ask_inside(lock, order, mine, who, ask);
         self.give(lock);
         answer
     }
 
     /// Whether the caller may make the call now.
     pub(crate) fn may_call(&mut self, rt: &impl Wait, lock: &Lock, who: Caller, call: &Call) -> bool
-        requires lock { IsLockOf self.old.table self.old.plan lock.now }
+        requires lock { IsLockOf self.old.table self.old.key lock.now }
         requires who { self.old.who ≡ who }
         requires alone { self.old.has_it ≡ false }
         ensures same { IsSameShard self.old self.new }
         ensures alone { self.new.has_it ≡ false }
-        ensures looked { HasLooked self.old.plan self.old.view self.new.view }
-        ensures meets { result ≡ meets self.old.plan self.new.view.own who call.now }
+        ensures looked { HasLooked self.old.key.plan self.old.view self.new.view }
+        ensures meets { result ≡ meets self.old.key.plan self.new.view.own who call.now }
     {
         self.take(rt, lock);
         let answer = self.meets(lock, who, call);
@@ -156,14 +172,14 @@ impl ShardPass {
 
     /// Sees the history of the shard that the visitor has.
     pub(crate) fn see(&mut self, lock: &Lock, guest: &mut LockSeat)
-        requires lock { IsLockOf self.old.table self.old.plan lock.now }
+        requires lock { IsLockOf self.old.table self.old.key lock.now }
         requires alone { self.old.has_it ≡ false }
-        requires visitor { IsVisitor self.old.table self.old.plan (view_of guest.old.me).seen guest.old }
-        requires legal { IsLegalHistory self.old.plan (view_of guest.old.me).seen }
+        requires visitor { IsVisitor self.old.table self.old.key (view_of guest.old.me).seen guest.old }
+        requires legal { IsLegalHistory self.old.key.plan (view_of guest.old.me).seen }
         ensures visitor { (guest.new.table_id ≡ guest.old.table_id) × (guest.new.me ≡ guest.old.me) }
         ensures same { IsSameShard self.old self.new }
         ensures alone { self.new.has_it ≡ false }
-        ensures looked { HasLooked self.old.plan self.old.view self.new.view }
+        ensures looked { HasLooked self.old.key.plan self.old.view self.new.view }
         ensures sight { self.new.view.seen ≡ (view_of guest.old.me).seen }
         ensures own { self.old.view.own ≡ own_entries self.old.who (view_of guest.old.me).seen }
         ensures begins { BeginsWith (view_of guest.old.me).seen self.old.view.seen }
@@ -174,18 +190,18 @@ impl ShardPass {
 
     /// Takes the shard.
     fn take(&mut self, rt: &impl Wait, lock: &Lock)
-        requires lock { IsLockOf self.old.table self.old.plan lock.now }
+        requires lock { IsLockOf self.old.table self.old.key lock.now }
         requires alone { self.old.has_it ≡ false }
         ensures same { IsSameShard self.old self.new }
         ensures taken { self.new.has_it ≡ true }
-        ensures looked { HasLooked self.old.plan self.old.view self.new.view }
+        ensures looked { HasLooked self.old.key.plan self.old.view self.new.view }
     {
         take(rt, lock, &mut self.seat);
     }
 
     /// Gives the shard back.
     fn give(&mut self, lock: &Lock)
-        requires lock { IsLockOf self.old.table self.old.plan lock.now }
+        requires lock { IsLockOf self.old.table self.old.key lock.now }
         requires taken { self.old.has_it ≡ true }
         ensures same { IsSameShard self.old self.new }
         ensures alone { self.new.has_it ≡ false }
@@ -196,42 +212,64 @@ impl ShardPass {
     }
 
     /// Makes a call on the shard that it has.
-    fn ask<C: Ask>(&mut self, lock: &Lock, who: Caller, ask: C) -> Result<C::Answer, JournalFull>
-        requires lock { IsLockOf self.old.table self.old.plan lock.now }
+    fn ask<C: Ask>(
+        &mut self,
+        lock: &Lock,
+        order: &Order,
+        mine: &mut OrderSeat,
+        who: Caller,
+        ask: C,
+    ) -> Result<C::Answer, JournalFull>
+        requires lock { IsLockOf self.old.table self.old.key lock.now }
         requires who { self.old.who ≡ who }
         requires taken { self.old.has_it ≡ true }
-        requires met { Meets self.old.plan self.old.view.own who (C.asks ask self.old.plan.number) }
+        requires met { Meets self.old.key.plan self.old.view.own who (C.asks ask self.old.key.plan.number) }
+        requires order { KnowsShard self.old.key order.now }
+        requires mine { IsSeatFor self.old.key.order (ByCaller who) mine.old }
         ensures same { IsSameShard self.old self.new }
         ensures taken { self.new.has_it ≡ true }
-        ensures served { IfOk result (λ answer. IsServed self.old.plan self.old.view self.new.view
-            (entry_of who (C.asks ask self.old.plan.number) (C.replies self.old.plan.number answer))) }
-        ensures next { IfOk result (λ answer. self.new.view.seen ≡ entry_of who (C.asks ask self.old.plan.number)
-            (C.replies self.old.plan.number answer) ∷ self.old.view.seen) }
-        ensures refused { OnErr result (IsRefused self.old.plan self.old.view self.new.view (C.asks ask self.old.plan.number)) }
+        ensures served { IfOk result (λ answer. IsServed self.old.key.plan self.old.view self.new.view
+            (entry_of who (C.asks ask self.old.key.plan.number) (C.replies self.old.key.plan.number answer))) }
+        ensures next { IfOk result (λ answer. self.new.view.seen ≡ entry_of who (C.asks ask self.old.key.plan.number)
+            (C.replies self.old.key.plan.number answer) ∷ self.old.view.seen) }
+        ensures refused { OnErr result (IsRefused self.old.key.plan self.old.view self.new.view (C.asks ask self.old.key.plan.number)) }
         ensures unchanged { OnErr result (self.new ≡ self.old) }
-        ensures names_the_shard { IfErr result (λ fault. fault.shard ≡ self.old.plan.number) }
+        ensures names_the_shard { IfErr result (λ fault. fault.shard ≡ self.old.key.plan.number) }
+        ensures mine { IsSeatFor self.old.key.order (ByCaller who) mine.new }
+        ensures did { deeds_in mine.new.me.0 ≡ deed_by who (C.asks ask self.old.key.plan.number) (C.replies self.old.key.plan.number) result ∷ deeds_in mine.old.me.0 }
     {
-        let answer = add(lock, &mut self.seat, who, ask);
+        let answer = add(lock, &mut self.seat, order, mine, who, ask);
         change(&mut self.inside, ask.section(), &answer);
         keep(&mut self.held, &ask, &answer);
         answer
     }
 
     /// Enters the shard that it has, and makes a call there.
-    fn ask_inside<C: Ask>(&mut self, lock: &Lock, who: Caller, ask: C) -> Result<C::Answer, Stopped>
-        requires lock { IsLockOf self.old.table self.old.plan lock.now }
+    fn ask_inside<C: Ask>(
+        &mut self,
+        lock: &Lock,
+        order: &Order,
+        mine: &mut OrderSeat,
+        who: Caller,
+        ask: C,
+    ) -> Result<C::Answer, Stopped>
+        requires lock { IsLockOf self.old.table self.old.key lock.now }
         requires who { self.old.who ≡ who }
         requires taken { self.old.has_it ≡ true }
-        requires may_enter { Meets self.old.plan self.old.view.own who (Enter self.old.plan.number) }
-        requires met { Meets self.old.plan (enter_entry self.old.plan.number who ∷ self.old.view.own) who (C.asks ask self.old.plan.number) }
+        requires may_enter { Meets self.old.key.plan self.old.view.own who (Enter self.old.key.plan.number) }
+        requires met { Meets self.old.key.plan (enter_entry self.old.key.plan.number who ∷ self.old.view.own) who (C.asks ask self.old.key.plan.number) }
+        requires order { KnowsShard self.old.key order.now }
+        requires mine { IsSeatFor self.old.key.order (ByCaller who) mine.old }
         ensures same { IsSameShard self.old self.new }
         ensures taken { self.new.has_it ≡ true }
-        ensures served { IfOk result (λ answer. AreServed self.old.plan self.old.view self.new.view (enter_entry self.old.plan.number who)
-            (entry_of who (C.asks ask self.old.plan.number) (C.replies self.old.plan.number answer))) }
-        ensures refused { IfErr result (IsStoppedAt self.old.plan self.old.plan.number self.old.view self.new.view who (C.asks ask self.old.plan.number)) }
+        ensures served { IfOk result (λ answer. AreServed self.old.key.plan self.old.view self.new.view (enter_entry self.old.key.plan.number who)
+            (entry_of who (C.asks ask self.old.key.plan.number) (C.replies self.old.key.plan.number answer))) }
+        ensures refused { IfErr result (IsStoppedAt self.old.key.plan self.old.key.plan.number self.old.view self.new.view who (C.asks ask self.old.key.plan.number)) }
+        ensures mine { IsSeatFor self.old.key.order (ByCaller who) mine.new }
+        ensures did { deeds_in mine.new.me.0 ≡ deeds_by_both self.old.key.plan.number who (C.asks ask self.old.key.plan.number) (C.replies self.old.key.plan.number) result ++ deeds_in mine.old.me.0 }
     {
-        match self.ask(lock, who, Enters) {
-            Ok(()) => match self.ask(lock, who, ask) {
+        match self.ask(lock, order, mine, who, Enters) {
+            Ok(()) => match self.ask(lock, order, mine, who, ask) {
                 Ok(answer) => Ok(answer),
                 Err(full) => Err(Stopped::AtCall { full }),
             },
@@ -244,11 +282,11 @@ impl ShardPass {
 
     /// Whether the caller may make the call on the shard that it has.
     fn meets(&mut self, lock: &Lock, who: Caller, call: &Call) -> bool
-        requires lock { IsLockOf self.old.table self.old.plan lock.now }
+        requires lock { IsLockOf self.old.table self.old.key lock.now }
         requires who { self.old.who ≡ who }
         requires taken { self.old.has_it ≡ true }
         ensures same { self.new ≡ self.old }
-        ensures meets { result ≡ meets self.old.plan self.old.view.own who call.now }
+        ensures meets { result ≡ meets self.old.key.plan self.old.view.own who call.now }
     {
         meets_now(lock, &mut self.seat, who, call)
     }

@@ -42,12 +42,15 @@
 //! all of its entries in that history (`Sees`), and they part again. `close` shows each shard to each pass that was handed in, puts the shard back for
 //! good (`Ends`, phase 3), and takes the table apart: the shard is in its slot then, with the history that the passes were shown.
 
-ghost use Rattle.std.specs.Prelude.{◌≡◌, ◌<◌, IfOk, IfErr, OnErr};
+ghost use Rattle.std.specs.Prelude.{◌≡◌, ◌<◌, ◌∷◌, ◌++◌, IfOk, IfErr, OnErr};
 ghost use Rattle.semantics.specs.declared.call.Call.TheVariants.{Enter};
 ghost use Rattle.semantics.specs.History.{meets, shard_of_call};
 ghost use Rattle.semantics.specs.ShardPlan.{AreOptions};
 ghost use Rattle.journals.specs.JournalsView.{AreImageMaps};
 ghost use Rattle.shards.specs.CallerView.{HasLooked};
+ghost use Rattle.shards.specs.Deeds.{deed_by, deeds_by_both};
+ghost use Rattle.shards.specs.Lodged.{keyed};
+ghost use Rattle.shards.specs.OrderRule.{KnowsShard};
 ghost use Rattle.shards.specs.Seats.{IsLockOf};
 ghost use Rattle.shards.specs.Passes.{KnowsItsOwn, view_at, own_at, seen_at, IsElsewhereSame};
 ghost use Rattle.shards.specs.SharedMaps.{ArePlans};
@@ -56,6 +59,7 @@ ghost use Rattle.shards.specs.Asked.{MayAsk, MayAskInside, IsAnswered, IsTurnedA
 use crate::asks::{Ask, Calls};
 use crate::lock::visit;
 use crate::naming::Naming;
+use crate::order_rule::Order;
 use crate::pass::Pass;
 use crate::rule::Lock;
 use crate::showing::leave;
@@ -71,6 +75,7 @@ use std::sync::Wait;
 #[derive(Drop)]
 pub struct Shards<B: Naming> {
     pub(crate) locks: Vec<Lock>,
+    pub(crate) order: Order,
     pub(crate) maps: Vec<MapDef>,
     pub(crate) options: Options,
     /// Room for the journals, which `close` hands out.
@@ -80,14 +85,16 @@ pub struct Shards<B: Naming> {
 
 impl<B: Naming> Model for Shards<B> {
     ghost use Rattle.std.specs.Prelude.{vec_capacity};
+    ghost use Rattle.shards.specs.OrderRule.{IsOrderOf};
     ghost use Rattle.shards.specs.SharedMaps.{SharedMaps, AreShared};
 
     ghost Value = { SharedMaps };
 
     ghost view = { λ shards. record { maps = shards.maps.items; options = shards.options } };
 
-    ghost invariant = { λ shards. AreShared B.table B.plan B.count shards.locks.items
-        shards.maps.items shards.options shards.journals.items (vec_capacity shards.journals) };
+    ghost invariant = { λ shards. AreShared B.table B.plan B.order B.count shards.locks.items
+        shards.maps.items shards.options shards.journals.items (vec_capacity shards.journals)
+        × IsOrderOf B.order B.plan B.count shards.order };
 }
 
 impl<B: Naming> Shards<B> {
@@ -141,8 +148,9 @@ impl<B: Naming> Shards<B> {
         ensures served { IfOk result (λ answer. IsAnswered (B.plan shard) shard pass.old pass.new (C.asks ask shard) (C.replies shard answer)) }
         ensures refused { OnErr result (IsTurnedAway (B.plan shard) shard pass.old pass.new (C.asks ask shard)) }
         ensures names_the_shard { IfErr result (λ fault. fault.shard ≡ shard) }
+        ensures did { pass.new.deeds ≡ deed_by pass.old.who (C.asks ask shard) (C.replies shard) result ∷ pass.old.deeds }
     {
-        pass.ask(rt, self.lock(shard), shard, ask)
+        pass.ask(rt, self.lock(shard), self.order_at(shard), shard, ask)
     }
 
     /// Enters the shard, and makes a call there at once: two steps and two entries, next to each other, under one hold of the lock. Takes
@@ -164,8 +172,9 @@ impl<B: Naming> Shards<B> {
         ensures own { KnowsItsOwn shard pass.new }
         ensures served { IfOk result (λ answer. EnteredAndAnswered (B.plan shard) shard pass.old pass.new (C.asks ask shard) (C.replies shard answer)) }
         ensures refused { IfErr result (IsStopped (B.plan shard) shard pass.old pass.new (C.asks ask shard)) }
+        ensures did { pass.new.deeds ≡ deeds_by_both shard pass.old.who (C.asks ask shard) (C.replies shard) result ++ pass.old.deeds }
     {
-        pass.enter_then(rt, self.lock(shard), shard, ask)
+        pass.enter_then(rt, self.lock(shard), self.order_at(shard), shard, ask)
     }
 
     /// Makes a call on the shard that it names, as `ask` does.
@@ -182,6 +191,7 @@ impl<B: Naming> Shards<B> {
         ensures served { IfOk result (λ reply. IsAnswered (B.plan (shard_of_call call.now)) (shard_of_call call.now) pass.old pass.new call.now reply) }
         ensures refused { OnErr result (IsTurnedAway (B.plan (shard_of_call call.now)) (shard_of_call call.now) pass.old pass.new call.now) }
         ensures names_the_shard { IfErr result (λ fault. fault.shard ≡ shard_of_call call.now) }
+        ensures did { pass.new.deeds ≡ deed_by pass.old.who call.now (λ reply. reply) result ∷ pass.old.deeds }
     {
         self.ask(rt, pass, call.shard(), Calls { call })
     }
@@ -193,6 +203,7 @@ impl<B: Naming> Shards<B> {
         ensures elsewhere { IsElsewhereSame (shard_of_call call.now) pass.old pass.new }
         ensures looked { HasLooked (B.plan (shard_of_call call.now)) (view_at pass.old (shard_of_call call.now)) (view_at pass.new (shard_of_call call.now)) }
         ensures meets { result ≡ meets (B.plan (shard_of_call call.now)) (own_at pass.new (shard_of_call call.now)) pass.new.who call.now }
+        ensures did { pass.new.deeds ≡ pass.old.deeds }
     {
         pass.may_call(rt, self.lock(call.shard()), call.shard(), call)
     }
@@ -220,6 +231,8 @@ impl<B: Naming> Shards<B> {
         ensures looked_one { HasLooked (B.plan shard) (view_at one.old shard) (view_at one.new shard) }
         ensures looked_other { HasLooked (B.plan shard) (view_at other.old shard) (view_at other.new shard) }
         ensures same_sight { seen_at one.new shard ≡ seen_at other.new shard }
+        ensures did_one { one.new.deeds ≡ one.old.deeds }
+        ensures did_other { other.new.deeds ≡ other.old.deeds }
     {
         let lock = self.lock(shard);
         let mut guest = visit(rt, lock);
@@ -231,9 +244,17 @@ impl<B: Naming> Shards<B> {
     /// The word of the shard of this number, with the shard.
     fn lock(&self, shard: u32) -> &Lock
         requires { shard < B.count }
-        ensures lock { IsLockOf (B.table shard) (B.plan shard) result.now }
+        ensures lock { IsLockOf (B.table shard) (keyed (B.plan shard) B.order) result.now }
         ensures number { (B.plan shard).number ≡ shard }
     {
         &self.locks[shard as usize]
+    }
+
+    /// The order of all deeds, which knows the shard of this number.
+    fn order_at(&self, shard: u32) -> &Order
+        requires { shard < B.count }
+        ensures { KnowsShard (keyed (B.plan shard) B.order) result.now }
+    {
+        &self.order
     }
 }

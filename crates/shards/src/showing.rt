@@ -5,8 +5,8 @@ ghost use Rattle.shards.specs.LockRule.{IsKnownIn, pass_of};
 ghost use Rattle.shards.specs.Seats.{IsLock, IsSeatOf, IsVisitor, has_shard, view_of};
 
 use crate::lock::{WORD, count, give};
+use crate::lodger::Lodger;
 use crate::rule::{Both, Ends, Lock, LockSeat, Sees};
-use shard_core::Shard;
 
 /// Shows a caller the history of the shard that the visitor has, and returns the caller's seat.
 pub(crate) fn show(lock: &Lock, visitor: &mut LockSeat, seat: LockSeat) -> LockSeat
@@ -34,18 +34,18 @@ pub(crate) fn leave(lock: &Lock, visitor: LockSeat)
     give(lock, &mut seat);
 }
 
-/// The shard, which nobody can call any more.
-pub(crate) fn close(lock: Lock, visitor: LockSeat) -> Shard
+/// The shard with its seat at the order, which nobody can call any more.
+pub(crate) fn close(lock: Lock, visitor: LockSeat) -> Lodger
     requires lock { IsLock lock }
     requires visitor { IsVisitor lock.shared.table_id lock.shared.key (view_of visitor.me).seen visitor }
-    ensures plan { result.plan ≡ lock.shared.key }
+    ensures key { result.key ≡ lock.shared.key }
     ensures written { reverse result.journal ≡ (view_of visitor.me).seen }
 {
     let mut seat = visitor;
     let entries = count(&lock, &mut seat);
     lock.shared.swap::<Ends>(&mut seat, WORD, 4 * entries + 3);
     let mut closed = lock.close_with(seat);
-    let shard = closed.take(0);
+    let lodger = closed.take(0);
     closed.free();
-    shard
+    lodger
 }

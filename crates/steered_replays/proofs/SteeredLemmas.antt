@@ -299,6 +299,7 @@ replays_are_steered steers results size is script options records outcome fit ca
     works : (worker : ℕ) → worker < options.workers →
         IsWorkOf (IsRunAt (IsSteeredRun accounted.plan accounted.count (of_size options.shards size) worker) records)
         (share (frames_of records) options.workers worker (length records)) worker (runs_at accounted.runs worker) accounted.count outcome.journals
+        accounted.order
     works worker below =
         let work = accounted.work worker below in
         let handled = work.handled in
@@ -314,4 +315,5 @@ replays_are_steered steers results size is script options records outcome fit ca
                 (runs_at accounted.runs worker) work.after inputs handled.chain;
           };
           own = work.own;
+          did = work.did;
         }

@@ -90,7 +90,7 @@ pub record IsSteeredReplay (size : ℕ) (script : List Command) (options : Optio
       (worker : ℕ) → worker < options.workers →
       IsWorkOf (IsRunAt (IsSteeredRun accounted.plan accounted.count (of_size options.shards size) worker) records)
       (share (frames_of records) options.workers worker (length records)) worker (runs_at accounted.runs worker) accounted.count
-      outcome.journals
+      outcome.journals accounted.order
   pub fates :
       (number : ℕ) (captured : Sent) → slice_get records number ≡ Some captured →
       IsSteeredFate accounted.plan accounted.count (of_size options.shards size)

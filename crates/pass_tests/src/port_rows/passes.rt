@@ -101,7 +101,7 @@ fn session<B: Naming, R: Abort + Wait>(
     rows: &[Row],
     refused: Option<JournalFull>,
 ) -> Result<Journals, Fail>
-    requires named { IsNamed B.count B.table B.plan opened }
+    requires named { IsNamed B.count B.table B.plan B.order opened }
     requires maps { opened.maps ≡ example_maps }
     requires workers { opened.options.workers ≡ 2 }
 {
@@ -193,7 +193,7 @@ fn look_three_times<B: Naming, R: Abort + Wait>(
 
 /// Six runs of one lookup each, one after the other: compares what the last one's reply is, and returns the journals.
 fn six<B: Naming, R: Abort + Wait>(rt: &R, alloc: Global, opened: Opened) -> Result<Journals, Fail>
-    requires named { IsNamed B.count B.table B.plan opened }
+    requires named { IsNamed B.count B.table B.plan B.order opened }
     requires maps { opened.maps ≡ example_maps }
     requires workers { opened.options.workers ≡ 2 }
 {

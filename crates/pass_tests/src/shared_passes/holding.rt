@@ -99,7 +99,7 @@ fn held<B: Naming + Send + Sync, R: Threads + Abort + Wait + Sync>(
     alloc: Global,
     opened: Opened,
 ) -> Result<(), Fail>
-    requires { IsNamed B.count B.table B.plan opened }
+    requires { IsNamed B.count B.table B.plan B.order opened }
 {
     let (shards, first, second) = two_passes::<B>(alloc, opened)?;
     holds(rt, "there are two shards", 1 < shards.count());

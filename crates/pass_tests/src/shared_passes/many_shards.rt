@@ -58,7 +58,7 @@ fn entered<B: Naming, R: Abort + Wait>(
     opened: Opened,
     count: u32,
 ) -> Result<u32, Fail>
-    requires { IsNamed B.count B.table B.plan opened }
+    requires { IsNamed B.count B.table B.plan B.order opened }
 {
     let (shards, mut pass) = one_pass::<B>(alloc, opened)?;
     let mut served: u32 = 0;
@@ -84,7 +84,7 @@ fn second_held<B: Naming, R: Abort + Wait>(
     alloc: Global,
     opened: Opened,
 ) -> Result<(), Fail>
-    requires { IsNamed B.count B.table B.plan opened }
+    requires { IsNamed B.count B.table B.plan B.order opened }
 {
     let (shards, mut pass) = one_pass::<B>(alloc, opened)?;
     holds(rt, "there are two shards", 1 < shards.count());

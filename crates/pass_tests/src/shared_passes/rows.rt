@@ -139,7 +139,7 @@ fn made<B: Naming, R: Abort + Wait>(
     opened: Opened,
     rows: &[Row],
 ) -> Result<usize, Fail>
-    requires { IsNamed B.count B.table B.plan opened }
+    requires { IsNamed B.count B.table B.plan B.order opened }
 {
     let (shards, mut dealer) = opened.share::<B>(alloc)?;
     let mut passes = Vec::with_capacity(alloc, 4)?;

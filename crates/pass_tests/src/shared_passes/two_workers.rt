@@ -140,7 +140,7 @@ fn opened(alloc: Global) -> Result<Opened, Fail>
 
 /// The row, from the opening on.
 fn row<B: Naming, R: Abort + Wait>(rt: &R, alloc: Global, opened: Opened) -> Result<(), Fail>
-    requires named { IsNamed B.count B.table B.plan opened }
+    requires named { IsNamed B.count B.table B.plan B.order opened }
     requires maps { opened.maps ≡ one_element ∷ [] }
     requires options { opened.options ≡ for_two }
 {

@@ -35,7 +35,7 @@ type Four<B> = (Pass<B>, Pass<B>, Pass<B>, Pass<B>);
 
 /// New shards, and the passes of four workers.
 fn four_passes<B: Naming>(alloc: Global, opened: Opened) -> Result<(Shards<B>, Four<B>), Fail>
-    requires { IsNamed B.count B.table B.plan opened }
+    requires { IsNamed B.count B.table B.plan B.order opened }
 {
     let (shards, mut dealer) = opened.share::<B>(alloc)?;
     let one = dealer.pass(alloc, Caller::Worker { number: 0 })?;
@@ -78,7 +78,7 @@ fn by_five_threads<B: Naming + Send + Sync, R: Threads + Abort + Wait + Sync>(
     alloc: Global,
     opened: Opened,
 ) -> Result<(), Fail>
-    requires { IsNamed B.count B.table B.plan opened }
+    requires { IsNamed B.count B.table B.plan B.order opened }
 {
     let (shards, (first, second, third, fourth)) = four_passes::<B>(alloc, opened)?;
     let ((one, two), (three, (four, held))) = join(
@@ -118,7 +118,7 @@ fn four_workers_and_a_visitor_on_one_shard(rt: HostRuntime) -> Result<(), Fail> 
 }
 
 fn met<B: Naming, R: Abort + Wait>(rt: &R, alloc: Global, opened: Opened) -> Result<(), Fail>
-    requires { IsNamed B.count B.table B.plan opened }
+    requires { IsNamed B.count B.table B.plan B.order opened }
 {
     let (shards, mut first, mut second) = two_passes::<B>(alloc, opened)?;
     holds(rt, "there are two shards", 1 < shards.count());

@@ -9,3 +9,6 @@ table_names opened number = (new_at opened.shards number).table
 
 abbrev pub plan_names : OpenedShards → ℕ → ShardPlan
 plan_names opened number = (new_at opened.shards number).plan
+
+abbrev pub order_name : OpenedShards → TableId
+order_name opened = opened.order

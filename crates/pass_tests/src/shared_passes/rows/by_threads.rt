@@ -120,7 +120,7 @@ fn three_passes<B: Naming>(
     alloc: Global,
     opened: Opened,
 ) -> Result<(Shards<B>, Pass<B>, Pass<B>, Pass<B>), Fail>
-    requires { IsNamed B.count B.table B.plan opened }
+    requires { IsNamed B.count B.table B.plan B.order opened }
 {
     let (shards, mut dealer) = opened.share::<B>(alloc)?;
     let worker = dealer.pass(alloc, Caller::Worker { number: 0 })?;
@@ -136,7 +136,7 @@ fn by_turns<B: Naming + Send + Sync, R: Threads + Abort + Wait + Sync>(
     opened: Opened,
     rows: &[Row],
 ) -> Result<(), Fail>
-    requires { IsNamed B.count B.table B.plan opened }
+    requires { IsNamed B.count B.table B.plan B.order opened }
 {
     let (shards, worker, controller, reclaimer) = three_passes::<B>(alloc, opened)?;
     let made = AtomicU64::new(0);
@@ -354,7 +354,7 @@ fn freely<B: Naming + Send + Sync, R: Threads + Abort + Wait + Sync>(
     alloc: Global,
     opened: Opened,
 ) -> Result<(), Fail>
-    requires { IsNamed B.count B.table B.plan opened }
+    requires { IsNamed B.count B.table B.plan B.order opened }
 {
     let (shards, worker, controller, reclaimer) = three_passes::<B>(alloc, opened)?;
     let begun = AtomicU64::new(0);

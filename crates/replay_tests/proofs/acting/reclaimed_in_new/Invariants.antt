@@ -1,6 +1,6 @@
 use Rattle.std.proofs.Common.{length}
-use Rattle.shards.proofs.shared.Names.{table_names, plan_names}
+use Rattle.shards.proofs.shared.Names.{table_names, plan_names, order_name}
 use Rattle.replay_tests.proofs.acting.reclaimed_in_new.Given as goal
 
 abbrev pub ghosts-reclaimed : goal.ghosts-reclaimed
-ghosts-reclaimed g a = record { count = length a.opened.shards; table = table_names a.opened; plan = plan_names a.opened }
+ghosts-reclaimed g a = record { count = length a.opened.shards; table = table_names a.opened; plan = plan_names a.opened; order = order_name a.opened }

@@ -1,6 +1,6 @@
 use Rattle.std.proofs.Common.{length}
-use Rattle.shards.proofs.shared.Names.{table_names, plan_names}
+use Rattle.shards.proofs.shared.Names.{table_names, plan_names, order_name}
 use Rattle.replay_tests.proofs.acting.rounds_until_their_end.Given as goal
 
 abbrev pub ghosts-asked : goal.ghosts-asked
-ghosts-asked g a = record { count = length a.opened.shards; table = table_names a.opened; plan = plan_names a.opened }
+ghosts-asked g a = record { count = length a.opened.shards; table = table_names a.opened; plan = plan_names a.opened; order = order_name a.opened }

@@ -38,7 +38,7 @@ into_seat-seat-requires c =
     let badge_is : c.take.result ≡ badge_at (row_at old number) c.args.place =
     c.take.ensures.badge ∙ ap (λ (r : List (Badge Known)). badge_at r c.args.place) (row_there c.rows.rows.items number c.index_mut.result.now below c.index_mut.ensures.value ∙ i.left number (omega arith)) in
     let new = c.requires.new number there in
-    (pass_of new.plan new.who [] [], ap (λ (b : Badge Known). b.views) badge_is ∙ new.fresh)
+    (pass_of new.key new.who [] [], ap (λ (b : Badge Known). b.views) badge_is ∙ new.fresh)
 
 pub new-requires-clause-seat : goal.new-requires-clause-seat
 new-requires-clause-seat c =
@@ -72,7 +72,7 @@ new-requires-clause-room c =
     c.take.ensures.badge ∙ ap (λ (r : List (Badge Known)). badge_at r c.args.place) (row_there c.rows.rows.items number c.index_mut.result.now below c.index_mut.ensures.value ∙ i.left number (omega arith)) in
     let seat = c.into_seat-seat.ensures in
     let me = c.into_seat-seat.result.me in
-    subst (λ (h : HeldIds). room_of me.0.who (most_held me.0.plan) ≤ h.room) (sym (each_first (Waits c.args.held.items) number c.rows.held.items c.remove.result i.waiting some_left c.remove.ensures.value))
+    subst (λ (h : HeldIds). room_of me.0.who (most_held me.0.key.plan) ≤ h.room) (sym (each_first (Waits c.args.held.items) number c.rows.held.items c.remove.result i.waiting some_left c.remove.ensures.value))
     (room_of_new (badge_at (row_at old number) c.args.place) (held_at c.args.held.items number) (c.requires.new number there) me (ap (λ (b : Badge Known). b.views) (sym badge_is) ∙ seat.2) seat.3)
 
 pub rows-preserved : goal.rows-preserved

@@ -1,13 +1,20 @@
 use Rattle.std.proofs.Common.{◌≡◌, ap, sym, ◌∙◌, subst, refl, ◌++◌, [], ◌∷◌, List, arith}
 use Rattle.atomic_table.specs.Table.{opening}
 use Rattle.shard_core.specs.JournaledShard.{JournaledShard}
+use Rattle.shards.specs.Lodged.{Lodged, keyed}
 use Rattle.shards.specs.LockRule.{dealer_of, IsKept}
 use Rattle.shards.proofs.Moves.{begins}
 use Rattle.shards.proofs.new_shard.new_lock.Goals as goal
 
-pub new-requires : goal.new-requires
-new-requires c =
-    let shard = c.args.shard in
-    let items : c.push_reserved.new.self.items ≡ shard ∷ [] = c.push_reserved.ensures.items ∙ ap (λ (l : List JournaledShard). l ++ shard ∷ []) c.in_ok-slots.ensures.items in
-    let planned = c.plan.ensures.plan in
-    subst (λ (l : List JournaledShard). IsKept c.plan.result.now (opening _ l (dealer_of c.plan.result.now 0))) (sym items) (begins c.plan.result.now _ shard (omega arith) refl (sym planned) (ap (λ (s : JournaledShard). s.journal) c.requires))
+pub new-requires-clause-unused : goal.new-requires-clause-unused
+new-requires-clause-unused c = ap (λ (s : JournaledShard). s.journal) c.requires.unused
+
+pub new-requires-2 : goal.new-requires-2
+new-requires-2 c =
+    let lodger = c.new.result in
+    let items : c.push_reserved.new.self.items ≡ lodger ∷ [] = c.push_reserved.ensures.items ∙ ap (λ (l : List Lodged). l ++ lodger ∷ []) c.in_ok-slots.ensures.items in
+    let planned : lodger.key ≡ c.new-key.result =
+    ap (λ (l : Lodged). l.key) c.new.ensures
+    ∙ (λ i. keyed (sym c.plan.ensures.plan i) ((c.requires.fresh.table_is ∙ sym c.visitor.ensures.0 ∙ sym c.into_badge.ensures.0) i)) ∙ sym c.new-key.ensures in
+    subst (λ (l : List Lodged). IsKept c.new-key.result (opening _ l (dealer_of c.new-key.result 0))) (sym items)
+    (begins c.new-key.result _ lodger (omega arith) refl planned (ap (λ (l : Lodged). l.journal) c.new.ensures))

@@ -1,10 +1,10 @@
 use Rattle.std.proofs.Common.{sym, ap, ◌∙◌}
 use Rattle.atomic_table.specs.Table.{Me}
-use Rattle.shard_core.specs.JournaledShard.{JournaledShard}
+use Rattle.shards.specs.Lodged.{Lodged, KeyedPlan}
 use Rattle.shards.specs.declared.rule.Known.{Known}
 use Rattle.shards.specs.ShardPasses.{ShardPassView, IsShardPass}
 use Rattle.shards.proofs.ShardPassLemmas.{part_given}
-use Rattle.shards.proofs.Holding.{given_plan, given_who}
+use Rattle.shards.proofs.Holding.{given_key, given_who}
 use Rattle.shards.proofs.shard_pass.ShardPass.give.Goals as goal
 
 pub give-requires-clause-seat : goal.give-requires-clause-seat
@@ -23,8 +23,9 @@ returns-clause-same c =
     let given_is = c.give.ensures.given in
     record {
       table = c.give.ensures.seat.table_is ∙ c.requires.lock.0;
-      plan = ap (λ (m : Me JournaledShard Known). m.0.plan) given_is ∙ given_plan c.self.inside.seat.me ∙ ap (λ (v : ShardPassView). v.plan) is;
-      who = ap (λ (m : Me JournaledShard Known). m.0.who) given_is ∙ given_who c.self.inside.seat.me ∙ ap (λ (v : ShardPassView). v.who) is;
+      key = ap (λ (m : Me Lodged Known). m.0.key) given_is ∙ given_key c.self.inside.seat.me ∙ ap (λ (v : ShardPassView). v.key) is;
+      plan = ap (λ (k : KeyedPlan). k.plan) (ap (λ (m : Me Lodged Known). m.0.key) given_is ∙ given_key c.self.inside.seat.me ∙ ap (λ (v : ShardPassView). v.key) is);
+      who = ap (λ (m : Me Lodged Known). m.0.who) given_is ∙ given_who c.self.inside.seat.me ∙ ap (λ (v : ShardPassView). v.who) is;
     }
 
 pub returns-clause-own : goal.returns-clause-own

@@ -1,8 +1,9 @@
 use Rattle.std.proofs.Common.{◌≡◌, false, sym, ap, ◌∙◌, subst}
 use Rattle.shards.specs.CallerView.{HasLooked}
 use Rattle.shards.specs.Seats.{has_shard, view_of}
+use Rattle.shards.specs.Lodged.{KeyedPlan}
 use Rattle.shards.specs.ShardPasses.{ShardPassView}
-use Rattle.shards.proofs.ShardPassLemmas.{part_taken, looked_taken, taken_plan, taken_who}
+use Rattle.shards.proofs.ShardPassLemmas.{part_taken, looked_taken, taken_key, taken_who}
 use Rattle.shards.proofs.Holding.{taken_has}
 use Rattle.shards.proofs.shard_pass.ShardPass.take.Goals as goal
 
@@ -23,7 +24,8 @@ returns-clause-same g c =
     let alone : has_shard c.self.inside.seat.me ≡ false = ap (λ (v : ShardPassView). v.has_it) is ∙ c.requires.alone in
     record {
       table = c.take.ensures.seat.table_is ∙ c.requires.lock.0;
-      plan = taken_plan c.self.inside.seat c.take.new.seat c.self.inside.inside c.self.inside.held c.self.invariant alone c.take.ensures.taken c.take.ensures.legal ∙ ap (λ (v : ShardPassView). v.plan) is;
+      key = taken_key c.self.inside.seat c.take.new.seat c.self.inside.inside c.self.inside.held c.self.invariant alone c.take.ensures.taken c.take.ensures.legal ∙ ap (λ (v : ShardPassView). v.key) is;
+      plan = ap (λ (k : KeyedPlan). k.plan) (taken_key c.self.inside.seat c.take.new.seat c.self.inside.inside c.self.inside.held c.self.invariant alone c.take.ensures.taken c.take.ensures.legal ∙ ap (λ (v : ShardPassView). v.key) is);
       who = taken_who c.self.inside.seat c.take.new.seat c.self.inside.inside c.self.inside.held c.self.invariant alone c.take.ensures.taken c.take.ensures.legal ∙ ap (λ (v : ShardPassView). v.who) is;
     }
 
@@ -31,5 +33,5 @@ pub returns-clause-looked : goal.returns-clause-looked
 returns-clause-looked g c =
     let is = c.self.view_is in
     let alone : has_shard c.self.inside.seat.me ≡ false = ap (λ (v : ShardPassView). v.has_it) is ∙ c.requires.alone in
-    subst (λ (v : ShardPassView). HasLooked v.plan v.view (view_of c.take.new.seat.me)) is
+    subst (λ (v : ShardPassView). HasLooked v.key.plan v.view (view_of c.take.new.seat.me)) is
     (looked_taken c.self.inside.seat c.take.new.seat c.self.inside.inside c.self.inside.held c.self.invariant alone c.take.ensures.taken c.take.ensures.legal)

@@ -6,16 +6,22 @@ use Rattle.journals.specs.JournalsView.{JournalsView, entries_at}
 use Rattle.shards.specs.CallerView.{IsSettled}
 use Rattle.shards.specs.Passes.{pass_at, view_at}
 use Rattle.semantics.specs.Each.{Each}
+use Rattle.shards.specs.Lodged.{keyed}
 use Rattle.shards.specs.Seats.{IsLockOf}
 use Rattle.semantics.proofs.shared.EachLemmas.{each_first, each_rest}
 use Rattle.shards.proofs.Settling.{legal_more, settled_more, untouched_less}
+use Rattle.shards.specs.declared.deeds.Account.{Account}
+use Rattle.shards.specs.declared.deeds.Part.TheVariants.{ByCaller}
+use Rattle.shards.specs.OrderRule.{account, HasAccount}
+use Rattle.shards.proofs.OrderShards.{numbered}
+use Rattle.shards.proofs.OrderClosing.{HasShard, gathered_more, one_order}
 use Rattle.shards.proofs.sharing.Shards.close.Goals as goal
 
 pub settled-journal-requires-clause-lock : goal.settled-journal-requires-clause-lock
 settled-journal-requires-clause-lock g c =
     let i = c.shards.invariant in
     let some_left : 0 < length c.shards.locks.items = (let t = i.together in let e = c.shards-test.true in omega (arith, t, e)) in
-    each_first (λ n lock. IsLockOf (g.B.Naming.table n) (g.B.Naming.plan n) lock) c.shards.number c.shards.locks.items c.remove.result i.left some_left c.remove.ensures.value
+    each_first (λ n lock. IsLockOf (g.B.Naming.table n) (keyed (g.B.Naming.plan n) g.B.Naming.order) lock) c.shards.number c.shards.locks.items c.remove.result i.left some_left c.remove.ensures.value
 
 pub shards-preserved : goal.shards-preserved
 shards-preserved g c =
@@ -32,8 +38,8 @@ shards-preserved g c =
       count_is = i.count_is;
       together = (let t = i.together in let shorter = c.remove.ensures.len in let a = c.shards.locks.ok.0 in let b = c.remove.new.self.ok.0 in let e = c.shards-test.true in omega (arith, t, shorter, a, b, e));
       small = i.small;
-      left = subst (λ xs. Each (λ n lock. IsLockOf (g.B.Naming.table n) (g.B.Naming.plan n) lock) (number + 1) xs) (sym c.remove.ensures.items)
-          (each_rest (λ n lock. IsLockOf (g.B.Naming.table n) (g.B.Naming.plan n) lock) number c.shards.locks.items i.left);
+      left = subst (λ xs. Each (λ n lock. IsLockOf (g.B.Naming.table n) (keyed (g.B.Naming.plan n) g.B.Naming.order) lock) (number + 1) xs) (sym c.remove.ensures.items)
+          (each_rest (λ n lock. IsLockOf (g.B.Naming.table n) (keyed (g.B.Naming.plan n) g.B.Naming.order) lock) number c.shards.locks.items i.left);
       maps = i.maps;
       options = i.options;
       maps_are = i.maps_are;
@@ -45,6 +51,12 @@ shards-preserved g c =
       legal = subst (λ (js : List (List Entry)). (k : ℕ) → k < number + 1 → IsLegalJournal (g.B.Naming.plan k) (slice_index_or js k [])) (sym items)
           (legal_more old now after journals number journal i.made g.B.Naming.plan s.legal i.legal);
       callers = λ k. s.callers k ∙ i.callers k;
+      deeds = λ k. s.deeds k ∙ i.deeds k;
+      order_is = i.order_is;
+      plans = i.plans;
+      seat_is = s.seat;
+      gathered = subst (λ (js : List (List Entry)). (k : ℕ) → k < number + 1 → HasShard k (slice_index_or js k []) c.settled-journal.new.seat.me.0) (sym items)
+          (gathered_more number journals journal c.shards.seat.me c.settled-journal.new.seat.me i.made s.taken i.gathered);
       untouched = untouched_less old now after journals number journal i.made i.callers i.untouched i.passes s.others;
       settled = subst (λ (js : List (List Entry)). (k m : ℕ) → k < length old → m < number + 1 → IsSettled (pass_at old k).who (view_at (pass_at old k) m) (slice_index_or js m [])) (sym items)
           (settled_more old now after journals number journal i.made i.callers i.untouched i.passes s.settled i.settled);
@@ -56,3 +68,19 @@ returns-clause-settled g c =
     λ place below number less.
     subst (λ (js : JournalsView). IsSettled (pass_at c.args.passes.items place).who (view_at (pass_at c.args.passes.items place) number) (entries_at js number)) (sym c.of.ensures)
     (i.settled place number below (let t = i.together in let e = c.shards-test.false in let n = i.count_is in omega (arith, t, e, n, less)))
+
+pub settled-journal-requires-clause-numbered : goal.settled-journal-requires-clause-numbered
+settled-journal-requires-clause-numbered g c =
+    let i = c.shards.invariant in
+    numbered _ _ g.B.Naming.count g.B.Naming.plan c.shards.number i.plans (let e = i.count_is in let t = c.shards-test.true in omega (arith, e, t))
+
+pub returns-clause-did : goal.returns-clause-did
+returns-clause-did g c =
+    let i = c.shards.invariant in
+    let end = c.gather_all.ensures in
+    one_order g.B.Naming.plan g.B.Naming.count _ c.of.result c.args.passes.items c.gather_all.new.seat.me.0 c.end.ensures i.order_is.sized i.order_is.plans
+    (λ number below. let was = i.gathered number (let t = i.together in let e = c.shards-test.false in let n = i.count_is in omega (arith, t, e, n, below)) in
+    subst (λ (js : JournalsView). HasShard number (entries_at js number) c.gather_all.new.seat.me.0) (sym c.of.ensures)
+    (record { deeds = was.deeds; written = was.written; has = end.kept _ was.has }))
+    (λ place below. subst (λ (one : Account). HasAccount one c.gather_all.new.seat.me.0) (λ k. account (ByCaller (i.callers place k)) (i.deeds place k))
+    (end.all place (let e = i.passes in omega (arith, e, below))))

@@ -1,7 +1,7 @@
 use Rattle.std.proofs.Common.{◌<◌, ◌^◌, ℕ, List, length, sym, ap, ◌∙◌, subst}
 use Rattle.semantics.specs.declared.call.Entry.{Entry}
 use Rattle.shards.proofs.RoomLemmas.{few_entries}
-use Rattle.shards.proofs.lock.entries.Goals as goal
+use Rattle.shards.proofs.lodger.entries.Goals as goal
 
 pub returns-clause-few : goal.returns-clause-few
 returns-clause-few c =

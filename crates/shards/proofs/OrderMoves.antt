@@ -1,0 +1,257 @@
+-- Each step on the order keeps its rule.
+use Rattle.std.proofs.Common.{◌≡◌, ◌≢◌, ℕ, zero, suc, ◌*◌, ◌<◌, ◌==◌, cond, Bool, List, [], ◌∷◌, ◌++◌, length, set, true, false, refl, sym, ap, ◌∙◌, subst, ⊎_elim, arith, eq-eqb, ne_eqb}
+use Rattle.std.specs.Prelude.{slice_index}
+use mathlib.Core.Option.{some, some-ne-none, some-injective}
+use lib.ListN.{get_elem?}
+use Rattle.atomic_table.specs.Table.{Allows, Splits, Joins, Enters, Final, Seen, Me, keeps, State, stepped, opening}
+use Rattle.atomic_table.proofs.Lists.{at_set}
+use Rattle.atomic_table.specs.declared.badge.Badge.{Badge}
+use Rattle.semantics.proofs.shared.EachLemmas.{at_snoc}
+use Rattle.semantics.specs.declared.call.Caller.{Caller}
+use Rattle.semantics.specs.declared.call.Call.{Call}
+use Rattle.semantics.specs.declared.call.Entry.{Entry}
+use Rattle.semantics.specs.declared.plan.ShardPlan.{ShardPlan}
+use Rattle.semantics.specs.History.{shard_of_call}
+use Rattle.shards.specs.declared.deeds.Deed.{Deed}
+use Rattle.shards.specs.declared.deeds.Deed.TheVariants.{Wrote, MetFull}
+use Rattle.shards.specs.declared.deeds.Part.{Part}
+use Rattle.shards.specs.declared.deeds.Part.TheVariants.{OnShard, ByCaller}
+use Rattle.shards.specs.declared.deeds.Account.{Account}
+use Rattle.shards.specs.LockRule.{caller_at}
+use Rattle.shards.specs.Deeds.{shard_of_deed, caller_of_deed, is_deed_of, deeds_of, entries_made, made_on, IsMetBehind}
+use Rattle.shards.specs.OrderRule.{code_of, plan_in, account, caller_accounts, first_accounts, all_others, first_alone, with_first, AreOther, deeds_in, deeds_viewed, deeds_at, IsAccount, AreAccounts, IsOrder, IsEnd, HasAccount, noted, Adds, Comes}
+use Rattle.shards.proofs.Callers.{is_own, is_other}
+use Rattle.shards.proofs.Moves.{moved, moved_here, moved_else}
+
+abbrev All : (ℕ → List Account → Type 0) → List (List Account) → Type 0
+All F views = (id : ℕ) (v : List Account) → get_elem? views id ≡ some v → F id v
+
+all_set : (F : ℕ → List Account → Type 0) (views : List (List Account)) (id : ℕ) (w : List Account) → F id w →
+    ((j : ℕ) (u : List Account) → j ≢ id → get_elem? views j ≡ some u → F j u) → All F (set views id w)
+all_set F views id w mine others j u e = ⊎_elim (λ (x : (j ≡ id) × (w ≡ u)). subst (λ (y : ℕ × List Account). F y.0 y.1) (λ i. (sym x.0 i, x.1 i)) mine)
+    (λ (x : (j ≢ id) × (get_elem? views j ≡ some u)). others j u x.0 x.1) (at_set views id j w u e)
+
+all_push : (F : ℕ → List Account → Type 0) (views : List (List Account)) (w : List Account) → All F views → F (length views) w → All F (views ++ w ∷ [])
+all_push F views w were mine j u e = ⊎_elim (λ x. were j u x)
+    (λ (x : (j ≡ length views) × (w ≡ u)). subst (λ (y : ℕ × List Account). F y.0 y.1) (λ i. (sym x.0 i, x.1 i)) mine) (at_snoc views w u j e)
+
+-- ---- accounts of other parts
+
+-- a part moves, and these stay
+others_stay : (owner : ℕ → ℕ) (all : List Deed) (code id new : ℕ) (v : List Account) → AreOther code v → AreAccounts owner all id v →
+    AreAccounts (moved owner code new) all id v
+others_stay owner all code id new [] apart are = tt
+others_stay owner all code id new (one ∷ others) apart are =
+    (record { own = moved_else owner code new (code_of one.part) apart.0 ∙ are.0.own; kept = are.0.kept }, others_stay owner all code id new others apart.1 are.1)
+
+-- accounts of a seat that does not have this part
+elsewhere : (owner : ℕ → ℕ) (all : List Deed) (code id : ℕ) (v : List Account) → owner code ≢ id → AreAccounts owner all id v → AreOther code v
+elsewhere owner all code id [] apart are = tt
+elsewhere owner all code id (one ∷ others) apart are =
+    (λ same. apart (ap owner (sym same) ∙ are.0.own), elsewhere owner all code id others apart are.1)
+
+-- a part comes to the seat that has these
+joins_them : (owner : ℕ → ℕ) (all : List Deed) (code id : ℕ) (v : List Account) → AreAccounts owner all id v → AreAccounts (moved owner code id) all id v
+joins_them owner all code id [] are = tt
+joins_them owner all code id (one ∷ others) are = (record { own = here (code_of one.part == code) refl; kept = are.0.kept }, joins_them owner all code id others are.1) where
+  here : (b : Bool) → (code_of one.part == code) ≡ b → moved owner code id (code_of one.part) ≡ id
+  here true is = ap (λ (c : Bool). cond c id (owner (code_of one.part))) is
+  here false is = ap (λ (c : Bool). cond c id (owner (code_of one.part))) is ∙ are.0.own
+
+-- ---- the opening
+
+nothing_yet : (id : ℕ) (part : Part) → IsAccount (λ _. id) [] id (account part [])
+nothing_yet id part = record { own = refl; kept = refl }
+
+callers_begin : (place left : ℕ) → AreAccounts (λ _. 0) [] 0 (caller_accounts place left)
+callers_begin place zero = tt
+callers_begin place (suc left) = (nothing_yet 0 (ByCaller (caller_at place)), callers_begin (suc place) left)
+
+all_begin : (number left callers : ℕ) → AreAccounts (λ _. 0) [] 0 (first_accounts number left callers)
+all_begin number zero callers = callers_begin 0 callers
+all_begin number (suc left) callers = (nothing_yet 0 (OnShard number), all_begin (suc number) left callers)
+
+pub order_begins : {S : Type 0} (plans : List ShardPlan) (words : List ℕ) (slots : List S) (callers : ℕ) →
+    IsOrder plans (opening words slots (first_accounts 0 (length plans) callers))
+order_begins plans words slots callers = record { all = []; owner = λ _. 0; within = tt; met = tt; fits = one } where
+  one : (id : ℕ) (v : List Account) → get_elem? (first_accounts 0 (length plans) callers ∷ []) id ≡ some v → AreAccounts (λ _. 0) [] id v
+  one zero v e = subst (AreAccounts (λ _. 0) [] 0) (some-injective _ _ e) (all_begin 0 (length plans) callers)
+  one (suc id) v e = absurd (some-ne-none v (sym e))
+
+-- ---- seats
+
+-- the first account goes to a new seat
+pub deals_first : {S : Type 0} (plans : List ShardPlan) (id : ℕ) (one : Account) (v : List Account) → AreOther (code_of one.part) v →
+    Splits {S = S} (IsOrder plans) id (one ∷ v) v (one ∷ [])
+deals_first plans id one v apart s h at =
+    let are = h.fits id (one ∷ v) at in
+    let new : ℕ = length (set s.views id v) in
+    let owner' = moved h.owner (code_of one.part) new in
+    let F : ℕ → List Account → Type 0 = AreAccounts owner' h.all in record {
+      all = h.all;
+      owner = owner';
+      within = h.within;
+      met = h.met;
+      fits = all_push F (set s.views id v) (one ∷ [])
+          (all_set F s.views id v (others_stay h.owner h.all (code_of one.part) id new v apart are.1)
+          (λ j u other e. others_stay h.owner h.all (code_of one.part) j new u
+          (elsewhere h.owner h.all (code_of one.part) j u (λ same. other (sym same ∙ are.0.own)) (h.fits j u e)) (h.fits j u e)))
+          (record { own = moved_here h.owner (code_of one.part) new; kept = are.0.kept }, tt);
+    }
+
+-- a seat with nothing comes
+pub order_comes : {S : Type 0} (plans : List ShardPlan) (slots : ℕ) → Enters {S = S} (IsOrder plans) slots 0 (λ n w. Comes {S = S} (w, []))
+order_comes plans slots s h l fits = (
+  [],
+  record { all = h.all; owner = h.owner; within = h.within; met = h.met; fits = all_push (AreAccounts h.owner h.all) s.views [] h.fits tt },
+  refl,
+)
+
+-- a seat takes in the one account of another
+pub takes_first : {S : Type 0} (plans : List ShardPlan) (id : ℕ) (v : List Account) (other : ℕ) (one : Account) →
+    Joins {S = S} (IsOrder plans) id v other (one ∷ []) (one ∷ v) []
+takes_first plans id v other one s h at apart there =
+    let was : get_elem? s.views other ≡ some (one ∷ []) = ⊎_elim (λ x. absurd (apart x.0)) (λ x. x.1) (at_set s.views id other (one ∷ v) (one ∷ []) there) in
+    let theirs = (h.fits other (one ∷ []) was).0 in
+    let code : ℕ = code_of one.part in
+    let owner' = moved h.owner code id in
+    let F : ℕ → List Account → Type 0 = AreAccounts owner' h.all in
+    let Now : ℕ → List Account → Type 0 = λ j y. j ≢ other → F j y in
+    let now : All Now (set s.views id (one ∷ v)) = all_set Now s.views id (one ∷ v)
+    (λ _. (record { own = moved_here h.owner code id; kept = theirs.kept }, joins_them h.owner h.all code id v (h.fits id v at)))
+    (λ j u not_id e not_other. others_stay h.owner h.all code j id u
+    (elsewhere h.owner h.all code j u (λ same. not_other (sym same ∙ theirs.own)) (h.fits j u e)) (h.fits j u e)) in record {
+      all = h.all;
+      owner = owner';
+      within = h.within;
+      met = h.met;
+      fits = all_set F (set s.views id (one ∷ v)) other [] tt (λ j u not_other e. now j u e not_other);
+    }
+
+-- ---- a deed more
+
+-- it is no deed of another part
+no_deed_of : (deed : Deed) (part : Part) → code_of part ≢ code_of (OnShard (shard_of_deed deed)) → code_of part ≢ code_of (ByCaller (caller_of_deed deed)) → is_deed_of part deed ≡ false
+no_deed_of deed (OnShard number) not_there not_by = ne_eqb (shard_of_deed deed) number (λ same. not_there (ap (λ n. 2 * n) (sym same)))
+no_deed_of deed (ByCaller who) not_there not_by = is_other who (caller_of_deed deed) (λ same. not_by (ap (λ n. suc (2 * n)) (sym same)))
+
+-- accounts to which it does not belong
+others_same : (owner : ℕ → ℕ) (all : List Deed) (deed : Deed) (id : ℕ) (v : List Account) → AreOther (code_of (OnShard (shard_of_deed deed))) v → AreOther (code_of (ByCaller (caller_of_deed deed))) v →
+    AreAccounts owner all id v → AreAccounts owner (deed ∷ all) id v
+others_same owner all deed id [] not_there not_by are = tt
+others_same owner all deed id (one ∷ others) not_there not_by are = (
+  record {
+    own = are.0.own;
+    kept = are.0.kept ∙ sym (ap (λ (mine : Bool). cond mine (deed ∷ deeds_of one.part all) (deeds_of one.part all)) (no_deed_of deed one.part not_there.0 not_by.0));
+  },
+  others_same owner all deed id others not_there.1 not_by.1 are.1,
+)
+
+-- and one to which it does
+belongs : (owner : ℕ → ℕ) (all : List Deed) (deed : Deed) (id : ℕ) (part : Part) (deeds : List Deed) → is_deed_of part deed ≡ true → IsAccount owner all id (account part deeds) →
+    IsAccount owner (deed ∷ all) id (account part (deed ∷ deeds))
+belongs owner all deed id part deeds is one = record {
+  own = one.own;
+  kept = ap (λ (l : List Deed). deed ∷ l) one.kept ∙ sym (ap (λ (mine : Bool). cond mine (deed ∷ deeds_of part all) (deeds_of part all)) is);
+}
+
+-- the entries on a shard are those of the shard's deeds
+wrote_more : (number : ℕ) (entry : Entry) (deeds : List Deed) (b : Bool) → (shard_of_call entry.call == number) ≡ b → made_on number deeds ≡ entries_made (deeds_of (OnShard number) deeds) →
+    made_on number (Wrote entry ∷ deeds) ≡ entries_made (deeds_of (OnShard number) (Wrote entry ∷ deeds))
+wrote_more number entry deeds true is were = rw is (ap (λ (l : List Entry). entry ∷ l) were)
+wrote_more number entry deeds false is were = rw is were
+
+met_more : (number : ℕ) (who : Caller) (call : Call) (deeds : List Deed) (b : Bool) → (shard_of_call call == number) ≡ b → made_on number deeds ≡ entries_made (deeds_of (OnShard number) deeds) →
+    made_on number (MetFull who call ∷ deeds) ≡ entries_made (deeds_of (OnShard number) (MetFull who call ∷ deeds))
+met_more number who call deeds true is were = rw is were
+met_more number who call deeds false is were = rw is were
+
+pub made_by_deeds : (number : ℕ) (deeds : List Deed) → made_on number deeds ≡ entries_made (deeds_of (OnShard number) deeds)
+made_by_deeds number [] = refl
+made_by_deeds number (Wrote entry ∷ others) = wrote_more number entry others (shard_of_call entry.call == number) refl (made_by_deeds number others)
+made_by_deeds number (MetFull who call ∷ others) = met_more number who call others (shard_of_call call == number) refl (made_by_deeds number others)
+
+-- who has the account of a shard and that of a caller adds what the caller does there
+pub adds_deed : {S : Type 0} (plans : List ShardPlan) (slots id word : ℕ) (deed : Deed) (there by : List Deed) → shard_of_deed deed < length plans →
+    IsMetBehind (plan_in plans) deed (entries_made there) → (s : State S (List Account)) → IsOrder plans s →
+    get_elem? s.views id ≡ some (account (OnShard (shard_of_deed deed)) there ∷ account (ByCaller (caller_of_deed deed)) by ∷ []) →
+    IsOrder plans (stepped s word (slice_index s.words word) id []
+        (noted deed (account (OnShard (shard_of_deed deed)) there ∷ account (ByCaller (caller_of_deed deed)) by ∷ [])) keeps)
+adds_deed plans slots id word deed there by below met s h at =
+    let are = h.fits id _ at in
+    let shard : Part = OnShard (shard_of_deed deed) in
+    let caller : Part = ByCaller (caller_of_deed deed) in record {
+      all = deed ∷ h.all;
+      owner = h.owner;
+      within = (below, h.within);
+      met = (
+        subst (IsMetBehind (plan_in plans) deed) (ap entries_made are.0.kept ∙ sym (made_by_deeds (shard_of_deed deed) h.all)) met,
+        h.met,
+      );
+      fits = all_set (AreAccounts h.owner (deed ∷ h.all)) s.views id _
+          (belongs h.owner h.all deed id shard there (eq-eqb (shard_of_deed deed) (shard_of_deed deed) refl) are.0,
+            (belongs h.owner h.all deed id caller by (is_own (caller_of_deed deed)) are.1.0, tt))
+          (λ j u other e. others_same h.owner h.all deed j u
+          (elsewhere h.owner h.all (code_of shard) j u (λ same. other (sym same ∙ are.0.own)) (h.fits j u e))
+          (elsewhere h.owner h.all (code_of caller) j u (λ same. other (sym same ∙ are.1.0.own)) (h.fits j u e)) (h.fits j u e));
+    }
+
+-- ---- the same of views that are known to be these
+
+pub takes_one : {S : Type 0} (plans : List ShardPlan) (id : ℕ) (v : List Account) (other : ℕ) (w : List Account) (one : Account) → w ≡ one ∷ [] →
+    Joins {S = S} (IsOrder plans) id v other w (with_first v w) []
+takes_one {S} plans id v other w one is =
+    subst (λ (u : List Account). Joins {S = S} (IsOrder plans) id v other u (with_first v u) []) (sym is) (takes_first plans id v other one)
+
+pub deals_one : {S : Type 0} (plans : List ShardPlan) (id : ℕ) (accounts : List Account) (one : Account) (v : List Account) → accounts ≡ one ∷ v → AreOther (code_of one.part) v →
+    Splits {S = S} (IsOrder plans) id accounts (all_others accounts) (first_alone accounts)
+deals_one {S} plans id accounts one v is apart =
+    subst (λ (u : List Account). Splits {S = S} (IsOrder plans) id u (all_others u) (first_alone u)) (sym is) (deals_first plans id one v apart)
+
+-- the accounts of a shard and of a caller, where the caller does something there
+abbrev pub the_two : Deed → List Deed → List Deed → List Account
+the_two deed there by = account (OnShard (shard_of_deed deed)) there ∷ account (ByCaller (caller_of_deed deed)) by ∷ []
+
+pub adds_one : {S : Type 0} (plans : List ShardPlan) (slots id word : ℕ) (me : Me S (List Account)) (deed : Deed) (there by : List Deed) → me ≡ (the_two deed there by, []) →
+    shard_of_deed deed < length plans → IsMetBehind (plan_in plans) deed (entries_made there) →
+    Allows {S = S} (IsOrder plans) slots id me word (λ n. n) (λ n w. Adds deed me w)
+adds_one {S} plans slots id word me deed there by is below met =
+    subst (λ (m : Me S (List Account)). Allows {S = S} (IsOrder plans) slots id m word (λ n. n) (λ n w. Adds deed m w)) (sym is)
+    (λ s h l at fits. (noted deed (the_two deed there by), keeps, tt, adds_deed plans slots id word deed there by below met s h at, refl))
+
+-- the shard's account is not the caller's
+pub two_parts : (number : ℕ) (who : Caller) (by : List Deed) → AreOther (code_of (OnShard number)) (account (ByCaller who) by ∷ [])
+two_parts number who by = (λ same. omega (arith, same), tt)
+
+-- a seat that rests in a place
+pub view_there : (place : Badge (List Account)) (accounts : List Account) (part : Part) → place.views ≡ accounts ∷ [] →
+    place.views ≡ (account part (deeds_at place) ∷ []) ∷ [] → accounts ≡ account part (deeds_at place) ∷ []
+view_there place accounts part is rests = ap (λ (l : List (List Account)). first_view l) (sym is ∙ rests) where
+  first_view : List (List Account) → List Account
+  first_view [] = accounts
+  first_view (x ∷ xs) = x
+
+pub both_are : {S : Type 0} (me : Me S (List Account)) (w : List Account) (one : Account) (two : Account) → me ≡ (two ∷ [], []) → w ≡ one ∷ [] →
+    ◌≡◌ {A = Me S (List Account)} (with_first me.0 w, me.1) (one ∷ two ∷ [], [])
+both_are {S} me w one two is w_is = ap (λ (x : Me S (List Account) × List Account). (with_first x.0.0 x.1, x.0.1)) (λ i. (is i, w_is i))
+
+pub rests_so : (views : List (List Account)) (part : Part) (deeds : List Deed) → views ≡ (account part deeds ∷ []) ∷ [] →
+    (views ≡ (account part (deeds_viewed views) ∷ []) ∷ []) × (deeds_viewed views ≡ deeds)
+rests_so views part deeds is = (is ∙ ap (λ (l : List Deed). (account part l ∷ []) ∷ []) (sym (ap deeds_viewed is)), ap deeds_viewed is)
+
+pub sits_so : {S : Type 0} (me : Me S (List Account)) (part : Part) (deeds : List Deed) → me ≡ (account part deeds ∷ [], []) →
+    (me ≡ (account part (deeds_in me.0) ∷ [], [])) × (deeds_in me.0 ≡ deeds)
+sits_so {S} me part deeds is =
+    let same : deeds_in me.0 ≡ deeds = ap (λ (m : Me S (List Account)). deeds_in m.0) is in
+    (is ∙ ap (λ (l : List Deed). (account part l ∷ [], [])) (sym same), same)
+
+-- ---- the end
+
+in_order : (owner : ℕ → ℕ) (all : List Deed) (id : ℕ) (v : List Account) → AreAccounts owner all id v → (one : Account) → HasAccount one v → one.deeds ≡ deeds_of one.part all
+in_order owner all id [] are one has = absurd has
+in_order owner all id (other ∷ others) are one has = ⊎_elim
+    (λ (same : other ≡ one). subst (λ (a : Account). a.deeds ≡ deeds_of a.part all) same are.0.kept) (in_order owner all id others are.1 one) has
+
+pub order_ends : {S : Type 0} (plans : List ShardPlan) (id : ℕ) (v : List Account) (words : List ℕ) (slots : List S) → Final (Seen (IsOrder plans) id v) words slots → IsEnd plans v
+order_ends plans id v words slots final =
+    let h = final.1.0 in record { all = h.all; within = h.within; met = h.met; each = in_order h.owner h.all id v (h.fits id v final.1.1) }

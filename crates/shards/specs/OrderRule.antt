@@ -1,0 +1,172 @@
+-- The rule of the order: each part (a shard, a caller) has one account, which lies with one seat and is all deeds of this part in the order. So who has
+-- the account of a shard and that of a caller can add what the caller does on the shard, and both know that nothing was added in between.
+use Rattle.std.specs.Prelude.{◌≡◌, ◌≢◌, ℕ, zero, suc, ◌*◌, ◌<◌, List, [], ◌∷◌, ◌⊎◌, map, length, slice_index_or}
+use mathlib.Core.Option.{some}
+use lib.ListN.{get_elem?}
+use Rattle.atomic_table.specs.Seated.{TableId}
+use Rattle.atomic_table.specs.Table.{State, Me}
+use Rattle.atomic_table.specs.declared.badge.Badge.{Badge}
+use Rattle.atomic_table.specs.declared.owned.Table.{Table}
+use Rattle.atomic_table.specs.declared.shared.Seat.{Seat}
+use Rattle.semantics.specs.declared.plan.ShardPlan.{ShardPlan}
+use Rattle.semantics.specs.Each.{Each}
+use Rattle.shards.specs.declared.deeds.Deed.{Deed}
+use Rattle.shards.specs.declared.deeds.Part.{Part}
+use Rattle.shards.specs.declared.deeds.Part.TheVariants.{OnShard, ByCaller}
+use Rattle.shards.specs.declared.deeds.Account.{Account}
+use Rattle.shards.specs.declared.order_rule.OrderKey.{OrderKey}
+use Rattle.shards.specs.Deeds.{deeds_of, AreMet, AreWithin}
+use Rattle.shards.specs.Lodged.{KeyedPlan}
+use Rattle.shards.specs.LockRule.{caller_at, place_of, no_plan, no_table}
+
+-- parts by number
+abbrev pub code_of : Part → ℕ
+code_of (OnShard number) = 2 * number
+code_of (ByCaller who) = suc (2 * place_of who)
+
+abbrev pub plan_in : List ShardPlan → ℕ → ShardPlan
+plan_in plans number = slice_index_or plans number no_plan
+
+-- ---- the accounts
+
+-- of a part with no deeds, and of one with these deeds alone
+abbrev pub account : Part → List Deed → Account
+account part deeds = record { part = part; deeds = deeds }
+
+abbrev pub caller_accounts : ℕ → ℕ → List Account
+caller_accounts place zero = []
+caller_accounts place (suc left) = account (ByCaller (caller_at place)) [] ∷ caller_accounts (suc place) left
+
+-- of so many shards from a number on, and then of so many callers
+abbrev pub first_accounts : ℕ → ℕ → ℕ → List Account
+first_accounts number zero callers = caller_accounts 0 callers
+first_accounts number (suc left) callers = account (OnShard number) [] ∷ first_accounts (suc number) left callers
+
+abbrev pub all_others : List Account → List Account
+all_others [] = []
+all_others (one ∷ others) = others
+
+abbrev pub first_alone : List Account → List Account
+first_alone [] = []
+first_alone (one ∷ others) = one ∷ []
+
+abbrev pub with_first : List Account → List Account → List Account
+with_first accounts [] = accounts
+with_first accounts (one ∷ others) = one ∷ accounts
+
+-- ---- the rule
+
+pub record IsAccount (owner : ℕ → ℕ) (all : List Deed) (id : ℕ) (one : Account) : Type 0 where
+  pub own : owner (code_of one.part) ≡ id
+  pub kept : one.deeds ≡ deeds_of one.part all
+
+abbrev pub AreAccounts : (ℕ → ℕ) → List Deed → ℕ → List Account → Type 0
+AreAccounts owner all id [] = Unit {0}
+AreAccounts owner all id (one ∷ others) = IsAccount owner all id one × AreAccounts owner all id others
+
+pub record IsOrder {S : Type 0} (plans : List ShardPlan) (s : State S (List Account)) : Type 0 where
+  -- the order, newest first, and the seat that has the account of each part
+  pub all : List Deed
+  pub owner : ℕ → ℕ
+  pub within : AreWithin (length plans) all
+  pub met : AreMet (plan_in plans) all
+  pub fits : (id : ℕ) (v : List Account) → get_elem? s.views id ≡ some v → AreAccounts owner all id v
+
+-- a seat without an account comes
+abbrev pub Comes : {S : Type 0} → Me S (List Account) → Type 0
+Comes w = w ≡ ([], [])
+
+-- a deed is added to the order, and to each account of the seat
+abbrev pub noted : Deed → List Account → List Account
+noted deed accounts = map (λ (one : Account). account one.part (deed ∷ one.deeds)) accounts
+
+abbrev pub Adds : {S : Type 0} → Deed → Me S (List Account) → Me S (List Account) → Type 0
+Adds deed v w = w ≡ (noted deed v.0, v.1)
+
+-- ---- seats with one account
+
+abbrev pub deeds_in : List Account → List Deed
+deeds_in [] = []
+deeds_in (one ∷ others) = one.deeds
+
+abbrev pub deeds_viewed : List (List Account) → List Deed
+deeds_viewed [] = []
+deeds_viewed (accounts ∷ others) = deeds_in accounts
+
+-- and of a seat that rests
+abbrev pub deeds_at : Badge (List Account) → List Deed
+deeds_at place = deeds_viewed place.views
+
+abbrev pub IsPlaceOf : TableId → Part → Badge (List Account) → Type 0
+IsPlaceOf table part place = (place.table_id ≡ table) × (place.views ≡ (account part (deeds_at place) ∷ []) ∷ [])
+
+abbrev pub IsSeatFor : {S : Type 0} → TableId → Part → Seat S (List Account) → Type 0
+IsSeatFor table part seat = (seat.table_id ≡ table) × (seat.me ≡ (account part (deeds_in seat.me.0) ∷ [], []))
+
+-- a seat with this account rests in the place
+pub record IsPlaced (table : TableId) (one : Account) (place : Badge (List Account)) : Type 0 where
+  pub table_is : place.table_id ≡ table
+  pub knows : place.views ≡ (one ∷ []) ∷ []
+
+-- that of a part of which nothing was done
+abbrev pub IsFresh : TableId → Part → Badge (List Account) → Type 0
+IsFresh table part place = IsPlaced table (account part []) place
+
+abbrev pub no_place : Badge (List Account)
+no_place = record { marker = record {}; table_id = no_table; id = 0; views = [] }
+
+abbrev pub place_at : List (Badge (List Account)) → ℕ → Badge (List Account)
+place_at places number = slice_index_or places number no_place
+
+-- the account at a place
+abbrev pub account_at : List Account → ℕ → Account
+account_at accounts place = slice_index_or accounts place (account (OnShard 0) [])
+
+-- the parts of accounts are not the same twice
+abbrev pub AreOther : ℕ → List Account → Type 0
+AreOther code [] = Unit {0}
+AreOther code (one ∷ others) = (code_of one.part ≢ code) × AreOther code others
+
+abbrev pub AreApart : List Account → Type 0
+AreApart [] = Unit {0}
+AreApart (one ∷ others) = AreOther (code_of one.part) others × AreApart others
+
+-- each account lies in its place
+abbrev pub ArePlaces : TableId → List Account → List (Badge (List Account)) → Type 0
+ArePlaces table accounts places = Each (λ (number : ℕ) (place : Badge (List Account)). IsPlaced table (account_at accounts number) place) 0 places
+
+abbrev pub AreShardPlaces : TableId → List (Badge (List Account)) → Type 0
+AreShardPlaces table places = Each (λ (number : ℕ) (place : Badge (List Account)). IsFresh table (OnShard number) place) 0 places
+
+abbrev pub AreCallerPlaces : TableId → List (Badge (List Account)) → Type 0
+AreCallerPlaces table places = Each (λ (number : ℕ) (place : Badge (List Account)). IsFresh table (ByCaller (caller_at number)) place) 0 places
+
+-- ---- the order's table
+
+-- it has this name, and knows the plans of so many shards
+pub record IsOrderOf {S P A : Type 0} (table : TableId) (plan : ℕ → ShardPlan) (count : ℕ) (order : Table S (List Account) OrderKey P A) : Type 0 where
+  pub table_is : order.shared.table_id ≡ table
+  pub some_word : 0 < table.words
+  pub no_slot : table.slots ≡ 0
+  pub sized : length order.shared.key.plans.items ≡ count
+  pub plans : (number : ℕ) → number < count → plan_in order.shared.key.plans.items number ≡ plan number
+
+-- it is the order of a shard with this key, whose plan it knows
+pub record KnowsShard {S P A : Type 0} (key : KeyedPlan) (order : Table S (List Account) OrderKey P A) : Type 0 where
+  pub table_is : order.shared.table_id ≡ key.order
+  pub some_word : 0 < key.order.words
+  pub within : key.plan.number < length order.shared.key.plans.items
+  pub plan_is : plan_in order.shared.key.plans.items key.plan.number ≡ key.plan
+
+-- ---- its end
+
+abbrev pub HasAccount : Account → List Account → Type 0
+HasAccount one [] = ⊥
+HasAccount one (other ∷ others) = (other ≡ one) ⊎ HasAccount one others
+
+-- one list of deeds, of which each of these accounts is a part
+pub record IsEnd (plans : List ShardPlan) (accounts : List Account) : Type 0 where
+  pub all : List Deed
+  pub within : AreWithin (length plans) all
+  pub met : AreMet (plan_in plans) all
+  pub each : (one : Account) → HasAccount one accounts → one.deeds ≡ deeds_of one.part all

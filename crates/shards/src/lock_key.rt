@@ -1,0 +1,31 @@
+//! What the table of a shard's word is told once.
+
+ghost use Rattle.std.specs.Prelude.{◌≡◌};
+ghost use Rattle.shards.specs.Lodged.{keyed};
+
+use crate::order_rule::{Order, Place};
+use semantics::ShardPlan;
+use std::marker::Model;
+
+/// The shard's plan, and which order its deeds are added to: that of the seat. Contracts see the plan and the order's name.
+#[derive(Drop)]
+pub struct LockKey {
+    plan: ShardPlan,
+    seat: Place,
+}
+
+impl Model for LockKey {
+    ghost use Rattle.shards.specs.Lodged.{KeyedPlan, keyed};
+
+    ghost Value = { KeyedPlan };
+
+    ghost view = { λ key. keyed key.plan key.seat.table_id };
+}
+
+impl LockKey {
+    pub(crate) fn new(plan: ShardPlan, seat: Place) -> Self
+        ensures { result ≡ keyed plan seat.table_id }
+    {
+        LockKey { plan, seat }
+    }
+}

@@ -1,0 +1,118 @@
+//! The steps on the order of all deeds. Each is a plain load of a word that is never written.
+
+ghost use Rattle.std.specs.Prelude.{◌≡◌, ◌<◌, ◌∷◌, ◌≤◌, [], drop, length, IfOk, OnOk};
+ghost use Rattle.shards.specs.declared.deeds.Part.{Part};
+ghost use Rattle.shards.specs.declared.deeds.Part.TheVariants.{OnShard, ByCaller};
+ghost use Rattle.shards.specs.Deeds.{shard_of_deed, caller_of_deed, entries_made, IsMetBehind};
+ghost use Rattle.shards.specs.OrderRule.{IsPlaceOf, IsSeatFor, IsEnd, AreApart, ArePlaces, AreShardPlaces, AreCallerPlaces, deeds_at, deeds_in, plan_in, with_first};
+
+use crate::asks::Ask;
+use crate::item::Item;
+use crate::order_rule::{Adds, Comes, Deals, Order, OrderKey, OrderSeat, Place, Takes};
+use atomic_table::Badge;
+use semantics::{Caller, ShardPlan};
+use shard_core::Shard;
+use std::alloc::{AllocError, Global};
+use std::mem;
+
+/// The words of the table: one that is read, behind two cache lines of nothing, so that nothing else is on its line.
+const LINE: [u64; 8] = [0; 8];
+
+/// Adds a deed to the order: to the account of its shard, whose seat rests in a place, and to that of its caller. The shard, the caller, the call
+/// and whether it was served are for the proof alone, which picks the deed by them.
+pub(crate) fn note<D: Item, C: Ask>(
+    order: &Order,
+    place: &mut Place,
+    mine: &mut OrderSeat,
+    shard: &Shard,
+    who: Caller,
+    ask: &C,
+    served: bool,
+)
+    requires order { 0 < order.now.shared.table_id.words }
+    requires place { IsPlaceOf order.now.shared.table_id (OnShard (shard_of_deed D.item)) place.old }
+    requires mine { IsSeatFor order.now.shared.table_id (ByCaller (caller_of_deed D.item)) mine.old }
+    requires within { shard_of_deed D.item < length order.now.shared.key.plans.items }
+    requires met { IsMetBehind (plan_in order.now.shared.key.plans.items) D.item (entries_made (deeds_at place.old)) }
+    ensures place { IsPlaceOf order.now.shared.table_id (OnShard (shard_of_deed D.item)) place.new }
+    ensures mine { IsSeatFor order.now.shared.table_id (ByCaller (caller_of_deed D.item)) mine.new }
+    ensures noted { deeds_at place.new ≡ D.item ∷ deeds_at place.old }
+    ensures did { deeds_in mine.new.me.0 ≡ D.item ∷ deeds_in mine.old.me.0 }
+{
+    let seat = mem::replace(place, Badge::blank()).into_seat();
+    order.shared.join_seat::<Takes>(mine, seat);
+    order.shared.load::<Adds<D>>(mine, 0);
+    *place = order.shared.split_seat::<Deals>(mine).into_badge();
+}
+
+/// An order in which nothing was done, with a seat for each shard, and for each caller by its place. Fails only for lack of memory.
+pub(crate) fn open_order(
+    alloc: Global,
+    plans: Vec<ShardPlan>,
+    callers: usize,
+) -> Result<(Order, Vec<Place>, Vec<Place>), AllocError>
+    ensures words { IfOk result (λ new. (0 < new.0.shared.table_id.words) × (new.0.shared.table_id.slots ≡ 0)) }
+    ensures plans { IfOk result (λ new. new.0.shared.key.plans.items ≡ plans.items) }
+    ensures shards { IfOk result (λ new. (length new.1.items ≡ length plans.items) × AreShardPlaces new.0.shared.table_id new.1.items) }
+    ensures callers { IfOk result (λ new. (length new.2.items ≡ callers) × AreCallerPlaces new.0.shared.table_id new.2.items) }
+{
+    let count = plans.len();
+    let key = OrderKey { plans, callers };
+    let (order, mut seat) = Order::of_words(alloc, &LINE, &key)?;
+    let shards = dealt(alloc, &order, &mut seat, count)?;
+    let places = dealt(alloc, &order, &mut seat, callers)?;
+    Ok((order, shards, places))
+}
+
+/// A seat for each of the first accounts of a seat.
+fn dealt(
+    alloc: Global,
+    order: &Order,
+    seat: &mut OrderSeat,
+    count: usize,
+) -> Result<Vec<Place>, AllocError>
+    requires order { 0 < order.now.shared.table_id.words }
+    requires seat { (seat.old.table_id ≡ order.now.shared.table_id) × (seat.old.me.1 ≡ []) }
+    requires count { count ≤ length seat.old.me.0 }
+    requires apart { AreApart seat.old.me.0 }
+    ensures count { IfOk result (λ places. length places.items ≡ count) }
+    ensures places { IfOk result (λ places. ArePlaces order.now.shared.table_id seat.old.me.0 places.items) }
+    ensures table { seat.new.table_id ≡ order.now.shared.table_id }
+    ensures left { OnOk result (seat.new.me ≡ (drop count seat.old.me.0, [])) }
+{
+    let mut places = Vec::with_capacity(alloc, count)?;
+    'places: for _ in 0..count {
+        let one = order.shared.split_seat::<Deals>(seat);
+        places.push_reserved(one.into_badge());
+    }
+    Ok(places)
+}
+
+/// A seat without an account.
+pub(crate) fn visitor(order: &Order) -> OrderSeat
+    requires { 0 < order.now.shared.table_id.words }
+    ensures { (result.table_id ≡ order.now.shared.table_id) × (result.me ≡ ([], [])) }
+{
+    order.shared.load_new_seat::<Comes>(0).1
+}
+
+/// A seat takes in another with one account.
+pub(crate) fn gather(order: &Order, seat: &mut OrderSeat, other: OrderSeat)
+    requires order { 0 < order.now.shared.table_id.words }
+    requires seat { seat.old.table_id ≡ order.now.shared.table_id }
+    requires other { (part : Part) × IsSeatFor order.now.shared.table_id part other }
+    ensures table { seat.new.table_id ≡ order.now.shared.table_id }
+    ensures both { seat.new.me ≡ (with_first seat.old.me.0 other.me.0, seat.old.me.1) }
+{
+    order.shared.join_seat::<Takes>(seat, other);
+}
+
+/// Ends the order, in which the seat's accounts are.
+pub(crate) fn end(order: Order, seat: OrderSeat)
+    requires no_slot { order.shared.table_id.slots ≡ 0 }
+    requires seat { seat.table_id ≡ order.shared.table_id }
+    ensures { IsEnd order.shared.key.plans.items seat.me.0 }
+{
+    let closed = order.close_with(seat);
+    closed.free();
+}
