@@ -23,7 +23,7 @@ use Rattle.runs.specs.FrameRuns.{HasStopped}
 use Rattle.shards.specs.CallerView.{CallerView, BeginsWith}
 use Rattle.journals.specs.JournalsView.{JournalsView, entries_at}
 use Rattle.shards.specs.Passes.{PassView, own_at, seen_at, pass_at, AreSettled}
-use Rattle.shard_port.specs.PassSessions.{IsKeptOut}
+use Rattle.shard_port.specs.PassSessions.{StoppedAtCall, StoppedAtEnter}
 use Rattle.replay.proofs.shared.FullStays.{full_stays}
 use Rattle.replay.specs.declared.account.Counts.{Counts}
 use Rattle.replay.specs.declared.crew.Handled.{Handled}
@@ -39,6 +39,9 @@ use Rattle.replay.specs.RunJobs.{records_of}
 use Rattle.replay.specs.declared.outcome.Outcome.{Outcome}
 use Rattle.replay.specs.declared.shard_runner.Working.{Working}
 use Rattle.replay.specs.RunsOverShards.{IsNewPass, IsNewAt, IsIdle, IsRunOf, IsRunBy, IsRunIn, IsExit, StopsFor, IsFullAtEnd, pass_in, start_of}
+use Rattle.shards.specs.declared.deeds.Deed.{Deed}
+use Rattle.shards.specs.declared.deeds.Part.TheVariants.{ByCaller}
+use Rattle.shards.specs.Deeds.{deeds_of}
 use Rattle.replay.specs.Accounted.{IsWorkOf}
 
 -- ---- an outcome by its parts
@@ -116,14 +119,13 @@ stop_stands plan count program worker journals captured before after frame (Jour
     (was, by_case sessions.full_at begins sessions.full)
   where
     by_case : (full_at : List Entry) → BeginsWith (reverse (entries_at journals (shard_of_call was.refused))) full_at →
-        (IsJournalFull (plan (shard_of_call was.refused)) full_at was.refused
-        ⊎ IsKeptOut (plan (shard_of_call was.refused)) full_at worker was.exchanges (shard_of_call was.refused) (own_at before (shard_of_call was.refused))
-        (own_at after (shard_of_call was.refused)))
+        (StoppedAtCall (plan (shard_of_call was.refused)) full_at count worker was.exchanges was.refused before after
+        ⊎ StoppedAtEnter (plan (shard_of_call was.refused)) full_at count worker was.exchanges was.refused before after)
         → IsFullAtEnd plan journals before after was.refused
     by_case full_at begins (inl full) =
-        inl (full_later (plan (shard_of_call was.refused)) (reverse (entries_at journals (shard_of_call was.refused))) full_at was.refused begins full)
+        inl (full_later (plan (shard_of_call was.refused)) (reverse (entries_at journals (shard_of_call was.refused))) full_at was.refused begins full.full)
     by_case full_at begins (inr full) =
-        inr (full.nothing, full_later (plan (shard_of_call was.refused)) (reverse (entries_at journals (shard_of_call was.refused))) full_at (Enter (shard_of_call was.refused)) begins full.full)
+        inr (full.kept_out.nothing, full_later (plan (shard_of_call was.refused)) (reverse (entries_at journals (shard_of_call was.refused))) full_at (Enter (shard_of_call was.refused)) begins full.kept_out.full)
 
 run_stands : (plan : ℕ → ShardPlan) (count : ℕ) (program : Program) (worker : ℕ) (journals : JournalsView) (captured : Sent) (before : PassView)
     (end : RunEnd) (after : PassView) → IsSeenOf count journals after → IsRunOf count plan program worker captured before end after →
@@ -213,6 +215,10 @@ pass_there (y ∷ ys) (suc j) x e = pass_there ys j x e
 
 -- ---- the workers
 
+-- the pass's deeds are its caller's in the one order
+abbrev pub IsOwnIn : List Deed → PassView → Type 0
+IsOwnIn order pass = pass.deeds ≡ deeds_of (ByCaller pass.who) order
+
 module _ {B : Type 0} (count : ℕ) (plan : ℕ → ShardPlan) (program : Program) (records : List Sent) (workers : ℕ) where
   abbrev IsDone : ℕ → Handled (Working B) → Type 0
   IsDone = IsHandled IsNewAt (IsRunBy count plan program) records workers
@@ -225,12 +231,13 @@ module _ {B : Type 0} (count : ℕ) (plan : ℕ → ShardPlan) (program : Progra
       ap records_of part.runs ∙ (here IsDone handled worker it.0 done it.1).records_are
 
   pub work : (handled : List (Handled (Working B))) (lists : List (List Ran)) (states : List (Working B)) (passes : List PassView) (journals : JournalsView)
-      → length handled ≡ workers → Each IsDone 0 handled → Each (IsPart lists states) 0 handled
+      (order : List Deed) → length handled ≡ workers → Each IsDone 0 handled → Each (IsPart lists states) 0 handled
       → ((worker : ℕ) → worker < workers → pass_at passes worker ≡ pass_at (map pass_in states) worker)
       → ((worker : ℕ) → worker < workers → AreSettled count journals (pass_at passes worker))
+      → ((worker : ℕ) → worker < workers → IsOwnIn order (pass_at passes worker))
       → (worker : ℕ) → worker < workers → IsWorkOf (IsRunAt (IsRunIn plan count program worker journals) records)
-      (share (frames_of records) workers worker (length records)) worker (runs_at lists worker) count journals
-  work handled lists states passes journals all done parts same settled worker below =
+      (share (frames_of records) workers worker (length records)) worker (runs_at lists worker) count journals order
+  work handled lists states passes journals order all done parts same settled owned worker below =
       let it = found handled worker (omega (arith, all, below)) in
       let part = here (IsPart lists states) handled worker it.0 parts it.1 in
       let one = here IsDone handled worker it.0 done it.1 in
@@ -251,4 +258,5 @@ module _ {B : Type 0} (count : ℕ) (plan : ℕ → ShardPlan) (program : Progra
             (share (frames_of records) workers worker (length records)) l after)
             (sym part.runs) did;
         own = λ number within. (ended number within).own ∙ ap (λ (c : Caller). own_entries c (reverse (entries_at journals number))) who;
+        did = subst (IsOwnIn order) (sym pass_is) (owned worker below) ∙ ap (λ (c : Caller). deeds_of (ByCaller c) order) who;
       }

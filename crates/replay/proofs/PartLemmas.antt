@@ -202,20 +202,21 @@ last_at : (xs : List PassView) (a b : PassView) → pass_at (xs ++ a ∷ b ∷ [
 last_at [] a b = refl
 last_at (x ∷ xs) a b = last_at xs a b
 
-pub record AllSettled (count : ℕ) (journals : JournalsView) (xs : List PassView) (a b : PassView) : Type 0 where
-  pub first : (j : ℕ) → j < length xs → AreSettled count journals (pass_at xs j)
-  pub next : AreSettled count journals a
-  pub last : AreSettled count journals b
+pub record AllOf (P : PassView → Type 0) (xs : List PassView) (a b : PassView) : Type 0 where
+  pub first : (j : ℕ) → j < length xs → P (pass_at xs j)
+  pub next : P a
+  pub last : P b
 
-pub all_settled : (count : ℕ) (journals : JournalsView) (passes xs : List PassView) (a b : PassView) → passes ≡ xs ++ a ∷ b ∷ [] →
-    ((place : ℕ) → place < length passes → AreSettled count journals (pass_at passes place)) → AllSettled count journals xs a b
-all_settled count journals passes xs a b are settled =
+-- what holds of each pass of a list holds of its parts
+pub all_of : (P : PassView → Type 0) (passes xs : List PassView) (a b : PassView) → passes ≡ xs ++ a ∷ b ∷ [] →
+    ((place : ℕ) → place < length passes → P (pass_at passes place)) → AllOf P xs a b
+all_of P passes xs a b are each =
     let long = length-append xs (a ∷ b ∷ []) in
     let same = ap (λ (l : List PassView). length l) are in
-    let at : (place : ℕ) → place < length passes → AreSettled count journals (pass_at (xs ++ a ∷ b ∷ []) place) =
-    λ place below. subst (λ (l : List PassView). AreSettled count journals (pass_at l place)) are (settled place below) in
+    let at : (place : ℕ) → place < length passes → P (pass_at (xs ++ a ∷ b ∷ []) place) =
+    λ place below. subst (λ (l : List PassView). P (pass_at l place)) are (each place below) in
     record {
-      first = λ j below. subst (λ (p : PassView). AreSettled count journals p) (first_at xs (a ∷ b ∷ []) j below) (at j (omega (arith, below, long, same)));
-      next = subst (λ (p : PassView). AreSettled count journals p) (next_at xs a b) (at (length xs) (omega (arith, long, same)));
-      last = subst (λ (p : PassView). AreSettled count journals p) (last_at xs a b) (at (suc (length xs)) (omega (arith, long, same)));
+      first = λ j below. subst P (first_at xs (a ∷ b ∷ []) j below) (at j (omega (arith, below, long, same)));
+      next = subst P (next_at xs a b) (at (length xs) (omega (arith, long, same)));
+      last = subst P (last_at xs a b) (at (suc (length xs)) (omega (arith, long, same)));
     }

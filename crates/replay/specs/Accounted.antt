@@ -8,6 +8,9 @@ use Rattle.semantics.specs.CallerLaws.{own_entries}
 use Rattle.semantics.specs.History.{IsLegalJournal}
 use Rattle.semantics.specs.Program.{Program}
 use Rattle.journals.specs.JournalsView.{JournalsView, entries_at}
+use Rattle.shards.specs.declared.deeds.Deed.{Deed}
+use Rattle.shards.specs.declared.deeds.Part.TheVariants.{ByCaller}
+use Rattle.shards.specs.Deeds.{deeds_of, made_on, AreMet, AreWithin}
 use Rattle.shards.specs.Passes.{PassView, own_at}
 use Rattle.shards.specs.SharedMaps.{ArePlans}
 use Rattle.replay.specs.declared.runner.Ran.{Ran}
@@ -19,13 +22,20 @@ use Rattle.replay.specs.declared.outcome.Outcome.{Outcome}
 use Rattle.replay.specs.Parts.{IsScriptAccounted, AreRoundsAccounted, rounds_of}
 use Rattle.replay.specs.RunsOverShards.{IsNewPass, IsRunIn}
 
--- a worker ran its records, in order, from a pass that had seen nothing; and in each journal its entries are those of its runs, one after the
--- other
-pub record IsWorkOf (IsRun : PassView → Ran → PassView → Type 0) (records : List ℕ) (worker : ℕ) (runs : List Ran) (count : ℕ) (journals : JournalsView) :
-    Type 0 where
+-- a worker ran its records, in order, from a pass that had seen nothing; in each journal its entries are those of its runs, one after the
+-- other; and so are its deeds in the one order of all
+pub record IsWorkOf (IsRun : PassView → Ran → PassView → Type 0) (records : List ℕ) (worker : ℕ) (runs : List Ran) (count : ℕ) (journals : JournalsView)
+    (order : List Deed) : Type 0 where
   pub after : PassView
   pub handled : HasHandled (IsNewPass worker) IsRun records runs after
   pub own : (number : ℕ) → number < count → own_at after number ≡ own_entries (Worker worker) (reverse (entries_at journals number))
+  pub did : after.deeds ≡ deeds_of (ByCaller (Worker worker)) order
+
+-- one order of all deeds on so many shards, newest first: shard by shard it is the journal, and each look at a full journal met one
+pub record IsOrderOf (plan : ℕ → ShardPlan) (count : ℕ) (journals : JournalsView) (order : List Deed) : Type 0 where
+  pub within : AreWithin count order
+  pub journals_are : (number : ℕ) → number < count → entries_at journals number ≡ reverse (made_on number order)
+  pub met : AreMet plan order
 
 pub record IsAccounted (program : Program) (script : List Command) (options : Options) (records : List Sent) (outcome : Outcome) : Type 0 where
   pub maps : outcome.journals.maps ≡ program.maps
@@ -36,12 +46,15 @@ pub record IsAccounted (program : Program) (script : List Command) (options : Op
   pub plan : ℕ → ShardPlan
   pub plans : ArePlans program.maps options count plan
   pub legal : (number : ℕ) → number < count → IsLegalJournal (plan number) (entries_at outcome.journals number)
+  -- what all callers did on all shards, in one order
+  pub order : List Deed
+  pub ordered : IsOrderOf plan count outcome.journals order
   -- the runs of each worker
   pub runs : List (List Ran)
   pub workers : length runs ≡ options.workers
   pub work :
       (worker : ℕ) → worker < options.workers → IsWorkOf (IsRunAt (IsRunIn plan count program worker outcome.journals) records)
-      (share (frames_of records) options.workers worker (length records)) worker (runs_at runs worker) count outcome.journals
+      (share (frames_of records) options.workers worker (length records)) worker (runs_at runs worker) count outcome.journals order
   -- what is counted of them, each record once
   pub counts : outcome.counts ≡ counts_of (frames_of records) options.workers runs (length records)
   pub each_once : frames_in outcome.counts ≡ length records

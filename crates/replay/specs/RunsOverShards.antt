@@ -1,5 +1,5 @@
 -- The runs of a worker over shared shards.
-use Rattle.std.specs.Prelude.{◌≡◌, ◌⊎◌, ◌<◌, ℕ, ◌+◌, ◌*◌, List, reverse}
+use Rattle.std.specs.Prelude.{◌≡◌, ◌⊎◌, ◌<◌, ℕ, ◌+◌, ◌*◌, List, [], reverse}
 use Rattle.wire.specs.FrameView.{FrameView}
 use Rattle.wire.specs.declared.records.Sent.{Sent}
 use Rattle.semantics.specs.declared.call.Caller.TheVariants.{Worker}
@@ -29,6 +29,7 @@ use Rattle.replay.specs.declared.shard_runner.Working.{Working}
 pub record IsNewPass (worker : ℕ) (pass : PassView) : Type 0 where
   pub who : pass.who ≡ Worker worker
   pub nothing : (number : ℕ) → view_at pass number ≡ nothing_seen
+  pub idle : pass.deeds ≡ []
 
 -- between two runs the worker is outside of every shard
 pub record IsIdle (count worker : ℕ) (options : Options) (pass : PassView) : Type 0 where

@@ -4,6 +4,7 @@ pub mod SessionLemmas
 pub mod PlainLaws
 pub mod PassMetLemmas
 pub mod PassGivenLemmas
+pub mod PassDeedLemmas
 pub mod PassSessionLemmas
 pub mod shared
 pub mod PassMethods

@@ -24,18 +24,16 @@ use Rattle.semantics.proofs.shared.ImageSizes.{image_sizes}
 use Rattle.journals.specs.JournalsView.{AreImageMaps}
 use Rattle.map_port.specs.Served.{program_over, reply_of_handle}
 use Rattle.shards.specs.CallerView.{CallerView}
-use Rattle.shards.specs.Passes.{PassView, view_at, IsElsewhereSame}
 use Rattle.shards.specs.SharedMaps.{ArePlans}
 use Rattle.shard_port.specs.Asking.{asked_entry}
-use Rattle.shard_port.specs.PortView.{IsRunCall, cell_of_handle, handle_of, has_small_cell}
-use Rattle.shard_port.specs.PassPorts.{worker_of, entering, is_worker_below, IsAskedAt, IsGivenBy, IsRefusedBy, IsTurnedAwayAt}
+use Rattle.shard_port.specs.PortView.{cell_of_handle, handle_of, has_small_cell}
+use Rattle.shard_port.specs.PassPorts.{entering, IsAskedAt}
 use Rattle.semantics.proofs.shared.CellBytes.{number_below}
 use Rattle.semantics.proofs.shared.CallNumbers.{not_over}
 use Rattle.semantics.specs.Cells.{word_in}
 use Rattle.shard_port.proofs.shared.ReadyLemmas.{plan_number}
 use Rattle.shard_port.proofs.shared.MayAskLemmas.{served_by}
 use Rattle.shard_port.proofs.GivenLemmas.{sizes_at, small_of_kind, plan_reserve, found_again, found_formed}
-use Rattle.shard_port.proofs.shared.PassAskLemmas.{is_worker}
 
 -- ---- the history in which the call was answered
 
@@ -150,43 +148,3 @@ changed_below plan number worker before after cell offset size op value expected
     subst (λ (one : Reply). word_in one < 256 ^ size)
     (sym (answered plan number worker before after (Atomic cell offset size op value expected) (Word old) asked))
     (number_below plan history cell.id offset size legal.1)
-
--- ---- together
-
-pub given_by : (maps maps' : List MapDef) (options options' : Options) (count : ℕ) (plan : ℕ → ShardPlan) (before after : PassView)
-    (call : Call) (reply told : Reply) → maps' ≡ maps → options' ≡ options → AreOptions maps options →
-    IsTrue (is_worker_below options.workers before.who) → shard_of_call call < count → IsElsewhereSame (shard_of_call call) before after →
-    IsRunCall call →
-    IsReplyTo (program_over (served_by maps options)) call told → reply ≡ told →
-    IsAskedAt (plan (shard_of_call call)) (shard_of_call call) (worker_of before.who) (view_at before (shard_of_call call))
-    (view_at after (shard_of_call call)) call reply →
-    IsGivenBy plan count (record { served = served_by maps options; pass = before }) call told
-    (record { served = served_by maps' options'; pass = after })
-given_by maps maps' options options' count plan before after call reply told same_maps same_options are below within elsewhere run formed is asked =
-    record {
-      same_maps = ap (λ ms. served_by ms options') same_maps ∙ ap (λ os. served_by maps os) same_options;
-      some_shard = some_shards maps options are;
-      within = within;
-      elsewhere = elsewhere;
-      is_worker = is_worker options.workers before.who below;
-      run_call = run;
-      formed = formed;
-      asked =
-          subst (λ (one : Reply). IsAskedAt (plan (shard_of_call call)) (shard_of_call call) (worker_of before.who)
-          (view_at before (shard_of_call call)) (view_at after (shard_of_call call)) call one) is asked;
-    }
-
-pub refused_by : (maps maps' : List MapDef) (options options' : Options) (count : ℕ) (plan : ℕ → ShardPlan) (before after : PassView)
-    (call : Call) → maps' ≡ maps → options' ≡ options → IsTrue (is_worker_below options.workers before.who) → shard_of_call call < count →
-    IsElsewhereSame (shard_of_call call) before after →
-    IsTurnedAwayAt (plan (shard_of_call call)) (shard_of_call call) (worker_of before.who) (view_at before (shard_of_call call))
-    (view_at after (shard_of_call call)) call →
-    IsRefusedBy plan count (record { served = served_by maps options; pass = before }) call
-    (record { served = served_by maps' options'; pass = after })
-refused_by maps maps' options options' count plan before after call same_maps same_options below within elsewhere away = record {
-  same_maps = ap (λ ms. served_by ms options') same_maps ∙ ap (λ os. served_by maps os) same_options;
-  within = within;
-  elsewhere = elsewhere;
-  is_worker = is_worker options.workers before.who below;
-  turned_away = away;
-}

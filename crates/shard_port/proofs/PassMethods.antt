@@ -24,7 +24,7 @@ use Rattle.semantics.proofs.shared.PlanLemmas.{some_shards}
 use Rattle.shards.specs.Passes.{PassView, view_at, own_at, IsElsewhereSame}
 use Rattle.shards.specs.SharedMaps.{SharedMaps, ArePlans}
 use Rattle.shard_port.specs.PortView.{IsRunCall, cell_of_handle, handle_of, has_small_cell}
-use Rattle.shard_port.specs.PassPorts.{is_worker_below, worker_of, inside_own, served_of, port_of, has_found, IsAskedAt, IsTurnedAwayAt, IsGivenBy, IsRefusedBy}
+use Rattle.shard_port.specs.PassPorts.{is_worker_below, worker_of, inside_own, served_of, port_of, has_found, IsAskedBy, IsTurnedAwayBy, IsGivenBy, IsRefusedBy}
 use Rattle.shard_port.proofs.shared.PassAskLemmas.{is_worker}
 use Rattle.shard_port.proofs.PassMetLemmas.{IsAtKey, at_key, lookup_met, update_met, delete_met, IsAtPlace, at_place, load_met, store_met, change_met}
 use Rattle.shard_port.proofs.PassGivenLemmas.{small_lookup, found_told, lookup_formed, word_below, changed_below}
@@ -41,8 +41,7 @@ pub record Stands (count : ℕ) (plan : ℕ → ShardPlan) (shards : SharedMaps)
 given_one : (count : ℕ) (plan : ℕ → ShardPlan) (shards shards' : SharedMaps) (before after : PassView) (call : Call) (reply : Reply) →
     Stands count plan shards before → shards' ≡ shards → shard_of_call call < count → IsElsewhereSame (shard_of_call call) before after →
     IsRunCall call → IsReplyTo (program_over (served_of shards)) call reply →
-    IsAskedAt (plan (shard_of_call call)) (shard_of_call call) (worker_of before.who) (view_at before (shard_of_call call))
-    (view_at after (shard_of_call call)) call reply → IsGivenBy plan count (port_of shards before) call reply (port_of shards' after)
+    IsAskedBy (plan (shard_of_call call)) (shard_of_call call) before after call reply → IsGivenBy plan count (port_of shards before) call reply (port_of shards' after)
 given_one count plan shards shards' before after call reply stands same within elsewhere run formed asked = record {
   same_maps = ap served_of same;
   some_shard = some_shards shards.maps shards.options stands.options;
@@ -56,8 +55,7 @@ given_one count plan shards shards' before after call reply stands same within e
 
 refused_one : (count : ℕ) (plan : ℕ → ShardPlan) (shards shards' : SharedMaps) (before after : PassView) (call : Call) →
     Stands count plan shards before → shards' ≡ shards → shard_of_call call < count → IsElsewhereSame (shard_of_call call) before after →
-    IsTurnedAwayAt (plan (shard_of_call call)) (shard_of_call call) (worker_of before.who) (view_at before (shard_of_call call))
-    (view_at after (shard_of_call call)) call → IsRefusedBy plan count (port_of shards before) call (port_of shards' after)
+    IsTurnedAwayBy (plan (shard_of_call call)) (shard_of_call call) before after call → IsRefusedBy plan count (port_of shards before) call (port_of shards' after)
 refused_one count plan shards shards' before after call stands same within elsewhere away = record {
   same_maps = ap served_of same;
   within = within;
@@ -124,18 +122,18 @@ update_same number number' bytes key value_bytes value flags is same same_value 
 pub small_found : (count : ℕ) (plan : ℕ → ShardPlan) (shards : SharedMaps) (before after : PassView) (map : ℕ) (key : List ℕ) (number : ℕ)
     (bytes : List ℕ) (found : Option ℕ) → Stands count plan shards before → IsKeyOf shards.maps map key →
     number ≡ shard_of (served_of shards) map key →
-    IsAskedAt (plan number) number (worker_of before.who) (view_at before number) (view_at after number) (Lookup number bytes)
+    IsAskedBy (plan number) number before after (Lookup number bytes)
     (found_reply number found) → IsTrue (has_small_cell (found_reply number found))
 small_found count plan shards before after map key number bytes found stands of_map is asked =
     small_lookup shards.maps shards.options count plan number (worker_of before.who) (view_at before number) (view_at after number) bytes
     (found_reply number found) stands.plans stands.options stands.maps
-    (key_within count plan shards before map key number stands of_map is) asked
+    (key_within count plan shards before map key number stands of_map is) asked.at
 
 pub lookup_given : (count : ℕ) (plan : ℕ → ShardPlan) (shards shards' : SharedMaps) (before after : PassView) (map : ℕ) (key : List ℕ)
     (number : ℕ) (bytes : List ℕ) (found : Option ℕ) (handle : ℕ) → Stands count plan shards before → shards' ≡ shards →
     IsElsewhereSame number before after → IsKeyOf shards.maps map key → number ≡ shard_of (served_of shards) map key → bytes ≡ key →
     handle ≡ handle_of (found_reply number found) →
-    IsAskedAt (plan number) number (worker_of before.who) (view_at before number) (view_at after number) (Lookup number bytes)
+    IsAskedBy (plan number) number before after (Lookup number bytes)
     (found_reply number found) →
     IsGivenBy plan count (port_of shards before) (lookup_call (served_of shards) map key) (reply_of_handle cell_of_handle handle)
     (port_of shards' after)
@@ -145,11 +143,11 @@ lookup_given count plan shards shards' before after map key number bytes found h
     let small : IsTrue (has_small_cell reply) = small_found count plan shards before after map key number bytes found stands of_map is asked in
     let formed : IsReplyTo (program_over (served_of shards)) (Lookup number bytes) reply =
     lookup_formed shards.maps shards.options count plan number (worker_of before.who) (view_at before number) (view_at after number) bytes
-    reply stands.plans stands.options stands.maps within asked in
+    reply stands.plans stands.options stands.maps within asked.at in
     let given : IsGivenBy plan count (port_of shards before) (Lookup number bytes) reply (port_of shards' after) =
     given_one count plan shards shards' before after (Lookup number bytes) reply stands same_shards within elsewhere tt formed asked in
     let by_handle : reply ≡ reply_of_handle cell_of_handle handle =
-    found_told (plan number) number (worker_of before.who) (view_at before number) (view_at after number) bytes reply small asked
+    found_told (plan number) number (worker_of before.who) (view_at before number) (view_at after number) bytes reply small asked.at
     ∙ ap (reply_of_handle cell_of_handle) (sym told) in
     subst (λ (call : Call). IsGivenBy plan count (port_of shards before) call (reply_of_handle cell_of_handle handle) (port_of shards' after))
     (lookup_same number (shard_of (served_of shards) map key) bytes key is same)
@@ -158,7 +156,7 @@ lookup_given count plan shards shards' before after map key number bytes found h
 pub lookup_refused : (count : ℕ) (plan : ℕ → ShardPlan) (shards shards' : SharedMaps) (before after : PassView) (map : ℕ) (key : List ℕ)
     (number : ℕ) (bytes : List ℕ) → Stands count plan shards before → shards' ≡ shards → IsElsewhereSame number before after →
     IsKeyOf shards.maps map key → number ≡ shard_of (served_of shards) map key → bytes ≡ key →
-    IsTurnedAwayAt (plan number) number (worker_of before.who) (view_at before number) (view_at after number) (Lookup number bytes) →
+    IsTurnedAwayBy (plan number) number before after (Lookup number bytes) →
     IsRefusedBy plan count (port_of shards before) (lookup_call (served_of shards) map key) (port_of shards' after)
 lookup_refused count plan shards shards' before after map key number bytes stands same_shards elsewhere of_map is same away =
     subst (λ (call : Call). IsRefusedBy plan count (port_of shards before) call (port_of shards' after))
@@ -169,7 +167,7 @@ lookup_refused count plan shards shards' before after map key number bytes stand
 pub delete_given : (count : ℕ) (plan : ℕ → ShardPlan) (shards shards' : SharedMaps) (before after : PassView) (map : ℕ) (key : List ℕ)
     (number : ℕ) (bytes : List ℕ) (code told : ℤ) → Stands count plan shards before → shards' ≡ shards → IsElsewhereSame number before after →
     IsKeyOf shards.maps map key → number ≡ shard_of (served_of shards) map key → bytes ≡ key → FitsSigned w32 code →
-    told ≡ code → IsAskedAt (plan number) number (worker_of before.who) (view_at before number) (view_at after number) (Delete number bytes) (Answer code) →
+    told ≡ code → IsAskedBy (plan number) number before after (Delete number bytes) (Answer code) →
     IsGivenBy plan count (port_of shards before) (delete_call (served_of shards) map key) (Answer told) (port_of shards' after)
 delete_given count plan shards shards' before after map key number bytes code told stands same_shards elsewhere of_map is same fits is_told asked =
     subst (λ (call : Call). IsGivenBy plan count (port_of shards before) call (Answer told) (port_of shards' after))
@@ -181,7 +179,7 @@ delete_given count plan shards shards' before after map key number bytes code to
 pub delete_refused : (count : ℕ) (plan : ℕ → ShardPlan) (shards shards' : SharedMaps) (before after : PassView) (map : ℕ) (key : List ℕ)
     (number : ℕ) (bytes : List ℕ) → Stands count plan shards before → shards' ≡ shards → IsElsewhereSame number before after →
     IsKeyOf shards.maps map key → number ≡ shard_of (served_of shards) map key → bytes ≡ key →
-    IsTurnedAwayAt (plan number) number (worker_of before.who) (view_at before number) (view_at after number) (Delete number bytes) →
+    IsTurnedAwayBy (plan number) number before after (Delete number bytes) →
     IsRefusedBy plan count (port_of shards before) (delete_call (served_of shards) map key) (port_of shards' after)
 delete_refused count plan shards shards' before after map key number bytes stands same_shards elsewhere of_map is same away =
     subst (λ (call : Call). IsRefusedBy plan count (port_of shards before) call (port_of shards' after))
@@ -193,7 +191,7 @@ pub update_given : (count : ℕ) (plan : ℕ → ShardPlan) (shards shards' : Sh
     (key value : List ℕ) (flags number : ℕ) (bytes value_bytes : List ℕ) (code told : ℤ) → Stands count plan shards before → shards' ≡ shards →
     IsElsewhereSame number before after → IsPairOf shards.maps map key value → number ≡ shard_of (served_of shards) map key →
     bytes ≡ key → value_bytes ≡ value → FitsSigned w32 code →
-    told ≡ code → IsAskedAt (plan number) number (worker_of before.who) (view_at before number) (view_at after number)
+    told ≡ code → IsAskedBy (plan number) number before after
     (Update number bytes value_bytes flags) (Answer code) →
     IsGivenBy plan count (port_of shards before) (update_call (served_of shards) map key value flags) (Answer told) (port_of shards' after)
 update_given count plan shards shards' before after map key value flags number bytes value_bytes code told stands same_shards elsewhere pair is same
@@ -208,7 +206,7 @@ pub update_refused : (count : ℕ) (plan : ℕ → ShardPlan) (shards shards' : 
     (key value : List ℕ) (flags number : ℕ) (bytes value_bytes : List ℕ) → Stands count plan shards before → shards' ≡ shards →
     IsElsewhereSame number before after → IsPairOf shards.maps map key value → number ≡ shard_of (served_of shards) map key →
     bytes ≡ key → value_bytes ≡ value →
-    IsTurnedAwayAt (plan number) number (worker_of before.who) (view_at before number) (view_at after number)
+    IsTurnedAwayBy (plan number) number before after
     (Update number bytes value_bytes flags) →
     IsRefusedBy plan count (port_of shards before) (update_call (served_of shards) map key value flags) (port_of shards' after)
 update_refused count plan shards shards' before after map key value flags number bytes value_bytes stands same_shards elsewhere pair is same
@@ -263,7 +261,7 @@ pub load_given : (count : ℕ) (plan : ℕ → ShardPlan) (shards shards' : Shar
     (offset size value : ℕ) → Stands count plan shards before → shards' ≡ shards → cell ≡ cell_of_handle handle →
     IsElsewhereSame cell.shard before after →
     IsReadable (served_of shards) (has_found (port_of shards before)) (cell_of_handle handle) offset size →
-    IsAskedAt (plan cell.shard) cell.shard (worker_of before.who) (view_at before cell.shard) (view_at after cell.shard)
+    IsAskedBy (plan cell.shard) cell.shard before after
     (Load cell offset size) (Word value) →
     IsGivenBy plan count (port_of shards before) (Load (cell_of_handle handle) offset size) (Word value) (port_of shards' after)
 load_given count plan shards shards' before after handle cell offset size value stands same_shards is elsewhere readable asked =
@@ -271,13 +269,13 @@ load_given count plan shards shards' before after handle cell offset size value 
     (given_one count plan shards shards' before after (Load cell offset size) (Word value) stands same_shards
     (cell_within count plan shards before handle cell offset size stands is readable) elsewhere tt
     (word_below (plan cell.shard) cell.shard (worker_of before.who) (view_at before cell.shard) (view_at after cell.shard) cell offset size
-    value asked) asked)
+    value asked.at) asked)
 
 pub store_given : (count : ℕ) (plan : ℕ → ShardPlan) (shards shards' : SharedMaps) (before after : PassView) (handle : ℕ) (cell : CellRef)
     (offset size value : ℕ) → Stands count plan shards before → shards' ≡ shards → cell ≡ cell_of_handle handle →
     IsElsewhereSame cell.shard before after →
     IsReadable (served_of shards) (has_found (port_of shards before)) (cell_of_handle handle) offset size →
-    IsAskedAt (plan cell.shard) cell.shard (worker_of before.who) (view_at before cell.shard) (view_at after cell.shard)
+    IsAskedBy (plan cell.shard) cell.shard before after
     (Store cell offset size value) Done →
     IsGivenBy plan count (port_of shards before) (Store (cell_of_handle handle) offset size value) Done (port_of shards' after)
 store_given count plan shards shards' before after handle cell offset size value stands same_shards is elsewhere readable asked =
@@ -289,7 +287,7 @@ pub change_given : (count : ℕ) (plan : ℕ → ShardPlan) (shards shards' : Sh
     (offset size op value expected old : ℕ) → Stands count plan shards before → shards' ≡ shards → cell ≡ cell_of_handle handle →
     IsElsewhereSame cell.shard before after →
     IsReadable (served_of shards) (has_found (port_of shards before)) (cell_of_handle handle) offset size →
-    IsAskedAt (plan cell.shard) cell.shard (worker_of before.who) (view_at before cell.shard) (view_at after cell.shard)
+    IsAskedBy (plan cell.shard) cell.shard before after
     (Atomic cell offset size op value expected) (Word old) →
     IsGivenBy plan count (port_of shards before) (Atomic (cell_of_handle handle) offset size op value expected) (Word old)
     (port_of shards' after)
@@ -300,7 +298,7 @@ change_given count plan shards shards' before after handle cell offset size op v
     (given_one count plan shards shards' before after (Atomic cell offset size op value expected) (Word old) stands same_shards
     (cell_within count plan shards before handle cell offset size stands is readable) elsewhere tt
     (changed_below (plan cell.shard) cell.shard (worker_of before.who) (view_at before cell.shard) (view_at after cell.shard) cell offset
-    size op value expected old asked) asked)
+    size op value expected old asked.at) asked)
 
 -- a refusal of a call of a cell
 pub cell_refused : (count : ℕ) (plan : ℕ → ShardPlan) (shards shards' : SharedMaps) (before after : PassView) (handle : ℕ) (cell : CellRef)
@@ -308,7 +306,7 @@ pub cell_refused : (count : ℕ) (plan : ℕ → ShardPlan) (shards shards' : Sh
     Stands count plan shards before → shards' ≡ shards →
     cell ≡ cell_of_handle handle → IsElsewhereSame cell.shard before after →
     IsReadable (served_of shards) (has_found (port_of shards before)) (cell_of_handle handle) offset size →
-    IsTurnedAwayAt (plan cell.shard) cell.shard (worker_of before.who) (view_at before cell.shard) (view_at after cell.shard) (call cell) →
+    IsTurnedAwayBy (plan cell.shard) cell.shard before after (call cell) →
     IsRefusedBy plan count (port_of shards before) (call (cell_of_handle handle)) (port_of shards' after)
 cell_refused count plan shards shards' before after handle cell offset size call own stands same_shards is elsewhere readable away =
     let at : cell.shard ≡ shard_of_call (call cell) = sym (own cell) in
@@ -316,4 +314,4 @@ cell_refused count plan shards shards' before after handle cell offset size call
     (refused_one count plan shards shards' before after (call cell) stands same_shards
     (subst (λ (n : ℕ). n < count) at (cell_within count plan shards before handle cell offset size stands is readable))
     (subst (λ (n : ℕ). IsElsewhereSame n before after) at elsewhere)
-    (subst (λ (n : ℕ). IsTurnedAwayAt (plan n) n (worker_of before.who) (view_at before n) (view_at after n) (call cell)) at away))
+    (subst (λ (n : ℕ). IsTurnedAwayBy (plan n) n before after (call cell)) at away))

@@ -20,9 +20,10 @@ use Rattle.shard_port.specs.Asking.{enter_by, leave_by, asked_entry}
 use Rattle.shard_port.specs.PortView.{IsRunCall}
 use Rattle.shard_port.specs.PortLaws.{same_worker, inside_after_call}
 use Rattle.shard_port.specs.Sessions.{entry_of, is_at, entries_at, begun, session}
-use Rattle.shard_port.specs.PassPorts.{PassPort, worker_of, entering, inside_own, IsAskedAt, CannotEnterAt, CannotCallAt, IsTurnedAwayAt, IsLeft, IsGivenBy, IsRefusedBy, IsFinishedBy}
+use Rattle.shard_port.specs.PassPorts.{PassPort, worker_of, entering, inside_own, IsAskedAt, CannotEnterAt, CannotCallAt, CannotEnterBy, CannotCallBy, IsTurnedAwayBy, IsLeft, IsGivenBy, IsRefusedBy, IsFinishedBy}
 use Rattle.shard_port.specs.PassPortLaws.{inside_once, stays_inside}
-use Rattle.shard_port.specs.PassSessions.{session_at, IsOutsideAt, AreWithin, HasSessions, IsVisitedAt, HasRefusedSessions}
+use Rattle.shard_port.specs.PassSessions.{session_at, IsOutsideAt, AreWithin, HasSessions, IsVisitedAt, IsKeptOut, StoppedAtCall, StoppedAtEnter, HasRefusedSessions}
+use Rattle.shard_port.proofs.PassDeedLemmas.{done_deeds, call_deeds, enter_deeds}
 use Rattle.shard_port.proofs.SessionLemmas.{is_some_entry}
 
 -- ---- one shard: a view that has grown by entries, the oldest first
@@ -109,7 +110,7 @@ asked_here plan count worker number before after call reply who given here =
     let mine : worker_of before.pass.who ≡ worker = ap worker_of who in
     subst (λ (n : ℕ). IsAskedAt (plan n) n worker (view_at before.pass n) (view_at after.pass n) call reply) same
     (subst (λ (w : ℕ). IsAskedAt (plan (shard_of_call call)) (shard_of_call call) w (view_at before.pass (shard_of_call call))
-    (view_at after.pass (shard_of_call call)) call reply) mine given.asked)
+    (view_at after.pass (shard_of_call call)) call reply) mine given.asked.at)
 
 differ : (one number : ℕ) → (one == number) ≡ false → number ≡ one → ⊥
 differ one number other same = grind (arith, nat_tests)
@@ -259,6 +260,7 @@ writes_own_sessions plan count worker before after finished exchanges who outsid
   written = λ number within. (whole number within).grown.own;
   seen_on = λ number within. (whole number within).grown.begins;
   outside = λ number within. (whole number within).outside;
+  did = done_deeds plan count worker before after finished exchanges who outside chain left;
 }
   where
     whole : (number : ℕ) → number < count →
@@ -282,9 +284,6 @@ pub record IsRefusedHere (plan : ShardPlan) (worker number : ℕ) (entries : Lis
         ⊎ ((entries ≡ []) × IsGrown (enter_by worker number ∷ leave_by worker number ∷ []) before after)
     pub begins : BeginsWith after.seen before.seen
     pub outside : is_inside worker after.own ≡ false
-    pub full_at : List Entry
-    pub full_seen : BeginsWith after.seen full_at
-    pub full : IsJournalFull plan full_at call ⊎ ((entries ≡ []) × (after.own ≡ before.own) × IsJournalFull plan full_at (Enter number))
 
 left_begins : (plan : ShardPlan) (worker number : ℕ) (inside : Bool) (before after : CallerView) →
     IsLeft inside plan number worker before after → BeginsWith after.seen before.seen
@@ -302,19 +301,22 @@ refused_enter plan worker number entries call before middle after finished writt
       inside = ap (is_inside worker) same ∙ written.inside;
     } in
     let whole : IsWholeAt worker number entries before finished = left_at plan worker number entries before after finished still left in
+    record { written = inl whole.grown; begins = whole.grown.begins; outside = whole.outside }
+
+-- a worker that was kept out had not called the shard, and wrote nothing there
+kept_out : (plan : ShardPlan) (worker number : ℕ) (entries : List Entry) (before middle after finished : CallerView) →
+    IsWrittenAt worker number entries before middle → CannotEnterAt plan number worker middle after →
+    IsLeft (is_inside worker after.own) plan number worker after finished →
+    (entries ≡ []) × (finished.own ≡ before.own)
+kept_out plan worker number entries before middle after finished written cannot left =
+    let same : after.own ≡ middle.own = cannot.refused.own in
+    let still : IsWrittenAt worker number entries before after = record {
+      grown = grown_on (begun worker number entries) before middle after written.grown same cannot.refused.begins;
+      inside = ap (is_inside worker) same ∙ written.inside;
+    } in
+    let whole : IsWholeAt worker number entries before finished = left_at plan worker number entries before after finished still left in
     let none : entries ≡ [] = none_of entries (sym written.inside ∙ cannot.outside) in
-    record {
-      written = inl whole.grown;
-      begins = whole.grown.begins;
-      outside = whole.outside;
-      full_at = after.seen;
-      full_seen = left_begins plan worker number (is_inside worker after.own) after finished left;
-      full = inr (
-        none,
-        whole.grown.own ∙ ap (λ (list : List Entry). reverse (session worker number list) ++ before.own) none,
-        cannot.refused.full,
-      );
-    }
+    (none, whole.grown.own ∙ ap (λ (list : List Entry). reverse (session worker number list) ++ before.own) none)
 
 call_begins : (plan : ShardPlan) (worker number : ℕ) (call : Call) (middle after : CallerView) →
     CannotCallAt plan number worker middle after call → BeginsWith after.seen middle.seen
@@ -347,9 +349,6 @@ refused_call plan worker number [] call before middle after finished written can
       written = inr (refl, all);
       begins = all.begins;
       outside = left_is_outside plan worker number after finished served;
-      full_at = after.seen;
-      full_seen = (served_grown plan after finished (leave_by worker number) served).begins;
-      full = inl cannot.full;
     }
 refused_call plan worker number (first ∷ later) call before middle after finished written cannot left =
     let same : after.own ≡ middle.own = cannot.own ∙ stays_inside worker number middle.own written.inside in
@@ -365,10 +364,16 @@ refused_call plan worker number (first ∷ later) call before middle after finis
       written = inl whole.grown;
       begins = whole.grown.begins;
       outside = whole.outside;
-      full_at = after.seen;
-      full_seen = left_begins plan worker number (is_inside worker after.own) after finished left;
-      full = inl cannot.full;
     }
+
+abbrev IsTurnedAwayAt : ShardPlan → ℕ → ℕ → CallerView → CallerView → Call → Type 0
+IsTurnedAwayAt plan number worker before after call =
+    CannotEnterAt plan number worker before after ⊎ CannotCallAt plan number worker before after call
+
+away_at : (plan : ShardPlan) (number : ℕ) (before after : PassView) (call : Call) → IsTurnedAwayBy plan number before after call →
+    IsTurnedAwayAt plan number (worker_of before.who) (view_at before number) (view_at after number) call
+away_at plan number before after call away = ⊎_elim (λ (cannot : CannotEnterBy plan number before after). inl cannot.at)
+    (λ (cannot : CannotCallBy plan number before after call). inr cannot.at) away
 
 refused_here : (plan : ShardPlan) (worker number : ℕ) (entries : List Entry) (call : Call) (before middle after finished : CallerView) →
     IsWrittenAt worker number entries before middle → IsTurnedAwayAt plan number worker middle after call →
@@ -386,7 +391,8 @@ away_here : (plan : ℕ → ShardPlan) (count worker number : ℕ) (before after
 away_here plan count worker number before after call who refused same =
     subst (λ (n : ℕ). IsTurnedAwayAt (plan n) n worker (view_at before.pass n) (view_at after.pass n) call) same
     (subst (λ (w : ℕ). IsTurnedAwayAt (plan (shard_of_call call)) (shard_of_call call) w (view_at before.pass (shard_of_call call))
-    (view_at after.pass (shard_of_call call)) call) (ap worker_of who) refused.turned_away)
+    (view_at after.pass (shard_of_call call)) call) (ap worker_of who)
+    (away_at (plan (shard_of_call call)) (shard_of_call call) before.pass after.pass call refused.turned_away))
 
 -- what each shard has more after a run that ended by a refusal
 pub record IsEndedAt (worker : ℕ) (exchanges : List Exchange) (call : Call) (number : ℕ) (before after : CallerView) : Type 0 where
@@ -420,13 +426,19 @@ writes_refused_own_sessions plan count worker before middle after finished excha
   written = λ number within. (ended number within).written;
   seen_on = λ number within. (ended number within).begins;
   outside = λ number within. (ended number within).outside;
-  full_at = there.full_at;
-  full_seen = there.full_seen;
-  full = ⊎_elim (λ (full : IsJournalFull (plan (shard_of_call call)) there.full_at call). inl full)
-      (λ (kept : (entries_at worker (shard_of_call call) exchanges ≡ [])
-      × (own_at finished (shard_of_call call) ≡ own_at before.pass (shard_of_call call))
-      × IsJournalFull (plan (shard_of_call call)) there.full_at (Enter (shard_of_call call))).
-      inr (record { first_call = kept.0; nothing = kept.1; full = kept.2 })) there.full;
+  full_at = seen_at after.pass (shard_of_call call);
+  full_seen = left_begins (plan (shard_of_call call)) worker (shard_of_call call)
+      (is_inside worker (own_at after.pass (shard_of_call call))) (view_at after.pass (shard_of_call call))
+      (view_at finished (shard_of_call call)) (left_there (shard_of_call call) refused.within);
+  full = ⊎_elim
+      (λ (cannot : CannotEnterBy (plan (shard_of_call call)) (shard_of_call call) middle.pass after.pass). inr (record {
+        kept_out = kept_at cannot;
+        did = enter_deeds plan count worker before middle after finished exchanges call who outside chain refused cannot left;
+      }))
+      (λ (cannot : CannotCallBy (plan (shard_of_call call)) (shard_of_call call) middle.pass after.pass call). inl (record {
+        full = cannot.at.full;
+        did = call_deeds plan count worker before middle after finished exchanges call who outside chain refused cannot left;
+      })) refused.turned_away;
 }
   where
     middle_who : middle.pass.who ≡ Worker worker
@@ -450,9 +462,18 @@ writes_refused_own_sessions plan count worker before middle after finished excha
         (view_at after.pass number) _ (written_at number within) (away_here plan count worker number middle after call middle_who refused same)
         (left_there number within)
 
-    there : IsRefusedHere (plan (shard_of_call call)) worker (shard_of_call call) (entries_at worker (shard_of_call call) exchanges) call
-        (view_at before.pass (shard_of_call call)) (view_at finished (shard_of_call call))
-    there = at (shard_of_call call) refused.within refl
+    kept_at : CannotEnterBy (plan (shard_of_call call)) (shard_of_call call) middle.pass after.pass →
+        IsKeptOut (plan (shard_of_call call)) (seen_at after.pass (shard_of_call call)) worker exchanges (shard_of_call call)
+        (own_at before.pass (shard_of_call call)) (own_at finished (shard_of_call call))
+    kept_at cannot =
+        let mine : CannotEnterAt (plan (shard_of_call call)) (shard_of_call call) worker (view_at middle.pass (shard_of_call call))
+            (view_at after.pass (shard_of_call call)) =
+        subst (λ (w : ℕ). CannotEnterAt (plan (shard_of_call call)) (shard_of_call call) w (view_at middle.pass (shard_of_call call))
+        (view_at after.pass (shard_of_call call))) (ap worker_of middle_who) cannot.at in
+        let kept = kept_out (plan (shard_of_call call)) worker (shard_of_call call) (entries_at worker (shard_of_call call) exchanges) _
+        (view_at middle.pass (shard_of_call call)) (view_at after.pass (shard_of_call call)) _ (written_at (shard_of_call call) refused.within) mine
+        (left_there (shard_of_call call) refused.within) in
+        record { first_call = kept.0; nothing = kept.1; full = cannot.at.refused.full }
 
     by_place : (number : ℕ) → number < count → (here : Bool) → (shard_of_call call == number) ≡ here →
         IsEndedAt worker exchanges call number (view_at before.pass number) (view_at finished number)

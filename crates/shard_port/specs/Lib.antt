@@ -6,4 +6,5 @@ pub mod PlainPorts
 pub mod Sessions
 pub mod PassPorts
 pub mod PassPortLaws
+pub mod PassDeeds
 pub mod PassSessions

@@ -69,7 +69,7 @@ kept_place plan count before after call reply given shard cell true is held =
     (asked_entry worker call reply ∷ inside_own worker (shard_of_call call) (own_at before.pass (shard_of_call call))) cell) =
     kept_at worker (shard_of_call call) cell call reply (own_at before.pass (shard_of_call call)) given.run_call held_there in
     subst (λ (n : ℕ). IsTrue (holds_own (Worker worker) (own_at after.pass n) cell)) (sym same)
-    (subst (λ (own : List Entry). IsTrue (holds_own (Worker worker) own cell)) (sym given.asked.own) now)
+    (subst (λ (own : List Entry). IsTrue (holds_own (Worker worker) own cell)) (sym given.asked.at.own) now)
 kept_place plan count before after call reply given shard cell false is held =
     let other : (shard ≡ shard_of_call call → ⊥) = (λ same. grind (arith, nat_tests)) in
     subst (λ (own : List Entry). IsTrue (holds_own (Worker (worker_of before.pass.who)) own cell))
@@ -120,7 +120,7 @@ found_by plan count before after shard key cell given map definition known own =
     let of_map_test : (cell.shard / parts == map) ≡ true = grind (arith, nat_tests) in
     let worker : ℕ = worker_of before.pass.who in
     let mine : IsTrue (holds_own (Worker worker) (own_at after.pass shard) cell.id) =
-    subst (λ (list : List Entry). IsTrue (holds_own (Worker worker) list cell.id)) (sym given.asked.own)
+    subst (λ (list : List Entry). IsTrue (holds_own (Worker worker) list cell.id)) (sym given.asked.at.own)
     (found_own worker shard shard key cell (own_at before.pass shard)) in
     let theirs : IsTrue (holds_own after.pass.who (own_at after.pass shard) cell.id) =
     subst (λ (who : Caller). IsTrue (holds_own who (own_at after.pass shard) cell.id)) (sym (given.elsewhere.who ∙ given.is_worker)) mine in

@@ -1,6 +1,6 @@
 -- A worker's port over shards that many callers share: what its calls give, by the worker's pass. Own entries and histories have the
 -- newest entry first.
-use Rattle.std.specs.Prelude.{◌≡◌, ◌⊎◌, ℕ, ◌<◌, ◌/◌, ◌==◌, Bool, true, false, ◌&&◌, nat_lt, List, [], ◌∷◌, ◌++◌, if◌then◌else◌, IsTrue, IsFalse}
+use Rattle.std.specs.Prelude.{◌≡◌, ◌⊎◌, ℕ, zero, suc, ◌<◌, ◌/◌, ◌==◌, Bool, true, false, ◌&&◌, nat_lt, List, [], ◌∷◌, ◌++◌, if◌then◌else◌, IsTrue, IsFalse}
 use Rattle.semantics.specs.declared.call.Caller.{Caller}
 use Rattle.semantics.specs.declared.call.Caller.TheVariants.{Worker}
 use Rattle.semantics.specs.declared.call.Call.{Call}
@@ -12,6 +12,8 @@ use Rattle.semantics.specs.Reclamation.{is_inside}
 use Rattle.semantics.specs.History.{shard_of_call, Meets, IsLegalHistory, IsJournalFull}
 use Rattle.semantics.specs.RunTrace.{IsReplyTo}
 use Rattle.map_port.specs.Served.{Maps, program_over}
+use Rattle.shards.specs.declared.deeds.Deed.{Deed}
+use Rattle.shards.specs.declared.deeds.Deed.TheVariants.{Wrote, MetFull}
 use Rattle.shards.specs.CallerView.{CallerView, BeginsWith, IsServed, IsRefused}
 use Rattle.shards.specs.Passes.{PassView, view_at, own_at, IsElsewhereSame}
 use Rattle.shards.specs.SharedMaps.{SharedMaps}
@@ -39,6 +41,13 @@ entering worker number own = if is_inside worker own then [] else enter_by worke
 abbrev pub inside_own : ℕ → ℕ → List Entry → List Entry
 inside_own worker number own = entering worker number own ++ own
 
+-- the deeds by which it enters and leaves, if it is outside or inside
+abbrev pub entered_deeds : ℕ → ℕ → List Entry → List Deed
+entered_deeds worker number own = if is_inside worker own then [] else Wrote (enter_by worker number) ∷ []
+
+abbrev pub left_deeds : ℕ → ℕ → List Entry → List Deed
+left_deeds worker number own = if is_inside worker own then Wrote (leave_by worker number) ∷ [] else []
+
 -- ---- one shard
 
 -- the shard answered the call, which the worker entered before where it was outside: the entries are next to each other at the end of
@@ -64,10 +73,6 @@ pub record CannotCallAt (plan : ShardPlan) (number worker : ℕ) (before after :
   pub full : IsJournalFull plan after.seen call
   pub own : after.own ≡ inside_own worker number before.own
 
-abbrev pub IsTurnedAwayAt : ShardPlan → ℕ → ℕ → CallerView → CallerView → Call → Type 0
-IsTurnedAwayAt plan number worker before after call =
-    CannotEnterAt plan number worker before after ⊎ CannotCallAt plan number worker before after call
-
 -- the worker left the shard, if it was inside; a Leave is never refused
 abbrev pub IsLeft : Bool → ShardPlan → ℕ → ℕ → CallerView → CallerView → Type 0
 IsLeft true plan number worker before after = IsServed plan before after (leave_by worker number)
@@ -79,12 +84,25 @@ IsLeft false plan number worker before after = after ≡ before
 abbrev pub MayAskOnceInside : ShardPlan → ℕ → PassView → Call → Type 0
 MayAskOnceInside plan number pass call = Meets plan (inside_own (worker_of pass.who) number (own_at pass number)) pass.who call
 
-abbrev pub IsAskedBy : ShardPlan → ℕ → PassView → PassView → Call → Reply → Type 0
-IsAskedBy plan number before after call reply =
-    IsAskedAt plan number (worker_of before.who) (view_at before number) (view_at after number) call reply
+-- the shard answered the call, and the worker's deeds, newest first, are the call and the Enter before it more
+pub record IsAskedBy (plan : ShardPlan) (number : ℕ) (before after : PassView) (call : Call) (reply : Reply) : Type 0 where
+  pub at : IsAskedAt plan number (worker_of before.who) (view_at before number) (view_at after number) call reply
+  pub did :
+      after.deeds ≡ Wrote (asked_entry (worker_of before.who) call reply) ∷
+      entered_deeds (worker_of before.who) number (own_at before number) ++ before.deeds
+
+-- its Enter met a full journal
+pub record CannotEnterBy (plan : ShardPlan) (number : ℕ) (before after : PassView) : Type 0 where
+  pub at : CannotEnterAt plan number (worker_of before.who) (view_at before number) (view_at after number)
+  pub did : after.deeds ≡ MetFull before.who (Enter number) ∷ before.deeds
+
+-- its call met one, behind the Enter where it was outside
+pub record CannotCallBy (plan : ShardPlan) (number : ℕ) (before after : PassView) (call : Call) : Type 0 where
+  pub at : CannotCallAt plan number (worker_of before.who) (view_at before number) (view_at after number) call
+  pub did : after.deeds ≡ MetFull before.who call ∷ entered_deeds (worker_of before.who) number (own_at before number) ++ before.deeds
 
 abbrev pub IsTurnedAwayBy : ShardPlan → ℕ → PassView → PassView → Call → Type 0
-IsTurnedAwayBy plan number before after call = IsTurnedAwayAt plan number (worker_of before.who) (view_at before number) (view_at after number) call
+IsTurnedAwayBy plan number before after call = CannotEnterBy plan number before after ⊎ CannotCallBy plan number before after call
 
 abbrev pub IsLeftBy : ShardPlan → ℕ → PassView → PassView → Type 0
 IsLeftBy plan number before after =
@@ -129,7 +147,13 @@ pub record IsRefusedBy (plan : ℕ → ShardPlan) (count : ℕ) (before : PassPo
   pub is_worker : before.pass.who ≡ Worker (worker_of before.pass.who)
   pub turned_away : IsTurnedAwayBy (plan (shard_of_call call)) (shard_of_call call) before.pass after.pass call
 
+-- the deeds by which it leaves those of so many shards that it is inside of, the lowest number first: newest first
+abbrev pub all_left_deeds : ℕ → PassView → ℕ → List Deed
+all_left_deeds worker pass zero = []
+all_left_deeds worker pass (suc number) = left_deeds worker number (own_at pass number) ++ all_left_deeds worker pass number
+
 -- the worker left every one of this many shards that it was inside of
 pub record IsFinishedBy (plan : ℕ → ShardPlan) (count : ℕ) (before after : PassView) : Type 0 where
   pub same_caller : after.who ≡ before.who
   pub left : (number : ℕ) → number < count → IsLeftBy (plan number) number before after
+  pub did : after.deeds ≡ all_left_deeds (worker_of before.who) before count ++ before.deeds

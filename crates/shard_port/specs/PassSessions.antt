@@ -14,6 +14,7 @@ use Rattle.shards.specs.CallerView.{BeginsWith}
 use Rattle.shards.specs.Passes.{PassView, own_at, seen_at}
 use Rattle.shard_port.specs.Asking.{enter_by, leave_by}
 use Rattle.shard_port.specs.Sessions.{entries_at, begun, session}
+use Rattle.shard_port.specs.PassDeeds.{run_deeds, deeds_to_call, deeds_to_enter}
 use Rattle.shard_port.specs.PassPorts.{PassPort, IsGivenBy, IsRefusedBy, IsFinishedBy}
 
 -- the entries of a worker's session with the shard of a number: none where none of the exchanges is with it
@@ -35,6 +36,8 @@ pub record HasSessions (count worker : ℕ) (exchanges : List Exchange) (before 
   pub written : (number : ℕ) → number < count → own_at after number ≡ reverse (session_at worker number exchanges) ++ own_at before number
   pub seen_on : (number : ℕ) → number < count → BeginsWith (seen_at after number) (seen_at before number)
   pub outside : (number : ℕ) → number < count → IsOutsideAt worker after number
+  -- its deeds over all shards, newest first, are those of the run more
+  pub did : after.deeds ≡ reverse (run_deeds worker count exchanges) ++ before.deeds
 
 -- the worker entered the shard for this call alone, which was refused there
 pub record IsVisitedAt (worker : ℕ) (exchanges : List Exchange) (call : Call) (number : ℕ) (before after : List Entry) : Type 0 where
@@ -48,6 +51,18 @@ pub record IsKeptOut (plan : ShardPlan) (full_at : List Entry) (worker : ℕ) (e
   pub first_call : entries_at worker number exchanges ≡ []
   pub nothing : after ≡ before
   pub full : IsJournalFull plan full_at (Enter number)
+
+-- the run's last call met a full journal, or its last Enter did
+pub record StoppedAtCall (plan : ShardPlan) (full_at : List Entry) (count worker : ℕ) (exchanges : List Exchange) (call : Call)
+    (before after : PassView) : Type 0 where
+  pub full : IsJournalFull plan full_at call
+  pub did : after.deeds ≡ reverse (deeds_to_call worker count exchanges call) ++ before.deeds
+
+pub record StoppedAtEnter (plan : ShardPlan) (full_at : List Entry) (count worker : ℕ) (exchanges : List Exchange) (call : Call)
+    (before after : PassView) : Type 0 where
+  pub kept_out :
+      IsKeptOut plan full_at worker exchanges (shard_of_call call) (own_at before (shard_of_call call)) (own_at after (shard_of_call call))
+  pub did : after.deeds ≡ reverse (deeds_to_enter worker count exchanges call) ++ before.deeds
 
 -- the same of a run that ended because a call was refused, but that the shard of this call, if it was the first there, may have an Enter
 -- and a Leave with no call between. There the journal was full for the call at the end of a history that the pass's now begins with; or it was
@@ -65,9 +80,8 @@ pub record HasRefusedSessions (plan : ℕ → ShardPlan) (count worker : ℕ) (e
     pub full_at : List Entry
     pub full_seen : BeginsWith (seen_at after (shard_of_call call)) full_at
     pub full :
-        IsJournalFull (plan (shard_of_call call)) full_at call
-        ⊎ IsKeptOut (plan (shard_of_call call)) full_at worker exchanges (shard_of_call call) (own_at before (shard_of_call call))
-        (own_at after (shard_of_call call))
+        StoppedAtCall (plan (shard_of_call call)) full_at count worker exchanges call before after
+        ⊎ StoppedAtEnter (plan (shard_of_call call)) full_at count worker exchanges call before after
 
 -- ---- the laws: of a run from a pass whose worker is outside this many shards
 

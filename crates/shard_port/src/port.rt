@@ -1,12 +1,12 @@
 //! The port of a worker's pass, over shards that many callers share.
 
-ghost use Rattle.std.specs.Prelude.{◌≡◌, ◌<◌, IsTrue, IfOk, IfErr, OnOk, OnErr};
+ghost use Rattle.std.specs.Prelude.{◌≡◌, ◌<◌, ◌++◌, IsTrue, IfOk, IfErr, OnOk, OnErr};
 ghost use Rattle.journal.specs.Entries.{found_reply};
 ghost use Rattle.map_port.specs.Served.{handle_limit};
 ghost use Rattle.shard_port.specs.ScheduleHook.{next_count};
-ghost use Rattle.shards.specs.Passes.{IsElsewhereSame};
+ghost use Rattle.shards.specs.Passes.{IsElsewhereSame, own_at};
 ghost use Rattle.shard_port.specs.PortView.{handle_of, has_small_cell};
-ghost use Rattle.shard_port.specs.PassPorts.{is_worker_below, MayAskOnceInside, IsAskedBy, IsTurnedAwayBy, IsLeftBy, IsFinishedBy};
+ghost use Rattle.shard_port.specs.PassPorts.{is_worker_below, worker_of, left_deeds, MayAskOnceInside, IsAskedBy, IsTurnedAwayBy, IsLeftBy, IsFinishedBy};
 
 use crate::plain::cell_of_handle;
 use crate::schedule_hook::{Gate, Tally};
@@ -296,6 +296,7 @@ fn leave<B: Naming>(rt: &impl Wait, shards: &Shards<B>, pass: &mut Pass<B>, shar
     requires worker { IsTrue (is_worker_below shards.now.options.workers pass.old.who) }
     ensures elsewhere { IsElsewhereSame shard pass.old pass.new }
     ensures left { IsLeftBy (B.plan shard) shard pass.old pass.new }
+    ensures did { pass.new.deeds ≡ left_deeds (worker_of pass.old.who) shard (own_at pass.old shard) ++ pass.old.deeds }
 {
     shards.planned();
     if pass.is_inside(shard) {

@@ -1,6 +1,6 @@
 -- A call by a pass, which enters the shard before where it is outside.
 use Rattle.std.proofs.Common.{◌≡◌, ◌⊎◌, inl, inr, ℕ, ◌/◌, ◌<◌, Bool, true, false, ◌&&◌, nat_lt, List, [], ◌∷◌, ◌++◌, Option, Some, None, arith, refl, sym, ◌∙◌, ap, subst}
-use Rattle.std.specs.Prelude.{◌==◌, IsTrue, IsFalse, slice_get, if◌then◌else◌}
+use Rattle.std.specs.Prelude.{◌==◌, IsTrue, IsFalse, slice_get, if◌then◌else◌, Result, Ok, Err, IfOk, IfErr, OnErr}
 use Rattle.std.proofs.lemmas.Bool.Decides.{nat_tests}
 use Rattle.ebpf_decode.specs.declared.map.MapDef.{MapDef}
 use Rattle.semantics.specs.declared.options.Options.{Options}
@@ -16,13 +16,19 @@ use Rattle.semantics.specs.ShardPlan.{plan_at}
 use Rattle.semantics.specs.Reclamation.{is_inside}
 use Rattle.semantics.specs.History.{is_outside_worker, is_inside_worker, Meets}
 use Rattle.journal.specs.Entries as entries
+use Rattle.semantics.specs.declared.full.JournalFull.{JournalFull}
+use Rattle.shards.specs.declared.deeds.Deed.{Deed}
+use Rattle.shards.specs.declared.deeds.Deed.TheVariants.{Wrote, MetFull}
+use Rattle.shards.specs.declared.stopped.Stopped.{Stopped}
+use Rattle.shards.specs.declared.stopped.Stopped.TheVariants.{AtEnter, AtCall}
 use Rattle.shards.specs.CallerView.{CallerView, BeginsWith, IsServed, IsRefused}
-use Rattle.shards.specs.Passes.{is_inside_of}
+use Rattle.shards.specs.Deeds.{deed_by, deeds_by_both}
+use Rattle.shards.specs.Passes.{PassView, is_inside_of, view_at, own_at}
 use Rattle.shards.specs.SharedMaps.{ArePlans}
-use Rattle.shards.specs.Asked.{AreServed, IsServedThenRefused}
+use Rattle.shards.specs.Asked.{AreServed, IsServedThenRefused, IsAnswered, IsTurnedAway, EnteredAndAnswered, IsStopped}
 use Rattle.shard_port.specs.Asking.{enter_by, leave_by, asked_entry}
 use Rattle.shard_port.specs.PortLaws.{both_true}
-use Rattle.shard_port.specs.PassPorts.{is_worker_below, worker_of, entering, inside_own, IsAskedAt, CannotEnterAt, CannotCallAt, IsTurnedAwayAt, IsLeft}
+use Rattle.shard_port.specs.PassPorts.{is_worker_below, worker_of, entering, entered_deeds, left_deeds, inside_own, IsAskedAt, CannotEnterAt, CannotCallAt, IsAskedBy, IsTurnedAwayBy, IsLeft}
 use Rattle.shard_port.proofs.shared.ReadyLemmas.{plan_number}
 
 -- ---- who calls
@@ -49,7 +55,7 @@ one_entering worker number own outside = ap (λ (test : Bool). if test then [] e
 
 -- ---- served
 
-pub asked_inside : (most : ℕ) (plan : ShardPlan) (number : ℕ) (who : Caller) (before after : CallerView) (call : Call) (reply : Reply) →
+asked_inside : (most : ℕ) (plan : ShardPlan) (number : ℕ) (who : Caller) (before after : CallerView) (call : Call) (reply : Reply) →
     IsTrue (is_worker_below most who) → is_inside_of who before.own ≡ true →
     IsServed plan before after (record { who = who; call = call; reply = reply }) →
     IsAskedAt plan number (worker_of who) before after call reply
@@ -65,7 +71,7 @@ asked_inside most plan number (Worker worker) before after call reply below insi
 asked_inside most plan number Controller before after call reply below inside served = cc
 asked_inside most plan number Reclaimer before after call reply below inside served = cc
 
-pub asked_outside : (most : ℕ) (plan : ShardPlan) (number : ℕ) (who : Caller) (before after : CallerView) (call : Call) (reply : Reply) →
+asked_outside : (most : ℕ) (plan : ShardPlan) (number : ℕ) (who : Caller) (before after : CallerView) (call : Call) (reply : Reply) →
     IsTrue (is_worker_below most who) → is_inside_of who before.own ≡ false →
     AreServed plan before after (entries.enter_entry number who) (record { who = who; call = call; reply = reply }) →
     IsAskedAt plan number (worker_of who) before after call reply
@@ -81,46 +87,134 @@ asked_outside most plan number (Worker worker) before after call reply below out
 asked_outside most plan number Controller before after call reply below outside served = cc
 asked_outside most plan number Reclaimer before after call reply below outside served = cc
 
+-- ---- what its deeds are then
+
+none_entered : (worker number : ℕ) (own : List Entry) → is_inside worker own ≡ true → entered_deeds worker number own ≡ []
+none_entered worker number own inside = ap (λ (test : Bool). if test then [] else Wrote (enter_by worker number) ∷ []) inside
+
+one_entered : (worker number : ℕ) (own : List Entry) → is_inside worker own ≡ false →
+    entered_deeds worker number own ≡ Wrote (enter_by worker number) ∷ []
+one_entered worker number own outside = ap (λ (test : Bool). if test then [] else Wrote (enter_by worker number) ∷ []) outside
+
+abbrev wrote_by : Caller → Call → Reply → Deed
+wrote_by who call reply = Wrote (record { who = who; call = call; reply = reply })
+
+did_inside : (most number : ℕ) (who : Caller) (own : List Entry) (call : Call) (reply : Reply) (before after : List Deed) →
+    IsTrue (is_worker_below most who) → is_inside_of who own ≡ true → after ≡ wrote_by who call reply ∷ before →
+    after ≡ Wrote (asked_entry (worker_of who) call reply) ∷ entered_deeds (worker_of who) number own ++ before
+did_inside most number (Worker worker) own call reply before after below inside did =
+    did ∙ ap (λ (first : List Deed). Wrote (asked_entry worker call reply) ∷ first ++ before) (sym (none_entered worker number own inside))
+did_inside most number Controller own call reply before after below inside did = cc
+did_inside most number Reclaimer own call reply before after below inside did = cc
+
+did_outside : (most number : ℕ) (who : Caller) (own : List Entry) (call : Call) (reply : Reply) (before after : List Deed) →
+    IsTrue (is_worker_below most who) → is_inside_of who own ≡ false →
+    after ≡ wrote_by who call reply ∷ Wrote (entries.enter_entry number who) ∷ before →
+    after ≡ Wrote (asked_entry (worker_of who) call reply) ∷ entered_deeds (worker_of who) number own ++ before
+did_outside most number (Worker worker) own call reply before after below outside did =
+    did ∙ ap (λ (first : List Deed). Wrote (asked_entry worker call reply) ∷ first ++ before) (sym (one_entered worker number own outside))
+did_outside most number Controller own call reply before after below outside did = cc
+did_outside most number Reclaimer own call reply before after below outside did = cc
+
+met_inside_then : (most number : ℕ) (who : Caller) (own : List Entry) (call : Call) (before after : List Deed) →
+    IsTrue (is_worker_below most who) → is_inside_of who own ≡ true → after ≡ MetFull who call ∷ before →
+    after ≡ MetFull who call ∷ entered_deeds (worker_of who) number own ++ before
+met_inside_then most number (Worker worker) own call before after below inside did =
+    did ∙ ap (λ (first : List Deed). MetFull (Worker worker) call ∷ first ++ before) (sym (none_entered worker number own inside))
+met_inside_then most number Controller own call before after below inside did = cc
+met_inside_then most number Reclaimer own call before after below inside did = cc
+
+met_outside_then : (most number : ℕ) (who : Caller) (own : List Entry) (call : Call) (before after : List Deed) →
+    IsTrue (is_worker_below most who) → is_inside_of who own ≡ false →
+    after ≡ MetFull who call ∷ Wrote (entries.enter_entry number who) ∷ before →
+    after ≡ MetFull who call ∷ entered_deeds (worker_of who) number own ++ before
+met_outside_then most number (Worker worker) own call before after below outside did =
+    did ∙ ap (λ (first : List Deed). MetFull (Worker worker) call ∷ first ++ before) (sym (one_entered worker number own outside))
+met_outside_then most number Controller own call before after below outside did = cc
+met_outside_then most number Reclaimer own call before after below outside did = cc
+
 -- ---- refused
 
-pub refused_inside : (most : ℕ) (plan : ShardPlan) (number : ℕ) (who : Caller) (before after : CallerView) (call : Call) →
+refused_inside : (most : ℕ) (plan : ShardPlan) (number : ℕ) (who : Caller) (before after : CallerView) (call : Call) →
     IsTrue (is_worker_below most who) → is_inside_of who before.own ≡ true → IsRefused plan before after call →
-    IsTurnedAwayAt plan number (worker_of who) before after call
+    CannotCallAt plan number (worker_of who) before after call
 refused_inside most plan number (Worker worker) before after call below inside refused =
     let none : entering worker number before.own ≡ [] = none_entering worker number before.own inside in
-    inr (record {
+    record {
       earlier = after.seen;
       begins = refused.begins;
       seen = ap (λ (first : List Entry). first ++ after.seen) (sym none);
       legal = refused.legal;
       full = refused.full;
       own = refused.own ∙ ap (λ (first : List Entry). first ++ before.own) (sym none);
-    })
+    }
 refused_inside most plan number Controller before after call below inside refused = cc
 refused_inside most plan number Reclaimer before after call below inside refused = cc
 
-pub refused_at_enter : (most : ℕ) (plan : ShardPlan) (number : ℕ) (who : Caller) (before after : CallerView) (call : Call) →
-    IsTrue (is_worker_below most who) → is_inside_of who before.own ≡ false → IsRefused plan before after (Enter number) →
-    IsTurnedAwayAt plan number (worker_of who) before after call
-refused_at_enter most plan number who before after call below outside refused =
-    inl (record { outside = sym (inside_same most who before.own below) ∙ outside; refused = refused })
-
-pub refused_at_call : (most : ℕ) (plan : ShardPlan) (number : ℕ) (who : Caller) (before after : CallerView) (call : Call) →
+refused_at_call : (most : ℕ) (plan : ShardPlan) (number : ℕ) (who : Caller) (before after : CallerView) (call : Call) →
     IsTrue (is_worker_below most who) → is_inside_of who before.own ≡ false →
     IsServedThenRefused plan before after (entries.enter_entry number who) call →
-    IsTurnedAwayAt plan number (worker_of who) before after call
+    CannotCallAt plan number (worker_of who) before after call
 refused_at_call most plan number (Worker worker) before after call below outside stopped =
     let one : entering worker number before.own ≡ enter_by worker number ∷ [] = one_entering worker number before.own outside in
-    inr (record {
+    record {
       earlier = stopped.earlier;
       begins = stopped.begins;
       seen = stopped.seen ∙ ap (λ (first : List Entry). first ++ stopped.earlier) (sym one);
       legal = stopped.legal;
       full = stopped.full;
       own = stopped.own ∙ ap (λ (first : List Entry). first ++ before.own) (sym one);
-    })
+    }
 refused_at_call most plan number Controller before after call below outside stopped = cc
 refused_at_call most plan number Reclaimer before after call below outside stopped = cc
+
+-- ---- by the pass
+
+module _ {A : Type 0} (most : ℕ) (plan : ShardPlan) (number : ℕ) (before after : PassView) (call : Call) (replies : A → Reply)
+    (below : IsTrue (is_worker_below most before.who)) where
+  pub asked_once_inside : (result : Result A JournalFull) → is_inside_of before.who (own_at before number) ≡ true →
+      IfOk result (λ answer. IsAnswered plan number before after call (replies answer)) →
+      after.deeds ≡ deed_by before.who call replies result ∷ before.deeds →
+      IfOk result (λ answer. IsAskedBy plan number before after call (replies answer))
+  asked_once_inside (Ok answer) inside served did = record {
+    at = asked_inside most plan number before.who (view_at before number) (view_at after number) call (replies answer) below inside served;
+    did = did_inside most number before.who (own_at before number) call (replies answer) before.deeds after.deeds below inside did;
+  }
+  asked_once_inside (Err full) inside served did = served
+
+  pub turned_away_inside : (result : Result A JournalFull) → is_inside_of before.who (own_at before number) ≡ true →
+      OnErr result (IsTurnedAway plan number before after call) → after.deeds ≡ deed_by before.who call replies result ∷ before.deeds →
+      OnErr result (IsTurnedAwayBy plan number before after call)
+  turned_away_inside (Ok answer) inside refused did = refused
+  turned_away_inside (Err full) inside refused did = inr (record {
+    at = refused_inside most plan number before.who (view_at before number) (view_at after number) call below inside refused;
+    did = met_inside_then most number before.who (own_at before number) call before.deeds after.deeds below inside did;
+  })
+
+  pub asked_from_outside : (result : Result A Stopped) (answer : A) → result ≡ Ok answer → is_inside_of before.who (own_at before number) ≡ false →
+      IfOk result (λ answer. EnteredAndAnswered plan number before after call (replies answer)) →
+      after.deeds ≡ deeds_by_both number before.who call replies result ++ before.deeds →
+      IsAskedBy plan number before after call (replies answer)
+  asked_from_outside (Ok found) answer is outside served did =
+      let same : found ≡ answer = cc in
+      subst (λ (one : A). IsAskedBy plan number before after call (replies one)) same (record {
+        at = asked_outside most plan number before.who (view_at before number) (view_at after number) call (replies found) below outside served;
+        did = did_outside most number before.who (own_at before number) call (replies found) before.deeds after.deeds below outside did;
+      })
+  asked_from_outside (Err stopped) answer is outside served did = absurd cc
+
+  pub turned_away_outside : (result : Result A Stopped) (stopped : Stopped) → result ≡ Err stopped →
+      is_inside_of before.who (own_at before number) ≡ false → IfErr result (IsStopped plan number before after call) →
+      after.deeds ≡ deeds_by_both number before.who call replies result ++ before.deeds → IsTurnedAwayBy plan number before after call
+  turned_away_outside (Ok answer) stopped is outside refused did = absurd cc
+  turned_away_outside (Err (AtEnter full)) stopped is outside refused did = inl (record {
+    at = record { outside = sym (inside_same most before.who (own_at before number) below) ∙ outside; refused = refused.0 };
+    did = did;
+  })
+  turned_away_outside (Err (AtCall full)) stopped is outside refused did = inr (record {
+    at = refused_at_call most plan number before.who (view_at before number) (view_at after number) call below outside refused.0;
+    did = met_outside_then most number before.who (own_at before number) call before.deeds after.deeds below outside did;
+  })
 
 -- ---- what the shard asks of its caller
 
@@ -200,3 +294,18 @@ pub left_outside : (most : ℕ) (plan : ShardPlan) (number : ℕ) (who : Caller)
 left_outside most plan number who before below outside =
     subst (λ (test : Bool). IsLeft test plan number (worker_of who) before before)
     (sym (sym (inside_same most who before.own below) ∙ outside)) refl
+
+pub left_then : (most number : ℕ) (who : Caller) (own : List Entry) (before after : List Deed) → IsTrue (is_worker_below most who) →
+    is_inside_of who own ≡ true → after ≡ Wrote (entries.leave_entry number who) ∷ before →
+    after ≡ left_deeds (worker_of who) number own ++ before
+left_then most number (Worker worker) own before after below inside did =
+    did ∙ ap (λ (test : Bool). (if test then Wrote (leave_by worker number) ∷ [] else []) ++ before) (sym inside)
+left_then most number Controller own before after below inside did = cc
+left_then most number Reclaimer own before after below inside did = cc
+
+pub stayed_then : (most number : ℕ) (who : Caller) (own : List Entry) (deeds : List Deed) → IsTrue (is_worker_below most who) →
+    is_inside_of who own ≡ false → deeds ≡ left_deeds (worker_of who) number own ++ deeds
+stayed_then most number (Worker worker) own deeds below outside =
+    ap (λ (test : Bool). (if test then Wrote (leave_by worker number) ∷ [] else []) ++ deeds) (sym outside)
+stayed_then most number Controller own deeds below outside = cc
+stayed_then most number Reclaimer own deeds below outside = cc

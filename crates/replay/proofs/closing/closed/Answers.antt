@@ -9,8 +9,9 @@ use Rattle.replay.specs.Parts.{IsScriptAccounted, rounds_of}
 use Rattle.replay.specs.RunsOverShards.{pass_in}
 use Rattle.replay.specs.Accounted.{IsAccounted}
 use Rattle.replay.specs.declared.outcome.Outcome.{Outcome}
-use Rattle.replay.proofs.Accounts.{shares, work, outcome_is}
-use Rattle.replay.proofs.PartLemmas.{all_settled, script_stands, rounds_stand}
+use Rattle.shards.specs.Passes.{AreSettled}
+use Rattle.replay.proofs.Accounts.{IsOwnIn, shares, work, outcome_is}
+use Rattle.replay.proofs.PartLemmas.{all_of, script_stands, rounds_stand}
 use Rattle.replay.proofs.closing.closed.Goals as goal
 
 pub account-requires-clause-runs : goal.account-requires-clause-runs
@@ -33,8 +34,11 @@ returns g c =
     let journals = c.close-journals.result in
     let as_many : length lists ≡ workers = c.in_ok-runs.ensures.count.0 ∙ c.requires.count in
     let workers_passes : length (map pass_in working) ≡ workers = length-map working pass_in ∙ c.in_ok-runs.ensures.count.1 ∙ c.requires.count in
-    let settled = all_settled g.B.Naming.count journals c.in_ok-passes.passes.items (map pass_in working) c.args.commanded.pass c.args.reclaimed
+    let passes = c.in_ok-passes.passes.items in
+    let settled = all_of (AreSettled g.B.Naming.count journals) passes (map pass_in working) c.args.commanded.pass c.args.reclaimed
     c.in_ok-passes.ensures c.close-journals.ensures.settled in
+    let one = c.close-journals.ensures.did in
+    let owned = all_of (IsOwnIn one.deeds) passes (map pass_in working) c.args.commanded.pass c.args.reclaimed c.in_ok-passes.ensures one.own in
     let told = c.outcome_of.ensures in
     let is = outcome_is c.outcome_of.result c.in_ok-counts.counts c.in_ok-counts.sent journals told.counts told.sent told.journals in
     record {
@@ -46,11 +50,14 @@ returns g c =
         plan = g.B.Naming.plan;
         plans = subst (λ maps. ArePlans maps c.args.shards.options g.B.Naming.count g.B.Naming.plan) c.requires.maps c.planned.ensures.plans;
         legal = c.close-journals.ensures.legal;
+        order = one.deeds;
+        ordered = record { within = one.within; journals_are = one.journals_are; met = one.met };
         runs = lists_of lists;
         workers = length-map lists (λ list. list.items) ∙ as_many;
         work = work g.B.Naming.count g.B.Naming.plan program records workers c.args.handled.items (lists_of lists) working (map pass_in working) journals
-            c.requires.count c.requires.handled c.in_ok-runs.ensures.parts (λ worker below. refl)
-            (λ worker below. settled.first worker (omega (arith, below, workers_passes)));
+            one.deeds c.requires.count c.requires.handled c.in_ok-runs.ensures.parts (λ worker below. refl)
+            (λ worker below. settled.first worker (omega (arith, below, workers_passes)))
+            (λ worker below. owned.first worker (omega (arith, below, workers_passes)));
         counts = subst (λ n. c.in_ok-counts.counts ≡ counts_of frames n (lists_of lists) (length records)) as_many c.in_ok-counts.ensures.counts;
         each_once = c.in_ok-counts.ensures.frames;
         sent = subst (λ n. sent_frames c.in_ok-counts.sent.items ≡ sent_of frames n (lists_of lists) (length records)) as_many c.in_ok-counts.ensures.sent;

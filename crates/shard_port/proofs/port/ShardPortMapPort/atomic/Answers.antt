@@ -6,8 +6,7 @@ use Rattle.shard_port.proofs.port.ShardPortMapPort.atomic.Goals as goal
 use Rattle.semantics.specs.declared.call.Call.TheVariants.{Atomic}
 use Rattle.isa.specs.InstructionCodes.{atomic_code}
 use Rattle.semantics.specs.declared.call.Reply.TheVariants.{Word}
-use Rattle.shard_port.specs.PassPorts.{worker_of, IsAskedAt, IsTurnedAwayAt}
-use Rattle.shards.specs.Passes.{view_at}
+use Rattle.shard_port.specs.PassPorts.{IsAskedBy, IsTurnedAwayBy}
 
 pub ask-requires-clause-shard : goal.ask-requires-clause-shard
 ask-requires-clause-shard g c =
@@ -23,8 +22,7 @@ ask-requires-clause-met g c = rw (c.from.ensures, c.code.ensures)
 
 pub returns-in-Ok-clause-gives : goal.returns-in-Ok-clause-gives
 returns-in-Ok-clause-gives g c =
-    let asked : IsAskedAt (g.B.Naming.plan c.cell_of_handle-cell.result.shard) c.cell_of_handle-cell.result.shard (worker_of c.args.self.now.pass.now.who)
-    (view_at c.args.self.now.pass.now c.cell_of_handle-cell.result.shard) (view_at c.ask.new.self.pass.now c.cell_of_handle-cell.result.shard)
+    let asked : IsAskedBy (g.B.Naming.plan c.cell_of_handle-cell.result.shard) c.cell_of_handle-cell.result.shard c.args.self.now.pass.now c.ask.new.self.pass.now
     (Atomic c.cell_of_handle-cell.result c.args.offset c.args.size (atomic_code c.args.op) c.args.value c.args.expected) (Word c.in-Ok.number) =
     rw (c.from.ensures, c.code.ensures) at c.in-Ok.ensures.answered in record {
       given_within = (
@@ -39,8 +37,7 @@ returns-in-Ok-clause-gives g c =
 
 pub returns-in-Err-clause-refuses : goal.returns-in-Err-clause-refuses
 returns-in-Err-clause-refuses g c =
-    let away : IsTurnedAwayAt (g.B.Naming.plan c.cell_of_handle-cell.result.shard) c.cell_of_handle-cell.result.shard (worker_of c.args.self.now.pass.now.who)
-    (view_at c.args.self.now.pass.now c.cell_of_handle-cell.result.shard) (view_at c.ask.new.self.pass.now c.cell_of_handle-cell.result.shard)
+    let away : IsTurnedAwayBy (g.B.Naming.plan c.cell_of_handle-cell.result.shard) c.cell_of_handle-cell.result.shard c.args.self.now.pass.now c.ask.new.self.pass.now
     (Atomic c.cell_of_handle-cell.result c.args.offset c.args.size (atomic_code c.args.op) c.args.value c.args.expected) =
     rw (c.from.ensures, c.code.ensures) at c.in-Err.ensures.turned_away in record {
       refused_within = (
