@@ -467,7 +467,7 @@ writes_refused_own_sessions plan count worker before middle after finished excha
         (own_at before.pass (shard_of_call call)) (own_at finished (shard_of_call call))
     kept_at cannot =
         let mine : CannotEnterAt (plan (shard_of_call call)) (shard_of_call call) worker (view_at middle.pass (shard_of_call call))
-            (view_at after.pass (shard_of_call call)) =
+        (view_at after.pass (shard_of_call call)) =
         subst (λ (w : ℕ). CannotEnterAt (plan (shard_of_call call)) (shard_of_call call) w (view_at middle.pass (shard_of_call call))
         (view_at after.pass (shard_of_call call))) (ap worker_of middle_who) cannot.at in
         let kept = kept_out (plan (shard_of_call call)) worker (shard_of_call call) (entries_at worker (shard_of_call call) exchanges) _

@@ -176,7 +176,7 @@ pub adds_deed : {S : Type 0} (plans : List ShardPlan) (slots id word : ℕ) (dee
     IsMetBehind (plan_in plans) deed (entries_made there) → (s : State S (List Account)) → IsOrder plans s →
     get_elem? s.views id ≡ some (account (OnShard (shard_of_deed deed)) there ∷ account (ByCaller (caller_of_deed deed)) by ∷ []) →
     IsOrder plans (stepped s word (slice_index s.words word) id []
-        (noted deed (account (OnShard (shard_of_deed deed)) there ∷ account (ByCaller (caller_of_deed deed)) by ∷ [])) keeps)
+    (noted deed (account (OnShard (shard_of_deed deed)) there ∷ account (ByCaller (caller_of_deed deed)) by ∷ [])) keeps)
 adds_deed plans slots id word deed there by below met s h at =
     let are = h.fits id _ at in
     let shard : Part = OnShard (shard_of_deed deed) in
@@ -188,9 +188,10 @@ adds_deed plans slots id word deed there by below met s h at =
         subst (IsMetBehind (plan_in plans) deed) (ap entries_made are.0.kept ∙ sym (made_by_deeds (shard_of_deed deed) h.all)) met,
         h.met,
       );
-      fits = all_set (AreAccounts h.owner (deed ∷ h.all)) s.views id _
-          (belongs h.owner h.all deed id shard there (eq-eqb (shard_of_deed deed) (shard_of_deed deed) refl) are.0,
-            (belongs h.owner h.all deed id caller by (is_own (caller_of_deed deed)) are.1.0, tt))
+      fits = all_set (AreAccounts h.owner (deed ∷ h.all)) s.views id _ (
+        belongs h.owner h.all deed id shard there (eq-eqb (shard_of_deed deed) (shard_of_deed deed) refl) are.0,
+        (belongs h.owner h.all deed id caller by (is_own (caller_of_deed deed)) are.1.0, tt),
+      )
           (λ j u other e. others_same h.owner h.all deed j u
           (elsewhere h.owner h.all (code_of shard) j u (λ same. other (sym same ∙ are.0.own)) (h.fits j u e))
           (elsewhere h.owner h.all (code_of caller) j u (λ same. other (sym same ∙ are.1.0.own)) (h.fits j u e)) (h.fits j u e));

@@ -1,6 +1,6 @@
 //! The steps on a shard's word: take, mark, give, and what is done with the shard in between.
 
-ghost use Rattle.std.specs.Prelude.{◌≡◌, ◌≢◌, ◌<◌, ◌≤◌, ◌+◌, ◌*◌, ◌%◌, ◌==◌, ◌∷◌, ◌^◌, ℕ, true, false, MatchBool, [], length, reverse, IfOk, IfErr, OnErr};
+ghost use Rattle.std.specs.Prelude.{◌≡◌, ◌≢◌, ◌<◌, ◌+◌, ◌*◌, ◌%◌, ◌==◌, ◌∷◌, ◌^◌, ℕ, true, false, MatchBool, [], length, IfOk, IfErr, OnErr};
 ghost use Rattle.semantics.specs.History.{Meets, meets, IsLegalHistory, IsJournalFull};
 ghost use Rattle.semantics.specs.CallerLaws.{own_entries};
 ghost use Rattle.shard_core.specs.FewHeld.{FewAreHeld};

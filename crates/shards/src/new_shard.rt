@@ -41,10 +41,10 @@ impl Model for NewShard {
     ghost Value = { NewShardView };
 
     ghost view = { λ new. record {
-        plan = new.lock.shared.key.plan;
-        order = new.lock.shared.key.order;
-        table = new.lock.shared.table_id;
-        places = length new.seats.items;
+      plan = new.lock.shared.key.plan;
+      order = new.lock.shared.key.order;
+      table = new.lock.shared.table_id;
+      places = length new.seats.items;
     } };
 
     ghost invariant = { λ new. IsNew new.lock.shared.key new.lock.shared.table_id new.seats.items new.room };

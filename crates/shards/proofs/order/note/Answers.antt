@@ -51,8 +51,7 @@ split_seat-requires g c =
     let joined : c.join_seat.new.seat.me ≡ (the_two item there by, []) =
     c.join_seat.ensures.2 ∙ both_are c.args.mine.now.me c.into_seat-seat.result.me.0 (account shard there) (account (ByCaller (caller_of_deed item)) by) r.mine.1 w_is in
     let loaded : c.load.new.seat.me ≡ (noted item (the_two item there by), []) =
-    c.load.ensures.2 ∙ ap (λ (m : Me ℕ (List Account)). (noted item m.0, m.1)) joined in
-    (
+    c.load.ensures.2 ∙ ap (λ (m : Me ℕ (List Account)). (noted item m.0, m.1)) joined in (
       c.load.ensures.0 ∙ c.join_seat.ensures.0 ∙ r.mine.0,
       r.order,
       deals_one _ _ _ (account shard (item ∷ there)) (account (ByCaller (caller_of_deed item)) (item ∷ by) ∷ [])
@@ -73,8 +72,7 @@ returns-clause-place g c =
     let joined : c.join_seat.new.seat.me ≡ (the_two item there by, []) =
     c.join_seat.ensures.2 ∙ both_are c.args.mine.now.me c.into_seat-seat.result.me.0 (account shard there) (account (ByCaller (caller_of_deed item)) by) r.mine.1 w_is in
     let loaded : c.load.new.seat.me ≡ (noted item (the_two item there by), []) =
-    c.load.ensures.2 ∙ ap (λ (m : Me ℕ (List Account)). (noted item m.0, m.1)) joined in
-    (
+    c.load.ensures.2 ∙ ap (λ (m : Me ℕ (List Account)). (noted item m.0, m.1)) joined in (
       c.into_badge.ensures.0 ∙ c.split_seat.ensures.3 ∙ c.load.ensures.0 ∙ c.join_seat.ensures.0 ∙ r.mine.0,
       (rests_so _ shard (item ∷ there) (c.into_badge.ensures.2 ∙ ap (λ (m : Me ℕ (List Account)). m.0 ∷ []) (c.split_seat.ensures.4 ∙ ap (λ (m : Me ℕ (List Account)). (first_alone m.0, [])) loaded))).0,
     )
@@ -110,8 +108,7 @@ returns-clause-mine g c =
     let joined : c.join_seat.new.seat.me ≡ (the_two item there by, []) =
     c.join_seat.ensures.2 ∙ both_are c.args.mine.now.me c.into_seat-seat.result.me.0 (account shard there) (account (ByCaller (caller_of_deed item)) by) r.mine.1 w_is in
     let loaded : c.load.new.seat.me ≡ (noted item (the_two item there by), []) =
-    c.load.ensures.2 ∙ ap (λ (m : Me ℕ (List Account)). (noted item m.0, m.1)) joined in
-    (
+    c.load.ensures.2 ∙ ap (λ (m : Me ℕ (List Account)). (noted item m.0, m.1)) joined in (
       c.split_seat.ensures.0 ∙ c.load.ensures.0 ∙ c.join_seat.ensures.0 ∙ r.mine.0,
       (sits_so _ (ByCaller (caller_of_deed item)) (item ∷ by) (c.split_seat.ensures.2 ∙ ap (λ (m : Me ℕ (List Account)). (all_others m.0, m.1)) loaded)).0,
     )

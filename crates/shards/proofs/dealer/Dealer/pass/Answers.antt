@@ -37,10 +37,9 @@ pub invariant_of-result : goal.invariant_of-result
 invariant_of-result g c =
     let below : c.place_of-place.result < length c.self.inside.dealt.items = (let n = c.len.ensures in let ok = c.self.inside.dealt.ok.0 in let t = c.if-place-len.false in omega (arith, n, ok, t)) in
     let waits : is_dealt_at c.self.inside.dealt.items c.place_of-place.result ≡ false =
-    or_within c.self.inside.dealt.items true c.index.result.now c.place_of-place.result below ∙ sym c.index.ensures ∙ c.if-index.false in
-    (
+    or_within c.self.inside.dealt.items true c.index.result.now c.place_of-place.result below ∙ sym c.index.ensures ∙ c.if-index.false in (
       new_pass g.B.Naming.table (keys g.B.Naming.plan g.B.Naming.order) g.B.Naming.count c.self.inside.rooms.items c.self.inside.dealt.items c.self.inside.rows.items c.place_of-place.result c.args.who c.self.invariant.0 waits c.place_of-place.ensures
-    c.column-parts.result.items c.column-parts.ensures.count.0 c.column-parts.ensures.parts,
+          c.column-parts.result.items c.column-parts.ensures.count.0 c.column-parts.ensures.parts,
       (seat_there g.B.Naming.order c.self.inside.dealt.items c.self.inside.places.items c.place_of-place.result c.args.who c.self.invariant.1 waits c.place_of-place.ensures c.index_mut-2.result.now c.index_mut-2.ensures.value c.into_seat-seat.result (c.into_seat-seat.ensures.0 ∙ ap (λ b. b.table_id) c.replace.ensures.value) (ap (λ b. b.views) (sym c.replace.ensures.value) ∙ c.into_seat-seat.ensures.2) c.into_seat-seat.ensures.3).0,
     )
 
@@ -50,7 +49,7 @@ invariant_of-self g c =
     let waits : is_dealt_at c.self.inside.dealt.items c.place_of-place.result ≡ false =
     or_within c.self.inside.dealt.items true c.index.result.now c.place_of-place.result below ∙ sym c.index.ensures ∙ c.if-index.false in (
       rest_of_rows g.B.Naming.table (keys g.B.Naming.plan g.B.Naming.order) g.B.Naming.count c.self.inside.rooms.items c.self.inside.dealt.items c.self.inside.rows.items c.column-parts.new.rows.items c.place_of-place.result
-    c.self.invariant.0 below c.column-parts.ensures.count.1 c.column-parts.ensures.others c.column-parts.ensures.lengths,
+          c.self.invariant.0 below c.column-parts.ensures.count.1 c.column-parts.ensures.others c.column-parts.ensures.lengths,
       others_there g.B.Naming.order c.self.inside.dealt.items c.self.inside.places.items c.place_of-place.result c.args.who c.self.invariant.1 waits c.place_of-place.ensures _ below,
     )
 
