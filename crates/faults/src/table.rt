@@ -424,8 +424,7 @@ pub(crate) fn shards(number: u8) -> Explanation
             name: "JournalFull",
             fields: FieldNames::One("shard"),
             meaning: "A shard's journal has no room for a call; for each run inside a place is kept for its leave.",
-            causes: "The journal was opened too small for the calls that are made: `--journal N`, the entries of each shard, is at most 1,048,576, and more shards \
-                (`--shards`, at most 8) have a journal each.",
+            causes: "The journal was opened too small for the calls that are made.",
             example: "A journal of 16 entries and a run that makes twenty lookups.",
         },
         51 => Explanation {
@@ -646,8 +645,7 @@ pub(crate) fn stopped() -> Explanation
         name: "JournalFull",
         fields: FieldNames::One("shard"),
         meaning: "A run was stopped, since a shard's journal has no room for its next call.",
-        causes: "The journal was opened too small for the calls that the program makes: `xlb replay` has more room with `--journal N`, the entries of each \
-            shard, at most 1,048,576, and with `--shards N`, at most 8, each with a journal of its own.",
+        causes: "The journal was opened too small for the calls that the program makes.",
         example: "A program of more lookups than the journal has entries.",
     }
 }
