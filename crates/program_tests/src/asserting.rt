@@ -37,9 +37,24 @@ pub(crate) fn same_byte(rt: &impl Abort, name: &str, place: usize, found: u8, wa
     assert_eq!(rt; found, wanted, "{name}, byte {place}");
 }
 
+/// The same of texts.
+pub(crate) fn same_text(rt: &impl Abort, name: &str, found: &str, wanted: &str) {
+    assert_eq!(rt; found, wanted, "{name}");
+}
+
+/// The same of bytes.
+pub(crate) fn same_bytes(rt: &impl Abort, name: &str, found: &[u8], wanted: &[u8]) {
+    assert_eq!(rt; found, wanted, "{name}");
+}
+
 /// Ends the test where a fact does not hold; the message names it.
 pub(crate) fn holds(rt: &impl Abort, name: &str, is_so: bool) {
     assert!(rt; is_so, "{name}");
+}
+
+/// The same of one of several facts of a row.
+pub(crate) fn holds_of(rt: &impl Abort, name: &str, fact: &str, is_so: bool) {
+    assert!(rt; is_so, "{name}: {fact}");
 }
 
 /// Ends the test where a value is not printed so.

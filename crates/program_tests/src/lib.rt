@@ -1,8 +1,12 @@
-//! Tests of the public calls of `isa`, `ebpf_decode`, `abstract_scalar`, `abstract_state`, `image_shape`, `verifier`, `helpers` and `machine`.
+//! Tests of the public calls of `faults`, `isa`, `ebpf_decode`, `disasm`, `source_form`, `abstract_scalar`, `abstract_state`, `image_shape`, `verifier`, `reasons`, `map_updates`, `helpers`, `machine` and `command_line`.
 #![tactic(auto)]
 
 #[cfg(test)]
 mod asserting;
+#[cfg(test)]
+mod exact_texts;
+#[cfg(test)]
+mod explained_faults;
 #[cfg(test)]
 mod helper_rows;
 #[cfg(test)]
@@ -26,4 +30,12 @@ mod rows;
 #[cfg(test)]
 mod runs;
 #[cfg(test)]
+mod sources;
+#[cfg(test)]
 mod straight_code;
+#[cfg(test)]
+mod told_reasons;
+#[cfg(test)]
+mod updates_in_words;
+#[cfg(test)]
+mod words;

@@ -9,7 +9,7 @@ ghost use Rattle.shards.specs.Passes.{view_at};
 ghost use Rattle.rx_queues.specs.Passes.{HasQueue, IsTakePassOf, jobs_taken};
 ghost use Rattle.shards.specs.NewShards.{IsNamed};
 
-use crate::asserting::{holds, same};
+use crate::asserting::{holds_of, same_fact};
 use conntrack::{maps, table_size};
 use control::{Command, ControlFault, parse_script};
 use ebpf_decode::{Image, Insn, Version};
@@ -130,7 +130,7 @@ fn close<B: Naming, R: Abort + Wait>(
     passes.push(pass)?;
     let journals = shards.close(rt, passes);
     let are_so = lengths_are(&journals, row.lengths);
-    holds(rt, row.name, "the lengths of the journals", are_so);
+    holds_of(rt, row.name, "the lengths of the journals", are_so);
     Ok(())
 }
 
@@ -148,7 +148,7 @@ fn applied<B: Naming, R: Abort + Wait>(
     let (shards, mut dealer) = opened.share::<B>(alloc)?;
     let pass = dealer.pass(alloc, Caller::Controller)?;
     let size = table_size(shards.maps());
-    holds(rt, row.name, "the size of the table", size.is_some());
+    holds_of(rt, row.name, "the size of the table", size.is_some());
     let Some(size) = size else {
         return Ok(());
     };
@@ -159,15 +159,15 @@ fn applied<B: Naming, R: Abort + Wait>(
         }
     }
     let (pass, noted) = commander.finish();
-    holds(rt, row.name, "the faults", faults_are(&noted, row.faults));
-    holds(
+    holds_of(rt, row.name, "the faults", faults_are(&noted, row.faults));
+    holds_of(
         rt,
         row.name,
         "the answer of a full map",
         refused_by_a_full_map(&noted),
     );
     let told = (gate.times.get(), gate.last.get());
-    same(rt, row.name, "what was told", &told, &(row.told, row.told));
+    same_fact(rt, row.name, "what was told", &told, &(row.told, row.told));
     close(rt, alloc, shards, pass, row)
 }
 
@@ -252,7 +252,7 @@ fn reclaimed<B: Naming, R: Abort + Wait>(
         reclaiming.round();
     }
     let pass = reclaiming.finish();
-    same(rt, row.name, "what was told", &gate.times.get(), &row.told);
+    same_fact(rt, row.name, "what was told", &gate.times.get(), &row.told);
     close(rt, alloc, shards, pass, row)
 }
 
@@ -336,7 +336,7 @@ fn commanded<B: Naming, R: Abort + Wait>(
     let (shards, mut dealer) = opened.share::<B>(alloc)?;
     let pass = dealer.pass(alloc, Caller::Controller)?;
     let size = table_size(shards.maps());
-    holds(rt, row.name, "the size of the table", size.is_some());
+    holds_of(rt, row.name, "the size of the table", size.is_some());
     let Some(size) = size else {
         return Ok(());
     };
@@ -359,7 +359,7 @@ fn commanded<B: Naming, R: Abort + Wait>(
     } = ended;
     let Commanded { pass, noted } = given;
     let are_so = !is_refused && faults_are(&noted, row.faults);
-    holds(
+    holds_of(
         rt,
         row.name,
         "the faults, with memory for each note",

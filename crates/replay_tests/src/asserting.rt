@@ -1,25 +1,76 @@
-//! Comparisons, which are proved once for all tests of this crate.
+//! What ends a test: comparisons that are proved once for all tests. The message names the row, and what is compared.
 
-use std::fmt::Debug;
+ghost use Rattle.std.specs.Prelude.{◌≡◌, true};
+
+use std::alloc::Global;
+use std::fmt::{Debug, Display};
 use std::process::Abort;
+use std::test::Fail;
 
-/// Ends the test where a value is not the wanted one. The message says what it is, and of which row.
-pub(crate) fn same<T: PartialEq + Debug>(
+/// Ends the test where a value is not the wanted one.
+pub(crate) fn same<T: PartialEq + Debug>(rt: &impl Abort, name: &str, found: &T, wanted: &T) {
+    assert_eq!(rt; *found, *wanted, "{name}");
+}
+
+/// The same of one of several facts of a row.
+pub(crate) fn same_fact<T: PartialEq + Debug>(
     rt: &impl Abort,
     name: &str,
-    what: &str,
+    fact: &str,
     found: &T,
     wanted: &T,
 ) {
-    assert_eq!(rt; *found, *wanted, "{what} of {name}");
+    assert_eq!(rt; *found, *wanted, "{name}: {fact}");
 }
 
 /// The same of bytes.
-pub(crate) fn same_bytes(rt: &impl Abort, name: &str, what: &str, found: &[u8], wanted: &[u8]) {
-    assert_eq!(rt; found, wanted, "{what} of {name}");
+pub(crate) fn same_bytes_of(rt: &impl Abort, name: &str, fact: &str, found: &[u8], wanted: &[u8]) {
+    assert_eq!(rt; found, wanted, "{name}: {fact}");
 }
 
-/// Ends the test where something does not hold. The message says what does not, and of which row.
-pub(crate) fn holds(rt: &impl Abort, name: &str, what: &str, is_so: bool) {
-    assert!(rt; is_so, "{what} of {name}");
+/// The same of one of many numbers.
+pub(crate) fn same_at<T: PartialEq + Debug>(
+    rt: &impl Abort,
+    what: &str,
+    at: u64,
+    found: &T,
+    wanted: &T,
+) {
+    assert_eq!(rt; *found, *wanted, "{what} {at}");
+}
+
+/// The same of bytes.
+pub(crate) fn same_bytes(rt: &impl Abort, name: &str, found: &[u8], wanted: &[u8]) {
+    assert_eq!(rt; found, wanted, "{name}");
+}
+
+/// Ends the test where something does not hold.
+pub(crate) fn holds(rt: &impl Abort, name: &str, is_so: bool)
+    ensures { is_so ≡ true }
+{
+    assert!(rt; is_so, "{name}");
+}
+
+/// The same of one of several facts of a row.
+pub(crate) fn holds_of(rt: &impl Abort, name: &str, fact: &str, is_so: bool) {
+    assert!(rt; is_so, "{name}: {fact}");
+}
+
+/// The same of one of many numbers.
+pub(crate) fn holds_at(rt: &impl Abort, what: &str, at: u64, is_so: bool)
+    ensures { is_so ≡ true }
+{
+    assert!(rt; is_so, "{what} {at}");
+}
+
+/// Ends the test where a value is not printed so.
+pub(crate) fn prints<T: Display>(
+    rt: &impl Abort,
+    alloc: Global,
+    value: &T,
+    wanted: &str,
+) -> Result<(), Fail> {
+    let printed = format!(in alloc; "{value}")?;
+    assert_eq!(rt; printed.as_str(), wanted);
+    Ok(())
 }

@@ -1,4 +1,4 @@
-//! Tests of the public calls of `replay`, `runs`, `steer` and `guarantees`.
+//! Tests of the public calls of `wire`, `journals`, `runs`, `rx_queues`, `maglev`, `ipip`, `conntrack`, `control`, `steer`, `replay` and `guarantees`.
 #![tactic(auto)]
 
 #[cfg(test)]
@@ -6,10 +6,32 @@ mod acting;
 #[cfg(test)]
 mod asserting;
 #[cfg(test)]
+mod captures;
+#[cfg(test)]
+mod commands;
+#[cfg(test)]
+mod crews;
+#[cfg(test)]
+mod datagrams;
+#[cfg(test)]
+mod frame_rows;
+#[cfg(test)]
 mod guaranteed;
+#[cfg(test)]
+mod journals_in_files;
+#[cfg(test)]
+mod lookup_tables;
+#[cfg(test)]
+mod receive_queues;
 #[cfg(test)]
 mod replays;
 #[cfg(test)]
 mod single_runs;
 #[cfg(test)]
+mod slow_devices;
+#[cfg(test)]
+mod steered_frames;
+#[cfg(test)]
 mod steering;
+#[cfg(test)]
+mod tunnels;

@@ -7,7 +7,7 @@ mod shipped_program;
 
 ghost use Rattle.std.specs.Prelude.{◌≡◌, ◌≤◌, ◌<◌, ◌^◌, length};
 
-use crate::asserting::{holds, same, same_bytes};
+use crate::asserting::{holds_of, same_bytes_of, same_fact};
 use control::parse_script;
 use disasm::assemble;
 use journals::write_journals;
@@ -254,7 +254,7 @@ fn replayed<R: Threads + Abort + Wait + Sync, G: Gate + Sync>(
 ) -> Result<Outcome, Fail> {
     let capture = captured(alloc, row.frames)?;
     let outcome = replayed_on(rt, alloc, row, &capture, gate)?;
-    same(rt, row.name, "the counts", &outcome.counts, &row.counts);
+    same_fact(rt, row.name, "the counts", &outcome.counts, &row.counts);
     Ok(outcome)
 }
 
@@ -300,7 +300,7 @@ const ONE_RUN: &str = "XLBJ 1 1 1 16
 fn one_frame_is_sent(rt: HostRuntime) -> Result<(), Fail> {
     let outcome = replayed(&rt, rt.alloc(), &ONE_FRAME, &NoGate)?;
     let sent = sent_file(rt.alloc(), &outcome)?;
-    same(
+    same_fact(
         &rt,
         "one frame",
         "the length of what is sent",
@@ -308,7 +308,7 @@ fn one_frame_is_sent(rt: HostRuntime) -> Result<(), Fail> {
         &54,
     );
     let journals = journals_file(rt.alloc(), &outcome)?;
-    same_bytes(
+    same_bytes_of(
         &rt,
         "one frame",
         "the journals",
@@ -352,7 +352,7 @@ fn forty_flows_send<R: Threads + Abort + Wait + Sync>(
     };
     let outcome = replayed(rt, alloc, &row, &NoGate)?;
     let sent = sent_file(alloc, &outcome)?;
-    same_bytes(rt, row.name, "what is sent", sent.bytes(), wanted);
+    same_bytes_of(rt, row.name, "what is sent", sent.bytes(), wanted);
     Ok(())
 }
 
@@ -422,7 +422,7 @@ fn scripted<R: Threads + Abort + Wait + Sync>(
         ..ONE_FRAME
     };
     let outcome = replayed(rt, alloc, &row, &NoGate)?;
-    same(
+    same_fact(
         rt,
         name,
         "the number of refused commands",
@@ -430,7 +430,7 @@ fn scripted<R: Threads + Abort + Wait + Sync>(
         &refused,
     );
     let journals = journals_file(alloc, &outcome)?;
-    holds(
+    holds_of(
         rt,
         name,
         "the entry of the backends",

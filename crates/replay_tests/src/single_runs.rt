@@ -2,7 +2,7 @@
 
 ghost use Rattle.std.specs.Prelude.{◌≡◌, ◌≤◌, ◌<◌, length};
 
-use crate::asserting::{same, same_bytes};
+use crate::asserting::{same_bytes_of, same_fact};
 use disasm::assemble;
 use journals::{Journals, write_journals};
 use machine::{Exit, Moment, Stop};
@@ -351,7 +351,7 @@ fn leaves<R: Abort>(rt: &R, alloc: Global, row: &Row, journals: &Journals) -> Re
     };
     let mut file = MemorySink::new(alloc);
     write_journals(alloc, &mut file, journals)?;
-    same_bytes(
+    same_bytes_of(
         rt,
         row.name,
         "the journals",
@@ -370,11 +370,11 @@ fn ends_so<R: Abort>(
 ) -> Result<(), Fail> {
     match run {
         Ok(single) => {
-            same(rt, row.name, "the end", &Ok(single.ended), &row.end);
+            same_fact(rt, row.name, "the end", &Ok(single.ended), &row.end);
             leaves(rt, alloc, row, &single.journals)
         }
         Err(fault) => {
-            same(rt, row.name, "the end", &Err(fault), &row.end);
+            same_fact(rt, row.name, "the end", &Err(fault), &row.end);
             Ok(())
         }
     }
@@ -391,7 +391,7 @@ fn runs_so<R: Abort>(
     let mut frame = Frame::of(alloc, &[0; 14])?;
     let run = run_after(rt, alloc, verified, &mut frame, row, updates);
     let first_byte = frame.bytes().first().copied();
-    same(
+    same_fact(
         rt,
         row.name,
         "the first byte",
@@ -445,9 +445,9 @@ fn tells<R: Abort>(
     number: u8,
     text: &str,
 ) -> Result<(), Fail> {
-    same(rt, text, "the number", &fault.number(), &number);
+    same_fact(rt, text, "the number", &fault.number(), &number);
     let printed = format!(in alloc; "{fault}")?;
-    same(rt, text, "the text", &printed.as_str(), &text);
+    same_fact(rt, text, "the text", &printed.as_str(), &text);
     Ok(())
 }
 

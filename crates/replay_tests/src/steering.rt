@@ -13,7 +13,7 @@ mod sessions;
 mod worlds;
 mod wrong;
 
-use crate::asserting::{holds, same};
+use crate::asserting::{holds_of, same_fact};
 use conntrack::SteerFault;
 use std::alloc::Global;
 use std::process::Abort;
@@ -26,9 +26,9 @@ const SIZES: [(&str, u32); 4] = [("7", 7), ("251", 251), ("4093", 4093), ("65537
 /// The program for this many slots has six maps, and is accepted, as no reader.
 fn is_accepted(rt: &impl Abort, alloc: Global, name: &str, size: u32) -> Result<(), Fail> {
     let image = shipped(alloc, size)?;
-    same(rt, name, "the number of maps", &image.maps().len(), &6);
+    same_fact(rt, name, "the number of maps", &image.maps().len(), &6);
     let verified = verify(alloc, image)?;
-    holds(rt, name, "no reader", !verified.is_reader());
+    holds_of(rt, name, "no reader", !verified.is_reader());
     Ok(())
 }
 
@@ -58,7 +58,7 @@ fn is_refused(alloc: Global, size: u32) -> bool {
 #[test]
 fn other_sizes_are_refused(rt: HostRuntime) -> Result<(), Fail> {
     for (name, size) in OTHER_SIZES {
-        holds(&rt, name, "the refusal", is_refused(rt.alloc(), size));
+        holds_of(&rt, name, "the refusal", is_refused(rt.alloc(), size));
     }
     Ok(())
 }

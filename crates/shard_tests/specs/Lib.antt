@@ -1,0 +1,2 @@
+pub mod TwoWorkers
+pub mod ExampleMaps

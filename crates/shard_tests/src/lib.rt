@@ -1,4 +1,4 @@
-//! Tests of the public calls of `one_thread_map`, `map_cells`, `plain_maps`, `lru_maps`, `epochs`, `journal`, `journals`, `shard_core`, `shards` and `audit`.
+//! Tests of the public calls of `one_thread_map`, `epochs`, `map_cells`, `plain_maps`, `lru_maps`, `journal`, `shard_core`, `journals`, `audit`, `shards` and `shard_port`.
 #![tactic(auto)]
 
 #[cfg(test)]
@@ -22,4 +22,8 @@ mod one_thread_rows;
 #[cfg(test)]
 mod plain_keys;
 #[cfg(test)]
+mod port_rows;
+#[cfg(test)]
 mod shards_of_images;
+#[cfg(test)]
+mod shared_passes;

@@ -3,7 +3,7 @@
 ghost use Rattle.std.specs.Prelude.{◌≡◌, []};
 
 use super::programs::{ARRAY, EXIT, Program, accepted, look_up, mov};
-use crate::asserting::{same, same_bytes};
+use crate::asserting::{same_bytes_of, same_fact};
 use crate::replays::{capture, capture_file, one_record, segment};
 use control::parse_script;
 use ebpf_decode::Version;
@@ -72,10 +72,10 @@ fn sends<R: Threads + Abort + Wait + Sync>(
 ) -> Result<(), Fail> {
     let capture = capture(alloc, records)?;
     let outcome = replayed(rt, alloc, verified, &capture, workers)?;
-    same(rt, name, "the stopped runs", &outcome.counts.stopped, &0);
+    same_fact(rt, name, "the stopped runs", &outcome.counts.stopped, &0);
     let sent = capture_file(alloc, &outcome.sent)?;
     let file = capture_file(alloc, records)?;
-    same_bytes(rt, name, "what is sent", sent.bytes(), file.bytes());
+    same_bytes_of(rt, name, "what is sent", sent.bytes(), file.bytes());
     Ok(())
 }
 

@@ -6,7 +6,7 @@ use super::programs::{
     ARRAY, EXIT, MOMENT, ONE_ENTRY, OPTIONS, Program, SMALL, accepted, add, copy, jump_if, load,
     look_up, mov, put, store,
 };
-use crate::asserting::{same, same_bytes};
+use crate::asserting::{same_bytes_of, same_fact};
 use ebpf_decode::{Insn, MapDef, Version, decode};
 use guarantees::opened_shards_are_ready;
 use guarantees::running::worker_run;
@@ -40,7 +40,7 @@ pub(super) struct Run<'a> {
 fn says(rt: &impl Abort, shards: &mut PlainShards, run: &Run<'_>) {
     assert!(rt; (run.shard as usize) < shards.count());
     let journal = shards.shard(run.shard).journal();
-    same(
+    same_fact(
         rt,
         run.name,
         "the number of entries",
@@ -54,7 +54,7 @@ fn says(rt: &impl Abort, shards: &mut PlainShards, run: &Run<'_>) {
                 call: *call,
                 reply: *reply,
             };
-            same(rt, run.name, "an entry", &journal.entry(place), &wanted);
+            same_fact(rt, run.name, "an entry", &journal.entry(place), &wanted);
         }
     }
 }
@@ -111,8 +111,8 @@ fn leaves(rt: &impl Abort, alloc: Global, verified: &Verified, run: &Run<'_>) ->
     opened_shards_are_ready();
     let mut frame = Frame::of(alloc, run.frame)?;
     let end = worker_run(verified, run.options, &mut shards, &MOMENT, &mut frame);
-    same(rt, run.name, "the end", &end, &run.end);
-    same_bytes(rt, run.name, "the frame", frame.bytes(), run.frame);
+    same_fact(rt, run.name, "the end", &end, &run.end);
+    same_bytes_of(rt, run.name, "the frame", frame.bytes(), run.frame);
     says(rt, &mut shards, run);
     Ok(())
 }
@@ -379,7 +379,7 @@ fn a_full_journal(rt: HostRuntime) -> Result<(), Fail> {
     entries[0] = enter(0);
     entries[15] = leave(0);
     let full = Stop::JournalFull { shard: 0 };
-    same(&rt, "a full journal", "the number", &full.number(), &60);
+    same_fact(&rt, "a full journal", "the number", &full.number(), &60);
     let head = lookups(rt.alloc(), 15)?;
     let program = Program {
         version: Version::V1,

@@ -7,7 +7,7 @@ use super::shipped_program::{
     segments,
 };
 use super::{NONE, captured, journals_file, program};
-use crate::asserting::{holds, same, same_bytes};
+use crate::asserting::{holds_of, same_bytes_of, same_fact};
 use control::parse_script;
 use replay::{Applied, Counts, Gate, NoGate, Outcome, exact_replay};
 use semantics::{Caller, Options};
@@ -159,15 +159,15 @@ fn are_refused(refused: &[Applied], want: &[(usize, u8)]) -> bool {
 /// Compares what was sent, counted and refused.
 fn compare<R: Abort>(rt: &R, row: &Row, outcome: &Outcome) {
     let wrong = first_wrong(&outcome.sent, row.sent);
-    same(rt, row.name, "the first wrong frame", &wrong, &None);
+    same_fact(rt, row.name, "the first wrong frame", &wrong, &None);
     let counts = Counts {
         tx: row.sent.len() as u64,
         drop: row.frames.len().saturating_sub(row.sent.len()) as u64,
         ..NONE
     };
-    same(rt, row.name, "the counts", &outcome.counts, &counts);
+    same_fact(rt, row.name, "the counts", &outcome.counts, &counts);
     let refused = are_refused(&outcome.refused, row.refused);
-    holds(rt, row.name, "the refused commands", refused);
+    holds_of(rt, row.name, "the refused commands", refused);
 }
 
 /// Replays a row by so many workers, and compares.
@@ -183,7 +183,7 @@ fn is_exact<R: Threads + Abort + Wait + Sync>(
     let capture = segments(alloc, row.frames)?;
     let outcome = exactly(rt, alloc, verified, &capture, &script, workers, 1024, &gate)?;
     let wrong = gate.wrong.load(Ordering::SeqCst);
-    same(rt, row.name, "the wrong moments", &wrong, &0);
+    same_fact(rt, row.name, "the wrong moments", &wrong, &0);
     compare(rt, row, &outcome);
     Ok(())
 }
@@ -251,8 +251,8 @@ fn long_replay<R: Threads + Abort + Wait + Sync>(
         rt, alloc, verified, &capture, &script, workers, 65536, &NoGate,
     )?;
     let wrong = first_wrong(&outcome.sent, &want);
-    same(rt, "a long replay", "the first wrong frame", &wrong, &None);
-    same(
+    same_fact(rt, "a long replay", "the first wrong frame", &wrong, &None);
+    same_fact(
         rt,
         "a long replay",
         "the frames that are sent",
@@ -280,7 +280,7 @@ fn by_one_worker_the_journals_are_the_same_again(rt: HostRuntime) -> Result<(), 
     for _ in 0..3 {
         let again = long_replay(&rt, rt.alloc(), &verified, 1)?;
         let again = journals_file(rt.alloc(), &again)?;
-        same_bytes(
+        same_bytes_of(
             &rt,
             "a long replay",
             "the journals",
@@ -308,7 +308,7 @@ fn an_exact_down_meets_a_full_journal(rt: HostRuntime) -> Result<(), Fail> {
         &NoGate,
     )?;
     let refused = are_the_last_two(&outcome.refused);
-    holds(&rt, row.name, "the refused commands", refused);
-    same(&rt, row.name, "the counts", &outcome.counts, &row.counts);
+    holds_of(&rt, row.name, "the refused commands", refused);
+    same_fact(&rt, row.name, "the counts", &outcome.counts, &row.counts);
     Ok(())
 }

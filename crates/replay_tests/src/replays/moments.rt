@@ -2,7 +2,7 @@
 
 use super::gated;
 use super::shipped_program::{AT_FIRST, segments};
-use crate::asserting::same;
+use crate::asserting::same_fact;
 use replay::Gate;
 use semantics::Caller;
 use std::alloc::Global;
@@ -98,7 +98,7 @@ fn compare_held<R: Threads + Abort + Wait + Sync>(rt: &R, alloc: Global) -> Resu
     let capture = segments(alloc, &[40001; 100])?;
     let gate = Held::new();
     let outcome = gated(rt, alloc, &verified, &capture, &script, 1, 65536, &gate)?;
-    same(
+    same_fact(
         rt,
         name,
         "the frames that are sent",
@@ -106,7 +106,7 @@ fn compare_held<R: Threads + Abort + Wait + Sync>(rt: &R, alloc: Global) -> Resu
         &100,
     );
     let found = gate.found.load(Ordering::SeqCst);
-    same(
+    same_fact(
         rt,
         name,
         "the controller's replies while it is held",
@@ -114,7 +114,7 @@ fn compare_held<R: Threads + Abort + Wait + Sync>(rt: &R, alloc: Global) -> Resu
         &WITH_65,
     );
     let all = gate.controller.load(Ordering::SeqCst);
-    same(
+    same_fact(
         rt,
         name,
         "the controller's replies at the end",
@@ -122,7 +122,7 @@ fn compare_held<R: Threads + Abort + Wait + Sync>(rt: &R, alloc: Global) -> Resu
         &WITH_66,
     );
     let is_done = gate.done.load(Ordering::SeqCst) >= FIRST_RUN;
-    same(
+    same_fact(
         rt,
         name,
         "that the first frame is done at frame 66",

@@ -3,7 +3,7 @@
 use super::{
     COUNTS_TO_THREE, Frames, NONE, READS_ONE, Row, SENDS_ALL, has_part, journals_file, replayed,
 };
-use crate::asserting::{holds, same};
+use crate::asserting::{holds_of, same_fact};
 use replay::{Applied, Counts, Gate, NoGate, Outcome};
 use semantics::Caller;
 use std::alloc::Global;
@@ -144,7 +144,7 @@ fn told_so<R: Threads + Abort + Wait + Sync>(
 ) -> Result<Outcome, Fail> {
     let gate = Told::new();
     let outcome = replayed(rt, alloc, row, &gate)?;
-    same(rt, row.name, "what was told", &gate.counts(), &told);
+    same_fact(rt, row.name, "what was told", &gate.counts(), &told);
     Ok(outcome)
 }
 
@@ -185,7 +185,7 @@ fn fills<R: Threads + Abort + Wait + Sync>(rt: &R, alloc: Global, full: &Full) -
     let outcome = told_so(rt, alloc, row, [*told, 0, 0, 0])?;
     let journals = journals_file(alloc, &outcome)?;
     let end = ends_so(journals.bytes(), last);
-    same(
+    same_fact(
         rt,
         row.name,
         "the number of entries, and the end",
@@ -240,7 +240,7 @@ const HELD: [Held; 3] = [
 fn meet<R: Threads + Abort + Wait + Sync>(rt: &R, alloc: Global, held: &Held) -> Result<(), Fail> {
     let gate = Meeting::new(held.held, held.wanted, held.limit);
     let _ = replayed(rt, alloc, &held.row, &gate)?;
-    same(
+    same_fact(
         rt,
         held.row.name,
         "who met and who was late",
@@ -285,13 +285,13 @@ fn enters<R: Threads + Abort + Wait + Sync>(
 ) -> Result<(), Fail> {
     let outcome = replayed(rt, alloc, row, &NoGate)?;
     let journals = journals_file(alloc, &outcome)?;
-    holds(
+    holds_of(
         rt,
         row.name,
         "the worker that runs",
         has_part(journals.bytes(), runs),
     );
-    holds(
+    holds_of(
         rt,
         row.name,
         "the worker that rests",
@@ -363,14 +363,14 @@ pub(super) fn are_the_last_two(refused: &[Applied]) -> bool {
 fn a_down_meets_a_full_journal(rt: HostRuntime) -> Result<(), Fail> {
     let name = A_FULL_JOURNAL.name;
     let outcome = told_so(&rt, rt.alloc(), &A_FULL_JOURNAL, [0, 28, 2, 0])?;
-    holds(
+    holds_of(
         &rt,
         name,
         "the refused commands",
         are_the_last_two(&outcome.refused),
     );
     let journals = journals_file(rt.alloc(), &outcome)?;
-    holds(
+    holds_of(
         &rt,
         name,
         "the fourth table",

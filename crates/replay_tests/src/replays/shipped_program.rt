@@ -1,7 +1,7 @@
 //! The shipped program, replayed while a gate fixes between which frames the controller changes the backends.
 
 use super::{NONE, capture, gated, journals_file, one_record, segment};
-use crate::asserting::same;
+use crate::asserting::same_fact;
 use replay::{Counts, Gate, Outcome};
 use semantics::Caller;
 use std::alloc::Global;
@@ -255,14 +255,14 @@ fn steered<R: Threads + Abort + Wait + Sync>(
 
 /// Compares what was sent, what was counted, and what the journals have. No command is refused.
 fn compare<R: Abort>(rt: &R, alloc: Global, row: &Row, outcome: &Outcome) -> Result<(), Fail> {
-    same(
+    same_fact(
         rt,
         row.name,
         "the refused commands",
         &outcome.refused.len(),
         &0,
     );
-    same(
+    same_fact(
         rt,
         row.name,
         "the first wrong frame",
@@ -274,9 +274,9 @@ fn compare<R: Abort>(rt: &R, alloc: Global, row: &Row, outcome: &Outcome) -> Res
         drop: row.frames.len().saturating_sub(row.sent.len()) as u64,
         ..NONE
     };
-    same(rt, row.name, "the counts", &outcome.counts, &counts);
+    same_fact(rt, row.name, "the counts", &outcome.counts, &counts);
     let journals = journals_file(alloc, outcome)?;
-    same(
+    same_fact(
         rt,
         row.name,
         "the notes",
@@ -295,7 +295,7 @@ fn is_steered<R: Threads + Abort + Wait + Sync>(
 ) -> Result<(), Fail> {
     let gate = Order::new(row.holds);
     let outcome = steered(rt, alloc, row, verified, &gate)?;
-    same(
+    same_fact(
         rt,
         row.name,
         "who was late",

@@ -12,7 +12,7 @@ use super::numbers::Numbers;
 use super::program_runs::program;
 use super::sessions::options;
 use super::wrong::{WRONG, Wrong, wrong_program};
-use crate::asserting::{holds, same};
+use crate::asserting::{holds_of, same_fact};
 use shard_core::Shard;
 use shard_port::laws::opened_serve;
 use shards::PlainShards;
@@ -104,7 +104,7 @@ fn is_steered(
     met: &mut [u32; 28],
 ) -> Result<(), Fail> {
     let found = round_difference(rt, alloc, verified, round, met)?;
-    same(
+    same_fact(
         rt,
         "a round",
         "the number, and the difference",
@@ -156,7 +156,7 @@ fn is_wrong(rt: &impl Abort, alloc: Global, wrong: &Wrong) -> Result<(), Fail> {
     let (name, _block, _old, _new, want) = wrong;
     let verified = wrong_program(alloc, wrong)?;
     let differs = differs_so(rt, alloc, &verified, *want)?;
-    holds(rt, name, "the difference", differs);
+    holds_of(rt, name, "the difference", differs);
     Ok(())
 }
 

@@ -6,7 +6,7 @@ use super::asked::AllAsked;
 use super::program_runs::{changed, program};
 use super::sessions::{options, put_session, run_session};
 use super::worlds::{Keys, World};
-use crate::asserting::{holds, same};
+use crate::asserting::{holds_of, same_fact};
 use semantics::Verdict;
 use shard_core::Shard;
 use shard_port::laws::opened_serve;
@@ -92,7 +92,7 @@ fn visited(
     opened_serve();
     let keys = Keys::of(frame.bytes());
     let is_put = put_session(verified.image(), &mut shards, world, &keys);
-    holds(rt, "a world", "the records", is_put == Ok(true));
+    holds_of(rt, "a world", "the records", is_put == Ok(true));
     let exit = run_session(verified, &mut shards, frame)?;
     Ok((exit.verdict, shards.into_list()))
 }
@@ -103,10 +103,10 @@ fn costs(rt: &impl Abort, alloc: Global, verified: &Verified, row: &Row) -> Resu
     let mut frame = Frame::of(alloc, &changed(rt, *at, *byte))?;
     let world = world_of(*vip, *noted, *backends);
     let (found, shards) = visited(rt, alloc, verified, &world, &mut frame)?;
-    same(rt, name, "the verdict", &found, verdict);
+    same_fact(rt, name, "the verdict", &found, verdict);
     assert!(rt; shards.len() == 6);
     let asked = AllAsked::next(&shards, &mut [0; 6]);
-    same(rt, name, "the number of calls", &asked.calls(), calls);
+    same_fact(rt, name, "the number of calls", &asked.calls(), calls);
     Ok(())
 }
 

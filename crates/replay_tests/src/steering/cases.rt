@@ -11,7 +11,7 @@ use super::frames::Drawn;
 use super::numbers::Numbers;
 use super::sessions::{put_session, run_session};
 use super::worlds::{Keys, World};
-use crate::asserting::holds;
+use crate::asserting::holds_of;
 use conntrack::{Choice, SteeringMap, choose, index_key, steer};
 use isa::AtomicOp;
 use semantics::{Call, CellRef, Key, Value};
@@ -88,7 +88,7 @@ impl Case {
         let mut wanted = Frame::of(alloc, bytes)?;
         let choice = steer(&mut wanted, &self.world.records(&self.keys()));
         let is_put = put_session(verified.image(), shards, &self.world, &self.keys());
-        holds(rt, "a case", "the records", is_put == Ok(true));
+        holds_of(rt, "a case", "the records", is_put == Ok(true));
         let exit = run_session(verified, shards, &mut frame)?;
         Ok(if exit.verdict != choice.verdict() {
             Some(Difference::Verdict)

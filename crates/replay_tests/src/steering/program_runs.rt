@@ -3,7 +3,7 @@
 ghost use Rattle.std.specs.Prelude.{◌≡◌};
 
 use super::sessions::{Record, options, records_session, run_session};
-use crate::asserting::{holds, same, same_bytes};
+use crate::asserting::{holds_of, same_bytes_of, same_fact};
 use semantics::Verdict;
 use shard_port::laws::opened_serve;
 use shards::PlainShards;
@@ -114,7 +114,7 @@ fn steered(
     opened_serve();
     let slots = records_session(verified.image(), &mut shards, &SLOTS);
     let others = records_session(verified.image(), &mut shards, records);
-    holds(
+    holds_of(
         rt,
         name,
         "the records",
@@ -130,11 +130,11 @@ fn steers(rt: &impl Abort, alloc: Global, verified: &Verified, row: &Row) -> Res
     let bytes = changed(rt, *at, *byte);
     let mut frame = Frame::of(alloc, &bytes)?;
     let found = steered(rt, alloc, verified, row, &mut frame)?;
-    same(rt, name, "the verdict", &found, verdict);
+    same_fact(rt, name, "the verdict", &found, verdict);
     if *verdict == Verdict::Tx {
-        same_bytes(rt, name, "the sent frame", frame.bytes(), &SENT);
+        same_bytes_of(rt, name, "the sent frame", frame.bytes(), &SENT);
     } else {
-        same_bytes(rt, name, "the frame", frame.bytes(), &bytes);
+        same_bytes_of(rt, name, "the frame", frame.bytes(), &bytes);
     }
     Ok(())
 }

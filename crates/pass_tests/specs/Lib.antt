@@ -1,2 +1,0 @@
-pub mod TwoWorkers
-pub mod ExampleMaps

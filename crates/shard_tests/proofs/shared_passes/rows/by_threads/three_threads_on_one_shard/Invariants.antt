@@ -1,0 +1,6 @@
+use Rattle.std.proofs.Common.{length}
+use Rattle.shards.proofs.shared.Names.{table_names, plan_names, order_name}
+use Rattle.shard_tests.proofs.shared_passes.rows.by_threads.three_threads_on_one_shard.Given as goal
+
+abbrev pub ghosts-freely : goal.ghosts-freely
+ghosts-freely g a = record { count = length a.opened.shards; table = table_names a.opened; plan = plan_names a.opened; order = order_name a.opened }
