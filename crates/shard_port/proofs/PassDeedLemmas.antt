@@ -1,5 +1,5 @@
 -- What a chain of calls adds to a worker's deeds, in order.
-use Rattle.std.proofs.Common.{◌≡◌, ℕ, zero, suc, ◌<◌, ◌≤◌, ◌||◌, Bool, true, false, cond, List, [], ◌∷◌, ◌++◌, map, reverse, arith, refl, sym, ◌∙◌, ap, subst, append_assoc, append-nil}
+use Rattle.std.proofs.Common.{◌≡◌, ℕ, zero, suc, ◌<◌, ◌≤◌, ◌||◌, Bool, true, false, List, [], ◌∷◌, ◌++◌, reverse, arith, refl, sym, ◌∙◌, ap, subst, append_assoc}
 use Rattle.std.specs.Prelude.{◌==◌, if◌then◌else◌}
 use Rattle.std.proofs.lemmas.List.{reverse-append, map-append}
 use Rattle.std.proofs.lemmas.Bool.{eqb-true}
@@ -9,7 +9,6 @@ use Rattle.semantics.specs.declared.call.Caller.{Caller}
 use Rattle.semantics.specs.declared.call.Caller.TheVariants.{Worker}
 use Rattle.semantics.specs.declared.call.Call.{Call}
 use Rattle.semantics.specs.declared.call.Call.TheVariants.{Enter}
-use Rattle.semantics.specs.declared.call.Reply.{Reply}
 use Rattle.semantics.specs.declared.call.Entry.{Entry}
 use Rattle.semantics.specs.Reclamation.{is_inside}
 use Rattle.semantics.specs.History.{shard_of_call}
@@ -18,7 +17,7 @@ use Rattle.map_port.specs.Exchanges.{Exchange, IsChain}
 use Rattle.shards.specs.declared.deeds.Deed.{Deed}
 use Rattle.shards.specs.declared.deeds.Deed.TheVariants.{Wrote, MetFull}
 use Rattle.shards.specs.CallerView.{CallerView}
-use Rattle.shards.specs.Passes.{PassView, view_at, own_at, IsElsewhereSame}
+use Rattle.shards.specs.Passes.{PassView, own_at, IsElsewhereSame}
 use Rattle.shard_port.specs.Asking.{enter_by, leave_by, asked_entry}
 use Rattle.shard_port.specs.PortLaws.{inside_after_call}
 use Rattle.shard_port.specs.Sessions.{entry_of}

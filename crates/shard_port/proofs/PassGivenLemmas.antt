@@ -1,5 +1,5 @@
 -- What the calls of a pass's port give: the replies of a legal history.
-use Rattle.std.proofs.Common.{◌≡◌, ℕ, ◌+◌, ◌*◌, ◌/◌, ◌^◌, ◌<◌, ◌≤◌, true, List, ◌++◌, length, Some, arith, refl, sym, ◌∙◌, ap, subst}
+use Rattle.std.proofs.Common.{◌≡◌, ℕ, ◌+◌, ◌*◌, ◌/◌, ◌^◌, ◌<◌, ◌≤◌, true, List, ◌++◌, length, Some, arith, refl, sym, subst}
 use Rattle.std.specs.Prelude.{IsTrue, slice_get}
 use Rattle.std.proofs.Math.Nat.{mul-le-mul_right}
 use Rattle.ebpf_decode.specs.declared.map.MapDef.{MapDef}
@@ -16,7 +16,7 @@ use Rattle.semantics.specs.ShardPlan.{AreOptions}
 use Rattle.semantics.specs.PlanLimits.{HasImageSizes}
 use Rattle.semantics.specs.Reclamation.{inside_count}
 use Rattle.semantics.specs.SequentialShard.{shard_after, cell_of_key, lookup_reply, reply_of}
-use Rattle.semantics.specs.History.{shard_of_call, IsLegalStep, IsLegalHistory}
+use Rattle.semantics.specs.History.{IsLegalStep, IsLegalHistory}
 use Rattle.semantics.specs.RunTrace.{IsReplyTo}
 use Rattle.semantics.proofs.shared.PlanLemmas.{some_shards, few_parts}
 use Rattle.semantics.proofs.shared.FirstElement.{nothing_found}

@@ -1,11 +1,10 @@
 -- A call that a pass's port takes is one that its shard serves.
-use Rattle.std.proofs.Common.{◌≡◌, ℕ, zero, suc, ◌+◌, ◌*◌, ◌/◌, ◌%◌, ◌^◌, ◌<◌, ◌≤◌, Bool, true, false, ◌&&◌, nat_lt, nat_le, List, [], ◌∷◌, ◌++◌, length, Option, Some, None, arith, refl, sym, ◌∙◌, ap, subst}
-use Rattle.std.specs.Prelude.{◌==◌, IsTrue, is_some, slice_get}
+use Rattle.std.proofs.Common.{◌≡◌, ℕ, ◌+◌, ◌*◌, ◌/◌, ◌^◌, ◌<◌, ◌≤◌, true, List, length, Option, Some, None, arith, refl, sym, ◌∙◌, ap, subst}
+use Rattle.std.specs.Prelude.{◌==◌, IsTrue, slice_get}
 use Rattle.std.proofs.lemmas.Bool.Decides.{nat_tests}
 use Rattle.std.proofs.lemmas.Option.{slice_get_within}
 use Rattle.std.proofs.Math.Nat.{div-lt_iff_lt-mul}
 use Rattle.isa.specs.declared.operation.AtomicOp.{AtomicOp}
-use Rattle.isa.specs.InstructionCodes.{atomic_code}
 use Rattle.ebpf_decode.specs.declared.map.MapDef.{MapDef}
 use Rattle.semantics.specs.declared.options.Options.{Options}
 use Rattle.semantics.specs.declared.plan.ShardPlan.{ShardPlan}
@@ -36,7 +35,7 @@ use Rattle.shards.specs.HeldCells.{holds_own}
 use Rattle.shard_port.specs.PassPortLaws.{inside_once, stays_inside}
 use Rattle.shard_port.proofs.shared.ReadyLemmas.{plan_number}
 use Rattle.shard_port.proofs.shared.MayAskLemmas.{served_by, same_test, flags_test, fits_test, known_op, load_of_atomic, in_cell_of}
-use Rattle.shard_port.proofs.shared.PassAskLemmas.{IsPlannedAt, planned_at, below_workers}
+use Rattle.shard_port.proofs.shared.PassAskLemmas.{planned_at, below_workers}
 
 -- ---- keys
 

@@ -1,32 +1,29 @@
 -- The calls of a pass's port, by what its parts ensure.
-use Rattle.std.proofs.Common.{◌≡◌, ℕ, ◌+◌, ◌*◌, ◌/◌, ◌^◌, ◌<◌, List, Option, refl, sym, ◌∙◌, ap, subst}
-use Rattle.std.specs.Prelude.{ℤ, Result, IsTrue, IfOk, OnErr, FitsSigned}
+use Rattle.std.proofs.Common.{◌≡◌, ℕ, ◌^◌, ◌<◌, List, Option, sym, ◌∙◌, ap, subst}
+use Rattle.std.specs.Prelude.{ℤ, IsTrue, FitsSigned}
 use Rattle.std.specs.Int.{w32}
-use Rattle.std.proofs.lemmas.Result.{IfOk-weaker, on_err_weaker}
 use Rattle.isa.specs.declared.operation.AtomicOp.{AtomicOp}
 use Rattle.isa.specs.InstructionCodes.{atomic_code}
 use Rattle.semantics.specs.declared.plan.ShardPlan.{ShardPlan}
-use Rattle.semantics.specs.declared.full.JournalFull.{JournalFull}
 use Rattle.semantics.specs.declared.call.CellRef.{CellRef}
 use Rattle.semantics.specs.declared.call.Call.{Call}
 use Rattle.semantics.specs.declared.call.Call.TheVariants.{Lookup, Load, Store, Atomic, Update, Delete}
 use Rattle.semantics.specs.declared.call.Reply.{Reply}
 use Rattle.semantics.specs.declared.call.Reply.TheVariants.{Word, Done, Answer}
-use Rattle.semantics.specs.declared.call.Entry.{Entry}
 use Rattle.semantics.specs.ShardPlan.{AreOptions}
 use Rattle.semantics.specs.History.{shard_of_call, Meets}
 use Rattle.semantics.specs.RunTrace.{IsReplyTo}
 use Rattle.journal.specs.Entries.{found_reply}
 use Rattle.journals.specs.JournalsView.{AreImageMaps}
 use Rattle.semantics.specs.ServedCalls.{IsKeyOf, IsPairOf}
-use Rattle.map_port.specs.Served.{shard_of, IsReadable, IsStorable, IsAtomic, program_over, lookup_call, update_call, delete_call, atomic_call, reply_of_handle}
+use Rattle.map_port.specs.Served.{shard_of, IsReadable, IsStorable, IsAtomic, program_over, lookup_call, update_call, delete_call, reply_of_handle}
 use Rattle.semantics.proofs.shared.PlanLemmas.{some_shards}
 use Rattle.shards.specs.Passes.{PassView, view_at, own_at, IsElsewhereSame}
 use Rattle.shards.specs.SharedMaps.{SharedMaps, ArePlans}
 use Rattle.shard_port.specs.PortView.{IsRunCall, cell_of_handle, handle_of, has_small_cell}
 use Rattle.shard_port.specs.PassPorts.{is_worker_below, worker_of, inside_own, served_of, port_of, has_found, IsAskedBy, IsTurnedAwayBy, IsGivenBy, IsRefusedBy}
 use Rattle.shard_port.proofs.shared.PassAskLemmas.{is_worker}
-use Rattle.shard_port.proofs.PassMetLemmas.{IsAtKey, at_key, lookup_met, update_met, delete_met, IsAtPlace, at_place, load_met, store_met, change_met}
+use Rattle.shard_port.proofs.PassMetLemmas.{IsAtKey, at_key, lookup_met, update_met, delete_met, at_place, load_met, store_met, change_met}
 use Rattle.shard_port.proofs.PassGivenLemmas.{small_lookup, found_told, lookup_formed, word_below, changed_below}
 
 -- what is known before each call

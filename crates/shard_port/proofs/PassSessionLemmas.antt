@@ -1,18 +1,16 @@
 -- What a chain of calls adds to a worker's own entries.
-use Rattle.std.proofs.Common.{◌≡◌, ◌⊎◌, inl, inr, ⊎_elim, ℕ, zero, suc, ◌<◌, Bool, true, false, cond, List, [], ◌∷◌, ◌++◌, map, reverse, arith, refl, sym, ◌∙◌, ap, subst, append_assoc}
+use Rattle.std.proofs.Common.{◌≡◌, ◌⊎◌, inl, inr, ⊎_elim, ℕ, ◌<◌, Bool, true, false, cond, List, [], ◌∷◌, ◌++◌, map, reverse, arith, refl, sym, ◌∙◌, ap, subst, append_assoc}
 use Rattle.std.specs.Prelude.{◌==◌, if◌then◌else◌}
 use Rattle.std.specs.List.{filter}
 use Rattle.std.proofs.lemmas.List.{reverse-append}
 use Rattle.std.proofs.lemmas.Bool.Decides.{nat_tests}
 use Rattle.semantics.specs.declared.plan.ShardPlan.{ShardPlan}
-use Rattle.semantics.specs.declared.call.Caller.{Caller}
 use Rattle.semantics.specs.declared.call.Caller.TheVariants.{Worker}
 use Rattle.semantics.specs.declared.call.Call.{Call}
-use Rattle.semantics.specs.declared.call.Call.TheVariants.{Enter}
 use Rattle.semantics.specs.declared.call.Reply.{Reply}
 use Rattle.semantics.specs.declared.call.Entry.{Entry}
 use Rattle.semantics.specs.Reclamation.{is_inside}
-use Rattle.semantics.specs.History.{shard_of_call, IsJournalFull}
+use Rattle.semantics.specs.History.{shard_of_call}
 use Rattle.map_port.specs.Exchanges.{Exchange, IsChain}
 use Rattle.shards.specs.CallerView.{CallerView, BeginsWith, IsServed}
 use Rattle.shards.specs.Passes.{PassView, view_at, own_at, seen_at}
@@ -22,7 +20,7 @@ use Rattle.shard_port.specs.PortLaws.{same_worker, inside_after_call}
 use Rattle.shard_port.specs.Sessions.{entry_of, is_at, entries_at, begun, session}
 use Rattle.shard_port.specs.PassPorts.{PassPort, worker_of, entering, inside_own, IsAskedAt, CannotEnterAt, CannotCallAt, CannotEnterBy, CannotCallBy, IsTurnedAwayBy, IsLeft, IsGivenBy, IsRefusedBy, IsFinishedBy}
 use Rattle.shard_port.specs.PassPortLaws.{inside_once, stays_inside}
-use Rattle.shard_port.specs.PassSessions.{session_at, IsOutsideAt, AreWithin, HasSessions, IsVisitedAt, IsKeptOut, StoppedAtCall, StoppedAtEnter, HasRefusedSessions}
+use Rattle.shard_port.specs.PassSessions.{session_at, IsOutsideAt, AreWithin, HasSessions, IsVisitedAt, IsKeptOut, HasRefusedSessions}
 use Rattle.shard_port.proofs.PassDeedLemmas.{done_deeds, call_deeds, enter_deeds}
 use Rattle.shard_port.proofs.SessionLemmas.{is_some_entry}
 
@@ -327,11 +325,15 @@ call_begins plan worker number call middle after cannot =
           ∙ sym (append_assoc first cannot.begins.0 middle.seen),
     )
 
-refused_call : (plan : ShardPlan) (worker number : ℕ) (entries : List Entry) (call : Call) (before middle after finished : CallerView) →
-    IsWrittenAt worker number entries before middle → CannotCallAt plan number worker middle after call →
-    IsLeft (is_inside worker after.own) plan number worker after finished →
-    IsRefusedHere plan worker number entries call before finished
-refused_call plan worker number [] call before middle after finished written cannot left =
+-- a worker that had not called the shard entered it, met a full journal there, and left it
+pub record IsVisit (plan : ShardPlan) (worker number : ℕ) (before after finished : CallerView) : Type 0 where
+  pub served : IsServed plan after finished (leave_by worker number)
+  pub grown : IsGrown (enter_by worker number ∷ leave_by worker number ∷ []) before finished
+
+visit : (plan : ShardPlan) (worker number : ℕ) (call : Call) (before middle after finished : CallerView) →
+    IsWrittenAt worker number [] before middle → CannotCallAt plan number worker middle after call →
+    IsLeft (is_inside worker after.own) plan number worker after finished → IsVisit plan worker number before after finished
+visit plan worker number call before middle after finished written cannot left =
     let outside : is_inside worker middle.own ≡ false = written.inside in
     let entered : after.own ≡ enter_by worker number ∷ middle.own =
     cannot.own ∙ ap (λ (test : Bool). (if test then [] else enter_by worker number ∷ []) ++ middle.own) outside in
@@ -343,12 +345,29 @@ refused_call plan worker number [] call before middle after finished written can
     let grown : IsGrown (enter_by worker number ∷ leave_by worker number ∷ []) middle finished =
     grown_join (enter_by worker number ∷ []) (leave_by worker number ∷ []) middle after finished visited
     (served_grown plan after finished (leave_by worker number) served) in
-    let all : IsGrown (enter_by worker number ∷ leave_by worker number ∷ []) before finished =
-    grown_join [] (enter_by worker number ∷ leave_by worker number ∷ []) before middle finished written.grown grown in
     record {
-      written = inr (refl, all);
-      begins = all.begins;
-      outside = left_is_outside plan worker number after finished served;
+      served = served;
+      grown = grown_join [] (enter_by worker number ∷ leave_by worker number ∷ []) before middle finished written.grown grown;
+    }
+
+visited_own : (plan : ShardPlan) (worker number : ℕ) (entries : List Entry) (call : Call) (before middle after finished : CallerView) →
+    IsWrittenAt worker number entries before middle → CannotCallAt plan number worker middle after call →
+    IsLeft (is_inside worker after.own) plan number worker after finished → entries ≡ [] →
+    finished.own ≡ leave_by worker number ∷ enter_by worker number ∷ before.own
+visited_own plan worker number entries call before middle after finished written cannot left none =
+    (visit plan worker number call before middle after finished
+    (subst (λ (list : List Entry). IsWrittenAt worker number list before middle) none written) cannot left).grown.own
+
+refused_call : (plan : ShardPlan) (worker number : ℕ) (entries : List Entry) (call : Call) (before middle after finished : CallerView) →
+    IsWrittenAt worker number entries before middle → CannotCallAt plan number worker middle after call →
+    IsLeft (is_inside worker after.own) plan number worker after finished →
+    IsRefusedHere plan worker number entries call before finished
+refused_call plan worker number [] call before middle after finished written cannot left =
+    let here = visit plan worker number call before middle after finished written cannot left in
+    record {
+      written = inr (refl, here.grown);
+      begins = here.grown.begins;
+      outside = left_is_outside plan worker number after finished here.served;
     }
 refused_call plan worker number (first ∷ later) call before middle after finished written cannot left =
     let same : after.own ≡ middle.own = cannot.own ∙ stays_inside worker number middle.own written.inside in
@@ -437,6 +456,7 @@ writes_refused_own_sessions plan count worker before middle after finished excha
       }))
       (λ (cannot : CannotCallBy (plan (shard_of_call call)) (shard_of_call call) middle.pass after.pass call). inl (record {
         full = cannot.at.full;
+        visited = visited_at cannot;
         did = call_deeds plan count worker before middle after finished exchanges call who outside chain refused cannot left;
       })) refused.turned_away;
 }
@@ -461,6 +481,19 @@ writes_refused_own_sessions plan count worker before middle after finished excha
         refused_here (plan number) worker number (entries_at worker number exchanges) call _ (view_at middle.pass number)
         (view_at after.pass number) _ (written_at number within) (away_here plan count worker number middle after call middle_who refused same)
         (left_there number within)
+
+    visited_at : CannotCallBy (plan (shard_of_call call)) (shard_of_call call) middle.pass after.pass call →
+        entries_at worker (shard_of_call call) exchanges ≡ [] →
+        own_at finished (shard_of_call call)
+        ≡ leave_by worker (shard_of_call call) ∷ enter_by worker (shard_of_call call) ∷ own_at before.pass (shard_of_call call)
+    visited_at cannot none =
+        let mine : CannotCallAt (plan (shard_of_call call)) (shard_of_call call) worker (view_at middle.pass (shard_of_call call))
+        (view_at after.pass (shard_of_call call)) call =
+        subst (λ (w : ℕ). CannotCallAt (plan (shard_of_call call)) (shard_of_call call) w (view_at middle.pass (shard_of_call call))
+        (view_at after.pass (shard_of_call call)) call) (ap worker_of middle_who) cannot.at in
+        visited_own (plan (shard_of_call call)) worker (shard_of_call call) (entries_at worker (shard_of_call call) exchanges) call
+        (view_at before.pass (shard_of_call call)) (view_at middle.pass (shard_of_call call)) (view_at after.pass (shard_of_call call))
+        (view_at finished (shard_of_call call)) (written_at (shard_of_call call) refused.within) mine (left_there (shard_of_call call) refused.within) none
 
     kept_at : CannotEnterBy (plan (shard_of_call call)) (shard_of_call call) middle.pass after.pass →
         IsKeptOut (plan (shard_of_call call)) (seen_at after.pass (shard_of_call call)) worker exchanges (shard_of_call call)

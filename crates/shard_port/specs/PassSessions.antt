@@ -13,7 +13,7 @@ use Rattle.map_port.specs.Exchanges.{Exchange, IsChain}
 use Rattle.shards.specs.CallerView.{BeginsWith}
 use Rattle.shards.specs.Passes.{PassView, own_at, seen_at}
 use Rattle.shard_port.specs.Asking.{enter_by, leave_by}
-use Rattle.shard_port.specs.Sessions.{entries_at, begun, session}
+use Rattle.shard_port.specs.Sessions.{entries_at, session}
 use Rattle.shard_port.specs.PassDeeds.{run_deeds, deeds_to_call, deeds_to_enter}
 use Rattle.shard_port.specs.PassPorts.{PassPort, IsGivenBy, IsRefusedBy, IsFinishedBy}
 
@@ -56,6 +56,11 @@ pub record IsKeptOut (plan : ShardPlan) (full_at : List Entry) (worker : ℕ) (e
 pub record StoppedAtCall (plan : ShardPlan) (full_at : List Entry) (count worker : ℕ) (exchanges : List Exchange) (call : Call)
     (before after : PassView) : Type 0 where
   pub full : IsJournalFull plan full_at call
+  -- where the run entered the shard for this call alone, that is what the worker wrote there
+  pub visited :
+      entries_at worker (shard_of_call call) exchanges ≡ [] →
+      own_at after (shard_of_call call)
+      ≡ leave_by worker (shard_of_call call) ∷ enter_by worker (shard_of_call call) ∷ own_at before (shard_of_call call)
   pub did : after.deeds ≡ reverse (deeds_to_call worker count exchanges call) ++ before.deeds
 
 pub record StoppedAtEnter (plan : ShardPlan) (full_at : List Entry) (count worker : ℕ) (exchanges : List Exchange) (call : Call)

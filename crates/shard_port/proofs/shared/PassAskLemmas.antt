@@ -1,6 +1,6 @@
 -- A call by a pass, which enters the shard before where it is outside.
-use Rattle.std.proofs.Common.{◌≡◌, ◌⊎◌, inl, inr, ℕ, ◌/◌, ◌<◌, Bool, true, false, ◌&&◌, nat_lt, List, [], ◌∷◌, ◌++◌, Option, Some, None, arith, refl, sym, ◌∙◌, ap, subst}
-use Rattle.std.specs.Prelude.{◌==◌, IsTrue, IsFalse, slice_get, if◌then◌else◌, Result, Ok, Err, IfOk, IfErr, OnErr}
+use Rattle.std.proofs.Common.{◌≡◌, inl, inr, ℕ, ◌/◌, ◌<◌, Bool, true, false, nat_lt, List, [], ◌∷◌, ◌++◌, arith, refl, sym, ◌∙◌, ap, subst}
+use Rattle.std.specs.Prelude.{◌==◌, IsTrue, slice_get, if◌then◌else◌, Result, Ok, Err, IfOk, IfErr, OnErr}
 use Rattle.std.proofs.lemmas.Bool.Decides.{nat_tests}
 use Rattle.ebpf_decode.specs.declared.map.MapDef.{MapDef}
 use Rattle.semantics.specs.declared.options.Options.{Options}
@@ -12,23 +12,22 @@ use Rattle.semantics.specs.declared.call.Call.TheVariants.{Enter, Leave}
 use Rattle.semantics.specs.declared.call.Reply.{Reply}
 use Rattle.semantics.specs.declared.call.Reply.TheVariants.{Left}
 use Rattle.semantics.specs.declared.call.Entry.{Entry}
-use Rattle.semantics.specs.ShardPlan.{plan_at}
 use Rattle.semantics.specs.Reclamation.{is_inside}
-use Rattle.semantics.specs.History.{is_outside_worker, is_inside_worker, Meets}
+use Rattle.semantics.specs.History.{Meets}
 use Rattle.journal.specs.Entries as entries
 use Rattle.semantics.specs.declared.full.JournalFull.{JournalFull}
 use Rattle.shards.specs.declared.deeds.Deed.{Deed}
 use Rattle.shards.specs.declared.deeds.Deed.TheVariants.{Wrote, MetFull}
 use Rattle.shards.specs.declared.stopped.Stopped.{Stopped}
 use Rattle.shards.specs.declared.stopped.Stopped.TheVariants.{AtEnter, AtCall}
-use Rattle.shards.specs.CallerView.{CallerView, BeginsWith, IsServed, IsRefused}
+use Rattle.shards.specs.CallerView.{CallerView, IsServed, IsRefused}
 use Rattle.shards.specs.Deeds.{deed_by, deeds_by_both}
 use Rattle.shards.specs.Passes.{PassView, is_inside_of, view_at, own_at}
 use Rattle.shards.specs.SharedMaps.{ArePlans}
 use Rattle.shards.specs.Asked.{AreServed, IsServedThenRefused, IsAnswered, IsTurnedAway, EnteredAndAnswered, IsStopped}
 use Rattle.shard_port.specs.Asking.{enter_by, leave_by, asked_entry}
 use Rattle.shard_port.specs.PortLaws.{both_true}
-use Rattle.shard_port.specs.PassPorts.{is_worker_below, worker_of, entering, entered_deeds, left_deeds, inside_own, IsAskedAt, CannotEnterAt, CannotCallAt, IsAskedBy, IsTurnedAwayBy, IsLeft}
+use Rattle.shard_port.specs.PassPorts.{is_worker_below, worker_of, entering, entered_deeds, left_deeds, inside_own, IsAskedAt, CannotCallAt, IsAskedBy, IsTurnedAwayBy, IsLeft}
 use Rattle.shard_port.proofs.shared.ReadyLemmas.{plan_number}
 
 -- ---- who calls
