@@ -43,7 +43,7 @@ use Rattle.guarantees.proofs.LegalEntries.{entry_is_step}
 use Rattle.guarantees.proofs.Merge.{one_order_is_one_list}
 use Rattle.guarantees.proofs.NoneStopped.{is_long}
 use Rattle.guarantees.proofs.OpenedReplays.{record_of}
-use Rattle.guarantees.proofs.ReplayMoves.{has_moves}
+use Rattle.guarantees.proofs.ReplayMoves.{has_moves, moves_are_of_runs}
 use Rattle.guarantees.proofs.SharedRuns.{ran_in_system, stopped_in_system}
 
 -- ---- the records that are run have a whole header
@@ -213,6 +213,7 @@ replays_keep_it ran stopped verified safe script options records outcome fit cap
       ordered = accounted.ordered;
       work = work;
       moves = moves;
+      of_runs = moves_are_of_runs verified options accounted.plan accounted.count records accounted.runs outcome.journals accounted.order work;
       list = one_list verified options fit accounted.plan accounted.count accounted.plans accounted.runs outcome.journals accounted.legal accounted.order
           accounted.ordered moves;
       sent = accounted.sent;

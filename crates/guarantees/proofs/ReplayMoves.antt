@@ -34,7 +34,7 @@ use Rattle.replay.specs.Shares.{frames_of, share}
 use Rattle.guarantees.specs.Steps.{Move, Refused, AreSteps, running, begins, does, asks, beginning, leavings, entries_on, deeds_in}
 use Rattle.guarantees.specs.SystemRuns.{setting_of, HaveGrown, HaveDone, RanInSystem, HasStoppedInSystem}
 use Rattle.guarantees.specs.Merging.{is_refusal, NoneRefused}
-use Rattle.guarantees.specs.Headline.{moment_of, IsRunOfImage, IsStopOfImage, IsEitherOfImage}
+use Rattle.guarantees.specs.Headline.{moment_of, IsRunOfImage, IsStopOfImage, IsEitherOfImage, moves_to_stop, moves_of_either, moves_of_runs, AreOfRuns}
 use Rattle.guarantees.specs.ReplayMoves.{IsNotStopped, AreMovesOf, HasMoves}
 use Rattle.guarantees.proofs.DeedLemmas.{chosen_reversed}
 use Rattle.guarantees.proofs.EventLemmas.{append_on, append_deeds}
@@ -136,6 +136,13 @@ stopped_moves setting count worker plan moment frame before after kept_back (Jou
       met_none = λ none. absurd none;
     }
 
+stop_is : (setting : Setting) (count worker : ℕ) (plan : ℕ → ShardPlan) (moment : Moment) (frame : List ℕ) (before after : PassView)
+    (kept_back : FrameView) (stop : Stop) → (stopped : HasStoppedInSystem setting worker moment frame plan count before after kept_back stop) →
+    (stopped_moves setting count worker plan moment frame before after kept_back stop stopped).moves
+    ≡ moves_to_stop setting worker moment frame plan count before after kept_back stop stopped
+unfolding stopped_moves
+stop_is setting count worker plan moment frame before after kept_back (JournalFull shard) stopped = refl
+
 module _ (verified : Verified) (options : Options) (plan : ℕ → ShardPlan) (count worker : ℕ) where
   ended : (captured : Sent) (before after : PassView) (end : RunEnd) → IsRunOfImage verified options count worker captured before end after →
       RunMoves (setting_of verified options) count worker before after end
@@ -152,6 +159,18 @@ module _ (verified : Verified) (options : Options) (plan : ℕ → ShardPlan) (c
   one_run captured before after Dropped run = ended captured before after Dropped run
   one_run captured before after Passed run = ended captured before after Passed run
   one_run captured before after (IsSent sent) run = ended captured before after (IsSent sent) run
+
+  one_is : (captured : Sent) (before after : PassView) (end : RunEnd) →
+      (run : IsEitherOfImage verified options plan count worker captured before end after) →
+      (one_run captured before after end run).moves ≡ moves_of_either verified options plan count worker captured before end after run
+  unfolding one_run ended run_moves
+  one_is captured before after Stopped run =
+      stop_is (setting_of verified options) count worker plan (moment_of captured worker) captured.bytes.items before after run.frame run.stop
+      run.of_system
+  one_is captured before after Aborted run = refl
+  one_is captured before after Dropped run = refl
+  one_is captured before after Passed run = refl
+  one_is captured before after (IsSent sent) run = refl
 
   -- ---- all runs of a worker
 
@@ -179,6 +198,17 @@ module _ (verified : Verified) (options : Options) (plan : ℕ → ShardPlan) (c
         walks = walks_on (setting_of verified options) count worker before chain.0 after one.moves rest.moves one.walks rest.walks;
         met_none = λ none. all_both (λ (move : Move). IsFalse (is_refusal move.asked)) one.moves rest.moves (one.met_none none.0) (rest.met_none none.1);
       }
+
+  all_are : (records : List Sent) (runs : List Ran) (before after : PassView) →
+      (chain : IsChainOfRuns (IsRunAt (IsEitherOfImage verified options plan count worker) records) before runs after) →
+      (all_runs records runs before after chain).moves ≡ moves_of_runs verified options plan count worker records before runs after chain
+  unfolding all_runs
+  all_are records [] before after chain = refl
+  all_are records (ran ∷ later) before after chain =
+      ap (λ (moves : List Move). moves ++ (all_runs records later chain.0 after chain.2).moves)
+      (one_is chain.1.sent before chain.0 ran.end chain.1.run)
+      ∙ ap (λ (moves : List Move). moves_of_either verified options plan count worker chain.1.sent before ran.end chain.0 chain.1.run ++ moves)
+      (all_are records later chain.0 after chain.2)
 
 -- ---- what they wrote, beside the journals
 
@@ -242,3 +272,19 @@ module _ (verified : Verified) (options : Options) (plan : ℕ → ShardPlan) (c
     of_worker = λ worker below. chosen_are worker (nat_lt worker options.workers) refl below;
     of_others = λ worker past. none_chosen worker (nat_lt worker options.workers) refl past;
   }
+
+  chosen_of : (worker : ℕ) (test : Bool) → (is : nat_lt worker options.workers ≡ test) → worker < options.workers →
+      AreOfRuns verified options plan count worker records runs journals order work (chosen worker test is)
+  unfolding chosen moved
+  chosen_of worker true is below =
+      let did = work worker (less worker is) in
+      record {
+        below = less worker is;
+        are = all_are verified options plan count worker records (runs_at runs worker) did.handled.before did.after did.handled.chain;
+      }
+  chosen_of worker false is below = absurd (grind (arith, nat_tests, is, below))
+
+  pub moves_are_of_runs : (worker : ℕ) → worker < options.workers →
+      AreOfRuns verified options plan count worker records runs journals order work (has_moves.moves worker)
+  unfolding has_moves
+  moves_are_of_runs worker below = chosen_of worker (nat_lt worker options.workers) refl below

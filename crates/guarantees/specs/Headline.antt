@@ -2,7 +2,7 @@
 -- each reply is the one-thread map's at its own place; each run is a list of steps of the system around this image, with the verdict, the
 -- frame and the number of instructions of its program's trace on the replies that it was given; the steps of all workers, with what the
 -- controller and the reclaimer did, are one list of events.
-use Rattle.std.specs.Prelude.{◌≡◌, ℕ, ◌<◌, List, ◌∷◌, ◌++◌, length, reverse}
+use Rattle.std.specs.Prelude.{◌≡◌, ℕ, ◌<◌, List, [], ◌∷◌, ◌++◌, length, reverse}
 use Rattle.std.specs.List.{AllByRecursion}
 use Rattle.wire.specs.FrameView.{FrameView}
 use Rattle.wire.specs.declared.records.Sent.{Sent}
@@ -15,23 +15,26 @@ use Rattle.semantics.specs.History.{IsLegalJournal, IsSequentialStep}
 use Rattle.semantics.specs.Safety.{IsSafeImage}
 use Rattle.verifier.specs.Verified.{Verified}
 use Rattle.machine.specs.declared.exit.Stop.{Stop}
+use Rattle.machine.specs.declared.exit.Stop.TheVariants.{JournalFull}
 use Rattle.machine.specs.declared.moment.Moment.{Moment}
 use Rattle.machine.specs.Running.{program_of}
-use Rattle.journals.specs.JournalsView.{entries_at}
+use Rattle.journals.specs.JournalsView.{JournalsView, entries_at}
 use Rattle.shards.specs.declared.deeds.Deed.{Deed}
 use Rattle.shards.specs.Passes.{PassView}
 use Rattle.shards.specs.SharedMaps.{ArePlans}
 use Rattle.runs.specs.FrameRuns.{HasRun, HasStopped}
 use Rattle.replay.specs.declared.runner.RunEnd.{RunEnd}
-use Rattle.replay.specs.declared.runner.RunEnd.TheVariants.{Stopped}
+use Rattle.replay.specs.declared.runner.RunEnd.TheVariants.{Stopped, Aborted, Dropped, Passed, Sent as IsSent}
 use Rattle.replay.specs.declared.runner.Ran.{Ran}
 use Rattle.replay.specs.Accounts.{runs_at, sent_of, sent_frames}
-use Rattle.replay.specs.RunsInOrder.{IsRunAt}
+use Rattle.replay.specs.RunsInOrder.{IsRunAt, IsChainOfRuns}
 use Rattle.replay.specs.Shares.{frames_of, share}
 use Rattle.control.specs.declared.command.Command.{Command}
 use Rattle.replay.specs.declared.outcome.Outcome.{Outcome}
 use Rattle.replay.specs.Accounted.{IsWorkOf, IsOrderOf, IsAccounted}
 use Rattle.replay.specs.RunsOverShards.{time_of, start_of, IsTold}
+use Rattle.semantics.specs.System.{Setting}
+use Rattle.guarantees.specs.Steps.{Move, Refused, begins, does, asks, leavings}
 use Rattle.guarantees.specs.SystemRuns.{setting_of, RanInSystem, HasStoppedInSystem}
 use Rattle.guarantees.specs.ReplayMoves.{HasMoves}
 use Rattle.guarantees.specs.Merging.{IsOneList}
@@ -69,6 +72,58 @@ IsEitherOfImage verified options plan count worker captured before Stopped after
 IsEitherOfImage verified options plan count worker captured before end after =
     IsRunOfImage verified options count worker captured before end after
 
+-- ---- the moves of these runs
+
+-- a run that ended: it begins on its record's frame, at its moment, goes on, ends, and leaves the shards that it entered
+abbrev pub moves_of_run : (verified : Verified) (options : Options) (count worker : ℕ) (captured : Sent) (before : PassView) (end : RunEnd)
+    (after : PassView) → IsRunOfImage verified options count worker captured before end after → List Move
+moves_of_run verified options count worker captured before end after run =
+    begins worker captured.bytes.items (time_of captured) worker ∷ run.of_system.of_system.run ++
+    does worker ∷ leavings worker run.of_system.of_system.left
+
+-- a run that was stopped: its last step meets a full journal
+abbrev pub moves_to_stop : (setting : Setting) (worker : ℕ) (moment : Moment) (frame : List ℕ) (plan : ℕ → ShardPlan) (count : ℕ)
+    (before after : PassView) (kept_back : FrameView) (stop : Stop) →
+    HasStoppedInSystem setting worker moment frame plan count before after kept_back stop → List Move
+moves_to_stop setting worker moment frame plan count before after kept_back (JournalFull shard) stopped =
+    begins worker frame moment.now_ns moment.worker ∷ stopped.of_system.run ++
+    asks worker (Refused stopped.of_system.refused) ∷ leavings worker stopped.of_system.left
+
+abbrev pub moves_of_either : (verified : Verified) (options : Options) (plan : ℕ → ShardPlan) (count worker : ℕ) (captured : Sent)
+    (before : PassView) (end : RunEnd) (after : PassView) →
+    IsEitherOfImage verified options plan count worker captured before end after → List Move
+moves_of_either verified options plan count worker captured before Stopped after run =
+    moves_to_stop (setting_of verified options) worker (moment_of captured worker) captured.bytes.items plan count before after run.frame
+    run.stop run.of_system
+moves_of_either verified options plan count worker captured before Aborted after run =
+    moves_of_run verified options count worker captured before Aborted after run
+moves_of_either verified options plan count worker captured before Dropped after run =
+    moves_of_run verified options count worker captured before Dropped after run
+moves_of_either verified options plan count worker captured before Passed after run =
+    moves_of_run verified options count worker captured before Passed after run
+moves_of_either verified options plan count worker captured before (IsSent sent) after run =
+    moves_of_run verified options count worker captured before (IsSent sent) after run
+
+-- one run after the other
+abbrev pub moves_of_runs : (verified : Verified) (options : Options) (plan : ℕ → ShardPlan) (count worker : ℕ) (records : List Sent)
+    (before : PassView) (runs : List Ran) (after : PassView) →
+    IsChainOfRuns (IsRunAt (IsEitherOfImage verified options plan count worker) records) before runs after → List Move
+moves_of_runs verified options plan count worker records before [] after chain = []
+moves_of_runs verified options plan count worker records before (ran ∷ later) after chain =
+    moves_of_either verified options plan count worker chain.1.sent before ran.end chain.0 chain.1.run
+    ++ moves_of_runs verified options plan count worker records chain.0 later after chain.2
+
+-- the worker's moves are those of the runs that it made
+pub record AreOfRuns (verified : Verified) (options : Options) (plan : ℕ → ShardPlan) (count worker : ℕ) (records : List Sent)
+    (runs : List (List Ran)) (journals : JournalsView) (order : List Deed)
+    (work : (worker : ℕ) → worker < options.workers → IsWorkOf (IsRunAt (IsEitherOfImage verified options plan count worker) records)
+    (share (frames_of records) options.workers worker (length records)) worker (runs_at runs worker) count journals order)
+    (moves : List Move) : Type 0 where
+  pub below : worker < options.workers
+  pub are :
+      moves ≡ moves_of_runs verified options plan count worker records (work worker below).handled.before (runs_at runs worker)
+      (work worker below).after (work worker below).handled.chain
+
 -- the promise
 pub record Headline (verified : Verified) (options : Options) (records : List Sent) (outcome : Outcome) : Type 0 where
   -- whatever frames arrive and however the shared steps interleave, no run traps, and each ends within as many instructions as the image
@@ -99,6 +154,10 @@ pub record Headline (verified : Verified) (options : Options) (records : List Se
   -- and the worker's runs are one list of steps, from idle to idle, which wrote on each shard what its journal has of this worker, in order,
   -- and did over all shards what the order has of it
   pub moves : HasMoves (setting_of verified options) count runs outcome.journals order
+  -- these steps are those of the runs in `work`, each on its record's frame, at its moment
+  pub of_runs :
+      (worker : ℕ) → worker < options.workers →
+      AreOfRuns verified options plan count worker records runs outcome.journals order work (moves.moves worker)
   -- the steps of all workers, with what the controller and the reclaimer did, are one list of events of the system, which can all happen
   -- from the opening on; each worker's are in their order in it; after it the histories are the journals, and every worker is idle
   pub list : IsOneList (setting_of verified options) count (λ number. entries_at outcome.journals number) moves.moves
