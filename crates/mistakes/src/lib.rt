@@ -1,11 +1,13 @@
-//! What is wrong with a file that a command refused, in lines for people: where, what was expected, and what to write in its place.
+//! What is wrong with a file, or with options, that a command refused, in lines for people: where, what was expected, and what to write in its place.
 #![tactic(auto)]
 
 mod captures;
 mod frames;
+mod histories;
 mod images;
 mod kinds;
 mod notes;
+mod openings;
 mod quoting;
 mod scripts;
 mod spacing;
@@ -15,5 +17,7 @@ mod words;
 
 pub use captures::about_capture;
 pub use frames::about_frame;
+pub use histories::{about_entry, about_journals};
 pub use images::{about_image, about_map};
+pub use openings::{about_options, about_worker};
 pub use scripts::about_script;

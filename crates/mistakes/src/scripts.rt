@@ -12,7 +12,7 @@ use std::alloc::{AllocError, Global};
 use text_lines::{count_of, cut, text_or_line};
 
 /// The lines before the one of a number, the line, and whether it ends with a line feed; none where there is no such line.
-fn line_at(text: &str, line: usize) -> Option<(&str, &str, bool)> {
+pub(crate) fn line_at(text: &str, line: usize) -> Option<(&str, &str, bool)> {
     let mut rest = text;
     let mut before = "";
     for _ in 1..line {

@@ -2,4 +2,5 @@
 
 mod asserting;
 mod files;
+mod replays;
 mod scripts;

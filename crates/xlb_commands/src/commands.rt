@@ -17,11 +17,11 @@ ghost use Rattle.disasm.specs.declared.fault.AsmFault.TheVariants.{BadLine};
 use crate::fault::{Fault, Refusal};
 use crate::hints;
 use crate::report::accepted;
-use audit::audit;
+use audit::{AuditFault, audit};
 use disasm::{AsmFault, assemble, text};
 use ebpf_decode::{DecodeFault, Image, decode, encode};
 use folders::{Folder, FolderFault, Front};
-use journals::journals_of;
+use journals::{FileFault, Journals, journals_of};
 use reasons::explain;
 use semantics::facts::frame_may_come_in;
 use source_form::{SourceFault, assemble_source, explain as explain_source, source};
@@ -291,12 +291,32 @@ pub fn audit_file<D: Folder>(
     let bytes = bytes_of(alloc, folder, journals)?;
     let journals = match journals_of(alloc, &image, &bytes) {
         Ok(journals) => journals,
-        Err(fault) => return Err(Refusal::from(Fault::Journals(fault))),
+        Err(fault) => return Err(refused_journals(alloc, &bytes, fault)),
     };
     match audit(alloc, &journals) {
         Ok(()) => Ok(String::from_str(alloc, LEGAL)?),
-        Err(fault) => Err(Refusal::from(Fault::Audit(fault))),
+        Err(fault) => Err(illegal(alloc, &bytes, &journals, fault)),
     }
+}
+
+/// Bytes that are no journals of the image's maps.
+fn refused_journals(alloc: Global, bytes: &[u8], fault: FileFault) -> Refusal
+    ensures { result.fault ≡ Fault.Journals fault }
+{
+    Refusal::hinted(
+        Fault::Journals(fault),
+        hints::of_journals(alloc, bytes, fault),
+    )
+}
+
+/// Journals that are not legal.
+fn illegal(alloc: Global, bytes: &[u8], journals: &Journals, fault: AuditFault) -> Refusal
+    ensures { result.fault ≡ Fault.Audit fault }
+{
+    Refusal::hinted(
+        Fault::Audit(fault),
+        hints::of_audit(alloc, bytes, journals, fault),
+    )
 }
 
 /// The text of a file, if all of it is UTF-8; else 21 with the line of the first byte that is not.

@@ -1,8 +1,15 @@
 //! Lines for people below a fault's line: what the file is, and where it is wrong.
 
+use audit::AuditFault;
 use control::ControlFault;
-use ebpf_decode::DecodeFault;
-use mistakes::{about_capture, about_frame, about_image, about_map, about_script};
+use ebpf_decode::{DecodeFault, MapDef};
+use journals::{FileFault, Journals};
+use mistakes::{
+    about_capture, about_entry, about_frame, about_image, about_journals, about_map, about_options,
+    about_script, about_worker,
+};
+use replay::ReplayFault;
+use semantics::Options;
 use source_form::{SourceFault, assemble_source};
 use std::alloc::{AllocError, Global};
 use wire::{CaptureFault, FrameFault};
@@ -55,6 +62,63 @@ pub(crate) fn of_script(
         ControlFault::BadLine { line } => Ok(Some(about_script(alloc, bytes, line)?)),
         _ => Ok(None),
     }
+}
+
+/// Of bytes that are no journals of an image's maps.
+pub(crate) fn of_journals(
+    alloc: Global,
+    bytes: &[u8],
+    fault: FileFault,
+) -> Result<Option<String>, AllocError> {
+    match fault {
+        FileFault::BadJournalFile { line } => Ok(Some(about_journals(alloc, bytes, line)?)),
+        _ => Ok(None),
+    }
+}
+
+/// Of the bytes of journals that are not legal.
+pub(crate) fn of_audit(
+    alloc: Global,
+    bytes: &[u8],
+    journals: &Journals,
+    fault: AuditFault,
+) -> Result<Option<String>, AllocError> {
+    match fault {
+        AuditFault::Illegal { shard, place } => {
+            let line = line_of_entry(journals, shard, place);
+            Ok(Some(about_entry(alloc, bytes, line)?))
+        }
+        _ => Ok(None),
+    }
+}
+
+/// The line of an entry in the file of these journals: behind the header, and the entries of the shards before its own.
+fn line_of_entry(journals: &Journals, shard: usize, place: usize) -> usize {
+    let mut line = place.saturating_add(2);
+    'shards: for number in 0..journals.count() {
+        if number < shard {
+            line = line.saturating_add(journals.journal(number).len());
+        }
+    }
+    line
+}
+
+/// Of a replay that was given up.
+pub(crate) fn of_replay(
+    alloc: Global,
+    options: Options,
+    maps: &[MapDef],
+    fault: ReplayFault,
+) -> Result<Option<String>, AllocError> {
+    match fault {
+        ReplayFault::BadOptions => Ok(Some(about_options(alloc, options, maps)?)),
+        _ => Ok(None),
+    }
+}
+
+/// Of a worker that there is not.
+pub(crate) fn of_worker(alloc: Global, worker: u32) -> Result<Option<String>, AllocError> {
+    Ok(Some(about_worker(alloc, worker)?))
 }
 
 /// Of bytes that are no exact text.

@@ -1,8 +1,10 @@
 //! What a person is told of a replay that was made, besides its report.
 
+use control::{ControlFault, Script};
 use journals::Journals;
-use replay::Outcome;
+use replay::{Applied, Outcome};
 use std::alloc::{AllocError, Global};
+use text_lines::cut;
 use wire::Capture;
 
 /// The slots of the shipped program's lookup table, where the command line names no others.
@@ -30,9 +32,11 @@ impl Notes<'_> {
         &self,
         alloc: Global,
         capture: &Capture,
+        script: &Script,
         outcome: &Outcome,
     ) -> Result<String, AllocError> {
         let mut text = String::new(alloc);
+        put_refused(alloc, &mut text, script, &outcome.refused)?;
         self.put_ring(alloc, &mut text)?;
         self.put_cut(alloc, &mut text)?;
         if outcome.counts.stopped > 0 {
@@ -66,6 +70,71 @@ impl Notes<'_> {
             "cut {cut}: bytes were left out when these records were captured; flows of such frames may be judged wrongly\n"
         )?;
         text.push_str(line.as_str())
+    }
+}
+
+/// The most commands that are told in lines of their own.
+const MOST_TOLD: usize = 10;
+
+/// Which commands of the script were refused, and why: the line of each, which is its only command.
+fn put_refused(
+    alloc: Global,
+    text: &mut String,
+    script: &Script,
+    refused: &[Applied],
+) -> Result<(), AllocError> {
+    if refused.is_empty() {
+        return Ok(());
+    }
+    let lines = script.text(alloc)?;
+    for one in refused.iter().take(MOST_TOLD) {
+        put_command(alloc, text, lines.as_str(), one)?;
+    }
+    if refused.len() > MOST_TOLD {
+        let more = refused.len().saturating_sub(MOST_TOLD);
+        text.push_str(&format!(in alloc; "and {more} more commands of the script\n")?)?;
+    }
+    Ok(())
+}
+
+/// A command that was refused.
+fn put_command(
+    alloc: Global,
+    text: &mut String,
+    lines: &str,
+    one: &Applied,
+) -> Result<(), AllocError> {
+    let Some(fault) = one.fault else {
+        return Ok(());
+    };
+    let command = line_at(lines, one.command);
+    let line = one.command.saturating_add(1);
+    let why = why_refused(fault);
+    text.push_str(&format!(in alloc; "line {line} of the script, {command}: {why}\n")?)
+}
+
+/// The line at a place of a text, from 0; empty where there is none.
+fn line_at(text: &str, place: usize) -> &str {
+    let mut rest = text;
+    for _ in 0..place {
+        let (_, later) = cut(rest, '\n');
+        rest = later;
+    }
+    let (line, _) = cut(rest, '\n');
+    line
+}
+
+/// Why a command was refused.
+fn why_refused(fault: ControlFault) -> &'static str {
+    match fault {
+        ControlFault::UnknownBackend =>
+            "no such backend is up, or there is no such number: numbers are below 256 and below the ring's size",
+        ControlFault::BackendTwice => "this number or this address is up",
+        ControlFault::Refused { .. } => "the map refused it: it is full",
+        ControlFault::JournalFull =>
+            "a journal is full: --journal N, at most 1048576, makes more room",
+        ControlFault::Memory => "there was no memory for it",
+        _ => "it was refused",
     }
 }
 

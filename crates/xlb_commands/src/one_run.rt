@@ -11,6 +11,7 @@ ghost use Rattle.xlb_commands.specs.Refused.{HasFailed, IsRunFault, IsRunRefusal
 
 use crate::commands::{frame_of, judged_of};
 use crate::fault::{Fault, Refusal};
+use crate::hints;
 use crate::report::outcome;
 use crate::written::{journal_bytes, write_journals_to};
 use command_line::RunFiles;
@@ -52,6 +53,18 @@ fn moment_of(now: u64, worker: u32) -> Result<Moment, Fault>
     })
 }
 
+/// The same, with a note where there is no such worker.
+fn moment_for(alloc: Global, now: u64, worker: u32) -> Result<Moment, Refusal>
+    ensures below { IfOk result (λ moment. moment.worker < 8) }
+    ensures given { IfOk result (λ moment. (moment.now_ns ≡ now) × (moment.worker ≡ worker)) }
+    ensures only { IfErr result (λ refusal. (refusal.fault ≡ Fault.Options OpenFault.BadOptions) × (8 ≤ worker)) }
+{
+    match moment_of(now, worker) {
+        Ok(moment) => Ok(moment),
+        Err(fault) => Err(Refusal::hinted(fault, hints::of_worker(alloc, worker))),
+    }
+}
+
 /// What a run comes to.
 #[derive(Drop)]
 pub enum RunAnswer {
@@ -82,7 +95,7 @@ pub fn run_once<D: Folder>(
         return Ok(RunAnswer::Mistaken { place, misfit });
     }
     let mut frame = frame_of(alloc, folder, files.frame)?;
-    let moment = moment_of(now, worker)?;
+    let moment = moment_for(alloc, now, worker)?;
     let SingleRun { ended, journals } = run_over(alloc, &verified, &mut frame, &moment, updates)?;
     let exit = match ended {
         Ok(exit) => exit,

@@ -311,6 +311,14 @@ fn outcome_with<R: Threads + Wait + Sync, G: Gate + Sync>(
     Ok(outcome)
 }
 
+/// A replay that was given up.
+fn given_up(alloc: Global, options: Options, verified: &Verified, fault: ReplayFault) -> Refusal
+    ensures { result.fault ≡ Fault.Replay fault }
+{
+    let hint = hints::of_replay(alloc, options, verified.image().maps(), fault);
+    Refusal::hinted(Fault::Replay(fault), hint)
+}
+
 /// What a replay leaves, in memory: the bytes of its files, and its report.
 #[derive(Drop)]
 struct Leavings {
@@ -403,7 +411,7 @@ pub fn replay_files<R: Threads + Wait + Sync, D: Folder, P: Progress + Sync>(
         &rounds,
     ) {
         Ok(outcome) => outcome,
-        Err(fault) => return Err(Refusal::from(Fault::Replay(fault))),
+        Err(fault) => return Err(given_up(alloc, options, &verified, fault)),
     };
     let notes = Notes {
         cut,
@@ -411,7 +419,7 @@ pub fn replay_files<R: Threads + Wait + Sync, D: Folder, P: Progress + Sync>(
         image: files.image,
         summary,
     };
-    let notes = notes.text(alloc, &capture, &outcome).ok();
+    let notes = notes.text(alloc, &capture, &script, &outcome).ok();
     let left = left_of(
         alloc,
         capture.records.len(),

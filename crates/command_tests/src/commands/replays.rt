@@ -162,8 +162,12 @@ type Row = (
     &'static str,
 );
 
+/// What is said of a script whose commands have no maps.
+const NO_MAPS: &str =
+    "fault 51 BadOptions\n  --script: the program has other maps than those that a script's commands change\n  expected the shipped program, or with --program one that has its maps (docs/STEERING.md)\n";
+
 #[rattlefmt::skip]
-const ROWS: [Row; 17] = [
+const ROWS: [Row; 18] = [
     ("one frame is sent",        COUNTS_TO_THREE, "", ZEROS_14, "--image image --journal 16", 0, ONE_TX, "", ZEROS_14),
     ("none is",                  SENDS, "", HEAD, "--image image", 0, NO_FRAME, "", HEAD),
     ("13 bytes are short",       SENDS, "", ZEROS_13, "--image image", 0, ONE_SHORT, "", HEAD),
@@ -172,15 +176,16 @@ const ROWS: [Row; 17] = [
     ("the ring that is the default", SENDS, "", ZEROS_14, "--image image --ring 251", 0, ONE_TX, "", ZEROS_14),
     ("records that were cut",    SENDS, "", CUT_FRAMES, "--image image", 0, THREE_TX, CUT_TWO, THREE_ZEROS),
     ("a full journal",           READS_ONE, "", FIVE_ZEROS, "--image image --journal 16", 0, FIVE, FULL, HEAD),
-    ("a backend that isn't up",  "", "0 down 3\n", HEAD, "--script script", 1, "frames 0\nshort 0\nstopped 0\naborted 0\ndrop 0\npass 0\ntx 0\ncommand 1 refused 91\n", "", HEAD),
-    ("a backend twice",          "", "0 up 0 10.0.0.1\n0 up 0 10.0.0.1\n", HEAD, "--script script", 1, "frames 0\nshort 0\nstopped 0\naborted 0\ndrop 0\npass 0\ntx 0\ncommand 2 refused 92\n", "", HEAD),
-    ("a down and a full journal", "", "0 up 0 10.0.0.1\n0 up 1 10.0.0.2\n0 down 0\n0 up 2 10.0.0.3\n", HEAD, "--script script --journal 400", 1, "frames 0\nshort 0\nstopped 0\naborted 0\ndrop 0\npass 0\ntx 0\ncommand 3 refused 94\ncommand 4 refused 94\n", "", HEAD),
+    ("a backend that isn't up",  "", "0 down 3\n", HEAD, "--script script", 1, "frames 0\nshort 0\nstopped 0\naborted 0\ndrop 0\npass 0\ntx 0\ncommand 1 refused 91\n", "  line 1 of the script, 0 down 3: no such backend is up, or there is no such number: numbers are below 256 and below the ring's size\n", HEAD),
+    ("a backend twice",          "", "0 up 0 10.0.0.1\n0 up 0 10.0.0.1\n", HEAD, "--script script", 1, "frames 0\nshort 0\nstopped 0\naborted 0\ndrop 0\npass 0\ntx 0\ncommand 2 refused 92\n", "  line 2 of the script, 0 up 0 10.0.0.1: this number or this address is up\n", HEAD),
+    ("a down and a full journal", "", "0 up 0 10.0.0.1\n0 up 1 10.0.0.2\n0 down 0\n0 up 2 10.0.0.3\n", HEAD, "--script script --journal 400", 1, "frames 0\nshort 0\nstopped 0\naborted 0\ndrop 0\npass 0\ntx 0\ncommand 3 refused 94\ncommand 4 refused 94\n", "  line 3 of the script, 0 down 0: a journal is full: --journal N, at most 1048576, makes more room\n  line 4 of the script, 0 up 2 10.0.0.3: a journal is full: --journal N, at most 1048576, makes more room\n", HEAD),
     ("an image before a script", UNSET, "0 up\n", "", "--image image", 1, "", "fault 35 UnsetRegister slot 0 register 0\n", ""),
     ("a ring before a script",   "", "0 up\n", "", "--script script --ring 8", 1, "", "fault 73 BadSize\n", ""),
     ("a script before a capture", "", "0 vip 203.0.113.1 80 udp  notrack\n", "", "--script script", 1, "", "fault 90 BadLine line 1\n  line 1, column 25: \"  \": two spaces\n  expected one space between words\n  for example: 0 vip 203.0.113.1 80 tcp, with notrack as its last word where flows are not tracked\n", ""),
     ("an empty capture",         SENDS, "", "", "--image image --workers 9", 1, "", "fault 4 CutHead record 0\n  at byte 0 of 0\n", ""),
     ("a cut third record",       SENDS, "", CUT_ZEROS, "--image image", 1, "", "fault 5 CutFrame record 3\n  at byte 84 of 101\n", ""),
-    ("nine workers",             SENDS, "", ZEROS_14, "--image image --workers 9", 1, "", "fault 51 BadOptions\n", ""),
+    ("nine workers",             SENDS, "", ZEROS_14, "--image image --workers 9", 1, "", "fault 51 BadOptions\n  --workers 9\n  expected 1 to 8\n", ""),
+    ("a script without its maps", SENDS, "0 down 3\n", ZEROS_14, "--program image --script script", 1, "", NO_MAPS, ""),
 ];
 
 /// Frames that the shipped program steers.

@@ -35,7 +35,7 @@ const ROWS: [Row; 10] = [
     ("a short key",            " --update 0 01 00 --update 0 01000000 0000000000000000",            2, "", "error: update 1: a key of map 0 has 4 bytes, not 1\n"),
     ("no map 2",               " --update 0 07000000 0300000000000000 --update 2 07000000 0300000000000000", 2, "", "error: update 2: the image has no map 2\n"),
     ("a short value",          " --update 1 00000000 03",                                           2, "", "error: update 1: a value of map 1 has 8 bytes, not 1\n"),
-    ("no worker 8",            " --update 0 07000000 0300000000000000 --worker 8",                  1, "", "fault 51 BadOptions\n"),
+    ("no worker 8",            " --update 0 07000000 0300000000000000 --worker 8",                  1, "", "fault 51 BadOptions\n  --worker 8\n  expected 0 to 7\n"),
     ("a misfit before it",     " --update 2 00 00 --worker 8",                                      2, "", "error: update 1: the image has no map 2\n"),
 ];
 

@@ -21,7 +21,7 @@ pub returns-in-Err-clause-refused : goal.returns-in-Err-clause-refused
 returns-in-Err-clause-refused g c =
     let read = (c.in_ok-image.ensures.kept c.args.journals.now c.in_ok-bytes.bytes.items).1 c.in_ok-bytes.ensures.bytes in
     let why = subst (λ (text : List ℕ). Refuses c.in_ok-image.image.maps text c.in-Err.fault) c.deref.ensures.value c.in-Err.ensures.refused in
-    no_journals c.in_ok-image.image c.in_ok-bytes.bytes.items c.in-Err.fault c.in_ok-image.ensures.file read why c.from.ensures
+    no_journals c.in_ok-image.image c.in_ok-bytes.bytes.items c.in-Err.fault c.in_ok-image.ensures.file read why c.refused_journals.ensures
 
 pub returns-in_err-from_str-in-Ok-audit-clause-refused : goal.returns-in_err-from_str-in-Ok-audit-clause-refused
 returns-in_err-from_str-in-Ok-audit-clause-refused g c =
@@ -39,4 +39,4 @@ returns-clause-refused g c =
     let spelled = subst (λ (text : List ℕ). IsJournalsFile c.in_ok-image.image.maps text c.in-Ok.journals) c.deref.ensures.value c.in-Ok.ensures.found in
     not_legal c.in-Ok.journals c.in-Err-audit.fault
     (record { image = c.in_ok-image.image; file = c.in_ok-image.ensures.file; bytes = c.in_ok-bytes.bytes.items; read = read; spelled = spelled })
-    c.in-Err-audit.ensures.refused c.from-in-Err-audit.ensures
+    c.in-Err-audit.ensures.refused c.illegal.ensures

@@ -110,8 +110,8 @@ returns-in_err-moment-clause-refused g c =
     let read = inputs _ _ c.args.files.now _ program c.in_ok-frame.frame.bytes c.in_ok-verified.ensures.kept c.in_ok-verified.ensures.file
     c.in_ok-verified.ensures.safe fits c.in_ok-frame.ensures.read c.in_ok-frame.ensures.size in
     let p = err_from_is_err_and c.from_residual-in_err-moment.result c.from_residual-in_err-moment.ensures.1 in
-    rw p.1 (no_worker program c.in_ok-frame.frame.bytes (kept_twice _ _ _ c.judged_of.ensures.kept c.frame_of.ensures.kept)
-    read c.in_err-moment.ensures.only.1 (p.2 ∙ c.in_err-moment.ensures.only.0))
+    rw (p.1, p.2) (no_worker program c.in_ok-frame.frame.bytes (kept_twice _ _ _ c.judged_of.ensures.kept c.frame_of.ensures.kept)
+    read c.in_err-moment.ensures.only.1 c.in_err-moment.ensures.only.0)
 
 pub returns-in_err-ended-clause-refused : goal.returns-in_err-ended-clause-refused
 returns-in_err-ended-clause-refused g c =

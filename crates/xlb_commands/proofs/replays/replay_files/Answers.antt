@@ -150,7 +150,7 @@ returns-in-Err-clause-refused g c =
     (inputs _ _ _ c.args.files.now c.args.ring program _ _ c.program_of.ensures.kept c.script_of.ensures.kept
     (record { is = c.in_ok-verified.ensures.program; safe = c.in_ok-verified.ensures.safe }) c.in_ok-script.ensures.script c.in_ok-capture.ensures.capture)
     ((λ e. why.0 (ap (λ (fault : ReplayFault). Err fault) e)), (λ broken. same_fault _ _ (why.1 broken)))
-    c.from.ensures
+    c.given_up.ensures
 
 pub returns-in_err-left-clause-refused : goal.returns-in_err-left-clause-refused
 returns-in_err-left-clause-refused g c =

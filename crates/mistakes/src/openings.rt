@@ -1,0 +1,86 @@
+//! Of options that open no maps: which of them, and what it may be.
+
+ghost use Rattle.std.specs.Prelude.{string_bytes, IfOk};
+ghost use Rattle.mistakes.specs.Notes.{AreNotes};
+
+use crate::notes::notes_of;
+use ebpf_decode::MapDef;
+use semantics::Options;
+use std::alloc::{AllocError, Global};
+
+/// The lines on the number of an option.
+fn about_number(
+    alloc: Global,
+    option: &str,
+    number: u32,
+    expected: &str,
+) -> Result<String, AllocError>
+    ensures { IfOk result (λ text. AreNotes 3 (string_bytes text)) }
+{
+    let wrong = format!(in alloc; "--{option} {number}")?;
+    notes_of(alloc, wrong.as_str(), expected, "")
+}
+
+/// The first map whose entries are not divided by a number of shards, and its entries.
+fn uneven(maps: &[MapDef], shards: u32) -> Option<(usize, u32)> {
+    for (number, map) in maps.iter().enumerate() {
+        if map.max_entries.checked_rem(shards) != Some(0) {
+            return Some((number, map.max_entries));
+        }
+    }
+    None
+}
+
+/// The lines on maps that such a number of shards does not divide; or else on a script whose commands have no maps.
+fn about_maps(alloc: Global, shards: u32, maps: &[MapDef]) -> Result<String, AllocError>
+    ensures { IfOk result (λ text. AreNotes 3 (string_bytes text)) }
+{
+    let Some((map, entries)) = uneven(maps, shards) else {
+        return notes_of(
+            alloc,
+            "--script: the program has other maps than those that a script's commands change",
+            "expected the shipped program, or with --program one that has its maps (docs/STEERING.md)",
+            "",
+        );
+    };
+    let wrong = format!(in alloc; "--shards {shards}: map {map} has {entries} entries")?;
+    notes_of(
+        alloc,
+        wrong.as_str(),
+        "expected a number of shards that divides the entries of each map",
+        "",
+    )
+}
+
+/// Lines for people on options with which a replay over these maps was refused (fault 51): the first option that is wrong, and what it may be. Where
+/// none is, the maps are not those that the commands of a script change.
+///
+/// At most three lines, each with two spaces at its beginning and a line feed at its end. It can fail only for lack of memory.
+pub fn about_options(alloc: Global, options: Options, maps: &[MapDef]) -> Result<String, AllocError>
+    ensures { IfOk result (λ text. AreNotes 3 (string_bytes text)) }
+{
+    let Options {
+        workers,
+        shards,
+        journal,
+    } = options;
+    if workers < 1 || workers > 8 {
+        return about_number(alloc, "workers", workers, "expected 1 to 8");
+    }
+    if shards != 1 && shards != 2 && shards != 4 && shards != 8 {
+        return about_number(alloc, "shards", shards, "expected 1, 2, 4 or 8");
+    }
+    if journal < 16 || journal > 1_048_576 {
+        return about_number(alloc, "journal", journal, "expected 16 to 1048576");
+    }
+    about_maps(alloc, shards, maps)
+}
+
+/// Lines for people on a worker that there is not (fault 51 of a run).
+///
+/// At most three lines, each with two spaces at its beginning and a line feed at its end. It can fail only for lack of memory.
+pub fn about_worker(alloc: Global, worker: u32) -> Result<String, AllocError>
+    ensures { IfOk result (λ text. AreNotes 3 (string_bytes text)) }
+{
+    about_number(alloc, "worker", worker, "expected 0 to 7")
+}
