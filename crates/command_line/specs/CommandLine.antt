@@ -71,6 +71,12 @@ shipped_command =
     (with_rule (new_app (codes "shipped")) (file_rule (codes "OUT")))
     (number_rule (codes "ring") 4294967295 (codes "251"))
 
+abbrev pub table_command : App
+table_command =
+    with_rule
+    (with_rule (new_app (codes "table")) (file_rule (codes "SCRIPT")))
+    (number_rule (codes "ring") 4294967295 (codes "251"))
+
 -- a replay: its capture, and the file of what is sent
 abbrev pub replay_named : App
 replay_named = with_rule (with_rule (new_app (codes "replay")) (file_rule (codes "CAPTURE"))) (file_rule (codes "SENT"))
@@ -109,9 +115,11 @@ program =
     (with_subcommand
     (with_subcommand
     (with_subcommand
+    (with_subcommand
     (with_subcommand (with_subcommand (with_subcommand program_name check_command.top) run_command.top) disasm_command.top)
     asm_command.top)
     audit_command.top)
     explain_command.top)
     replay_command.top)
-    shipped_command.top
+    shipped_command.top)
+    table_command.top

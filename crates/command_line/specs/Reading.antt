@@ -12,7 +12,7 @@ use Rattle.semantics.specs.declared.options.Options.{Options}
 use Rattle.command_line.specs.declared.commands.ReplayFiles.{ReplayFiles}
 use Rattle.command_line.specs.declared.commands.RunFiles.{RunFiles}
 use Rattle.command_line.specs.declared.commands.Settings.{Settings}
-use Rattle.command_line.specs.declared.commands.Settings.TheVariants.{Check, Run, Disasm, Audit, Explain, Asm, Shipped, Replay}
+use Rattle.command_line.specs.declared.commands.Settings.TheVariants.{Check, Run, Disasm, Audit, Explain, Asm, Shipped, Replay, Table}
 use Rattle.command_line.specs.declared.words.WordsFault.{WordsFault}
 use Rattle.command_line.specs.declared.words.WordsFault.TheVariants.{Parser, UnknownFault, Both, TwoImages, Update}
 use Rattle.command_line.specs.declared.words.Asked.{Asked}
@@ -55,6 +55,7 @@ IsCommand name = IsTrue
     || bytes_eq name (codes "explain")
     || bytes_eq name (codes "replay")
     || bytes_eq name (codes "shipped")
+    || bytes_eq name (codes "table")
     || bytes_eq name (codes "asm"))
 
 -- both of two options are given
@@ -157,6 +158,9 @@ IsReadFrom name rows (Asm text out source) = is_named name (codes "asm")
     × IsSwitchOf (codes "source") rows source
 IsReadFrom name rows (Shipped out ring) = is_named name (codes "shipped")
     × (out.now ≡ word_of (codes "OUT") rows)
+    × IsNumberOf 32 (codes "ring") rows ring
+IsReadFrom name rows (Table script ring) = is_named name (codes "table")
+    × (script.now ≡ word_of (codes "SCRIPT") rows)
     × IsNumberOf 32 (codes "ring") rows ring
 IsReadFrom name rows (Replay files options ring exact summary) = is_named name (codes "replay")
     × AreReplayFiles rows files

@@ -45,6 +45,12 @@ pub enum Settings<'a> {
         /// How many slots its lookup table has.
         ring: u32,
     },
+    /// Prints the lookup table after each command of a script.
+    Table {
+        script: &'a str,
+        /// How many slots it has.
+        ring: u32,
+    },
     /// Runs the frames of a capture by some workers over shared maps, and writes those that are sent.
     Replay {
         files: ReplayFiles<'a>,

@@ -60,6 +60,9 @@ pub const SUMMARY: &str = "summary";
 /// The script of a replay.
 pub const SCRIPT: &str = "script";
 
+/// The script whose tables are printed.
+pub const TABLE_SCRIPT: &str = "SCRIPT";
+
 /// How many workers a replay has.
 pub const WORKERS: &str = "workers";
 
@@ -142,6 +145,17 @@ const AFTER_SHIPPED: &str = "\
 Prints nothing. The image is the program that replay runs where it is given
 none, with its maps: audit takes it for that program's journals, where the ring
 is the same.";
+
+const AFTER_TABLE: &str = "\
+Prints the lookup table that the controller of a replay writes, after each
+command of the script, in its order: a line
+  command <its number, from 1> frame <its frame> moved <slots> least <slots>
+with how many slots change hands, and the fewest that have to for the shares
+that follow, and then a line for each backend that is up
+  backend <number> address <address> slots <its share> percent <its share>
+A command that is refused has the line
+  command <its number, from 1> refused <fault number>
+in which case the status is 1, and a line on the standard error says why.";
 
 const AFTER_REPLAY: &str = "\
 Prints how many frames there were, and of them the ones shorter than an
@@ -370,6 +384,21 @@ fn shipped<'a>(alloc: Global) -> Result<Command<'a>, AllocError>
     .arg(ring(alloc))
 }
 
+fn table<'a>(alloc: Global) -> Result<Command<'a>, AllocError>
+    ensures app { IfOk result (λ command. app_of command ≡ line.table_command) }
+    ensures local { IfOk result (λ command. (out-Command command).has_globals ≡ false) }
+{
+    let script = file(alloc, TABLE_SCRIPT, "The controller's script");
+    command(
+        alloc,
+        "table",
+        "Prints the lookup table after each command of a script",
+        AFTER_TABLE,
+    )
+    .arg(script)?
+    .arg(ring(alloc))
+}
+
 /// The words of a replay that name a capture and the file of what is sent.
 fn replay_named<'a>(alloc: Global) -> Result<Command<'a>, AllocError>
     ensures app { IfOk result (λ command. app_of command ≡ line.replay_named) }
@@ -470,5 +499,6 @@ pub fn program<'a>(alloc: Global) -> Result<Command<'a>, AllocError>
         .subcommand(audit(alloc)?)?
         .subcommand(explain(alloc)?)?
         .subcommand(replay(alloc)?)?
-        .subcommand(shipped(alloc)?)
+        .subcommand(shipped(alloc)?)?
+        .subcommand(table(alloc)?)
 }

@@ -18,8 +18,8 @@ ghost use Rattle.clap.specs.declared.error.kind.ErrorKind.TheVariants.{DisplayHe
 use crate::commands::{ReplayFiles, RunFiles, Settings};
 use crate::grammar::{
     CAPTURE, EXACT, EXPLAIN, FAULT, FRAME, IMAGE, JOURNAL, JOURNALS, JOURNALS_OUT, NOW, OUT,
-    PROGRAM, REPLAY_IMAGE, RING, SCRIPT, SENT, SHARDS, SOURCE, SUMMARY, TEXT, UPDATE, WORKER,
-    WORKERS, program,
+    PROGRAM, REPLAY_IMAGE, RING, SCRIPT, SENT, SHARDS, SOURCE, SUMMARY, TABLE_SCRIPT, TEXT, UPDATE,
+    WORKER, WORKERS, program,
 };
 use clap::{ArgMatches, Error};
 use faults::Explanation;
@@ -164,6 +164,9 @@ fn asked_of<'a>(alloc: Global, name: &str, found: &ArgMatches<'a>) -> Asked<'a>
     if name == "shipped" {
         return Asked::Command(shipped_of(found));
     }
+    if name == "table" {
+        return Asked::Command(table_of(found));
+    }
     Asked::Command(command_of(name, found))
 }
 
@@ -274,6 +277,16 @@ fn shipped_of<'a>(found: &ArgMatches<'a>) -> Settings<'a>
     }
 }
 
+/// The settings of the command that prints lookup tables.
+fn table_of<'a>(found: &ArgMatches<'a>) -> Settings<'a>
+    ensures { IsReadFrom (codes "table") (rows_of (found_of found.now)) result }
+{
+    Settings::Table {
+        script: word(found, TABLE_SCRIPT),
+        ring: number_of(found, RING, 251),
+    }
+}
+
 /// The files of a replay.
 fn replay_files_of<'a>(found: &ArgMatches<'a>) -> ReplayFiles<'a>
     ensures { AreReplayFiles (rows_of (found_of found.now)) result }
@@ -319,13 +332,14 @@ fn switch(found: &ArgMatches<'_>, id: &str) -> bool
     found.get_flag(id)
 }
 
-/// The command of a name, but for `run`, `explain`, `replay` and `shipped`, with its words.
+/// The command of a name, but for `run`, `explain`, `replay`, `shipped` and `table`, with its words.
 fn command_of<'a>(name: &str, found: &ArgMatches<'a>) -> Settings<'a>
     requires command { IsCommand name.now }
     requires run { IsFalse (bytes_eq name.now (codes "run")) }
     requires explain { IsFalse (bytes_eq name.now (codes "explain")) }
     requires replay { IsFalse (bytes_eq name.now (codes "replay")) }
     requires shipped { IsFalse (bytes_eq name.now (codes "shipped")) }
+    requires table { IsFalse (bytes_eq name.now (codes "table")) }
     ensures { IsReadFrom name.now (rows_of (found_of found.now)) result }
 {
     if name == "check" {

@@ -19,9 +19,10 @@ mod replays;
 mod run_journals;
 mod shipped;
 mod sources;
+mod tables;
 mod updates;
 
-use crate::asserting::{holds, same_bytes, same_status};
+use crate::asserting::{holds_of, same_bytes_of, same_status};
 use command_line::settings;
 use folders::{Folder, MemoryFolder};
 use std::alloc::Global;
@@ -148,8 +149,8 @@ fn answered<R: Abort + Threads + Wait + Sync>(
     requires { folder.failures ≡ 0 }
 {
     let found = serve_line(rt, alloc, folder, line);
-    same_bytes(rt, "error", name, found.err.bytes(), wanted.err.as_bytes());
-    same_bytes(rt, "output", name, found.out.bytes(), wanted.out.as_bytes());
+    same_bytes_of(rt, name, "error", found.err.bytes(), wanted.err.as_bytes());
+    same_bytes_of(rt, name, "output", found.out.bytes(), wanted.out.as_bytes());
     same_status(rt, name, found.status, wanted.status);
     found
 }
@@ -181,7 +182,7 @@ fn left_by<R: Abort + Threads + Wait + Sync>(
     ensures { result.failures ≡ 0 }
 {
     let found = answered(rt, alloc, name, folder, line, wanted);
-    holds(rt, "device", name, found.folder.failures() == 0);
+    holds_of(rt, name, "device", found.folder.failures() == 0);
     found.folder
 }
 
@@ -198,7 +199,7 @@ fn succeeded<R: Abort + Threads + Wait + Sync>(
 {
     let found = serve_line(rt, alloc, folder, line);
     same_status(rt, name, found.status, 0);
-    holds(rt, "device", name, found.folder.failures() == 0);
+    holds_of(rt, name, "device", found.folder.failures() == 0);
     found
 }
 
@@ -245,14 +246,14 @@ fn compare_begins<R: Abort + Threads + Wait + Sync>(
 {
     let found = serve_line(rt, alloc, folder, line);
     same_status(rt, name, found.status, wanted.status);
-    begins(rt, "output", name, found.out.bytes(), wanted.out.as_bytes());
-    begins(rt, "error", name, found.err.bytes(), wanted.err.as_bytes());
+    begins(rt, name, "output", found.out.bytes(), wanted.out.as_bytes());
+    begins(rt, name, "error", found.err.bytes(), wanted.err.as_bytes());
 }
 
 /// Ends the test where bytes don't begin so, or are none or some where the others are not.
-fn begins(rt: &impl Abort, what: &str, name: &str, found: &[u8], wanted: &[u8]) {
-    holds(rt, what, name, found.starts_with(wanted));
-    holds(rt, what, name, found.is_empty() == wanted.is_empty());
+fn begins(rt: &impl Abort, name: &str, what: &str, found: &[u8], wanted: &[u8]) {
+    holds_of(rt, name, what, found.starts_with(wanted));
+    holds_of(rt, name, what, found.is_empty() == wanted.is_empty());
 }
 
 /// Holds a file of a folder against its bytes, and hands the folder back.
@@ -268,7 +269,7 @@ fn compare_file<R: Abort>(
     ensures { result.failures ≡ 0 }
 {
     let bytes = folder.read(alloc, file).expect(rt, "the file was written");
-    same_bytes(rt, file, name, &bytes, wanted);
+    same_bytes_of(rt, name, file, &bytes, wanted);
     folder
 }
 
@@ -292,7 +293,7 @@ fn lacks<R: Abort>(rt: &R, alloc: Global, name: &str, mut folder: MemoryFolder, 
     requires { folder.failures ≡ 0 }
 {
     let is_lacking = folder.read(alloc, file).is_err();
-    holds(rt, "no file", name, is_lacking);
+    holds_of(rt, name, "no file", is_lacking);
 }
 
 /// Holds that a command is refused, prints this, and writes no such file.

@@ -2,7 +2,7 @@
 
 ghost use Rattle.std.specs.Prelude.{◌≡◌, ◌-◌, ◌<◌, ◌^◌};
 
-use crate::asserting::{holds, same_bytes};
+use crate::asserting::{holds_of, same_bytes_of};
 use folders::{Folder, FolderFault, MemoryFolder};
 use std::alloc::{AllocError, Global};
 use std::process::Abort;
@@ -46,9 +46,9 @@ fn compare_front<R: Abort>(
         .expect(rt, "a file in memory");
     let front = folder.read_front(alloc, "file", most).expect(rt, "a front");
     let wanted = counted(alloc, given).expect(rt, "bytes");
-    holds(rt, "length", name, front.length == count as u64);
-    same_bytes(rt, "front", name, &front.bytes, &wanted);
-    holds(rt, "all", name, front.is_whole() == (given == count));
+    holds_of(rt, name, "length", front.length == count as u64);
+    same_bytes_of(rt, name, "front", &front.bytes, &wanted);
+    holds_of(rt, name, "all", front.is_whole() == (given == count));
 }
 
 #[test]
@@ -64,9 +64,9 @@ fn memory_has_no_other_file(rt: HostRuntime) {
     let name = "a file that is not there";
     let mut folder = MemoryFolder::new(alloc);
     let found = folder.read_front(alloc, "file", 4).map(|_| ());
-    holds(&rt, "the fault", name, found == Err(FolderFault::Device));
-    holds(&rt, "one failure", name, folder.failures() == 1);
+    holds_of(&rt, name, "the fault", found == Err(FolderFault::Device));
+    holds_of(&rt, name, "one failure", folder.failures() == 1);
     let complaint = folder.complaint(alloc, "file").expect(&rt, "a text");
     let wanted = b"cannot open file: there is no such file";
-    same_bytes(&rt, "complaint", name, complaint.as_bytes(), wanted);
+    same_bytes_of(&rt, name, "complaint", complaint.as_bytes(), wanted);
 }

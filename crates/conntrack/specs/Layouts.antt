@@ -1,5 +1,4 @@
--- How keys and records of the steering maps stand in bytes. Numbers are little-endian; a service's port stands as in a frame, high byte
--- first.
+-- The bytes of keys and records of the steering maps. Numbers are little-endian; a service's port is as in a frame, high byte first.
 use Rattle.std.specs.Prelude.{ℕ, suc, zero, ◌+◌, ◌%◌, ◌==◌, Bool, true, false, List, [], ◌∷◌, ◌++◌, Option, Some, None, take, drop}
 use Rattle.std.specs.Prelude.{slice_index}
 use Rattle.wire.specs.declared.flow.FlowKey.{FlowKey}
@@ -50,7 +49,8 @@ backend_bytes backend = backend.address.0 ++ bytes_of_number 4 (flag_number back
 
 abbrev pub tunnel_bytes : TunnelRecord → List ℕ
 tunnel_bytes tunnel =
-    tunnel.source.0 ++ tunnel.source_mac.0 ++ tunnel.destination_mac.0 ++ bytes_of_number 4 (flag_number tunnel.is_ready) ++ 0 ∷ 0 ∷ 0 ∷ 0 ∷ []
+    tunnel.source.0 ++ tunnel.source_mac.0 ++ tunnel.destination_mac.0 ++ bytes_of_number 4 (flag_number tunnel.is_ready) ++
+    0 ∷ 0 ∷ 0 ∷ 0 ∷ []
 
 -- ---- what bytes say
 

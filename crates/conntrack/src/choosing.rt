@@ -7,12 +7,9 @@ ghost use Rattle.conntrack.specs.SteeringRule.{IsSteered, fits_tunnel, choice_if
 ghost use Rattle.conntrack.specs.SteeringRule.{verdict_of_choice, tunnel_to, counted_verdict, is_set_up, flow_update};
 
 use crate::records::{BackendRecord, FlowRecord, TunnelRecord, VipRecord};
-use ipip::Tunnel;
+use ipip::{MOST_TUNNELLED, Tunnel};
 use semantics::Verdict;
 use wire::{FlowKey, Frame, Ipv4Address, flow_of};
-
-/// The most bytes of a packet that fits through the tunnel.
-const MOST: u16 = 1480;
 
 /// A backend that a map names, with its record, where it has one.
 #[derive(Clone, Copy, Debug, PartialEq, Eq)]
@@ -130,7 +127,7 @@ fn fits(frame: &[u8]) -> bool
     ensures { result ≡ fits_tunnel frame.now }
 {
     let total = u16::from(frame[16]) * 256 + u16::from(frame[17]);
-    frame[22] > 0 && total <= MOST
+    frame[22] > 0 && total <= MOST_TUNNELLED
 }
 
 fn set_up(tunnel: &Option<TunnelRecord>) -> bool

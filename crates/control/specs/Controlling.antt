@@ -27,7 +27,8 @@ has_address address server = bytes_eq server.address.0 address.0
 -- the backends with this one among them, by rising number
 abbrev pub with_backend : List Server → Server → List Server
 with_backend up server =
-    filter (λ (other : Server). nat_lt other.number server.number) up ++ server ∷ filter (λ (other : Server). nat_lt server.number other.number) up
+    filter (λ (other : Server). nat_lt other.number server.number) up ++
+    server ∷ filter (λ (other : Server). nat_lt server.number other.number) up
 
 abbrev pub without_backend : List Server → ℕ → List Server
 without_backend up number = filter (λ server. not (has_number number server)) up
@@ -125,7 +126,8 @@ abbrev pub updates_of : ControllerState → List Update → List ℕ → List Up
 updates_of state firsts owners = firsts ++ slot_updates (changes_below state.owners owners state.size)
 
 -- all updates are made, and these backends are up
-pub record IsCarriedOut {P : Type 0} (gives : P → UpdateBytes → ℤ → P → Type 0) (state : ControllerState) (before : P) (firsts : List Update) (up : List Server)
+pub record IsCarriedOut {P : Type 0} (gives : P → UpdateBytes → ℤ → P → Type 0) (state : ControllerState) (before : P)
+    (firsts : List Update) (up : List Server)
     (state' : ControllerState) (after : P) : Type 0 where
   pub owners : List ℕ
   pub table : IsTable state.size up owners
@@ -133,7 +135,8 @@ pub record IsCarriedOut {P : Type 0} (gives : P → UpdateBytes → ℤ → P �
   pub are_made : AreMade gives before (updates_of state firsts owners) after
 
 -- an update met a full journal: those before it remain, and the controller is full
-pub record IsStopped {P : Type 0} (gives : P → UpdateBytes → ℤ → P → Type 0) (refuses : P → UpdateBytes → P → Type 0) (state : ControllerState) (before : P)
+pub record IsStopped {P : Type 0} (gives : P → UpdateBytes → ℤ → P → Type 0) (refuses : P → UpdateBytes → P → Type 0)
+    (state : ControllerState) (before : P)
     (firsts : List Update) (up : List Server) (state' : ControllerState) (after : P) : Type 0 where
   pub owners : List ℕ
   pub table : IsTable state.size up owners
@@ -146,7 +149,8 @@ pub record IsUnchanged {P : Type 0} (state : ControllerState) (before : P) (stat
   pub port_is : after ≡ before
 
 -- the map of services gave this answer to the one update, and the controller is as it was
-pub record IsAnswered {P : Type 0} (gives : P → UpdateBytes → ℤ → P → Type 0) (state : ControllerState) (before : P) (firsts : List Update) (answer : ℤ)
+pub record IsAnswered {P : Type 0} (gives : P → UpdateBytes → ℤ → P → Type 0) (state : ControllerState) (before : P)
+    (firsts : List Update) (answer : ℤ)
     (state' : ControllerState) (after : P) : Type 0 where
   pub update : Update
   pub only : firsts ≡ update ∷ []
@@ -157,9 +161,12 @@ pub record IsAnswered {P : Type 0} (gives : P → UpdateBytes → ℤ → P → 
 -- what a refusal leaves
 abbrev pub IsLeft : {P : Type 0} → (P → UpdateBytes → ℤ → P → Type 0) → (P → UpdateBytes → P → Type 0) → ControllerState → P → Action →
     ControllerState → P → ControlFault → Type 0
-IsLeft gives refuses state before action state' after UnknownBackend = IsUnchanged state before state' after × (refusal_of state action ≡ Some UnknownBackend)
-IsLeft gives refuses state before action state' after BackendTwice = IsUnchanged state before state' after × (refusal_of state action ≡ Some BackendTwice)
-IsLeft gives refuses state before action state' after (Refused answer) = IsAnswered gives state before (first_updates state.up action) answer state' after
+IsLeft gives refuses state before action state' after UnknownBackend =
+    IsUnchanged state before state' after × (refusal_of state action ≡ Some UnknownBackend)
+IsLeft gives refuses state before action state' after BackendTwice =
+    IsUnchanged state before state' after × (refusal_of state action ≡ Some BackendTwice)
+IsLeft gives refuses state before action state' after (Refused answer) =
+    IsAnswered gives state before (first_updates state.up action) answer state' after
 IsLeft gives refuses state before action state' after JournalFull =
     (IsUnchanged state before state' after × (refusal_of state action ≡ Some JournalFull))
     ⊎ IsStopped gives refuses state before (first_updates state.up action) (up_after state.up action) state' after

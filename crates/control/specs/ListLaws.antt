@@ -15,7 +15,8 @@ pub array_takes : (state : UpdateListState) (update : UpdateBytes) (answer : ℤ
     IsInArray state.maps update → IsNoted state update answer after → answer ≡ pos 0
 array_takes state update answer after stands noted = noted.answer_is ∙ ap answer_if (takes state update stands)
 
-pub same_maps : (before after : UpdateListState) (update : UpdateBytes) (answer : ℤ) → IsNoted before update answer after → after.maps ≡ before.maps
+pub same_maps : (before after : UpdateListState) (update : UpdateBytes) (answer : ℤ) → IsNoted before update answer after →
+    after.maps ≡ before.maps
 same_maps before after update answer noted = ap (λ (state : UpdateListState). state.maps) noted.state_is
 
 pub still_maps : (before after : UpdateListState) → IsWithoutRoom before after → after.maps ≡ before.maps

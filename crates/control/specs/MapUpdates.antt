@@ -20,7 +20,8 @@ pub record UpdateBytes : Type 0 where
 abbrev pub map_update : Update → UpdateBytes
 map_update (Vip service vip) = record { map = map_place maps.Vips; key = service_key service; value = vip_bytes vip }
 map_update (Ring slot ring) = record { map = map_place maps.Ring; key = bytes_of_number 4 slot; value = ring_bytes ring }
-map_update (Backend number backend) = record { map = map_place maps.Backends; key = bytes_of_number 4 number; value = backend_bytes backend }
+map_update (Backend number backend) =
+    record { map = map_place maps.Backends; key = bytes_of_number 4 number; value = backend_bytes backend }
 map_update (Tunnel tunnel) = record { map = map_place maps.Ctl; key = bytes_of_number 4 0; value = tunnel_bytes tunnel }
 
 -- a slot's owner has a number that can be kept as one more
@@ -57,7 +58,8 @@ pub record IsInArray (served : List MapDef) (update : UpdateBytes) : Type 0 wher
 -- each update is made of the port that the one before it left, and is answered 0
 abbrev pub AreMade : {P : Type 0} → (P → UpdateBytes → ℤ → P → Type 0) → P → List Update → P → Type 0
 AreMade gives before [] after = before ≡ after
-AreMade {P} gives before (update ∷ later) after = (middle : P) × gives before (map_update update) (pos 0) middle × AreMade gives middle later after
+AreMade {P} gives before (update ∷ later) after =
+    (middle : P) × gives before (map_update update) (pos 0) middle × AreMade gives middle later after
 
 -- some of the updates are made in their order, then the next one is refused, and no other is made
 pub record AreCutShort {P : Type 0} (gives : P → UpdateBytes → ℤ → P → Type 0) (refuses : P → UpdateBytes → P → Type 0)

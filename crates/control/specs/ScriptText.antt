@@ -16,7 +16,8 @@ use Rattle.control.specs.declared.command.Command.{Command}
 -- the four bytes of an address as decimal numbers with dots between them (RFC 1123, section 2.1)
 unfoldable pub address_text : List ℕ → List ℕ
 address_text bytes =
-    decimal (slice_index bytes 0) ++ 46 ∷ (decimal (slice_index bytes 1) ++ 46 ∷ (decimal (slice_index bytes 2) ++ 46 ∷ decimal (slice_index bytes 3)))
+    decimal (slice_index bytes 0) ++
+    46 ∷ (decimal (slice_index bytes 1) ++ 46 ∷ (decimal (slice_index bytes 2) ++ 46 ∷ decimal (slice_index bytes 3)))
 
 -- a byte as two hexadecimal digits
 unfoldable pub hex_pair : ℕ → List ℕ

@@ -105,7 +105,8 @@ impl Controller {
         requires not_full { self.old.is_full ≡ false }
         ensures done { OnOk result (IsCarriedOut U.gives self.old port.old
             (first_updates self.old.up (Act.Vip service is_notrack)) self.old.up self.new port.new) }
-        ensures left { IfErr result (λ fault. IsLeft U.gives U.refuses self.old port.old (Act.Vip service is_notrack) self.new port.new fault) }
+        ensures left { IfErr result
+            (λ fault. IsLeft U.gives U.refuses self.old port.old (Act.Vip service is_notrack) self.new port.new fault) }
         ensures stays { (self.new.size ≡ self.old.size) × (U.serves port.new ≡ steering_maps self.old.size) }
     {
         let vip = VipRecord { is_notrack };
@@ -201,7 +202,8 @@ impl Controller {
             (first_updates self.old.up (Act.Up number address))
             (up_after self.old.up (Act.Up number address)) self.new port.new) }
         ensures left { IfErr result (λ fault. IsLeft U.gives U.refuses self.old port.old (Act.Up number address) self.new port.new fault) }
-        ensures first { (fault : Fault) → action_refusal self.old.size self.old.up (Act.Up number address) ≡ Some fault → result ≡ Err fault }
+        ensures first { (fault : Fault) → action_refusal self.old.size self.old.up (Act.Up number address) ≡ Some fault →
+            result ≡ Err fault }
         ensures stays { (self.new.size ≡ self.old.size) × (U.serves port.new ≡ steering_maps self.old.size) }
     {
         if !is_served_number(number, self.size) {

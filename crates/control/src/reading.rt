@@ -127,7 +127,8 @@ fn vip_of(text: &str) -> Action
 }
 
 fn up_of(text: &str) -> Action
-    ensures { (backend : ℕ) (address : List ℕ) → backend < 2 ^ 32 → AreBytes 4 address → text.now ≡ decimal backend ++ 32 ∷ address_text address
+    ensures { (backend : ℕ) (address : List ℕ) → backend < 2 ^ 32 → AreBytes 4 address →
+        text.now ≡ decimal backend ++ 32 ∷ address_text address
         → result ≡ acts.Up backend (record { 0 = address }) }
 {
     let (backend, address) = cut(text, ' ');

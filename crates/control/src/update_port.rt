@@ -30,7 +30,8 @@ pub trait UpdatePort {
         ensures refuses { OnErr result (refuses self.old (record { map = map; key = key.now; value = value.now }) self.new) };
 
     /// An update leaves the maps as they are.
-    ghost keeps: { (before after : Self) (update : UpdateBytes) (answer : ℤ) → gives before update answer after → serves after ≡ serves before };
+    ghost keeps: { (before after : Self) (update : UpdateBytes) (answer : ℤ) → gives before update answer after →
+        serves after ≡ serves before };
 
     /// So does a refusal.
     ghost stays: { (before after : Self) (update : UpdateBytes) → refuses before update after → serves after ≡ serves before };
@@ -68,7 +69,8 @@ fn put<U: UpdatePort>(
     requires few { length key.now ≤ 32 }
     requires short { length value.now ≤ 256 }
     requires known { IsUpdateOf (U.serves port.old) (record { map = map_place map; key = key.now; value = value.now }) }
-    ensures gives { IfOk result (λ answer. U.gives port.old (record { map = map_place map; key = key.now; value = value.now }) answer port.new) }
+    ensures gives { IfOk result
+        (λ answer. U.gives port.old (record { map = map_place map; key = key.now; value = value.now }) answer port.new) }
     ensures refuses { OnErr result (U.refuses port.old (record { map = map_place map; key = key.now; value = value.now }) port.new) }
     ensures serves { U.serves port.new ≡ U.serves port.old }
 {

@@ -424,7 +424,7 @@ pub(crate) fn shards(number: u8) -> Explanation
             name: "JournalFull",
             fields: FieldNames::One("shard"),
             meaning: "A shard's journal has no room for a call; for each run inside a place is kept for its leave.",
-            causes: "The journal was opened too small for the calls that are made.",
+            causes: "The journal was opened too small for the calls that are made: open it larger (--journal), or open more shards (--shards), over which the keys of hash maps are spread.",
             example: "A journal of 16 entries and a run that makes twenty lookups.",
         },
         51 => Explanation {
@@ -645,7 +645,7 @@ pub(crate) fn stopped() -> Explanation
         name: "JournalFull",
         fields: FieldNames::One("shard"),
         meaning: "A run was stopped, since a shard's journal has no room for its next call.",
-        causes: "The journal was opened too small for the calls that the program makes.",
+        causes: "The journal was opened too small for the calls of all runs together: open it larger (--journal), or open more shards (--shards), over which the keys of hash maps are spread.",
         example: "A program of more lookups than the journal has entries.",
     }
 }

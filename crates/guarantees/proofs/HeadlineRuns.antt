@@ -23,7 +23,7 @@ use Rattle.shards.specs.Passes.{PassView}
 use Rattle.shards.specs.SharedMaps.{ArePlans}
 use Rattle.runs.specs.FrameRuns.{HasStopped}
 use Rattle.replay.specs.declared.runner.RunEnd.{RunEnd}
-use Rattle.replay.specs.declared.runner.RunEnd.TheVariants.{Stopped, Aborted, Dropped, Passed, Sent as IsSent}
+use Rattle.replay.specs.declared.runner.RunEnd.TheVariants.{Stopped, Exited}
 use Rattle.replay.specs.declared.runner.Ran.{Ran}
 use Rattle.replay.specs.Accounts.{runs_at}
 use Rattle.replay.specs.RunJobs.{records_of}
@@ -107,6 +107,7 @@ module _ (ran : RunsAreOfTheSystem) (stopped : StoppedRunsAreOfTheSystem) (verif
     of_system = ran_in_system ran verified options (moment_of captured worker) (record { bytes = captured.bytes.items; headroom = 256 }) count worker before after
         exit.verdict exit.steps exit.frame below input refl is.time early exit.run;
     told = exit.told;
+    counted = exit.counted;
   }
 
   stops : IsStopIn plan count (program_of verified options.shards) worker journals captured before after →
@@ -124,10 +125,7 @@ module _ (ran : RunsAreOfTheSystem) (stopped : StoppedRunsAreOfTheSystem) (verif
   pub either : (end : RunEnd) → IsRunIn plan count (program_of verified options.shards) worker journals captured before end after →
       IsEitherOfImage verified options plan count worker captured before end after
   either Stopped run = stops run
-  either Aborted run = exits Aborted run
-  either Dropped run = exits Dropped run
-  either Passed run = exits Passed run
-  either (IsSent sent) run = exits (IsSent sent) run
+  either (Exited steps fate) run = exits (Exited steps fate) run
 
 -- ---- all runs of a worker
 
@@ -211,6 +209,8 @@ replays_keep_it ran stopped verified safe script options records outcome fit cap
       workers = accounted.workers;
       order = accounted.order;
       ordered = accounted.ordered;
+      commands = accounted.commands;
+      rounds = accounted.rounds;
       work = work;
       moves = moves;
       of_runs = moves_are_of_runs verified options accounted.plan accounted.count records accounted.runs outcome.journals accounted.order work;

@@ -26,7 +26,7 @@ use Rattle.shards.specs.declared.deeds.Deed.TheVariants.{Wrote, MetFull}
 use Rattle.shards.specs.Deeds.{shard_of_deed, made_on}
 use Rattle.guarantees.specs.Steps.{Asked, Nothing, Writes, Refused, Move, AreSteps, deeds_asked, deeds_in}
 use Rattle.guarantees.specs.Moves.{Answers, IsAskedSo, after_asked, is_event_of}
-use Rattle.guarantees.specs.Merging.{IsOneOrder, events_of, OneOrderIsOneList}
+use Rattle.guarantees.specs.Merging.{IsOrderOfMoves, events_of, OneOrderIsOneList}
 use Rattle.guarantees.proofs.Callers.{worker_below}
 use Rattle.guarantees.proofs.LegalEntries.{entry_is_legal}
 use Rattle.guarantees.proofs.MoveLemmas.{numbered}
@@ -270,7 +270,7 @@ record IsAtPlace (setting : Setting) (plan : ShardPlan) (system : SystemState) (
   step : IsLegalStep plan (history_of system plan.number) entry
 
 at_place : (setting : Setting) (plan : ℕ → ShardPlan) (count : ℕ) (journal : ℕ → List Entry) (moves : ℕ → List Move) (deeds earlier later : List Deed)
-    (entry : Entry) (system : SystemState) (rest : ℕ → List Move) → IsOneOrder setting plan count journal moves deeds →
+    (entry : Entry) (system : SystemState) (rest : ℕ → List Move) → IsOrderOfMoves setting plan count journal moves deeds →
     Stands setting count deeds earlier (Wrote entry ∷ later) system rest →
     IsAtPlace setting (plan (shard_of_call entry.call)) system entry
 at_place setting plan count journal moves deeds earlier later entry system rest order stands =
@@ -384,7 +384,7 @@ by_nobody setting count deeds earlier later entry event system rest stands can l
 -- ---- every deed
 
 wrote : (setting : Setting) (plan : ℕ → ShardPlan) (count : ℕ) (journal : ℕ → List Entry) (moves : ℕ → List Move) (deeds earlier later : List Deed)
-    (entry : Entry) (system : SystemState) (rest : ℕ → List Move) → IsOneOrder setting plan count journal moves deeds →
+    (entry : Entry) (system : SystemState) (rest : ℕ → List Move) → IsOrderOfMoves setting plan count journal moves deeds →
     Stands setting count deeds earlier (Wrote entry ∷ later) system rest → MergesFrom setting count deeds (earlier ++ Wrote entry ∷ []) later →
     (who : Caller) → entry.who ≡ who → Merged setting count deeds system rest
 wrote setting plan count journal moves deeds earlier later entry system rest order stands onward (Worker worker) is =
@@ -421,7 +421,7 @@ wrote setting plan count journal moves deeds earlier later entry system rest ord
     (λ worker. refl) (λ worker. ap (is_worker worker) is) onward
 
 looked : (setting : Setting) (plan : ℕ → ShardPlan) (count : ℕ) (journal : ℕ → List Entry) (moves : ℕ → List Move) (deeds earlier later : List Deed)
-    (worker : ℕ) (call : Call) (system : SystemState) (rest : ℕ → List Move) → IsOneOrder setting plan count journal moves deeds →
+    (worker : ℕ) (call : Call) (system : SystemState) (rest : ℕ → List Move) → IsOrderOfMoves setting plan count journal moves deeds →
     worker < setting.options.workers → Stands setting count deeds earlier (MetFull (Worker worker) call ∷ later) system rest →
     MergesFrom setting count deeds (earlier ++ MetFull (Worker worker) call ∷ []) later → Merged setting count deeds system rest
 looked setting plan count journal moves deeds earlier later worker call system rest order below stands onward =
@@ -443,7 +443,7 @@ looked setting plan count journal moves deeds earlier later worker call system r
     onward
 
 met_full : (setting : Setting) (plan : ℕ → ShardPlan) (count : ℕ) (journal : ℕ → List Entry) (moves : ℕ → List Move) (deeds earlier later : List Deed)
-    (who : Caller) (call : Call) (system : SystemState) (rest : ℕ → List Move) → IsOneOrder setting plan count journal moves deeds →
+    (who : Caller) (call : Call) (system : SystemState) (rest : ℕ → List Move) → IsOrderOfMoves setting plan count journal moves deeds →
     Stands setting count deeds earlier (MetFull who call ∷ later) system rest →
     MergesFrom setting count deeds (earlier ++ MetFull who call ∷ []) later → Merged setting count deeds system rest
 met_full setting plan count journal moves deeds earlier later (Worker worker) call system rest order stands onward = ⊎_elim
@@ -462,7 +462,7 @@ met_full setting plan count journal moves deeds earlier later Reclaimer call sys
     (after_look count earlier system system Reclaimer call stands.histories refl) onward
 
 merge : (setting : Setting) (plan : ℕ → ShardPlan) (count : ℕ) (journal : ℕ → List Entry) (moves : ℕ → List Move) (deeds : List Deed) →
-    IsOneOrder setting plan count journal moves deeds → (later earlier : List Deed) → MergesFrom setting count deeds earlier later
+    IsOrderOfMoves setting plan count journal moves deeds → (later earlier : List Deed) → MergesFrom setting count deeds earlier later
 merge setting plan count journal moves deeds order [] earlier system rest stands =
     let all : earlier ≡ deeds = sym (stands.split ∙ append-nil earlier) in
     finish setting count deeds setting.options.workers order.options.at_most_eight (omega arith) system rest

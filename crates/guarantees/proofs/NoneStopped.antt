@@ -7,7 +7,8 @@ use Rattle.std.proofs.lemmas.Bool.Decides.{nat_tests}
 use Rattle.replay.specs.declared.account.Counts.{Counts}
 use Rattle.replay.specs.declared.runner.Ran.{Ran}
 use Rattle.replay.specs.declared.runner.RunEnd.{RunEnd}
-use Rattle.replay.specs.declared.runner.RunEnd.TheVariants.{Stopped, Aborted, Dropped, Passed, Sent as IsSent}
+use Rattle.replay.specs.declared.runner.RunEnd.TheVariants.{Stopped, Exited}
+use Rattle.replay.specs.declared.runner.FrameFate.TheVariants.{Aborted, Dropped, Passed, Sent as IsSent}
 use Rattle.replay.specs.Accounts.{counted, counts_of, fate_of, runs_at, end_at}
 use Rattle.replay.specs.RunJobs.{records_of}
 use Rattle.replay.specs.Shares.{frame_at, is_short, is_handed, worker_of_frame, share}
@@ -23,10 +24,10 @@ WasNotStopped None = Unit {0}
 one_more : (counts : Counts) (fate : Option RunEnd) → (counted counts fate).stopped ≡ 0 → (counts.stopped ≡ 0) × WasNotStopped fate
 one_more counts None none = (none, tt)
 one_more counts (Some Stopped) none = absurd (omega (arith, none))
-one_more counts (Some Aborted) none = (none, tt)
-one_more counts (Some Dropped) none = (none, tt)
-one_more counts (Some Passed) none = (none, tt)
-one_more counts (Some (IsSent sent)) none = (none, tt)
+one_more counts (Some (Exited steps Aborted)) none = (none, tt)
+one_more counts (Some (Exited steps Dropped)) none = (none, tt)
+one_more counts (Some (Exited steps Passed)) none = (none, tt)
+one_more counts (Some (Exited steps (IsSent sent))) none = (none, tt)
 
 less_or_same : (number count : ℕ) → number < suc count → (test : Bool) → (number == count) ≡ test → (number < count) ⊎ (number ≡ count)
 less_or_same number count below true is = inr (grind (arith, nat_tests))

@@ -25,7 +25,7 @@ use Rattle.replay.specs.Commands.{CommandDone, AreNotedOf, made_in, with_updates
 use Rattle.replay.specs.Rounds.{IsReclaim, IsReclaimedBy}
 use Rattle.replay.specs.declared.runner.Ran.{Ran}
 use Rattle.replay.specs.declared.runner.RunEnd.{RunEnd}
-use Rattle.replay.specs.declared.runner.RunEnd.TheVariants.{Stopped, Aborted, Dropped, Passed, Sent as IsSent}
+use Rattle.replay.specs.declared.runner.RunEnd.TheVariants.{Stopped, Exited}
 use Rattle.replay.specs.declared.account.Counts.{Counts}
 use Rattle.replay.specs.Accounts.{SentFrame, counts_of, sent_by, sent_of, sent_frames, runs_at, fate_of}
 use Rattle.replay.specs.RunsInOrder.{IsRunAt, IsChainOfRuns}
@@ -57,10 +57,7 @@ exit_of : (plan : ℕ → ShardPlan) (count : ℕ) (program : Program) (worker :
     (after : PassView) → IsNotStopped end → IsRunIn plan count program worker journals captured before end after →
     IsExit count program worker captured before end after
 exit_of plan count program worker journals captured before Stopped after ended run = absurd ended
-exit_of plan count program worker journals captured before Aborted after ended run = run
-exit_of plan count program worker journals captured before Dropped after ended run = run
-exit_of plan count program worker journals captured before Passed after ended run = run
-exit_of plan count program worker journals captured before (IsSent sent) after ended run = run
+exit_of plan count program worker journals captured before (Exited steps fate) after ended run = run
 
 -- a run of the record sends what it would send over the maps as they were opened
 pub record IsAsOpened (program : Program) (records : List Sent) (ran : Ran) : Type 0 where
@@ -192,7 +189,7 @@ module _ (maps : List MapDef) (code : List Insn) (options : Options) (some : 0 <
   quiet_reclaimer : (number : ℕ) → number < accounted.count → AreQuiet (own_entries Reclaimer (history number))
   quiet_reclaimer number within =
       quiet_rounds (plan_of number).definition.kind (plan_of number) number (rounds_of (length records)) (own_entries Reclaimer (history number)) (history number)
-      (accounted.rounds number within)
+      (accounted.rounds.each number within)
 
   quiet_history : (number : ℕ) → number < accounted.count → AreQuiet (history number)
   quiet_history number within =

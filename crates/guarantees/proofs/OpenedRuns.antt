@@ -27,7 +27,8 @@ use Rattle.shard_port.specs.PassSessions.{session_at, AreWithin}
 use Rattle.shard_port.specs.Sessions.{entry_of, entries_at}
 use Rattle.runs.specs.FrameRuns.{AreFormed}
 use Rattle.replay.specs.declared.runner.RunEnd.{RunEnd}
-use Rattle.replay.specs.declared.runner.RunEnd.TheVariants.{Stopped, Aborted, Dropped, Passed, Sent as IsSent}
+use Rattle.replay.specs.declared.runner.RunEnd.TheVariants.{Stopped, Exited}
+use Rattle.replay.specs.declared.runner.FrameFate.TheVariants.{Aborted, Dropped, Passed, Sent as IsSent}
 use Rattle.replay.specs.Accounts.{sent_by}
 use Rattle.replay.specs.Shares.{is_short}
 use Rattle.replay.specs.RunsOverShards.{IsTold, IsExit, start_of, time_of}
@@ -177,11 +178,11 @@ module _ (maps : List MapDef) (code : List Insn) (options : Options) (count : �
   told_as : (end : RunEnd) (verdict : Verdict) (frame : FrameView) → IsTold captured verdict frame end →
       sent_by (Some end) ≡ sent_for captured verdict frame.bytes
   told_as Stopped verdict frame told = absurd told
-  told_as Aborted verdict frame told = subst (λ (v : Verdict). [] ≡ sent_for captured v frame.bytes) (sym told) refl
-  told_as Dropped verdict frame told = subst (λ (v : Verdict). [] ≡ sent_for captured v frame.bytes) (sym told) refl
-  told_as Passed verdict frame told = subst (λ (v : Verdict). [] ≡ sent_for captured v frame.bytes) (sym told) refl
-  told_as (IsSent sent) verdict frame told =
-      subst (λ (v : Verdict). sent_by (Some (IsSent sent)) ≡ sent_for captured v frame.bytes) (sym told.0)
+  told_as (Exited steps Aborted) verdict frame told = subst (λ (v : Verdict). [] ≡ sent_for captured v frame.bytes) (sym told) refl
+  told_as (Exited steps Dropped) verdict frame told = subst (λ (v : Verdict). [] ≡ sent_for captured v frame.bytes) (sym told) refl
+  told_as (Exited steps Passed) verdict frame told = subst (λ (v : Verdict). [] ≡ sent_for captured v frame.bytes) (sym told) refl
+  told_as (Exited steps (IsSent sent)) verdict frame told =
+      subst (λ (v : Verdict). sent_by (Some (Exited steps (IsSent sent))) ≡ sent_for captured v frame.bytes) (sym told.0)
       (λ i. record { seconds = told.1.seconds i; micros = told.1.micros i; bytes = told.1.bytes_are i } ∷ [])
 
   any_sends : (stand : RunStand) → sent_where captured (stand_of_any stand) ≡ sent_where captured stand

@@ -26,7 +26,7 @@ use Rattle.shards.specs.Deeds.{deeds_of}
 use Rattle.shards.specs.Passes.{PassView, own_at}
 use Rattle.replay.specs.declared.runner.Ran.{Ran}
 use Rattle.replay.specs.declared.runner.RunEnd.{RunEnd}
-use Rattle.replay.specs.declared.runner.RunEnd.TheVariants.{Stopped, Aborted, Dropped, Passed, Sent as IsSent}
+use Rattle.replay.specs.declared.runner.RunEnd.TheVariants.{Stopped, Exited}
 use Rattle.replay.specs.Accounts.{runs_at}
 use Rattle.replay.specs.Accounted.{IsWorkOf}
 use Rattle.replay.specs.RunsInOrder.{IsRunAt, IsChainOfRuns}
@@ -155,10 +155,7 @@ module _ (verified : Verified) (options : Options) (plan : ℕ → ShardPlan) (c
   one_run captured before after Stopped run =
       stopped_moves (setting_of verified options) count worker plan (moment_of captured worker) captured.bytes.items before after run.frame run.stop
       run.of_system
-  one_run captured before after Aborted run = ended captured before after Aborted run
-  one_run captured before after Dropped run = ended captured before after Dropped run
-  one_run captured before after Passed run = ended captured before after Passed run
-  one_run captured before after (IsSent sent) run = ended captured before after (IsSent sent) run
+  one_run captured before after (Exited steps fate) run = ended captured before after (Exited steps fate) run
 
   one_is : (captured : Sent) (before after : PassView) (end : RunEnd) →
       (run : IsEitherOfImage verified options plan count worker captured before end after) →
@@ -167,10 +164,7 @@ module _ (verified : Verified) (options : Options) (plan : ℕ → ShardPlan) (c
   one_is captured before after Stopped run =
       stop_is (setting_of verified options) count worker plan (moment_of captured worker) captured.bytes.items before after run.frame run.stop
       run.of_system
-  one_is captured before after Aborted run = refl
-  one_is captured before after Dropped run = refl
-  one_is captured before after Passed run = refl
-  one_is captured before after (IsSent sent) run = refl
+  one_is captured before after (Exited steps fate) run = refl
 
   -- ---- all runs of a worker
 

@@ -1,8 +1,9 @@
 -- What a replay of a verified image promises, in the order of the sentence: the image is safe; each shard has one legal history, in which
 -- each reply is the one-thread map's at its own place; each run is a list of steps of the system around this image, with the verdict, the
--- frame and the number of instructions of its program's trace on the replies that it was given; the steps of all workers, with what the
--- controller and the reclaimer did, are one list of events.
-use Rattle.std.specs.Prelude.{◌≡◌, ℕ, ◌<◌, List, [], ◌∷◌, ◌++◌, length, reverse}
+-- frame and the number of instructions of its program's trace on the replies that it was given; what all callers did on all shards is one
+-- order, in which the controller's deeds are its script's and the reclaimer's its rounds, each in their own order; the steps of all workers,
+-- with what the controller and the reclaimer did, are one list of events.
+use Rattle.std.specs.Prelude.{◌≡◌, ℕ, ◌<◌, List, [], ◌∷◌, ◌++◌, length, reverse, Some}
 use Rattle.std.specs.List.{AllByRecursion}
 use Rattle.wire.specs.FrameView.{FrameView}
 use Rattle.wire.specs.declared.records.Sent.{Sent}
@@ -24,15 +25,16 @@ use Rattle.shards.specs.Passes.{PassView}
 use Rattle.shards.specs.SharedMaps.{ArePlans}
 use Rattle.runs.specs.FrameRuns.{HasRun, HasStopped}
 use Rattle.replay.specs.declared.runner.RunEnd.{RunEnd}
-use Rattle.replay.specs.declared.runner.RunEnd.TheVariants.{Stopped, Aborted, Dropped, Passed, Sent as IsSent}
+use Rattle.replay.specs.declared.runner.RunEnd.TheVariants.{Stopped, Exited}
 use Rattle.replay.specs.declared.runner.Ran.{Ran}
 use Rattle.replay.specs.Accounts.{runs_at, sent_of, sent_frames}
 use Rattle.replay.specs.RunsInOrder.{IsRunAt, IsChainOfRuns}
 use Rattle.replay.specs.Shares.{frames_of, share}
 use Rattle.control.specs.declared.command.Command.{Command}
 use Rattle.replay.specs.declared.outcome.Outcome.{Outcome}
+use Rattle.replay.specs.Parts.{IsScriptAccounted, AreRoundsAccounted, rounds_of}
 use Rattle.replay.specs.Accounted.{IsWorkOf, IsOrderOf, IsAccounted}
-use Rattle.replay.specs.RunsOverShards.{time_of, start_of, IsTold}
+use Rattle.replay.specs.RunsOverShards.{time_of, start_of, IsTold, steps_in}
 use Rattle.semantics.specs.System.{Setting}
 use Rattle.guarantees.specs.Steps.{Move, Refused, begins, does, asks, leavings}
 use Rattle.guarantees.specs.SystemRuns.{setting_of, RanInSystem, HasStoppedInSystem}
@@ -55,6 +57,7 @@ pub record IsRunOfImage (verified : Verified) (options : Options) (count worker 
       RanInSystem (setting_of verified options) worker (moment_of captured worker) captured.bytes.items count before after
       verdict steps frame
   pub told : IsTold captured verdict frame end
+  pub counted : steps_in end ≡ Some steps
 
 -- a run that a full journal stopped: a beginning of that
 pub record IsStopOfImage (verified : Verified) (options : Options) (plan : ℕ → ShardPlan) (count worker : ℕ) (captured : Sent)
@@ -95,14 +98,8 @@ abbrev pub moves_of_either : (verified : Verified) (options : Options) (plan : �
 moves_of_either verified options plan count worker captured before Stopped after run =
     moves_to_stop (setting_of verified options) worker (moment_of captured worker) captured.bytes.items plan count before after run.frame
     run.stop run.of_system
-moves_of_either verified options plan count worker captured before Aborted after run =
-    moves_of_run verified options count worker captured before Aborted after run
-moves_of_either verified options plan count worker captured before Dropped after run =
-    moves_of_run verified options count worker captured before Dropped after run
-moves_of_either verified options plan count worker captured before Passed after run =
-    moves_of_run verified options count worker captured before Passed after run
-moves_of_either verified options plan count worker captured before (IsSent sent) after run =
-    moves_of_run verified options count worker captured before (IsSent sent) after run
+moves_of_either verified options plan count worker captured before (Exited steps fate) after run =
+    moves_of_run verified options count worker captured before (Exited steps fate) after run
 
 -- one run after the other
 abbrev pub moves_of_runs : (verified : Verified) (options : Options) (plan : ℕ → ShardPlan) (count worker : ℕ) (records : List Sent)
@@ -125,7 +122,7 @@ pub record AreOfRuns (verified : Verified) (options : Options) (plan : ℕ → S
       (work worker below).after (work worker below).handled.chain
 
 -- the promise
-pub record Headline (verified : Verified) (options : Options) (records : List Sent) (outcome : Outcome) : Type 0 where
+pub record Headline (verified : Verified) (script : List Command) (options : Options) (records : List Sent) (outcome : Outcome) : Type 0 where
   -- whatever frames arrive and however the shared steps interleave, no run traps, and each ends within as many instructions as the image
   -- has slots
   pub safe : IsSafeImage verified.maps verified.code
@@ -142,6 +139,11 @@ pub record Headline (verified : Verified) (options : Options) (records : List Se
   -- what all callers did on all shards is one order: shard by shard it is the journal, and each look at a full journal met one
   pub order : List Deed
   pub ordered : IsOrderOf plan count outcome.journals order
+  -- the controller's deeds in it are the updates of the script's commands, in the script's order over all shards, each with its answer, and
+  -- behind those of a command that a full journal stopped the look at that journal
+  pub commands : IsScriptAccounted plan verified.maps options count script outcome.journals order outcome.refused.items
+  -- and the reclaimer's are its rounds, one behind the other: in each a Reclaim of each hash and LRU shard, the lowest number first
+  pub rounds : AreRoundsAccounted plan count (rounds_of (length records)) outcome.journals order
   -- each worker ran its records, one after the other; in each journal its entries are those of its runs, and its deeds in the order are
   -- theirs; each run is one of the system around this image, and has the verdict, the frame and the number of instructions of its program's
   -- trace on its replies
@@ -169,4 +171,4 @@ abbrev pub ReplaysKeepIt : Verified → Type 0
 ReplaysKeepIt verified =
     (script : List Command) (options : Options) (records : List Sent) (outcome : Outcome) → AreOptions verified.maps options →
     AllByRecursion IsCaptured records → IsAccounted (program_of verified options.shards) script options records outcome →
-    Headline verified options records outcome
+    Headline verified script options records outcome

@@ -1,5 +1,5 @@
 -- What a step means in the system of all workers: the event can happen, and leads where the step says, in every state of the system in
--- which its worker stands so and the shard answers so.
+-- which its worker is in that state and the shard replies that way.
 use Rattle.std.specs.Prelude.{◌≡◌, ℕ, ◌==◌, Bool, false, IsTrue, IsFalse, Some}
 use Rattle.semantics.specs.declared.call.Call.{Call}
 use Rattle.semantics.specs.declared.call.Entry.{Entry}

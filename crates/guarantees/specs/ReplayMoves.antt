@@ -22,7 +22,8 @@ IsNotStopped end = Unit {0}
 -- Steps of the system by one worker, run after run, from idle to idle. On each shard they wrote what the journal has of this worker, in the
 -- journal's order. What they did over all shards is what this worker did in the one order of all deeds (of which the newest is the first).
 -- Where none of its runs was stopped, no step met a full journal.
-pub record AreMovesOf (setting : Setting) (count worker : ℕ) (runs : List Ran) (journals : JournalsView) (order : List Deed) (moves : List Move) :
+pub record AreMovesOf (setting : Setting) (count worker : ℕ) (runs : List Ran) (journals : JournalsView) (order : List Deed)
+    (moves : List Move) :
     Type 0 where
   pub steps : AreSteps setting count worker Idle moves Idle
   pub written : (number : ℕ) → number < count → entries_on number moves ≡ own_entries (Worker worker) (entries_at journals number)

@@ -6,7 +6,7 @@
 //! `specs/Merging.antt` (its first half), `specs/ReplayMoves.antt`, `specs/SystemRuns.antt` and `specs/Steps.antt` here (one list of all
 //! events, the moves of a worker, runs and steps of the system); `Safety`, `System`, `RunTrace` and `History` of crates/semantics/specs;
 //! `specs/Deeds.antt` of crates/shards, `specs/FrameRuns.antt` of crates/runs and `specs/Accounted.antt` of crates/replay. Each file says by
-//! its imports where the smaller definitions are that it cites: shares, counts and passes of replay, sessions of shard_port, own entries of
+//! its imports where the smaller definitions are that it cites: shares, counts and passes of replay, and there what the controller and the reclaimer did (`Parts`, `Commands`, `Rounds`), sessions of shard_port, own entries of
 //! semantics.
 //!
 //! The other laws of this page say what these definitions come to. The laws of `step_laws` show that they are not empty, those of
@@ -48,8 +48,12 @@ use verifier::laws::accepted_is_safe;
 ///
 /// All callers at once: the steps of all workers, with what the controller and the reclaimer did, are one list of events of the system. These
 /// can all happen, one after the other, from the opening on; each worker's are in its own order in the list; after it each shard's history is
-/// its journal, and every worker is idle. For what all callers did on all shards is one order, which fits each shard and each caller
-/// (`IsAccounted`), and such an order is one list of events (`one_order_is_one_list`).
+/// its journal, and every worker is idle. For what all callers did on all shards is one order (`IsAccounted`), and such an order is one list
+/// of events (`one_order_is_one_list`).
+///
+/// The order fits each shard and each caller: shard by shard it is the journal; of each worker it has what its runs did, of the controller
+/// the updates of the script's commands, each with its answer, and of the reclaimer its rounds, looks at full journals among them, each in
+/// the caller's own order over all shards.
 pub fn headline(verified: &Verified)
     ensures { ReplaysKeepIt verified.now }
 {
@@ -105,15 +109,17 @@ pub fn one_order_is_one_list()
 {}
 
 /// One worker behind what the controller set: these entries and then the worker's steps from idle to idle, one run after the other, are one
-/// list of events of the system, where they are a legal journal of each shard. So what `one_order_is_one_list` asks for can be met.
+/// list of events of the system, where they are a legal journal of each shard and no call of the worker met a full journal (`NoneRefused`).
+/// So what `one_order_is_one_list` asks for can be met.
 pub fn one_worker_is_one_list()
     ensures { OneWorkerIsOneList }
 {
     one_order_is_one_list();
 }
 
-/// One run behind what the controller set, as `run_alone` makes it, is one list of events of the system: from what its journals have (the
-/// updates, and then the run's sessions) and from its program's trace on these replies.
+/// One run behind what the controller set, as `run_alone` makes it, is one list of events of the system, where it ended, so that no call of
+/// it met a full journal: from what its journals have (the updates, and then the run's sessions) and from its program's trace on these
+/// replies.
 pub fn run_alone_is_one_list()
     ensures { RunAloneIsOneList }
 {

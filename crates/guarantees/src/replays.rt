@@ -53,7 +53,7 @@ pub fn headline_replay<R: Threads + Wait + Sync, G: Gate + Sync>(
     gate: &G,
 ) -> Result<Outcome, ReplayFault>
     ensures accounted { IfOk result (IsAccounted (program_of verified.now options.shards) script.now options capture.now.records.items) }
-    ensures headline { IfOk result (Headline verified.now options capture.now.records.items) }
+    ensures headline { IfOk result (Headline verified.now script.now options capture.now.records.items) }
     ensures bad_options { IsErrOf result BadOptions ↔
         (IsFalse (are_served_options verified.now.maps options) ⊎ HasNoTable verified.now.maps script.now) }
 {

@@ -32,8 +32,10 @@ pub fn worker_run(
     requires among { moment.now.worker < options.workers }
     requires headroom { frame.old.headroom ≡ 256 }
     ensures exit { IfOk result (λ exit.
-        IsTheMeaning (program_of verified.now options.shards) (start_of moment.now frame.old) shards.old shards.new exit.verdict exit.steps frame.new) }
-    ensures stop { IfErr result (IsStoppedBeginning (program_of verified.now options.shards) (start_of moment.now frame.old) shards.old shards.new frame.new) }
+        IsTheMeaning (program_of verified.now options.shards)
+        (start_of moment.now frame.old) shards.old shards.new exit.verdict exit.steps frame.new) }
+    ensures stop { IfErr result
+        (IsStoppedBeginning (program_of verified.now options.shards) (start_of moment.now frame.old) shards.old shards.new frame.new) }
     ensures serve { ServesMaps verified.now.maps options shards.new }
 {
     runs_are_their_meaning();

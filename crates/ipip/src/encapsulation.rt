@@ -14,7 +14,7 @@ use wire::{Frame, Ipv4Packet};
 const HEADER: usize = 20;
 
 /// The most bytes of an inner packet: with the outer header it fills 1500, the most that Ethernet carries.
-const MOST: u16 = 1480;
+pub const MOST_TUNNELLED: u16 = 1480;
 
 /// Puts both headers in place of the frame's Ethernet header, with 20 bytes of its headroom.
 fn put_headers(frame: &mut Frame, ethernet: &[u8; 14], outer: &[u8; 20])
@@ -46,7 +46,8 @@ pub fn encapsulate(frame: &mut Frame, tunnel: Tunnel) -> Result<(), IpipFault>
     ensures too_long { IsErrOf result IpipFault.TooLong
         ↔ (IsPlainIpv4 frame.old.bytes × (0 < time_to_live frame.old.bytes) × (1480 < total_length frame.old.bytes)) }
     ensures no_room { IsErrOf result IpipFault.NoRoom
-        ↔ (IsPlainIpv4 frame.old.bytes × (0 < time_to_live frame.old.bytes) × (total_length frame.old.bytes ≤ 1480) × (frame.old.headroom < 20)) }
+        ↔ (IsPlainIpv4 frame.old.bytes × (0 < time_to_live frame.old.bytes) × (total_length frame.old.bytes ≤ 1480)
+        × (frame.old.headroom < 20)) }
     ensures refused_unchanged { OnErr result (frame.new ≡ frame.old) }
 
     // the outer header verifies, the inner packet is as it was
@@ -64,7 +65,7 @@ pub fn encapsulate(frame: &mut Frame, tunnel: Tunnel) -> Result<(), IpipFault>
     if packet.time_to_live == 0 {
         return Err(IpipFault::TtlZero);
     }
-    if packet.total_length > MOST {
+    if packet.total_length > MOST_TUNNELLED {
         return Err(IpipFault::TooLong);
     }
     if frame.room() < HEADER {

@@ -6,6 +6,6 @@ mod ends;
 mod fault;
 mod header;
 
-pub use encapsulation::encapsulate;
+pub use encapsulation::{MOST_TUNNELLED, encapsulate};
 pub use ends::Tunnel;
 pub use fault::IpipFault;

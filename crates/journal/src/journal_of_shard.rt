@@ -8,7 +8,7 @@ ghost use Rattle.journal.specs.Rows.{IsBare, entry_of};
 ghost use Rattle.journal.specs.Ranges.{IsShortRange};
 
 use crate::append::{AtomicChange, CellRange};
-use crate::kept_bytes::{put_bytes, put_words};
+use crate::kept_bytes::{put_bytes, put_four_words, put_two_words, put_word};
 use crate::row::{Row, Shape};
 use semantics::{Caller, Entry};
 use std::alloc::{AllocError, Global};
@@ -125,7 +125,7 @@ impl Journal {
         match found {
             Some(cell) => {
                 let start = self.words.len() as u32;
-                put_words(&mut self.words, &[cell]);
+                put_word(&mut self.words, cell);
                 put_row(&mut self.rows, Row::Found { who, at, start });
             }
             None => put_row(&mut self.rows, Row::Missed { who, at }),
@@ -139,7 +139,7 @@ impl Journal {
         ensures { self.new ≡ with_entry self.old (load_entry self.old.shard who range.now value) }
     {
         let start = self.words.len() as u32;
-        put_words(&mut self.words, &[range.cell, value]);
+        put_two_words(&mut self.words, range.cell, value);
         let row = Row::Loaded {
             who,
             size: range.size as u8,
@@ -156,7 +156,7 @@ impl Journal {
         ensures { self.new ≡ with_entry self.old (store_entry self.old.shard who range.now value) }
     {
         let start = self.words.len() as u32;
-        put_words(&mut self.words, &[range.cell, value]);
+        put_two_words(&mut self.words, range.cell, value);
         let row = Row::Stored {
             who,
             size: range.size as u8,
@@ -174,9 +174,12 @@ impl Journal {
         ensures { self.new ≡ with_entry self.old (atomic_entry self.old.shard who range.now change.now old) }
     {
         let start = self.words.len() as u32;
-        put_words(
+        put_four_words(
             &mut self.words,
-            &[range.cell, change.value, change.expected, old],
+            range.cell,
+            change.value,
+            change.expected,
+            old,
         );
         let row = Row::Changed {
             who,
@@ -199,7 +202,7 @@ impl Journal {
         put_bytes(&mut self.bytes, key);
         put_bytes(&mut self.bytes, value);
         let start = self.words.len() as u32;
-        put_words(&mut self.words, &[at, flags]);
+        put_two_words(&mut self.words, at, flags);
         put_row(&mut self.rows, Row::Updated { who, code, start });
     }
 
@@ -220,7 +223,7 @@ impl Journal {
         ensures { self.new ≡ with_entry self.old (reclaim_entry self.old.shard who count) }
     {
         let start = self.words.len() as u32;
-        put_words(&mut self.words, &[count]);
+        put_word(&mut self.words, count);
         put_row(&mut self.rows, Row::Reclaimed { who, start });
     }
 }

@@ -1,6 +1,6 @@
 //! Keys and values as bytes that are one after another, put there and read back.
 
-ghost use Rattle.std.specs.Prelude.{◌≡◌, ◌+◌, ◌≤◌, ◌++◌, length, vec_len, vec_capacity};
+ghost use Rattle.std.specs.Prelude.{◌≡◌, ◌+◌, ◌<◌, ◌≤◌, ◌∷◌, ◌++◌, [], length, vec_len, vec_capacity};
 ghost use Rattle.journal.specs.Rows.{part};
 
 use semantics::{Key, Value};
@@ -16,15 +16,34 @@ pub fn put_bytes(bytes: &mut Vec<u8>, more: &[u8])
     }
 }
 
-/// Puts numbers behind the others, for which there is room.
-pub(crate) fn put_words(words: &mut Vec<u64>, more: &[u64])
-    requires { vec_len words.old + length more.now ≤ vec_capacity words.old }
-    ensures items { words.new.items ≡ words.old.items ++ more.now }
+/// Puts a number behind the others, for which there is room.
+pub(crate) fn put_word(words: &mut Vec<u64>, first: u64)
+    requires { vec_len words.old < vec_capacity words.old }
+    ensures items { words.new.items ≡ words.old.items ++ first ∷ [] }
     ensures room { vec_capacity words.old ≤ vec_capacity words.new }
 {
-    if words.extend_from_slice(more).is_err() {
-        unreachable!()
-    }
+    words.push_reserved(first);
+}
+
+/// Puts two numbers behind the others. They are written one by one: written together they would be copied by one wide load right after two
+/// narrow stores, for which an older processor waits.
+pub(crate) fn put_two_words(words: &mut Vec<u64>, first: u64, second: u64)
+    requires { vec_len words.old + 2 ≤ vec_capacity words.old }
+    ensures items { words.new.items ≡ words.old.items ++ first ∷ second ∷ [] }
+    ensures room { vec_capacity words.old ≤ vec_capacity words.new }
+{
+    put_word(words, first);
+    put_word(words, second);
+}
+
+/// Puts four numbers behind the others, in the same way.
+pub(crate) fn put_four_words(words: &mut Vec<u64>, first: u64, second: u64, third: u64, fourth: u64)
+    requires { vec_len words.old + 4 ≤ vec_capacity words.old }
+    ensures items { words.new.items ≡ words.old.items ++ first ∷ second ∷ third ∷ fourth ∷ [] }
+    ensures room { vec_capacity words.old ≤ vec_capacity words.new }
+{
+    put_two_words(words, first, second);
+    put_two_words(words, third, fourth);
 }
 
 /// This many bytes from a place on.

@@ -16,10 +16,13 @@ const WANTED: &str =
 #[rattlefmt::skip]
 fn remedy_of(kind: Kind) -> &'static str {
     match kind {
-        Kind::BigEndianCapture | Kind::NanosecondCapture | Kind::Pcapng => "editcap -F pcap CAPTURE NEW writes it as a classic capture (editcap comes with Wireshark)",
+        Kind::BigEndianCapture | Kind::NanosecondCapture | Kind::Pcapng
+            => "editcap -F pcap CAPTURE NEW writes it as a classic capture (editcap comes with Wireshark)",
         Kind::Gzip => "unpack it first: gzip -d FILE",
         Kind::Frame => "xlb run IMAGE FRAME runs one frame; text2pcap and editcap make captures",
-        Kind::HexDigits => "text2pcap makes a capture of hexadecimal digits with offsets in front of them: xxd -g 1 FRAME | text2pcap - NEW (text2pcap comes with Wireshark)",
+        Kind::HexDigits
+            => "text2pcap makes a capture of hexadecimal digits with offsets in front of them: \
+                xxd -g 1 FRAME | text2pcap - NEW (text2pcap comes with Wireshark)",
         Kind::Image | Kind::Elf | Kind::ImageText | Kind::Journals | Kind::Script => "are two names on the command line swapped?",
         Kind::Empty | Kind::Capture | Kind::Text | Kind::Unknown => "",
     }

@@ -16,7 +16,8 @@ fn remedy_of(kind: Kind) -> &'static str {
         Kind::BigEndianCapture | Kind::NanosecondCapture | Kind::Pcapng
             => "xlb replay runs the frames of a classic capture; editcap -F pcap CAPTURE NEW makes one of this file (editcap comes with Wireshark)",
         Kind::Gzip => "unpack it first: gzip -d FILE",
-        Kind::Image | Kind::Elf | Kind::ImageText | Kind::Journals | Kind::Script => "the frame comes after the image on the command line: are two names swapped?",
+        Kind::Image | Kind::Elf | Kind::ImageText | Kind::Journals | Kind::Script
+            => "the frame comes after the image on the command line: are two names swapped?",
         Kind::Empty | Kind::Frame | Kind::Text | Kind::Unknown => "",
     }
 }

@@ -17,7 +17,9 @@ const MAP: usize = 16;
 #[rattlefmt::skip]
 fn remedy_of(kind: Kind) -> &'static str {
     match kind {
-        Kind::Elf => "xlb runs images of its own format: write the program as a source (docs/FORMATS.md), and make an image of it with xlb asm --source SOURCE IMAGE",
+        Kind::Elf
+            => "xlb runs images of its own format: write the program as a source (docs/FORMATS.md), \
+                and make an image of it with xlb asm --source SOURCE IMAGE",
         Kind::ImageText => "make an image of it with xlb asm TEXT IMAGE, or, where it has comments or labels, with xlb asm --source TEXT IMAGE",
         Kind::Text => "an image is made of a text with xlb asm --source TEXT IMAGE; a text begins with version 1 or version 2",
         Kind::Gzip => "unpack it first: gzip -d FILE",

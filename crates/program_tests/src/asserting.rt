@@ -1,4 +1,6 @@
-//! What ends a test: comparisons that are proved once for the whole crate.
+//! What ends a test: comparisons that are proved once for all tests. The message names the row, and what is compared.
+
+ghost use Rattle.std.specs.Prelude.{◌≡◌, true};
 
 use std::alloc::Global;
 use std::fmt::{Debug, Display};
@@ -18,7 +20,7 @@ pub(crate) fn same_fact<T: PartialEq + Debug>(
     found: &T,
     wanted: &T,
 ) {
-    assert_eq!(rt; *found, *wanted, "{name}, {fact}");
+    assert_eq!(rt; *found, *wanted, "{name}: {fact}");
 }
 
 /// The same of one of many numbers, which the message names.
@@ -34,7 +36,7 @@ pub(crate) fn same_at<T: PartialEq + Debug>(
 
 /// The same of a byte of a frame, of which the message names the place.
 pub(crate) fn same_byte(rt: &impl Abort, name: &str, place: usize, found: u8, wanted: u8) {
-    assert_eq!(rt; found, wanted, "{name}, byte {place}");
+    assert_eq!(rt; found, wanted, "{name}: byte {place}");
 }
 
 /// The same of texts.
@@ -48,12 +50,16 @@ pub(crate) fn same_bytes(rt: &impl Abort, name: &str, found: &[u8], wanted: &[u8
 }
 
 /// Ends the test where a fact does not hold; the message names it.
-pub(crate) fn holds(rt: &impl Abort, name: &str, is_so: bool) {
+pub(crate) fn holds(rt: &impl Abort, name: &str, is_so: bool)
+    ensures { is_so ≡ true }
+{
     assert!(rt; is_so, "{name}");
 }
 
 /// The same of one of several facts of a row.
-pub(crate) fn holds_of(rt: &impl Abort, name: &str, fact: &str, is_so: bool) {
+pub(crate) fn holds_of(rt: &impl Abort, name: &str, fact: &str, is_so: bool)
+    ensures { is_so ≡ true }
+{
     assert!(rt; is_so, "{name}: {fact}");
 }
 

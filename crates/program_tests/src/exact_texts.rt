@@ -6,36 +6,9 @@ use ebpf_decode::{DecodeFault, Insn, decode, encode};
 use std::alloc::{AllocError, Global};
 use std::process::Abort;
 use std::test::Fail;
+use test_support::programs::{FIRST_RUN, FIRST_RUN_IMAGE};
 
 const HEAD: [u8; 8] = [0x58, 0x4c, 0x42, 0x50, 1, 0, 0, 0];
-
-#[rattlefmt::skip]
-const FIRST_RUN: [u8; 168] = [
-    0x58, 0x4c, 0x42, 0x50, 0x01, 0x01, 0x00, 0x00,
-    0x02, 0x00, 0x00, 0x00, 0x04, 0x00, 0x00, 0x00,
-    0x08, 0x00, 0x00, 0x00, 0x01, 0x00, 0x00, 0x00,
-    0x61, 0x12, 0x00, 0x00, 0x00, 0x00, 0x00, 0x00,
-    0x61, 0x13, 0x04, 0x00, 0x00, 0x00, 0x00, 0x00,
-    0xbf, 0x24, 0x00, 0x00, 0x00, 0x00, 0x00, 0x00,
-    0x07, 0x04, 0x00, 0x00, 0x0e, 0x00, 0x00, 0x00,
-    0xb7, 0x00, 0x00, 0x00, 0x02, 0x00, 0x00, 0x00,
-    0x2d, 0x34, 0x0b, 0x00, 0x00, 0x00, 0x00, 0x00,
-    0x71, 0x26, 0x0d, 0x00, 0x00, 0x00, 0x00, 0x00,
-    0x62, 0x0a, 0xfc, 0xff, 0x00, 0x00, 0x00, 0x00,
-    0xbf, 0xa2, 0x00, 0x00, 0x00, 0x00, 0x00, 0x00,
-    0x07, 0x02, 0x00, 0x00, 0xfc, 0xff, 0xff, 0xff,
-    0x18, 0x11, 0x00, 0x00, 0x00, 0x00, 0x00, 0x00,
-    0x00, 0x00, 0x00, 0x00, 0x00, 0x00, 0x00, 0x00,
-    0x85, 0x00, 0x00, 0x00, 0x01, 0x00, 0x00, 0x00,
-    0x15, 0x00, 0x03, 0x00, 0x00, 0x00, 0x00, 0x00,
-    0x79, 0x07, 0x00, 0x00, 0x00, 0x00, 0x00, 0x00,
-    0x0f, 0x76, 0x00, 0x00, 0x00, 0x00, 0x00, 0x00,
-    0xbf, 0x60, 0x00, 0x00, 0x00, 0x00, 0x00, 0x00,
-    0x95, 0x00, 0x00, 0x00, 0x00, 0x00, 0x00, 0x00,
-];
-
-const FIRST_RUN_TEXT: &str =
-    "version 1\nmap array 4 8 1\nldxw r2, [r1+0]\nldxw r3, [r1+4]\nmov r4, r2\nadd r4, 14\nmov r0, 2\njgt r4, r3, +11\nldxb r6, [r2+13]\nstw [r10-4], 0\nmov r2, r10\nadd r2, -4\nldmap r1, 0\ncall 1\njeq r0, 0, +3\nldxdw r7, [r0+0]\nadd r6, r7\nmov r0, r6\nexit\n";
 
 /// The text of an image.
 fn text_of(alloc: Global, bytes: &[u8]) -> Result<String, Fail> {
@@ -83,9 +56,9 @@ fn count_there_and_back(alloc: Global, bytes: &[u8]) -> Result<usize, Fail> {
 
 #[test]
 fn first_run(rt: HostRuntime) -> Result<(), Fail> {
-    is_text_of(&rt, rt.alloc(), "text", &FIRST_RUN, FIRST_RUN_TEXT)?;
-    is_image_of(&rt, rt.alloc(), "image", FIRST_RUN_TEXT, &FIRST_RUN)?;
-    let count = count_there_and_back(rt.alloc(), &FIRST_RUN)?;
+    is_text_of(&rt, rt.alloc(), "text", &FIRST_RUN_IMAGE, FIRST_RUN)?;
+    is_image_of(&rt, rt.alloc(), "image", FIRST_RUN, &FIRST_RUN_IMAGE)?;
+    let count = count_there_and_back(rt.alloc(), &FIRST_RUN_IMAGE)?;
     same(&rt, "instructions", &count, &17);
     Ok(())
 }
@@ -445,8 +418,23 @@ fn maps_of_each_kind(rt: HostRuntime) -> Result<(), Fail> {
     Ok(())
 }
 
-const SIXTEEN_MAPS: &str =
-    "map array 4 8 1\nmap array 4 8 1\nmap array 4 8 1\nmap array 4 8 1\nmap array 4 8 1\nmap array 4 8 1\nmap array 4 8 1\nmap array 4 8 1\nmap array 4 8 1\nmap array 4 8 1\nmap array 4 8 1\nmap array 4 8 1\nmap array 4 8 1\nmap array 4 8 1\nmap array 4 8 1\nmap array 4 8 1\n";
+const SIXTEEN_MAPS: &str = "map array 4 8 1
+map array 4 8 1
+map array 4 8 1
+map array 4 8 1
+map array 4 8 1
+map array 4 8 1
+map array 4 8 1
+map array 4 8 1
+map array 4 8 1
+map array 4 8 1
+map array 4 8 1
+map array 4 8 1
+map array 4 8 1
+map array 4 8 1
+map array 4 8 1
+map array 4 8 1
+";
 
 #[rattlefmt::skip]
 const FAULTY: [(&str, &str, &str, DecodeFault); 11] = [
@@ -551,7 +539,7 @@ fn fault_texts(rt: HostRuntime) -> Result<(), Fail> {
 
 #[test]
 fn refused_memory_is_23(rt: HostRuntime) {
-    match count_of(rt.alloc(), FIRST_RUN_TEXT) {
+    match count_of(rt.alloc(), FIRST_RUN) {
         Ok(count) => same(&rt, "instructions", &count, &17),
         Err(fault) => same(&rt, "no memory", &fault, &AsmFault::Memory),
     }

@@ -10,6 +10,7 @@ use isa::{
 use std::alloc::{AllocError, Global};
 use std::process::Abort;
 use std::test::Fail;
+use test_support::programs::{ARRAY, FIRST_RUN_IMAGE, ONE_ENTRY};
 
 const HEAD: [u8; 8] = [0x58, 0x4c, 0x42, 0x50, 1, 0, 0, 0];
 
@@ -438,34 +439,7 @@ fn heads(rt: HostRuntime) {
     let cut = number_of(rt.alloc(), &HEAD[..7]);
     same(&rt, "without its last byte", &cut, &10);
 }
-
-// Reads the packet's fourteenth byte and adds it to an array's first value.
-#[rattlefmt::skip]
-static FIRST_RUN: [u8; 168] = [
-    0x58, 0x4c, 0x42, 0x50, 0x01, 0x01, 0x00, 0x00,
-    0x02, 0x00, 0x00, 0x00, 0x04, 0x00, 0x00, 0x00,
-    0x08, 0x00, 0x00, 0x00, 0x01, 0x00, 0x00, 0x00,
-    0x61, 0x12, 0x00, 0x00, 0x00, 0x00, 0x00, 0x00,
-    0x61, 0x13, 0x04, 0x00, 0x00, 0x00, 0x00, 0x00,
-    0xbf, 0x24, 0x00, 0x00, 0x00, 0x00, 0x00, 0x00,
-    0x07, 0x04, 0x00, 0x00, 0x0e, 0x00, 0x00, 0x00,
-    0xb7, 0x00, 0x00, 0x00, 0x02, 0x00, 0x00, 0x00,
-    0x2d, 0x34, 0x0b, 0x00, 0x00, 0x00, 0x00, 0x00,
-    0x71, 0x26, 0x0d, 0x00, 0x00, 0x00, 0x00, 0x00,
-    0x62, 0x0a, 0xfc, 0xff, 0x00, 0x00, 0x00, 0x00,
-    0xbf, 0xa2, 0x00, 0x00, 0x00, 0x00, 0x00, 0x00,
-    0x07, 0x02, 0x00, 0x00, 0xfc, 0xff, 0xff, 0xff,
-    0x18, 0x11, 0x00, 0x00, 0x00, 0x00, 0x00, 0x00,
-    0x00, 0x00, 0x00, 0x00, 0x00, 0x00, 0x00, 0x00,
-    0x85, 0x00, 0x00, 0x00, 0x01, 0x00, 0x00, 0x00,
-    0x15, 0x00, 0x03, 0x00, 0x00, 0x00, 0x00, 0x00,
-    0x79, 0x07, 0x00, 0x00, 0x00, 0x00, 0x00, 0x00,
-    0x0f, 0x76, 0x00, 0x00, 0x00, 0x00, 0x00, 0x00,
-    0xbf, 0x60, 0x00, 0x00, 0x00, 0x00, 0x00, 0x00,
-    0x95, 0x00, 0x00, 0x00, 0x00, 0x00, 0x00, 0x00,
-];
-
-/// The fault of a beginning of FIRST_RUN.
+/// The fault of a beginning of FIRST_RUN_IMAGE.
 fn want_at(length: usize) -> u8 {
     if length < 24 {
         10
@@ -482,21 +456,21 @@ fn want_at(length: usize) -> u8 {
 
 #[test]
 fn beginnings(rt: HostRuntime) {
-    for length in 0..FIRST_RUN.len() + 1 {
-        let found = number_of(rt.alloc(), &FIRST_RUN[..length]);
+    for length in 0..FIRST_RUN_IMAGE.len() + 1 {
+        let found = number_of(rt.alloc(), &FIRST_RUN_IMAGE[..length]);
         same_at(&rt, "bytes up to", length as u64, &found, &want_at(length));
     }
-    let cut = decode(rt.alloc(), &FIRST_RUN[..112]);
+    let cut = decode(rt.alloc(), &FIRST_RUN_IMAGE[..112]);
     let is_cut = matches!(cut, Err(DecodeFault::WideCut { slot: 10 }));
     holds(&rt, "slot 10 is cut", is_cut);
 }
 
 #[test]
 fn first_run(rt: HostRuntime) -> Result<(), Fail> {
-    let image = decode(rt.alloc(), &FIRST_RUN)?;
+    let image = decode(rt.alloc(), &FIRST_RUN_IMAGE)?;
     same(&rt, "instructions", &image.code().len(), &17);
-    same(&rt, "maps", &image.maps(), &[ARRAY].as_slice());
-    is_encoded(&rt, rt.alloc(), "the first run", &image, &FIRST_RUN)
+    same(&rt, "maps", &image.maps(), &ARRAY.as_slice());
+    is_encoded(&rt, rt.alloc(), "the first run", &image, &FIRST_RUN_IMAGE)
 }
 
 /// An image of this many moves and an exit has the fault of this number, or none where it is 0.
@@ -540,13 +514,6 @@ fn part_fault(
     }
 }
 
-const ARRAY: MapDef = MapDef {
-    kind: MapKind::Array,
-    key_size: 4,
-    value_size: 8,
-    max_entries: 1,
-};
-
 const HASH: MapDef = MapDef {
     kind: MapKind::Hash,
     key_size: 4,
@@ -574,18 +541,18 @@ const ADDRESS: Insn = Insn::Ldval {
 
 #[rattlefmt::skip]
 static PARTS: [(&str, Version, u32, MapDef, u32, Insn, u8); 12] = [
-    ("sixteen maps",                     Version::V1, 16, ARRAY, 1,    Insn::Exit, 0),
-    ("seventeen maps",                   Version::V1, 17, ARRAY, 1,    Insn::Exit, 10),
-    ("a hash",                           Version::V1, 1,  HASH,  1,    Insn::Exit, 0),
-    ("a value of 72 bytes in version 1", Version::V1, 1,  WIDE_VALUE, 1, Insn::Exit, 11),
-    ("a value of 72 bytes in version 2", Version::V2, 1,  WIDE_VALUE, 1, Insn::Exit, 0),
-    ("maps before instructions",         Version::V1, 17, WIDE_VALUE, 0, Insn::Exit, 10),
-    ("no instruction",                   Version::V1, 0,  ARRAY, 0,    Insn::Exit, 12),
-    ("4096 instructions",                Version::V1, 0,  ARRAY, 4096, Insn::Exit, 0),
-    ("4097 instructions",                Version::V1, 0,  ARRAY, 4097, Insn::Exit, 14),
-    ("2049 wide instructions",           Version::V1, 0,  ARRAY, 2049, WIDE_MOVE,  14),
-    ("an address in version 1",          Version::V1, 0,  ARRAY, 2,    ADDRESS,    16),
-    ("an address in version 2",          Version::V2, 0,  ARRAY, 2,    ADDRESS,    0),
+    ("sixteen maps",                     Version::V1, 16, ONE_ENTRY,  1,    Insn::Exit, 0),
+    ("seventeen maps",                   Version::V1, 17, ONE_ENTRY,  1,    Insn::Exit, 10),
+    ("a hash",                           Version::V1, 1,  HASH,       1,    Insn::Exit, 0),
+    ("a value of 72 bytes in version 1", Version::V1, 1,  WIDE_VALUE, 1,    Insn::Exit, 11),
+    ("a value of 72 bytes in version 2", Version::V2, 1,  WIDE_VALUE, 1,    Insn::Exit, 0),
+    ("maps before instructions",         Version::V1, 17, WIDE_VALUE, 0,    Insn::Exit, 10),
+    ("no instruction",                   Version::V1, 0,  ONE_ENTRY,  0,    Insn::Exit, 12),
+    ("4096 instructions",                Version::V1, 0,  ONE_ENTRY,  4096, Insn::Exit, 0),
+    ("4097 instructions",                Version::V1, 0,  ONE_ENTRY,  4097, Insn::Exit, 14),
+    ("2049 wide instructions",           Version::V1, 0,  ONE_ENTRY,  2049, WIDE_MOVE,  14),
+    ("an address in version 1",          Version::V1, 0,  ONE_ENTRY,  2,    ADDRESS,    16),
+    ("an address in version 2",          Version::V2, 0,  ONE_ENTRY,  2,    ADDRESS,    0),
 ];
 
 #[test]
@@ -623,7 +590,7 @@ fn texts(rt: HostRuntime) -> Result<(), Fail> {
 // Run with each request of memory refused in turn, decode answers 20 or the image.
 #[test]
 fn refused_memory_is_20(rt: HostRuntime) {
-    let number = number_of(rt.alloc(), &FIRST_RUN);
+    let number = number_of(rt.alloc(), &FIRST_RUN_IMAGE);
     holds(&rt, "an image or 20", number == 0 || number == 20);
 }
 

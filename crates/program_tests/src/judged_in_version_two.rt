@@ -1,11 +1,11 @@
 //! Programs of version 2, worked out by hand: addresses in values, and offsets that are an interval.
 
 use crate::judged_programs::is_judged;
-use crate::rows::{address, alu, atomic, jump, load, store};
 use ebpf_decode::{Insn, MapDef, MapKind, Version};
 use isa::Register::{R0, R1, R2, R3, R4, R5, R6, R10};
 use isa::{AluOp, AtomicOp, Size, Source, Test, Width};
 use std::test::Fail;
+use test_support::{address, alu, atomic, jump, load, store};
 use verifier::*;
 
 const EXIT: Insn = Insn::Exit;
@@ -92,11 +92,15 @@ const READ: Insn = load!(Size::U8, R0, R6, 0);
 #[rattlefmt::skip]
 static INTERVALS: [(&str, &[Insn], Result<bool, Reject>); 6] = [
     ("a byte at any of 256",            &[address!(0, 0), START, END, PLACE, ADD_14, PASS, JGT_4, BYTE, ADD_BYTE, STORE_1, READ, EXIT],            Ok(false)),
-    ("two bytes may end past the value", &[address!(0, 0), START, END, PLACE, ADD_14, PASS, JGT_4, BYTE, ADD_BYTE, STORE_2, READ, EXIT],           Err(Reject::ValueBounds { slot: 10 })),
+    ("two bytes may end past the value", &[address!(0, 0), START, END, PLACE, ADD_14, PASS, JGT_4, BYTE, ADD_BYTE, STORE_2, READ, EXIT],
+        Err(Reject::ValueBounds { slot: 10 })),
     ("two bytes at any of 254",         &[address!(0, 0), START, END, PLACE, ADD_14, PASS, JGT_5, BYTE, AND_254, ADD_BYTE, STORE_2, READ, EXIT],   Ok(false)),
-    ("a count may end past the value",  &[address!(0, 0), START, END, PLACE, ADD_14, PASS, JGT_4, BYTE, ADD_BYTE, ADD_SHORT, READ, EXIT],          Err(Reject::ValueBounds { slot: 10 })),
-    ("and at any of 254 too",           &[address!(0, 0), START, END, PLACE, ADD_14, PASS, JGT_5, BYTE, AND_254, ADD_BYTE, ADD_SHORT, READ, EXIT], Err(Reject::ValueBounds { slot: 11 })),
-    ("a count at no single offset",     &[address!(0, 0), START, END, PLACE, ADD_14, PASS, JGT_5, BYTE, AND_252, ADD_BYTE, ADD_SHORT, READ, EXIT], Err(Reject::Misaligned { slot: 11 })),
+    ("a count may end past the value", &[address!(0, 0), START, END, PLACE, ADD_14, PASS, JGT_4, BYTE, ADD_BYTE, ADD_SHORT, READ, EXIT],
+        Err(Reject::ValueBounds { slot: 10 })),
+    ("and at any of 254 too", &[address!(0, 0), START, END, PLACE, ADD_14, PASS, JGT_5, BYTE, AND_254, ADD_BYTE, ADD_SHORT, READ, EXIT],
+        Err(Reject::ValueBounds { slot: 11 })),
+    ("a count at no single offset", &[address!(0, 0), START, END, PLACE, ADD_14, PASS, JGT_5, BYTE, AND_252, ADD_BYTE, ADD_SHORT, READ, EXIT],
+        Err(Reject::Misaligned { slot: 11 })),
 ];
 
 #[test]

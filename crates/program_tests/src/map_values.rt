@@ -1,6 +1,6 @@
 //! Rows of stores and atomic operations on values of maps, and of the helpers that change a map or move the packet's start.
 
-use crate::rows::{add, atomic, jump, load, mov, number, put, scalar, store};
+use crate::rows::scalar;
 use crate::straight_code::{
     ADD_14, ANY, END, FORGOTTEN, JEQ, JGT, KEY, KEY_AT, KEY_DOWN, LOOKUP, MAP, PLACE, START, VALUE,
     knows,
@@ -9,6 +9,7 @@ use abstract_state::{BrokenRule, Kind};
 use ebpf_decode::Insn;
 use isa::Register::{R0, R1, R2, R3, R4, R6, R7, R10};
 use isa::{AtomicOp, Register, Size, Source, Test, Width};
+use test_support::{add, atomic, jump, load, mov, number, put, store};
 
 const UPDATE: Insn = Insn::CallHelper { helper: 2 };
 
@@ -39,12 +40,16 @@ const BACK_20: Insn = number!(R2, -20);
 static KNOWN: [(&str, &[Insn], Register, Kind); 8] = [
     ("a store leaves the pointer", &[KEY, KEY_AT, KEY_DOWN, MAP, LOOKUP, JEQ, store!(Size::U64, R0, 0, 1)], R0, VALUE),
     ("so does a byte at its end", &[KEY, KEY_AT, KEY_DOWN, MAP, LOOKUP, JEQ, store!(Size::U8, R0, 7, 1)], R0, VALUE),
-    ("an atomic add leaves its source", &[KEY, KEY_AT, KEY_DOWN, MAP, LOOKUP, JEQ, ONE, atomic!(Width::Bits64, AtomicOp::AtomicAdd, R0, 0, R6)], R6, scalar!(1, 1)),
+    ("an atomic add leaves its source", &[KEY, KEY_AT, KEY_DOWN, MAP, LOOKUP, JEQ, ONE, atomic!(Width::Bits64, AtomicOp::AtomicAdd, R0, 0, R6)], R6,
+        scalar!(1, 1)),
     ("a fetch gives any number", &[KEY, KEY_AT, KEY_DOWN, MAP, LOOKUP, JEQ, ONE, atomic!(Width::Bits64, AtomicOp::FetchAdd, R0, 0, R6)], R6, ANY),
     ("of its width", &[KEY, KEY_AT, KEY_DOWN, MAP, LOOKUP, JEQ, ONE, atomic!(Width::Bits32, AtomicOp::Exchange, R0, 4, R6)], R6, scalar!(0, 0xffff_ffff)),
-    ("a compare-and-exchange gives it to R0", &[KEY, KEY_AT, KEY_DOWN, MAP, LOOKUP, JEQ, ONE, SAVE, ZERO, atomic!(Width::Bits64, AtomicOp::CompareExchange, R7, 0, R6)], R0, ANY),
-    ("and leaves its source", &[KEY, KEY_AT, KEY_DOWN, MAP, LOOKUP, JEQ, ONE, SAVE, ZERO, atomic!(Width::Bits64, AtomicOp::CompareExchange, R7, 0, R6)], R6, scalar!(1, 1)),
-    ("a value outlives an update", &[KEY, KEY_AT, KEY_DOWN, MAP, LOOKUP, JEQ, mov!(R6, R0), NEW_VALUE, KEY_AT, KEY_DOWN, VALUE_AT, VALUE_DOWN, FLAGS, MAP, UPDATE], R6, VALUE),
+    ("a compare-and-exchange gives it to R0",
+        &[KEY, KEY_AT, KEY_DOWN, MAP, LOOKUP, JEQ, ONE, SAVE, ZERO, atomic!(Width::Bits64, AtomicOp::CompareExchange, R7, 0, R6)], R0, ANY),
+    ("and leaves its source",
+        &[KEY, KEY_AT, KEY_DOWN, MAP, LOOKUP, JEQ, ONE, SAVE, ZERO, atomic!(Width::Bits64, AtomicOp::CompareExchange, R7, 0, R6)], R6, scalar!(1, 1)),
+    ("a value outlives an update",
+        &[KEY, KEY_AT, KEY_DOWN, MAP, LOOKUP, JEQ, mov!(R6, R0), NEW_VALUE, KEY_AT, KEY_DOWN, VALUE_AT, VALUE_DOWN, FLAGS, MAP, UPDATE], R6, VALUE),
 ];
 
 #[test]
@@ -62,14 +67,19 @@ static BROKEN: [(&str, &[Insn], BrokenRule); 15] = [
     ("of a pointer", &[KEY, KEY_AT, KEY_DOWN, MAP, LOOKUP, JEQ, put!(Size::U64, R0, 0, R10)], BrokenRule::PointerLeak),
     ("the place comes before the pointer", &[KEY, KEY_AT, KEY_DOWN, MAP, LOOKUP, JEQ, put!(Size::U64, R0, 8, R10)], BrokenRule::ValueBounds),
     ("where it may be null", &[KEY, KEY_AT, KEY_DOWN, MAP, LOOKUP, store!(Size::U64, R0, 0, 1)], BrokenRule::WrongKind(R0)),
-    ("an atomic operation where it may be null", &[KEY, KEY_AT, KEY_DOWN, MAP, LOOKUP, ONE, atomic!(Width::Bits64, AtomicOp::AtomicAdd, R0, 0, R6)], BrokenRule::WrongKind(R0)),
+    ("an atomic operation where it may be null", &[KEY, KEY_AT, KEY_DOWN, MAP, LOOKUP, ONE, atomic!(Width::Bits64, AtomicOp::AtomicAdd, R0, 0, R6)],
+        BrokenRule::WrongKind(R0)),
     ("past the value", &[KEY, KEY_AT, KEY_DOWN, MAP, LOOKUP, JEQ, ONE, atomic!(Width::Bits64, AtomicOp::AtomicAdd, R0, 4, R6)], BrokenRule::ValueBounds),
-    ("at no multiple of its size", &[KEY, KEY_AT, KEY_DOWN, MAP, LOOKUP, JEQ, ONE, atomic!(Width::Bits32, AtomicOp::AtomicAdd, R0, 2, R6)], BrokenRule::Misaligned),
+    ("at no multiple of its size", &[KEY, KEY_AT, KEY_DOWN, MAP, LOOKUP, JEQ, ONE, atomic!(Width::Bits32, AtomicOp::AtomicAdd, R0, 2, R6)],
+        BrokenRule::Misaligned),
     ("of a pointer", &[KEY, KEY_AT, KEY_DOWN, MAP, LOOKUP, JEQ, atomic!(Width::Bits64, AtomicOp::AtomicAdd, R0, 0, R10)], BrokenRule::PointerLeak),
     ("of an unset register", &[KEY, KEY_AT, KEY_DOWN, MAP, LOOKUP, JEQ, atomic!(Width::Bits64, AtomicOp::AtomicAdd, R0, 0, R7)], BrokenRule::UnsetRegister(R7)),
-    ("a fetch into R10, before its kind", &[KEY, KEY_AT, KEY_DOWN, MAP, LOOKUP, JEQ, atomic!(Width::Bits64, AtomicOp::FetchAdd, R0, 0, R10)], BrokenRule::ReadOnlyFp),
-    ("a compare-and-exchange with a pointer in R0", &[KEY, KEY_AT, KEY_DOWN, MAP, LOOKUP, JEQ, ONE, atomic!(Width::Bits64, AtomicOp::CompareExchange, R0, 0, R6)], BrokenRule::WrongKind(R0)),
-    ("an atomic operation on the packet", &[load!(Size::U32, R2, R1, 0), ONE, atomic!(Width::Bits64, AtomicOp::AtomicAdd, R2, 0, R6)], BrokenRule::WrongKind(R2)),
+    ("a fetch into R10, before its kind", &[KEY, KEY_AT, KEY_DOWN, MAP, LOOKUP, JEQ, atomic!(Width::Bits64, AtomicOp::FetchAdd, R0, 0, R10)],
+        BrokenRule::ReadOnlyFp),
+    ("a compare-and-exchange with a pointer in R0",
+        &[KEY, KEY_AT, KEY_DOWN, MAP, LOOKUP, JEQ, ONE, atomic!(Width::Bits64, AtomicOp::CompareExchange, R0, 0, R6)], BrokenRule::WrongKind(R0)),
+    ("an atomic operation on the packet", &[load!(Size::U32, R2, R1, 0), ONE, atomic!(Width::Bits64, AtomicOp::AtomicAdd, R2, 0, R6)],
+        BrokenRule::WrongKind(R2)),
     ("on the context", &[ONE, atomic!(Width::Bits64, AtomicOp::AtomicAdd, R1, 0, R6)], BrokenRule::WrongKind(R1)),
 ];
 
@@ -110,11 +120,18 @@ static LEFT: [(&str, &[Insn], Register, Result<Kind, BrokenRule>); 10] = [
     ("and leaves its arguments unset", &[KEY, NEW_VALUE, KEY_AT, KEY_DOWN, VALUE_AT, VALUE_DOWN, FLAGS, MAP, UPDATE], R4, Ok(Kind::Unset)),
     ("a deletion answers any number, and does not read R3", &[KEY, KEY_AT, KEY_DOWN, MAP, DELETE], R0, Ok(ANY)),
     ("a moved head answers any number", &[BACK_20, MOVE_HEAD], R0, Ok(ANY)),
-    ("a packet pointer of before is unset", &[load!(Size::U32, R6, R1, 0), BACK_20, MOVE_HEAD, load!(Size::U8, R0, R6, 0)], R0, Err(BrokenRule::UnsetRegister(R6))),
-    ("the end of before is unset", &[load!(Size::U32, R6, R1, 4), CONTEXT, BACK_20, MOVE_HEAD, load!(Size::U32, R4, R7, 0), jump!(Test::Gt, R4, Source::Reg(R6))], R0, Err(BrokenRule::UnsetRegister(R6))),
-    ("a spilled one reads as unset bytes", &[load!(Size::U32, R6, R1, 0), put!(Size::U64, R10, -8, R6), BACK_20, MOVE_HEAD, load!(Size::U64, R4, R10, -8)], R0, Err(BrokenRule::StackUnset)),
+    ("a packet pointer of before is unset", &[load!(Size::U32, R6, R1, 0), BACK_20, MOVE_HEAD, load!(Size::U8, R0, R6, 0)], R0,
+        Err(BrokenRule::UnsetRegister(R6))),
+    ("the end of before is unset",
+        &[load!(Size::U32, R6, R1, 4), CONTEXT, BACK_20, MOVE_HEAD, load!(Size::U32, R4, R7, 0), jump!(Test::Gt, R4, Source::Reg(R6))], R0,
+        Err(BrokenRule::UnsetRegister(R6))),
+    ("a spilled one reads as unset bytes",
+        &[load!(Size::U32, R6, R1, 0), put!(Size::U64, R10, -8, R6), BACK_20, MOVE_HEAD, load!(Size::U64, R4, R10, -8)], R0,
+        Err(BrokenRule::StackUnset)),
     ("what was tested before is forgotten", &[START, END, PLACE, ADD_14, JGT, CONTEXT, BACK_20, MOVE_HEAD, load!(Size::U32, R2, R7, 0)], R2, Ok(FORGOTTEN)),
-    ("so a byte wants a new test", &[START, END, PLACE, ADD_14, JGT, CONTEXT, BACK_20, MOVE_HEAD, load!(Size::U32, R2, R7, 0), load!(Size::U8, R0, R2, 0)], R0, Err(BrokenRule::PacketBounds)),
+    ("so a byte wants a new test",
+        &[START, END, PLACE, ADD_14, JGT, CONTEXT, BACK_20, MOVE_HEAD, load!(Size::U32, R2, R7, 0), load!(Size::U8, R0, R2, 0)], R0,
+        Err(BrokenRule::PacketBounds)),
     ("the context stays", &[CONTEXT, BACK_20, MOVE_HEAD], R7, Ok(Kind::Ctx)),
 ];
 

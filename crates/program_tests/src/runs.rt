@@ -12,17 +12,17 @@ mod programs;
 mod scripted;
 
 use crate::asserting::{same, same_fact};
-use crate::rows::{add, alu, jump, load, mov, number, put};
 use ebpf_decode::Insn;
 use isa::Register::{R0, R1, R2, R3, R4, R5, R10};
 use isa::{AluOp, Register, Size, Source, Test, Width};
-use listing::{EXIT, call, checked};
+use listing::{EXIT, checked};
 use machine::{Exit, Moment, Stop};
 use programs::{MOMENT, accepted, ran};
 use semantics::Verdict;
 use std::alloc::Global;
 use std::process::Abort;
 use std::test::Fail;
+use test_support::{add, alu, call, jump, load, mov, number, put};
 
 fn exit(verdict: Verdict, steps: u64) -> Exit {
     Exit { verdict, steps }
@@ -50,12 +50,15 @@ fn ends(
 
 #[rattlefmt::skip]
 static HEADS: [(&str, &[Insn], Exit); 6] = [
-    ("a verdict alone",                 &[Insn::Alu { width: Width::Bits64, op: AluOp::Mov, dst: Register::R0, source: Source::Imm(2) }], Exit { verdict: Verdict::Pass, steps: 2 }),
-    ("a number above 32 bits",          &[Insn::Lddw { dst: Register::R0, value: 0x1_0000_0001 }],                                        Exit { verdict: Verdict::Drop, steps: 2 }),
-    ("helper 5 is the time",            &[Insn::CallHelper { helper: 5 }],                                                                Exit { verdict: Verdict::Tx,   steps: 2 }),
-    ("helper 8 is the worker",          &[Insn::CallHelper { helper: 8 }],                                                                Exit { verdict: Verdict::Pass, steps: 2 }),
-    ("so is the receive queue",         &[Insn::Ldx { size: Size::U32, dst: Register::R0, src: Register::R1, offset: 16 }],               Exit { verdict: Verdict::Pass, steps: 2 }),
-    ("the frame came from interface 1", &[Insn::Ldx { size: Size::U32, dst: Register::R0, src: Register::R1, offset: 12 }],               Exit { verdict: Verdict::Drop, steps: 2 }),
+    ("a verdict alone", &[Insn::Alu { width: Width::Bits64, op: AluOp::Mov, dst: Register::R0, source: Source::Imm(2) }],
+        Exit { verdict: Verdict::Pass, steps: 2 }),
+    ("a number above 32 bits", &[Insn::Lddw { dst: Register::R0, value: 0x1_0000_0001 }], Exit { verdict: Verdict::Drop, steps: 2 }),
+    ("helper 5 is the time", &[Insn::CallHelper { helper: 5 }], Exit { verdict: Verdict::Tx,   steps: 2 }),
+    ("helper 8 is the worker", &[Insn::CallHelper { helper: 8 }], Exit { verdict: Verdict::Pass, steps: 2 }),
+    ("so is the receive queue", &[Insn::Ldx { size: Size::U32, dst: Register::R0, src: Register::R1, offset: 16 }],
+        Exit { verdict: Verdict::Pass, steps: 2 }),
+    ("the frame came from interface 1", &[Insn::Ldx { size: Size::U32, dst: Register::R0, src: Register::R1, offset: 12 }],
+        Exit { verdict: Verdict::Drop, steps: 2 }),
 ];
 
 /// The low 32 bits of R0 are the verdict, and a wide instruction is one step.

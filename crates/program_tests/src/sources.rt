@@ -7,17 +7,59 @@ use source_form::{Problem, SourceFault, assemble_source, exact_text, explain, so
 use std::alloc::Global;
 use std::process::Abort;
 use std::test::Fail;
+use test_support::programs::FIRST_RUN;
 
-const FIRST_RUN: &str =
-    "version 1\nmap array 4 8 1\nldxw r2, [r1+0]\nldxw r3, [r1+4]\nmov r4, r2\nadd r4, 14\nmov r0, 2\njgt r4, r3, +11\nldxb r6, [r2+13]\nstw [r10-4], 0\nmov r2, r10\nadd r2, -4\nldmap r1, 0\ncall 1\njeq r0, 0, +3\nldxdw r7, [r0+0]\nadd r6, r7\nmov r0, r6\nexit\n";
+/// The first run as people write it.
+const FIRST_RUN_SOURCE: &str = "# adds a number to the byte 13
+version 1
+map array 4 8 1   # key 0: the number
 
-/// The same program as people write it.
-const FIRST_RUN_SOURCE: &str =
-    "# adds a number to the byte 13\nversion 1\nmap array 4 8 1   # key 0: the number\n\n  ldxw r2, [r1+0]\n  ldxw r3,[r1+0x4]\n  mov\tr4, r2\n  add r4, 0xe\n  mov   r0,2\n  jgt r4, r3, out   # no byte 13\r\n  ldxb r6, [r2+0x0D]\n  stw [r10-0x4], 0\n  mov r2, r10\n  add r2, -0x4\n  ldmap r1, 0\n  call bpf_map_lookup_elem\n  jeq r0, 0x0, out\n  ldxdw r7, [r0+0]\n  add r6, r7\n  mov r0, r6\nout:\n  exit";
+  ldxw r2, [r1+0]
+  ldxw r3,[r1+0x4]
+  mov\tr4, r2
+  add r4, 0xe
+  mov   r0,2
+  jgt r4, r3, out   # no byte 13\r
+  ldxb r6, [r2+0x0D]
+  stw [r10-0x4], 0
+  mov r2, r10
+  add r2, -0x4
+  ldmap r1, 0
+  call bpf_map_lookup_elem
+  jeq r0, 0x0, out
+  ldxdw r7, [r0+0]
+  add r6, r7
+  mov r0, r6
+out:
+  exit";
 
 /// `examples/first_run.source.txt`.
 const EXAMPLE: &str =
-    "# Answers byte 13 of the frame plus the number in element 0: 1 drops the frame, 2 passes it on, 3 sends it.\nversion 1\nmap array 4 8 1                # map 0: the number to add\n\n    ldxw r2, [r1+0]            # where the frame begins\n    ldxw r3, [r1+4]            # where it ends\n    mov  r4, r2\n    add  r4, 0xe\n    mov  r0, 2\n    jgt  r4, r3, out           # fewer than 14 bytes: pass\n\n    ldxb r6, [r2+0xd]          # byte 13\n    stw  [r10-4], 0            # the key 0\n    mov  r2, r10\n    add  r2, -4\n    ldmap r1, 0\n    call map_lookup_elem\n    jeq  r0, 0, out            # no such element\n\n    ldxdw r7, [r0+0]\n    add  r6, r7\n    mov  r0, r6\nout:\n    exit\n";
+    "# Answers byte 13 of the frame plus the number in element 0: 1 drops the frame, 2 passes it on, 3 sends it.
+version 1
+map array 4 8 1                # map 0: the number to add
+
+    ldxw r2, [r1+0]            # where the frame begins
+    ldxw r3, [r1+4]            # where it ends
+    mov  r4, r2
+    add  r4, 0xe
+    mov  r0, 2
+    jgt  r4, r3, out           # fewer than 14 bytes: pass
+
+    ldxb r6, [r2+0xd]          # byte 13
+    stw  [r10-4], 0            # the key 0
+    mov  r2, r10
+    add  r2, -4
+    ldmap r1, 0
+    call map_lookup_elem
+    jeq  r0, 0, out            # no such element
+
+    ldxdw r7, [r0+0]
+    add  r6, r7
+    mov  r0, r6
+out:
+    exit
+";
 
 /// Compares the exact text that a source means.
 fn is_meant(
@@ -128,12 +170,15 @@ const BAD: [(&str, usize, Problem, &str); 29] = [
     ("version 1\na b:\nexit\n", 2, Problem::NoLabelName, "  \"a b:\": expected a label's name before the colon: letters, digits, _ and ., no digit first\n"),
     (":", 1, Problem::NoLabelName, "  \":\": expected a label's name before the colon: letters, digits, _ and ., no digit first\n"),
     ("version 1\njeq r1, 2, out\nexit\n", 2, Problem::UnknownLabel, "  \"out\": no line has the label out: (a distance has its sign, as +3)\n"),
-    ("version 1\ncall map_lookup\n", 2, Problem::UnknownHelper, "  \"map_lookup\": no such helper: expected a number, map_lookup_elem, map_update_elem, map_delete_elem, ktime_get_ns, get_smp_processor_id or xdp_adjust_head\n"),
+    ("version 1\ncall map_lookup\n", 2, Problem::UnknownHelper,
+        "  \"map_lookup\": no such helper: expected a number, map_lookup_elem, map_update_elem, map_delete_elem, ktime_get_ns, \
+         get_smp_processor_id or xdp_adjust_head\n"),
     ("version 1\n\nmov r1, 0xg\n", 3, Problem::NoNumber, "  \"0xg\": no number: expected decimal digits, or 0x and hexadecimal digits, of 64 bits at most\n"),
     ("version 1\nmov r1, 10x5\n", 2, Problem::NoNumber, "  \"10x5\": no number: expected decimal digits, or 0x and hexadecimal digits, of 64 bits at most\n"),
     ("version 1\nmov r1, 0x\n", 2, Problem::NoNumber, "  \"0x\": no number: expected decimal digits, or 0x and hexadecimal digits, of 64 bits at most\n"),
     ("version 1\nmov r1, 0x+5\n", 2, Problem::NoNumber, "  \"0x+5\": no number: expected decimal digits, or 0x and hexadecimal digits, of 64 bits at most\n"),
-    ("version 1\nlddw r1, 0x10000000000000000\n", 2, Problem::NoNumber, "  \"0x10000000000000000\": no number: expected decimal digits, or 0x and hexadecimal digits, of 64 bits at most\n"),
+    ("version 1\nlddw r1, 0x10000000000000000\n", 2, Problem::NoNumber,
+        "  \"0x10000000000000000\": no number: expected decimal digits, or 0x and hexadecimal digits, of 64 bits at most\n"),
     ("version 1\nlddw r1, -1\n", 2, Problem::NoNumber, "  \"-1\": no number: expected decimal digits, or 0x and hexadecimal digits, of 64 bits at most\n"),
     ("version 1\n# c\njqe r1, 2, +3\nexit\n", 3, Problem::NoSpelling, "  \"jqe\": no such instruction\n"),
     ("version 1\nexit\nmov r11, 2\n", 3, Problem::NoSpelling, "  \"r11\": expected a register, r0 to r10\n"),
@@ -149,9 +194,15 @@ const BAD: [(&str, usize, Problem, &str); 29] = [
     ("version 1\na: exit\na: exit\n", 3, Problem::LabelTwice, "  \"a:\": an earlier line has this label\n"),
     ("version 1\nmov r0: 2\n", 2, Problem::NoLabelName, "  \"mov r0:\": expected a label's name before the colon: letters, digits, _ and ., no digit first\n"),
     ("version 1\nja x\nx: mov r0, two\n", 3, Problem::NoSpelling, "  \"two\": expected a register, r0 to r10, or a signed number of 32 bits\n"),
-    ("version 1\nout: call lookup # none\n", 2, Problem::UnknownHelper, "  \"lookup\": no such helper: expected a number, map_lookup_elem, map_update_elem, map_delete_elem, ktime_get_ns, get_smp_processor_id or xdp_adjust_head\n"),
-    ("version 3\nexit\n", 1, Problem::NoSpelling, "  expected version 1 or version 2 on the first line, then map KIND KEY-BYTES VALUE-BYTES ENTRIES (hash, array or lru) before the instructions\n"),
-    ("", 1, Problem::NoSpelling, "  expected version 1 or version 2 on the first line, then map KIND KEY-BYTES VALUE-BYTES ENTRIES (hash, array or lru) before the instructions\n"),
+    ("version 1\nout: call lookup # none\n", 2, Problem::UnknownHelper,
+        "  \"lookup\": no such helper: expected a number, map_lookup_elem, map_update_elem, map_delete_elem, ktime_get_ns, get_smp_processor_id or \
+         xdp_adjust_head\n"),
+    ("version 3\nexit\n", 1, Problem::NoSpelling,
+        "  expected version 1 or version 2 on the first line, then map KIND KEY-BYTES VALUE-BYTES ENTRIES (hash, array or lru) before the \
+         instructions\n"),
+    ("", 1, Problem::NoSpelling,
+        "  expected version 1 or version 2 on the first line, then map KIND KEY-BYTES VALUE-BYTES ENTRIES (hash, array or lru) before the \
+         instructions\n"),
 ];
 
 /// What is wrong with a source, if anything is.
@@ -199,10 +250,14 @@ fn bad_lines(rt: HostRuntime) -> Result<(), Fail> {
 #[rattlefmt::skip]
 const NO_IMAGE: [(&str, DecodeFault, &str); 5] = [
     ("version 1\nmap array 4 8 1\n# two\nx: map hash 4 8 0\nexit\n", DecodeFault::BadMap { map: 1 }, "  line 4: map 1 has a size that no such map may have\n"),
-    ("version 1\nmap array 4 8 1\nmap array 4 8 1\nmap array 4 8 1\nmap array 4 8 1\nmap array 4 8 1\nmap array 4 8 1\nmap array 4 8 1\nmap array 4 8 1\nmap array 4 8 1\nmap array 4 8 1\nmap array 4 8 1\nmap array 4 8 1\nmap array 4 8 1\nmap array 4 8 1\nmap array 4 8 1\nmap array 4 8 1\nmap array 4 8 1\nexit\n", DecodeFault::BadHead, "  line 18: an image has at most 16 maps\n"),
+    ("version 1\nmap array 4 8 1\nmap array 4 8 1\nmap array 4 8 1\nmap array 4 8 1\nmap array 4 8 1\nmap array 4 8 1\nmap array 4 8 1\n\
+      map array 4 8 1\nmap array 4 8 1\nmap array 4 8 1\nmap array 4 8 1\nmap array 4 8 1\nmap array 4 8 1\nmap array 4 8 1\nmap array 4 8 1\n\
+      map array 4 8 1\nmap array 4 8 1\nexit\n", DecodeFault::BadHead, "  line 18: an image has at most 16 maps\n"),
     ("# nothing\nversion 1\nmap array 4 8 1\nend:\n", DecodeFault::Empty, "  there is no instruction\n"),
-    ("version 1\nmap array 4 8 1\n\nldval r1, 0, 0\nexit\n", DecodeFault::NotInProfile { slot: 0 }, "  line 4, slot 0: images of this version have no such instruction\n"),
-    ("version 1\nmap array 4 8 1\nlddw r1, 0x5\nb: mov r2, r1\na:  # three slots\nldval r1, 0, 0\nexit\n", DecodeFault::NotInProfile { slot: 3 }, "  line 6, slot 3: images of this version have no such instruction\n"),
+    ("version 1\nmap array 4 8 1\n\nldval r1, 0, 0\nexit\n", DecodeFault::NotInProfile { slot: 0 },
+        "  line 4, slot 0: images of this version have no such instruction\n"),
+    ("version 1\nmap array 4 8 1\nlddw r1, 0x5\nb: mov r2, r1\na:  # three slots\nldval r1, 0, 0\nexit\n", DecodeFault::NotInProfile { slot: 3 },
+        "  line 6, slot 3: images of this version have no such instruction\n"),
 ];
 
 #[test]
@@ -236,8 +291,37 @@ fn too_long(rt: HostRuntime) -> Result<(), Fail> {
 }
 
 // An instruction of each form, and jumps to all sides: to a label, into a wide instruction, and out of the program.
-const FORMS: &str =
-    "version 2\nmap hash 4 8 16\nmap array 4 8 1\nmap lru 2 16 3\nadd r1, -5\nxor32 r2, r3\nneg r1\nneg32 r4\nmovsx8 r1, r2\nmovsx1632 r1, r2\nle16 r1\nswap64 r1\nja +3\nja32 -4\njeq r1, 5, +0\njsle32 r1, r2, -1\njgt r1, r2, +6\nja -100\nldxdw r1, [r2-8]\nldxsb r1, [r2+1]\nstw [r10-4], -7\nstxb [r10-4], r1\naaddw [r1+0], r2\nafxordw [r1+0], r2\nlddw r1, 0x00000000ffffffff\nja -2\nldmap r1, 2\nldval r1, 1, 8\ncall 44\nexit\n";
+const FORMS: &str = "version 2
+map hash 4 8 16
+map array 4 8 1
+map lru 2 16 3
+add r1, -5
+xor32 r2, r3
+neg r1
+neg32 r4
+movsx8 r1, r2
+movsx1632 r1, r2
+le16 r1
+swap64 r1
+ja +3
+ja32 -4
+jeq r1, 5, +0
+jsle32 r1, r2, -1
+jgt r1, r2, +6
+ja -100
+ldxdw r1, [r2-8]
+ldxsb r1, [r2+1]
+stw [r10-4], -7
+stxb [r10-4], r1
+aaddw [r1+0], r2
+afxordw [r1+0], r2
+lddw r1, 0x00000000ffffffff
+ja -2
+ldmap r1, 2
+ldval r1, 1, 8
+call 44
+exit
+";
 
 /// What `source` prints of a text's image.
 fn source_of(alloc: Global, exact: &str) -> Result<String, Fail> {
@@ -267,8 +351,14 @@ fn each_form_there_and_back(rt: HostRuntime) -> Result<(), Fail> {
 const SMALL: &str =
     "version 1\nmap array 4 8 1\njeq r1, 5, +2\nlddw r1, 0x0000000000000001\nja -4\n";
 
-const SMALL_SOURCE: &str =
-    "version 1\nmap array 4 8 1                  # map 0\nL0:\n    jeq r1, 5, L3                # slot 0\n    lddw r1, 0x0000000000000001  # slot 1\nL3:\n    ja L0                        # slot 3\n";
+const SMALL_SOURCE: &str = "version 1
+map array 4 8 1                  # map 0
+L0:
+    jeq r1, 5, L3                # slot 0
+    lddw r1, 0x0000000000000001  # slot 1
+L3:
+    ja L0                        # slot 3
+";
 
 #[test]
 fn printed_source(rt: HostRuntime) -> Result<(), Fail> {

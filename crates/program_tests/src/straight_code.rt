@@ -2,12 +2,13 @@
 //! unless the row says otherwise.
 
 use crate::asserting::same;
-use crate::rows::{add, alu, jump, load, mov, number, put, scalar, store};
+use crate::rows::scalar;
 use abstract_state::{BrokenRule, Kind, Offsets, Site, State, Way};
 use ebpf_decode::{Insn, MapDef, MapKind, Version};
 use isa::Register::{R0, R1, R2, R3, R4, R5, R6, R10};
 use isa::{AluOp, AtomicOp, Extension, Register, Size, Source, Test, Width};
 use std::process::Abort;
+use test_support::{add, alu, jump, load, mov, number, put, store};
 
 static MAPS: [MapDef; 1] = [MapDef {
     kind: MapKind::Array,
@@ -174,7 +175,8 @@ static BROKEN: [(&str, &[Insn], BrokenRule); 26] = [
     ("a pointer as the verdict", &[mov!(R0, R1), Insn::Exit], BrokenRule::PointerLeak),
     ("R10 is read-only, before anything else", &[mov!(R10, R5)], BrokenRule::ReadOnlyFp),
     ("a packet byte that no test covers", &[START, END, load!(Size::U8, R5, R2, 0)], BrokenRule::PacketBounds),
-    ("the last byte that a test covers is read, the next isn't", &[START, END, PLACE, ADD_14, JGT, load!(Size::U8, R5, R2, 13), load!(Size::U8, R5, R2, 14)], BrokenRule::PacketBounds),
+    ("the last byte that a test covers is read, the next isn't",
+        &[START, END, PLACE, ADD_14, JGT, load!(Size::U8, R5, R2, 13), load!(Size::U8, R5, R2, 14)], BrokenRule::PacketBounds),
     ("before the packet", &[START, END, PLACE, ADD_14, JGT, load!(Size::U8, R5, R2, -1)], BrokenRule::PacketBounds),
     ("an unaligned stack store", &[store!(Size::U32, R10, -6, 0)], BrokenRule::Misaligned),
     ("above the stack", &[store!(Size::U32, R10, 0, 0)], BrokenRule::StackBounds),
@@ -182,13 +184,16 @@ static BROKEN: [(&str, &[Insn], BrokenRule); 26] = [
     ("an unset byte", &[load!(Size::U8, R0, R10, -1)], BrokenRule::StackUnset),
     ("a part of a spilled pointer", &[put!(Size::U64, R10, -8, R1), load!(Size::U32, R2, R10, -8)], BrokenRule::PointerLeak),
     ("a narrow store of a pointer", &[put!(Size::U32, R10, -8, R1)], BrokenRule::PointerLeak),
-    ("a narrow store over a spilled pointer", &[put!(Size::U64, R10, -8, R1), store!(Size::U32, R10, -8, 0), load!(Size::U64, R2, R10, -8)], BrokenRule::StackUnset),
+    ("a narrow store over a spilled pointer", &[put!(Size::U64, R10, -8, R1), store!(Size::U32, R10, -8, 0), load!(Size::U64, R2, R10, -8)],
+        BrokenRule::StackUnset),
     ("no such context field", &[load!(Size::U32, R0, R1, 8)], BrokenRule::ContextAccess),
     ("a context field of another size", &[load!(Size::U64, R0, R1, 0)], BrokenRule::ContextAccess),
     ("a value that may be null", &[KEY, KEY_AT, KEY_DOWN, MAP, LOOKUP, load!(Size::U64, R5, R0, 0)], BrokenRule::WrongKind(R0)),
     ("past a value", &[KEY, KEY_AT, KEY_DOWN, MAP, LOOKUP, JEQ, load!(Size::U64, R5, R0, 8)], BrokenRule::ValueBounds),
     ("across words of a value", &[KEY, KEY_AT, KEY_DOWN, MAP, LOOKUP, JEQ, load!(Size::U32, R5, R0, 2)], BrokenRule::Misaligned),
-    ("atomic operations on the stack", &[number!(R1, 1), Insn::AtomicUpdate { width: Width::Bits64, op: AtomicOp::AtomicAdd, dst: R10, src: R1, offset: -8 }], BrokenRule::WrongKind(R10)),
+    ("atomic operations on the stack",
+        &[number!(R1, 1), Insn::AtomicUpdate { width: Width::Bits64, op: AtomicOp::AtomicAdd, dst: R10, src: R1, offset: -8 }],
+        BrokenRule::WrongKind(R10)),
     ("a key of unset bytes", &[KEY_AT, KEY_DOWN, MAP, LOOKUP], BrokenRule::StackUnset),
     ("a key past the stack", &[KEY_AT, MAP, LOOKUP], BrokenRule::StackBounds),
     ("a lookup without a map", &[KEY, KEY_AT, KEY_DOWN, LOOKUP], BrokenRule::BadArgument(R1)),
@@ -226,11 +231,16 @@ fn joins(rt: HostRuntime) {
 
 #[rattlefmt::skip]
 static JOINED_OFFSETS: [(&str, Version, Kind, Kind, Kind); 6] = [
-    ("version 1: one offset stays",      Version::V1, Kind::Value { map: 0, id: 4, off: Offsets { low: 8, high: 8 } },  Kind::Value { map: 0, id: 4, off: Offsets { low: 8, high: 8 } },  Kind::Value { map: 0, id: 4, off: Offsets { low: 8, high: 8 } }),
-    ("version 1: two offsets disagree",  Version::V1, Kind::Value { map: 0, id: 4, off: Offsets { low: 0, high: 0 } },  Kind::Value { map: 0, id: 4, off: Offsets { low: 8, high: 8 } },  Kind::Unset),
-    ("version 2: the higher second",     Version::V2, Kind::Value { map: 0, id: 4, off: Offsets { low: 0, high: 0 } },  Kind::Value { map: 0, id: 4, off: Offsets { low: 8, high: 8 } },  Kind::Value { map: 0, id: 4, off: Offsets { low: 0, high: 8 } }),
-    ("version 2: the lower second",      Version::V2, Kind::Value { map: 0, id: 4, off: Offsets { low: 8, high: 16 } }, Kind::Value { map: 0, id: 4, off: Offsets { low: 4, high: 9 } },  Kind::Value { map: 0, id: 4, off: Offsets { low: 4, high: 16 } }),
-    ("version 2: one inside the other",  Version::V2, Kind::Value { map: 0, id: 4, off: Offsets { low: 0, high: 16 } }, Kind::Value { map: 0, id: 4, off: Offsets { low: 4, high: 9 } },  Kind::Value { map: 0, id: 4, off: Offsets { low: 0, high: 16 } }),
+    ("version 1: one offset stays", Version::V1, Kind::Value { map: 0, id: 4, off: Offsets { low: 8, high: 8 } },
+        Kind::Value { map: 0, id: 4, off: Offsets { low: 8, high: 8 } }, Kind::Value { map: 0, id: 4, off: Offsets { low: 8, high: 8 } }),
+    ("version 1: two offsets disagree", Version::V1, Kind::Value { map: 0, id: 4, off: Offsets { low: 0, high: 0 } },
+        Kind::Value { map: 0, id: 4, off: Offsets { low: 8, high: 8 } }, Kind::Unset),
+    ("version 2: the higher second", Version::V2, Kind::Value { map: 0, id: 4, off: Offsets { low: 0, high: 0 } },
+        Kind::Value { map: 0, id: 4, off: Offsets { low: 8, high: 8 } }, Kind::Value { map: 0, id: 4, off: Offsets { low: 0, high: 8 } }),
+    ("version 2: the lower second", Version::V2, Kind::Value { map: 0, id: 4, off: Offsets { low: 8, high: 16 } },
+        Kind::Value { map: 0, id: 4, off: Offsets { low: 4, high: 9 } }, Kind::Value { map: 0, id: 4, off: Offsets { low: 4, high: 16 } }),
+    ("version 2: one inside the other", Version::V2, Kind::Value { map: 0, id: 4, off: Offsets { low: 0, high: 16 } },
+        Kind::Value { map: 0, id: 4, off: Offsets { low: 4, high: 9 } }, Kind::Value { map: 0, id: 4, off: Offsets { low: 0, high: 16 } }),
     ("version 2: of two lookups",        Version::V2, Kind::Value { map: 0, id: 4, off: Offsets { low: 0, high: 8 } },  OTHER,        Kind::Unset),
 ];
 

@@ -30,6 +30,7 @@ fn shown(alloc: Global, settings: Settings<'_>) -> Result<String, AllocError> {
         }
         Settings::Asm { text, out, source } => format!(in alloc; "asm {text} {out} {source}"),
         Settings::Shipped { out, ring } => format!(in alloc; "shipped {out} {ring}"),
+        Settings::Table { script, ring } => format!(in alloc; "table {script} {ring}"),
         Settings::Replay {
             files,
             options,
@@ -101,7 +102,7 @@ fn replay_shown(
 }
 
 #[rattlefmt::skip]
-const READ: [(&str, &str); 36] = [
+const READ: [(&str, &str); 38] = [
     ("xlb check a",                             "check a false"),
     ("xlb check --explain a",                   "check a true"),
     ("xlb check a --explain",                   "check a true"),
@@ -132,6 +133,8 @@ const READ: [(&str, &str); 36] = [
     ("xlb shipped a",                           "shipped a 251"),
     ("xlb shipped a --ring 7",                  "shipped a 7"),
     ("xlb shipped --ring 4294967295 a",         "shipped a 4294967295"),
+    ("xlb table a",                             "table a 251"),
+    ("xlb table --ring 7 a",                    "table a 7"),
     ("xlb replay a b",                          "replay a b - - 1 1 65536 251 -"),
     ("xlb replay --script s a b --journals j",  "replay a b - s 1 1 65536 251 j"),
     ("xlb replay a b --image i --workers 4 --shards 8 --journal 16 --ring 7", "replay a b i - 4 8 16 7 -"),
@@ -163,7 +166,7 @@ fn reads_commands(rt: HostRuntime) -> Result<(), Fail> {
 
 /// A command line, the status, and what its text begins with.
 #[rattlefmt::skip]
-const REFUSED: [(&str, u8, &str); 50] = [
+const REFUSED: [(&str, u8, &str); 51] = [
     ("xlb",                                     2, "error: 'xlb' requires a subcommand but one was not provided"),
     ("xlb play a b",                            2, "error: unrecognized subcommand 'play'"),
     ("xlb replay a",                            2, "error: the following required arguments were not provided:\n  <SENT>"),
@@ -210,6 +213,7 @@ const REFUSED: [(&str, u8, &str); 50] = [
     ("xlb shipped",                             2, "error: the following required arguments were not provided:\n  <OUT>"),
     ("xlb shipped a b",                         2, "error: unexpected argument 'b' found"),
     ("xlb shipped a --ring x",                  2, "error: invalid value 'x' for '--ring <N>'"),
+    ("xlb table",                               2, "error: the following required arguments were not provided:\n  <SCRIPT>"),
     ("xlb help run",                            0, "Runs an image on one frame"),
     ("xlb --help",                              0, "Replays captures through eBPF programs; checks, runs, audits, prints and assembles them"),
     ("xlb run --help",                          0, "Runs an image on one frame"),

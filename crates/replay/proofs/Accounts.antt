@@ -29,7 +29,7 @@ use Rattle.replay.specs.declared.account.Counts.{Counts}
 use Rattle.replay.specs.declared.crew.Handled.{Handled}
 use Rattle.replay.specs.declared.runner.Ran.{Ran}
 use Rattle.replay.specs.declared.runner.RunEnd.{RunEnd}
-use Rattle.replay.specs.declared.runner.RunEnd.TheVariants.{Stopped, Aborted, Dropped, Passed, Sent as IsSent}
+use Rattle.replay.specs.declared.runner.RunEnd.TheVariants.{Stopped, Exited}
 use Rattle.replay.specs.Accounts.{runs_at, AreRunsOfShares}
 use Rattle.semantics.specs.Each.{Each}
 use Rattle.replay.specs.Crews.{IsHandled, IsPart}
@@ -37,6 +37,7 @@ use Rattle.replay.specs.RunsInOrder.{IsRunAt, IsChainOfRuns, HasHandled}
 use Rattle.replay.specs.Shares.{frames_of, share}
 use Rattle.replay.specs.RunJobs.{records_of}
 use Rattle.replay.specs.declared.outcome.Outcome.{Outcome}
+use Rattle.replay.specs.declared.outcome.RecordEnd.{RecordEnd}
 use Rattle.replay.specs.declared.shard_runner.Working.{Working}
 use Rattle.replay.specs.RunsOverShards.{IsNewPass, IsNewAt, IsIdle, IsRunOf, IsRunBy, IsRunIn, IsExit, StopsFor, IsFullAtEnd, pass_in, start_of}
 use Rattle.shards.specs.declared.deeds.Deed.{Deed}
@@ -46,12 +47,11 @@ use Rattle.replay.specs.Accounted.{IsWorkOf}
 
 -- ---- an outcome by its parts
 
-pub outcome_is : (outcome : Outcome) (counts : Counts) (sent : Vec Sent Global) (journals : JournalsView) → outcome.counts ≡ counts → outcome.sent ≡ sent
-    → outcome.journals ≡ journals → outcome ≡ record { counts = counts; refused = outcome.refused; sent = sent; journals = journals }
-outcome_is outcome counts sent journals of_counts of_sent of_journals =
-    subst (λ (it : Counts). outcome ≡ record { counts = it; refused = outcome.refused; sent = sent; journals = journals }) of_counts
-    (subst (λ (it : Vec Sent Global). outcome ≡ record { counts = outcome.counts; refused = outcome.refused; sent = it; journals = journals }) of_sent
-    (subst (λ (it : JournalsView). outcome ≡ record { counts = outcome.counts; refused = outcome.refused; sent = outcome.sent; journals = it }) of_journals refl))
+pub outcome_is : (outcome : Outcome) (counts : Counts) (sent : Vec Sent Global) (ends : Vec RecordEnd Global) (journals : JournalsView) → outcome.counts ≡ counts
+    → outcome.sent ≡ sent → outcome.ends ≡ ends → outcome.journals ≡ journals
+    → outcome ≡ record { counts = counts; refused = outcome.refused; sent = sent; ends = ends; journals = journals }
+outcome_is outcome counts sent ends journals of_counts of_sent of_ends of_journals =
+    λ i. record { counts = of_counts i; refused = outcome.refused; sent = of_sent i; ends = of_ends i; journals = of_journals i }
 
 -- ---- histories that begin with others
 
@@ -86,20 +86,14 @@ exit_goes count program worker captured before end after exit =
 run_goes : (count : ℕ) (plan : ℕ → ShardPlan) (program : Program) (worker : ℕ) (captured : Sent) (before : PassView) (end : RunEnd) (after : PassView)
     → IsRunOf count plan program worker captured before end after → Goes count before after
 run_goes count plan program worker captured before Stopped after run = stop_goes program plan count worker captured before after run.frame run.stop run.run
-run_goes count plan program worker captured before Aborted after run = exit_goes count program worker captured before Aborted after run
-run_goes count plan program worker captured before Dropped after run = exit_goes count program worker captured before Dropped after run
-run_goes count plan program worker captured before Passed after run = exit_goes count program worker captured before Passed after run
-run_goes count plan program worker captured before (IsSent sent) after run = exit_goes count program worker captured before (IsSent sent) after run
+run_goes count plan program worker captured before (Exited steps fate) after run = exit_goes count program worker captured before (Exited steps fate) after run
 
 -- ---- a run that ended is one
 
 pub exit_is_run : (count : ℕ) (plan : ℕ → ShardPlan) (program : Program) (worker : ℕ) (captured : Sent) (before : PassView) (end : RunEnd) (after : PassView)
     → IsExit count program worker captured before end after → IsRunOf count plan program worker captured before end after
 exit_is_run count plan program worker captured before Stopped after exit = absurd exit.told
-exit_is_run count plan program worker captured before Aborted after exit = exit
-exit_is_run count plan program worker captured before Dropped after exit = exit
-exit_is_run count plan program worker captured before Passed after exit = exit
-exit_is_run count plan program worker captured before (IsSent sent) after exit = exit
+exit_is_run count plan program worker captured before (Exited steps fate) after exit = exit
 
 -- ---- a run, held against the journals that began with what was seen after it
 
@@ -135,10 +129,7 @@ run_stands plan count program worker journals captured before Stopped after seen
   stop = run.stop;
   run = stop_stands plan count program worker journals captured before after run.frame run.stop seen run.run;
 }
-run_stands plan count program worker journals captured before Aborted after seen run = run
-run_stands plan count program worker journals captured before Dropped after seen run = run
-run_stands plan count program worker journals captured before Passed after seen run = run
-run_stands plan count program worker journals captured before (IsSent sent) after seen run = run
+run_stands plan count program worker journals captured before (Exited steps fate) after seen run = run
 
 -- ---- run after run
 

@@ -1,11 +1,12 @@
 -- An update that the controller's port takes is one that its shard serves.
-use Rattle.std.proofs.Common.{◌≡◌, ◌<◌, ℕ, Bool, true, ◌&&◌, List, length, Some, refl, sym, ap, ◌∙◌, subst, arith}
+use Rattle.std.proofs.Common.{◌≡◌, ◌<◌, ℕ, Bool, true, ◌&&◌, List, ◌∷◌, length, Some, refl, sym, ap, ◌∙◌, subst, arith}
 use Rattle.std.specs.Prelude.{All, IsTrue, ◌==◌, slice_get, ℤ, Option, Result, Ok, Err, IfOk, OnErr}
 use Rattle.std.proofs.lemmas.Bool.Decides.{nat_tests}
 use Rattle.ebpf_decode.specs.declared.map.MapDef.{MapDef}
 use Rattle.ebpf_decode.specs.declared.version.Version.TheVariants.{V2}
 use Rattle.semantics.specs.declared.call.Caller.{Caller}
 use Rattle.semantics.specs.declared.call.Caller.TheVariants.{Controller}
+use Rattle.semantics.specs.declared.call.Call.{Call}
 use Rattle.semantics.specs.declared.call.Call.TheVariants.{Update}
 use Rattle.semantics.specs.declared.call.Entry.{Entry}
 use Rattle.semantics.specs.declared.call.Reply.TheVariants.{Answer}
@@ -21,6 +22,9 @@ use Rattle.semantics.proofs.shared.ConditionLemmas.{bytes_test}
 use Rattle.semantics.proofs.shared.ImageSizes.{image_sizes}
 use Rattle.semantics.proofs.shared.PlanLemmas.{each_at}
 use Rattle.journals.specs.JournalsView.{AreImageMaps}
+use Rattle.shards.specs.CallerView.{entry_of}
+use Rattle.shards.specs.declared.deeds.Deed.TheVariants.{Wrote, MetFull}
+use Rattle.shards.specs.Deeds.{deed_by}
 use Rattle.shards.specs.Passes.{PassView, own_at, IsElsewhereSame}
 use Rattle.shards.specs.Asked.{MayAsk, IsAnswered, IsTurnedAway as IsAskTurnedAway}
 use Rattle.shards.proofs.shared.Keys.{IsAtKey, at_key}
@@ -63,6 +67,7 @@ pub record IsAtUpdate (count : ℕ) (plan : ℕ → ShardPlan) (maps : List MapD
   pub may : MayAsk (plan (shard_of_update maps options map key)) (shard_of_update maps options map key) pass
       (Update (shard_of_update maps options map key) key value any)
   pub of_map : slice_get maps map ≡ Some (plan (shard_of_update maps options map key)).definition
+  pub who : pass.who ≡ Controller
 
 pub at_update : (count : ℕ) (plan : ℕ → ShardPlan) (maps : List MapDef) (options : Options) (map : ℕ) (key value : List ℕ) (pass : PassView)
     (definition : MapDef) → IsControllersPort count plan maps options pass → slice_get maps map ≡ Some definition → length key ≡ definition.key_size →
@@ -83,6 +88,7 @@ at_update count plan maps options map key value pass definition port known key_s
           (same_test number (plan number).number (sym here.is.numbered)) here.own_key
           (both_true _ _ (same_test _ _ sized) (bytes_test value value_bytes));
       of_map = known ∙ ap (λ (one : MapDef). Some one) (sym here.is.defined);
+      who = port.who;
     }
 
 -- ---- the same, in the words of the port's code: the fields of the port, what contracts see of it, and what the calls before said
@@ -118,48 +124,58 @@ may_viewed count plan maps options pass now map shard key value key' value' flag
     subst (λ n. MayAsk (plan n) n pass (Update n key' value' any)) (sym (shard_viewed maps options pass now map shard key view_is is)) keyed in
     subst (λ f. MayAsk (plan shard) shard pass (Update shard key' value' f)) (sym flags_are) here
 
+-- the call that was made, in the words of the update
+same_call : (shard : ℕ) (key value key' value' : List ℕ) (flags : ℕ) → key' ≡ key → value' ≡ value → flags ≡ any →
+    Update shard key' value' flags ≡ Update shard key value any
+same_call shard key value key' value' flags key_is value_is flags_are =
+    ap (λ (f : ℕ). Update shard key' value' f) flags_are ∙ ap (λ (bytes : List ℕ). Update shard bytes value' any) key_is
+    ∙ ap (λ (bytes : List ℕ). Update shard key bytes any) value_is
+
 pub given : (count : ℕ) (plan : ℕ → ShardPlan) (maps : List MapDef) (options : Options) (pass pass' : PassView) (now : UpdatesView) (map shard : ℕ)
     (key value key' value' : List ℕ) (flags : ℕ) → viewed maps options pass ≡ now → IsAtUpdate count plan maps options map key value pass →
     key' ≡ key → value' ≡ value → shard ≡ shard_of_update now.maps now.options map key → flags ≡ any → IsElsewhereSame shard pass pass' →
     (result : Result ℤ JournalFull) → IfOk result (λ code. IsAnswered (plan shard) shard pass pass' (Update shard key' value' flags) (Answer code)) →
+    pass'.deeds ≡ deed_by pass.who (Update shard key' value' flags) Answer result ∷ pass.deeds →
     IfOk result (λ answer. IsUpdated plan now (record { map = map; key = key; value = value }) answer (viewed maps options pass'))
-given count plan maps options pass pass' now map shard key value key' value' flags view_is at key_is value_is is flags_are elsewhere (Err full) answered = tt
-given count plan maps options pass pass' now map shard key value key' value' flags view_is at key_is value_is is flags_are elsewhere (Ok code) answered =
+given count plan maps options pass pass' now map shard key value key' value' flags view_is at key_is value_is is flags_are elsewhere (Err full) answered did = tt
+given count plan maps options pass pass' now map shard key value key' value' flags view_is at key_is value_is is flags_are elsewhere (Ok code) answered did =
     let number : ℕ = shard_of_update maps options map key in
     let here : shard ≡ number = shard_viewed maps options pass now map shard key view_is is in
-    let flagged : IsAnswered (plan shard) shard pass pass' (Update shard key' value' any) (Answer code) =
-    subst (λ f. IsAnswered (plan shard) shard pass pass' (Update shard key' value' f) (Answer code)) flags_are answered in
-    let keyed : IsAnswered (plan shard) shard pass pass' (Update shard key value' any) (Answer code) =
-    subst (λ bytes. IsAnswered (plan shard) shard pass pass' (Update shard bytes value' any) (Answer code)) key_is flagged in
-    let valued : IsAnswered (plan shard) shard pass pass' (Update shard key value any) (Answer code) =
-    subst (λ bytes. IsAnswered (plan shard) shard pass pass' (Update shard key bytes any) (Answer code)) value_is keyed in
+    let same : Update shard key' value' flags ≡ Update shard key value any = same_call shard key value key' value' flags key_is value_is flags_are in
+    let called : IsAnswered (plan shard) shard pass pass' (Update shard key value any) (Answer code) =
+    subst (λ (call : Call). IsAnswered (plan shard) shard pass pass' call (Answer code)) same answered in
     subst (λ port. IsUpdated plan port (record { map = map; key = key; value = value }) code (viewed maps options pass')) view_is (record {
       maps = refl;
       options = refl;
       of_map = at.of_map;
       elsewhere = subst (λ n. IsElsewhereSame n pass pass') here elsewhere;
-      answered = subst (λ n. IsAnswered (plan n) n pass pass' (Update n key value any) (Answer code)) here valued;
+      answered = subst (λ n. IsAnswered (plan n) n pass pass' (Update n key value any) (Answer code)) here called;
+      did = did ∙ ap (λ (who : Caller). Wrote (entry_of who (Update shard key' value' flags) (Answer code)) ∷ pass.deeds) at.who
+          ∙ ap (λ (call : Call). Wrote (entry_of Controller call (Answer code)) ∷ pass.deeds) same
+          ∙ ap (λ (n : ℕ). Wrote (entry_of Controller (Update n key value any) (Answer code)) ∷ pass.deeds) here;
     })
 
 pub turned_away : (count : ℕ) (plan : ℕ → ShardPlan) (maps : List MapDef) (options : Options) (pass pass' : PassView) (now : UpdatesView) (map shard : ℕ)
     (key value key' value' : List ℕ) (flags : ℕ) → viewed maps options pass ≡ now → IsAtUpdate count plan maps options map key value pass →
     key' ≡ key → value' ≡ value → shard ≡ shard_of_update now.maps now.options map key → flags ≡ any → IsElsewhereSame shard pass pass' →
     (result : Result ℤ JournalFull) → OnErr result (IsAskTurnedAway (plan shard) shard pass pass' (Update shard key' value' flags)) →
+    pass'.deeds ≡ deed_by pass.who (Update shard key' value' flags) Answer result ∷ pass.deeds →
     OnErr result (IsTurnedAway plan now (record { map = map; key = key; value = value }) (viewed maps options pass'))
-turned_away count plan maps options pass pass' now map shard key value key' value' flags view_is at key_is value_is is flags_are elsewhere (Ok code) refused = tt
-turned_away count plan maps options pass pass' now map shard key value key' value' flags view_is at key_is value_is is flags_are elsewhere (Err full) refused =
+turned_away count plan maps options pass pass' now map shard key value key' value' flags view_is at key_is value_is is flags_are elsewhere (Ok code) refused did =
+    tt
+turned_away count plan maps options pass pass' now map shard key value key' value' flags view_is at key_is value_is is flags_are elsewhere (Err full) refused did =
     let number : ℕ = shard_of_update maps options map key in
     let here : shard ≡ number = shard_viewed maps options pass now map shard key view_is is in
-    let flagged : IsAskTurnedAway (plan shard) shard pass pass' (Update shard key' value' any) =
-    subst (λ f. IsAskTurnedAway (plan shard) shard pass pass' (Update shard key' value' f)) flags_are refused in
-    let keyed : IsAskTurnedAway (plan shard) shard pass pass' (Update shard key value' any) =
-    subst (λ bytes. IsAskTurnedAway (plan shard) shard pass pass' (Update shard bytes value' any)) key_is flagged in
-    let valued : IsAskTurnedAway (plan shard) shard pass pass' (Update shard key value any) =
-    subst (λ bytes. IsAskTurnedAway (plan shard) shard pass pass' (Update shard key bytes any)) value_is keyed in
+    let same : Update shard key' value' flags ≡ Update shard key value any = same_call shard key value key' value' flags key_is value_is flags_are in
+    let called : IsAskTurnedAway (plan shard) shard pass pass' (Update shard key value any) =
+    subst (λ (call : Call). IsAskTurnedAway (plan shard) shard pass pass' call) same refused in
     subst (λ port. IsTurnedAway plan port (record { map = map; key = key; value = value }) (viewed maps options pass')) view_is (record {
       maps = refl;
       options = refl;
       of_map = at.of_map;
       elsewhere = subst (λ n. IsElsewhereSame n pass pass') here elsewhere;
-      refused = subst (λ n. IsAskTurnedAway (plan n) n pass pass' (Update n key value any)) here valued;
+      refused = subst (λ n. IsAskTurnedAway (plan n) n pass pass' (Update n key value any)) here called;
+      did = did ∙ ap (λ (who : Caller). MetFull who (Update shard key' value' flags) ∷ pass.deeds) at.who
+          ∙ ap (λ (call : Call). MetFull Controller call ∷ pass.deeds) same
+          ∙ ap (λ (n : ℕ). MetFull Controller (Update n key value any) ∷ pass.deeds) here;
     })

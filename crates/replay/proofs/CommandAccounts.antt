@@ -1,20 +1,23 @@
 -- The account of a script, and one command more.
 use Rattle.std.proofs.Common.{◌≡◌, ℕ, List, [], ◌∷◌, ◌++◌, refl, sym, ap, ◌∙◌, subst, append_assoc}
-use Rattle.std.specs.Prelude.{Option, Some, None, IfSome, slice_get}
+use Rattle.std.specs.Prelude.{Option, Some, None, IfSome, slice_get, reverse}
 use Rattle.std.specs.List.{AllByRecursion}
-use Rattle.std.proofs.lemmas.List.{append-nil}
+use Rattle.std.proofs.lemmas.List.{append-nil, reverse-append}
 use Rattle.ebpf_decode.specs.declared.map.MapDef.{MapDef}
+use Rattle.semantics.specs.declared.call.Caller.TheVariants.{Controller}
 use Rattle.semantics.specs.declared.options.Options.{Options}
 use Rattle.semantics.specs.declared.plan.ShardPlan.{ShardPlan}
 use Rattle.semantics.specs.History.{IsJournalFull}
-use Rattle.shards.specs.CallerView.{CallerView, nothing_seen}
-use Rattle.shards.specs.Passes.{PassView, view_at, own_at, seen_at}
+use Rattle.shards.specs.CallerView.{CallerView}
+use Rattle.shards.specs.declared.deeds.Deed.{Deed}
+use Rattle.shards.specs.Passes.{PassView, own_at, seen_at}
 use Rattle.control.specs.declared.command.Command.{Command}
 use Rattle.control.specs.MapUpdates.{UpdateBytes}
 use Rattle.control.specs.Controlling.{ControllerState}
 use Rattle.replay.specs.declared.outcome.Applied.{Applied}
 use Rattle.replay.specs.SharedUpdates.{UpdatesView, shard_of, update_call}
-use Rattle.replay.specs.Commands.{CommandDone, IsDone, AreDone, IsNotedOf, AreNotedOf, made_in, with_updates, IsFullFor, IsMoved, HasEffect, IsAccount, IsCommander, ServesScript, opened_controller}
+use Rattle.replay.specs.Actors.{IsUnused}
+use Rattle.replay.specs.Commands.{CommandDone, IsDone, AreDone, IsNotedOf, AreNotedOf, made_in, with_updates, command_deeds, commands_deeds, IsFullFor, IsMoved, HasEffect, IsAccount, IsCommander, ServesScript, opened_controller}
 use Rattle.replay.proofs.Moving.{with_updates_more}
 use Rattle.replay.proofs.shared.FullStays.{full_stays}
 
@@ -75,6 +78,21 @@ own_more maps options before after done one same_maps same_options moved own num
     ∙ sym (with_updates_more maps options number (made_in done) one.made [])
     ∙ ap (λ made. with_updates maps options number made []) (sym (made_more done one))
 
+commands_more : (maps : List MapDef) (options : Options) (done : List CommandDone) (one : CommandDone) →
+    commands_deeds maps options (done ++ one ∷ []) ≡ commands_deeds maps options done ++ command_deeds maps options one
+commands_more maps options [] one = append-nil (command_deeds maps options one)
+commands_more maps options (first ∷ done) one =
+    ap (λ rest. command_deeds maps options first ++ rest) (commands_more maps options done one)
+    ∙ sym (append_assoc (command_deeds maps options first) (commands_deeds maps options done) (command_deeds maps options one))
+
+account_did : (maps : List MapDef) (options : Options) (before after : List Deed) (done : List CommandDone) (one : CommandDone) →
+    before ≡ reverse (commands_deeds maps options done) → after ≡ reverse (command_deeds maps options one) ++ before →
+    after ≡ reverse (commands_deeds maps options (done ++ one ∷ []))
+account_did maps options before after done one were did =
+    did ∙ ap (λ deeds. reverse (command_deeds maps options one) ++ deeds) were
+    ∙ sym (reverse-append (commands_deeds maps options done) (command_deeds maps options one))
+    ∙ ap reverse (sym (commands_more maps options done one))
+
 pub account_more : (plan : ℕ → ShardPlan) (script : List Command) (size : ℕ) (noted : List Applied) (state state' : ControllerState)
     (before after : UpdatesView) (command : Command) (last : Applied) →
     IsAccount plan before.maps before.options script size noted state before.pass → slice_get script last.command ≡ Some command →
@@ -91,19 +109,37 @@ account_more plan script size noted state state' before after command last accou
           (λ number. account.own number ∙ ap (λ m. with_updates m before.options number (made_in account.done) []) (sym effect.moved.maps)
           ∙ ap (λ o. with_updates after.maps o number (made_in account.done) []) (sym effect.moved.options));
       full = all_full_later plan before after one account.done effect.moved account.full (last_full plan before after one effect.moved one.stopped effect.full);
+      did = account_did before.maps before.options before.pass.deeds after.pass.deeds account.done one account.did effect.did
+          ∙ ap (λ m. reverse (commands_deeds m before.options (account.done ++ one ∷ []))) (sym effect.moved.maps)
+          ∙ ap (λ o. reverse (commands_deeds after.maps o (account.done ++ one ∷ []))) (sym effect.moved.options);
     }
 
-pub account_of_nothing : (plan : ℕ → ShardPlan) (maps : List MapDef) (options : Options) (script : List Command) (size : ℕ) (pass : PassView) →
-    ((number : ℕ) → view_at pass number ≡ nothing_seen) → IsAccount plan maps options script size [] (opened_controller size) pass
-account_of_nothing plan maps options script size pass nothing = record {
+account_of_nothing : (plan : ℕ → ShardPlan) (maps : List MapDef) (options : Options) (script : List Command) (size : ℕ) (pass : PassView) →
+    IsUnused pass → IsAccount plan maps options script size [] (opened_controller size) pass
+account_of_nothing plan maps options script size pass unused = record {
   done = [];
   are_noted = tt;
   are_done = refl;
-  own = λ number. ap (λ (view : CallerView). view.own) (nothing number);
+  own = λ number. ap (λ (view : CallerView). view.own) (unused.0 number);
   full = tt;
+  did = unused.1;
 }
 
 -- ---- the actor
+
+-- before its first command
+pub commander_of_nothing : (plan : ℕ → ShardPlan) (script : List Command) (noted : List Applied) (size : ℕ) (state : ControllerState) (maps : List MapDef)
+    (options : Options) (pass : PassView) (port : UpdatesView) → IsUnused pass → pass.who ≡ Controller → ServesScript maps size script → noted ≡ [] →
+    state ≡ opened_controller size → port ≡ record { maps = maps; options = options; pass = pass } → IsCommander plan script noted state port
+commander_of_nothing plan script noted size state maps options pass port unused who serves none opened is =
+    let start : UpdatesView = record { maps = maps; options = options; pass = pass } in
+    subst (λ (one : UpdatesView). IsCommander plan script noted state one) (sym is)
+    (subst (λ (one : ControllerState). IsCommander plan script noted one start) (sym opened)
+    (subst (λ (all : List Applied). IsCommander plan script all (opened_controller size) start) (sym none) (record {
+      account = account_of_nothing plan maps options script size pass unused;
+      serves = serves;
+      who = who;
+    })))
 
 pub commander_more : (plan : ℕ → ShardPlan) (script : List Command) (noted noted' : List Applied) (state state' : ControllerState)
     (before after : UpdatesView) (command : Command) (last : Applied) → IsCommander plan script noted state before → noted' ≡ noted ++ last ∷ [] →

@@ -12,8 +12,8 @@ use Rattle.control.specs.MapUpdates.{UpdateBytes, map_update}
 use Rattle.control.specs.Controlling.{ControllerState, IsCarriedOut as IsWhole, IsStopped, IsAnswered, IsLeft, refusal_of, first_updates, up_after, updates_of}
 use Rattle.shard_port.specs.ScheduleHook.{IsCounted, IsUncounted}
 use Rattle.replay.specs.SharedUpdates.{UpdatesView, IsUpdated, IsTurnedAway}
-use Rattle.replay.specs.Commands.{AnsweredUpdate, CommandDone, IsNothing, IsDoneBy, IsMoved, HasEffect, all_done}
-use Rattle.replay.proofs.Moving.{HasWithin, moved_by_all, moved_until_full, moved_by_one, moved_nowhere}
+use Rattle.replay.specs.Commands.{AnsweredUpdate, CommandDone, IsNothing, IsDoneBy, IsMoved, HasEffect, all_done, made_deeds}
+use Rattle.replay.proofs.Moving.{HasWithin, moved_by_all, did_all, did_more, moved_until_full, moved_by_one, moved_nowhere}
 
 -- no fault comes first
 abbrev pub NoneFirst : ControllerState → Action → Type 0
@@ -40,6 +40,9 @@ carried_out plan within gives refuses has state action state' before after who f
       };
       moved = moved_by_all plan within gives refuses has changes before after who whole.are_made;
       full = tt;
+      did = did_more (within before).pass.deeds (within after).pass.deeds (within after).pass.deeds
+          (made_deeds (within before).maps (within before).options (all_done changes)) []
+          (did_all plan within gives refuses has changes before after whole.are_made) refl;
     }
 
 -- nothing was asked
@@ -59,6 +62,7 @@ nothing_done plan state action fault state' before after who first state_is port
       };
       moved = subst (λ port. IsMoved before port []) (sym port_is) (moved_nowhere before who);
       full = tt;
+      did = ap (λ (port : UpdatesView). port.pass.deeds) port_is;
     }
 
 answered : {P : Type 0} (plan : ℕ → ShardPlan) (within : P → UpdatesView) (gives : P → UpdateBytes → ℤ → P → Type 0)
@@ -79,6 +83,7 @@ answered plan within gives refuses has state action answer state' before after w
       moved = moved_by_one plan (within before) (within after) (map_update told.update) answer who
           (has.given before after (map_update told.update) answer told.answered);
       full = tt;
+      did = (has.given before after (map_update told.update) answer told.answered).did;
     }
 
 stopped : {P : Type 0} (plan : ℕ → ShardPlan) (within : P → UpdatesView) (gives : P → UpdateBytes → ℤ → P → Type 0)
@@ -109,6 +114,7 @@ stopped plan within gives refuses has state action state' before after who first
       };
       moved = moved.moved;
       full = moved.full;
+      did = moved.did;
     }
 
 pub refused : {P : Type 0} (plan : ℕ → ShardPlan) (within : P → UpdatesView) (gives : P → UpdateBytes → ℤ → P → Type 0)

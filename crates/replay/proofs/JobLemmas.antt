@@ -5,9 +5,9 @@ use Rattle.std.proofs.lemmas.List.{append-nil}
 use Rattle.rx_queues.specs.declared.job.Job.{Job}
 use Rattle.rx_queues.specs.declared.job.Job.TheVariants.{Command as CommandJob, Note, End}
 use Rattle.semantics.specs.declared.plan.ShardPlan.{ShardPlan}
-use Rattle.shards.specs.CallerView.{nothing_seen}
-use Rattle.shards.specs.Passes.{PassView, view_at}
+use Rattle.shards.specs.Passes.{PassView}
 use Rattle.replay.specs.declared.outcome.Applied.{Applied}
+use Rattle.replay.specs.Actors.{IsUnused}
 use Rattle.replay.specs.ActorJobs.{command_jobs, AreCommandsTaken, AreRoundsMade}
 use Rattle.replay.specs.Rounds.{AreReclaimed}
 use Rattle.replay.proofs.RoundLemmas.{no_round}
@@ -51,9 +51,9 @@ pub record AreNotesTaken (plan : ℕ → ShardPlan) (count : ℕ) (jobs : List J
   pub notes : jobs ≡ replicate rounds Note
   pub reclaimed : AreReclaimed plan count rounds pass
 
-pub no_notes : (plan : ℕ → ShardPlan) (count : ℕ) (jobs : List Job) (pass : PassView) → jobs ≡ [] → ((number : ℕ) → view_at pass number ≡ nothing_seen) →
+pub no_notes : (plan : ℕ → ShardPlan) (count : ℕ) (jobs : List Job) (pass : PassView) → jobs ≡ [] → IsUnused pass →
     AreNotesTaken plan count jobs pass
-no_notes plan count jobs pass none nothing = record { rounds = 0; notes = none; reclaimed = no_round plan count pass nothing }
+no_notes plan count jobs pass none unused = record { rounds = 0; notes = none; reclaimed = no_round plan count pass unused }
 
 pub one_note : (plan : ℕ → ShardPlan) (count : ℕ) (jobs jobs' : List Job) (before after : PassView) → AreNotesTaken plan count jobs before →
     jobs' ≡ jobs ++ Note ∷ [] → ((rounds : ℕ) → AreReclaimed plan count rounds before → AreReclaimed plan count (rounds + 1) after) →

@@ -17,3 +17,5 @@ pub mod Asking
 pub mod JobLemmas
 pub mod Accounts
 pub mod PartLemmas
+pub mod TurnLemmas
+pub mod TurnUpdates

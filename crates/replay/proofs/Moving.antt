@@ -1,8 +1,8 @@
 -- What updates make of the controller's view of the shards.
 use Rattle.std.proofs.Common.{◌≡◌, ◌≢◌, ℕ, Bool, true, false, List, [], ◌∷◌, ◌++◌, refl, sym, ap, ◌∙◌, subst, append_assoc, arith}
-use Rattle.std.specs.Prelude.{◌==◌, ℤ, pos, if◌then◌else◌, Option, is_some}
+use Rattle.std.specs.Prelude.{◌==◌, ℤ, pos, if◌then◌else◌, Option, Some, is_some, reverse}
 use Rattle.std.proofs.lemmas.Bool.Decides.{nat_tests}
-use Rattle.std.proofs.lemmas.List.{append-nil}
+use Rattle.std.proofs.lemmas.List.{append-nil, reverse-append}
 use Rattle.ebpf_decode.specs.declared.map.MapDef.{MapDef}
 use Rattle.semantics.specs.declared.call.Caller.{Caller}
 use Rattle.semantics.specs.declared.call.Caller.TheVariants.{Controller}
@@ -11,11 +11,13 @@ use Rattle.semantics.specs.declared.call.Reply.TheVariants.{Answer}
 use Rattle.semantics.specs.declared.options.Options.{Options}
 use Rattle.semantics.specs.declared.plan.ShardPlan.{ShardPlan}
 use Rattle.shards.specs.CallerView.{CallerView, BeginsWith}
+use Rattle.shards.specs.declared.deeds.Deed.{Deed}
+use Rattle.shards.specs.declared.deeds.Deed.TheVariants.{MetFull}
 use Rattle.shards.specs.Passes.{PassView, view_at, own_at, seen_at}
 use Rattle.control.specs.declared.update.Update.{Update as Change}
 use Rattle.control.specs.MapUpdates.{UpdateBytes, map_update, AreMade, AreCutShort}
-use Rattle.replay.specs.SharedUpdates.{UpdatesView, shard_for, update_call, IsUpdated, IsTurnedAway}
-use Rattle.replay.specs.Commands.{AnsweredUpdate, done_update, all_done, update_entry, with_update, with_updates, IsMoved, IsFullFor}
+use Rattle.replay.specs.SharedUpdates.{UpdatesView, shard_of, shard_for, update_call, IsUpdated, IsTurnedAway}
+use Rattle.replay.specs.Commands.{AnsweredUpdate, done_update, all_done, update_entry, with_update, with_updates, made_deeds, stop_deeds, IsMoved, IsFullFor}
 
 same_number : (a b : ℕ) → (a == b) ≡ true → a ≡ b
 same_number a b test = grind (arith, nat_tests)
@@ -39,6 +41,15 @@ begins_itself history = ([], refl)
 pub begins_over : (last middle first : List Entry) → BeginsWith last middle → BeginsWith middle first → BeginsWith last first
 begins_over last middle first (later, is) (earlier, was) =
     (later ++ earlier, is ∙ ap (λ rest. later ++ rest) was ∙ sym (append_assoc later earlier first))
+
+-- ---- deeds
+
+-- newest first: what was done first, and then what was done on top of it
+pub did_more : (before middle after first second : List Deed) → middle ≡ reverse first ++ before → after ≡ reverse second ++ middle →
+    after ≡ reverse (first ++ second) ++ before
+did_more before middle after first second one two =
+    two ∙ ap (λ deeds. reverse second ++ deeds) one ∙ sym (append_assoc (reverse second) (reverse first) before)
+    ∙ ap (λ deeds. deeds ++ before) (sym (reverse-append first second))
 
 -- ---- moves
 
@@ -149,9 +160,36 @@ moved_by_all plan within gives refuses has (change ∷ changes) before after who
     moved_on (within before) (within middle) (within after) (done_update change ∷ []) (all_done changes) first
     (moved_by_all plan within gives refuses has changes middle after first.who later)
 
+-- what they did, over all shards
+pub did_all : {P : Type 0} (plan : ℕ → ShardPlan) (within : P → UpdatesView) (gives : P → UpdateBytes → ℤ → P → Type 0)
+    (refuses : P → UpdateBytes → P → Type 0) → HasWithin plan within gives refuses → (changes : List Change) (before after : P) →
+    AreMade gives before changes after →
+    (within after).pass.deeds ≡ reverse (made_deeds (within before).maps (within before).options (all_done changes)) ++ (within before).pass.deeds
+did_all plan within gives refuses has [] before after made = ap (λ port. (within port).pass.deeds) (sym made)
+did_all plan within gives refuses has (change ∷ changes) before after (middle, given, later) =
+    let one = has.given before middle (map_update change) (pos 0) given in
+    let rest = did_all plan within gives refuses has changes middle after later
+    ∙ ap (λ maps. reverse (made_deeds maps (within middle).options (all_done changes)) ++ (within middle).pass.deeds) one.maps
+    ∙ ap (λ options. reverse (made_deeds (within before).maps options (all_done changes)) ++ (within middle).pass.deeds) one.options in
+    did_more (within before).pass.deeds (within middle).pass.deeds (within after).pass.deeds
+    (made_deeds (within before).maps (within before).options (done_update change ∷ []))
+    (made_deeds (within before).maps (within before).options (all_done changes)) one.did rest
+
+-- the look at a full journal, in the words of an earlier port
+did_meet : (plan : ℕ → ShardPlan) (maps : List MapDef) (options : Options) (before after : UpdatesView) (update : UpdateBytes) → before.maps ≡ maps →
+    before.options ≡ options → IsTurnedAway plan before update after →
+    after.pass.deeds ≡ reverse (stop_deeds maps options (Some update)) ++ before.pass.deeds
+did_meet plan maps options before after update same_maps same_options refused =
+    refused.did
+    ∙ ap (λ m. MetFull Controller (update_call (shard_of m before.options update) update) ∷ before.pass.deeds) same_maps
+    ∙ ap (λ o. MetFull Controller (update_call (shard_of maps o update) update) ∷ before.pass.deeds) same_options
+
 pub record IsMovedAndFull (plan : ℕ → ShardPlan) (before after : UpdatesView) (begun : List Change) (next : Change) : Type 0 where
   pub moved : IsMoved before after (all_done begun)
   pub full : IsFullFor plan before.maps before.options after.pass (map_update next)
+  pub did :
+      after.pass.deeds ≡ reverse (made_deeds before.maps before.options (all_done begun)
+      ++ stop_deeds before.maps before.options (Some (map_update next))) ++ before.pass.deeds
 
 full_for : (plan : ℕ → ShardPlan) (before after : UpdatesView) (update : UpdateBytes) → IsTurnedAway plan before update after →
     IsFullFor plan before.maps before.options after.pass update
@@ -176,4 +214,9 @@ moved_until_full plan within gives refuses has changes before after who cut =
       full = subst (λ maps. IsFullFor plan maps (within before).options (within after).pass (map_update cut.next)) first.maps
           (subst (λ options. IsFullFor plan (within cut.middle).maps options (within after).pass (map_update cut.next)) first.options
           (full_for plan (within cut.middle) (within after) (map_update cut.next) refused));
+      did = did_more (within before).pass.deeds (within cut.middle).pass.deeds (within after).pass.deeds
+          (made_deeds (within before).maps (within before).options (all_done cut.made))
+          (stop_deeds (within before).maps (within before).options (Some (map_update cut.next)))
+          (did_all plan within gives refuses has cut.made before cut.middle cut.are_made)
+          (did_meet plan (within before).maps (within before).options (within cut.middle) (within after) (map_update cut.next) first.maps first.options refused);
     }

@@ -8,6 +8,9 @@ use Rattle.ebpf_decode.specs.declared.map.MapKind.{MapKind}
 use Rattle.ebpf_decode.specs.declared.map.MapKind.TheVariants.{Array, Hash, LruHash}
 use Rattle.semantics.specs.declared.call.Caller.{Caller}
 use Rattle.semantics.specs.declared.call.Caller.TheVariants.{Reclaimer}
+use Rattle.shards.specs.declared.deeds.Deed.{Deed}
+use Rattle.shards.specs.declared.deeds.Part.TheVariants.{ByCaller}
+use Rattle.shards.specs.Deeds.{deeds_of}
 use Rattle.semantics.specs.declared.call.Call.TheVariants.{Reclaim}
 use Rattle.semantics.specs.declared.call.Entry.{Entry}
 use Rattle.semantics.specs.declared.options.Options.{Options}
@@ -27,13 +30,13 @@ use Rattle.replay.specs.declared.outcome.Applied.{Applied}
 use Rattle.replay.specs.SharedUpdates.{shard_of, update_call}
 use Rattle.replay.specs.Commands.{CommanderView, CommandDone, IsAccount, IsFullFor, ServesScript}
 use Rattle.replay.specs.ActorJobs.{command_jobs}
-use Rattle.replay.specs.Rounds.{AreReclaimed, IsReclaimedBy}
+use Rattle.replay.specs.Rounds.{AreReclaimed, AreRoundsDone, IsReclaimedBy}
 use Rattle.replay.specs.Actors.{numbers_from, commands_from}
 use Rattle.maglev.specs.RingSize.{IsRingSize}
 use Rattle.semantics.proofs.shared.HoldingLemmas.{each_weaker}
 use Rattle.semantics.proofs.shared.PlanLemmas.{some_shards, below_count}
 use Rattle.replay.specs.Parts.{HasCommanded, HasReclaimed, IsScriptRun, IsFullInJournal, IsScriptAccounted, AreRoundsAccounted, numbers_of, refused_of}
-use Rattle.replay.proofs.Accounts.{full_later}
+use Rattle.replay.proofs.Accounts.{full_later, IsOwnIn}
 
 -- ---- rounds
 
@@ -69,14 +72,19 @@ reclaimed_later LruHash plan number rounds own seen later begins made = record {
   fewer_if_full = λ fewer. full_later plan later seen (Reclaim number) begins (made.fewer_if_full fewer);
 }
 
-pub rounds_stand : (plan : ℕ → ShardPlan) (count rounds : ℕ) (journals : JournalsView) (pass : PassView) → pass.who ≡ Reclaimer →
-    AreSettled count journals pass → AreReclaimed plan count rounds pass → AreRoundsAccounted plan count rounds journals
-rounds_stand plan count rounds journals pass who settled reclaimed number within =
-    let all : List Entry = reverse (entries_at journals number) in
-    let kind = (plan number).definition.kind in
-    let own_is : own_at pass number ≡ own_entries Reclaimer all = (settled number within).own ∙ ap (λ (c : Caller). own_entries c all) who in
-    subst (λ (own : List Entry). IsReclaimedBy kind (plan number) number rounds own all) own_is
-    (reclaimed_later kind (plan number) number rounds (own_at pass number) (seen_at pass number) all (settled number within).begins (reclaimed number within))
+pub rounds_stand : (plan : ℕ → ShardPlan) (count rounds : ℕ) (journals : JournalsView) (order : List Deed) (pass : PassView) → pass.who ≡ Reclaimer →
+    AreSettled count journals pass → IsOwnIn order pass → AreReclaimed plan count rounds pass → AreRoundsAccounted plan count rounds journals order
+rounds_stand plan count rounds journals order pass who settled owned reclaimed = record {
+  each = λ number within.
+      let all : List Entry = reverse (entries_at journals number) in
+      let kind = (plan number).definition.kind in
+      let own_is : own_at pass number ≡ own_entries Reclaimer all = (settled number within).own ∙ ap (λ (c : Caller). own_entries c all) who in
+      subst (λ (own : List Entry). IsReclaimedBy kind (plan number) number rounds own all) own_is
+      (reclaimed_later kind (plan number) number rounds (own_at pass number) (seen_at pass number) all (settled number within).begins
+      (reclaimed.each number within));
+  did = subst (λ (deeds : List Deed). AreRoundsDone plan count rounds (reverse deeds)) (owned ∙ ap (λ (c : Caller). deeds_of (ByCaller c) order) who)
+      reclaimed.did;
+}
 
 -- ---- the numbers of commands
 
@@ -166,11 +174,10 @@ full_stands plan maps options count journals pass plans are settled (Some update
     }
 
 pub script_stands : (plan : ℕ → ShardPlan) (maps : List MapDef) (options : Options) (count : ℕ) (script : List Command) (size : ℕ) (noted : List Applied)
-    (pass : PassView) (journals : JournalsView) (refused : List Applied) → ArePlans maps options count plan → AreOptions maps options →
+    (pass : PassView) (journals : JournalsView) (order : List Deed) (refused : List Applied) → ArePlans maps options count plan → AreOptions maps options →
     IsRingSize size → ServesScript maps size script → IsScriptRun plan maps options script size noted pass → AreSettled count journals pass →
-    refused ≡ refused_of noted →
-    IsScriptAccounted plan maps options count script journals refused
-script_stands plan maps options count script size noted pass journals refused plans are served serves run settled refused_are = record {
+    IsOwnIn order pass → refused ≡ refused_of noted → IsScriptAccounted plan maps options count script journals order refused
+script_stands plan maps options count script size noted pass journals order refused plans are served serves run settled owned refused_are = record {
   size = size;
   size_is_served = served;
   serves = serves;
@@ -184,6 +191,7 @@ script_stands plan maps options count script size noted pass journals refused pl
   full = each_weaker (λ (one : CommandDone). IfSome one.stopped (IsFullFor plan maps options pass))
       (λ (one : CommandDone). IfSome one.stopped (IsFullInJournal plan maps options count journals))
       (λ one. full_stands plan maps options count journals pass plans are settled one.stopped) run.account.done run.account.full;
+  did = ap (λ (c : Caller). deeds_of (ByCaller c) order) (sym run.who) ∙ sym owned ∙ run.account.did;
   refused_are = refused_are;
 }
 

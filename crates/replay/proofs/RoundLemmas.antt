@@ -1,20 +1,28 @@
 -- One round more, shard by shard.
-use Rattle.std.proofs.Common.{◌≡◌, ◌≢◌, ◌<◌, ◌≤◌, ℕ, suc, ◌+◌, Bool, true, false, List, [], ◌∷◌, length, refl, sym, ap, ◌∙◌, subst, arith, inl, inr}
-use Rattle.std.specs.Prelude.{◌==◌}
+use Rattle.std.proofs.Common.{◌≡◌, ◌≢◌, ◌<◌, ◌≤◌, ℕ, zero, suc, ◌+◌, Bool, true, false, List, [], ◌∷◌, ◌++◌, length, refl, sym, ap, ◌∙◌, subst, arith, inl, inr}
+use Rattle.std.specs.Prelude.{◌==◌, reverse, Result, Ok, Err, if◌then◌else◌}
 use Rattle.std.specs.List.{AllByRecursion}
 use Rattle.std.proofs.lemmas.Bool.Decides.{nat_tests}
+use Rattle.std.proofs.lemmas.List.{append_assoc, append-nil, reverse-append, reverse-reverse}
 use Rattle.ebpf_decode.specs.declared.map.MapKind.{MapKind}
 use Rattle.ebpf_decode.specs.declared.map.MapKind.TheVariants.{Array, Hash, LruHash}
 use Rattle.semantics.specs.declared.call.Caller.TheVariants.{Reclaimer}
 use Rattle.semantics.specs.declared.call.Call.TheVariants.{Reclaim}
 use Rattle.semantics.specs.declared.call.Reply.TheVariants.{Freed}
 use Rattle.semantics.specs.declared.call.Entry.{Entry}
+use Rattle.semantics.specs.declared.full.JournalFull.{JournalFull}
 use Rattle.semantics.specs.declared.plan.ShardPlan.{ShardPlan}
 use Rattle.semantics.specs.History.{IsJournalFull}
-use Rattle.shards.specs.CallerView.{CallerView, BeginsWith, nothing_seen}
+use Rattle.shards.specs.CallerView.{CallerView, BeginsWith}
+use Rattle.shards.specs.declared.deeds.Deed.{Deed}
+use Rattle.shards.specs.declared.deeds.Deed.TheVariants.{Wrote, MetFull}
+use Rattle.shards.specs.Deeds.{deed_by}
 use Rattle.shards.specs.Passes.{PassView, view_at, own_at, seen_at, IsElsewhereSame}
 use Rattle.shards.specs.Asked.{IsAnswered, IsTurnedAway}
+use Rattle.replay.specs.Actors.{IsUnused}
 use Rattle.replay.specs.Rounds.{IsReclaim, IsReclaimed, IsReclaimedBy, IsReclaimedAt, AreReclaimed, IsAsked, is_keyed}
+use Rattle.replay.specs.Rounds.{keyed_below, IsReclaimDeed, AreReclaimDeeds, IsRoundDone, AreRoundsDone, HasAsked, HasTurned}
+use Rattle.replay.proofs.Moving.{did_more}
 use Rattle.replay.proofs.shared.FullStays.{full_stays}
 
 -- a round that has come to the shard of this number: those below have had one more than the others
@@ -120,11 +128,11 @@ next_turn plan count rounds number before after was inside elsewhere turn = reco
 pub first_turn : (plan : ℕ → ShardPlan) (count rounds : ℕ) (pass : PassView) → AreReclaimed plan count rounds pass → IsInRound plan count rounds 0 pass
 first_turn plan count rounds pass are = record {
   below = λ other below within. absurd (omega (arith, below));
-  from = λ other up within. are other within;
+  from = λ other up within. are.each other within;
 }
 
 pub all_turns : (plan : ℕ → ShardPlan) (count rounds number : ℕ) (pass : PassView) → count ≤ number → IsInRound plan count rounds number pass →
-    AreReclaimed plan count (rounds + 1) pass
+    (other : ℕ) → other < count → IsReclaimedAt plan (rounds + 1) pass other
 all_turns plan count rounds number pass past was other within = was.below other (omega (arith, past, within)) within
 
 nothing_by : (kind : MapKind) (plan : ShardPlan) (number : ℕ) → IsReclaimedBy kind plan number 0 [] []
@@ -132,7 +140,86 @@ nothing_by Array plan number = refl
 nothing_by Hash plan number = record { each = tt; one_a_round = omega arith; fewer_if_full = λ fewer. absurd (omega (arith, fewer)) }
 nothing_by LruHash plan number = record { each = tt; one_a_round = omega arith; fewer_if_full = λ fewer. absurd (omega (arith, fewer)) }
 
-pub no_round : (plan : ℕ → ShardPlan) (count : ℕ) (pass : PassView) → ((number : ℕ) → view_at pass number ≡ nothing_seen) → AreReclaimed plan count 0 pass
-no_round plan count pass nothing number within =
-    subst (λ (view : CallerView). IsReclaimedBy (plan number).definition.kind (plan number) number 0 view.own view.seen) (sym (nothing number))
-    (nothing_by (plan number).definition.kind (plan number) number)
+-- ---- the deeds of a round
+
+-- a Reclaim was served, or met a full journal
+pub asked_did : (number : ℕ) (before after : PassView) (result : Result ℕ JournalFull) → before.who ≡ Reclaimer →
+    after.deeds ≡ deed_by before.who (Reclaim number) Freed result ∷ before.deeds → HasAsked number before after
+asked_did number before after (Ok freed) who did =
+    let deed : Deed = Wrote (record { who = before.who; call = Reclaim number; reply = Freed freed }) in
+    (deed, inl (freed, ap (λ one. Wrote (record { who = one; call = Reclaim number; reply = Freed freed })) who), did)
+asked_did number before after (Err full) who did = (MetFull before.who (Reclaim number), inr (ap (λ one. MetFull one (Reclaim number)) who), did)
+
+pub keyed_did : (kind : MapKind) (number : ℕ) (before after : PassView) → is_keyed kind ≡ true → HasAsked number before after →
+    HasTurned (is_keyed kind) number before after
+keyed_did kind number before after keyed asked = subst (λ test. HasTurned test number before after) (sym keyed) asked
+
+pub array_did : (kind : MapKind) (number : ℕ) (pass : PassView) → is_keyed kind ≡ false → HasTurned (is_keyed kind) number pass pass
+array_did kind number pass array = subst (λ test. HasTurned test number pass pass) (sym array) refl
+
+-- the part of a round on the shards below this number
+pub record IsPartDone (plan : ℕ → ShardPlan) (number : ℕ) (before after : List Deed) : Type 0 where
+  pub made : List Deed
+  pub asked : AreReclaimDeeds (keyed_below plan number) made
+  pub deeds_are : after ≡ reverse made ++ before
+
+pub first_part : (plan : ℕ → ShardPlan) (deeds : List Deed) → IsPartDone plan 0 deeds deeds
+first_part plan deeds = record { made = []; asked = tt; deeds_are = refl }
+
+asked_more : (numbers : List ℕ) (deeds : List Deed) (number : ℕ) (deed : Deed) → AreReclaimDeeds numbers deeds → IsReclaimDeed number deed →
+    AreReclaimDeeds (numbers ++ number ∷ []) (deeds ++ deed ∷ [])
+asked_more [] [] number deed are is = (is, tt)
+asked_more [] (first ∷ deeds) number deed are is = absurd are
+asked_more (first ∷ numbers) [] number deed are is = absurd are
+asked_more (first ∷ numbers) (one ∷ deeds) number deed (here, are) is = (here, asked_more numbers deeds number deed are is)
+
+one_over : (n : ℕ) → suc n ≡ n + 1
+one_over n = omega arith
+
+keyed_more : (plan : ℕ → ShardPlan) (number : ℕ) (test : Bool) → is_keyed (plan number).definition.kind ≡ test →
+    keyed_below plan (number + 1) ≡ (if test then keyed_below plan number ++ number ∷ [] else keyed_below plan number)
+keyed_more plan number test is =
+    ap (keyed_below plan) (sym (one_over number)) ∙ ap (λ (one : Bool). if one then keyed_below plan number ++ number ∷ [] else keyed_below plan number) is
+
+part_by : (plan : ℕ → ShardPlan) (number : ℕ) (start : List Deed) (before after : PassView) → IsPartDone plan number start before.deeds →
+    (test : Bool) → is_keyed (plan number).definition.kind ≡ test → HasTurned test number before after → IsPartDone plan (number + 1) start after.deeds
+part_by plan number start before after part true keyed (deed, is, did) = record {
+  made = part.made ++ deed ∷ [];
+  asked = subst (λ numbers. AreReclaimDeeds numbers (part.made ++ deed ∷ [])) (sym (keyed_more plan number true keyed))
+      (asked_more (keyed_below plan number) part.made number deed part.asked is);
+  deeds_are = did_more start before.deeds after.deeds part.made (deed ∷ []) part.deeds_are did;
+}
+part_by plan number start before after part false array did = record {
+  made = part.made;
+  asked = subst (λ numbers. AreReclaimDeeds numbers part.made) (sym (keyed_more plan number false array)) part.asked;
+  deeds_are = did ∙ part.deeds_are;
+}
+
+pub next_part : (plan : ℕ → ShardPlan) (number : ℕ) (start : List Deed) (before after : PassView) → IsPartDone plan number start before.deeds →
+    HasTurned (is_keyed (plan number).definition.kind) number before after → IsPartDone plan (number + 1) start after.deeds
+next_part plan number start before after part turned =
+    part_by plan number start before after part (is_keyed (plan number).definition.kind) refl turned
+
+rounds_more : (plan : ℕ → ShardPlan) (count rounds : ℕ) (deeds last : List Deed) → AreRoundsDone plan count rounds deeds → IsRoundDone plan count last →
+    AreRoundsDone plan count (suc rounds) (deeds ++ last)
+rounds_more plan count zero deeds last none one = (last, [], ap (λ all. all ++ last) none ∙ sym (append-nil last), one, refl)
+rounds_more plan count (suc rounds) deeds last (first, later, is, done, rest) one =
+    (first, later ++ last, ap (λ all. all ++ last) is ∙ append_assoc first later last, done, rounds_more plan count rounds later last rest one)
+
+pub round_done : (plan : ℕ → ShardPlan) (count rounds : ℕ) (before after : List Deed) → AreRoundsDone plan count rounds (reverse before) →
+    IsPartDone plan count before after → AreRoundsDone plan count (rounds + 1) (reverse after)
+round_done plan count rounds before after done part =
+    let turned : reverse after ≡ reverse before ++ part.made =
+    ap reverse part.deeds_are ∙ reverse-append (reverse part.made) before ∙ ap (λ made. reverse before ++ made) (reverse-reverse part.made) in
+    subst (λ n. AreRoundsDone plan count n (reverse after)) (one_over rounds)
+    (subst (λ deeds. AreRoundsDone plan count (suc rounds) deeds) (sym turned) (rounds_more plan count rounds (reverse before) part.made done part.asked))
+
+-- ---- before the first round
+
+pub no_round : (plan : ℕ → ShardPlan) (count : ℕ) (pass : PassView) → IsUnused pass → AreReclaimed plan count 0 pass
+no_round plan count pass unused = record {
+  each = λ number within.
+      subst (λ (view : CallerView). IsReclaimedBy (plan number).definition.kind (plan number) number 0 view.own view.seen) (sym (unused.0 number))
+      (nothing_by (plan number).definition.kind (plan number) number);
+  did = ap reverse unused.1;
+}

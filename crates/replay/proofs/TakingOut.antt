@@ -5,7 +5,7 @@ use Rattle.std.proofs.lemmas.Bool.Decides.{nat_tests}
 use Rattle.replay.specs.declared.runner.Ran.{Ran}
 use Rattle.replay.specs.Shares.{frame_at, is_short, worker_of_frame, share}
 use Rattle.replay.specs.RunJobs.{records_of}
-use Rattle.replay.specs.Accounts.{lists_of, runs_at, end_at, fate_of, counts_of, counted, sent_of, sent_by, AreRunsOfShares, AreFatesFrom}
+use Rattle.replay.specs.Accounts.{lists_of, runs_at, end_at, fate_of, counts_of, counted, sent_of, sent_by, ends_of, record_end, AreRunsOfShares, AreFatesFrom}
 use Rattle.replay.proofs.shared.AccountLemmas.{IsNextAt, place_of, handed_own, end_there}
 use Rattle.replay.proofs.ShareLemmas.{handed_within}
 
@@ -118,3 +118,8 @@ counts_next frames workers runs number = ap (λ n. counts_of frames workers runs
 pub sent_next : (frames : List (List ℕ)) (workers : ℕ) (runs : List (List Ran)) (number : ℕ)
     → sent_of frames workers runs (number + 1) ≡ sent_of frames workers runs number ++ sent_by (fate_of frames workers runs number)
 sent_next frames workers runs number = ap (λ n. sent_of frames workers runs n) (add-one number)
+
+pub ends_next : (frames : List (List ℕ)) (workers : ℕ) (runs : List (List Ran)) (number : ℕ)
+    → ends_of frames workers runs (number + 1) ≡ ends_of frames workers runs number
+    ++ record_end (worker_of_frame (frame_at frames number) workers) (fate_of frames workers runs number) ∷ []
+ends_next frames workers runs number = ap (λ n. ends_of frames workers runs n) (add-one number)

@@ -14,7 +14,7 @@ use Rattle.shards.specs.Deeds.{deeds_of, made_on, AreMet, AreWithin}
 use Rattle.shards.specs.Passes.{PassView, own_at}
 use Rattle.shards.specs.SharedMaps.{ArePlans}
 use Rattle.replay.specs.declared.runner.Ran.{Ran}
-use Rattle.replay.specs.Accounts.{runs_at, counts_of, frames_in, sent_of, sent_frames}
+use Rattle.replay.specs.Accounts.{runs_at, counts_of, frames_in, sent_of, sent_frames, ends_of}
 use Rattle.replay.specs.RunsInOrder.{IsRunAt, HasHandled}
 use Rattle.replay.specs.Shares.{frames_of, share}
 use Rattle.control.specs.declared.command.Command.{Command}
@@ -60,7 +60,9 @@ pub record IsAccounted (program : Program) (script : List Command) (options : Op
   pub each_once : frames_in outcome.counts ≡ length records
   -- what is sent, in the capture's order
   pub sent : sent_frames outcome.sent.items ≡ sent_of (frames_of records) options.workers runs (length records)
+  -- what is told of each record, in the capture's order
+  pub ends : outcome.ends.items ≡ ends_of (frames_of records) options.workers runs (length records)
   -- the commands of the script, and those that were refused
-  pub commands : IsScriptAccounted plan program.maps options count script outcome.journals outcome.refused.items
+  pub commands : IsScriptAccounted plan program.maps options count script outcome.journals order outcome.refused.items
   -- the reclaimer's rounds
-  pub rounds : AreRoundsAccounted plan count (rounds_of (length records)) outcome.journals
+  pub rounds : AreRoundsAccounted plan count (rounds_of (length records)) outcome.journals order

@@ -2,9 +2,15 @@
 use Rattle.std.specs.Prelude.{◌≡◌, ℕ, zero, suc, ◌+◌, List, [], ◌∷◌, ◌++◌, length, map, Option, Some, None, Vec, slice_index}
 use Rattle.std.specs.Prelude.{slice_index_or, ◌<◌, ◌≤◌, if◌then◌else◌}
 use Rattle.wire.specs.declared.records.Sent.{Sent}
+use Rattle.semantics.specs.declared.verdict.Verdict.{Verdict}
+use Rattle.semantics.specs.declared.verdict.Verdict.TheVariants as verdicts
 use Rattle.replay.specs.declared.account.Counts.{Counts}
+use Rattle.replay.specs.declared.outcome.RecordEnd.{RecordEnd}
+use Rattle.replay.specs.declared.outcome.RecordEnd.TheVariants as ends
+use Rattle.replay.specs.declared.runner.FrameFate.{FrameFate}
 use Rattle.replay.specs.declared.runner.RunEnd.{RunEnd}
-use Rattle.replay.specs.declared.runner.RunEnd.TheVariants.{Stopped, Aborted, Dropped, Passed, Sent as IsSent}
+use Rattle.replay.specs.declared.runner.RunEnd.TheVariants.{Stopped, Exited}
+use Rattle.replay.specs.declared.runner.FrameFate.TheVariants.{Aborted, Dropped, Passed, Sent as IsSent}
 use Rattle.replay.specs.declared.runner.Ran.{Ran}
 use Rattle.replay.specs.Shares.{frame_at, is_short, worker_of_frame, share}
 use Rattle.replay.specs.RunJobs.{records_of}
@@ -42,10 +48,10 @@ frames_in c = c.short + c.stopped + c.aborted + c.drop + c.pass + c.tx
 abbrev pub counted : Counts → Option RunEnd → Counts
 counted c None = record c { short = c.short + 1 }
 counted c (Some Stopped) = record c { stopped = c.stopped + 1 }
-counted c (Some Aborted) = record c { aborted = c.aborted + 1 }
-counted c (Some Dropped) = record c { drop = c.drop + 1 }
-counted c (Some Passed) = record c { pass = c.pass + 1 }
-counted c (Some (IsSent sent)) = record c { tx = c.tx + 1 }
+counted c (Some (Exited steps Aborted)) = record c { aborted = c.aborted + 1 }
+counted c (Some (Exited steps Dropped)) = record c { drop = c.drop + 1 }
+counted c (Some (Exited steps Passed)) = record c { pass = c.pass + 1 }
+counted c (Some (Exited steps (IsSent sent))) = record c { tx = c.tx + 1 }
 
 -- the first so many records, each counted once
 abbrev pub counts_of : List (List ℕ) → ℕ → List (List Ran) → ℕ → Counts
@@ -67,13 +73,35 @@ abbrev pub sent_frames : List Sent → List SentFrame
 sent_frames list = map sent_frame list
 
 abbrev pub sent_by : Option RunEnd → List SentFrame
-sent_by (Some (IsSent sent)) = sent_frame sent ∷ []
+sent_by (Some (Exited steps (IsSent sent))) = sent_frame sent ∷ []
 sent_by fate = []
 
 -- what is sent of the first so many records, in the capture's order
 abbrev pub sent_of : List (List ℕ) → ℕ → List (List Ran) → ℕ → List SentFrame
 sent_of frames workers runs zero = []
 sent_of frames workers runs (suc number) = sent_of frames workers runs number ++ sent_by (fate_of frames workers runs number)
+
+-- ---- what is told of each
+
+-- what the frame's fate says of the verdict
+abbrev pub verdict_for : FrameFate → Verdict
+verdict_for Aborted = verdicts.Aborted
+verdict_for Dropped = verdicts.Drop
+verdict_for Passed = verdicts.Pass
+verdict_for (IsSent sent) = verdicts.Tx
+
+-- a record of this worker: it is short, or how its run ended
+abbrev pub record_end : ℕ → Option RunEnd → RecordEnd
+record_end worker None = ends.Short
+record_end worker (Some Stopped) = ends.Stopped worker
+record_end worker (Some (Exited steps fate)) = ends.Exited worker (verdict_for fate) steps
+
+-- of the first so many records, in the capture's order
+abbrev pub ends_of : List (List ℕ) → ℕ → List (List Ran) → ℕ → List RecordEnd
+ends_of frames workers runs zero = []
+ends_of frames workers runs (suc number) =
+    ends_of frames workers runs number ++
+    record_end (worker_of_frame (frame_at frames number) workers) (fate_of frames workers runs number) ∷ []
 
 -- ---- how they are gathered
 

@@ -2,7 +2,13 @@
 use Rattle.std.specs.Prelude.{◌≡◌, ◌⊎◌, ◌<◌, ◌≤◌, ◌/◌, ℕ, zero, suc, ◌+◌, List, [], ◌∷◌, ◌++◌, map, length, replicate, slice_index}
 use Rattle.rx_queues.specs.declared.job.Job.{Job}
 use Rattle.rx_queues.specs.declared.job.Job.TheVariants.{Command, Note, End}
+use Rattle.shards.specs.CallerView.{nothing_seen}
+use Rattle.shards.specs.Passes.{PassView, view_at}
 use Rattle.replay.specs.Puts.{ArePut, put_at}
+
+-- the pass that each begins with has seen nothing, and nothing was done by it
+abbrev pub IsUnused : PassView → Type 0
+IsUnused pass = ((number : ℕ) → view_at pass number ≡ nothing_seen) × (pass.deeds ≡ [])
 
 -- so many numbers, from this one on
 abbrev pub numbers_from : ℕ → ℕ → List ℕ

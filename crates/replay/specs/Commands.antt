@@ -1,6 +1,6 @@
 -- What the commands of a script become: updates with their answers, and with them the entries of the controller in the shards' journals.
 use Rattle.std.specs.Prelude.{◌≡◌, ◌≢◌, ℕ, ◌==◌, ℤ, ◌⊎◌, true, false, List, [], ◌∷◌, ◌++◌, map, Option, Some, None, IfSome}
-use Rattle.std.specs.Prelude.{IsTrue, is_some, slice_get, if◌then◌else◌}
+use Rattle.std.specs.Prelude.{IsTrue, is_some, slice_get, reverse, if◌then◌else◌}
 use Rattle.std.specs.List.{AllByRecursion, flat_map}
 use Rattle.ebpf_decode.specs.declared.map.MapDef.{MapDef}
 use Rattle.semantics.specs.declared.options.Options.{Options}
@@ -11,6 +11,8 @@ use Rattle.semantics.specs.declared.call.Reply.TheVariants.{Answer}
 use Rattle.semantics.specs.History.{IsJournalFull}
 use Rattle.semantics.specs.Linux.{success}
 use Rattle.shards.specs.CallerView.{BeginsWith}
+use Rattle.shards.specs.declared.deeds.Deed.{Deed}
+use Rattle.shards.specs.declared.deeds.Deed.TheVariants.{Wrote, MetFull}
 use Rattle.shards.specs.Passes.{PassView, own_at, seen_at}
 use Rattle.conntrack.specs.SteeringMaps.{steering_maps}
 use Rattle.control.specs.declared.command.Action.{Action}
@@ -60,6 +62,27 @@ pub record CommandDone : Type 0 where
   pub made : List AnsweredUpdate
   -- the update that met a full journal, if one did
   pub stopped : Option UpdateBytes
+
+-- ---- what the controller did for them, the oldest deed first
+
+-- each update on the shard of its key, with its answer
+abbrev pub made_deeds : List MapDef → Options → List AnsweredUpdate → List Deed
+made_deeds maps options made = map (λ (one : AnsweredUpdate). Wrote (update_entry (shard_of maps options one.update) one)) made
+
+-- the look at a full journal, if an update met one
+abbrev pub stop_deeds : List MapDef → Options → Option UpdateBytes → List Deed
+stop_deeds maps options None = []
+stop_deeds maps options (Some update) = MetFull Controller (update_call (shard_of maps options update) update) ∷ []
+
+-- a command's updates in their order, and then the look at a full journal that stopped it, if one did
+abbrev pub command_deeds : List MapDef → Options → CommandDone → List Deed
+command_deeds maps options one = made_deeds maps options one.made ++ stop_deeds maps options one.stopped
+
+-- command after command
+abbrev pub commands_deeds : List MapDef → Options → List CommandDone → List Deed
+commands_deeds maps options done = flat_map (command_deeds maps options) done
+
+-- ---- what a command makes of the controller
 
 -- all its updates were made, and the backends are up as it says
 pub record IsCarriedOut (state : ControllerState) (one : CommandDone) (state' : ControllerState) : Type 0 where
@@ -165,13 +188,16 @@ pub record HasEffect (plan : ℕ → ShardPlan) (state : ControllerState) (actio
   pub done : IsDone state one state'
   pub moved : IsMoved before after one.made
   pub full : IfSome one.stopped (IsFullFor plan before.maps before.options after.pass)
+  -- over all shards its updates come one after the other, and the look at a full journal last
+  pub did : after.pass.deeds ≡ reverse (command_deeds before.maps before.options one) ++ before.pass.deeds
 
 -- a controller before its first command
 abbrev pub opened_controller : ℕ → ControllerState
 opened_controller size = record { size = size; up = []; owners = []; is_full = false }
 
 -- The commands noted are those of the script, each did what it says in the state that the one before it left; the controller's own entries in the
--- history of each shard are their updates to it, in order; and where one met a full journal, that journal is full for it.
+-- history of each shard are their updates to it, in order; where one met a full journal, that journal is full for it; and over all shards its
+-- deeds are those of the commands, in order.
 pub record IsAccount (plan : ℕ → ShardPlan) (maps : List MapDef) (options : Options) (script : List Command) (size : ℕ) (noted : List Applied)
     (state : ControllerState) (pass : PassView) : Type 0 where
   pub done : List CommandDone
@@ -179,6 +205,7 @@ pub record IsAccount (plan : ℕ → ShardPlan) (maps : List MapDef) (options : 
   pub are_done : AreDone (opened_controller size) done state
   pub own : (number : ℕ) → own_at pass number ≡ with_updates maps options number (made_in done) []
   pub full : AllByRecursion (λ (one : CommandDone). IfSome one.stopped (IsFullFor plan maps options pass)) done
+  pub did : pass.deeds ≡ reverse (commands_deeds maps options done)
 
 -- ---- the actor
 

@@ -16,3 +16,8 @@ pub mod FaultNumber
 pub mod RunsOverShards
 pub mod Parts
 pub mod Accounted
+pub mod Turns
+pub mod InTurn
+pub mod TurnLaws
+pub mod TurnStates
+pub mod ExactReplays

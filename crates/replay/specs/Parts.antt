@@ -8,6 +8,9 @@ use Rattle.semantics.specs.declared.plan.ShardPlan.{ShardPlan}
 use Rattle.semantics.specs.CallerLaws.{own_entries}
 use Rattle.semantics.specs.History.{IsJournalFull}
 use Rattle.journals.specs.JournalsView.{JournalsView, entries_at}
+use Rattle.shards.specs.declared.deeds.Deed.{Deed}
+use Rattle.shards.specs.declared.deeds.Part.TheVariants.{ByCaller}
+use Rattle.shards.specs.Deeds.{deeds_of}
 use Rattle.shards.specs.Passes.{PassView}
 use Rattle.rx_queues.specs.declared.job.Job.{Job}
 use Rattle.maglev.specs.RingSize.{IsRingSize}
@@ -17,9 +20,9 @@ use Rattle.control.specs.Controlling.{ControllerState}
 use Rattle.control.specs.MapUpdates.{UpdateBytes}
 use Rattle.replay.specs.declared.outcome.Applied.{Applied}
 use Rattle.replay.specs.SharedUpdates.{shard_of, update_call}
-use Rattle.replay.specs.Commands.{CommanderView, CommandDone, AreNotedOf, AreDone, IsAccount, ServesScript, opened_controller, made_in, with_updates}
+use Rattle.replay.specs.Commands.{CommanderView, CommandDone, AreNotedOf, AreDone, IsAccount, ServesScript, opened_controller, made_in, with_updates, commands_deeds}
 use Rattle.replay.specs.ActorJobs.{AreCommandsTaken, AreRoundsMade, IsAccounted as IsControllersAccount}
-use Rattle.replay.specs.Rounds.{IsReclaimedBy}
+use Rattle.replay.specs.Rounds.{IsReclaimedBy, AreRoundsDone}
 use Rattle.replay.specs.Actors.{numbers_from}
 
 -- ---- what the threads hand back for their jobs
@@ -79,9 +82,11 @@ pub record IsFullInJournal (plan : ℕ → ShardPlan) (maps : List MapDef) (opti
 
 -- Each command of the script was applied once, in the script's order, and did what it says in the state that the one before it left, for a lookup
 -- table of a size that is served, the one that the maps have (without commands any served size does); the controller's entries in each journal
--- are their updates to that shard, in order; where one met a full journal, that journal is full for it at its end.
+-- are their updates to that shard, in order; where one met a full journal, that journal is full for it at its end. In the one order of all deeds those
+-- of the controller are the updates of all commands, in order over all shards, each with its answer, and behind those of a command that a full journal
+-- stopped the look at that journal.
 pub record IsScriptAccounted (plan : ℕ → ShardPlan) (maps : List MapDef) (options : Options) (count : ℕ) (script : List Command) (journals : JournalsView)
-    (refused : List Applied) : Type 0 where
+    (order : List Deed) (refused : List Applied) : Type 0 where
   pub size : ℕ
   pub size_is_served : IsRingSize size
   pub serves : ServesScript maps size script
@@ -94,14 +99,16 @@ pub record IsScriptAccounted (plan : ℕ → ShardPlan) (maps : List MapDef) (op
   pub own : (number : ℕ) → number < count →
       own_entries Controller (reverse (entries_at journals number)) ≡ with_updates maps options number (made_in done) []
   pub full : AllByRecursion (λ (one : CommandDone). IfSome one.stopped (IsFullInJournal plan maps options count journals)) done
+  pub did : deeds_of (ByCaller Controller) order ≡ reverse (commands_deeds maps options done)
   pub refused_are : refused ≡ refused_of noted
 
 -- the rounds of a replay: one after every 64 records, and one after the last
 abbrev pub rounds_of : ℕ → ℕ
 rounds_of records = records / 64 + 1
 
--- the reclaimer's entries in each journal are those of so many rounds, fewer only where the journal is full for another at its end
-abbrev pub AreRoundsAccounted : (ℕ → ShardPlan) → ℕ → ℕ → JournalsView → Type 0
-AreRoundsAccounted plan count rounds journals =
-    (number : ℕ) → number < count → IsReclaimedBy (plan number).definition.kind (plan number) number rounds
-    (own_entries Reclaimer (reverse (entries_at journals number))) (reverse (entries_at journals number))
+-- The reclaimer's entries in each journal are those of so many rounds, fewer only where the journal is full for another at its end. In the one order of
+-- all deeds those of the reclaimer are these rounds, one behind the other, each with one Reclaim of each hash and LRU shard, the lowest number first.
+pub record AreRoundsAccounted (plan : ℕ → ShardPlan) (count rounds : ℕ) (journals : JournalsView) (order : List Deed) : Type 0 where
+  pub each : (number : ℕ) → number < count → IsReclaimedBy (plan number).definition.kind (plan number) number rounds
+      (own_entries Reclaimer (reverse (entries_at journals number))) (reverse (entries_at journals number))
+  pub did : AreRoundsDone plan count rounds (reverse (deeds_of (ByCaller Reclaimer) order))

@@ -1,5 +1,5 @@
 -- The runs of a worker over shared shards.
-use Rattle.std.specs.Prelude.{◌≡◌, ◌⊎◌, ◌<◌, ℕ, ◌+◌, ◌*◌, List, [], reverse}
+use Rattle.std.specs.Prelude.{◌≡◌, ◌⊎◌, ◌<◌, ℕ, ◌+◌, ◌*◌, List, [], reverse, Option, Some, None}
 use Rattle.wire.specs.FrameView.{FrameView}
 use Rattle.wire.specs.declared.records.Sent.{Sent}
 use Rattle.semantics.specs.declared.call.Caller.TheVariants.{Worker}
@@ -20,7 +20,8 @@ use Rattle.shards.specs.CallerView.{nothing_seen}
 use Rattle.shards.specs.Passes.{PassView, view_at, own_at}
 use Rattle.shard_port.specs.PassSessions.{IsOutsideAt}
 use Rattle.replay.specs.declared.runner.RunEnd.{RunEnd}
-use Rattle.replay.specs.declared.runner.RunEnd.TheVariants.{Stopped, Aborted, Dropped, Passed, Sent as IsSent}
+use Rattle.replay.specs.declared.runner.RunEnd.TheVariants.{Stopped, Exited}
+use Rattle.replay.specs.declared.runner.FrameFate.TheVariants.{Aborted, Dropped, Passed, Sent as IsSent}
 use Rattle.replay.specs.declared.shard_runner.Working.{Working}
 
 -- ---- a worker's pass
@@ -64,10 +65,15 @@ pub record IsSentOf (captured : Sent) (bytes : List ℕ) (sent : Sent) : Type 0 
 -- what became of the record's frame is what the verdict says of it, as the run left it
 abbrev pub IsTold : Sent → Verdict → FrameView → RunEnd → Type 0
 IsTold captured verdict frame Stopped = ⊥
-IsTold captured verdict frame Aborted = verdict ≡ verdicts.Aborted
-IsTold captured verdict frame Dropped = verdict ≡ verdicts.Drop
-IsTold captured verdict frame Passed = verdict ≡ verdicts.Pass
-IsTold captured verdict frame (IsSent sent) = (verdict ≡ verdicts.Tx) × IsSentOf captured frame.bytes sent
+IsTold captured verdict frame (Exited steps Aborted) = verdict ≡ verdicts.Aborted
+IsTold captured verdict frame (Exited steps Dropped) = verdict ≡ verdicts.Drop
+IsTold captured verdict frame (Exited steps Passed) = verdict ≡ verdicts.Pass
+IsTold captured verdict frame (Exited steps (IsSent sent)) = (verdict ≡ verdicts.Tx) × IsSentOf captured frame.bytes sent
+
+-- in how many steps the run ended
+abbrev pub steps_in : RunEnd → Option ℕ
+steps_in Stopped = None
+steps_in (Exited steps fate) = Some steps
 
 -- the run ended: by the program's own trace on the replies that stand among the worker's entries, session by session
 pub record IsExit (count : ℕ) (program : Program) (worker : ℕ) (captured : Sent) (before : PassView) (end : RunEnd) (after : PassView) : Type 0 where
@@ -76,6 +82,7 @@ pub record IsExit (count : ℕ) (program : Program) (worker : ℕ) (captured : S
   pub frame : FrameView
   pub run : HasRun program (start_of captured worker) count worker before after verdict steps frame
   pub told : IsTold captured verdict frame end
+  pub counted : steps_in end ≡ Some steps
 
 -- the run was stopped, since a journal was full for its next call or for the Enter before it
 pub record IsStop (count : ℕ) (plan : ℕ → ShardPlan) (program : Program) (worker : ℕ) (captured : Sent) (before after : PassView) : Type 0 where

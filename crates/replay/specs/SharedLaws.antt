@@ -14,7 +14,7 @@ use Rattle.semantics.specs.SequentialShard.{SequentialShard, shard_after, update
 use Rattle.control.specs.MapUpdates.{UpdateBytes, IsInArray}
 use Rattle.replay.specs.SharedUpdates.{UpdatesView, IsUpdated, shard_for}
 
-array_answer : (plan : ShardPlan) (shard : SequentialShard) (key : List ℕ) → plan.definition.kind ≡ Array →
+pub array_answer : (plan : ShardPlan) (shard : SequentialShard) (key : List ℕ) → plan.definition.kind ≡ Array →
     number_of_bytes key < plan.definition.max_entries → update_answer plan shard key (flags_number Any) ≡ success
 array_answer plan shard key array inside =
     let test : nat_lt (number_of_bytes key) plan.definition.max_entries ≡ true = grind (arith, nat_tests, inside) in

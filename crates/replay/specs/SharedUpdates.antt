@@ -1,5 +1,5 @@
 -- What the controller's updates are to shards that it shares with other callers.
-use Rattle.std.specs.Prelude.{◌≡◌, ℕ, ℤ, List, length, Some, slice_get}
+use Rattle.std.specs.Prelude.{◌≡◌, ℕ, ℤ, List, ◌∷◌, length, Some, slice_get}
 use Rattle.ebpf_decode.specs.declared.map.MapDef.{MapDef}
 use Rattle.semantics.specs.declared.options.Options.{Options}
 use Rattle.semantics.specs.declared.plan.ShardPlan.{ShardPlan}
@@ -12,6 +12,8 @@ use Rattle.semantics.specs.Linux.{flags_number}
 use Rattle.semantics.specs.Program.{shard_in_map}
 use Rattle.semantics.specs.ShardPlan.{AreOptions}
 use Rattle.journals.specs.JournalsView.{AreImageMaps}
+use Rattle.shards.specs.CallerView.{entry_of}
+use Rattle.shards.specs.declared.deeds.Deed.TheVariants.{Wrote, MetFull}
 use Rattle.shards.specs.SharedMaps.{ArePlans}
 use Rattle.shards.specs.Passes.{PassView, IsElsewhereSame}
 use Rattle.shards.specs.Asked.{IsAnswered, IsTurnedAway as IsAskTurnedAway}
@@ -51,7 +53,7 @@ shard_for port update = shard_of port.maps port.options update
 abbrev pub update_call : ℕ → UpdateBytes → Call
 update_call number update = Update number update.key update.value (flags_number Any)
 
--- the update is one Update of the shard that its key has, with this answer, and nothing else
+-- the update is one Update of the shard that its key has, with this answer, and nothing else; the controller did that last
 pub record IsUpdated (plan : ℕ → ShardPlan) (before : UpdatesView) (update : UpdateBytes) (answer : ℤ) (after : UpdatesView) : Type 0 where
   pub maps : after.maps ≡ before.maps
   pub options : after.options ≡ before.options
@@ -59,8 +61,10 @@ pub record IsUpdated (plan : ℕ → ShardPlan) (before : UpdatesView) (update :
   pub elsewhere : IsElsewhereSame (shard_for before update) before.pass after.pass
   pub answered : IsAnswered (plan (shard_for before update)) (shard_for before update) before.pass after.pass
       (update_call (shard_for before update) update) (Answer answer)
+  pub did : after.pass.deeds ≡ Wrote (entry_of Controller (update_call (shard_for before update) update) (Answer answer)) ∷ before.pass.deeds
 
--- the journal of the shard that its key has is full for it at the end of what the controller has then seen; and nothing was changed
+-- the journal of the shard that its key has is full for it at the end of what the controller has then seen; and nothing was changed:
+-- the controller met the full journal last
 pub record IsTurnedAway (plan : ℕ → ShardPlan) (before : UpdatesView) (update : UpdateBytes) (after : UpdatesView) : Type 0 where
   pub maps : after.maps ≡ before.maps
   pub options : after.options ≡ before.options
@@ -68,3 +72,4 @@ pub record IsTurnedAway (plan : ℕ → ShardPlan) (before : UpdatesView) (updat
   pub elsewhere : IsElsewhereSame (shard_for before update) before.pass after.pass
   pub refused : IsAskTurnedAway (plan (shard_for before update)) (shard_for before update) before.pass after.pass
       (update_call (shard_for before update) update)
+  pub did : after.pass.deeds ≡ MetFull Controller (update_call (shard_for before update) update) ∷ before.pass.deeds

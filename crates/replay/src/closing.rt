@@ -1,6 +1,6 @@
 //! The end of a replay: the shards closed, and everything accounted for.
 
-ghost use Rattle.std.specs.Prelude.{◌≡◌, ◌<◌, ◌∷◌, ◌++◌, [], length, map, IfOk};
+ghost use Rattle.std.specs.Prelude.{◌≡◌, ◌<◌, ◌≤◌, ◌∷◌, ◌++◌, [], length, map, IfOk};
 ghost use Rattle.semantics.specs.declared.call.Caller.TheVariants.{Reclaimer};
 ghost use Rattle.machine.specs.Running.{program_of};
 ghost use Rattle.maglev.specs.RingSize.{IsRingSize};
@@ -14,7 +14,7 @@ ghost use Rattle.replay.specs.RunsOverShards.{IsNewAt, IsRunBy, pass_in};
 use crate::account::{Counts, account};
 use crate::controller::Commanded;
 use crate::crew::{Handled, parted};
-use crate::outcome::{Applied, Outcome};
+use crate::outcome::{Applied, Outcome, RecordEnd};
 use crate::shard_runner::Working;
 use control::Script;
 use journals::Journals;
@@ -64,16 +64,24 @@ pub(crate) fn all_passes<B: Naming>(
 }
 
 /// What a replay returns: of the commands those that were refused.
-fn outcome_of(counts: Counts, noted: Vec<Applied>, sent: Vec<Sent>, journals: Journals) -> Outcome
+fn outcome_of(
+    counts: Counts,
+    noted: Vec<Applied>,
+    sent: Vec<Sent>,
+    ends: Vec<RecordEnd>,
+    journals: Journals,
+) -> Outcome
     ensures counts { result.counts ≡ counts }
     ensures refused { result.refused.items ≡ refused_of noted.items }
     ensures sent { result.sent ≡ sent }
+    ensures ends { result.ends ≡ ends }
     ensures journals { result.journals ≡ journals }
 {
     Outcome {
         counts,
         refused: refused(noted),
         sent,
+        ends,
         journals,
     }
 }
@@ -92,7 +100,7 @@ pub(crate) fn closed<B: Naming, R: Wait>(
     reclaimed: Pass<B>,
 ) -> Result<Outcome, AllocError>
     requires maps { shards.maps ≡ verified.now.maps }
-    requires some { 0 < shards.options.workers }
+    requires some { (0 < shards.options.workers) × (shards.options.workers ≤ 8) }
     requires count { length handled.items ≡ shards.options.workers }
     requires handled { AreHandled IsNewAt (IsRunBy B.count B.plan (program_of verified.now shards.options.shards)) capture.now.records.items
         shards.options.workers handled.items }
@@ -108,9 +116,9 @@ pub(crate) fn closed<B: Naming, R: Wait>(
     let _ = size;
     shards.planned();
     let (runs, working) = parted(alloc, handled)?;
-    let (counts, sent) = account(alloc, capture, runs)?;
+    let (counts, sent, ends) = account(alloc, capture, runs)?;
     let Commanded { pass, noted } = commanded;
     let passes = all_passes(alloc, working, pass, reclaimed)?;
     let journals = shards.close(rt, passes);
-    Ok(outcome_of(counts, noted, sent, journals))
+    Ok(outcome_of(counts, noted, sent, ends, journals))
 }

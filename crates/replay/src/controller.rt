@@ -1,15 +1,13 @@
 //! The controller of a replay: it applies the commands of the script, those of its queue until the end.
 
-ghost use Rattle.std.specs.Prelude.{◌≡◌, ◌<◌, ◌∷◌, ◌++◌, [], length, ℕ, Option, Some, slice_get, OnOk, OnErr, false, MatchOption};
+ghost use Rattle.std.specs.Prelude.{◌≡◌, ◌<◌, ◌∷◌, ◌++◌, [], length, Option, Some, slice_get, OnOk, OnErr, false, MatchOption};
 ghost use Rattle.rx_queues.specs.Passes.{IsTakePassOf, jobs_taken, place_taken_from};
 ghost use Rattle.rx_queues.specs.declared.job.Job.TheVariants.{Command as CommandJob, End};
 ghost use Rattle.replay.specs.ActorJobs.{AreCommandsTaken, IsAccounted};
-ghost use Rattle.replay.specs.Actors.{HasEnded};
+ghost use Rattle.replay.specs.Actors.{HasEnded, IsUnused};
 ghost use Rattle.maglev.specs.RingSize.{IsRingSize};
 ghost use Rattle.semantics.specs.declared.call.Caller.TheVariants.{Controller as TheController};
 ghost use Rattle.control.specs.declared.fault.ControlFault.{ControlFault as Fault};
-ghost use Rattle.shards.specs.CallerView.{nothing_seen};
-ghost use Rattle.shards.specs.Passes.{view_at};
 ghost use Rattle.conntrack.specs.SteeringMaps.{steering_maps};
 ghost use Rattle.replay.specs.Commands.{CommanderView, HasEffect, IsAccount, HasAccount, StaysOf, ServesScript, opened_controller};
 
@@ -58,7 +56,7 @@ impl<'a, B: Naming, W: Wait, G: Gate> Commander<'a, B, W, G> {
         size: u32,
     ) -> Commander<'a, B, W, G>
         requires who { pass.who ≡ TheController }
-        requires nothing { (number : ℕ) → view_at pass number ≡ nothing_seen }
+        requires unused { IsUnused pass }
         requires size { IsRingSize size }
         requires serves { ServesScript shards.now.maps size script.now }
         ensures script { result.script ≡ script.now }
@@ -135,7 +133,7 @@ impl<'a, B: Naming, W: Wait, G: Gate> Commander<'a, B, W, G> {
 }
 
 /// The command of a number.
-fn command_at(script: &[Command], number: usize) -> &Command
+pub(crate) fn command_at(script: &[Command], number: usize) -> &Command
     requires { number < length script.now }
     ensures { slice_get script.now number ≡ Some result.now }
 {

@@ -3,6 +3,7 @@
 use crate::account::Counts;
 use control::ControlFault;
 use journals::Journals;
+use semantics::Verdict;
 use wire::Sent;
 
 /// What became of a capture's records.
@@ -13,8 +14,27 @@ pub struct Outcome {
     pub refused: Vec<Applied>,
     /// The frames that were sent, in the capture's order, each with the moment of its record.
     pub sent: Vec<Sent>,
+    /// What became of each record, in the capture's order.
+    pub ends: Vec<RecordEnd>,
     /// Of each shard, all that was called.
     pub journals: Journals,
+}
+
+/// What became of a record of the capture.
+#[derive(Clone, Copy, Debug, PartialEq, Eq)]
+pub enum RecordEnd {
+    /// It has fewer than 14 bytes, and was not run.
+    Short,
+    /// The worker of its flow began a run, which a full journal stopped.
+    Stopped {
+        worker: u8,
+    },
+    /// The worker of its flow ran it to the program's end, in so many steps.
+    Exited {
+        worker: u8,
+        verdict: Verdict,
+        steps: u64,
+    },
 }
 
 /// What came of a command of the script.

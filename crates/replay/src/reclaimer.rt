@@ -3,11 +3,10 @@
 ghost use Rattle.std.specs.Prelude.{◌≡◌, ◌<◌, ◌+◌, ◌∷◌, ◌++◌, [], ℕ};
 ghost use Rattle.rx_queues.specs.Passes.{IsTakePassOf, jobs_taken, place_taken_from};
 ghost use Rattle.semantics.specs.declared.call.Caller.TheVariants.{Reclaimer};
-ghost use Rattle.shards.specs.CallerView.{nothing_seen};
-ghost use Rattle.shards.specs.Passes.{IsElsewhereSame, view_at};
+ghost use Rattle.shards.specs.Passes.{IsElsewhereSame};
 ghost use Rattle.replay.specs.ActorJobs.{AreRoundsMade, round_job};
-ghost use Rattle.replay.specs.Actors.{HasEnded};
-ghost use Rattle.replay.specs.Rounds.{AreReclaimed, IsReclaimedAt, IsAsked, is_keyed};
+ghost use Rattle.replay.specs.Actors.{HasEnded, IsUnused};
+ghost use Rattle.replay.specs.Rounds.{AreReclaimed, IsReclaimedAt, IsAsked, HasAsked, HasTurned, is_keyed};
 
 use crate::actor::{Actor, ActorEnded, wait_unless};
 use ebpf_decode::MapKind;
@@ -69,7 +68,7 @@ impl<'a, B: Naming, W: Wait, G: Gate> Reclaiming<'a, B, W, G> {
         pass
     }
 
-    /// One round. A Reclaim that a full journal refuses is passed over.
+    /// One round, from the lowest shard up: each hash and LRU shard is asked once. A Reclaim that a full journal refuses is passed over.
     pub fn round(&mut self)
         ensures { (rounds : ℕ) → AreReclaimed B.plan B.count rounds self.old → AreReclaimed B.plan B.count (rounds + 1) self.new }
     {
@@ -83,6 +82,7 @@ impl<'a, B: Naming, W: Wait, G: Gate> Reclaiming<'a, B, W, G> {
         requires { number < B.count }
         ensures others { IsElsewhereSame number self.old self.new }
         ensures here { (rounds : ℕ) → IsReclaimedAt B.plan rounds self.old number → IsReclaimedAt B.plan (rounds + 1) self.new number }
+        ensures did { HasTurned (is_keyed (B.plan number).definition.kind) number self.old self.new }
     {
         if self.is_keyed(number) {
             self.reclaim(number);
@@ -104,6 +104,7 @@ impl<'a, B: Naming, W: Wait, G: Gate> Reclaiming<'a, B, W, G> {
         requires { number < B.count }
         ensures others { IsElsewhereSame number self.old self.new }
         ensures here { IsAsked (B.plan number) number self.old self.new }
+        ensures did { HasAsked number self.old self.new }
     {
         match self.shards.reclaim(self.rt, &mut self.pass, number) {
             Ok(_freed) => self.tally.replied(),
@@ -112,7 +113,8 @@ impl<'a, B: Naming, W: Wait, G: Gate> Reclaiming<'a, B, W, G> {
     }
 }
 
-fn is_keyed(kind: MapKind) -> bool
+/// Whether cells of a map of this kind are retired.
+pub(crate) fn is_keyed(kind: MapKind) -> bool
     ensures { result ≡ is_keyed kind }
 {
     match kind {
@@ -123,12 +125,10 @@ fn is_keyed(kind: MapKind) -> bool
 }
 
 impl<'a, B: Naming, W: Wait, G: Gate> Actor<Pass<B>> for Reclaiming<'a, B, W, G> {
-    ghost use Rattle.std.specs.Prelude.{◌≡◌, ℕ};
-    ghost use Rattle.shards.specs.CallerView.{nothing_seen};
-    ghost use Rattle.shards.specs.Passes.{view_at};
+    ghost use Rattle.replay.specs.Actors.{IsUnused};
     ghost use Rattle.replay.specs.Parts.{HasReclaimed};
 
-    ghost is_ready = { λ actor. (number : ℕ) → view_at actor number ≡ nothing_seen };
+    ghost is_ready = { λ actor. IsUnused actor };
 
     ghost gives = { λ actor jobs given. HasReclaimed B.plan B.count jobs given };
 
@@ -153,7 +153,7 @@ fn rounds_until_end<B: Naming, W: Wait, G: Gate, R: Wait>(
     mut reclaiming: Reclaiming<'_, B, W, G>,
 ) -> ActorEnded<Pass<B>>
     requires take { IsTakePassOf queues.now take × (jobs_taken take ≡ []) }
-    requires nothing { (number : ℕ) → view_at reclaiming number ≡ nothing_seen }
+    requires unused { IsUnused reclaiming }
     ensures take { IsTakePassOf queues.now result.take × (place_taken_from result.take ≡ place_taken_from take) }
     ensures ended { HasEnded (jobs_taken result.take) }
     ensures rounds { AreRoundsMade B.plan B.count (jobs_taken result.take) result.given }

@@ -32,7 +32,7 @@ use verifier::Verified;
 use wire::Capture;
 
 /// Why no shards were opened, as a replay has it.
-fn fault_of(fault: OpenFault) -> ReplayFault
+pub(crate) fn fault_of(fault: OpenFault) -> ReplayFault
     ensures options { (result ≡ BadOptions) ↔ (fault ≡ OpenFault.BadOptions) }
     ensures memory { (result ≡ ReplayFault.Memory) ↔ (fault ≡ OpenFault.Memory) }
 {
@@ -143,7 +143,11 @@ fn replay_at<R: Threads + Wait + Sync, G: Gate + Sync>(
 /// the capture's order. Verdict and frame of a run are the program's own on the replies that stand among its worker's entries; these
 /// are, run after run, Enter, its calls with their replies, and Leave, on each shard that it called; and every journal is legal. A run
 /// is stopped only where the journal of the shard of its next call is full for good. The controller's entries are the updates of the
-/// script's commands, in order, and the reclaimer's are those of its rounds. What is sent stands in the capture's order.
+/// script's commands, and the reclaimer's are those of its rounds. What is sent stands in the capture's order.
+///
+/// What all callers did on all shards is one order: shard by shard it is the journal, and of each caller it has what the caller did, looks
+/// at full journals among it: of a worker its runs, of the controller the commands' updates in the script's order, of the reclaimer a round
+/// after the other, each from the lowest shard up.
 ///
 /// The gate is told of each reply of a run, of the controller and of the reclaimer, by the actor that has it, which holds no lock then.
 ///

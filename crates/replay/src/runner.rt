@@ -27,11 +27,18 @@ pub trait Runner<S> {
         ensures run { IfSome result (λ end. runs self.now worker sent.now state.old end state.new) };
 }
 
-/// What became of a frame that was run.
+/// How a run ended.
 #[derive(Debug, Drop)]
 pub enum RunEnd {
     /// A journal was full for the run's next call: the calls before it stand, and the frame is not sent.
     Stopped,
+    /// The program came to its end, after so many instructions, a wide one counted once.
+    Exited { steps: u64, frame: FrameFate },
+}
+
+/// What becomes of the frame of a run that came to its end.
+#[derive(Debug, Drop)]
+pub enum FrameFate {
     /// The program answered a number that is no verdict.
     Aborted,
     Dropped,

@@ -1,16 +1,14 @@
 //! What a replay begins with: the table and the numbers of its script, the passes, the controller and the reclaimer, and all of it
 //! together.
 
-ghost use Rattle.std.specs.Prelude.{◌≡◌, ◌<◌, ◌≤◌, ◌+◌, [], ℕ, length, map, replicate, IfOk, IsErrOf, IfSome, IsNone};
+ghost use Rattle.std.specs.Prelude.{◌≡◌, ◌<◌, ◌≤◌, ◌+◌, [], length, map, replicate, IfOk, IsErrOf, IfSome, IsNone};
 ghost use Rattle.machine.specs.Running.{program_of};
 ghost use Rattle.maglev.specs.RingSize.{IsRingSize};
 ghost use Rattle.control.specs.declared.command.Command.{Command as Line};
 ghost use Rattle.semantics.specs.declared.call.Caller.TheVariants.{Reclaimer};
 ghost use Rattle.semantics.specs.Each.{Each};
 ghost use Rattle.rx_queues.specs.Passes.{IsPutPassOf, AreTakePasses, workers_of, jobs_put};
-ghost use Rattle.shards.specs.CallerView.{nothing_seen};
-ghost use Rattle.shards.specs.Passes.{view_at};
-ghost use Rattle.replay.specs.Actors.{AreDue, numbers_from};
+ghost use Rattle.replay.specs.Actors.{AreDue, IsUnused, numbers_from};
 ghost use Rattle.replay.specs.Commands.{ServesScript, StaysOf};
 ghost use Rattle.replay.specs.Crews.{AreHandled};
 ghost use Rattle.replay.specs.Parts.{HasNoTable, IsStarted, IsScriptRun, numbers_of, rounds_of};
@@ -108,7 +106,7 @@ pub(crate) fn new_pass<B: Naming>(
     who: Caller,
 ) -> Result<Pass<B>, AllocError>
     ensures who { IfOk result (λ pass. pass.who ≡ who) }
-    ensures nothing { IfOk result (λ pass. (number : ℕ) → view_at pass number ≡ nothing_seen) }
+    ensures unused { IfOk result (λ pass. IsUnused pass) }
 {
     match dealer.pass(alloc, who) {
         Ok(pass) => Ok(pass),
@@ -147,7 +145,7 @@ pub(crate) fn new_reclaimer<'x, B: Naming, R: Wait, G: Gate>(
     dealer: &mut Dealer<B>,
     gate: &'x G,
 ) -> Result<Reclaiming<'x, B, R, G>, AllocError>
-    ensures { IfOk result (λ reclaiming. (number : ℕ) → view_at reclaiming number ≡ nothing_seen) }
+    ensures { IfOk result (λ reclaiming. IsUnused reclaiming) }
 {
     let pass = new_pass(alloc, dealer, Caller::Reclaimer)?;
     Ok(Reclaiming::over(rt, shards, pass, gate))
@@ -179,7 +177,7 @@ pub(crate) fn run_threads<'x, B: Naming + Send + Sync, R: Threads + Wait + Sync,
     requires starts { length starts.now ≡ length script.now }
     requires begun { AreDue starts.now 0 0 first }
     requires started { IsStarted runner.now.shards.now.maps runner.now.shards.now.options script.now size controller first }
-    requires nothing { (number : ℕ) → view_at reclaimer number ≡ nothing_seen }
+    requires unused { IsUnused reclaimer }
     ensures count { IfOk result (λ it. length it.workers.items ≡ runner.now.shards.now.options.workers) }
     ensures handled { IfOk result (λ it. AreHandled IsNewAt
         (IsRunBy B.count B.plan (program_of runner.now.verified.now runner.now.shards.now.options.shards)) capture.now.records.items

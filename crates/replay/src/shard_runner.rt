@@ -1,11 +1,11 @@
 //! Runs over the shards that all workers share.
 
-ghost use Rattle.std.specs.Prelude.{◌≡◌, ◌<◌, ◌≤◌, IfOk};
+ghost use Rattle.std.specs.Prelude.{◌≡◌, ◌<◌, ◌≤◌, Some, IfOk};
 ghost use Rattle.machine.specs.Running.{program_of};
-ghost use Rattle.replay.specs.RunsOverShards.{IsIdle, IsSentOf, IsTold, IsRunOf, time_of};
+ghost use Rattle.replay.specs.RunsOverShards.{IsIdle, IsSentOf, IsTold, IsRunOf, steps_in, time_of};
 
-use crate::runner::{RunEnd, Runner};
-use machine::Moment;
+use crate::runner::{FrameFate, RunEnd, Runner};
+use machine::{Exit, Moment};
 use runs::run_frame;
 use semantics::Verdict;
 use shard_port::Gate;
@@ -35,7 +35,7 @@ pub(crate) struct ShardRunner<'a, B: Naming, R: Wait, G: Gate> {
 }
 
 /// A record's time, and the worker's number.
-fn moment_of(sent: &Sent, worker: u8) -> Moment
+pub(crate) fn moment_of(sent: &Sent, worker: u8) -> Moment
     ensures time { result.now_ns ≡ time_of sent.now }
     ensures worker { result.worker ≡ worker }
 {
@@ -58,23 +58,28 @@ fn sent_of(alloc: Global, captured: &Sent, frame: &Frame) -> Result<Sent, AllocE
     })
 }
 
-/// What becomes of a record's frame by its verdict.
-fn end_of(
+/// What becomes of a record's frame by its verdict, for a run of so many steps.
+pub(crate) fn end_of(
     alloc: Global,
     captured: &Sent,
-    verdict: Verdict,
+    exit: Exit,
     frame: &Frame,
 ) -> Result<RunEnd, AllocError>
-    ensures { IfOk result (IsTold captured.now verdict frame.now) }
+    ensures told { IfOk result (IsTold captured.now exit.verdict frame.now) }
+    ensures counted { IfOk result (λ end. steps_in end ≡ Some exit.steps) }
 {
-    match verdict {
-        Verdict::Aborted => Ok(RunEnd::Aborted),
-        Verdict::Drop => Ok(RunEnd::Dropped),
-        Verdict::Pass => Ok(RunEnd::Passed),
-        Verdict::Tx => Ok(RunEnd::Sent {
+    let fate = match exit.verdict {
+        Verdict::Aborted => FrameFate::Aborted,
+        Verdict::Drop => FrameFate::Dropped,
+        Verdict::Pass => FrameFate::Passed,
+        Verdict::Tx => FrameFate::Sent {
             sent: sent_of(alloc, captured, frame)?,
-        }),
-    }
+        },
+    };
+    Ok(RunEnd::Exited {
+        steps: exit.steps,
+        frame: fate,
+    })
 }
 
 impl<'a, B: Naming, R: Wait, G: Gate> Runner<Working<B>> for ShardRunner<'a, B, R, G> {
@@ -109,7 +114,7 @@ impl<'a, B: Naming, R: Wait, G: Gate> Runner<Working<B>> for ShardRunner<'a, B, 
             self.gate,
             &mut state.replies,
         ) {
-            Ok(exit) => end_of(alloc, sent, exit.verdict, &frame).ok(),
+            Ok(exit) => end_of(alloc, sent, exit, &frame).ok(),
             Err(_) => Some(RunEnd::Stopped),
         }
     }

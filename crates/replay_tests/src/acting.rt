@@ -1,11 +1,10 @@
 //! What no clause says: that the actors work where there is memory, for what the gate is called, and rows worked out elsewhere.
 
-ghost use Rattle.std.specs.Prelude.{◌≡◌, ◌≤◌, ℕ, [], IfOk};
+ghost use Rattle.std.specs.Prelude.{◌≡◌, ◌≤◌, [], IfOk};
 ghost use Rattle.semantics.specs.declared.call.Caller.TheVariants.{Controller as TheController};
 ghost use Rattle.maglev.specs.RingSize.{IsRingSize};
 ghost use Rattle.replay.specs.Commands.{ServesScript};
-ghost use Rattle.shards.specs.CallerView.{nothing_seen};
-ghost use Rattle.shards.specs.Passes.{view_at};
+ghost use Rattle.replay.specs.Actors.{IsUnused};
 ghost use Rattle.rx_queues.specs.Passes.{HasQueue, IsTakePassOf, jobs_taken};
 ghost use Rattle.shards.specs.NewShards.{IsNamed};
 
@@ -60,8 +59,8 @@ fn opened(alloc: Global, row: &Row<'_>) -> Result<Opened, Fail> {
     Ok(Opened::open(alloc, &image, options)?)
 }
 
-/// A script over new shards, or this many rounds of the reclaimer: the number of each command's fault (0: none), for how many answers the gate was called, and how many
-/// entries each shard's journal has.
+/// A script over new shards, or this many rounds of the reclaimer: the number of each command's fault (0: none), for how many answers the gate
+/// was called, and how many entries each shard's journal has.
 #[derive(Clone, Copy)]
 struct Row<'a> {
     name: &'a str,
@@ -177,8 +176,8 @@ fn applied_to_new<R: Abort + Wait>(rt: &R, alloc: Global, row: &Row<'_>) -> Resu
     applied::<Brand, R>(rt, alloc, opened, row)
 }
 
-/// Slots 0, 2, 4 and 6 are one shard's, the odd ones the other's. A refused command asks nothing, and the gate is not called for it; later ones go on. In the last row
-/// the third table meets a full journal at its third slot: the record and two slots remain, and every later command is refused.
+/// Slots 0, 2, 4 and 6 are one shard's, the odd ones the other's. A refused command asks nothing, and the gate is not called for it; later ones
+/// go on. In the last row the third table meets a full journal at its third slot: the record and two slots remain, and every later command is refused.
 #[rattlefmt::skip]
 const SCRIPTS: [Row<'static>; 4] = [
     Row {
@@ -315,7 +314,7 @@ fn taken_to_the_end<'a, B: Naming, R: Abort + Wait>(
 ) -> ActorEnded<Commanded<B>>
     requires take { IsTakePassOf queues.now take × (jobs_taken take ≡ []) }
     requires who { pass.who ≡ TheController }
-    requires nothing { (number : ℕ) → view_at pass number ≡ nothing_seen }
+    requires unused { IsUnused pass }
     requires size { IsRingSize size }
     requires serves { ServesScript shards.now.maps size commands.now }
 {

@@ -52,7 +52,9 @@ pub(crate) fn holds(rt: &impl Abort, name: &str, is_so: bool)
 }
 
 /// The same of one of several facts of a row.
-pub(crate) fn holds_of(rt: &impl Abort, name: &str, fact: &str, is_so: bool) {
+pub(crate) fn holds_of(rt: &impl Abort, name: &str, fact: &str, is_so: bool)
+    ensures { is_so ≡ true }
+{
     assert!(rt; is_so, "{name}: {fact}");
 }
 

@@ -3,7 +3,7 @@
 ghost use Rattle.std.specs.Prelude.{◌≡◌, ◌<◌, ◌≤◌};
 
 use crate::asserting::same;
-use replay::{Actor, ActorEnded, Handled, Pace, RunEnd, Runner, run_all};
+use replay::{Actor, ActorEnded, FrameFate, Handled, Pace, RunEnd, Runner, run_all};
 use rx_queues::{Job, Queues, TakePass};
 use std::alloc::Global;
 use std::process::Abort;
@@ -12,6 +12,14 @@ use std::sync::atomic::{AtomicU64, Ordering};
 use std::test::Fail;
 use std::thread::Threads;
 use wire::{Capture, MemorySink, MemorySource, Sent, read_capture, write_capture};
+
+/// The end of a run that takes no step and passes its frame.
+fn passed() -> RunEnd {
+    RunEnd::Exited {
+        steps: 0,
+        frame: FrameFate::Passed,
+    }
+}
 
 /// Passes each frame, and counts in a worker's state how many it has run.
 #[derive(Drop)]
@@ -31,7 +39,7 @@ impl Runner<u64> for Passing {
         let _ = worker;
         let _ = sent;
         *state = state.wrapping_add(1);
-        Some(RunEnd::Passed)
+        Some(passed())
     }
 }
 
@@ -63,7 +71,7 @@ impl Runner<u64> for Refusing {
                 return None;
             }
         }
-        Some(RunEnd::Passed)
+        Some(passed())
     }
 }
 

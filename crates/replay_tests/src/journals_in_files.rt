@@ -8,18 +8,8 @@ use semantics::{Call, Caller, CellRef, Entry, Key, Reply, Value};
 use std::alloc::Global;
 use std::process::Abort;
 use std::test::Fail;
+use test_support::files::COUNTED_TO_THREE;
 use wire::{MemorySink, MemorySource, Sink, Source};
-
-/// A worker updates a key, looks it up, adds to its value and reads it.
-const ADDED: &str = "XLBJ 1 1 1 16
-0 w0 enter ok
-0 w0 update 07000000 0200000000000000 0 answer 0
-0 w0 lookup 07000000 cell 0
-0 w0 atomic 0 0 8 1 1 0 word 2
-0 w0 load 0 0 8 word 3
-0 w0 leave ok
-0 r reclaim freed 0
-";
 
 /// A worker writes half of a key's value, reads it, and deletes the key; its cell is freed.
 const DELETED: &str = "XLBJ 1 1 1 16
@@ -204,7 +194,7 @@ fn compare(rt: &impl Abort, alloc: Global, text: &str, wanted: &[Line]) -> Resul
 
 #[test]
 fn file_of_an_addition(rt: HostRuntime) -> Result<(), Fail> {
-    compare(&rt, rt.alloc(), ADDED, &added())
+    compare(&rt, rt.alloc(), COUNTED_TO_THREE, &added())
 }
 
 #[test]

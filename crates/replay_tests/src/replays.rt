@@ -2,6 +2,7 @@
 
 mod exact;
 mod moments;
+mod record_ends;
 mod schedules;
 mod shipped_program;
 
@@ -18,31 +19,10 @@ use std::process::Abort;
 use std::sync::Wait;
 use std::test::Fail;
 use std::thread::Threads;
+use test_support::files::{COUNTED_TO_THREE, SERVICE};
+use test_support::programs::{COUNTS_TO_THREE, READS_BYTE_13, READS_ONE};
 use verifier::{Verified, verify};
 use wire::{Capture, MemorySink, MemorySource, Sent, read_capture, write_capture};
-
-/// Adds 1 to the value of key 7, which it sets to 2 before, and answers it.
-const COUNTS_TO_THREE: &str = "version 1
-map hash 4 8 1
-stw [r10-4], 7
-stdw [r10-16], 2
-mov r2, r10
-add r2, -4
-mov r3, r10
-add r3, -16
-mov r4, 0
-ldmap r1, 0
-call 2
-mov r2, r10
-add r2, -4
-ldmap r1, 0
-call 1
-jeq r0, 0, +3
-mov r1, 1
-afadddw [r0+0], r1
-ldxdw r0, [r0+0]
-exit
-";
 
 /// Adds the value of element 0, which stays 0, to the low byte of a frame's source port, and answers the sum.
 const ANSWERS_THE_PORT: &str = "version 1
@@ -63,32 +43,6 @@ jeq r0, 0, +3
 ldxdw r7, [r0+0]
 add r6, r7
 mov r0, r6
-exit
-";
-
-/// Reads element 0, and passes the frame.
-const READS_ONE: &str = "version 1
-map array 4 8 1
-stw [r10-4], 0
-mov r2, r10
-add r2, -4
-ldmap r1, 0
-call 1
-jeq r0, 0, +1
-ldxdw r3, [r0+0]
-mov r0, 2
-exit
-";
-
-/// Reads byte 13 of a frame that has it.
-const READS_BYTE_13: &str = "version 1
-ldxw r2, [r1+0]
-ldxw r3, [r1+4]
-mov r4, r2
-add r4, 14
-mov r0, 2
-jgt r4, r3, +1
-ldxb r0, [r2+13]
 exit
 ";
 
@@ -286,16 +240,6 @@ const ONE_FRAME: Row<'static> = Row {
     counts: Counts { tx: 1, ..NONE },
 };
 
-const ONE_RUN: &str = "XLBJ 1 1 1 16
-0 w0 enter ok
-0 w0 update 07000000 0200000000000000 0 answer 0
-0 w0 lookup 07000000 cell 0
-0 w0 atomic 0 0 8 1 1 0 word 2
-0 w0 load 0 0 8 word 3
-0 w0 leave ok
-0 r reclaim freed 0
-";
-
 #[test]
 fn one_frame_is_sent(rt: HostRuntime) -> Result<(), Fail> {
     let outcome = replayed(&rt, rt.alloc(), &ONE_FRAME, &NoGate)?;
@@ -313,7 +257,7 @@ fn one_frame_is_sent(rt: HostRuntime) -> Result<(), Fail> {
         "one frame",
         "the journals",
         journals.bytes(),
-        ONE_RUN.as_bytes(),
+        COUNTED_TO_THREE.as_bytes(),
     );
     Ok(())
 }
@@ -381,11 +325,6 @@ fn a_record_of_13_bytes_is_short(rt: HostRuntime) -> Result<(), Fail> {
     let _ = replayed(&rt, rt.alloc(), &SHORT, &NoGate)?;
     Ok(())
 }
-
-const SERVICE: &str = "0 gateway 10.0.0.9 02:00:00:00:00:0a 02:00:00:00:00:0b
-0 vip 203.0.113.1 80 udp
-0 up 0 192.0.2.1
-";
 
 /// Scripts, how many commands are refused, and the first entry of the list of backends, if it has one.
 #[rattlefmt::skip]

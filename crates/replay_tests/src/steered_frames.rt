@@ -14,7 +14,7 @@ use wire::{Frame, FrameFault, Ipv4Address, MacAddress, Transport, flow_of};
 
 // The datagram behind 10.0.0.9, to 192.0.2.1.
 #[rattlefmt::skip]
-const SENT: [u8; 62] = [
+pub(crate) const SENT: [u8; 62] = [
     0x02, 0, 0, 0, 0, 0x0b, 0x02, 0, 0, 0, 0, 0x0a, 0x08, 0x00,
     0x45, 0, 0, 0x30, 0, 0, 0x40, 0, 0x40, 0x04, 0x6e, 0xc0, 10, 0, 0, 9, 192, 0, 2, 1,
     0x45, 0, 0, 0x1c, 0, 0x01, 0, 0, 0x40, 0x11, 0x14, 0x94, 198, 51, 100, 7, 203, 0, 113, 1,

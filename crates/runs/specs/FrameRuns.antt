@@ -72,7 +72,8 @@ told_port port told = record { port = port; told = told }
 
 -- the port gave the reply, and the gate was called for one more
 abbrev pub IsGivenTold : (ℕ → ShardPlan) → ℕ → ToldPort → Call → Reply → ToldPort → Type 0
-IsGivenTold plan count before call reply after = IsGivenBy plan count before.port call reply after.port × (after.told ≡ next_count before.told)
+IsGivenTold plan count before call reply after =
+    IsGivenBy plan count before.port call reply after.port × (after.told ≡ next_count before.told)
 
 -- the port refused the call, and the gate was called for nothing
 abbrev pub IsRefusedUntold : (ℕ → ShardPlan) → ℕ → ToldPort → Call → ToldPort → Type 0

@@ -22,7 +22,8 @@ use Rattle.shards.specs.NewShards.{shard_at}
 
 -- ---- a run to its end: what the program asked and what it was answered, and what that came to
 
-pub record HasEnded (program : Program) (start : MachineState) (exchanges : List Exchange) (verdict : Verdict) (steps : ℕ) (frame : FrameView) : Type 0
+pub record HasEnded (program : Program) (start : MachineState) (exchanges : List Exchange) (verdict : Verdict) (steps : ℕ)
+    (frame : FrameView) : Type 0
   where
     pub last : MachineState
     pub trace : whole_trace program start (replies_in exchanges) ≡ record { calls = calls_in exchanges; stand = HasExited verdict last }
@@ -33,7 +34,8 @@ pub record HasEnded (program : Program) (start : MachineState) (exchanges : List
 
 -- ---- a run that was refused a call: what it asked before, and the state in which it waits for this reply
 
-pub record HasWaited (program : Program) (start : MachineState) (exchanges : List Exchange) (refused : Call) (frame : FrameView) : Type 0 where
+pub record HasWaited (program : Program) (start : MachineState) (exchanges : List Exchange) (refused : Call)
+    (frame : FrameView) : Type 0 where
   pub waiting : MachineState
   pub trace :
       whole_trace program start (replies_in exchanges) ≡ record { calls = calls_in exchanges ++ refused ∷ []; stand = Waits waiting }
@@ -68,7 +70,8 @@ IsFullAfter worker number exchanges refused before journal =
 abbrev pub HasMore : List JournaledShard → List JournaledShard → ℕ → List Entry → Type 0
 HasMore before after number entries = shard_at after number ≡ with_entries (shard_at before number) entries
 
-pub record HasRunOver (program : Program) (start : MachineState) (worker : ℕ) (before after : List JournaledShard) (verdict : Verdict) (steps : ℕ)
+pub record HasRunOver (program : Program) (start : MachineState) (worker : ℕ) (before after : List JournaledShard) (verdict : Verdict)
+    (steps : ℕ)
     (frame : FrameView) : Type 0 where
   pub exchanges : List Exchange
   pub ended : HasEnded program start exchanges verdict steps frame
@@ -76,7 +79,8 @@ pub record HasRunOver (program : Program) (start : MachineState) (worker : ℕ) 
   pub count : length after ≡ length before
   pub written : (number : ℕ) → number < length before → HasMore before after number (session_at worker number exchanges)
 
-pub record WasRefusedOver (program : Program) (start : MachineState) (worker : ℕ) (before after : List JournaledShard) (frame : FrameView) (shard : ℕ) :
+pub record WasRefusedOver (program : Program) (start : MachineState) (worker : ℕ) (before after : List JournaledShard)
+    (frame : FrameView) (shard : ℕ) :
     Type 0 where
   pub exchanges : List Exchange
   pub refused : Call

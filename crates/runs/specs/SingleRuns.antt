@@ -38,7 +38,8 @@ pub record AreJournalsOf (maps : List MapDef) (options : Options) (journals : Jo
 
 -- Before the run each update was made, in order, by the controller; then the worker's run came to its end. Each journal has the controller's
 -- entries, behind them the worker's session, and nothing else: so the run's replies are those of maps with these values.
-pub record HasRunAlone (program : Program) (start : MachineState) (options : Options) (worker : ℕ) (updates : List MapUpdate) (verdict : Verdict)
+pub record HasRunAlone (program : Program) (start : MachineState) (options : Options) (worker : ℕ) (updates : List MapUpdate)
+    (verdict : Verdict)
     (steps : ℕ) (frame : FrameView) (journals : JournalsView) : Type 0 where
   pub journals_are : AreJournalsOf program.maps options journals
   pub exchanges : List Exchange
@@ -49,13 +50,15 @@ pub record HasRunAlone (program : Program) (start : MachineState) (options : Opt
       ≡ updates_at (served_by program.maps options) number updates ++ session_at worker number exchanges
 
 -- the journal has the controller's entries, and behind them what a run that was stopped wrote
-pub record IsCutBehind (before : List Entry) (worker number : ℕ) (exchanges : List Exchange) (refused : Call) (journal : List Entry) : Type 0 where
+pub record IsCutBehind (before : List Entry) (worker number : ℕ) (exchanges : List Exchange) (refused : Call)
+    (journal : List Entry) : Type 0 where
   pub own : List Entry
   pub session : IsCutSession worker number exchanges refused own
   pub both : journal ≡ before ++ own
 
 -- the same of a run that was stopped, since a journal was full for a call or for the Enter before it
-pub record WasRefusedAlone (program : Program) (start : MachineState) (options : Options) (worker : ℕ) (updates : List MapUpdate) (frame : FrameView)
+pub record WasRefusedAlone (program : Program) (start : MachineState) (options : Options) (worker : ℕ) (updates : List MapUpdate)
+    (frame : FrameView)
     (journals : JournalsView) (shard : ℕ) : Type 0 where
   pub journals_are : AreJournalsOf program.maps options journals
   pub exchanges : List Exchange
@@ -70,7 +73,8 @@ pub record WasRefusedAlone (program : Program) (start : MachineState) (options :
   pub plan : ShardPlan
   pub planned : plan_at program.maps options shard ≡ Some plan
   pub full :
-      IsFullAfter worker shard exchanges refused (updated_shard (served_by program.maps options) shard updates plan) (entries_at journals shard)
+      IsFullAfter worker shard exchanges refused (updated_shard (served_by program.maps options) shard updates plan)
+      (entries_at journals shard)
 
 abbrev pub HasStoppedAlone : Program → MachineState → Options → ℕ → List MapUpdate → FrameView → Stop → JournalsView → Type 0
 HasStoppedAlone program start options worker updates frame (JournalFull shard) journals =

@@ -58,13 +58,15 @@ AreTaken maps options updates =
 pub record AreUpdated (maps : List MapDef) (options : Options) (updates : List MapUpdate) (shards : List JournaledShard) : Type 0 where
   pub count : length shards ≡ length maps * options.shards
   pub planned : (number : ℕ) → number < length shards → plan_at maps options number ≡ Some (shard_at shards number).plan
-  pub written : (number : ℕ) → number < length shards → (shard_at shards number).journal ≡ updates_at (served_by maps options) number updates
+  pub written : (number : ℕ) → number < length shards →
+      (shard_at shards number).journal ≡ updates_at (served_by maps options) number updates
   pub taken : AreTaken maps options updates
 
 -- ---- updates that are refused: the one at this place, after those before it
 
 -- the update at a place, before which all were taken, and its shard as those have left it
-pub record IsNext (maps : List MapDef) (options : Options) (updates : List MapUpdate) (place : ℕ) (update : MapUpdate) (before : JournaledShard) : Type 0
+pub record IsNext (maps : List MapDef) (options : Options) (updates : List MapUpdate) (place : ℕ) (update : MapUpdate)
+    (before : JournaledShard) : Type 0
   where
     pub known : slice_get updates place ≡ Some update
     pub plan : ShardPlan
@@ -92,7 +94,8 @@ pub record IsFullForUpdate (maps : List MapDef) (options : Options) (updates : L
 
 -- the controller may make the update on this shard
 abbrev pub may_update : Option JournaledShard → MapUpdate → Bool
-may_update (Some one) update = meets one.plan (reverse one.journal) Controller (shard.update_call one update.key update.value (flags_number Any))
+may_update (Some one) update =
+    meets one.plan (reverse one.journal) Controller (shard.update_call one update.key update.value (flags_number Any))
 may_update None update = false
 
 -- the shard of this number took the update, or gave another answer; either way it has the entry
@@ -100,8 +103,10 @@ pub record IsMade (before : List JournaledShard) (number : ℕ) (update : MapUpd
   pub one : JournaledShard
   pub known : slice_get before number ≡ Some one
   pub answered : answer ≡ update_answer one.plan (state_of one) update.key (flags_number Any)
-  pub legal : IsLegalJournal one.plan (after_call one Controller (shard.update_call one update.key update.value (flags_number Any)) (Answer answer)).journal
-  pub put_back : after ≡ slice_set before number (after_call one Controller (shard.update_call one update.key update.value (flags_number Any)) (Answer answer))
+  pub legal : IsLegalJournal one.plan
+      (after_call one Controller (shard.update_call one update.key update.value (flags_number Any)) (Answer answer)).journal
+  pub put_back : after ≡ slice_set before number
+      (after_call one Controller (shard.update_call one update.key update.value (flags_number Any)) (Answer answer))
 
 pub record IsFull (before : List JournaledShard) (number : ℕ) (update : MapUpdate) : Type 0 where
   pub one : JournaledShard

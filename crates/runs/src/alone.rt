@@ -52,10 +52,11 @@ pub fn run_alone(
     requires headroom { frame.old.headroom ≡ 256 }
     requires fit { AreFitting verified.now.maps updates.now }
     ensures exit { IfOk result (λ single. IfOk single.ended (λ exit. HasRunAlone (program_of verified.now options.shards)
-        (initial_state frame.old moment.now.worker moment.now.now_ns) options moment.now.worker updates.now exit.verdict exit.steps frame.new
-        single.journals)) }
+        (initial_state frame.old moment.now.worker moment.now.now_ns) options moment.now.worker updates.now
+        exit.verdict exit.steps frame.new single.journals)) }
     ensures stop { IfOk result (λ single. IfErr single.ended (λ stop. HasStoppedAlone (program_of verified.now options.shards)
-        (initial_state frame.old moment.now.worker moment.now.now_ns) options moment.now.worker updates.now frame.new stop single.journals)) }
+        (initial_state frame.old moment.now.worker moment.now.now_ns) options moment.now.worker updates.now
+        frame.new stop single.journals)) }
     ensures bad_options { IsErrOf result (Open BadOptions) ↔
         (IsFalse (are_served_options verified.now.maps options) ⊎ (options.workers ≤ moment.now.worker)) }
     ensures why { IfErr result (IsWhyNone verified.now.maps options updates.now) }

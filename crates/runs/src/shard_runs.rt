@@ -34,9 +34,11 @@ pub(crate) fn worker_run(
     requires worker { moment.now.worker < 8 }
     requires among { moment.now.worker < options.workers }
     requires headroom { frame.old.headroom ≡ 256 }
-    ensures exit { IfOk result (λ exit. HasRunOver (program_of verified.now options.shards) (initial_state frame.old moment.now.worker moment.now.now_ns)
+    ensures exit { IfOk result
+        (λ exit. HasRunOver (program_of verified.now options.shards) (initial_state frame.old moment.now.worker moment.now.now_ns)
         moment.now.worker shards.old shards.new exit.verdict exit.steps frame.new) }
-    ensures stop { IfErr result (HasStoppedOver (program_of verified.now options.shards) (initial_state frame.old moment.now.worker moment.now.now_ns)
+    ensures stop { IfErr result
+        (HasStoppedOver (program_of verified.now options.shards) (initial_state frame.old moment.now.worker moment.now.now_ns)
         moment.now.worker shards.old shards.new frame.new) }
 {
     journals_have_the_calls();

@@ -84,8 +84,8 @@ pub fn run_frame<B: Naming, W: Wait, G: Gate>(
     requires worker { IsTrue (is_worker_below shards.now.options.workers pass.old.who) }
     requires outside { (number : ℕ) → number < B.count → IsOutsideAt (worker_of pass.old.who) pass.old number }
     ensures exit { IfOk result (λ exit. HasRunTold (program_of verified.now shards.now.options.shards)
-        (initial_state frame.old moment.now.worker moment.now.now_ns) B.count (worker_of pass.old.who) pass.old pass.new exit.verdict exit.steps
-        frame.new replies.old replies.new) }
+        (initial_state frame.old moment.now.worker moment.now.now_ns) B.count (worker_of pass.old.who)
+        pass.old pass.new exit.verdict exit.steps frame.new replies.old replies.new) }
     ensures stop { IfErr result (HasStoppedTold (program_of verified.now shards.now.options.shards)
         (initial_state frame.old moment.now.worker moment.now.now_ns) B.plan B.count (worker_of pass.old.who) pass.old pass.new frame.new
         replies.old replies.new) }

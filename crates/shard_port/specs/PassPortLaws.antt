@@ -55,7 +55,8 @@ kept_at worker number cell call reply own run held =
 
 -- ---- all shards
 
-kept_place : (plan : ℕ → ShardPlan) (count : ℕ) (before after : PassPort) (call : Call) (reply : Reply) → IsGivenBy plan count before call reply after →
+kept_place : (plan : ℕ → ShardPlan) (count : ℕ) (before after : PassPort) (call : Call) (reply : Reply) →
+    IsGivenBy plan count before call reply after →
     (shard cell : ℕ) (here : Bool) → (shard == shard_of_call call) ≡ here →
     IsTrue (holds_own (Worker (worker_of before.pass.who)) (own_at before.pass shard) cell) →
     IsTrue (holds_own (Worker (worker_of before.pass.who)) (own_at after.pass shard) cell)
@@ -74,7 +75,8 @@ kept_place plan count before after call reply given shard cell false is held =
     subst (λ (own : List Entry). IsTrue (holds_own (Worker (worker_of before.pass.who)) own cell))
     (sym (ap (λ (view : CallerView). view.own) (given.elsewhere.others shard other))) held
 
-kept_by : (plan : ℕ → ShardPlan) (count : ℕ) (before after : PassPort) (call : Call) (reply : Reply) → IsGivenBy plan count before call reply after →
+kept_by : (plan : ℕ → ShardPlan) (count : ℕ) (before after : PassPort) (call : Call) (reply : Reply) →
+    IsGivenBy plan count before call reply after →
     (map shard cell : ℕ) → IsTrue (has_found before map shard cell) → IsTrue (has_found after map shard cell)
 kept_by plan count before after call reply given map shard cell held =
     let own : IsTrue (shard / before.served.shards == map) =
@@ -90,7 +92,8 @@ kept_by plan count before after call reply given map shard cell held =
     subst (λ (who : Caller). IsTrue (holds_own who (own_at after.pass shard) cell)) (sym (given.elsewhere.who ∙ given.is_worker)) kept in
     rw given.same_maps (both_true _ _ own theirs)
 
-pub keeps_by : (plan : ℕ → ShardPlan) (count : ℕ) (before after : PassPort) (call : Call) (reply : Reply) → IsGivenBy plan count before call reply after →
+pub keeps_by : (plan : ℕ → ShardPlan) (count : ℕ) (before after : PassPort) (call : Call) (reply : Reply) →
+    IsGivenBy plan count before call reply after →
     Keeps before.served after.served (has_found before) (has_found after) cell_of_handle cell_of_handle
 keeps_by plan count before after call reply given = record {
   same = given.same_maps;
@@ -139,7 +142,8 @@ found_in plan count before after shard key Done given = tt
 found_in plan count before after shard key (Answer code) given = tt
 found_in plan count before after shard key (Freed freed) given = tt
 
-pub hands_out_by : (plan : ℕ → ShardPlan) (count : ℕ) (before after : PassPort) (call : Call) (reply : Reply) → IsGivenBy plan count before call reply after →
+pub hands_out_by : (plan : ℕ → ShardPlan) (count : ℕ) (before after : PassPort) (call : Call) (reply : Reply) →
+    IsGivenBy plan count before call reply after →
     IsHandedOut (program_over before.served) (has_found after) call reply
 hands_out_by plan count before after (Lookup shard key) reply given = found_in plan count before after shard key reply given
 hands_out_by plan count before after (Enter shard) reply given = tt

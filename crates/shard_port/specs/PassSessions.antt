@@ -46,7 +46,8 @@ pub record IsVisitedAt (worker : ℕ) (exchanges : List Exchange) (call : Call) 
   pub written : after ≡ leave_by worker number ∷ enter_by worker number ∷ before
 
 -- the worker had not called the shard, its Enter met a full journal, and it wrote nothing there
-pub record IsKeptOut (plan : ShardPlan) (full_at : List Entry) (worker : ℕ) (exchanges : List Exchange) (number : ℕ) (before after : List Entry) :
+pub record IsKeptOut (plan : ShardPlan) (full_at : List Entry) (worker : ℕ) (exchanges : List Exchange) (number : ℕ)
+    (before after : List Entry) :
     Type 0 where
   pub first_call : entries_at worker number exchanges ≡ []
   pub nothing : after ≡ before
@@ -72,7 +73,8 @@ pub record StoppedAtEnter (plan : ShardPlan) (full_at : List Entry) (count worke
 -- the same of a run that ended because a call was refused, but that the shard of this call, if it was the first there, may have an Enter
 -- and a Leave with no call between. There the journal was full for the call at the end of a history that the pass's now begins with; or it was
 -- full for the Enter, and then the worker has written nothing there.
-pub record HasRefusedSessions (plan : ℕ → ShardPlan) (count worker : ℕ) (exchanges : List Exchange) (call : Call) (before after : PassView) : Type 0
+pub record HasRefusedSessions (plan : ℕ → ShardPlan) (count worker : ℕ) (exchanges : List Exchange) (call : Call)
+    (before after : PassView) : Type 0
   where
     pub same_caller : after.who ≡ before.who
     pub within : AreWithin count exchanges

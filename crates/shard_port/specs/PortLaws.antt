@@ -60,7 +60,8 @@ pub held_after_call : (worker cell : ℕ) (call : Call) (reply : Reply) (history
 held_after_call worker cell (Enter shard) reply history run held = absurd run
 held_after_call worker cell (Leave shard) reply history run held = absurd run
 held_after_call worker cell (Reclaim shard) reply history run held = absurd run
-held_after_call worker cell (Lookup shard key) reply history run held = rw (same_worker worker, held) (held_by_lookup shard key reply cell true ∙ or_held (found_cell reply cell))
+held_after_call worker cell (Lookup shard key) reply history run held =
+    rw (same_worker worker, held) (held_by_lookup shard key reply cell true ∙ or_held (found_cell reply cell))
 held_after_call worker cell (Load at offset size) reply history run held = rw (same_worker worker) held
 held_after_call worker cell (Store at offset size value) reply history run held = rw (same_worker worker) held
 held_after_call worker cell (Atomic at offset size op value expected) reply history run held = rw (same_worker worker) held
@@ -68,7 +69,8 @@ held_after_call worker cell (Update shard key value flags) reply history run hel
 held_after_call worker cell (Delete shard key) reply history run held = rw (same_worker worker) held
 
 -- nor ends its section
-pub inside_after_call : (worker : ℕ) (call : Call) (reply : Reply) (history : List Entry) → IsRunCall call → is_inside worker history ≡ true →
+pub inside_after_call : (worker : ℕ) (call : Call) (reply : Reply) (history : List Entry) → IsRunCall call →
+    is_inside worker history ≡ true →
     is_inside worker (asked_entry worker call reply ∷ history) ≡ true
 inside_after_call worker (Enter shard) reply history run inside = absurd run
 inside_after_call worker (Leave shard) reply history run inside = absurd run

@@ -275,7 +275,8 @@ fn ask_at<B: Naming, C: Ask>(
     requires worker { IsTrue (is_worker_below shards.now.options.workers pass.old.who) }
     requires met { MayAskOnceInside (B.plan shard) shard pass.old (C.asks ask shard) }
     ensures elsewhere { IsElsewhereSame shard pass.old pass.new }
-    ensures answered { IfOk result (λ answer. IsAskedBy (B.plan shard) shard pass.old pass.new (C.asks ask shard) (C.replies shard answer)) }
+    ensures answered { IfOk result
+        (λ answer. IsAskedBy (B.plan shard) shard pass.old pass.new (C.asks ask shard) (C.replies shard answer)) }
     ensures turned_away { OnErr result (IsTurnedAwayBy (B.plan shard) shard pass.old pass.new (C.asks ask shard)) }
     ensures names_the_shard { IfErr result (λ fault. fault.shard ≡ shard) }
 {

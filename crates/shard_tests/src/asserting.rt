@@ -1,4 +1,4 @@
-//! Comparisons that end a test, proved once for all of them. The message has the name of a row or a call.
+//! What ends a test: comparisons that are proved once for all tests. The message names the row.
 
 ghost use Rattle.std.specs.Prelude.{◌≡◌, true};
 

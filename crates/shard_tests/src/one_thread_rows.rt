@@ -5,10 +5,10 @@ ghost use Rattle.semantics.specs.PlanLimits.{IsPlan};
 
 use crate::asserting::{holds, same};
 use ebpf_decode::{MapDef, MapKind};
-use one_thread_map::OneThreadShard;
 use semantics::{Call, Caller, CellRef, Key, Reply, ShardPlan, Value};
 use std::alloc::{AllocError, Global};
 use std::process::Abort;
+use test_support::one_thread_map::OneThreadShard;
 
 const ANY: u64 = 0;
 

@@ -159,7 +159,8 @@ pub record EndFits (phase : ℕ) (log : List Entry) (v : Known) : Type 0 where
   pub closed : phase ≡ 3
   pub all : v.all ≡ log
 
-pub record Fits (key : KeyedPlan) (dealer dealt : ℕ) (seat : ℕ → ℕ) (holder phase : ℕ) (log : List Entry) (id : ℕ) (v : Known) : Type 0 where
+pub record Fits (key : KeyedPlan) (dealer dealt : ℕ) (seat : ℕ → ℕ) (holder phase : ℕ) (log : List Entry) (id : ℕ)
+    (v : Known) : Type 0 where
   pub planned : v.seated ≡ true → v.key ≡ key
   pub dealing : v.deals ≡ true → DealerFits dealer dealt id v
   pub acting : v.acts ≡ true → PassFits dealt seat log id v

@@ -1,4 +1,4 @@
--- What contracts see of a shard in its slot, and of what a shard's word is told once.
+-- What contracts see of a shard in its slot, and of what is set once for a shard's word.
 use Rattle.std.specs.Prelude.{ℕ, List}
 use Rattle.atomic_table.specs.Seated.{TableId}
 use Rattle.semantics.specs.declared.call.Entry.{Entry}

@@ -145,6 +145,7 @@ pub record IsMadeOf (shards : List JournaledShard) (order : TableId) (callers nu
   pub order_is : new.order ≡ order
 
 -- the row has all seats of the shard that it was made of
-pub record IsRowOf (table : ℕ → TableId) (key : ℕ → KeyedPlan) (shards : List NewShardView) (number : ℕ) (row : List (Badge Known)) : Type 0 where
+pub record IsRowOf (table : ℕ → TableId) (key : ℕ → KeyedPlan) (shards : List NewShardView) (number : ℕ)
+    (row : List (Badge Known)) : Type 0 where
   pub count : length row ≡ (new_at shards number).places
   pub fresh : AreNewSeats (table number) (key number) row

@@ -133,18 +133,21 @@ AreApart (one ∷ others) = AreOther (code_of one.part) others × AreApart other
 
 -- each account lies in its place
 abbrev pub ArePlaces : TableId → List Account → List (Badge (List Account)) → Type 0
-ArePlaces table accounts places = Each (λ (number : ℕ) (place : Badge (List Account)). IsPlaced table (account_at accounts number) place) 0 places
+ArePlaces table accounts places =
+    Each (λ (number : ℕ) (place : Badge (List Account)). IsPlaced table (account_at accounts number) place) 0 places
 
 abbrev pub AreShardPlaces : TableId → List (Badge (List Account)) → Type 0
 AreShardPlaces table places = Each (λ (number : ℕ) (place : Badge (List Account)). IsFresh table (OnShard number) place) 0 places
 
 abbrev pub AreCallerPlaces : TableId → List (Badge (List Account)) → Type 0
-AreCallerPlaces table places = Each (λ (number : ℕ) (place : Badge (List Account)). IsFresh table (ByCaller (caller_at number)) place) 0 places
+AreCallerPlaces table places =
+    Each (λ (number : ℕ) (place : Badge (List Account)). IsFresh table (ByCaller (caller_at number)) place) 0 places
 
 -- ---- the order's table
 
 -- it has this name, and knows the plans of so many shards
-pub record IsOrderOf {S P A : Type 0} (table : TableId) (plan : ℕ → ShardPlan) (count : ℕ) (order : Table S (List Account) OrderKey P A) : Type 0 where
+pub record IsOrderOf {S P A : Type 0} (table : TableId) (plan : ℕ → ShardPlan) (count : ℕ)
+    (order : Table S (List Account) OrderKey P A) : Type 0 where
   pub table_is : order.shared.table_id ≡ table
   pub some_word : 0 < table.words
   pub no_slot : table.slots ≡ 0

@@ -19,14 +19,16 @@ pub record SharedMaps : Type 0 where
 
 -- each word is that of its number
 abbrev pub AreLocks : {S V P A : Type 0} → (ℕ → TableId) → (ℕ → KeyedPlan) → List (Table S V KeyedPlan P A) → Type 0
-AreLocks {S} {V} {P} {A} table key locks = Each (λ (number : ℕ) (lock : Table S V KeyedPlan P A). IsLockOf (table number) (key number) lock) 0 locks
+AreLocks {S} {V} {P} {A} table key locks =
+    Each (λ (number : ℕ) (lock : Table S V KeyedPlan P A). IsLockOf (table number) (key number) lock) 0 locks
 
 -- so many shards, each as its plan has it
 pub record ArePlans (maps : List MapDef) (options : Options) (count : ℕ) (plan : ℕ → ShardPlan) : Type 0 where
   pub count_is : count ≡ length maps * options.shards
   pub each : (number : ℕ) → number < count → plan_at maps options number ≡ Some (plan number)
 
-pub record AreShared {S V P A : Type 0} (table : ℕ → TableId) (plan : ℕ → ShardPlan) (order : TableId) (count : ℕ) (locks : List (Table S V KeyedPlan P A))
+pub record AreShared {S V P A : Type 0} (table : ℕ → TableId) (plan : ℕ → ShardPlan) (order : TableId) (count : ℕ)
+    (locks : List (Table S V KeyedPlan P A))
     (maps : List MapDef) (options : Options) (journals : List (List Entry)) (room : ℕ) : Type 0 where
   pub locks_are : AreLocks table (keys plan order) locks
   pub sized : length locks ≡ count

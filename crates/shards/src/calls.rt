@@ -60,7 +60,8 @@ impl<B: Naming> Shards<B> {
         requires met { MayAsk (B.plan shard) shard pass.old (Lookup shard key.now) }
         ensures elsewhere { IsElsewhereSame shard pass.old pass.new }
         ensures own { KnowsItsOwn shard pass.new }
-        ensures served { IfOk result (λ found. IsAnswered (B.plan shard) shard pass.old pass.new (Lookup shard key.now) (found_reply shard found)) }
+        ensures served { IfOk result
+            (λ found. IsAnswered (B.plan shard) shard pass.old pass.new (Lookup shard key.now) (found_reply shard found)) }
         ensures refused { OnErr result (IsTurnedAway (B.plan shard) shard pass.old pass.new (Lookup shard key.now)) }
         ensures names_the_shard { IfErr result (λ fault. fault.shard ≡ shard) }
         ensures did { pass.new.deeds ≡ deed_by pass.old.who (Lookup shard key.now) (found_reply shard) result ∷ pass.old.deeds }
@@ -104,7 +105,8 @@ impl<B: Naming> Shards<B> {
         ensures served { OnOk result (IsAnswered (B.plan shard) shard pass.old pass.new (store_on shard range.now value) Done) }
         ensures refused { OnErr result (IsTurnedAway (B.plan shard) shard pass.old pass.new (store_on shard range.now value)) }
         ensures names_the_shard { IfErr result (λ fault. fault.shard ≡ shard) }
-        ensures did { pass.new.deeds ≡ deed_by pass.old.who (store_on shard range.now value) (λ (done : Unit {0}). Done) result ∷ pass.old.deeds }
+        ensures did { pass.new.deeds ≡
+            deed_by pass.old.who (store_on shard range.now value) (λ (done : Unit {0}). Done) result ∷ pass.old.deeds }
     {
         self.ask(rt, pass, shard, Stores { range, value })
     }
@@ -122,7 +124,8 @@ impl<B: Naming> Shards<B> {
         requires met { MayAsk (B.plan shard) shard pass.old (atomic_on shard range.now change.now) }
         ensures elsewhere { IsElsewhereSame shard pass.old pass.new }
         ensures own { KnowsItsOwn shard pass.new }
-        ensures served { IfOk result (λ value. IsAnswered (B.plan shard) shard pass.old pass.new (atomic_on shard range.now change.now) (Word value)) }
+        ensures served { IfOk result
+            (λ value. IsAnswered (B.plan shard) shard pass.old pass.new (atomic_on shard range.now change.now) (Word value)) }
         ensures refused { OnErr result (IsTurnedAway (B.plan shard) shard pass.old pass.new (atomic_on shard range.now change.now)) }
         ensures names_the_shard { IfErr result (λ fault. fault.shard ≡ shard) }
         ensures did { pass.new.deeds ≡ deed_by pass.old.who (atomic_on shard range.now change.now) Word result ∷ pass.old.deeds }
@@ -144,7 +147,8 @@ impl<B: Naming> Shards<B> {
         requires met { MayAsk (B.plan shard) shard pass.old (Update shard key.now value.now flags) }
         ensures elsewhere { IsElsewhereSame shard pass.old pass.new }
         ensures own { KnowsItsOwn shard pass.new }
-        ensures served { IfOk result (λ code. IsAnswered (B.plan shard) shard pass.old pass.new (Update shard key.now value.now flags) (Answer code)) }
+        ensures served { IfOk result
+            (λ code. IsAnswered (B.plan shard) shard pass.old pass.new (Update shard key.now value.now flags) (Answer code)) }
         ensures refused { OnErr result (IsTurnedAway (B.plan shard) shard pass.old pass.new (Update shard key.now value.now flags)) }
         ensures names_the_shard { IfErr result (λ fault. fault.shard ≡ shard) }
         ensures did { pass.new.deeds ≡ deed_by pass.old.who (Update shard key.now value.now flags) Answer result ∷ pass.old.deeds }

@@ -104,11 +104,13 @@ fn column(
     requires held { length held.items ≡ length rows.old.items }
     requires none { (number : ℕ) → number < length rows.old.items → (held_at held.items number).ids ≡ [] }
     requires waiting { (number : ℕ) → number < length rows.old.items → place < length (row_at rows.old.items number) }
-    requires new { (number : ℕ) → number < length rows.old.items → IsNewSeat (badge_at (row_at rows.old.items number) place) (held_at held.items number) }
+    requires new { (number : ℕ) → number < length rows.old.items →
+        IsNewSeat (badge_at (row_at rows.old.items number) place) (held_at held.items number) }
     ensures count { (length result.items ≡ length rows.old.items) × (length rows.new.items ≡ length rows.old.items) }
     ensures parts { (number : ℕ) → number < length rows.old.items →
         IsPartOfSeat (badge_at (row_at rows.old.items number) place) (part_at result.items number) }
-    ensures others { (number other : ℕ) → other ≢ place → badge_at (row_at rows.new.items number) other ≡ badge_at (row_at rows.old.items number) other }
+    ensures others { (number other : ℕ) → other ≢ place →
+        badge_at (row_at rows.new.items number) other ≡ badge_at (row_at rows.old.items number) other }
     ensures lengths { (number : ℕ) → length (row_at rows.new.items number) ≡ length (row_at rows.old.items number) }
 {
     'rows: for number in 0..rows.len() {

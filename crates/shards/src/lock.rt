@@ -15,14 +15,19 @@ use crate::asks::Ask;
 use crate::order_rule::{Order, OrderSeat};
 use crate::rule::{Comes, Gives, Lock, LockSeat, Marks, Takes};
 use semantics::{Call, Caller, JournalFull};
+use std::hint;
 use std::sync::Wait;
+
+/// How often a caller that finds the shard taken looks again before it sleeps, with longer pauses from look to look. Sleeping and being woken cost
+/// each side microseconds, where a call has the shard for some 50 ns.
+const LOOKS: u32 = 12;
 
 /// Which of the table's words it is: what is before it and behind it keeps all else off its cache lines.
 pub(crate) const WORD: usize = 16;
 
 // ---- the lock
 
-/// Takes the shard. Waits while another has it.
+/// Takes the shard. Waits while another has it: looks at its word for a while, and then sleeps.
 pub(crate) fn take(rt: &impl Wait, lock: &Lock, seat: &mut LockSeat)
     requires lock { IsLock lock.now }
     requires seat { IsSeatOf lock.now.shared.table_id seat.old }
@@ -32,14 +37,29 @@ pub(crate) fn take(rt: &impl Wait, lock: &Lock, seat: &mut LockSeat)
     ensures legal { IsLegalHistory seat.new.me.0.key.plan (view_of seat.new.me).seen }
 {
     let mut phase = 1;
+    let mut looks = 0;
     'turns: for _ in rt.forever() {
         if try_take(lock, seat, phase) {
             return;
         }
-        wait(rt, lock, seat);
-        phase = 2;
+        if looks < LOOKS {
+            pause(looks);
+            looks += 1;
+        } else {
+            wait(rt, lock, seat);
+            phase = 2;
+            looks = 0;
+        }
     }
     unreachable!()
+}
+
+/// Pauses before the next look: twice as long from look to look, and 64 times as long at most. Meanwhile who has the shard may give it back and
+/// take it again, with all of it in its own caches.
+fn pause(looks: u32) {
+    'pauses: for _ in 0..1u32 << looks.min(6) {
+        hint::spin_loop();
+    }
 }
 
 /// Takes the shard, if nobody has it.
@@ -182,13 +202,15 @@ pub(crate) fn add<C: Ask>(
     ensures same { seat.new.me.0 ≡ seat.old.me.0 }
     ensures next { IfOk result (λ answer. (view_of seat.new.me).seen ≡ entry_of who (C.asks ask seat.old.me.0.key.plan.number)
         (C.replies seat.old.me.0.key.plan.number answer) ∷ (view_of seat.old.me).seen) }
-    ensures full { OnErr result (IsJournalFull seat.old.me.0.key.plan (view_of seat.old.me).seen (C.asks ask seat.old.me.0.key.plan.number)) }
+    ensures full { OnErr result
+        (IsJournalFull seat.old.me.0.key.plan (view_of seat.old.me).seen (C.asks ask seat.old.me.0.key.plan.number)) }
     ensures unchanged { OnErr result (seat.new ≡ seat.old) }
     ensures legal { IsLegalHistory seat.old.me.0.key.plan (view_of seat.new.me).seen }
     ensures few { FewAreHeld seat.old.me.0.key.plan (view_of seat.new.me).seen }
     ensures names_the_shard { IfErr result (λ fault. fault.shard ≡ seat.old.me.0.key.plan.number) }
     ensures mine { IsSeatFor seat.old.me.0.key.order (ByCaller who) mine.new }
-    ensures did { deeds_in mine.new.me.0 ≡ deed_by who (C.asks ask seat.old.me.0.key.plan.number) (C.replies seat.old.me.0.key.plan.number) result ∷ deeds_in mine.old.me.0 }
+    ensures did { deeds_in mine.new.me.0 ≡
+        deed_by who (C.asks ask seat.old.me.0.key.plan.number) (C.replies seat.old.me.0.key.plan.number) result ∷ deeds_in mine.old.me.0 }
 {
     seat.slot_mut(&lock.shared, 0).add(order, mine, who, ask)
 }

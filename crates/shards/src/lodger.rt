@@ -85,7 +85,8 @@ impl Lodger {
         ensures few { FewAreHeld self.old.key.plan (reverse self.new.journal) }
         ensures names_the_shard { IfErr result (λ fault. fault.shard ≡ self.old.key.plan.number) }
         ensures mine { IsSeatFor self.old.key.order (ByCaller who) mine.new }
-        ensures did { deeds_in mine.new.me.0 ≡ deed_by who (C.asks ask self.old.key.plan.number) (C.replies self.old.key.plan.number) result ∷ deeds_in mine.old.me.0 }
+        ensures did { deeds_in mine.new.me.0 ≡
+            deed_by who (C.asks ask self.old.key.plan.number) (C.replies self.old.key.plan.number) result ∷ deeds_in mine.old.me.0 }
     {
         let answer = make(&mut self.shard, who, ask);
         note::<Brand, C>(

@@ -85,7 +85,8 @@ fn new_lock(
     requires fresh { IsFresh order.now.shared.table_id (OnShard shard.plan.number) place }
     ensures lock { IfOk result (λ new. IsLock new.0) }
     ensures key { IfOk result (λ new. new.0.shared.key ≡ keyed shard.plan order.now.shared.table_id) }
-    ensures seat { IfOk result (λ new. (new.1.table_id ≡ new.0.shared.table_id) × (new.1.me ≡ (dealer_of (keyed shard.plan order.now.shared.table_id) 0, []))) }
+    ensures seat { IfOk result
+        (λ new. (new.1.table_id ≡ new.0.shared.table_id) × (new.1.me ≡ (dealer_of (keyed shard.plan order.now.shared.table_id) 0, []))) }
 {
     let key = LockKey::new(*shard.plan(), visitor(order).into_badge());
     let mut slots = Vec::with_capacity(alloc, 1)?;

@@ -47,7 +47,12 @@ impl Model for Opened {
 
     ghost Value = { OpenedShards };
 
-    ghost view = { λ opened. record { maps = opened.maps.items; options = opened.options; shards = opened.shards.items; order = opened.order.shared.table_id } };
+    ghost view = { λ opened. record {
+      maps = opened.maps.items;
+      options = opened.options;
+      shards = opened.shards.items;
+      order = opened.order.shared.table_id;
+    } };
 
     ghost invariant = { λ opened. IsOpening opened.maps.items opened.options opened.order.shared.table_id opened.shards.items
         × IsOpenedOrder opened.options opened.shards.items opened.order opened.places.items };
@@ -163,7 +168,8 @@ fn parted<B: Naming>(
 ) -> Result<(Vec<Lock>, Vec<Waiting>, Vec<usize>), AllocError>
     requires { Each (IsNamedAt B.table B.plan B.order) 0 shards.items }
     ensures locks { IfOk result (λ all. (length all.0.items ≡ length shards.items) × AreLocks B.table (keys B.plan B.order) all.0.items) }
-    ensures rows { IfOk result (λ all. (length all.1.items ≡ length shards.items) × Each (IsRowOf B.table (keys B.plan B.order) shards.items) 0 all.1.items) }
+    ensures rows { IfOk result
+        (λ all. (length all.1.items ≡ length shards.items) × Each (IsRowOf B.table (keys B.plan B.order) shards.items) 0 all.1.items) }
     ensures rooms { IfOk result (λ all. (length all.2.items ≡ length shards.items) × Each (IsRoomOf B.plan) 0 all.2.items) }
 {
     let count = shards.len();

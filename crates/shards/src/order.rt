@@ -4,7 +4,8 @@ ghost use Rattle.std.specs.Prelude.{◌≡◌, ◌<◌, ◌∷◌, ◌≤◌, []
 ghost use Rattle.shards.specs.declared.deeds.Part.{Part};
 ghost use Rattle.shards.specs.declared.deeds.Part.TheVariants.{OnShard, ByCaller};
 ghost use Rattle.shards.specs.Deeds.{shard_of_deed, caller_of_deed, entries_made, IsMetBehind};
-ghost use Rattle.shards.specs.OrderRule.{IsPlaceOf, IsSeatFor, IsEnd, AreApart, ArePlaces, AreShardPlaces, AreCallerPlaces, deeds_at, deeds_in, plan_in, with_first};
+ghost use Rattle.shards.specs.OrderRule.{IsPlaceOf, IsSeatFor, IsEnd, AreApart, ArePlaces, AreShardPlaces, AreCallerPlaces};
+ghost use Rattle.shards.specs.OrderRule.{deeds_at, deeds_in, plan_in, with_first};
 
 use crate::asks::Ask;
 use crate::item::Item;
@@ -15,7 +16,7 @@ use shard_core::Shard;
 use std::alloc::{AllocError, Global};
 use std::mem;
 
-/// The words of the table: one that is read, behind two cache lines of nothing, so that nothing else is on its line.
+/// The words of the table, as many as fit into a cache line. The first is read, and none is ever written.
 const LINE: [u64; 8] = [0; 8];
 
 /// Adds a deed to the order: to the account of its shard, whose seat rests in a place, and to that of its caller. The shard, the caller, the call

@@ -94,7 +94,8 @@ impl<B: Naming> Pass<B> {
         requires order { KnowsShard (keyed (B.plan number) B.order) order.now }
         ensures elsewhere { IsElsewhereSame number self.old self.new }
         ensures own { KnowsItsOwn number self.new }
-        ensures served { IfOk result (λ answer. IsAnswered (B.plan number) number self.old self.new (C.asks ask number) (C.replies number answer)) }
+        ensures served { IfOk result
+            (λ answer. IsAnswered (B.plan number) number self.old self.new (C.asks ask number) (C.replies number answer)) }
         ensures refused { OnErr result (IsTurnedAway (B.plan number) number self.old self.new (C.asks ask number)) }
         ensures names_the_shard { IfErr result (λ fault. fault.shard ≡ number) }
         ensures did { self.new.deeds ≡ deed_by self.old.who (C.asks ask number) (C.replies number) result ∷ self.old.deeds }
@@ -118,7 +119,8 @@ impl<B: Naming> Pass<B> {
         requires order { KnowsShard (keyed (B.plan number) B.order) order.now }
         ensures elsewhere { IsElsewhereSame number self.old self.new }
         ensures own { KnowsItsOwn number self.new }
-        ensures served { IfOk result (λ answer. EnteredAndAnswered (B.plan number) number self.old self.new (C.asks ask number) (C.replies number answer)) }
+        ensures served { IfOk result
+            (λ answer. EnteredAndAnswered (B.plan number) number self.old self.new (C.asks ask number) (C.replies number answer)) }
         ensures refused { IfErr result (IsStopped (B.plan number) number self.old self.new (C.asks ask number)) }
         ensures did { self.new.deeds ≡ deeds_by_both number self.old.who (C.asks ask number) (C.replies number) result ++ self.old.deeds }
     {

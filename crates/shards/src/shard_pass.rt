@@ -114,7 +114,8 @@ impl ShardPass {
         ensures refused { OnErr result (IsRefused self.old.key.plan self.old.view self.new.view (C.asks ask self.old.key.plan.number)) }
         ensures names_the_shard { IfErr result (λ fault. fault.shard ≡ self.old.key.plan.number) }
         ensures mine { IsSeatFor self.old.key.order (ByCaller who) mine.new }
-        ensures did { deeds_in mine.new.me.0 ≡ deed_by who (C.asks ask self.old.key.plan.number) (C.replies self.old.key.plan.number) result ∷ deeds_in mine.old.me.0 }
+        ensures did { deeds_in mine.new.me.0 ≡
+            deed_by who (C.asks ask self.old.key.plan.number) (C.replies self.old.key.plan.number) result ∷ deeds_in mine.old.me.0 }
     {
         self.take(rt, lock);
         let answer = self.ask(lock, order, mine, who, ask);
@@ -136,17 +137,21 @@ impl ShardPass {
         requires who { self.old.who ≡ who }
         requires alone { self.old.has_it ≡ false }
         requires may_enter { Meets self.old.key.plan self.old.view.own who (Enter self.old.key.plan.number) }
-        requires met { Meets self.old.key.plan (enter_entry self.old.key.plan.number who ∷ self.old.view.own) who (C.asks ask self.old.key.plan.number) }
+        requires met { Meets self.old.key.plan (enter_entry self.old.key.plan.number who ∷ self.old.view.own) who
+            (C.asks ask self.old.key.plan.number) }
         requires order { KnowsShard self.old.key order.now }
         requires mine { IsSeatFor self.old.key.order (ByCaller who) mine.old }
         ensures same { IsSameShard self.old self.new }
         ensures alone { self.new.has_it ≡ false }
         ensures own { self.new.view.own ≡ own_entries who self.new.view.seen }
-        ensures served { IfOk result (λ answer. AreServed self.old.key.plan self.old.view self.new.view (enter_entry self.old.key.plan.number who)
+        ensures served { IfOk result
+            (λ answer. AreServed self.old.key.plan self.old.view self.new.view (enter_entry self.old.key.plan.number who)
             (entry_of who (C.asks ask self.old.key.plan.number) (C.replies self.old.key.plan.number answer))) }
-        ensures refused { IfErr result (IsStoppedAt self.old.key.plan self.old.key.plan.number self.old.view self.new.view who (C.asks ask self.old.key.plan.number)) }
+        ensures refused { IfErr result (IsStoppedAt self.old.key.plan self.old.key.plan.number self.old.view self.new.view who
+            (C.asks ask self.old.key.plan.number)) }
         ensures mine { IsSeatFor self.old.key.order (ByCaller who) mine.new }
-        ensures did { deeds_in mine.new.me.0 ≡ deeds_by_both self.old.key.plan.number who (C.asks ask self.old.key.plan.number) (C.replies self.old.key.plan.number) result ++ deeds_in mine.old.me.0 }
+        ensures did { deeds_in mine.new.me.0 ≡ deeds_by_both self.old.key.plan.number who (C.asks ask self.old.key.plan.number)
+            (C.replies self.old.key.plan.number) result ++ deeds_in mine.old.me.0 }
     {
         self.take(rt, lock);
         let answer = self.ask_inside(lock, order, mine, who, ask);
@@ -236,7 +241,8 @@ impl ShardPass {
         ensures unchanged { OnErr result (self.new ≡ self.old) }
         ensures names_the_shard { IfErr result (λ fault. fault.shard ≡ self.old.key.plan.number) }
         ensures mine { IsSeatFor self.old.key.order (ByCaller who) mine.new }
-        ensures did { deeds_in mine.new.me.0 ≡ deed_by who (C.asks ask self.old.key.plan.number) (C.replies self.old.key.plan.number) result ∷ deeds_in mine.old.me.0 }
+        ensures did { deeds_in mine.new.me.0 ≡
+            deed_by who (C.asks ask self.old.key.plan.number) (C.replies self.old.key.plan.number) result ∷ deeds_in mine.old.me.0 }
     {
         let answer = add(lock, &mut self.seat, order, mine, who, ask);
         change(&mut self.inside, ask.section(), &answer);
@@ -257,16 +263,20 @@ impl ShardPass {
         requires who { self.old.who ≡ who }
         requires taken { self.old.has_it ≡ true }
         requires may_enter { Meets self.old.key.plan self.old.view.own who (Enter self.old.key.plan.number) }
-        requires met { Meets self.old.key.plan (enter_entry self.old.key.plan.number who ∷ self.old.view.own) who (C.asks ask self.old.key.plan.number) }
+        requires met { Meets self.old.key.plan (enter_entry self.old.key.plan.number who ∷ self.old.view.own) who
+            (C.asks ask self.old.key.plan.number) }
         requires order { KnowsShard self.old.key order.now }
         requires mine { IsSeatFor self.old.key.order (ByCaller who) mine.old }
         ensures same { IsSameShard self.old self.new }
         ensures taken { self.new.has_it ≡ true }
-        ensures served { IfOk result (λ answer. AreServed self.old.key.plan self.old.view self.new.view (enter_entry self.old.key.plan.number who)
+        ensures served { IfOk result
+            (λ answer. AreServed self.old.key.plan self.old.view self.new.view (enter_entry self.old.key.plan.number who)
             (entry_of who (C.asks ask self.old.key.plan.number) (C.replies self.old.key.plan.number answer))) }
-        ensures refused { IfErr result (IsStoppedAt self.old.key.plan self.old.key.plan.number self.old.view self.new.view who (C.asks ask self.old.key.plan.number)) }
+        ensures refused { IfErr result (IsStoppedAt self.old.key.plan self.old.key.plan.number self.old.view self.new.view who
+            (C.asks ask self.old.key.plan.number)) }
         ensures mine { IsSeatFor self.old.key.order (ByCaller who) mine.new }
-        ensures did { deeds_in mine.new.me.0 ≡ deeds_by_both self.old.key.plan.number who (C.asks ask self.old.key.plan.number) (C.replies self.old.key.plan.number) result ++ deeds_in mine.old.me.0 }
+        ensures did { deeds_in mine.new.me.0 ≡ deeds_by_both self.old.key.plan.number who (C.asks ask self.old.key.plan.number)
+            (C.replies self.old.key.plan.number) result ++ deeds_in mine.old.me.0 }
     {
         match self.ask(lock, order, mine, who, Enters) {
             Ok(()) => match self.ask(lock, order, mine, who, ask) {
@@ -308,7 +318,8 @@ fn change<A>(inside: &mut bool, section: SectionChange, answer: &Result<A, Journ
 /// Notes what a call that was served makes of the cells that its worker holds.
 fn keep<C: Ask>(held: &mut HeldCells, ask: &C, answer: &Result<C::Answer, JournalFull>)
     requires { (number : ℕ) × IfOk answer.now (λ done. HasRoomFor (held_change (C.asks ask.now number) (C.replies number done)) held.old) }
-    ensures { (number : ℕ) → held.new ≡ held_when answer.now (λ done. held_change (C.asks ask.now number) (C.replies number done)) held.old }
+    ensures { (number : ℕ) →
+        held.new ≡ held_when answer.now (λ done. held_change (C.asks ask.now number) (C.replies number done)) held.old }
 {
     if let Ok(done) = answer {
         held.note(ask.held(done));

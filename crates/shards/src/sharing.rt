@@ -8,11 +8,12 @@
 //!
 //! A call is three steps (`lock`):
 //!
-//! - *Take*: read the word; if the phase is 0, a compare-exchange makes it 1. Where it is not, or another was faster: *wait*.
+//! - *Take*: read the word; if the phase is 0, a compare-exchange makes it 1. Where it is not, or another was faster: look again, or *wait*.
 //! - The call itself, on plain memory, without an atomic step.
 //! - *Give*: one swap writes four times the new length. If the word found had phase 2, one sleeper is woken.
 //!
-//! To *wait* is to *mark* the word, a compare-exchange from phase 1 to phase 2, and then to sleep until the word changes. Who has waited takes the lock with
+//! Whoever finds the phase other than 0 looks a dozen times more, with longer and longer pauses, since a call has the shard for some 50 ns; then it
+//! *waits*. To *wait* is to *mark* the word, a compare-exchange from phase 1 to phase 2, and then to sleep until the word changes. Who has waited takes the lock with
 //! phase 2 and not 1: others may still sleep, and its give wakes the next of them. So a wake is never lost: whoever sleeps has seen phase 2, and each give
 //! that finds phase 2 wakes one.
 //!
@@ -23,8 +24,8 @@
 //!
 //! A *seat* is a right to make steps on the word, together with what its owner knows (`Known`). It has no bytes. A caller's seat is in its pass: it
 //! knows all entries that the caller ever made in the shard, and a beginning of the history that the caller has seen. Between two calls other
-//! callers append entries, so a pass knows a beginning and not all of it. The rule of the word (`rule`, `specs/LockRule`) says what each step may change, and each
-//! step is proved to keep it (`proofs/Moves`):
+//! callers append entries, so a pass knows a beginning and not all of it. The rule of the word (`rule`, `specs/LockRule`) says what each
+//! step may change, and each step is proved to keep it (`proofs/Moves`):
 //!
 //! - `Deals`: a seat for a caller that has none. Each caller gets one, once (`dealer`), so that its own entries are all in one place.
 //! - `Takes`: the lock was free, so the shard was in its slot, and its journal was the whole history. The seat has the shard now, and learns that its own
@@ -145,7 +146,8 @@ impl<B: Naming> Shards<B> {
         requires met { MayAsk (B.plan shard) shard pass.old (C.asks ask shard) }
         ensures elsewhere { IsElsewhereSame shard pass.old pass.new }
         ensures own { KnowsItsOwn shard pass.new }
-        ensures served { IfOk result (λ answer. IsAnswered (B.plan shard) shard pass.old pass.new (C.asks ask shard) (C.replies shard answer)) }
+        ensures served { IfOk result
+            (λ answer. IsAnswered (B.plan shard) shard pass.old pass.new (C.asks ask shard) (C.replies shard answer)) }
         ensures refused { OnErr result (IsTurnedAway (B.plan shard) shard pass.old pass.new (C.asks ask shard)) }
         ensures names_the_shard { IfErr result (λ fault. fault.shard ≡ shard) }
         ensures did { pass.new.deeds ≡ deed_by pass.old.who (C.asks ask shard) (C.replies shard) result ∷ pass.old.deeds }
@@ -170,7 +172,8 @@ impl<B: Naming> Shards<B> {
         requires met { MayAskInside (B.plan shard) shard pass.old (C.asks ask shard) }
         ensures elsewhere { IsElsewhereSame shard pass.old pass.new }
         ensures own { KnowsItsOwn shard pass.new }
-        ensures served { IfOk result (λ answer. EnteredAndAnswered (B.plan shard) shard pass.old pass.new (C.asks ask shard) (C.replies shard answer)) }
+        ensures served { IfOk result
+            (λ answer. EnteredAndAnswered (B.plan shard) shard pass.old pass.new (C.asks ask shard) (C.replies shard answer)) }
         ensures refused { IfErr result (IsStopped (B.plan shard) shard pass.old pass.new (C.asks ask shard)) }
         ensures did { pass.new.deeds ≡ deeds_by_both shard pass.old.who (C.asks ask shard) (C.replies shard) result ++ pass.old.deeds }
     {
@@ -188,8 +191,10 @@ impl<B: Naming> Shards<B> {
         requires met { MayAsk (B.plan (shard_of_call call.now)) (shard_of_call call.now) pass.old call.now }
         ensures elsewhere { IsElsewhereSame (shard_of_call call.now) pass.old pass.new }
         ensures own { KnowsItsOwn (shard_of_call call.now) pass.new }
-        ensures served { IfOk result (λ reply. IsAnswered (B.plan (shard_of_call call.now)) (shard_of_call call.now) pass.old pass.new call.now reply) }
-        ensures refused { OnErr result (IsTurnedAway (B.plan (shard_of_call call.now)) (shard_of_call call.now) pass.old pass.new call.now) }
+        ensures served { IfOk result
+            (λ reply. IsAnswered (B.plan (shard_of_call call.now)) (shard_of_call call.now) pass.old pass.new call.now reply) }
+        ensures refused { OnErr result
+            (IsTurnedAway (B.plan (shard_of_call call.now)) (shard_of_call call.now) pass.old pass.new call.now) }
         ensures names_the_shard { IfErr result (λ fault. fault.shard ≡ shard_of_call call.now) }
         ensures did { pass.new.deeds ≡ deed_by pass.old.who call.now (λ reply. reply) result ∷ pass.old.deeds }
     {
@@ -201,7 +206,8 @@ impl<B: Naming> Shards<B> {
     pub fn may_call(&self, rt: &impl Wait, pass: &mut Pass<B>, call: &Call) -> bool
         requires shard { shard_of_call call.now < B.count }
         ensures elsewhere { IsElsewhereSame (shard_of_call call.now) pass.old pass.new }
-        ensures looked { HasLooked (B.plan (shard_of_call call.now)) (view_at pass.old (shard_of_call call.now)) (view_at pass.new (shard_of_call call.now)) }
+        ensures looked { HasLooked (B.plan (shard_of_call call.now)) (view_at pass.old (shard_of_call call.now))
+            (view_at pass.new (shard_of_call call.now)) }
         ensures meets { result ≡ meets (B.plan (shard_of_call call.now)) (own_at pass.new (shard_of_call call.now)) pass.new.who call.now }
         ensures did { pass.new.deeds ≡ pass.old.deeds }
     {

@@ -89,14 +89,15 @@ pub(crate) const LEAST_PACKET: i32 = 28;
 pub(crate) const MOST_PACKET: i32 = 2034;
 /// The bytes of an Ethernet header.
 pub(crate) const ETHERNET_HEADER: i32 = 14;
-/// All bits of flags and offset but "don't fragment", as a number of the frame's own byte order.
+/// "More fragments" and the offset: all bits of flags and offset except the reserved one and "don't fragment", as a number whose low byte is
+/// the frame's first.
 pub(crate) const FRAGMENT_BITS: i32 = 65343;
 /// The protocol TCP.
 pub(crate) const TCP: i32 = 6;
 /// The protocol UDP.
 pub(crate) const UDP: i32 = 17;
 /// The most bytes of a packet that goes through the tunnel.
-pub(crate) const MOST_TUNNELLED: i32 = 1480;
+pub(crate) const MOST_TUNNELLED: i32 = ipip::MOST_TUNNELLED as i32;
 /// The bytes of the outer header.
 pub(crate) const OUTER_HEADER: i32 = 20;
 /// The bytes of an Ethernet header and the outer header.

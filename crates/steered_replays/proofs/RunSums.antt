@@ -13,7 +13,8 @@ use Rattle.wire.specs.declared.records.Sent.{Sent}
 use Rattle.replay.specs.declared.account.Counts.{Counts}
 use Rattle.replay.specs.declared.runner.Ran.{Ran}
 use Rattle.replay.specs.declared.runner.RunEnd.{RunEnd}
-use Rattle.replay.specs.declared.runner.RunEnd.TheVariants.{Stopped, Aborted, Dropped, Passed, Sent as IsSent}
+use Rattle.replay.specs.declared.runner.RunEnd.TheVariants.{Stopped, Exited}
+use Rattle.replay.specs.declared.runner.FrameFate.TheVariants.{Aborted, Dropped, Passed, Sent as IsSent}
 use Rattle.replay.specs.Accounts.{no_counts, counted, counts_of, fate_of, runs_at, end_at}
 use Rattle.replay.specs.RunJobs.{records_of}
 use Rattle.replay.specs.RunsOverShards.{IsTold}
@@ -24,10 +25,10 @@ use Rattle.steered_replays.proofs.CallerSums.{sum_below, same_sums, more_for, on
 
 abbrev pub end_number : RunEnd → ℕ
 end_number Stopped = 4
-end_number Aborted = 0
-end_number Dropped = 1
-end_number Passed = 2
-end_number (IsSent sent) = 3
+end_number (Exited steps Aborted) = 0
+end_number (Exited steps Dropped) = 1
+end_number (Exited steps Passed) = 2
+end_number (Exited steps (IsSent sent)) = 3
 
 abbrev pub is_end : ℕ → RunEnd → ℕ
 is_end kind end = if end_number end == kind then 1 else 0
@@ -44,10 +45,10 @@ ends_in kind (ran ∷ later) = is_end kind ran.end + ends_in kind later
 pub told_number : (captured : Sent) (verdict : Verdict) (frame : FrameView) (end : RunEnd) → IsTold captured verdict frame end →
     verdict_number verdict ≡ end_number end
 told_number captured verdict frame Stopped told = absurd told
-told_number captured verdict frame Aborted told = ap verdict_number told
-told_number captured verdict frame Dropped told = ap verdict_number told
-told_number captured verdict frame Passed told = ap verdict_number told
-told_number captured verdict frame (IsSent sent) told = ap verdict_number told.0
+told_number captured verdict frame (Exited steps Aborted) told = ap verdict_number told
+told_number captured verdict frame (Exited steps Dropped) told = ap verdict_number told
+told_number captured verdict frame (Exited steps Passed) told = ap verdict_number told
+told_number captured verdict frame (Exited steps (IsSent sent)) told = ap verdict_number told.0
 
 -- ---- the first of a worker's runs
 
@@ -166,10 +167,10 @@ module _ (kind : ℕ) (tell : Counts → ℕ) (tells : (counts : Counts) (fate :
 stopped_tells : (counts : Counts) (fate : Option RunEnd) → (counted counts fate).stopped ≡ counts.stopped + is_fate 4 fate
 stopped_tells counts None = omega arith
 stopped_tells counts (Some Stopped) = refl
-stopped_tells counts (Some Aborted) = omega arith
-stopped_tells counts (Some Dropped) = omega arith
-stopped_tells counts (Some Passed) = omega arith
-stopped_tells counts (Some (IsSent sent)) = omega arith
+stopped_tells counts (Some (Exited steps Aborted)) = omega arith
+stopped_tells counts (Some (Exited steps Dropped)) = omega arith
+stopped_tells counts (Some (Exited steps Passed)) = omega arith
+stopped_tells counts (Some (Exited steps (IsSent sent))) = omega arith
 
 abbrev pub count_of : Verdict → Counts → ℕ
 count_of verdicts.Aborted counts = counts.aborted
@@ -181,28 +182,28 @@ verdict_tells : (verdict : Verdict) (counts : Counts) (fate : Option RunEnd) →
     count_of verdict (counted counts fate) ≡ count_of verdict counts + is_fate (verdict_number verdict) fate
 verdict_tells verdicts.Aborted counts None = omega arith
 verdict_tells verdicts.Aborted counts (Some Stopped) = omega arith
-verdict_tells verdicts.Aborted counts (Some Aborted) = refl
-verdict_tells verdicts.Aborted counts (Some Dropped) = omega arith
-verdict_tells verdicts.Aborted counts (Some Passed) = omega arith
-verdict_tells verdicts.Aborted counts (Some (IsSent sent)) = omega arith
+verdict_tells verdicts.Aborted counts (Some (Exited steps Aborted)) = refl
+verdict_tells verdicts.Aborted counts (Some (Exited steps Dropped)) = omega arith
+verdict_tells verdicts.Aborted counts (Some (Exited steps Passed)) = omega arith
+verdict_tells verdicts.Aborted counts (Some (Exited steps (IsSent sent))) = omega arith
 verdict_tells verdicts.Drop counts None = omega arith
 verdict_tells verdicts.Drop counts (Some Stopped) = omega arith
-verdict_tells verdicts.Drop counts (Some Aborted) = omega arith
-verdict_tells verdicts.Drop counts (Some Dropped) = refl
-verdict_tells verdicts.Drop counts (Some Passed) = omega arith
-verdict_tells verdicts.Drop counts (Some (IsSent sent)) = omega arith
+verdict_tells verdicts.Drop counts (Some (Exited steps Aborted)) = omega arith
+verdict_tells verdicts.Drop counts (Some (Exited steps Dropped)) = refl
+verdict_tells verdicts.Drop counts (Some (Exited steps Passed)) = omega arith
+verdict_tells verdicts.Drop counts (Some (Exited steps (IsSent sent))) = omega arith
 verdict_tells verdicts.Pass counts None = omega arith
 verdict_tells verdicts.Pass counts (Some Stopped) = omega arith
-verdict_tells verdicts.Pass counts (Some Aborted) = omega arith
-verdict_tells verdicts.Pass counts (Some Dropped) = omega arith
-verdict_tells verdicts.Pass counts (Some Passed) = refl
-verdict_tells verdicts.Pass counts (Some (IsSent sent)) = omega arith
+verdict_tells verdicts.Pass counts (Some (Exited steps Aborted)) = omega arith
+verdict_tells verdicts.Pass counts (Some (Exited steps Dropped)) = omega arith
+verdict_tells verdicts.Pass counts (Some (Exited steps Passed)) = refl
+verdict_tells verdicts.Pass counts (Some (Exited steps (IsSent sent))) = omega arith
 verdict_tells verdicts.Tx counts None = omega arith
 verdict_tells verdicts.Tx counts (Some Stopped) = omega arith
-verdict_tells verdicts.Tx counts (Some Aborted) = omega arith
-verdict_tells verdicts.Tx counts (Some Dropped) = omega arith
-verdict_tells verdicts.Tx counts (Some Passed) = omega arith
-verdict_tells verdicts.Tx counts (Some (IsSent sent)) = refl
+verdict_tells verdicts.Tx counts (Some (Exited steps Aborted)) = omega arith
+verdict_tells verdicts.Tx counts (Some (Exited steps Dropped)) = omega arith
+verdict_tells verdicts.Tx counts (Some (Exited steps Passed)) = omega arith
+verdict_tells verdicts.Tx counts (Some (Exited steps (IsSent sent))) = refl
 
 no_verdicts : (verdict : Verdict) → count_of verdict no_counts ≡ 0
 no_verdicts verdicts.Aborted = refl

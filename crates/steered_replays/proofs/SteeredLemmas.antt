@@ -28,7 +28,7 @@ use Rattle.machine.specs.declared.exit.Stop.{Stop}
 use Rattle.machine.specs.declared.exit.Stop.TheVariants.{JournalFull}
 use Rattle.replay.specs.declared.runner.Ran.{Ran}
 use Rattle.replay.specs.declared.runner.RunEnd.{RunEnd}
-use Rattle.replay.specs.declared.runner.RunEnd.TheVariants.{Stopped, Aborted, Dropped, Passed, Sent as IsSent}
+use Rattle.replay.specs.declared.runner.RunEnd.TheVariants.{Stopped, Exited}
 use Rattle.replay.specs.Accounted.{IsWorkOf}
 use Rattle.replay.specs.Accounts.{runs_at, end_at, fate_of}
 use Rattle.replay.specs.RunJobs.{records_of}
@@ -201,10 +201,7 @@ module _ (steers : ShippedSteers) (results : ExitedRunsAreResults) (size shards 
   run_steered : (captured : Sent) → IsInputFrame captured.bytes.items → (before : PassView) (end : RunEnd) (after : PassView) →
       IsRunIn plan count program worker journals captured before end after → IsSteeredRun plan count ruled worker captured before end after
   run_steered captured input before Stopped after run = stop_steered captured input before after run.frame run.stop run.run
-  run_steered captured input before Aborted after run = exit_steered captured input before Aborted after run
-  run_steered captured input before Dropped after run = exit_steered captured input before Dropped after run
-  run_steered captured input before Passed after run = exit_steered captured input before Passed after run
-  run_steered captured input before (IsSent sent) after run = exit_steered captured input before (IsSent sent) after run
+  run_steered captured input before (Exited steps fate) after run = exit_steered captured input before (Exited steps fate) after run
 
   pub chain_steered : (records : List Sent) (before : PassView) (runs : List Ran) (after : PassView) →
       AllByRecursion (λ (ran : Ran). IsInputAt records ran.number) runs →

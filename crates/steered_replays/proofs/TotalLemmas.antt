@@ -35,7 +35,7 @@ use Rattle.replay.specs.declared.account.Counts.{Counts}
 use Rattle.replay.specs.declared.outcome.Outcome.{Outcome}
 use Rattle.replay.specs.declared.runner.Ran.{Ran}
 use Rattle.replay.specs.declared.runner.RunEnd.{RunEnd}
-use Rattle.replay.specs.declared.runner.RunEnd.TheVariants.{Stopped, Aborted, Dropped, Passed, Sent as IsSent}
+use Rattle.replay.specs.declared.runner.RunEnd.TheVariants.{Stopped, Exited}
 use Rattle.replay.specs.Accounts.{runs_at}
 use Rattle.replay.specs.Parts.{rounds_of}
 use Rattle.replay.specs.RunJobs.{records_of}
@@ -155,10 +155,7 @@ module _ (size : ℕ) (options : Options) (shards : IsShards options.shards) whe
 exit_of : (plan : ℕ → ShardPlan) (count : ℕ) (setting : Setting) (worker : ℕ) (captured : Sent) (before : PassView) (end : RunEnd) (after : PassView) →
     is_end 4 end ≡ 0 → IsSteeredRun plan count setting worker captured before end after → IsSteeredExit setting count worker captured before end after
 exit_of plan count setting worker captured before Stopped after ended run = absurd cc
-exit_of plan count setting worker captured before Aborted after ended run = run
-exit_of plan count setting worker captured before Dropped after ended run = run
-exit_of plan count setting worker captured before Passed after ended run = run
-exit_of plan count setting worker captured before (IsSent sent) after ended run = run
+exit_of plan count setting worker captured before (Exited steps fate) after ended run = run
 
 abbrev HasEnded : Ran → Type 0
 HasEnded ran = is_end 4 ran.end ≡ 0
@@ -326,7 +323,7 @@ module _ (exact : CountsAreExact) (finds : LookupsOfArraysFind) (size : ℕ) (sc
     reclaimer_none : own_entries Reclaimer (history number) ≡ []
     reclaimer_none =
         rounds_none plan.definition.kind array plan number (rounds_of (length records)) (own_entries Reclaimer (history number)) (history number)
-        (replayed.accounted.rounds number within)
+        (replayed.accounted.rounds.each number within)
 
     all_counting : AreCounting (history number)
     all_counting =

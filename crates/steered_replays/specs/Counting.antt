@@ -1,5 +1,5 @@
--- A shard of counts: an array of which nothing was asked but to find counts, to read them, and to add one to one of them. What its cells
--- then hold is how often each was raised.
+-- A shard of counts: an array whose only calls were to find counts, to read them, and to add one to one of them. What its cells then hold
+-- is how often each was raised.
 use Rattle.std.specs.Prelude.{◌≡◌, ◌⊎◌, ℕ, ◌+◌, ◌/◌, ◌<◌, ◌^◌, ◌==◌, List, [], ◌∷◌, if◌then◌else◌}
 use Rattle.std.specs.List.{AllByRecursion}
 use Rattle.ebpf_decode.specs.declared.map.MapKind.TheVariants.{Array}

@@ -135,7 +135,8 @@ pub record StandsNoted (plan : ShardPlan) (history : List Entry) (worker : ℕ) 
 
 -- In the legal history of a shard of backends these two exchanges of the worker stand, and when the second is made the record of this
 -- number says that the backend is up.
-pub record StandsUp (plan : ShardPlan) (history : List Entry) (worker number : ℕ) (backend : BackendRecord) (lookup load : Exchange) : Type 0
+pub record StandsUp (plan : ShardPlan) (history : List Entry) (worker number : ℕ) (backend : BackendRecord)
+    (lookup load : Exchange) : Type 0
   where
     pub kind_is : plan.definition.kind ≡ Array
     pub legal : IsLegalHistory plan history

@@ -1,4 +1,4 @@
--- One run of a flow that stands noted, so that the law on such runs is not empty. A controller set backend 2 up and noted it for the
+-- One run of a flow that is noted, so that the law on such runs is not empty. A controller set backend 2 up and noted it for the
 -- flow, and then changed the note of another flow; the run's frame goes to backend 2.
 use Rattle.std.specs.Prelude.{◌≡◌, ℕ, pos, List, [], ◌∷◌, ◌++◌, replicate}
 use Rattle.wire.specs.FlowForm.{flow_bytes_of}

@@ -1,2 +1,3 @@
 -- Lemmas for the answers of this crate.
 pub mod MoveLemmas
+pub mod TableLemmas

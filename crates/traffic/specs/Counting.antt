@@ -43,7 +43,8 @@ address_at at bytes = be_word_at at bytes * 65536 + be_word_at (at + 2) bytes
 -- the address to which a frame's tunnel leads, as one number: that of its outer header, if it holds IP in IP (RFC 2003), protocol 4
 abbrev pub target_of : List ℕ → Option ℕ
 target_of frame =
-    if nat_lt (length frame) 34 || not (be_word_at 12 frame == 0x0800) || not (slice_index frame 14 == 0x45) || not (slice_index frame 23 == 4)
+    if nat_lt (length frame) 34 || not (be_word_at 12 frame == 0x0800) || not (slice_index frame 14 == 0x45)
+    || not (slice_index frame 23 == 4)
     then None
     else Some (address_at 30 frame)
 

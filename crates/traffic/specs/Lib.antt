@@ -3,3 +3,9 @@ pub mod Kinds
 pub mod Counting
 pub mod Moving
 pub mod SummaryText
+pub mod RecordLines
+pub mod Holders
+pub mod WrittenMaps
+pub mod MapLaws
+pub mod Shares
+pub mod TableText

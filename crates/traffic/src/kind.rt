@@ -6,6 +6,7 @@ ghost use Rattle.wire.specs.PlainIpv4.{IsPlainIpv4};
 ghost use Rattle.traffic.specs.Counting.{how_many, place_of};
 ghost use Rattle.traffic.specs.Kinds.{flow_kind, has_flow, ipv4_kind, kind_of, packet_kind};
 
+use ipip::MOST_TUNNELLED;
 use wire::{MIN_FRAME, Sent, word_at};
 
 /// What a frame is to a balancer of TCP and UDP over IPv4 (RFC 791, section 3.1). A frame that fits several kinds is of the first one.
@@ -140,7 +141,7 @@ fn flow_kind(frame: &[u8]) -> FrameKind
 {
     if frame[22] == 0 {
         FrameKind::Expired
-    } else if word_at(frame, 16) > 1480 {
+    } else if word_at(frame, 16) > MOST_TUNNELLED {
         FrameKind::Large
     } else {
         FrameKind::Flow

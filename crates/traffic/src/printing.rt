@@ -1,8 +1,8 @@
 //! The summary of a replay's traffic, for people.
 
 ghost use Rattle.std.specs.Prelude.{◌≡◌, ◌++◌, ◌<◌, ◌^◌, IfOk, OnOk, string_bytes};
-ghost use Rattle.traffic.specs.SummaryText.{address_text, count_line, frames_word, IsSummary, IsSummaryOfSent, line_about, line_in, line_of, lines_in, phrase_of};
-ghost use Rattle.traffic.specs.SummaryText.{target_phrase, targets_text};
+ghost use Rattle.traffic.specs.SummaryText.{address_text, count_line, frames_word, IsSummary, IsSummaryOfSent, line_about, line_in, line_of};
+ghost use Rattle.traffic.specs.SummaryText.{lines_in, phrase_of, target_phrase, targets_text};
 
 use crate::kind::FrameKind;
 use crate::moves::moves_in;
@@ -103,7 +103,7 @@ fn put_kinds(
 }
 
 /// The text of an address.
-fn address_text(alloc: Global, address: u32) -> Result<String, AllocError>
+pub(crate) fn address_text(alloc: Global, address: u32) -> Result<String, AllocError>
     ensures { IfOk result (λ text. string_bytes text ≡ address_text address) }
 {
     let first = address / 16_777_216;

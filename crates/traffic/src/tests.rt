@@ -1,6 +1,10 @@
-//! Kinds of frames, and the summary of a capture of them and of what was sent.
+//! Kinds of frames, the summary of a capture of them and of what was sent, and lookup tables.
 
-use crate::{FrameKind, summary};
+use crate::{
+    Backends, FrameKind, LineVerdict, RecordLine, ReportForm, case_word, least_moves, moved_slots,
+    share_of, summary, tables_of,
+};
+use control::parse_script;
 use std::alloc::{AllocError, Global};
 use std::process::Abort;
 use wire::Sent;
@@ -94,8 +98,12 @@ fn tunnelled(alloc: Global, port: u8, backend: u8) -> Result<Sent, AllocError> {
 }
 
 /// What the summary is of a capture of three datagrams, one at the limit and one above it, and of six sent frames of three flows.
-const SUMMARY: &str =
-    "1 frame of TCP or UDP in packets of more than 1480 bytes\n2 frames of TCP or UDP that fit into a tunnel\n4 frames sent to 192.0.2.1\n1 frame sent to 192.0.2.2\n2 frames sent to another address than the frame of their flow before\n";
+const SUMMARY: &str = "1 frame of TCP or UDP in packets of more than 1480 bytes
+2 frames of TCP or UDP that fit into a tunnel
+4 frames sent to 192.0.2.1
+1 frame sent to 192.0.2.2
+2 frames sent to another address than the frame of their flow before
+";
 
 #[test]
 fn a_summary_counts_kinds_addresses_and_moves(rt: HostRuntime) {
@@ -121,4 +129,166 @@ fn a_summary_counts_kinds_addresses_and_moves(rt: HostRuntime) {
 fn nothing_has_no_summary(rt: HostRuntime) {
     let text = summary(rt.alloc(), &[], &[]).expect(&rt, "a summary");
     assert!(&rt; text.is_empty(), "{text}");
+}
+
+/// The fourth record: at 5.000012 s, by worker 2, sent in 131 steps to the backend of number 7 at 192.0.2.1.
+const SENT_LINE: RecordLine = RecordLine {
+    number: 4,
+    micros: 5_000_012,
+    worker: Some(2),
+    verdict: LineVerdict::Tx,
+    steps: Some(131),
+    case_of: "sent",
+    backend: Some(7),
+    address: Some(0xc000_0201),
+};
+
+/// The first record, of which nothing more is known than that it is short.
+const SHORT_LINE: RecordLine = RecordLine {
+    number: 1,
+    micros: 999_999,
+    worker: None,
+    verdict: LineVerdict::Short,
+    steps: None,
+    case_of: "",
+    backend: None,
+    address: None,
+};
+
+/// The form, the line and its text.
+type Line = (ReportForm, RecordLine, &'static str);
+
+const LINES: [Line; 4] = [
+    (
+        ReportForm::Csv,
+        SENT_LINE,
+        "4,5.000012,2,TX,131,sent,7,192.0.2.1\n",
+    ),
+    (ReportForm::Csv, SHORT_LINE, "1,0.999999,,SHORT,,,,\n"),
+    (
+        ReportForm::Json,
+        SENT_LINE,
+        "{\"number\":4,\"moment\":\"5.000012\",\"worker\":2,\"verdict\":\"TX\",\"steps\":131,\"case\":\"sent\",\"backend\":7,\"address\":\"192.0.2.1\"}\n",
+    ),
+    (
+        ReportForm::Json,
+        SHORT_LINE,
+        "{\"number\":1,\"moment\":\"0.999999\",\"worker\":null,\"verdict\":\"SHORT\",\"steps\":null,\"case\":null,\"backend\":null,\"address\":null}\n",
+    ),
+];
+
+/// Compares the text of a line.
+fn compare_line(rt: &impl Abort, alloc: Global, line: &Line) {
+    let text = line.0.line(alloc, &line.1).expect(rt, "a line");
+    assert!(rt; text.as_str() == line.2, "{text}");
+}
+
+#[test]
+fn lines_say_what_is_known(rt: HostRuntime) {
+    for line in &LINES {
+        compare_line(&rt, rt.alloc(), line);
+    }
+}
+
+/// A kind, a verdict, and the case.
+type Case = (FrameKind, LineVerdict, &'static str);
+
+#[rattlefmt::skip]
+const CASES: [Case; 12] = [
+    (FrameKind::Short,   LineVerdict::Short,   "short"),
+    (FrameKind::Arp,     LineVerdict::Pass,    "arp"),
+    (FrameKind::Icmp,    LineVerdict::Pass,    "icmp"),
+    (FrameKind::Expired, LineVerdict::Pass,    "no-service"),
+    (FrameKind::Large,   LineVerdict::Pass,    "no-service"),
+    (FrameKind::Flow,    LineVerdict::Pass,    "no-service"),
+    (FrameKind::Expired, LineVerdict::Drop,    "expired"),
+    (FrameKind::Large,   LineVerdict::Drop,    "large"),
+    (FrameKind::Flow,    LineVerdict::Drop,    "no-backend"),
+    (FrameKind::Flow,    LineVerdict::Tx,      "sent"),
+    (FrameKind::Flow,    LineVerdict::Stopped, ""),
+    (FrameKind::Flow,    LineVerdict::Aborted, ""),
+];
+
+/// Compares a case.
+fn compare_case(rt: &impl Abort, case: &Case) {
+    let word = case_word(case.0, case.1);
+    assert!(rt; word == case.2, "{word}");
+}
+
+#[test]
+fn cases_follow_from_kind_and_verdict(rt: HostRuntime) {
+    for case in &CASES {
+        compare_case(&rt, case);
+    }
+}
+
+#[test]
+fn a_backend_has_a_number_where_only_one_has_its_address(rt: HostRuntime) {
+    let mut table = Backends::none(rt.alloc());
+    for (number, address) in [(3, 10), (4, 11), (3, 10), (5, 11), (5, 12), (6, 11)] {
+        table.name(number, address).expect(&rt, "room");
+    }
+    assert!(&rt; table.number_of(10) == Some(3), "named twice");
+    assert!(&rt; table.number_of(11).is_none(), "three numbers");
+    assert!(&rt;
+        table.number_of(12) == Some(5),
+        "a number with two addresses"
+    );
+    assert!(&rt; table.number_of(13).is_none(), "not named");
+}
+
+/// Three backends come up and go down; one number comes up twice.
+const SCRIPT: &str =
+    "0 vip 203.0.113.1 80 udp\n0 up 0 192.0.2.1\n0 up 1 192.0.2.2\n5 up 1 192.0.2.3\n9 up 2 192.0.2.3\n20 down 0\n20 down 1\n30 down 2\n";
+
+/// Its tables of seven slots, from a population that was made apart from this code.
+const TABLES: &str = "\
+command 1 frame 0 moved 0 least 0
+command 2 frame 0 moved 7 least 7
+backend 0 address 192.0.2.1 slots 7 percent 100.00
+command 3 frame 0 moved 3 least 3
+backend 0 address 192.0.2.1 slots 4 percent 57.14
+backend 1 address 192.0.2.2 slots 3 percent 42.86
+command 4 refused 92
+command 5 frame 9 moved 3 least 2
+backend 0 address 192.0.2.1 slots 3 percent 42.86
+backend 1 address 192.0.2.2 slots 2 percent 28.57
+backend 2 address 192.0.2.3 slots 2 percent 28.57
+command 6 frame 20 moved 3 least 3
+backend 1 address 192.0.2.2 slots 4 percent 57.14
+backend 2 address 192.0.2.3 slots 3 percent 42.86
+command 7 frame 20 moved 4 least 4
+backend 2 address 192.0.2.3 slots 7 percent 100.00
+command 8 frame 30 moved 7 least 7
+";
+
+#[test]
+fn tables_have_shares_and_moves(rt: HostRuntime) {
+    let alloc = rt.alloc();
+    let script = parse_script(alloc, SCRIPT.as_bytes()).expect(&rt, "a script");
+    let tables = tables_of(alloc, &script, 7).expect(&rt, "tables");
+    let text = tables.text.as_str();
+    assert!(&rt; text == TABLES, "{text}");
+    assert!(&rt; tables.is_refused, "refused");
+    assert!(&rt; tables.refused.len() == 1, "one");
+}
+
+/// What a row shows; two tables; how many slots change hands, and the fewest that have to.
+#[rattlefmt::skip]
+const MOVES: [(&str, [u32; 4], [u32; 4], u32, u128); 5] = [
+    ("one table",                   [1, 2, 1, 2], [1, 2, 1, 2], 0, 0),
+    ("nobody before",               [0, 0, 0, 0], [1, 2, 1, 2], 4, 4),
+    ("nobody afterwards",           [1, 2, 1, 2], [0, 0, 0, 0], 4, 4),
+    ("the same shares elsewhere",   [1, 1, 2, 2], [2, 2, 1, 1], 4, 0),
+    ("a third backend, one moved",  [1, 1, 2, 2], [2, 1, 1, 3], 3, 1),
+];
+
+#[test]
+fn least_moves_are_what_shares_gain(rt: HostRuntime) {
+    for row in &MOVES {
+        let (name, old, new, moved, least) = row;
+        assert!(&rt; moved_slots(old, new, 4) == *moved, "{name}");
+        assert!(&rt; least_moves(old, new) == *least, "{name}");
+    }
+    assert!(&rt; share_of(2, &[2, 1, 2, 0]) == 2, "share");
 }

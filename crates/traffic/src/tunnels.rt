@@ -68,7 +68,8 @@ impl Targets {
     /// Counts a frame, if it goes through a tunnel.
     fn note(&mut self, frame: &[u8]) -> Result<(), AllocError>
         requires room { (address : ℕ) → count_to self.old address + 1 < 2 ^ 64 }
-        ensures { OnOk result ((address : ℕ) → count_to self.new address ≡ count_to self.old address + one_if (is_target address (target_of frame.now))) }
+        ensures { OnOk result
+            ((address : ℕ) → count_to self.new address ≡ count_to self.old address + one_if (is_target address (target_of frame.now))) }
     {
         match target_of(frame) {
             Some(address) => self.add(address),

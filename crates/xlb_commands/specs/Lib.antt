@@ -2,6 +2,7 @@
 pub mod Files
 pub mod Clashes
 pub mod Replays
+pub mod Tables
 pub mod Results
 pub mod FaultLines
 pub mod Refused

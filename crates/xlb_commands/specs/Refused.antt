@@ -61,13 +61,13 @@ use Rattle.command_line.specs.declared.commands.RunFiles.{RunFiles}
 use Rattle.command_line.specs.declared.commands.ReplayFiles.{ReplayFiles}
 use Rattle.command_line.specs.Reading.{text_of}
 use Rattle.command_line.specs.declared.commands.Settings.{Settings}
-use Rattle.command_line.specs.declared.commands.Settings.TheVariants.{Check, Run, Disasm, Audit, Explain, Asm, Shipped, Replay}
+use Rattle.command_line.specs.declared.commands.Settings.TheVariants.{Check, Run, Disasm, Audit, Explain, Asm, Shipped, Replay, Table}
 use Rattle.xlb_commands.specs.declared.fault.Fault.{Fault}
 use Rattle.xlb_commands.specs.declared.fault.Fault.TheVariants as faults
 use Rattle.xlb_commands.specs.Files.{FileBytes, AreKept, AreOthersKept, IsImageFile}
 use Rattle.xlb_commands.specs.Clashes.{IsOver, clash_text}
 use Rattle.xlb_commands.specs.FaultLines.{fault_line, mistake_text}
-use Rattle.xlb_commands.specs.Replays.{IsProgramOf, IsScriptOf, IsCaptureOf, program_of_replay}
+use Rattle.xlb_commands.specs.Replays.{IsProgramOf, IsScriptFile, IsScriptOf, IsCaptureOf, program_of_replay}
 use Rattle.xlb_commands.specs.Results.{IsDone, IsDoneInPart, IsReported, IsMistake, Stream, run_options, program_of_run, start_of_run}
 
 -- ---- files
@@ -289,6 +289,12 @@ pub data IsScriptFileRefusal (files : FileBytes) (failed : Type 0) (name : List 
   no_script : (bytes : List ℕ) (why : ControlFault) → files name bytes → ExplainsScript bytes why → fault ≡ faults.Script why
       → IsScriptFileRefusal files failed name fault
 
+-- xlb table: no lookup table has the size; or one has, and the script was not read; or it was, and memory was refused for the lines
+pub data IsTableRefusal (files : FileBytes) (failed : Type 0) (name : List ℕ) (ring : ℕ) (fault : Fault) : Type 0 where
+  no_table : (¬ IsRingSize ring) → fault ≡ faults.Script scripts.BadSize → IsTableRefusal files failed name ring fault
+  no_table_script : IsRingSize ring → IsScriptFileRefusal files failed name fault → IsTableRefusal files failed name ring fault
+  no_table_lines : (script : List Command) → IsRingSize ring → IsScriptFile files name script → fault ≡ faults.Memory → IsTableRefusal files failed name ring fault
+
 -- no script: of the file, or where none is named memory was refused for that of no commands
 abbrev pub IsScriptRefusal : FileBytes → Type 0 → Option (List ℕ) → Fault → Type 0
 IsScriptRefusal files failed (Some name) fault = IsScriptFileRefusal files failed name fault
@@ -355,6 +361,7 @@ IsRefusedWith before after failed (Explain about) fault = fault ≡ faults.Memor
 IsRefusedWith before after failed (Asm text out false) fault = IsAsmRefusal before after failed text.now fault
 IsRefusedWith before after failed (Asm text out true) fault = IsSourceRefusal before after failed text.now fault
 IsRefusedWith before after failed (Shipped out ring) fault = IsShippedFileRefusal before after failed ring fault
+IsRefusedWith before after failed (Table script ring) fault = IsTableRefusal before failed script.now ring fault
 IsRefusedWith before after failed (Replay files options ring exact summary) fault = IsReplayRefusal before after failed files options ring fault
 
 -- the fault that is told: the command was refused with it; or it was done, and what it prints could not be printed

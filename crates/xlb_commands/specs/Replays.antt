@@ -133,10 +133,10 @@ SendsAlike image states script options records outcome = IsReader image.code sta
     capture_bytes outcome.sent.items ≡ reader_file (program_of_replay image options) records
 
 -- the headline, of what the verifier made of the image
-pub record KeepsHeadline (image : Contents) (options : Options) (records : List Sent) (outcome : Outcome) : Type 0 where
+pub record KeepsHeadline (image : Contents) (script : List Command) (options : Options) (records : List Sent) (outcome : Outcome) : Type 0 where
   pub verified : Verified
   pub image_is : record { version = verified.version; maps = verified.maps; code = verified.code } ≡ image
-  pub kept : Headline verified options records outcome
+  pub kept : Headline verified script options records outcome
 
 -- The program may run; script and capture are read from their files; the replay accounts for every record, every command and every entry
 -- of the journals; the headline holds of it; the shipped program follows the steering rule; one that only reads sends the same for every number of workers; the sent frames and the journals are written to their files; and what is
@@ -154,7 +154,7 @@ pub record IsReplayed (before after : FileBytes) (files : ReplayFiles) (options 
   pub capture : IsCaptureOf before files.capture.now records
   pub outcome : Outcome
   pub accounted : IsAccounted (program_of_replay program options) script options records outcome
-  pub headline : KeepsHeadline program options records outcome
+  pub headline : KeepsHeadline program script options records outcome
   pub by_rule : FollowsRule (text_of files.image) ring script options records outcome
   pub readers : SendsAlike program states script options records outcome
   pub refused_are : outcome.refused.items ≡ refused

@@ -36,9 +36,10 @@ use Rattle.xlb_commands.specs.declared.serving.CommandAnswer.{CommandAnswer}
 use Rattle.xlb_commands.specs.declared.serving.CommandAnswer.TheVariants as answers
 use Rattle.xlb_commands.specs.Files.{FileBytes, AreKept, AreOthersKept, AreAllButKept, AreAllKeptBut, IsImageFile}
 use Rattle.xlb_commands.specs.Replays.{AreWritten, IsReplayedWhole, IsReplayedInPart}
+use Rattle.xlb_commands.specs.Tables.{IsTableShown}
 use Rattle.command_line.specs.declared.commands.RunFiles.{RunFiles}
 use Rattle.command_line.specs.declared.commands.Settings.{Settings}
-use Rattle.command_line.specs.declared.commands.Settings.TheVariants.{Check, Run, Disasm, Audit, Explain, Asm, Shipped, Replay}
+use Rattle.command_line.specs.declared.commands.Settings.TheVariants.{Check, Run, Disasm, Audit, Explain, Asm, Shipped, Replay, Table}
 
 abbrev pub yes_or_no : Bool → List ℕ
 yes_or_no true = codes "yes"
@@ -186,10 +187,12 @@ IsDone before after (Asm text out false) printed = IsAssembled before after text
 IsDone before after (Asm text out true) printed = IsSourceAssembled before after text.now out.now × (printed ≡ [])
 IsDone before after (Shipped out ring) printed = IsShippedFile after out.now ring × (printed ≡ [])
 IsDone before after (Replay files options ring exact summary) printed = IsReplayedWhole before after files options ring printed
+IsDone before after (Table script ring) printed = IsTableShown before script.now ring printed false
 
--- the command is done but for a part that was refused, as the report tells: commands of a replay's script
+-- the command is done but for a part that was refused, as the report tells: commands of a script
 abbrev pub IsDoneInPart : FileBytes → FileBytes → Settings → List ℕ → Type 0
 IsDoneInPart before after (Replay files options ring exact summary) printed = IsReplayedInPart before after files options ring printed
+IsDoneInPart before after (Table script ring) printed = IsTableShown before script.now ring printed true
 IsDoneInPart before after other printed = ⊥
 
 -- no file changes but those that the command is to write, whether it is done or refused
@@ -201,6 +204,7 @@ KeepsFiles before after (Audit image journals) = AreKept before after
 KeepsFiles before after (Explain about) = AreKept before after
 KeepsFiles before after (Asm text out source) = AreOthersKept before after out.now
 KeepsFiles before after (Shipped out ring) = AreOthersKept before after out.now
+KeepsFiles before after (Table script ring) = AreKept before after
 KeepsFiles before after (Replay files options ring exact summary) = AreAllButKept before after files.sent.now (text_of files.journals)
 
 -- a stream: what it was given, where that is known, and how many of its calls failed
@@ -217,9 +221,10 @@ pub record AreNotesPrinted (before after : Stream) : Type 0 where
   pub are_notes : AreNotes notes
   pub told : after.failures ≡ before.failures → after.held ≡ append_known before.held notes
 
--- what the error stream is given after a command's report: of a replay such lines, of another command nothing
+-- what the error stream is given after a command's report: of a replay and of tables such lines, of another command nothing
 abbrev pub IsNoted : Settings → Stream → Stream → Type 0
 IsNoted (Replay files options ring exact summary) before after = AreNotesPrinted before after
+IsNoted (Table script ring) before after = AreNotesPrinted before after
 IsNoted other before after = after ≡ before
 
 -- the report was printed, and what follows it

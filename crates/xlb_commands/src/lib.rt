@@ -13,6 +13,7 @@ mod replays;
 mod report;
 mod serving;
 mod shipping;
+mod tables;
 mod written;
 
 pub use fault::{Fault, Refusal};

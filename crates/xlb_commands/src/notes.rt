@@ -5,6 +5,7 @@ use journals::Journals;
 use replay::{Applied, Outcome};
 use std::alloc::{AllocError, Global};
 use text_lines::cut;
+use traffic::Refused;
 use wire::Capture;
 
 /// The slots of the shipped program's lookup table, where the command line names no others.
@@ -75,6 +76,24 @@ impl Notes<'_> {
 
 /// The most commands that are told in lines of their own.
 const MOST_TOLD: usize = 10;
+
+/// The same lines of commands that the lookup tables of a script name as refused.
+pub(crate) fn about_refused(
+    alloc: Global,
+    script: &Script,
+    refused: &[Refused],
+) -> Result<String, AllocError> {
+    let mut commands = Vec::new(alloc);
+    for one in refused {
+        commands.push(Applied {
+            command: one.place,
+            fault: Some(one.fault),
+        })?;
+    }
+    let mut text = String::new(alloc);
+    put_refused(alloc, &mut text, script, &commands)?;
+    Ok(text)
+}
 
 /// Which commands of the script were refused, and why: the line of each, which is its only command.
 fn put_refused(

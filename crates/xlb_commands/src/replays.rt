@@ -99,7 +99,11 @@ fn parsed(alloc: Global, bytes: &[u8]) -> Result<Script, Refusal>
 }
 
 /// The script of a file.
-fn script_file<D: Folder>(alloc: Global, folder: &mut D, name: &str) -> Result<Script, Refusal>
+pub(crate) fn script_file<D: Folder>(
+    alloc: Global,
+    folder: &mut D,
+    name: &str,
+) -> Result<Script, Refusal>
     requires { D.failure_count folder.old < 2 ^ 64 - 1 }
     ensures script { IfOk result (λ found. IsScriptFile (D.holds folder.old) name.now found) }
     ensures kept { AreKept (D.holds folder.old) (D.holds folder.new) }
@@ -294,7 +298,7 @@ fn outcome_with<R: Threads + Wait + Sync, G: Gate + Sync>(
         record { version = verified.now.version; maps = verified.now.maps; code = verified.now.code } ≡ shipped_image ring }
     ensures accounted { IfOk result (IsAccounted (program_of verified.now options.shards) script.now options capture.now.records.items) }
     ensures accepted { Accepts verified.now.version verified.now.maps verified.now.code verified.now.states }
-    ensures headline { IfOk result (Headline verified.now options capture.now.records.items) }
+    ensures headline { IfOk result (Headline verified.now script.now options capture.now.records.items) }
     ensures readers { IfOk result (λ outcome. IsReader verified.now.code verified.now.states → script.now ≡ [] →
         outcome.counts.stopped ≡ 0 → capture_bytes outcome.sent.items ≡ reader_file (program_of verified.now options.shards) capture.now.records.items) }
     ensures steered { IfOk result (FollowsRule (text_of image.entry) ring script.now options capture.now.records.items) }

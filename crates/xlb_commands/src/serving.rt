@@ -20,6 +20,7 @@ use crate::progress::Progress;
 use crate::replays::replay_files;
 use crate::report::Report;
 use crate::shipping::write_shipped;
+use crate::tables::table_file;
 use command_line::Settings;
 use faults::refusal_text;
 use folders::Folder;
@@ -108,6 +109,9 @@ fn answer<R: Threads + Wait + Sync, D: Folder, P: Progress + Sync>(
         Settings::Shipped { out, ring } => {
             Ok(CommandAnswer::reported(write_shipped(alloc, folder, *ring, out)?))
         }
+        Settings::Table { script, ring } => {
+            Ok(CommandAnswer::Reported(table_file(alloc, folder, script, *ring)?))
+        }
         Settings::Replay {
             files,
             options,
@@ -180,13 +184,14 @@ fn print_notes<E: Sink>(alloc: Global, report: &Report, err: &mut E)
     }
 }
 
-/// Prints what a person is told of a replay that was made. Nothing is printed of another command.
+/// Prints what a person is told of a replay that was made, or of tables. Nothing is printed of another command.
 fn note<E: Sink>(alloc: Global, settings: &Settings<'_>, report: &Report, err: &mut E)
     requires { E.failure_count err.old < 2 ^ 64 - 1 }
     ensures { IsNoted settings.now (stream (E.held err.old) (E.failure_count err.old)) (stream (E.held err.new) (E.failure_count err.new)) }
 {
     match settings {
         Settings::Replay { .. } => print_notes(alloc, report, err),
+        Settings::Table { .. } => print_notes(alloc, report, err),
         Settings::Check { .. }
         | Settings::Run { .. }
         | Settings::Disasm { .. }
@@ -243,7 +248,8 @@ fn status_of(is_refused: bool) -> u8
 /// the command reads on `err`, with notes for people below it, and gives 1. The fault is 7 where what the command prints could not be printed; the line is
 /// that of fault 8 where there was no memory for it. Where commands of a replay's script were refused, the report is printed and tells them, and the
 /// status is 1. Where the image's maps do not take an update of a run, or a file that is to be written is another one of the command's, that is told on
-/// `err`, and the status is 2, as of other mistakes in the command's words. After the report of a replay lines for people may follow on `err`.
+/// `err`, and the status is 2, as of other mistakes in the command's words. After the report of a replay, or of
+/// tables, lines for people may follow on `err`.
 pub fn serve<R: Threads + Wait + Sync, D: Folder, P: Progress + Sync, O: Sink, E: Sink>(
     rt: &R,
     alloc: Global,

@@ -1,12 +1,13 @@
 //! Texts and images, both ways.
 
-use super::first_path::{IMAGE, TEXT, over_image};
+use super::first_path::{IMAGE, over_image};
 use super::{NOTHING, Wanted, compare_digits, left_by, put, writes_nothing};
 use folders::MemoryFolder;
 use std::alloc::Global;
 use std::process::Abort;
 use std::sync::Wait;
 use std::thread::Threads;
+use test_support::programs::FIRST_RUN;
 
 /// What a row shows, the text's bytes, and what is printed.
 type Row = (&'static str, &'static [u8], &'static str);
@@ -17,11 +18,13 @@ const ROWS: [Row; 12] = [
     ("register 11",               b"version 1\nmov r11, 1\nexit\n",               "fault 21 BadLine line 2\n"),
     ("minus zero",                b"version 1\nmov r0, -0\nexit\n",               "fault 21 BadLine line 2\n"),
     ("above its field",           b"version 1\nmov r0, 4294967295\nexit\n",       "fault 21 BadLine line 2\n"),
-    ("a short number",            b"version 1\nlddw r1, 0x2\nexit\n",             "fault 21 BadLine line 2\n  TEXT is in the source form: 'xlb asm --source' makes an image of it\n"),
-    ("no last line feed",         b"version 1\nexit",                             "fault 21 BadLine line 2\n  TEXT is in the source form: 'xlb asm --source' makes an image of it\n"),
+    ("a short number", b"version 1\nlddw r1, 0x2\nexit\n",
+        "fault 21 BadLine line 2\n  TEXT is in the source form: 'xlb asm --source' makes an image of it\n"),
+    ("no last line feed", b"version 1\nexit", "fault 21 BadLine line 2\n  TEXT is in the source form: 'xlb asm --source' makes an image of it\n"),
     ("no text",                   b"",                                            "fault 21 BadLine line 1\n"),
     ("no instructions",           b"version 1\n",                                 "fault 22 Image decode 12\n  there is no instruction\n"),
-    ("a map of no entries",       b"version 1\nmap array 4 8 0\nexit\n",          "fault 22 Image decode 11\n  line 2: map 0 has a size that no such map may have\n"),
+    ("a map of no entries", b"version 1\nmap array 4 8 0\nexit\n",
+        "fault 22 Image decode 11\n  line 2: map 0 has a size that no such map may have\n"),
     ("not UTF-8, line 1",         b"\xffersion 1\nexit\n",                        "fault 21 BadLine line 1\n"),
     ("not UTF-8, line 3",         b"version 1\nmov r0, 2\nex\xc3(t\n",            "fault 21 BadLine line 3\n"),
     ("not UTF-8 before bad line", b"version 1\nbad\nmov r0, 2\n\xe2\x82\n",       "fault 21 BadLine line 4\n"),
@@ -50,7 +53,7 @@ fn assembles_the_first_text(rt: HostRuntime) {
         alloc,
         MemoryFolder::new(alloc),
         "text",
-        TEXT.as_bytes(),
+        FIRST_RUN.as_bytes(),
     );
     let line = "xlb asm text made";
     let folder = left_by(&rt, alloc, "the first text", folder, line, NOTHING);

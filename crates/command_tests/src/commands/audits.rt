@@ -23,69 +23,145 @@ type Row = (
 #[rattlefmt::skip]
 const RUNS: [Row; 20] = [
     ("no entries",                    "hash 4 8 1",  "1 1 16", "", "", ""),
-    ("a run and a reclaim",           "hash 4 8 1",  "1 1 16", "0 w0 enter ok\n0 w0 update 07000000 0200000000000000 0 answer 0\n0 w0 lookup 07000000 cell 0\n0 w0 atomic 0 0 8 1 1 0 word 2\n0 w0 load 0 0 8 word 3\n0 w0 leave ok\n0 r reclaim freed 0\n", "", ""),
-    ("a word that was not there",     "hash 4 8 1",  "1 1 16", "0 w0 enter ok\n0 w0 update 07000000 0200000000000000 0 answer 0\n0 w0 lookup 07000000 cell 0\n0 w0 atomic 0 0 8 1 1 0 word 1\n0 w0 load 0 0 8 word 3\n0 w0 leave ok\n0 r reclaim freed 0\n", "0 place 3", "line 5: \"0 w0 atomic 0 0 8 1 1 0 word 1\""),
-    ("an addition that was lost",     "hash 4 8 1",  "1 1 16", "0 w0 enter ok\n0 w0 update 07000000 0200000000000000 0 answer 0\n0 w0 lookup 07000000 cell 0\n0 w0 atomic 0 0 8 1 1 0 word 2\n0 w0 load 0 0 8 word 2\n", "0 place 4", "line 6: \"0 w0 load 0 0 8 word 2\""),
-    ("a store that is read",          "array 4 8 2", "1 1 16", "0 w0 enter ok\n0 w0 lookup 01000000 cell 1\n0 w0 store 1 2 4 305419896 ok\n0 w0 load 1 0 8 word 20015998304256\n0 w0 load 1 3 1 word 86\n", "", ""),
-    ("a store that is not read",      "array 4 8 2", "1 1 16", "0 w0 enter ok\n0 w0 lookup 01000000 cell 1\n0 w0 store 1 2 4 305419896 ok\n0 w0 load 1 0 8 word 0\n", "0 place 3", "line 5: \"0 w0 load 1 0 8 word 0\""),
-    ("exactly full",                  "hash 4 8 1",  "1 1 16", "0 w0 enter ok\n0 w0 lookup 07000000 null\n0 w0 lookup 07000000 null\n0 w0 lookup 07000000 null\n0 w0 lookup 07000000 null\n0 w0 lookup 07000000 null\n0 w0 lookup 07000000 null\n0 w0 lookup 07000000 null\n0 w0 lookup 07000000 null\n0 w0 lookup 07000000 null\n0 w0 lookup 07000000 null\n0 w0 lookup 07000000 null\n0 w0 lookup 07000000 null\n0 w0 lookup 07000000 null\n0 w0 lookup 07000000 null\n0 w0 leave ok\n", "", ""),
-    ("a full journal passed",         "hash 4 8 1",  "1 1 16", "0 w0 enter ok\n0 w0 lookup 07000000 null\n0 w0 lookup 07000000 null\n0 w0 lookup 07000000 null\n0 w0 lookup 07000000 null\n0 w0 lookup 07000000 null\n0 w0 lookup 07000000 null\n0 w0 lookup 07000000 null\n0 w0 lookup 07000000 null\n0 w0 lookup 07000000 null\n0 w0 lookup 07000000 null\n0 w0 lookup 07000000 null\n0 w0 lookup 07000000 null\n0 w0 lookup 07000000 null\n0 w0 lookup 07000000 null\n0 w0 lookup 07000000 null\n", "0 place 15", "line 17: \"0 w0 lookup 07000000 null\""),
+    ("a run and a reclaim", "hash 4 8 1", "1 1 16",
+        "0 w0 enter ok\n0 w0 update 07000000 0200000000000000 0 answer 0\n0 w0 lookup 07000000 cell 0\n0 w0 atomic 0 0 8 1 1 0 word 2\n\
+         0 w0 load 0 0 8 word 3\n0 w0 leave ok\n0 r reclaim freed 0\n", "", ""),
+    ("a word that was not there", "hash 4 8 1", "1 1 16",
+        "0 w0 enter ok\n0 w0 update 07000000 0200000000000000 0 answer 0\n0 w0 lookup 07000000 cell 0\n0 w0 atomic 0 0 8 1 1 0 word 1\n\
+         0 w0 load 0 0 8 word 3\n0 w0 leave ok\n0 r reclaim freed 0\n", "0 place 3", "line 5: \"0 w0 atomic 0 0 8 1 1 0 word 1\""),
+    ("an addition that was lost", "hash 4 8 1", "1 1 16",
+        "0 w0 enter ok\n0 w0 update 07000000 0200000000000000 0 answer 0\n0 w0 lookup 07000000 cell 0\n0 w0 atomic 0 0 8 1 1 0 word 2\n\
+         0 w0 load 0 0 8 word 2\n", "0 place 4", "line 6: \"0 w0 load 0 0 8 word 2\""),
+    ("a store that is read", "array 4 8 2", "1 1 16",
+        "0 w0 enter ok\n0 w0 lookup 01000000 cell 1\n0 w0 store 1 2 4 305419896 ok\n0 w0 load 1 0 8 word 20015998304256\n0 w0 load 1 3 1 word 86\n",
+        "", ""),
+    ("a store that is not read", "array 4 8 2", "1 1 16",
+        "0 w0 enter ok\n0 w0 lookup 01000000 cell 1\n0 w0 store 1 2 4 305419896 ok\n0 w0 load 1 0 8 word 0\n", "0 place 3",
+        "line 5: \"0 w0 load 1 0 8 word 0\""),
+    ("exactly full", "hash 4 8 1", "1 1 16",
+        "0 w0 enter ok\n0 w0 lookup 07000000 null\n0 w0 lookup 07000000 null\n0 w0 lookup 07000000 null\n0 w0 lookup 07000000 null\n\
+         0 w0 lookup 07000000 null\n0 w0 lookup 07000000 null\n0 w0 lookup 07000000 null\n0 w0 lookup 07000000 null\n0 w0 lookup 07000000 null\n\
+         0 w0 lookup 07000000 null\n0 w0 lookup 07000000 null\n0 w0 lookup 07000000 null\n0 w0 lookup 07000000 null\n0 w0 lookup 07000000 null\n\
+         0 w0 leave ok\n", "", ""),
+    ("a full journal passed", "hash 4 8 1", "1 1 16",
+        "0 w0 enter ok\n0 w0 lookup 07000000 null\n0 w0 lookup 07000000 null\n0 w0 lookup 07000000 null\n0 w0 lookup 07000000 null\n\
+         0 w0 lookup 07000000 null\n0 w0 lookup 07000000 null\n0 w0 lookup 07000000 null\n0 w0 lookup 07000000 null\n0 w0 lookup 07000000 null\n\
+         0 w0 lookup 07000000 null\n0 w0 lookup 07000000 null\n0 w0 lookup 07000000 null\n0 w0 lookup 07000000 null\n0 w0 lookup 07000000 null\n\
+         0 w0 lookup 07000000 null\n", "0 place 15", "line 17: \"0 w0 lookup 07000000 null\""),
     ("a load in no run",              "hash 4 8 1",  "1 1 16", "0 w0 load 0 0 8 word 0\n", "0 place 0", "line 2: \"0 w0 load 0 0 8 word 0\""),
     ("worker 3 of two",               "hash 4 8 1",  "2 1 16", "0 w3 enter ok\n", "0 place 0", "line 2: \"0 w3 enter ok\""),
     ("worker 1 of two",               "hash 4 8 1",  "2 1 16", "0 w1 enter ok\n", "", ""),
     ("a lookup in no run",            "hash 4 8 1",  "1 1 16", "0 w0 lookup 07000000 null\n", "0 place 0", "line 2: \"0 w0 lookup 07000000 null\""),
-    ("an update in no run",           "hash 4 8 1",  "1 1 16", "0 w0 update 07000000 0200000000000000 0 answer 0\n", "0 place 0", "line 2: \"0 w0 update 07000000 0200000000000000 0 ...\""),
+    ("an update in no run", "hash 4 8 1", "1 1 16", "0 w0 update 07000000 0200000000000000 0 answer 0\n", "0 place 0",
+        "line 2: \"0 w0 update 07000000 0200000000000000 0 ...\""),
     ("a leave in no run",             "hash 4 8 1",  "1 1 16", "0 w0 leave ok\n", "0 place 0", "line 2: \"0 w0 leave ok\""),
     ("an enter in a run",             "hash 4 8 1",  "1 1 16", "0 w0 enter ok\n0 w0 enter ok\n", "0 place 1", "line 3: \"0 w0 enter ok\""),
-    ("after a leave",                 "hash 4 8 1",  "1 1 16", "0 w0 enter ok\n0 w0 leave ok\n0 w0 lookup 07000000 null\n", "0 place 2", "line 4: \"0 w0 lookup 07000000 null\""),
+    ("after a leave", "hash 4 8 1", "1 1 16", "0 w0 enter ok\n0 w0 leave ok\n0 w0 lookup 07000000 null\n", "0 place 2",
+        "line 4: \"0 w0 lookup 07000000 null\""),
     ("the controller enters",         "hash 4 8 1",  "1 1 16", "0 c enter ok\n", "0 place 0", "line 2: \"0 c enter ok\""),
     ("the controller looks up",       "hash 4 8 1",  "1 1 16", "0 c lookup 07000000 null\n", "0 place 0", "line 2: \"0 c lookup 07000000 null\""),
-    ("the reclaimer updates",         "hash 4 8 1",  "1 1 16", "0 r update 07000000 0200000000000000 0 answer 0\n", "0 place 0", "line 2: \"0 r update 07000000 0200000000000000 0 a...\""),
+    ("the reclaimer updates", "hash 4 8 1", "1 1 16", "0 r update 07000000 0200000000000000 0 answer 0\n", "0 place 0",
+        "line 2: \"0 r update 07000000 0200000000000000 0 a...\""),
     ("the controller reclaims",       "hash 4 8 1",  "1 1 16", "0 c reclaim freed 0\n", "0 place 0", "line 2: \"0 c reclaim freed 0\""),
 ];
 
 /// Keys that come and go, cells that wait for their readers, ids.
 #[rattlefmt::skip]
 const CELLS: [Row; 20] = [
-    ("answers of one key's shard",    "hash 4 8 1",  "1 1 16", "0 c update 01000000 0200000000000000 0 answer 0\n0 c update 01000000 0200000000000000 1 answer -17\n0 c update 02000000 0200000000000000 0 answer -7\n0 c update 02000000 0200000000000000 2 answer -2\n0 c update 02000000 0200000000000000 3 answer -22\n0 c delete 01000000 answer 0\n0 c delete 01000000 answer -2\n", "", ""),
-    ("another answer",                "hash 4 8 1",  "1 1 16", "0 c update 01000000 0200000000000000 0 answer 0\n0 c update 01000000 0200000000000000 1 answer 0\n", "0 place 1", "line 3: \"0 c update 01000000 0200000000000000 1 a...\""),
-    ("cells run out",                 "hash 4 8 1",  "1 1 16", "0 c update 01000000 0200000000000000 0 answer 0\n0 c delete 01000000 answer 0\n0 c update 02000000 0200000000000000 0 answer 0\n0 c delete 02000000 answer 0\n0 c update 03000000 0200000000000000 0 answer -12\n0 r reclaim freed 2\n0 c update 03000000 0200000000000000 0 answer 0\n", "", ""),
-    ("a cell of the retired",         "hash 4 8 1",  "1 1 16", "0 c update 01000000 0200000000000000 0 answer 0\n0 c delete 01000000 answer 0\n0 c update 02000000 0200000000000000 0 answer 0\n0 c delete 02000000 answer 0\n0 c update 03000000 0200000000000000 0 answer 0\n", "0 place 4", "line 6: \"0 c update 03000000 0200000000000000 0 a...\""),
-    ("read through a delete",         "hash 4 8 1",  "1 1 16", "0 c update 01000000 0900000000000000 0 answer 0\n0 w0 enter ok\n0 w0 lookup 01000000 cell 0\n0 c delete 01000000 answer 0\n0 r reclaim freed 0\n0 c update 02000000 0500000000000000 0 answer 0\n0 w0 load 0 0 8 word 9\n0 w0 leave ok\n0 r reclaim freed 1\n", "", ""),
-    ("a held cell freed",             "hash 4 8 1",  "1 1 16", "0 c update 01000000 0900000000000000 0 answer 0\n0 w0 enter ok\n0 w0 lookup 01000000 cell 0\n0 c delete 01000000 answer 0\n0 r reclaim freed 1\n", "0 place 4", "line 6: \"0 r reclaim freed 1\""),
-    ("a cell that stays",             "hash 4 8 1",  "1 1 16", "0 c update 01000000 0900000000000000 0 answer 0\n0 c delete 01000000 answer 0\n0 r reclaim freed 0\n", "0 place 2", "line 4: \"0 r reclaim freed 0\""),
-    ("a freed cell read",             "hash 4 8 1",  "1 1 16", "0 c update 01000000 0900000000000000 0 answer 0\n0 w0 enter ok\n0 w0 lookup 01000000 cell 0\n0 w0 leave ok\n0 c delete 01000000 answer 0\n0 r reclaim freed 1\n0 w0 enter ok\n0 w0 load 0 0 8 word 9\n", "0 place 7", "line 9: \"0 w0 load 0 0 8 word 9\""),
-    ("an id given again",             "hash 4 8 1",  "1 1 16", "0 c update 01000000 0900000000000000 0 answer 0\n0 c delete 01000000 answer 0\n0 r reclaim freed 1\n0 c update 02000000 0900000000000000 0 answer 0\n0 w0 enter ok\n0 w0 lookup 02000000 cell 0\n", "0 place 5", "line 7: \"0 w0 lookup 02000000 cell 0\""),
-    ("the next id",                   "hash 4 8 1",  "1 1 16", "0 c update 01000000 0900000000000000 0 answer 0\n0 c delete 01000000 answer 0\n0 r reclaim freed 1\n0 c update 02000000 0900000000000000 0 answer 0\n0 w0 enter ok\n0 w0 lookup 02000000 cell 1\n", "", ""),
-    ("found out of nothing",          "hash 4 8 1",  "1 1 16", "0 w0 enter ok\n0 w0 lookup 01000000 cell 0\n", "0 place 1", "line 3: \"0 w0 lookup 01000000 cell 0\""),
-    ("a key that is gone",            "hash 4 8 1",  "1 1 16", "0 c update 01000000 0900000000000000 0 answer 0\n0 c delete 01000000 answer 0\n0 w0 enter ok\n0 w0 lookup 01000000 cell 0\n", "0 place 3", "line 5: \"0 w0 lookup 01000000 cell 0\""),
-    ("a key that is missed",          "hash 4 8 1",  "1 1 16", "0 c update 01000000 0900000000000000 0 answer 0\n0 w0 enter ok\n0 w0 lookup 01000000 null\n", "0 place 2", "line 4: \"0 w0 lookup 01000000 null\""),
-    ("the oldest use is the victim",  "lru 4 8 2",   "1 1 16", "0 c update 01000000 0900000000000000 0 answer 0\n0 c update 02000000 0900000000000000 0 answer 0\n0 w0 enter ok\n0 w0 lookup 01000000 cell 0\n0 c update 03000000 0900000000000000 0 answer 0\n0 w0 lookup 02000000 null\n0 w0 lookup 01000000 cell 0\n0 w0 lookup 03000000 cell 2\n", "", ""),
-    ("another victim",                "lru 4 8 2",   "1 1 16", "0 c update 01000000 0900000000000000 0 answer 0\n0 c update 02000000 0900000000000000 0 answer 0\n0 w0 enter ok\n0 w0 lookup 01000000 cell 0\n0 c update 03000000 0900000000000000 0 answer 0\n0 w0 lookup 01000000 null\n", "0 place 5", "line 7: \"0 w0 lookup 01000000 null\""),
-    ("no victim",                     "lru 4 8 2",   "1 1 16", "0 c update 01000000 0900000000000000 0 answer 0\n0 c update 02000000 0900000000000000 0 answer 0\n0 w0 enter ok\n0 w0 lookup 01000000 cell 0\n0 c update 03000000 0900000000000000 0 answer 0\n0 w0 lookup 02000000 cell 1\n", "0 place 5", "line 7: \"0 w0 lookup 02000000 cell 1\""),
-    ("a cell of an earlier run",      "array 4 8 2", "1 1 16", "0 w0 enter ok\n0 w0 lookup 01000000 cell 1\n0 w0 leave ok\n0 w0 enter ok\n0 w0 load 1 0 8 word 0\n", "0 place 4", "line 6: \"0 w0 load 1 0 8 word 0\""),
-    ("a cell that another looked up", "array 4 8 2", "2 1 16", "0 w0 enter ok\n0 w1 enter ok\n0 w0 lookup 01000000 cell 1\n0 w1 load 1 0 8 word 0\n", "0 place 3", "line 5: \"0 w1 load 1 0 8 word 0\""),
-    ("another cell",                  "array 4 8 2", "1 1 16", "0 w0 enter ok\n0 w0 lookup 01000000 cell 1\n0 w0 load 0 0 8 word 0\n", "0 place 2", "line 4: \"0 w0 load 0 0 8 word 0\""),
-    ("an index past the last",        "array 4 8 2", "1 1 16", "0 w0 enter ok\n0 w0 lookup 02000000 null\n0 w0 update 02000000 0900000000000000 0 answer -7\n0 w0 delete 01000000 answer -22\n", "", ""),
+    ("answers of one key's shard", "hash 4 8 1", "1 1 16",
+        "0 c update 01000000 0200000000000000 0 answer 0\n0 c update 01000000 0200000000000000 1 answer -17\n\
+         0 c update 02000000 0200000000000000 0 answer -7\n0 c update 02000000 0200000000000000 2 answer -2\n\
+         0 c update 02000000 0200000000000000 3 answer -22\n0 c delete 01000000 answer 0\n0 c delete 01000000 answer -2\n", "", ""),
+    ("another answer", "hash 4 8 1", "1 1 16", "0 c update 01000000 0200000000000000 0 answer 0\n0 c update 01000000 0200000000000000 1 answer 0\n",
+        "0 place 1", "line 3: \"0 c update 01000000 0200000000000000 1 a...\""),
+    ("cells run out", "hash 4 8 1", "1 1 16",
+        "0 c update 01000000 0200000000000000 0 answer 0\n0 c delete 01000000 answer 0\n0 c update 02000000 0200000000000000 0 answer 0\n\
+         0 c delete 02000000 answer 0\n0 c update 03000000 0200000000000000 0 answer -12\n0 r reclaim freed 2\n\
+         0 c update 03000000 0200000000000000 0 answer 0\n", "", ""),
+    ("a cell of the retired", "hash 4 8 1", "1 1 16",
+        "0 c update 01000000 0200000000000000 0 answer 0\n0 c delete 01000000 answer 0\n0 c update 02000000 0200000000000000 0 answer 0\n\
+         0 c delete 02000000 answer 0\n0 c update 03000000 0200000000000000 0 answer 0\n", "0 place 4",
+        "line 6: \"0 c update 03000000 0200000000000000 0 a...\""),
+    ("read through a delete", "hash 4 8 1", "1 1 16",
+        "0 c update 01000000 0900000000000000 0 answer 0\n0 w0 enter ok\n0 w0 lookup 01000000 cell 0\n0 c delete 01000000 answer 0\n\
+         0 r reclaim freed 0\n0 c update 02000000 0500000000000000 0 answer 0\n0 w0 load 0 0 8 word 9\n0 w0 leave ok\n0 r reclaim freed 1\n", "", ""),
+    ("a held cell freed", "hash 4 8 1", "1 1 16",
+        "0 c update 01000000 0900000000000000 0 answer 0\n0 w0 enter ok\n0 w0 lookup 01000000 cell 0\n0 c delete 01000000 answer 0\n\
+         0 r reclaim freed 1\n", "0 place 4", "line 6: \"0 r reclaim freed 1\""),
+    ("a cell that stays", "hash 4 8 1", "1 1 16",
+        "0 c update 01000000 0900000000000000 0 answer 0\n0 c delete 01000000 answer 0\n0 r reclaim freed 0\n", "0 place 2",
+        "line 4: \"0 r reclaim freed 0\""),
+    ("a freed cell read", "hash 4 8 1", "1 1 16",
+        "0 c update 01000000 0900000000000000 0 answer 0\n0 w0 enter ok\n0 w0 lookup 01000000 cell 0\n0 w0 leave ok\n0 c delete 01000000 answer 0\n\
+         0 r reclaim freed 1\n0 w0 enter ok\n0 w0 load 0 0 8 word 9\n", "0 place 7", "line 9: \"0 w0 load 0 0 8 word 9\""),
+    ("an id given again", "hash 4 8 1", "1 1 16",
+        "0 c update 01000000 0900000000000000 0 answer 0\n0 c delete 01000000 answer 0\n0 r reclaim freed 1\n\
+         0 c update 02000000 0900000000000000 0 answer 0\n0 w0 enter ok\n0 w0 lookup 02000000 cell 0\n", "0 place 5",
+        "line 7: \"0 w0 lookup 02000000 cell 0\""),
+    ("the next id", "hash 4 8 1", "1 1 16",
+        "0 c update 01000000 0900000000000000 0 answer 0\n0 c delete 01000000 answer 0\n0 r reclaim freed 1\n\
+         0 c update 02000000 0900000000000000 0 answer 0\n0 w0 enter ok\n0 w0 lookup 02000000 cell 1\n", "", ""),
+    ("found out of nothing", "hash 4 8 1", "1 1 16", "0 w0 enter ok\n0 w0 lookup 01000000 cell 0\n", "0 place 1",
+        "line 3: \"0 w0 lookup 01000000 cell 0\""),
+    ("a key that is gone", "hash 4 8 1", "1 1 16",
+        "0 c update 01000000 0900000000000000 0 answer 0\n0 c delete 01000000 answer 0\n0 w0 enter ok\n0 w0 lookup 01000000 cell 0\n", "0 place 3",
+        "line 5: \"0 w0 lookup 01000000 cell 0\""),
+    ("a key that is missed", "hash 4 8 1", "1 1 16", "0 c update 01000000 0900000000000000 0 answer 0\n0 w0 enter ok\n0 w0 lookup 01000000 null\n",
+        "0 place 2", "line 4: \"0 w0 lookup 01000000 null\""),
+    ("the oldest use is the victim", "lru 4 8 2", "1 1 16",
+        "0 c update 01000000 0900000000000000 0 answer 0\n0 c update 02000000 0900000000000000 0 answer 0\n0 w0 enter ok\n\
+         0 w0 lookup 01000000 cell 0\n0 c update 03000000 0900000000000000 0 answer 0\n0 w0 lookup 02000000 null\n0 w0 lookup 01000000 cell 0\n\
+         0 w0 lookup 03000000 cell 2\n", "", ""),
+    ("another victim", "lru 4 8 2", "1 1 16",
+        "0 c update 01000000 0900000000000000 0 answer 0\n0 c update 02000000 0900000000000000 0 answer 0\n0 w0 enter ok\n\
+         0 w0 lookup 01000000 cell 0\n0 c update 03000000 0900000000000000 0 answer 0\n0 w0 lookup 01000000 null\n", "0 place 5",
+        "line 7: \"0 w0 lookup 01000000 null\""),
+    ("no victim", "lru 4 8 2", "1 1 16",
+        "0 c update 01000000 0900000000000000 0 answer 0\n0 c update 02000000 0900000000000000 0 answer 0\n0 w0 enter ok\n\
+         0 w0 lookup 01000000 cell 0\n0 c update 03000000 0900000000000000 0 answer 0\n0 w0 lookup 02000000 cell 1\n", "0 place 5",
+        "line 7: \"0 w0 lookup 02000000 cell 1\""),
+    ("a cell of an earlier run", "array 4 8 2", "1 1 16",
+        "0 w0 enter ok\n0 w0 lookup 01000000 cell 1\n0 w0 leave ok\n0 w0 enter ok\n0 w0 load 1 0 8 word 0\n", "0 place 4",
+        "line 6: \"0 w0 load 1 0 8 word 0\""),
+    ("a cell that another looked up", "array 4 8 2", "2 1 16", "0 w0 enter ok\n0 w1 enter ok\n0 w0 lookup 01000000 cell 1\n0 w1 load 1 0 8 word 0\n",
+        "0 place 3", "line 5: \"0 w1 load 1 0 8 word 0\""),
+    ("another cell", "array 4 8 2", "1 1 16", "0 w0 enter ok\n0 w0 lookup 01000000 cell 1\n0 w0 load 0 0 8 word 0\n", "0 place 2",
+        "line 4: \"0 w0 load 0 0 8 word 0\""),
+    ("an index past the last", "array 4 8 2", "1 1 16",
+        "0 w0 enter ok\n0 w0 lookup 02000000 null\n0 w0 update 02000000 0900000000000000 0 answer -7\n0 w0 delete 01000000 answer -22\n", "", ""),
 ];
 
 /// Numbers of the right form that no map serves, and shards of a map in parts.
 #[rattlefmt::skip]
 const NUMBERS: [Row; 15] = [
     ("a load off its alignment",      "array 4 8 1", "1 1 16", "0 w0 enter ok\n0 w0 lookup 00000000 cell 0\n0 w0 load 0 3 4 word 0\n", "", ""),
-    ("three bytes",                   "array 4 8 1", "1 1 16", "0 w0 enter ok\n0 w0 lookup 00000000 cell 0\n0 w0 load 0 0 3 word 0\n", "0 place 2", "line 4: \"0 w0 load 0 0 3 word 0\""),
-    ("past the value",                "array 4 8 1", "1 1 16", "0 w0 enter ok\n0 w0 lookup 00000000 cell 0\n0 w0 load 0 5 4 word 0\n", "0 place 2", "line 4: \"0 w0 load 0 5 4 word 0\""),
-    ("past all numbers",              "array 4 8 1", "1 1 16", "0 w0 enter ok\n0 w0 lookup 00000000 cell 0\n0 w0 load 0 18446744073709551615 8 word 0\n", "0 place 2", "line 4: \"0 w0 load 0 18446744073709551615 8 word ...\""),
-    ("too much for a byte",           "array 4 8 1", "1 1 16", "0 w0 enter ok\n0 w0 lookup 00000000 cell 0\n0 w0 store 0 0 1 256 ok\n", "0 place 2", "line 4: \"0 w0 store 0 0 1 256 ok\""),
-    ("an unknown operation",          "array 4 8 1", "1 1 16", "0 w0 enter ok\n0 w0 lookup 00000000 cell 0\n0 w0 atomic 0 0 8 99 1 0 word 0\n", "0 place 2", "line 4: \"0 w0 atomic 0 0 8 99 1 0 word 0\""),
-    ("an atomic off its alignment",   "array 4 8 1", "1 1 16", "0 w0 enter ok\n0 w0 lookup 00000000 cell 0\n0 w0 atomic 0 2 4 0 1 0 word 0\n", "0 place 2", "line 4: \"0 w0 atomic 0 2 4 0 1 0 word 0\""),
-    ("an addition that compares",     "array 4 8 1", "1 1 16", "0 w0 enter ok\n0 w0 lookup 00000000 cell 0\n0 w0 atomic 0 0 8 0 1 1 word 0\n", "0 place 2", "line 4: \"0 w0 atomic 0 0 8 0 1 1 word 0\""),
-    ("an exchange that compares",     "array 4 8 1", "1 1 16", "0 w0 enter ok\n0 w0 lookup 00000000 cell 0\n0 w0 atomic 0 0 8 241 1 1 word 0\n0 w0 atomic 0 0 8 241 7 0 word 0\n0 w0 load 0 0 8 word 7\n", "", ""),
-    ("a cell far away",               "array 4 8 1", "1 1 16", "0 w0 enter ok\n0 w0 lookup 00000000 cell 18446744073709551615\n", "0 place 1", "line 3: \"0 w0 lookup 00000000 cell 18446744073709...\""),
-    ("two parts",                     "array 4 8 2", "1 2 16", "0 w0 enter ok\n0 w0 lookup 00000000 cell 0\n1 w0 enter ok\n1 w0 lookup 01000000 cell 0\n", "", ""),
-    ("a key of the other part",       "array 4 8 2", "1 2 16", "0 w0 enter ok\n0 w0 lookup 00000000 cell 0\n1 w0 enter ok\n1 w0 lookup 00000000 cell 0\n", "1 place 1", "line 5: \"1 w0 lookup 00000000 cell 0\""),
+    ("three bytes", "array 4 8 1", "1 1 16", "0 w0 enter ok\n0 w0 lookup 00000000 cell 0\n0 w0 load 0 0 3 word 0\n", "0 place 2",
+        "line 4: \"0 w0 load 0 0 3 word 0\""),
+    ("past the value", "array 4 8 1", "1 1 16", "0 w0 enter ok\n0 w0 lookup 00000000 cell 0\n0 w0 load 0 5 4 word 0\n", "0 place 2",
+        "line 4: \"0 w0 load 0 5 4 word 0\""),
+    ("past all numbers", "array 4 8 1", "1 1 16", "0 w0 enter ok\n0 w0 lookup 00000000 cell 0\n0 w0 load 0 18446744073709551615 8 word 0\n",
+        "0 place 2", "line 4: \"0 w0 load 0 18446744073709551615 8 word ...\""),
+    ("too much for a byte", "array 4 8 1", "1 1 16", "0 w0 enter ok\n0 w0 lookup 00000000 cell 0\n0 w0 store 0 0 1 256 ok\n", "0 place 2",
+        "line 4: \"0 w0 store 0 0 1 256 ok\""),
+    ("an unknown operation", "array 4 8 1", "1 1 16", "0 w0 enter ok\n0 w0 lookup 00000000 cell 0\n0 w0 atomic 0 0 8 99 1 0 word 0\n", "0 place 2",
+        "line 4: \"0 w0 atomic 0 0 8 99 1 0 word 0\""),
+    ("an atomic off its alignment", "array 4 8 1", "1 1 16", "0 w0 enter ok\n0 w0 lookup 00000000 cell 0\n0 w0 atomic 0 2 4 0 1 0 word 0\n",
+        "0 place 2", "line 4: \"0 w0 atomic 0 2 4 0 1 0 word 0\""),
+    ("an addition that compares", "array 4 8 1", "1 1 16", "0 w0 enter ok\n0 w0 lookup 00000000 cell 0\n0 w0 atomic 0 0 8 0 1 1 word 0\n",
+        "0 place 2", "line 4: \"0 w0 atomic 0 0 8 0 1 1 word 0\""),
+    ("an exchange that compares", "array 4 8 1", "1 1 16",
+        "0 w0 enter ok\n0 w0 lookup 00000000 cell 0\n0 w0 atomic 0 0 8 241 1 1 word 0\n0 w0 atomic 0 0 8 241 7 0 word 0\n0 w0 load 0 0 8 word 7\n",
+        "", ""),
+    ("a cell far away", "array 4 8 1", "1 1 16", "0 w0 enter ok\n0 w0 lookup 00000000 cell 18446744073709551615\n", "0 place 1",
+        "line 3: \"0 w0 lookup 00000000 cell 18446744073709...\""),
+    ("two parts", "array 4 8 2", "1 2 16", "0 w0 enter ok\n0 w0 lookup 00000000 cell 0\n1 w0 enter ok\n1 w0 lookup 01000000 cell 0\n", "", ""),
+    ("a key of the other part", "array 4 8 2", "1 2 16", "0 w0 enter ok\n0 w0 lookup 00000000 cell 0\n1 w0 enter ok\n1 w0 lookup 00000000 cell 0\n",
+        "1 place 1", "line 5: \"1 w0 lookup 00000000 cell 0\""),
     ("the second shard's first",      "array 4 8 2", "1 2 16", "1 w0 leave ok\n", "1 place 0", "line 2: \"1 w0 leave ok\""),
-    ("the most journals",             "hash 4 8 8\nmap hash 4 8 8\nmap hash 4 8 8\nmap hash 4 8 8\nmap hash 4 8 8\nmap hash 4 8 8\nmap hash 4 8 8\nmap hash 4 8 8\nmap hash 4 8 8\nmap hash 4 8 8\nmap hash 4 8 8\nmap hash 4 8 8\nmap hash 4 8 8\nmap hash 4 8 8\nmap hash 4 8 8\nmap hash 4 8 8", "1 8 16", "127 w0 enter ok\n", "", ""),
+    ("the most journals",
+        "hash 4 8 8\nmap hash 4 8 8\nmap hash 4 8 8\nmap hash 4 8 8\nmap hash 4 8 8\nmap hash 4 8 8\nmap hash 4 8 8\nmap hash 4 8 8\n\
+         map hash 4 8 8\nmap hash 4 8 8\nmap hash 4 8 8\nmap hash 4 8 8\nmap hash 4 8 8\nmap hash 4 8 8\nmap hash 4 8 8\nmap hash 4 8 8", "1 8 16",
+        "127 w0 enter ok\n", "", ""),
     ("the first shard's goes before", "array 4 8 2", "1 2 16", "0 w0 enter ok\n0 w0 enter ok\n1 w0 leave ok\n", "0 place 1", "line 3: \"0 w0 enter ok\""),
 ];
 
@@ -150,12 +226,24 @@ type Unread = (&'static str, &'static [u8], &'static str);
 /// Files that are none of journals.
 #[rattlefmt::skip]
 const NO_FILES: [Unread; 6] = [
-    ("an empty file",        b"",                                     "fault 55 BadJournalFile line 1\n  the file is empty\n  expected journals, which xlb run and xlb replay write with --journals\n  the journals come after the image on the command line: are two names swapped?\n"),
-    ("nine workers",         b"XLBJ 1 9 1 16\n",                      "fault 55 BadJournalFile line 1\n  line 1: \"XLBJ 1 9 1 16\"\n  expected XLBJ 1 <workers> <shards> <journal>, options that open the image's maps\n  for example: XLBJ 1 8 1 65536\n"),
-    ("an unended line",      b"XLBJ 1 1 1 16\n0 w0 enter ok",         "fault 55 BadJournalFile line 2\n  line 2: \"0 w0 enter ok\"\n  expected a line feed after each line, the last one too\n"),
-    ("a shard out of order", b"XLBJ 1 1 2 16\n1 w0 enter ok\n0 w0 enter ok\n", "fault 55 BadJournalFile line 3\n  line 3: \"0 w0 enter ok\"\n  expected an entry of a shard of the image's maps, not of an earlier shard than the line above\n  for example: 0 w0 lookup 07000000 cell 0, where keys have 4 bytes\n"),
-    ("no text",              b"XLBJ 1 1 1 16\nbad\n0 w0 \xff ok\n",   "fault 55 BadJournalFile line 3\n  line 3 has a byte that is not UTF-8\n  expected plain ASCII text\n"),
-    ("bad before illegal",   b"XLBJ 1 1 1 16\n0 w0 leave ok\n0\n",    "fault 55 BadJournalFile line 3\n  line 3: \"0\"\n  expected an entry of a shard of the image's maps, not of an earlier shard than the line above\n  for example: 0 w0 lookup 07000000 cell 0, where keys have 4 bytes\n"),
+    ("an empty file", b"",
+        "fault 55 BadJournalFile line 1\n  the file is empty\n  expected journals, which xlb run and xlb replay write with --journals\n  \
+         the journals come after the image on the command line: are two names swapped?\n"),
+    ("nine workers", b"XLBJ 1 9 1 16\n",
+        "fault 55 BadJournalFile line 1\n  line 1: \"XLBJ 1 9 1 16\"\n  \
+         expected XLBJ 1 <workers> <shards> <journal>, options that open the image's maps\n  for example: XLBJ 1 8 1 65536\n"),
+    ("an unended line", b"XLBJ 1 1 1 16\n0 w0 enter ok",
+        "fault 55 BadJournalFile line 2\n  line 2: \"0 w0 enter ok\"\n  expected a line feed after each line, the last one too\n"),
+    ("a shard out of order", b"XLBJ 1 1 2 16\n1 w0 enter ok\n0 w0 enter ok\n",
+        "fault 55 BadJournalFile line 3\n  line 3: \"0 w0 enter ok\"\n  \
+         expected an entry of a shard of the image's maps, not of an earlier shard than the line above\n  \
+         for example: 0 w0 lookup 07000000 cell 0, where keys have 4 bytes\n"),
+    ("no text", b"XLBJ 1 1 1 16\nbad\n0 w0 \xff ok\n",
+        "fault 55 BadJournalFile line 3\n  line 3 has a byte that is not UTF-8\n  expected plain ASCII text\n"),
+    ("bad before illegal", b"XLBJ 1 1 1 16\n0 w0 leave ok\n0\n",
+        "fault 55 BadJournalFile line 3\n  line 3: \"0\"\n  \
+         expected an entry of a shard of the image's maps, not of an earlier shard than the line above\n  \
+         for example: 0 w0 lookup 07000000 cell 0, where keys have 4 bytes\n"),
 ];
 
 /// Each row's file, audited.
@@ -179,7 +267,8 @@ const NOT_THERE: [(&str, &str); 3] = [
     ),
     (
         "xlb audit journals nosuch",
-        "fault 10 BadHead\n  the file has journals\n  expected an image, which begins with 58 4c 42 50 (XLBP)\n  the image comes first on the command line: are two names swapped?\n",
+        "fault 10 BadHead\n  the file has journals\n  expected an image, which begins with 58 4c 42 50 (XLBP)\n  \
+         the image comes first on the command line: are two names swapped?\n",
     ),
     (
         "xlb audit image nosuch",

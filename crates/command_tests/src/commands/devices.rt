@@ -4,7 +4,7 @@ ghost use Rattle.std.specs.Prelude.{None};
 
 use super::first_path::IMAGE;
 use super::put_digits;
-use crate::asserting::{holds, same_bytes, same_status};
+use crate::asserting::{holds_of, same_bytes_of, same_status};
 use command_line::Settings;
 use folders::{Folder, FolderFault, Front, MemoryFolder};
 use std::alloc::{AllocError, Global};
@@ -109,14 +109,14 @@ fn tells_a_broken_output(rt: HostRuntime) {
         &mut err,
     );
     same_status(&rt, "a broken output", status, 1);
-    same_bytes(
+    same_bytes_of(
         &rt,
-        "error",
         "a broken output",
+        "error",
         err.bytes(),
         b"fault 7 Device\n",
     );
-    holds(&rt, "one failure", "a broken output", out.failures() == 1);
+    holds_of(&rt, "a broken output", "one failure", out.failures() == 1);
 }
 
 #[test]
@@ -139,7 +139,7 @@ fn survives_a_broken_error_stream(rt: HostRuntime) {
         &mut err,
     );
     same_status(&rt, "a broken error stream", status, 1);
-    same_bytes(&rt, "output", "a broken error stream", out.bytes(), b"");
+    same_bytes_of(&rt, "a broken error stream", "output", out.bytes(), b"");
 }
 
 const FULL: [(FolderFault, &str); 2] = [
@@ -179,7 +179,7 @@ fn compare_full<R: Abort + Threads + Wait + Sync>(
         &mut err,
     );
     same_status(rt, want, status, 1);
-    same_bytes(rt, "error", want, err.bytes(), want.as_bytes());
+    same_bytes_of(rt, want, "error", err.bytes(), want.as_bytes());
 }
 
 #[test]

@@ -5,13 +5,14 @@ ghost use Rattle.std.specs.Prelude.{None, ◌≡◌, ◌+◌, ◌<◌, ◌-◌, 
 
 use super::first_path::IMAGE;
 use super::{put, put_digits};
-use crate::asserting::{holds, same_bytes, same_status};
+use crate::asserting::{holds_of, same_bytes_of, same_status};
 use command_line::settings;
 use folders::{Folder, FolderFault, Front, MemoryFolder};
 use std::alloc::{AllocError, Global};
 use std::process::Abort;
 use std::sync::Wait;
 use std::thread::Threads;
+use test_support::files::SERVICE;
 use wire::{Failed, MemorySink, Sink};
 use xlb_commands::{NoProgress, serve};
 
@@ -151,10 +152,6 @@ impl<D: Folder> Folder for WeakFolder<D> {
     }
 }
 
-/// A service, the tunnel and a backend.
-const SCRIPT: &str =
-    "0 gateway 10.0.0.9 02:00:00:00:00:0a 02:00:00:00:00:0b\n0 vip 203.0.113.1 80 udp\n0 up 0 192.0.2.1\n";
-
 /// A capture of a UDP datagram without data to port 80 of 203.0.113.1.
 const CAPTURE: &str = "\
     d4c3b2a1020004000000000000000000ffff000001000000\
@@ -188,7 +185,7 @@ fn files_of<R: Abort>(rt: &R, alloc: Global) -> MemoryFolder {
     let folder = put(rt, alloc, folder, "frame", &[0; 14]);
     let folder = put(rt, alloc, folder, "text", b"version 1\nmov r0, 2\nexit\n");
     let folder = put(rt, alloc, folder, "journals", JOURNALS.as_bytes());
-    let folder = put(rt, alloc, folder, "script", SCRIPT.as_bytes());
+    let folder = put(rt, alloc, folder, "script", SERVICE.as_bytes());
     put_digits(rt, alloc, folder, "capture", CAPTURE)
 }
 
@@ -254,7 +251,7 @@ const SOUND: Failing = Failing {
 fn has_few_failures(rt: &impl Abort, line: &str, folder: &MemoryFolder)
     ensures { folder.now.failures < NEVER }
 {
-    holds(rt, "few failures", line, folder.failures() < NEVER);
+    holds_of(rt, line, "few failures", folder.failures() < NEVER);
 }
 
 /// Compares a file that a command makes: it is whole, or it is not there.
@@ -270,8 +267,8 @@ fn compare_made<R: Abort>(
     has_few_failures(rt, line, found);
     let bytes = whole.read(alloc, name).expect(rt, "a file that is made");
     match found.read(alloc, name) {
-        Ok(left) => same_bytes(rt, name, line, &left, &bytes),
-        Err(fault) => holds(rt, "no file", line, fault == FolderFault::Device),
+        Ok(left) => same_bytes_of(rt, line, name, &left, &bytes),
+        Err(fault) => holds_of(rt, line, "no file", fault == FolderFault::Device),
     }
 }
 
@@ -308,14 +305,14 @@ fn compare_folder<R: Abort + Threads + Wait + Sync>(rt: &R, alloc: Global, row: 
         },
     );
     same_status(rt, line, found.status, 1);
-    same_bytes(rt, "output", line, &found.out.taken, b"");
-    holds(
+    same_bytes_of(rt, line, "output", &found.out.taken, b"");
+    holds_of(
         rt,
-        "error",
         line,
+        "error",
         found.err.taken.starts_with(b"fault 7 Device\n  "),
     );
-    holds(rt, "one failure", line, found.folder.failures == 1);
+    holds_of(rt, line, "one failure", found.folder.failures == 1);
     compare_files(
         rt,
         alloc,
@@ -335,15 +332,15 @@ fn compare_output<R: Abort + Threads + Wait + Sync>(
     call: u64,
 ) -> bool {
     let found = left_by(rt, alloc, line, Failing { out: call, ..SOUND });
-    holds(rt, "a beginning", line, whole.starts_with(&found.out.taken));
+    holds_of(rt, line, "a beginning", whole.starts_with(&found.out.taken));
     if found.out.failures == 0 {
         same_status(rt, line, found.status, 0);
-        same_bytes(rt, "output", line, &found.out.taken, whole);
+        same_bytes_of(rt, line, "output", &found.out.taken, whole);
         return false;
     }
     same_status(rt, line, found.status, 1);
-    same_bytes(rt, "error", line, &found.err.taken, b"fault 7 Device\n");
-    holds(rt, "a part", line, found.out.taken.len() == taken_in(call));
+    same_bytes_of(rt, line, "error", &found.err.taken, b"fault 7 Device\n");
+    holds_of(rt, line, "a part", found.out.taken.len() == taken_in(call));
     true
 }
 
@@ -355,7 +352,7 @@ fn compare_outputs<R: Abort + Threads + Wait + Sync>(rt: &R, alloc: Global, row:
             return;
         }
     }
-    holds(rt, "an end", row.0, false);
+    holds_of(rt, row.0, "an end", false);
 }
 
 /// Compares a command that is refused for a failing folder, and whose error stream fails at this call.
@@ -372,14 +369,14 @@ fn compare_error<R: Abort + Threads + Wait + Sync>(rt: &R, alloc: Global, line: 
         },
     );
     same_status(rt, line, found.status, 1);
-    same_bytes(rt, "output", line, &found.out.taken, b"");
-    holds(
+    same_bytes_of(rt, line, "output", &found.out.taken, b"");
+    holds_of(
         rt,
-        "a beginning",
         line,
+        "a beginning",
         whole.err.taken.starts_with(&found.err.taken),
     );
-    holds(rt, "a part", line, found.err.taken.len() == taken_in(call));
+    holds_of(rt, line, "a part", found.err.taken.len() == taken_in(call));
 }
 
 #[test]
@@ -389,7 +386,7 @@ fn each_call_of_a_folder_fails_in_turn(rt: HostRuntime) {
             compare_folder(&rt, rt.alloc(), row, call);
         }
         let left = left_by(&rt, rt.alloc(), row.0, SOUND);
-        holds(&rt, "calls", row.0, left.folder.calls == row.1);
+        holds_of(&rt, row.0, "calls", left.folder.calls == row.1);
         same_status(&rt, row.0, left.status, 0);
     }
 }

@@ -4,7 +4,7 @@ ghost use Rattle.std.specs.Prelude.{◌≡◌, true};
 ghost use Rattle.faults.specs.Explanations.{is_fault};
 
 use super::{Wanted, compare};
-use crate::asserting::holds;
+use crate::asserting::holds_of;
 use audit::AuditFault;
 use conntrack::SteerFault;
 use control::ControlFault;
@@ -122,7 +122,7 @@ fn compare_name<R: Abort>(rt: &R, alloc: Global, fault: Fault) {
     let name = Explanation::of(number).map(|row| row.name).unwrap_or("");
     let wanted = format!(in alloc; "fault {number} {name} ").expect(rt, "a line");
     let is_so = text.as_str().starts_with(wanted.as_str());
-    holds(rt, "name", &line, is_so);
+    holds_of(rt, &line, "name", is_so);
 }
 
 #[test]

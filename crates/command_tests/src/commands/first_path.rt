@@ -6,14 +6,16 @@ use std::alloc::Global;
 use std::process::Abort;
 use std::sync::Wait;
 use std::thread::Threads;
+use test_support::programs::FIRST_RUN;
 
 /// The image that checks 14 bytes, reads byte 13, looks element 0 up and exits with the sum.
-pub const IMAGE: &str =
-    "584c4250010100000200000004000000080000000100000061120000000000006113040000000000bf24000000000000070400000e000000b7000000020000002d340b000000000071260d0000000000620afcff00000000bfa200000000000007020000fcffffff181100000000000000000000000000008500000001000000150003000000000079070000000000000f76000000000000bf600000000000009500000000000000";
-
-/// Its text.
-pub const TEXT: &str =
-    "version 1\nmap array 4 8 1\nldxw r2, [r1+0]\nldxw r3, [r1+4]\nmov r4, r2\nadd r4, 14\nmov r0, 2\njgt r4, r3, +11\nldxb r6, [r2+13]\nstw [r10-4], 0\nmov r2, r10\nadd r2, -4\nldmap r1, 0\ncall 1\njeq r0, 0, +3\nldxdw r7, [r0+0]\nadd r6, r7\nmov r0, r6\nexit\n";
+pub const IMAGE: &str = "\
+    584c42500101000002000000040000000800000001000000\
+    61120000000000006113040000000000bf24000000000000070400000e000000\
+    b7000000020000002d340b000000000071260d0000000000620afcff00000000\
+    bfa200000000000007020000fcffffff18110000000000000000000000000000\
+    8500000001000000150003000000000079070000000000000f76000000000000\
+    bf600000000000009500000000000000";
 
 /// A name, the frame's file, the command line, the status, and what is printed on the output and on the error stream.
 type Row = (
@@ -28,21 +30,31 @@ type Row = (
 #[rattlefmt::skip]
 const ROWS: [Row; 19] = [
     ("checked",                   "", "xlb check image", 0, "accepted slots 18 maps 1 reader yes\n", ""),
-    ("printed",                   "", "xlb disasm image", 0, TEXT, ""),
-    ("last byte 3 is tx",         "0000000000000000000000000003", "xlb run image frame", 0, "verdict tx\ninstructions 17\nframe 0000000000000000000000000003\n", ""),
-    ("last byte 1 is drop",       "0000000000000000000000000001", "xlb run image frame", 0, "verdict drop\ninstructions 17\nframe 0000000000000000000000000001\n", ""),
-    ("last byte 0 is aborted",    "0000000000000000000000000000", "xlb run image frame", 0, "verdict aborted\ninstructions 17\nframe 0000000000000000000000000000\n", ""),
-    ("at a time, on a worker",    "0000000000000000000000000003", "xlb run image frame --now 18446744073709551615 --worker 7", 0, "verdict tx\ninstructions 17\nframe 0000000000000000000000000003\n", ""),
-    ("13 bytes are no frame",     "00000000000000000000000003", "xlb run image frame", 1, "", "fault 9 ShortFrame\n  the file has 13 bytes\n  expected the bytes of one Ethernet frame, 14 to 2048 of them\n"),
-    ("an empty frame",            "", "xlb run image frame", 1, "", "fault 9 ShortFrame\n  the file has 0 bytes\n  expected the bytes of one Ethernet frame, 14 to 2048 of them\n"),
-    ("worker 8",                  "0000000000000000000000000003", "xlb run image frame --worker 8", 1, "", "fault 51 BadOptions\n  --worker 8\n  expected 0 to 7\n"),
-    ("worker 9",                  "0000000000000000000000000003", "xlb run image frame --worker 9", 1, "", "fault 51 BadOptions\n  --worker 9\n  expected 0 to 7\n"),
-    ("the frame before worker 9", "00000000000000000000000003", "xlb run image frame --worker 9", 1, "", "fault 9 ShortFrame\n  the file has 13 bytes\n  expected the bytes of one Ethernet frame, 14 to 2048 of them\n"),
-    ("no frame before worker 9",  "0000000000000000000000000003", "xlb run image nosuch --worker 9", 1, "", "fault 7 Device\n  cannot open nosuch: there is no such file\n"),
-    ("the image before worker 9", "0000000000000000000000000003", "xlb run nosuch frame --worker 9", 1, "", "fault 7 Device\n  cannot open nosuch: there is no such file\n"),
-    ("an image of a frame",       "0000000000000000000000000003", "xlb run frame frame", 1, "", "fault 10 BadHead\n  the file begins with the bytes 00 00 00 00 00 00 00 00\n  expected an image, which begins with 58 4c 42 50 (XLBP)\n"),
-    ("no frame",                  "0000000000000000000000000003", "xlb run image nosuch", 1, "", "fault 7 Device\n  cannot open nosuch: there is no such file\n"),
-    ("no image",                  "0000000000000000000000000003", "xlb run nosuch frame", 1, "", "fault 7 Device\n  cannot open nosuch: there is no such file\n"),
+    ("printed",                   "", "xlb disasm image", 0, FIRST_RUN, ""),
+    ("last byte 3 is tx", "0000000000000000000000000003", "xlb run image frame", 0,
+        "verdict tx\ninstructions 17\nframe 0000000000000000000000000003\n", ""),
+    ("last byte 1 is drop", "0000000000000000000000000001", "xlb run image frame", 0,
+        "verdict drop\ninstructions 17\nframe 0000000000000000000000000001\n", ""),
+    ("last byte 0 is aborted", "0000000000000000000000000000", "xlb run image frame", 0,
+        "verdict aborted\ninstructions 17\nframe 0000000000000000000000000000\n", ""),
+    ("at a time, on a worker", "0000000000000000000000000003", "xlb run image frame --now 18446744073709551615 --worker 7", 0,
+        "verdict tx\ninstructions 17\nframe 0000000000000000000000000003\n", ""),
+    ("13 bytes are no frame", "00000000000000000000000003", "xlb run image frame", 1, "",
+        "fault 9 ShortFrame\n  the file has 13 bytes\n  expected the bytes of one Ethernet frame, 14 to 2048 of them\n"),
+    ("an empty frame", "", "xlb run image frame", 1, "",
+        "fault 9 ShortFrame\n  the file has 0 bytes\n  expected the bytes of one Ethernet frame, 14 to 2048 of them\n"),
+    ("worker 8", "0000000000000000000000000003", "xlb run image frame --worker 8", 1, "", "fault 51 BadOptions\n  --worker 8\n  expected 0 to 7\n"),
+    ("worker 9", "0000000000000000000000000003", "xlb run image frame --worker 9", 1, "", "fault 51 BadOptions\n  --worker 9\n  expected 0 to 7\n"),
+    ("the frame before worker 9", "00000000000000000000000003", "xlb run image frame --worker 9", 1, "",
+        "fault 9 ShortFrame\n  the file has 13 bytes\n  expected the bytes of one Ethernet frame, 14 to 2048 of them\n"),
+    ("no frame before worker 9", "0000000000000000000000000003", "xlb run image nosuch --worker 9", 1, "",
+        "fault 7 Device\n  cannot open nosuch: there is no such file\n"),
+    ("the image before worker 9", "0000000000000000000000000003", "xlb run nosuch frame --worker 9", 1, "",
+        "fault 7 Device\n  cannot open nosuch: there is no such file\n"),
+    ("an image of a frame", "0000000000000000000000000003", "xlb run frame frame", 1, "",
+        "fault 10 BadHead\n  the file begins with the bytes 00 00 00 00 00 00 00 00\n  expected an image, which begins with 58 4c 42 50 (XLBP)\n"),
+    ("no frame", "0000000000000000000000000003", "xlb run image nosuch", 1, "", "fault 7 Device\n  cannot open nosuch: there is no such file\n"),
+    ("no image", "0000000000000000000000000003", "xlb run nosuch frame", 1, "", "fault 7 Device\n  cannot open nosuch: there is no such file\n"),
     ("no image to check",         "", "xlb check nosuch", 1, "", "fault 7 Device\n  cannot open nosuch: there is no such file\n"),
     ("no image to print",         "", "xlb disasm nosuch", 1, "", "fault 7 Device\n  cannot open nosuch: there is no such file\n"),
     ("no text to assemble",       "", "xlb asm nosuch made", 1, "", "fault 7 Device\n  cannot open nosuch: there is no such file\n"),

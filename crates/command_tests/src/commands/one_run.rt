@@ -2,12 +2,13 @@
 
 use super::first_path::IMAGE;
 use super::{Wanted, ZEROS, compare, over_text, put, put_digits, refused, serve_line};
-use crate::asserting::same_bytes;
+use crate::asserting::same_bytes_of;
 use folders::MemoryFolder;
 use std::alloc::{AllocError, Global};
 use std::process::Abort;
 use std::sync::Wait;
 use std::thread::Threads;
+use test_support::programs::{READS_BYTE_13, READS_BYTE_14, READS_ONE};
 
 /// What a row shows, the text, the frame, the command line, and what is printed.
 type Row = (
@@ -20,34 +21,71 @@ type Row = (
 
 #[rattlefmt::skip]
 const ROWS: [Row; 28] = [
-    ("two instructions", "version 1\nmov r0, 2\nexit\n", "0000000000000000000000000000", "xlb run image frame", "verdict pass\ninstructions 2\nframe 0000000000000000000000000000\n"),
-    ("byte 13 of 14", "version 1\nldxw r2, [r1+0]\nldxw r3, [r1+4]\nmov r4, r2\nadd r4, 14\nmov r0, 2\njgt r4, r3, +1\nldxb r0, [r2+13]\nexit\n", "0000000000000000000000000001", "xlb run image frame", "verdict drop\ninstructions 8\nframe 0000000000000000000000000001\n"),
-    ("byte 13 of 15", "version 1\nldxw r2, [r1+0]\nldxw r3, [r1+4]\nmov r4, r2\nadd r4, 14\nmov r0, 2\njgt r4, r3, +1\nldxb r0, [r2+13]\nexit\n", "000000000000000000000000000100", "xlb run image frame", "verdict drop\ninstructions 8\nframe 000000000000000000000000000100\n"),
-    ("no byte 14", "version 1\nldxw r2, [r1+0]\nldxw r3, [r1+4]\nmov r4, r2\nadd r4, 14\nmov r0, 2\njge r4, r3, +1\nldxb r0, [r2+14]\nexit\n", "0000000000000000000000000000", "xlb run image frame", "verdict pass\ninstructions 7\nframe 0000000000000000000000000000\n"),
-    ("byte 14 of 15", "version 1\nldxw r2, [r1+0]\nldxw r3, [r1+4]\nmov r4, r2\nadd r4, 14\nmov r0, 2\njge r4, r3, +1\nldxb r0, [r2+14]\nexit\n", "000000000000000000000000000001", "xlb run image frame", "verdict drop\ninstructions 8\nframe 000000000000000000000000000001\n"),
-    ("an element is looked up", "version 1\nmap array 4 8 1\nstw [r10-4], 0\nmov r2, r10\nadd r2, -4\nldmap r1, 0\ncall 1\njeq r0, 0, +1\nldxdw r3, [r0+0]\nmov r0, 2\nexit\n", "0000000000000000000000000000", "xlb run image frame", "verdict pass\ninstructions 9\nframe 0000000000000000000000000000\n"),
-    ("the context kept on the stack", "version 1\nstxdw [r10-8], r1\nldxdw r2, [r10-8]\nldxw r0, [r2+12]\nexit\n", "0000000000000000000000000000", "xlb run image frame", "verdict drop\ninstructions 4\nframe 0000000000000000000000000000\n"),
-    ("the time", "version 1\ncall 5\nexit\n", "0000000000000000000000000000", "xlb run image frame --now 3", "verdict tx\ninstructions 2\nframe 0000000000000000000000000000\n"),
-    ("no time is time 0", "version 1\ncall 5\nexit\n", "0000000000000000000000000000", "xlb run image frame", "verdict aborted\ninstructions 2\nframe 0000000000000000000000000000\n"),
-    ("the worker", "version 1\ncall 8\nexit\n", "0000000000000000000000000000", "xlb run image frame --worker 2", "verdict pass\ninstructions 2\nframe 0000000000000000000000000000\n"),
-    ("the receive queue is the worker", "version 1\nldxw r0, [r1+16]\nexit\n", "0000000000000000000000000000", "xlb run image frame --worker 3", "verdict tx\ninstructions 2\nframe 0000000000000000000000000000\n"),
-    ("a place that the packet tells", "version 1\nldxw r2, [r1+0]\nldxw r3, [r1+4]\nmov r4, r2\nadd r4, 14\nmov r0, 2\njgt r4, r3, +6\nldxb r5, [r2+13]\nadd r2, r5\nmov r4, r2\nadd r4, 1\njgt r4, r3, +1\nldxb r0, [r2+0]\nexit\n", "0000000100000000000000000003", "xlb run image frame", "verdict drop\ninstructions 13\nframe 0000000100000000000000000003\n"),
-    ("a place past the packet", "version 1\nldxw r2, [r1+0]\nldxw r3, [r1+4]\nmov r4, r2\nadd r4, 14\nmov r0, 2\njgt r4, r3, +6\nldxb r5, [r2+13]\nadd r2, r5\nmov r4, r2\nadd r4, 1\njgt r4, r3, +1\nldxb r0, [r2+0]\nexit\n", "000000000000000000000000000e", "xlb run image frame", "verdict pass\ninstructions 12\nframe 000000000000000000000000000e\n"),
-    ("0 is aborted", "version 1\nmov r0, 0\nexit\n", "0000000000000000000000000000", "xlb run image frame", "verdict aborted\ninstructions 2\nframe 0000000000000000000000000000\n"),
-    ("4 is aborted", "version 1\nmov r0, 4\nexit\n", "0000000000000000000000000000", "xlb run image frame", "verdict aborted\ninstructions 2\nframe 0000000000000000000000000000\n"),
-    ("-1 is aborted", "version 1\nmov r0, -1\nexit\n", "0000000000000000000000000000", "xlb run image frame", "verdict aborted\ninstructions 2\nframe 0000000000000000000000000000\n"),
-    ("low 32 bits, a wide instruction once", "version 1\nlddw r0, 0x0000000100000001\nexit\n", "0000000000000000000000000000", "xlb run image frame", "verdict drop\ninstructions 2\nframe 0000000000000000000000000000\n"),
-    ("7 by 0 is 0", "version 1\nmov r0, 7\nmov r1, 0\ndiv r0, r1\nadd r0, 2\nexit\n", "0000000000000000000000000000", "xlb run image frame", "verdict pass\ninstructions 5\nframe 0000000000000000000000000000\n"),
-    ("big endian", "version 1\nmov r0, 768\nbe16 r0\nexit\n", "0000000000000000000000000000", "xlb run image frame", "verdict tx\ninstructions 3\nframe 0000000000000000000000000000\n"),
-    ("a 32-bit shift", "version 1\nmov32 r0, -1\nrsh32 r0, 30\nexit\n", "0000000000000000000000000000", "xlb run image frame", "verdict tx\ninstructions 3\nframe 0000000000000000000000000000\n"),
-    ("the stack", "version 1\nstdw [r10-8], 3\nldxdw r0, [r10-8]\nexit\n", "0000000000000000000000000000", "xlb run image frame", "verdict tx\ninstructions 3\nframe 0000000000000000000000000000\n"),
-    ("a key of a hash map is put and found", "version 1\nmap hash 4 8 2\nstw [r10-4], 7\nstdw [r10-16], 3\nldmap r1, 0\nmov r2, r10\nadd r2, -4\nmov r3, r10\nadd r3, -16\nmov r4, 0\ncall 2\nldmap r1, 0\nmov r2, r10\nadd r2, -4\ncall 1\njeq r0, 0, +1\nldxdw r0, [r0+0]\nexit\n", "0000000000000000000000000000", "xlb run image frame", "verdict tx\ninstructions 16\nframe 0000000000000000000000000000\n"),
-    ("a key of an LRU map is put and found", "version 1\nmap lru 4 8 2\nstw [r10-4], 7\nstdw [r10-16], 3\nldmap r1, 0\nmov r2, r10\nadd r2, -4\nmov r3, r10\nadd r3, -16\nmov r4, 0\ncall 2\nldmap r1, 0\nmov r2, r10\nadd r2, -4\ncall 1\njeq r0, 0, +1\nldxdw r0, [r0+0]\nexit\n", "0000000000000000000000000000", "xlb run image frame", "verdict tx\ninstructions 16\nframe 0000000000000000000000000000\n"),
-    ("a number is added to an element", "version 1\nmap array 4 8 1\nstw [r10-4], 0\nmov r2, r10\nadd r2, -4\nldmap r1, 0\ncall 1\njeq r0, 0, +3\nmov r1, 2\naadddw [r0+0], r1\nldxdw r0, [r0+0]\nexit\n", "0000000000000000000000000000", "xlb run image frame", "verdict pass\ninstructions 10\nframe 0000000000000000000000000000\n"),
-    ("an address that the program names itself", "version 2\nmap array 4 8 1\nldval r1, 0, 0\nmov r2, 3\naadddw [r1+0], r2\nldxdw r0, [r1+0]\nexit\n", "0000000000000000000000000000", "xlb run image frame", "verdict tx\ninstructions 5\nframe 0000000000000000000000000000\n"),
-    ("the packet's start is moved back", "version 1\nmov r2, -20\ncall 44\nmov r0, 3\nexit\n", "0000000000000000000000000000", "xlb run image frame", "verdict tx\ninstructions 4\nframe 00000000000000000000000000000000000000000000000000000000000000000000\n"),
-    ("20 zeros before the packet", "version 1\nmov r2, -20\ncall 44\nmov r0, 3\nexit\n", "aaaaaaaaaaaaaaaaaaaaaaaaaaaa", "xlb run image frame", "verdict tx\ninstructions 4\nframe 0000000000000000000000000000000000000000aaaaaaaaaaaaaaaaaaaaaaaaaaaa\n"),
-    ("past the headroom the packet stays", "version 1\nmov r2, -257\ncall 44\nmov r0, 3\nexit\n", "aaaaaaaaaaaaaaaaaaaaaaaaaaaa", "xlb run image frame", "verdict tx\ninstructions 4\nframe aaaaaaaaaaaaaaaaaaaaaaaaaaaa\n"),
+    ("two instructions", "version 1\nmov r0, 2\nexit\n", "0000000000000000000000000000", "xlb run image frame",
+        "verdict pass\ninstructions 2\nframe 0000000000000000000000000000\n"),
+    ("byte 13 of 14", READS_BYTE_13, "0000000000000000000000000001", "xlb run image frame",
+        "verdict drop\ninstructions 8\nframe 0000000000000000000000000001\n"),
+    ("byte 13 of 15", READS_BYTE_13, "000000000000000000000000000100", "xlb run image frame",
+        "verdict drop\ninstructions 8\nframe 000000000000000000000000000100\n"),
+    ("no byte 14", READS_BYTE_14, "0000000000000000000000000000", "xlb run image frame", "verdict pass\ninstructions 7\nframe 0000000000000000000000000000\n"),
+    ("byte 14 of 15", READS_BYTE_14, "000000000000000000000000000001", "xlb run image frame",
+        "verdict drop\ninstructions 8\nframe 000000000000000000000000000001\n"),
+    ("an element is looked up", READS_ONE, "0000000000000000000000000000", "xlb run image frame",
+        "verdict pass\ninstructions 9\nframe 0000000000000000000000000000\n"),
+    ("the context kept on the stack", "version 1\nstxdw [r10-8], r1\nldxdw r2, [r10-8]\nldxw r0, [r2+12]\nexit\n", "0000000000000000000000000000",
+        "xlb run image frame", "verdict drop\ninstructions 4\nframe 0000000000000000000000000000\n"),
+    ("the time", "version 1\ncall 5\nexit\n", "0000000000000000000000000000", "xlb run image frame --now 3",
+        "verdict tx\ninstructions 2\nframe 0000000000000000000000000000\n"),
+    ("no time is time 0", "version 1\ncall 5\nexit\n", "0000000000000000000000000000", "xlb run image frame",
+        "verdict aborted\ninstructions 2\nframe 0000000000000000000000000000\n"),
+    ("the worker", "version 1\ncall 8\nexit\n", "0000000000000000000000000000", "xlb run image frame --worker 2",
+        "verdict pass\ninstructions 2\nframe 0000000000000000000000000000\n"),
+    ("the receive queue is the worker", "version 1\nldxw r0, [r1+16]\nexit\n", "0000000000000000000000000000", "xlb run image frame --worker 3",
+        "verdict tx\ninstructions 2\nframe 0000000000000000000000000000\n"),
+    ("a place that the packet tells",
+        "version 1\nldxw r2, [r1+0]\nldxw r3, [r1+4]\nmov r4, r2\nadd r4, 14\nmov r0, 2\njgt r4, r3, +6\nldxb r5, [r2+13]\nadd r2, r5\nmov r4, r2\n\
+         add r4, 1\njgt r4, r3, +1\nldxb r0, [r2+0]\nexit\n", "0000000100000000000000000003", "xlb run image frame",
+        "verdict drop\ninstructions 13\nframe 0000000100000000000000000003\n"),
+    ("a place past the packet",
+        "version 1\nldxw r2, [r1+0]\nldxw r3, [r1+4]\nmov r4, r2\nadd r4, 14\nmov r0, 2\njgt r4, r3, +6\nldxb r5, [r2+13]\nadd r2, r5\nmov r4, r2\n\
+         add r4, 1\njgt r4, r3, +1\nldxb r0, [r2+0]\nexit\n", "000000000000000000000000000e", "xlb run image frame",
+        "verdict pass\ninstructions 12\nframe 000000000000000000000000000e\n"),
+    ("0 is aborted", "version 1\nmov r0, 0\nexit\n", "0000000000000000000000000000", "xlb run image frame",
+        "verdict aborted\ninstructions 2\nframe 0000000000000000000000000000\n"),
+    ("4 is aborted", "version 1\nmov r0, 4\nexit\n", "0000000000000000000000000000", "xlb run image frame",
+        "verdict aborted\ninstructions 2\nframe 0000000000000000000000000000\n"),
+    ("-1 is aborted", "version 1\nmov r0, -1\nexit\n", "0000000000000000000000000000", "xlb run image frame",
+        "verdict aborted\ninstructions 2\nframe 0000000000000000000000000000\n"),
+    ("low 32 bits, a wide instruction once", "version 1\nlddw r0, 0x0000000100000001\nexit\n", "0000000000000000000000000000", "xlb run image frame",
+        "verdict drop\ninstructions 2\nframe 0000000000000000000000000000\n"),
+    ("7 by 0 is 0", "version 1\nmov r0, 7\nmov r1, 0\ndiv r0, r1\nadd r0, 2\nexit\n", "0000000000000000000000000000", "xlb run image frame",
+        "verdict pass\ninstructions 5\nframe 0000000000000000000000000000\n"),
+    ("big endian", "version 1\nmov r0, 768\nbe16 r0\nexit\n", "0000000000000000000000000000", "xlb run image frame",
+        "verdict tx\ninstructions 3\nframe 0000000000000000000000000000\n"),
+    ("a 32-bit shift", "version 1\nmov32 r0, -1\nrsh32 r0, 30\nexit\n", "0000000000000000000000000000", "xlb run image frame",
+        "verdict tx\ninstructions 3\nframe 0000000000000000000000000000\n"),
+    ("the stack", "version 1\nstdw [r10-8], 3\nldxdw r0, [r10-8]\nexit\n", "0000000000000000000000000000", "xlb run image frame",
+        "verdict tx\ninstructions 3\nframe 0000000000000000000000000000\n"),
+    ("a key of a hash map is put and found",
+        "version 1\nmap hash 4 8 2\nstw [r10-4], 7\nstdw [r10-16], 3\nldmap r1, 0\nmov r2, r10\nadd r2, -4\nmov r3, r10\nadd r3, -16\nmov r4, 0\n\
+         call 2\nldmap r1, 0\nmov r2, r10\nadd r2, -4\ncall 1\njeq r0, 0, +1\nldxdw r0, [r0+0]\nexit\n", "0000000000000000000000000000",
+        "xlb run image frame", "verdict tx\ninstructions 16\nframe 0000000000000000000000000000\n"),
+    ("a key of an LRU map is put and found",
+        "version 1\nmap lru 4 8 2\nstw [r10-4], 7\nstdw [r10-16], 3\nldmap r1, 0\nmov r2, r10\nadd r2, -4\nmov r3, r10\nadd r3, -16\nmov r4, 0\n\
+         call 2\nldmap r1, 0\nmov r2, r10\nadd r2, -4\ncall 1\njeq r0, 0, +1\nldxdw r0, [r0+0]\nexit\n", "0000000000000000000000000000",
+        "xlb run image frame", "verdict tx\ninstructions 16\nframe 0000000000000000000000000000\n"),
+    ("a number is added to an element",
+        "version 1\nmap array 4 8 1\nstw [r10-4], 0\nmov r2, r10\nadd r2, -4\nldmap r1, 0\ncall 1\njeq r0, 0, +3\nmov r1, 2\naadddw [r0+0], r1\n\
+         ldxdw r0, [r0+0]\nexit\n", "0000000000000000000000000000", "xlb run image frame",
+        "verdict pass\ninstructions 10\nframe 0000000000000000000000000000\n"),
+    ("an address that the program names itself", "version 2\nmap array 4 8 1\nldval r1, 0, 0\nmov r2, 3\naadddw [r1+0], r2\nldxdw r0, [r1+0]\nexit\n",
+        "0000000000000000000000000000", "xlb run image frame", "verdict tx\ninstructions 5\nframe 0000000000000000000000000000\n"),
+    ("the packet's start is moved back", "version 1\nmov r2, -20\ncall 44\nmov r0, 3\nexit\n", "0000000000000000000000000000", "xlb run image frame",
+        "verdict tx\ninstructions 4\nframe 00000000000000000000000000000000000000000000000000000000000000000000\n"),
+    ("20 zeros before the packet", "version 1\nmov r2, -20\ncall 44\nmov r0, 3\nexit\n", "aaaaaaaaaaaaaaaaaaaaaaaaaaaa", "xlb run image frame",
+        "verdict tx\ninstructions 4\nframe 0000000000000000000000000000000000000000aaaaaaaaaaaaaaaaaaaaaaaaaaaa\n"),
+    ("past the headroom the packet stays", "version 1\nmov r2, -257\ncall 44\nmov r0, 3\nexit\n", "aaaaaaaaaaaaaaaaaaaaaaaaaaaa",
+        "xlb run image frame", "verdict tx\ninstructions 4\nframe aaaaaaaaaaaaaaaaaaaaaaaaaaaa\n"),
 ];
 
 /// A row's program, run over its frame.
@@ -150,7 +188,7 @@ fn compare_size<R: Abort + Threads + Wait + Sync>(
     let frame: Vec<u8> = vec![in alloc; 0; size].expect(rt, "a frame");
     let folder = put(rt, alloc, folder, "frame", &frame);
     let found = serve_line(rt, alloc, folder, "xlb run image frame");
-    same_bytes(rt, "error", name, found.err.bytes(), err.as_bytes());
+    same_bytes_of(rt, name, "error", found.err.bytes(), err.as_bytes());
 }
 
 #[test]

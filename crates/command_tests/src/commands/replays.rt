@@ -10,14 +10,8 @@ use std::alloc::Global;
 use std::process::Abort;
 use std::sync::Wait;
 use std::thread::Threads;
-
-/// Sets the value of key 7 to 2, adds 1 to it, and answers it.
-const COUNTS_TO_THREE: &str =
-    "version 1\nmap hash 4 8 1\nstw [r10-4], 7\nstdw [r10-16], 2\nmov r2, r10\nadd r2, -4\nmov r3, r10\nadd r3, -16\nmov r4, 0\nldmap r1, 0\ncall 2\nmov r2, r10\nadd r2, -4\nldmap r1, 0\ncall 1\njeq r0, 0, +3\nmov r1, 1\nafadddw [r0+0], r1\nldxdw r0, [r0+0]\nexit\n";
-
-/// Reads element 0, and passes the frame.
-const READS_ONE: &str =
-    "version 1\nmap array 4 8 1\nstw [r10-4], 0\nmov r2, r10\nadd r2, -4\nldmap r1, 0\ncall 1\njeq r0, 0, +1\nldxdw r3, [r0+0]\nmov r0, 2\nexit\n";
+use test_support::files::{COUNTED_TO_THREE, SERVICE};
+use test_support::programs::{COUNTS_TO_THREE, READS_ONE};
 
 /// Sends every frame.
 const SENDS: &str = "version 1\nmov r0, 3\nexit\n";
@@ -121,8 +115,9 @@ const ONE_TX: &str = "frames 1\nshort 0\nstopped 0\naborted 0\ndrop 0\npass 0\nt
 const THREE_TX: &str = "frames 3\nshort 0\nstopped 0\naborted 0\ndrop 0\npass 0\ntx 3\n";
 
 /// Notes below reports.
-const FULL: &str =
-    "  the journal of shard 0 is full, of map 0\n  frames whose run needs a full journal are not run to their end: --journal N, at most 1048576, and --shards N, at most 8, make more room\n";
+const FULL: &str = "  the journal of shard 0 is full, of map 0
+  frames whose run needs a full journal are not run to their end: --journal N, at most 1048576, and --shards N, at most 8, make more room
+";
 
 const CUT_TWO: &str =
     "  cut 2: bytes were left out when these records were captured; flows of such frames may be judged wrongly\n";
@@ -131,10 +126,6 @@ const RING_8: &str =
     "  --ring 8 has no effect: it is the size of the shipped program's lookup table\n";
 
 const FIVE: &str = "frames 5\nshort 0\nstopped 1\naborted 0\ndrop 0\npass 4\ntx 0\n";
-
-/// A service, the tunnel and a backend.
-const ONE_BACKEND: &str =
-    "0 gateway 10.0.0.9 02:00:00:00:00:0a 02:00:00:00:00:0b\n0 vip 203.0.113.1 80 udp\n0 up 0 192.0.2.1\n";
 
 const UNTRACKED: &str =
     "0 gateway 10.0.0.9 02:00:00:00:00:0a 02:00:00:00:00:0b\n0 vip 203.0.113.1 80 udp notrack\n0 up 0 192.0.2.1\n";
@@ -163,8 +154,10 @@ type Row = (
 );
 
 /// What is said of a script whose commands have no maps.
-const NO_MAPS: &str =
-    "fault 51 BadOptions\n  --script: the program has other maps than those that a script's commands change\n  expected the shipped program, or with --program one that has its maps (docs/STEERING.md)\n";
+const NO_MAPS: &str = "fault 51 BadOptions
+  --script: the program has other maps than those that a script's commands change
+  expected the shipped program, or with --program one that has its maps (docs/STEERING.md)
+";
 
 #[rattlefmt::skip]
 const ROWS: [Row; 18] = [
@@ -176,12 +169,22 @@ const ROWS: [Row; 18] = [
     ("the ring that is the default", SENDS, "", ZEROS_14, "--image image --ring 251", 0, ONE_TX, "", ZEROS_14),
     ("records that were cut",    SENDS, "", CUT_FRAMES, "--image image", 0, THREE_TX, CUT_TWO, THREE_ZEROS),
     ("a full journal",           READS_ONE, "", FIVE_ZEROS, "--image image --journal 16", 0, FIVE, FULL, HEAD),
-    ("a backend that isn't up",  "", "0 down 3\n", HEAD, "--script script", 1, "frames 0\nshort 0\nstopped 0\naborted 0\ndrop 0\npass 0\ntx 0\ncommand 1 refused 91\n", "  line 1 of the script, 0 down 3: no such backend is up, or there is no such number: numbers are below 256 and below the ring's size\n", HEAD),
-    ("a backend twice",          "", "0 up 0 10.0.0.1\n0 up 0 10.0.0.1\n", HEAD, "--script script", 1, "frames 0\nshort 0\nstopped 0\naborted 0\ndrop 0\npass 0\ntx 0\ncommand 2 refused 92\n", "  line 2 of the script, 0 up 0 10.0.0.1: this number or this address is up\n", HEAD),
-    ("a down and a full journal", "", "0 up 0 10.0.0.1\n0 up 1 10.0.0.2\n0 down 0\n0 up 2 10.0.0.3\n", HEAD, "--script script --journal 400", 1, "frames 0\nshort 0\nstopped 0\naborted 0\ndrop 0\npass 0\ntx 0\ncommand 3 refused 94\ncommand 4 refused 94\n", "  line 3 of the script, 0 down 0: a journal is full: --journal N, at most 1048576, makes more room\n  line 4 of the script, 0 up 2 10.0.0.3: a journal is full: --journal N, at most 1048576, makes more room\n", HEAD),
+    ("a backend that isn't up", "", "0 down 3\n", HEAD, "--script script", 1,
+        "frames 0\nshort 0\nstopped 0\naborted 0\ndrop 0\npass 0\ntx 0\ncommand 1 refused 91\n",
+        "  line 1 of the script, 0 down 3: no such backend is up, or there is no such number: numbers are below 256 and below the ring's size\n",
+        HEAD),
+    ("a backend twice", "", "0 up 0 10.0.0.1\n0 up 0 10.0.0.1\n", HEAD, "--script script", 1,
+        "frames 0\nshort 0\nstopped 0\naborted 0\ndrop 0\npass 0\ntx 0\ncommand 2 refused 92\n",
+        "  line 2 of the script, 0 up 0 10.0.0.1: this number or this address is up\n", HEAD),
+    ("a down and a full journal", "", "0 up 0 10.0.0.1\n0 up 1 10.0.0.2\n0 down 0\n0 up 2 10.0.0.3\n", HEAD, "--script script --journal 400", 1,
+        "frames 0\nshort 0\nstopped 0\naborted 0\ndrop 0\npass 0\ntx 0\ncommand 3 refused 94\ncommand 4 refused 94\n",
+        "  line 3 of the script, 0 down 0: a journal is full: --journal N, at most 1048576, makes more room\n  \
+         line 4 of the script, 0 up 2 10.0.0.3: a journal is full: --journal N, at most 1048576, makes more room\n", HEAD),
     ("an image before a script", UNSET, "0 up\n", "", "--image image", 1, "", "fault 35 UnsetRegister slot 0 register 0\n", ""),
     ("a ring before a script",   "", "0 up\n", "", "--script script --ring 8", 1, "", "fault 73 BadSize\n", ""),
-    ("a script before a capture", "", "0 vip 203.0.113.1 80 udp  notrack\n", "", "--script script", 1, "", "fault 90 BadLine line 1\n  line 1, column 25: \"  \": two spaces\n  expected one space between words\n  for example: 0 vip 203.0.113.1 80 tcp, with notrack as its last word where flows are not tracked\n", ""),
+    ("a script before a capture", "", "0 vip 203.0.113.1 80 udp  notrack\n", "", "--script script", 1, "",
+        "fault 90 BadLine line 1\n  line 1, column 25: \"  \": two spaces\n  expected one space between words\n  \
+         for example: 0 vip 203.0.113.1 80 tcp, with notrack as its last word where flows are not tracked\n", ""),
     ("an empty capture",         SENDS, "", "", "--image image --workers 9", 1, "", "fault 4 CutHead record 0\n  at byte 0 of 0\n", ""),
     ("a cut third record",       SENDS, "", CUT_ZEROS, "--image image", 1, "", "fault 5 CutFrame record 3\n  at byte 84 of 101\n", ""),
     ("nine workers",             SENDS, "", ZEROS_14, "--image image --workers 9", 1, "", "fault 51 BadOptions\n  --workers 9\n  expected 1 to 8\n", ""),
@@ -191,16 +194,18 @@ const ROWS: [Row; 18] = [
 /// Frames that the shipped program steers.
 #[rattlefmt::skip]
 const STEERED: [Row; 10] = [
-    ("a service's backend",      "", ONE_BACKEND, DATAGRAM, "--script script", 0, ONE_TX, "", IN_A_TUNNEL),
+    ("a service's backend",      "", SERVICE, DATAGRAM, "--script script", 0, ONE_TX, "", IN_A_TUNNEL),
     ("without tracking",         "", UNTRACKED, DATAGRAM, "--script script", 0, ONE_TX, "", IN_A_TUNNEL),
     ("no backend",               "", NO_BACKEND, DATAGRAM, "--script script --ring 7", 0, ONE_DROP, "", HEAD),
     ("no backend of 251 slots",  "", NO_BACKEND, DATAGRAM, "--script script", 0, ONE_DROP, "", HEAD),
     ("the backend that is up",   "", ANOTHER_BACKEND, DATAGRAM, "--script script", 0, ONE_TX, "", IN_THE_OTHER_TUNNEL),
-    ("a time to live of 0",      "", ONE_BACKEND, NOT_TO_LIVE, "--script script", 0, ONE_DROP, "", HEAD),
+    ("a time to live of 0",      "", SERVICE, NOT_TO_LIVE, "--script script", 0, ONE_DROP, "", HEAD),
     ("no tunnel",                "", NO_TUNNEL, DATAGRAM, "--script script", 0, ONE_DROP, "", HEAD),
     ("no script",                "", "", DATAGRAM, "--script script", 0, ONE_PASS, "", HEAD),
-    ("a summary of one frame",   "", ONE_BACKEND, DATAGRAM, "--script script --summary", 0, ONE_TX, "  1 frame of TCP or UDP that fit into a tunnel\n  1 frame sent to 192.0.2.1\n", IN_A_TUNNEL),
-    ("a summary of one that has expired", "", ONE_BACKEND, NOT_TO_LIVE, "--script script --summary", 0, ONE_DROP, "  1 frame of TCP or UDP with a time to live of 0\n", HEAD),
+    ("a summary of one frame", "", SERVICE, DATAGRAM, "--script script --summary", 0, ONE_TX,
+        "  1 frame of TCP or UDP that fit into a tunnel\n  1 frame sent to 192.0.2.1\n", IN_A_TUNNEL),
+    ("a summary of one that has expired", "", SERVICE, NOT_TO_LIVE, "--script script --summary", 0, ONE_DROP,
+        "  1 frame of TCP or UDP with a time to live of 0\n", HEAD),
 ];
 
 /// The files of a replay: a script, the bytes of a capture's digits, and the image of a text where there is one.
@@ -281,13 +286,32 @@ type Journaled = (
 #[rattlefmt::skip]
 const JOURNALS: [Journaled; 4] = [
     ("one run",          COUNTS_TO_THREE, "", ZEROS_14, "--image image --journal 16",
-     "XLBJ 1 1 1 16\n0 w0 enter ok\n0 w0 update 07000000 0200000000000000 0 answer 0\n0 w0 lookup 07000000 cell 0\n0 w0 atomic 0 0 8 1 1 0 word 2\n0 w0 load 0 0 8 word 3\n0 w0 leave ok\n0 r reclaim freed 0\n"),
+     COUNTED_TO_THREE),
     ("a service alone",  "", "0 vip 203.0.113.1 80 udp notrack\n", HEAD, "--script script --journal 16",
      "XLBJ 1 1 1 16\n0 c update cb00710100501100 0100000000000000 0 answer 0\n0 r reclaim freed 0\n1 r reclaim freed 0\n"),
-    ("a new flow",       "", ONE_BACKEND, DATAGRAM, "--script script --ring 7 --journal 16",
-     "XLBJ 1 1 1 16\n0 c update cb00710100501100 0000000000000000 0 answer 0\n0 w0 enter ok\n0 w0 lookup cb00710100501100 cell 0\n0 w0 load 0 0 8 word 0\n0 w0 leave ok\n0 r reclaim freed 0\n1 w0 enter ok\n1 w0 lookup c6336407cb0071019c40005011000000 null\n1 w0 update c6336407cb0071019c40005011000000 0000000000000000 0 answer 0\n1 w0 leave ok\n1 r reclaim freed 0\n2 c update 00000000 0100000000000000 0 answer 0\n2 c update 01000000 0100000000000000 0 answer 0\n2 c update 02000000 0100000000000000 0 answer 0\n2 c update 03000000 0100000000000000 0 answer 0\n2 c update 04000000 0100000000000000 0 answer 0\n2 c update 05000000 0100000000000000 0 answer 0\n2 c update 06000000 0100000000000000 0 answer 0\n2 w0 enter ok\n2 w0 lookup 00000000 cell 0\n2 w0 load 0 0 4 word 1\n2 w0 leave ok\n3 c update 00000000 c000020101000000 0 answer 0\n3 w0 enter ok\n3 w0 lookup 00000000 cell 0\n3 w0 load 0 0 8 word 4311875776\n3 w0 leave ok\n4 c update 00000000 0a00000902000000000a02000000000b0100000000000000 0 answer 0\n4 w0 enter ok\n4 w0 lookup 00000000 cell 0\n4 w0 load 0 16 8 word 1\n4 w0 load 0 0 8 word 8740929546\n4 w0 load 0 8 8 word 792633534417340928\n4 w0 leave ok\n5 w0 enter ok\n5 w0 lookup 03000000 cell 3\n5 w0 atomic 3 0 8 0 1 0 word 0\n5 w0 leave ok\n"),
+    ("a new flow",       "", SERVICE, DATAGRAM, "--script script --ring 7 --journal 16",
+     "XLBJ 1 1 1 16\n0 c update cb00710100501100 0000000000000000 0 answer 0\n0 w0 enter ok\n0 w0 lookup cb00710100501100 cell 0\n\
+      0 w0 load 0 0 8 word 0\n0 w0 leave ok\n0 r reclaim freed 0\n1 w0 enter ok\n1 w0 lookup c6336407cb0071019c40005011000000 null\n\
+      1 w0 update c6336407cb0071019c40005011000000 0000000000000000 0 answer 0\n1 w0 leave ok\n1 r reclaim freed 0\n\
+      2 c update 00000000 0100000000000000 0 answer 0\n2 c update 01000000 0100000000000000 0 answer 0\n\
+      2 c update 02000000 0100000000000000 0 answer 0\n2 c update 03000000 0100000000000000 0 answer 0\n\
+      2 c update 04000000 0100000000000000 0 answer 0\n2 c update 05000000 0100000000000000 0 answer 0\n\
+      2 c update 06000000 0100000000000000 0 answer 0\n2 w0 enter ok\n2 w0 lookup 00000000 cell 0\n2 w0 load 0 0 4 word 1\n2 w0 leave ok\n\
+      3 c update 00000000 c000020101000000 0 answer 0\n3 w0 enter ok\n3 w0 lookup 00000000 cell 0\n3 w0 load 0 0 8 word 4311875776\n\
+      3 w0 leave ok\n4 c update 00000000 0a00000902000000000a02000000000b0100000000000000 0 answer 0\n4 w0 enter ok\n\
+      4 w0 lookup 00000000 cell 0\n4 w0 load 0 16 8 word 1\n4 w0 load 0 0 8 word 8740929546\n4 w0 load 0 8 8 word 792633534417340928\n\
+      4 w0 leave ok\n5 w0 enter ok\n5 w0 lookup 03000000 cell 3\n5 w0 atomic 3 0 8 0 1 0 word 0\n5 w0 leave ok\n"),
     ("without tracking, no flow is noted", "", UNTRACKED, DATAGRAM, "--script script --ring 7 --journal 16",
-     "XLBJ 1 1 1 16\n0 c update cb00710100501100 0100000000000000 0 answer 0\n0 w0 enter ok\n0 w0 lookup cb00710100501100 cell 0\n0 w0 load 0 0 8 word 1\n0 w0 leave ok\n0 r reclaim freed 0\n1 r reclaim freed 0\n2 c update 00000000 0100000000000000 0 answer 0\n2 c update 01000000 0100000000000000 0 answer 0\n2 c update 02000000 0100000000000000 0 answer 0\n2 c update 03000000 0100000000000000 0 answer 0\n2 c update 04000000 0100000000000000 0 answer 0\n2 c update 05000000 0100000000000000 0 answer 0\n2 c update 06000000 0100000000000000 0 answer 0\n2 w0 enter ok\n2 w0 lookup 00000000 cell 0\n2 w0 load 0 0 4 word 1\n2 w0 leave ok\n3 c update 00000000 c000020101000000 0 answer 0\n3 w0 enter ok\n3 w0 lookup 00000000 cell 0\n3 w0 load 0 0 8 word 4311875776\n3 w0 leave ok\n4 c update 00000000 0a00000902000000000a02000000000b0100000000000000 0 answer 0\n4 w0 enter ok\n4 w0 lookup 00000000 cell 0\n4 w0 load 0 16 8 word 1\n4 w0 load 0 0 8 word 8740929546\n4 w0 load 0 8 8 word 792633534417340928\n4 w0 leave ok\n5 w0 enter ok\n5 w0 lookup 03000000 cell 3\n5 w0 atomic 3 0 8 0 1 0 word 0\n5 w0 leave ok\n"),
+     "XLBJ 1 1 1 16\n0 c update cb00710100501100 0100000000000000 0 answer 0\n0 w0 enter ok\n0 w0 lookup cb00710100501100 cell 0\n\
+      0 w0 load 0 0 8 word 1\n0 w0 leave ok\n0 r reclaim freed 0\n1 r reclaim freed 0\n2 c update 00000000 0100000000000000 0 answer 0\n\
+      2 c update 01000000 0100000000000000 0 answer 0\n2 c update 02000000 0100000000000000 0 answer 0\n\
+      2 c update 03000000 0100000000000000 0 answer 0\n2 c update 04000000 0100000000000000 0 answer 0\n\
+      2 c update 05000000 0100000000000000 0 answer 0\n2 c update 06000000 0100000000000000 0 answer 0\n2 w0 enter ok\n\
+      2 w0 lookup 00000000 cell 0\n2 w0 load 0 0 4 word 1\n2 w0 leave ok\n3 c update 00000000 c000020101000000 0 answer 0\n3 w0 enter ok\n\
+      3 w0 lookup 00000000 cell 0\n3 w0 load 0 0 8 word 4311875776\n3 w0 leave ok\n\
+      4 c update 00000000 0a00000902000000000a02000000000b0100000000000000 0 answer 0\n4 w0 enter ok\n4 w0 lookup 00000000 cell 0\n\
+      4 w0 load 0 16 8 word 1\n4 w0 load 0 0 8 word 8740929546\n4 w0 load 0 8 8 word 792633534417340928\n4 w0 leave ok\n5 w0 enter ok\n\
+      5 w0 lookup 03000000 cell 3\n5 w0 atomic 3 0 8 0 1 0 word 0\n5 w0 leave ok\n"),
 ];
 
 /// Holds the journals of a replay that succeeds against the wanted ones.

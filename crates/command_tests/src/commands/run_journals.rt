@@ -5,29 +5,7 @@ use std::alloc::Global;
 use std::process::Abort;
 use std::sync::Wait;
 use std::thread::Threads;
-
-/// Adds 1 to the value of key 7, which it sets to 2 before, and answers it.
-const COUNTS_TO_THREE: &str = "version 1
-map hash 4 8 1
-stw [r10-4], 7
-stdw [r10-16], 2
-mov r2, r10
-add r2, -4
-mov r3, r10
-add r3, -16
-mov r4, 0
-ldmap r1, 0
-call 2
-mov r2, r10
-add r2, -4
-ldmap r1, 0
-call 1
-jeq r0, 0, +3
-mov r1, 1
-afadddw [r0+0], r1
-ldxdw r0, [r0+0]
-exit
-";
+use test_support::programs::COUNTS_TO_THREE;
 
 const THREE: &str = "XLBJ 1 8 1 65536
 0 w2 enter ok

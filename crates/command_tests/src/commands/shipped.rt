@@ -3,7 +3,7 @@
 ghost use Rattle.std.specs.Prelude.{◌≡◌};
 
 use super::{LEGAL, NOTHING, compare, done, left_by, put, put_digits, succeeded, writes_nothing};
-use crate::asserting::holds;
+use crate::asserting::holds_of;
 use folders::MemoryFolder;
 use std::alloc::Global;
 use std::process::Abort;
@@ -44,12 +44,12 @@ fn compare_maps<R: Abort + Threads + Wait + Sync>(
     let folder = shipped(rt, alloc, words);
     let shown = succeeded(rt, alloc, words, folder, "xlb disasm made");
     let has_maps = shown.out.bytes().starts_with(maps.as_bytes());
-    holds(rt, "maps", words, has_maps);
+    holds_of(rt, words, "maps", has_maps);
     let found = succeeded(rt, alloc, words, shown.folder, "xlb check made");
     let is_accepted = found.out.bytes().starts_with(b"accepted slots ");
-    holds(rt, "line", words, is_accepted);
+    holds_of(rt, words, "line", is_accepted);
     let has_numbers = found.out.bytes().ends_with(b" maps 6 reader no\n");
-    holds(rt, "numbers", words, has_numbers);
+    holds_of(rt, words, "numbers", has_numbers);
 }
 
 #[test]

@@ -27,15 +27,16 @@ type Row = (&'static str, &'static str, u8, &'static str, &'static str);
 
 #[rattlefmt::skip]
 const ROWS: [Row; 10] = [
-    ("no update",              "",                                                                  0, "verdict aborted\ninstructions 8\nframe 0000000000000000000000000000\n", ""),
-    ("another branch",         " --update 0 07000000 0300000000000000",                             0, "verdict tx\ninstructions 8\nframe 0000000000000000000000000000\n", ""),
-    ("the last one stands",    " --update 0 07000000 0300000000000000 --update 0 07000000 0100000000000000", 0, "verdict drop\ninstructions 8\nframe 0000000000000000000000000000\n", ""),
-    ("of another map",         " --update 1 01000000 0300000000000000",                             0, "verdict aborted\ninstructions 8\nframe 0000000000000000000000000000\n", ""),
-    ("no such index",          " --update 1 02000000 0300000000000000",                             1, "", "fault 93 Refused answer -7\n  update 1 of the command line\n"),
-    ("a short key",            " --update 0 01 00 --update 0 01000000 0000000000000000",            2, "", "error: update 1: a key of map 0 has 4 bytes, not 1\n"),
-    ("no map 2",               " --update 0 07000000 0300000000000000 --update 2 07000000 0300000000000000", 2, "", "error: update 2: the image has no map 2\n"),
-    ("a short value",          " --update 1 00000000 03",                                           2, "", "error: update 1: a value of map 1 has 8 bytes, not 1\n"),
-    ("no worker 8",            " --update 0 07000000 0300000000000000 --worker 8",                  1, "", "fault 51 BadOptions\n  --worker 8\n  expected 0 to 7\n"),
+    ("no update", "", 0, "verdict aborted\ninstructions 8\nframe 0000000000000000000000000000\n", ""),
+    ("another branch", " --update 0 07000000 0300000000000000", 0, "verdict tx\ninstructions 8\nframe 0000000000000000000000000000\n", ""),
+    ("the last one stands", " --update 0 07000000 0300000000000000 --update 0 07000000 0100000000000000", 0,
+        "verdict drop\ninstructions 8\nframe 0000000000000000000000000000\n", ""),
+    ("of another map", " --update 1 01000000 0300000000000000", 0, "verdict aborted\ninstructions 8\nframe 0000000000000000000000000000\n", ""),
+    ("no such index", " --update 1 02000000 0300000000000000", 1, "", "fault 93 Refused answer -7\n  update 1 of the command line\n"),
+    ("a short key", " --update 0 01 00 --update 0 01000000 0000000000000000", 2, "", "error: update 1: a key of map 0 has 4 bytes, not 1\n"),
+    ("no map 2", " --update 0 07000000 0300000000000000 --update 2 07000000 0300000000000000", 2, "", "error: update 2: the image has no map 2\n"),
+    ("a short value", " --update 1 00000000 03", 2, "", "error: update 1: a value of map 1 has 8 bytes, not 1\n"),
+    ("no worker 8", " --update 0 07000000 0300000000000000 --worker 8", 1, "", "fault 51 BadOptions\n  --worker 8\n  expected 0 to 7\n"),
     ("a misfit before it",     " --update 2 00 00 --worker 8",                                      2, "", "error: update 1: the image has no map 2\n"),
 ];
 

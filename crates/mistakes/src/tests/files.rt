@@ -13,21 +13,30 @@ type Row = (&'static str, &'static [u8], &'static str);
 const IMAGES: [Row; 16] = [
     ("no bytes", b"", "  the file is empty\n  expected an image, which begins with 58 4c 42 50 (XLBP)\n"),
     ("an object of a compiler", b"\x7fELF\x02\x01\x01\x00",
-        "  the file is an ELF object, as compilers write it\n  expected an image, which begins with 58 4c 42 50 (XLBP)\n  xlb runs images of its own format: write the program as a source (docs/FORMATS.md), and make an image of it with xlb asm --source SOURCE IMAGE\n"),
+        "  the file is an ELF object, as compilers write it\n  expected an image, which begins with 58 4c 42 50 (XLBP)\n  \
+         xlb runs images of its own format: write the program as a source (docs/FORMATS.md), and make an image of it with xlb asm --source \
+         SOURCE IMAGE\n"),
     ("a capture", b"\xd4\xc3\xb2\xa1\x02\x00\x04\x00",
-        "  the file is a capture\n  expected an image, which begins with 58 4c 42 50 (XLBP)\n  the image comes first on the command line: are two names swapped?\n"),
+        "  the file is a capture\n  expected an image, which begins with 58 4c 42 50 (XLBP)\n  \
+         the image comes first on the command line: are two names swapped?\n"),
     ("a newer capture", b"\x0a\x0d\x0d\x0a\x1c\x00\x00\x00",
-        "  the file is a pcapng capture\n  expected an image, which begins with 58 4c 42 50 (XLBP)\n  the image comes first on the command line: are two names swapped?\n"),
+        "  the file is a pcapng capture\n  expected an image, which begins with 58 4c 42 50 (XLBP)\n  \
+         the image comes first on the command line: are two names swapped?\n"),
     ("a text of an image", b"version 2\nexit\n",
-        "  the file is the text of an image\n  expected an image, which begins with 58 4c 42 50 (XLBP)\n  make an image of it with xlb asm TEXT IMAGE, or, where it has comments or labels, with xlb asm --source TEXT IMAGE\n"),
+        "  the file is the text of an image\n  expected an image, which begins with 58 4c 42 50 (XLBP)\n  \
+         make an image of it with xlb asm TEXT IMAGE, or, where it has comments or labels, with xlb asm --source TEXT IMAGE\n"),
     ("a text with a comment first", b"# drops all\nversion 2\n",
-        "  the file is a text\n  expected an image, which begins with 58 4c 42 50 (XLBP)\n  an image is made of a text with xlb asm --source TEXT IMAGE; a text begins with version 1 or version 2\n"),
+        "  the file is a text\n  expected an image, which begins with 58 4c 42 50 (XLBP)\n  \
+         an image is made of a text with xlb asm --source TEXT IMAGE; a text begins with version 1 or version 2\n"),
     ("a script", b"0 down 3\n",
-        "  the file is a script of commands\n  expected an image, which begins with 58 4c 42 50 (XLBP)\n  the image comes first on the command line: are two names swapped?\n"),
+        "  the file is a script of commands\n  expected an image, which begins with 58 4c 42 50 (XLBP)\n  \
+         the image comes first on the command line: are two names swapped?\n"),
     ("journals", b"XLBJ 1 2 1 65536\n",
-        "  the file has journals\n  expected an image, which begins with 58 4c 42 50 (XLBP)\n  the image comes first on the command line: are two names swapped?\n"),
+        "  the file has journals\n  expected an image, which begins with 58 4c 42 50 (XLBP)\n  \
+         the image comes first on the command line: are two names swapped?\n"),
     ("a frame", b"\x02\x00\x00\x00\x00\x01\x02\x00\x00\x00\x00\x02\x08\x00\x45\x00",
-        "  the file is an Ethernet frame\n  expected an image, which begins with 58 4c 42 50 (XLBP)\n  the image comes first on the command line: are two names swapped?\n"),
+        "  the file is an Ethernet frame\n  expected an image, which begins with 58 4c 42 50 (XLBP)\n  \
+         the image comes first on the command line: are two names swapped?\n"),
     ("a packed file", b"\x1f\x8b\x08\x00",
         "  the file is compressed with gzip\n  expected an image, which begins with 58 4c 42 50 (XLBP)\n  unpack it first: gzip -d FILE\n"),
     ("anything", b"\x00\x01\x02\xff\x10\x11\x12\x13\x14",
@@ -43,31 +52,47 @@ const IMAGES: [Row; 16] = [
 #[rattlefmt::skip]
 const CAPTURES: [Row; 14] = [
     ("a newer capture", b"\x0a\x0d\x0d\x0a\x1c\x00\x00\x00",
-        "  the file is a pcapng capture\n  expected a classic capture, low byte first, with microseconds: it begins with d4 c3 b2 a1\n  editcap -F pcap CAPTURE NEW writes it as a classic capture (editcap comes with Wireshark)\n"),
+        "  the file is a pcapng capture\n  expected a classic capture, low byte first, with microseconds: it begins with d4 c3 b2 a1\n  \
+         editcap -F pcap CAPTURE NEW writes it as a classic capture (editcap comes with Wireshark)\n"),
     ("the high byte first", b"\xa1\xb2\xc3\xd4\x00\x02\x00\x04",
-        "  the file is a capture whose numbers have the high byte first\n  expected a classic capture, low byte first, with microseconds: it begins with d4 c3 b2 a1\n  editcap -F pcap CAPTURE NEW writes it as a classic capture (editcap comes with Wireshark)\n"),
+        "  the file is a capture whose numbers have the high byte first\n  \
+         expected a classic capture, low byte first, with microseconds: it begins with d4 c3 b2 a1\n  \
+         editcap -F pcap CAPTURE NEW writes it as a classic capture (editcap comes with Wireshark)\n"),
     ("nanoseconds", b"\x4d\x3c\xb2\xa1\x02\x00\x04\x00",
-        "  the file is a capture with nanoseconds\n  expected a classic capture, low byte first, with microseconds: it begins with d4 c3 b2 a1\n  editcap -F pcap CAPTURE NEW writes it as a classic capture (editcap comes with Wireshark)\n"),
+        "  the file is a capture with nanoseconds\n  \
+         expected a classic capture, low byte first, with microseconds: it begins with d4 c3 b2 a1\n  \
+         editcap -F pcap CAPTURE NEW writes it as a classic capture (editcap comes with Wireshark)\n"),
     ("nanoseconds, the high byte first", b"\xa1\xb2\x3c\x4d\x00\x02\x00\x04",
-        "  the file is a capture with nanoseconds\n  expected a classic capture, low byte first, with microseconds: it begins with d4 c3 b2 a1\n  editcap -F pcap CAPTURE NEW writes it as a classic capture (editcap comes with Wireshark)\n"),
+        "  the file is a capture with nanoseconds\n  \
+         expected a classic capture, low byte first, with microseconds: it begins with d4 c3 b2 a1\n  \
+         editcap -F pcap CAPTURE NEW writes it as a classic capture (editcap comes with Wireshark)\n"),
     ("a packed capture", b"\x1f\x8b\x08\x00",
-        "  the file is compressed with gzip\n  expected a classic capture, low byte first, with microseconds: it begins with d4 c3 b2 a1\n  unpack it first: gzip -d FILE\n"),
+        "  the file is compressed with gzip\n  expected a classic capture, low byte first, with microseconds: it begins with d4 c3 b2 a1\n  \
+         unpack it first: gzip -d FILE\n"),
     ("an image", b"XLBP\x01\x00\x00\x00",
-        "  the file is an image\n  expected a classic capture, low byte first, with microseconds: it begins with d4 c3 b2 a1\n  are two names on the command line swapped?\n"),
+        "  the file is an image\n  expected a classic capture, low byte first, with microseconds: it begins with d4 c3 b2 a1\n  \
+         are two names on the command line swapped?\n"),
     ("a frame", b"\x02\x00\x00\x00\x00\x01\x02\x00\x00\x00\x00\x02\x86\xdd\x60\x00",
-        "  the file is an Ethernet frame\n  expected a classic capture, low byte first, with microseconds: it begins with d4 c3 b2 a1\n  xlb run IMAGE FRAME runs one frame; text2pcap and editcap make captures\n"),
+        "  the file is an Ethernet frame\n  expected a classic capture, low byte first, with microseconds: it begins with d4 c3 b2 a1\n  \
+         xlb run IMAGE FRAME runs one frame; text2pcap and editcap make captures\n"),
     ("digits", b"02 00 00 00 00 01\n",
-        "  the file has hexadecimal digits in place of bytes\n  expected a classic capture, low byte first, with microseconds: it begins with d4 c3 b2 a1\n  text2pcap makes a capture of hexadecimal digits with offsets in front of them: xxd -g 1 FRAME | text2pcap - NEW (text2pcap comes with Wireshark)\n"),
+        "  the file has hexadecimal digits in place of bytes\n  \
+         expected a classic capture, low byte first, with microseconds: it begins with d4 c3 b2 a1\n  \
+         text2pcap makes a capture of hexadecimal digits with offsets in front of them: xxd -g 1 FRAME | text2pcap - NEW (text2pcap comes with \
+         Wireshark)\n"),
     ("anything", b"\x00\x01\x02",
         "  the file begins with the bytes 00 01 02\n  expected a classic capture, low byte first, with microseconds: it begins with d4 c3 b2 a1\n"),
     ("version 2.3", b"\xd4\xc3\xb2\xa1\x02\x00\x03\x00\x00\x00\x00\x00\x00\x00\x00\x00\xff\xff\x00\x00\x01\x00\x00\x00",
         "  the capture's version is 2.3\n  expected 2.4\n  editcap -F pcap CAPTURE NEW writes it so (editcap comes with Wireshark)\n"),
     ("a capture on all interfaces", b"\xd4\xc3\xb2\xa1\x02\x00\x04\x00\x00\x00\x00\x00\x00\x00\x00\x00\xff\xff\x00\x00\x71\x00\x00\x00",
-        "  the capture's link type is 113 (Linux cooked: a capture on the interface \"any\")\n  expected 1, Ethernet\n  capture on an Ethernet interface by its name, as in tcpdump -i eth0 -w NEW\n"),
+        "  the capture's link type is 113 (Linux cooked: a capture on the interface \"any\")\n  expected 1, Ethernet\n  \
+         capture on an Ethernet interface by its name, as in tcpdump -i eth0 -w NEW\n"),
     ("its second form", b"\xd4\xc3\xb2\xa1\x02\x00\x04\x00\x00\x00\x00\x00\x00\x00\x00\x00\xff\xff\x00\x00\x14\x01\x00\x00",
-        "  the capture's link type is 276 (Linux cooked: a capture on the interface \"any\")\n  expected 1, Ethernet\n  capture on an Ethernet interface by its name, as in tcpdump -i eth0 -w NEW\n"),
+        "  the capture's link type is 276 (Linux cooked: a capture on the interface \"any\")\n  expected 1, Ethernet\n  \
+         capture on an Ethernet interface by its name, as in tcpdump -i eth0 -w NEW\n"),
     ("packets alone", b"\xd4\xc3\xb2\xa1\x02\x00\x04\x00\x00\x00\x00\x00\x00\x00\x00\x00\xff\xff\x00\x00\x65\x00\x00\x00",
-        "  the capture's link type is 101 (IP packets without a frame)\n  expected 1, Ethernet\n  capture on an Ethernet interface by its name, as in tcpdump -i eth0 -w NEW\n"),
+        "  the capture's link type is 101 (IP packets without a frame)\n  expected 1, Ethernet\n  \
+         capture on an Ethernet interface by its name, as in tcpdump -i eth0 -w NEW\n"),
     ("a link type without a name here", b"\xd4\xc3\xb2\xa1\x02\x00\x04\x00\x00\x00\x00\x00\x00\x00\x00\x00\xff\xff\x00\x00\x0a\x00\x00\x00",
         "  the capture's link type is 10\n  expected 1, Ethernet\n  capture on an Ethernet interface by its name, as in tcpdump -i eth0 -w NEW\n"),
 ];
@@ -75,11 +100,13 @@ const CAPTURES: [Row; 14] = [
 #[rattlefmt::skip]
 const FRAMES: [Row; 5] = [
     ("digits", b"0200 0000\n",
-        "  the file has hexadecimal digits in place of bytes\n  expected the bytes of one Ethernet frame, 14 to 2048 of them\n  xxd -r -p FRAME NEW makes bytes of hexadecimal digits\n"),
+        "  the file has hexadecimal digits in place of bytes\n  expected the bytes of one Ethernet frame, 14 to 2048 of them\n  \
+         xxd -r -p FRAME NEW makes bytes of hexadecimal digits\n"),
     ("a capture", b"\xd4\xc3\xb2\xa1\x02\x00\x04\x00",
         "  the file is a capture\n  expected the bytes of one Ethernet frame, 14 to 2048 of them\n  xlb replay runs the frames of a capture\n"),
     ("an image", b"XLBP\x01\x00\x00\x00",
-        "  the file is an image\n  expected the bytes of one Ethernet frame, 14 to 2048 of them\n  the frame comes after the image on the command line: are two names swapped?\n"),
+        "  the file is an image\n  expected the bytes of one Ethernet frame, 14 to 2048 of them\n  \
+         the frame comes after the image on the command line: are two names swapped?\n"),
     ("13 bytes", b"\x02\x00\x00\x00\x00\x01\x02\x00\x00\x00\x00\x02\x08",
         "  the file has 13 bytes\n  expected the bytes of one Ethernet frame, 14 to 2048 of them\n"),
     ("no bytes", b"", "  the file has 0 bytes\n  expected the bytes of one Ethernet frame, 14 to 2048 of them\n"),

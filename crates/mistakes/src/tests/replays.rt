@@ -40,7 +40,8 @@ const OPTIONS: [OptionsRow; 11] = [
     ("and in 8",               1, 8, 1048576, "  --shards 8: map 1 has 6 entries\n  expected a number of shards that divides the entries of each map\n"),
     ("the first that is wrong", 9, 3,      0, "  --workers 9\n  expected 1 to 8\n"),
     ("options that are right", 8, 2,      16,
-        "  --script: the program has other maps than those that a script's commands change\n  expected the shipped program, or with --program one that has its maps (docs/STEERING.md)\n"),
+        "  --script: the program has other maps than those that a script's commands change\n  \
+         expected the shipped program, or with --program one that has its maps (docs/STEERING.md)\n"),
 ];
 
 fn options_are_said(rt: &impl Abort, alloc: Global, rows: &[OptionsRow]) -> Result<(), Fail> {
@@ -79,19 +80,24 @@ type Row = (&'static str, &'static [u8], usize, &'static str);
 #[rattlefmt::skip]
 const JOURNALS: [Row; 10] = [
     ("no bytes", b"", 1,
-        "  the file is empty\n  expected journals, which xlb run and xlb replay write with --journals\n  the journals come after the image on the command line: are two names swapped?\n"),
+        "  the file is empty\n  expected journals, which xlb run and xlb replay write with --journals\n  \
+         the journals come after the image on the command line: are two names swapped?\n"),
     ("an image", b"XLBP\x01\x00\x00\x00", 1,
-        "  the file is an image\n  expected journals, which xlb run and xlb replay write with --journals\n  the journals come after the image on the command line: are two names swapped?\n"),
+        "  the file is an image\n  expected journals, which xlb run and xlb replay write with --journals\n  \
+         the journals come after the image on the command line: are two names swapped?\n"),
     ("a text of an image", b"version 1\nexit\n", 1,
-        "  the file is the text of an image\n  expected journals, which xlb run and xlb replay write with --journals\n  the journals come after the image on the command line: are two names swapped?\n"),
+        "  the file is the text of an image\n  expected journals, which xlb run and xlb replay write with --journals\n  \
+         the journals come after the image on the command line: are two names swapped?\n"),
     ("nine workers", b"XLBJ 1 9 1 16\n", 1,
         "  line 1: \"XLBJ 1 9 1 16\"\n  expected XLBJ 1 <workers> <shards> <journal>, options that open the image's maps\n  for example: XLBJ 1 8 1 65536\n"),
     ("a header of another version", b"XLBJ 2 1 1 16\n0 w0 enter ok\n", 1,
         "  line 1: \"XLBJ 2 1 1 16\"\n  expected XLBJ 1 <workers> <shards> <journal>, options that open the image's maps\n  for example: XLBJ 1 8 1 65536\n"),
     ("another word", b"XLBJ 1 1 1 16\n0 w0 enter ok\n0 w0 leaves ok\n", 3,
-        "  line 3: \"0 w0 leaves ok\"\n  expected an entry of a shard of the image's maps, not of an earlier shard than the line above\n  for example: 0 w0 lookup 07000000 cell 0, where keys have 4 bytes\n"),
+        "  line 3: \"0 w0 leaves ok\"\n  expected an entry of a shard of the image's maps, not of an earlier shard than the line above\n  \
+         for example: 0 w0 lookup 07000000 cell 0, where keys have 4 bytes\n"),
     ("an empty line", b"XLBJ 1 1 1 16\n\n", 2,
-        "  line 2: \"\"\n  expected an entry of a shard of the image's maps, not of an earlier shard than the line above\n  for example: 0 w0 lookup 07000000 cell 0, where keys have 4 bytes\n"),
+        "  line 2: \"\"\n  expected an entry of a shard of the image's maps, not of an earlier shard than the line above\n  \
+         for example: 0 w0 lookup 07000000 cell 0, where keys have 4 bytes\n"),
     ("no line feed at the end", b"XLBJ 1 1 1 16\n0 w0 enter ok", 2,
         "  line 2: \"0 w0 enter ok\"\n  expected a line feed after each line, the last one too\n"),
     ("a byte that is no text", b"XLBJ 1 1 1 16\n0 w0 \xff\n", 2, "  line 2 has a byte that is not UTF-8\n  expected plain ASCII text\n"),

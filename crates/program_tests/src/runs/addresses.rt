@@ -3,13 +3,13 @@
 use super::asking::{REPLIES, asks_of_arrays, ended};
 use super::listing::EXIT;
 use super::scripted::{Asked, Replies};
-use crate::rows::{add, alu, jump, load, mov, number, put, store};
 use ebpf_decode::{Insn, MapDef, MapKind};
 use isa::Register::{R0, R1, R2, R3, R4, R5, R6, R10};
 use isa::{AluOp, Size, Source, Test};
 use machine::Stop;
 use semantics::Verdict;
 use std::test::Fail;
+use test_support::{add, alu, jump, load, mov, number, put, store};
 
 /// Arrays of values of 256 bytes.
 const WIDE: [MapDef; 2] = [MapDef {

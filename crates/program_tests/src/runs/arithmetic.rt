@@ -1,9 +1,8 @@
 //! Each row of the arithmetic, as an instruction of a program that stores what it returns on the packet.
 
-use super::listing::{EXIT, checked, lddw};
+use super::listing::{EXIT, checked};
 use super::programs::{MOMENT, accepted, has_number, ran};
 use crate::asserting::same;
-use crate::rows::{number, put};
 use ebpf_decode::Insn;
 use isa::Register::{R0, R2, R5, R6};
 use isa::{AluOp, ByteOrder, Extension, ShortExtension, Size, Source, SwapWidth, Test, Width};
@@ -12,6 +11,7 @@ use semantics::Verdict;
 use std::alloc::Global;
 use std::process::Abort;
 use std::test::Fail;
+use test_support::{lddw, number, put};
 
 const LEAST64: u64 = 0x8000000000000000;
 

@@ -1,10 +1,9 @@
 //! What a run asks of a map by each instruction, and what it makes of the reply, worked out by hand.
 
-use super::listing::{EXIT, call, checked, lddw};
+use super::listing::{EXIT, checked};
 use super::programs::{MOMENT, accepted, accepted_in};
 use super::scripted::{Asked, Replies, ScriptedPort};
 use crate::asserting::{same, same_fact};
-use crate::rows::{add, jump, load, mov, number, put, store};
 use ebpf_decode::{Insn, MapDef, MapKind, Version};
 use isa::Register::{R0, R1, R2, R3, R4, R5, R6, R10};
 use isa::{AluOp, AtomicOp, Size, Source, Test, Width};
@@ -13,6 +12,7 @@ use semantics::{Key, Value, Verdict};
 use std::alloc::Global;
 use std::process::Abort;
 use std::test::Fail;
+use test_support::{add, call, jump, lddw, load, mov, number, put, store};
 use verifier::Verified;
 use wire::Frame;
 

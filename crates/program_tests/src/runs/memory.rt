@@ -1,9 +1,8 @@
 //! Loads and stores of each size, on the packet and on the stack.
 
-use super::listing::{EXIT, checked, lddw};
+use super::listing::{EXIT, checked};
 use super::programs::{MOMENT, accepted, ran};
 use crate::asserting::{same, same_fact};
-use crate::rows::{load, number, put, store};
 use ebpf_decode::Insn;
 use isa::Register::{R0, R1, R2, R5, R10};
 use isa::{Extension, Register, Size};
@@ -12,6 +11,7 @@ use semantics::Verdict;
 use std::alloc::Global;
 use std::process::Abort;
 use std::test::Fail;
+use test_support::{lddw, load, number, put, store};
 
 const NUMBER: u64 = 0x1122334455667788;
 

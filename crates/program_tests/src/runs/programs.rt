@@ -4,7 +4,7 @@ ghost use Rattle.std.specs.Prelude.{◌<◌, IfOk};
 
 use super::nothing::NothingPort;
 use crate::asserting::same_fact;
-use ebpf_decode::{Image, Insn, MapDef, MapKind, Version};
+use ebpf_decode::{Image, Insn, MapDef, Version};
 use machine::{Exit, Moment, run};
 use std::alloc::Global;
 use std::process::Abort;
@@ -17,14 +17,6 @@ pub(super) const MOMENT: Moment = Moment {
     now_ns: 3,
     worker: 2,
 };
-
-/// One array of one entry of eight bytes.
-pub(super) const ARRAY: [MapDef; 1] = [MapDef {
-    kind: MapKind::Array,
-    key_size: 4,
-    value_size: 8,
-    max_entries: 1,
-}];
 
 /// An accepted image of version 1, of the maps and a program in two parts.
 pub(super) fn accepted(

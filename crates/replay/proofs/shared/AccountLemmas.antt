@@ -126,14 +126,14 @@ next_after frames workers count number runs next worker place list at =
 
 pub next_at : {A : Type 0} (records : List Sent) (runs : List (Vec Ran A)) (number : ℕ) (sent : Sent) (next : List ℕ) (worker place : ℕ) (list : Vec Ran A)
     → number < length records → sent ≡ get_or records number sent → is_short sent.bytes.items ≡ false
-    → worker ≡ worker_of_frame sent.bytes.items (length runs) → worker < length runs
+    → worker ≡ worker_of_frame (frame_at (frames_of records) number) (length runs) → worker < length runs
     → AreRunsOfShares (frames_of records) (length runs) (length records) (lists_of runs) → AreNext (frames_of records) (length runs) number next
     → place ≡ get_or next worker place → list ≡ get_or runs worker list
     → IsNextAt (frames_of records) (length runs) (length records) number (lists_of runs) next worker place list.items
 next_at records runs number sent next worker place list below found long who few are is_next place_is list_is =
     let there = frame_there records number sent below found in record {
       long = ap is_short there ∙ long;
-      who = ap (λ f. worker_of_frame f (length runs)) there ∙ sym who;
+      who = sym who;
       below = few;
       there = below;
       are_runs = are;

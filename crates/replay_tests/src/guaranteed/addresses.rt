@@ -1,6 +1,6 @@
 //! Programs of version 2 that name addresses of values themselves, and what they leave in the journals.
 
-use super::programs::{EXIT, ONE_ENTRY, OPTIONS, Program, add, alu, copy, jump_if, load, mov, put};
+use super::programs::{EXIT, OPTIONS, Program};
 use super::worker_runs::{Run, enter, exit, found, leave, lookup, program_leaves};
 use ebpf_decode::{Insn, MapDef, Version};
 use isa::Register::{R0, R1, R2, R3, R4, R5, R6};
@@ -9,8 +9,11 @@ use semantics::{Call, CellRef, Options, Reply, Verdict};
 use std::alloc::Global;
 use std::process::Abort;
 use std::test::Fail;
+use test_support::programs::ONE_ENTRY;
+use test_support::{add, alu, jump, load, mov, number, store};
 
-fn address(dst: Register, map: i32) -> Insn {
+/// The first byte of the first value of a map.
+fn first_value(dst: Register, map: i32) -> Insn {
     Insn::Ldval {
         dst,
         map,
@@ -46,10 +49,10 @@ fn counted(map: i32) -> [Insn; 5] {
         offset: 0,
     };
     [
-        address(R1, map),
-        mov(R2, 3),
+        first_value(R1, map),
+        number!(R2, 3),
         add,
-        load(Size::U64, R0, R1, 0),
+        load!(Size::U64, R0, R1, 0),
         EXIT,
     ]
 }
@@ -121,14 +124,14 @@ fn a_count_at_an_address(rt: HostRuntime) -> Result<(), Fail> {
 /// The address of an array's value of 256 bytes, and past the test of 14 bytes, byte 13 in R5.
 fn measured(skip: i16) -> [Insn; 8] {
     [
-        address(R6, 0),
-        load(Size::U32, R2, R1, 0),
-        load(Size::U32, R3, R1, 4),
-        copy(R4, R2),
-        add(R4, 14),
-        mov(R0, 2),
-        jump_if(Test::Gt, R4, Source::Reg(R3), skip),
-        load(Size::U8, R5, R2, 13),
+        first_value(R6, 0),
+        load!(Size::U32, R2, R1, 0),
+        load!(Size::U32, R3, R1, 4),
+        mov!(R4, R2),
+        add!(R4, 14),
+        number!(R0, 2),
+        jump!(Test::Gt, R4, Source::Reg(R3), skip),
+        load!(Size::U8, R5, R2, 13),
     ]
 }
 
@@ -177,12 +180,12 @@ fn writes(
 /// Byte 13 says where in the value a number is written, of one byte, or of two at an even place.
 #[test]
 fn a_place_in_a_value_that_the_packet_tells(rt: HostRuntime) -> Result<(), Fail> {
-    let further = alu(AluOp::Add, R6, Source::Reg(R5));
-    let read = load(Size::U8, R0, R6, 0);
-    let byte = [further, put(Size::U8, R6, 0, 3), read, EXIT];
+    let further = alu!(AluOp::Add, R6, Source::Reg(R5));
+    let read = load!(Size::U8, R0, R6, 0);
+    let byte = [further, store!(Size::U8, R6, 0, 3), read, EXIT];
     writes(&rt, rt.alloc(), "one byte", &measured(4), &byte, 12, 255, 1)?;
-    let even = alu(AluOp::And, R5, Source::Imm(254));
-    let short = [even, further, put(Size::U16, R6, 0, 3), read, EXIT];
+    let even = alu!(AluOp::And, R5, Source::Imm(254));
+    let short = [even, further, store!(Size::U16, R6, 0, 3), read, EXIT];
     writes(
         &rt,
         rt.alloc(),

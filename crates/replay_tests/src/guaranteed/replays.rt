@@ -2,7 +2,7 @@
 
 ghost use Rattle.std.specs.Prelude.{◌≡◌, []};
 
-use super::programs::{ARRAY, EXIT, Program, accepted, look_up, mov};
+use super::programs::{EXIT, Program, accepted, look_up};
 use crate::asserting::{same_bytes_of, same_fact};
 use crate::replays::{capture, capture_file, one_record, segment};
 use control::parse_script;
@@ -17,6 +17,8 @@ use std::process::Abort;
 use std::sync::Wait;
 use std::test::Fail;
 use std::thread::Threads;
+use test_support::number;
+use test_support::programs::ARRAY;
 use verifier::Verified;
 use wire::{Capture, Sent};
 
@@ -38,7 +40,7 @@ fn sending(alloc: Global) -> Result<Verified, Fail> {
             version: Version::V1,
             maps: &ARRAY,
             head: &look_up(0),
-            tail: &[mov(R0, 3), EXIT],
+            tail: &[number!(R0, 3), EXIT],
         },
     )
 }

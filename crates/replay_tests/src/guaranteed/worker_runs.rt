@@ -2,10 +2,7 @@
 
 ghost use Rattle.std.specs.Prelude.{◌<◌};
 
-use super::programs::{
-    ARRAY, EXIT, MOMENT, ONE_ENTRY, OPTIONS, Program, SMALL, accepted, add, copy, jump_if, load,
-    look_up, mov, put, store,
-};
+use super::programs::{EXIT, MOMENT, OPTIONS, Program, SMALL, accepted, look_up};
 use crate::asserting::{same_bytes_of, same_fact};
 use ebpf_decode::{Insn, MapDef, Version, decode};
 use guarantees::opened_shards_are_ready;
@@ -18,6 +15,8 @@ use shards::PlainShards;
 use std::alloc::Global;
 use std::process::Abort;
 use std::test::Fail;
+use test_support::programs::{ARRAY, ONE_ENTRY};
+use test_support::{add, jump, load, mov, number, put};
 use verifier::{Verified, verify};
 use wire::Frame;
 
@@ -160,9 +159,9 @@ fn looks(
 #[test]
 fn a_value_past_its_null_test(rt: HostRuntime) -> Result<(), Fail> {
     let tail = [
-        jump_if(Test::Eq, R0, Source::Imm(0), 1),
-        load(Size::U64, R3, R0, 0),
-        mov(R0, 2),
+        jump!(Test::Eq, R0, Source::Imm(0), 1),
+        load!(Size::U64, R3, R0, 0),
+        number!(R0, 2),
         EXIT,
     ];
     let end = exit(Verdict::Pass, 9);
@@ -199,10 +198,10 @@ fn loads_a_part(
     offset: i16,
 ) -> Result<(), Fail> {
     let tail = [
-        jump_if(Test::Eq, R0, Source::Imm(0), 2),
-        add(R0, further),
-        load(Size::U16, R3, R0, offset),
-        mov(R0, 2),
+        jump!(Test::Eq, R0, Source::Imm(0), 2),
+        add!(R0, further),
+        load!(Size::U16, R3, R0, offset),
+        number!(R0, 2),
         EXIT,
     ];
     let end = exit(Verdict::Pass, 10);
@@ -221,14 +220,14 @@ fn a_part_of_a_value(rt: HostRuntime) -> Result<(), Fail> {
 #[test]
 fn a_spilled_value_and_a_spilled_null(rt: HostRuntime) -> Result<(), Fail> {
     let tail = [
-        store(Size::U64, R10, -16, R0),
-        load(Size::U64, R6, R10, -16),
-        jump_if(Test::Eq, R6, Source::Imm(0), 3),
-        load(Size::U64, R0, R6, 0),
-        add(R0, 1),
+        put!(Size::U64, R10, -16, R0),
+        load!(Size::U64, R6, R10, -16),
+        jump!(Test::Eq, R6, Source::Imm(0), 3),
+        load!(Size::U64, R0, R6, 0),
+        add!(R0, 1),
         EXIT,
-        add(R6, 3),
-        copy(R0, R6),
+        add!(R6, 3),
+        mov!(R0, R6),
         EXIT,
     ];
     let end = exit(Verdict::Drop, 11);
@@ -249,11 +248,11 @@ fn a_spilled_value_and_a_spilled_null(rt: HostRuntime) -> Result<(), Fail> {
 #[test]
 fn a_spilled_tested_value(rt: HostRuntime) -> Result<(), Fail> {
     let tail = [
-        jump_if(Test::Eq, R0, Source::Imm(0), 4),
-        store(Size::U64, R10, -16, R0),
-        load(Size::U64, R6, R10, -16),
-        load(Size::U64, R0, R6, 0),
-        add(R0, 3),
+        jump!(Test::Eq, R0, Source::Imm(0), 4),
+        put!(Size::U64, R10, -16, R0),
+        load!(Size::U64, R6, R10, -16),
+        load!(Size::U64, R0, R6, 0),
+        add!(R0, 3),
         EXIT,
     ];
     let end = exit(Verdict::Tx, 11);
@@ -281,7 +280,7 @@ fn the_second_of_two_maps(rt: HostRuntime) -> Result<(), Fail> {
         version: Version::V1,
         maps: &TWO,
         head: &head,
-        tail: &[mov(R0, 2), EXIT],
+        tail: &[number!(R0, 2), EXIT],
     };
     let second = Run {
         name: "the second",
@@ -385,7 +384,7 @@ fn a_full_journal(rt: HostRuntime) -> Result<(), Fail> {
         version: Version::V1,
         maps: &ARRAY,
         head: &head,
-        tail: &[mov(R0, 3), EXIT],
+        tail: &[number!(R0, 3), EXIT],
     };
     let run = Run {
         name: "sixteen entries",

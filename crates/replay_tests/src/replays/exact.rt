@@ -9,7 +9,7 @@ use super::shipped_program::{
 use super::{NONE, captured, journals_file, program};
 use crate::asserting::{holds_of, same_bytes_of, same_fact};
 use control::parse_script;
-use replay::{Applied, Counts, Gate, NoGate, Outcome, exact_replay};
+use replay::{Applied, Counts, Gate, NoGate, Outcome, exact_replay, replay_in_turn};
 use semantics::{Caller, Options};
 use std::alloc::Global;
 use std::hint::spin_loop;
@@ -310,5 +310,111 @@ fn an_exact_down_meets_a_full_journal(rt: HostRuntime) -> Result<(), Fail> {
     let refused = are_the_last_two(&outcome.refused);
     holds_of(&rt, row.name, "the refused commands", refused);
     same_fact(&rt, row.name, "the counts", &outcome.counts, &row.counts);
+    Ok(())
+}
+
+/// A replay on one thread, over shards of one part.
+fn in_turn(
+    alloc: Global,
+    verified: &Verified,
+    capture: &Capture,
+    script: &str,
+    workers: u32,
+    journal: u32,
+) -> Result<Outcome, Fail> {
+    let script = parse_script(alloc, script.as_bytes())?;
+    let options = Options {
+        workers,
+        shards: 1,
+        journal,
+    };
+    Ok(replay_in_turn(alloc, verified, capture, &script, options)?)
+}
+
+/// A row on one thread.
+fn is_in_turn<R: Abort>(
+    rt: &R,
+    alloc: Global,
+    verified: &Verified,
+    row: &Row,
+    workers: u32,
+) -> Result<(), Fail> {
+    let script = format!(in alloc; "{}{AT_FIRST}{}", row.service, row.later)?;
+    let capture = segments(alloc, row.frames)?;
+    let outcome = in_turn(alloc, verified, &capture, &script, workers, 1024)?;
+    compare(rt, row, &outcome);
+    Ok(())
+}
+
+#[test]
+fn on_one_thread_commands_act_between_two_frames(rt: HostRuntime) -> Result<(), Fail> {
+    let verified = verify(rt.alloc(), shipped(rt.alloc(), 7)?)?;
+    for row in &EXACT {
+        for workers in [1, 2, 4, 8] {
+            is_in_turn(&rt, rt.alloc(), &verified, row, workers)?;
+        }
+    }
+    Ok(())
+}
+
+/// The long replay on one thread.
+fn long_in_turn<R: Abort>(
+    rt: &R,
+    alloc: Global,
+    verified: &Verified,
+    workers: u32,
+) -> Result<Outcome, Fail> {
+    let (ports, want) = long_frames(alloc)?;
+    let script = format!(in alloc; "{UNTRACKED}{AT_FIRST}{LONG}")?;
+    let capture = segments(alloc, &ports)?;
+    let outcome = in_turn(alloc, verified, &capture, &script, workers, 65536)?;
+    let wrong = first_wrong(&outcome.sent, &want);
+    same_fact(rt, "on one thread", "the first wrong frame", &wrong, &None);
+    Ok(outcome)
+}
+
+/// In how many places of the journals one has an entry of the controller, and the other none.
+fn controllers_apart(one: &Outcome, other: &Outcome) -> usize {
+    let mut apart = 0;
+    for number in 0..one.journals.count() {
+        let journal = one.journals.journal(number);
+        for place in 0..journal.len() {
+            let first = journal.entry(place).who == Caller::Controller;
+            let second = controls(other, number, place);
+            if first != second {
+                apart += 1;
+            }
+        }
+    }
+    apart
+}
+
+/// Whether the entry at a place is one of the controller.
+fn controls(outcome: &Outcome, number: usize, place: usize) -> bool {
+    if number >= outcome.journals.count() {
+        return false;
+    }
+    let journal = outcome.journals.journal(number);
+    place < journal.len() && journal.entry(place).who == Caller::Controller
+}
+
+/// By one worker the journals are those of a replay with threads; by four workers each update stands where it stood by one.
+#[test]
+fn on_one_thread_the_journals_are_the_same(rt: HostRuntime) -> Result<(), Fail> {
+    let verified = verify(rt.alloc(), shipped(rt.alloc(), 7)?)?;
+    let threads = long_replay(&rt, rt.alloc(), &verified, 1)?;
+    let alone = long_in_turn(&rt, rt.alloc(), &verified, 1)?;
+    let first = journals_file(rt.alloc(), &threads)?;
+    let second = journals_file(rt.alloc(), &alone)?;
+    same_bytes_of(
+        &rt,
+        "on one thread",
+        "the journals",
+        second.bytes(),
+        first.bytes(),
+    );
+    let four = long_in_turn(&rt, rt.alloc(), &verified, 4)?;
+    let apart = controllers_apart(&alone, &four);
+    same_fact(&rt, "on one thread", "updates at other places", &apart, &0);
     Ok(())
 }

@@ -1,8 +1,6 @@
 //! Rows of which a gate fixes the schedule, or counts the replies.
 
-use super::{
-    COUNTS_TO_THREE, Frames, NONE, READS_ONE, Row, SENDS_ALL, has_part, journals_file, replayed,
-};
+use super::{Frames, NONE, Row, SENDS_ALL, has_part, journals_file, replayed};
 use crate::asserting::{holds_of, same_fact};
 use replay::{Applied, Counts, Gate, NoGate, Outcome};
 use semantics::Caller;
@@ -13,6 +11,7 @@ use std::sync::Wait;
 use std::sync::atomic::{AtomicU64, Ordering};
 use std::test::Fail;
 use std::thread::Threads;
+use test_support::programs::{COUNTS_TO_THREE, READS_ONE};
 
 /// A gate that holds each worker below a number, at its first reply, until this many workers have had one, but no longer than its limit of turns.
 #[derive(Drop)]

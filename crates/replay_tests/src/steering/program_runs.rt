@@ -4,6 +4,7 @@ ghost use Rattle.std.specs.Prelude.{◌≡◌};
 
 use super::sessions::{Record, options, records_session, run_session};
 use crate::asserting::{holds_of, same_bytes_of, same_fact};
+use crate::steered_frames::SENT;
 use semantics::Verdict;
 use shard_port::laws::opened_serve;
 use shards::PlainShards;
@@ -14,19 +15,10 @@ use steer::shipped;
 use verifier::{Verified, verify};
 use wire::Frame;
 
-// A UDP datagram from 198.51.100.7 to 203.0.113.1, port 80.
+// The datagram of `SENT`, which is from 198.51.100.7 to 203.0.113.1, port 80.
 #[rattlefmt::skip]
 const UDP: [u8; 42] = [
     0x02, 0, 0, 0, 0, 0x01, 0x02, 0, 0, 0, 0, 0x02, 0x08, 0x00,
-    0x45, 0, 0, 0x1c, 0, 0x01, 0, 0, 0x40, 0x11, 0x14, 0x94, 198, 51, 100, 7, 203, 0, 113, 1,
-    0x9c, 0x40, 0, 0x50, 0, 0x08, 0, 0,
-];
-
-// The same behind 10.0.0.9, to 192.0.2.1.
-#[rattlefmt::skip]
-const SENT: [u8; 62] = [
-    0x02, 0, 0, 0, 0, 0x0b, 0x02, 0, 0, 0, 0, 0x0a, 0x08, 0x00,
-    0x45, 0, 0, 0x30, 0, 0, 0x40, 0, 0x40, 0x04, 0x6e, 0xc0, 10, 0, 0, 9, 192, 0, 2, 1,
     0x45, 0, 0, 0x1c, 0, 0x01, 0, 0, 0x40, 0x11, 0x14, 0x94, 198, 51, 100, 7, 203, 0, 113, 1,
     0x9c, 0x40, 0, 0x50, 0, 0x08, 0, 0,
 ];

@@ -1,7 +1,8 @@
-use Rattle.std.proofs.Common.{◌≡◌, ◌+◌, ◌++◌, length, sym, ap, ◌∙◌, subst, arith}
-use Rattle.replay.specs.Shares.{frames_of}
-use Rattle.replay.specs.Accounts.{lists_of, fate_of, counts_of, counted, sent_of, sent_by, AreRunsOfShares, AreFatesFrom, AreNext}
-use Rattle.replay.proofs.TakingOut.{counts_next, sent_next}
+use Rattle.std.proofs.Common.{◌≡◌, ◌+◌, List, [], ◌∷◌, ◌++◌, length, sym, ap, ◌∙◌, subst, arith}
+use Rattle.replay.specs.declared.outcome.RecordEnd.{RecordEnd}
+use Rattle.replay.specs.Shares.{frames_of, frame_at, worker_of_frame}
+use Rattle.replay.specs.Accounts.{lists_of, fate_of, counts_of, counted, sent_of, sent_by, ends_of, record_end, AreRunsOfShares, AreFatesFrom, AreNext}
+use Rattle.replay.proofs.TakingOut.{counts_next, sent_next, ends_next}
 use Rattle.replay.proofs.account.account.Goals as goal
 
 pub records-preserved : goal.records-preserved
@@ -15,6 +16,7 @@ records-preserved c =
     let call = c.next_fate-fate.ensures in
     let now = lists_of c.next_fate-fate.new.runs.items in
     let fate = c.next_fate-fate.result in
+    let worker = c.worker_at-worker.result in
     let is : fate ≡ fate_of frames workers runs number =
     subst (λ n. fate ≡ fate_of frames n (lists_of c.records.runs.items) number) i.count call.fate ∙ i.left number (omega arith) in
     record {
@@ -26,6 +28,12 @@ records-preserved c =
       counts = c.count.ensures.counted ∙ ap (λ counts. counted counts fate) i.counts ∙ ap (λ f. counted (counts_of frames workers runs number) f) is
           ∙ sym (counts_next frames workers runs number);
       frames = c.count.ensures.one_more ∙ ap (λ n. n + 1) i.frames;
+      ends = c.in_ok-push.ensures.items ∙ ap (λ (list : List RecordEnd). list ++ c.record_end.result ∷ []) i.ends
+          ∙ ap (λ (told : RecordEnd). ends_of frames workers runs number ++ told ∷ []) (c.record_end.ensures ∙ ap (record_end worker) is
+          ∙ ap (λ n. record_end n (fate_of frames workers runs number)) (c.worker_at-worker.ensures.worker
+          ∙ ap (worker_of_frame (frame_at frames number)) i.workers))
+          ∙ sym (ends_next frames workers runs number);
+      workers = i.workers;
       sent = c.in_ok-send.ensures ∙ ap (λ list. list ++ sent_by fate) i.sent ∙ ap (λ f. sent_of frames workers runs number ++ sent_by f) is
           ∙ sym (sent_next frames workers runs number);
     }

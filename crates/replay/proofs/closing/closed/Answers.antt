@@ -3,7 +3,7 @@ use Rattle.std.proofs.lemmas.List.{length-map}
 use Rattle.std.specs.Prelude.{map}
 use Rattle.machine.specs.Running.{program_of}
 use Rattle.shards.specs.SharedMaps.{ArePlans}
-use Rattle.replay.specs.Accounts.{lists_of, AreRunsOfShares, counts_of, sent_of, sent_frames}
+use Rattle.replay.specs.Accounts.{lists_of, AreRunsOfShares, counts_of, sent_of, sent_frames, ends_of}
 use Rattle.replay.specs.Shares.{frames_of}
 use Rattle.replay.specs.Parts.{IsScriptAccounted, rounds_of}
 use Rattle.replay.specs.RunsOverShards.{pass_in}
@@ -40,7 +40,7 @@ returns g c =
     let one = c.close-journals.ensures.did in
     let owned = all_of (IsOwnIn one.deeds) passes (map pass_in working) c.args.commanded.pass c.args.reclaimed c.in_ok-passes.ensures one.own in
     let told = c.outcome_of.ensures in
-    let is = outcome_is c.outcome_of.result c.in_ok-counts.counts c.in_ok-counts.sent journals told.counts told.sent told.journals in
+    let is = outcome_is c.outcome_of.result c.in_ok-counts.counts c.in_ok-counts.sent c.in_ok-counts.ends journals told.counts told.sent told.ends told.journals in
     record {
       accounted = subst (λ (outcome : Outcome). IsAccounted program c.args.script.now c.args.shards.options records outcome) (sym is) (record {
         maps = c.close-journals.ensures.maps ∙ c.requires.maps;
@@ -61,12 +61,13 @@ returns g c =
         counts = subst (λ n. c.in_ok-counts.counts ≡ counts_of frames n (lists_of lists) (length records)) as_many c.in_ok-counts.ensures.counts;
         each_once = c.in_ok-counts.ensures.frames;
         sent = subst (λ n. sent_frames c.in_ok-counts.sent.items ≡ sent_of frames n (lists_of lists) (length records)) as_many c.in_ok-counts.ensures.sent;
-        commands = subst (λ maps. IsScriptAccounted g.B.Naming.plan maps c.args.shards.options g.B.Naming.count c.args.script.now journals c.outcome_of.result.refused.items)
+        ends = subst (λ n. c.in_ok-counts.ends.items ≡ ends_of frames n (lists_of lists) (length records)) as_many c.in_ok-counts.ensures.ends;
+        commands = subst (λ maps. IsScriptAccounted g.B.Naming.plan maps c.args.shards.options g.B.Naming.count c.args.script.now journals one.deeds c.outcome_of.result.refused.items)
             c.requires.maps
             (script_stands g.B.Naming.plan c.args.shards.maps c.args.shards.options g.B.Naming.count c.args.script.now c.args.size c.args.commanded.noted.items
-            c.args.commanded.pass journals c.outcome_of.result.refused.items c.planned.ensures.plans c.planned.ensures.options c.requires.size c.requires.serves c.requires.script
-            settled.next told.refused);
-        rounds = rounds_stand g.B.Naming.plan g.B.Naming.count (rounds_of (length records)) journals c.args.reclaimed c.requires.rounds.1 settled.last
-            c.requires.rounds.0;
+            c.args.commanded.pass journals one.deeds c.outcome_of.result.refused.items c.planned.ensures.plans c.planned.ensures.options c.requires.size c.requires.serves c.requires.script
+            settled.next owned.next told.refused);
+        rounds = rounds_stand g.B.Naming.plan g.B.Naming.count (rounds_of (length records)) journals one.deeds c.args.reclaimed c.requires.rounds.1
+            settled.last owned.last c.requires.rounds.0;
       });
     }

@@ -8,7 +8,7 @@ pub jobs-init : goal.jobs-init
 jobs-init g c = record {
   take = c.requires.take.0;
   place = refl;
-  taken = no_notes g.B.Naming.plan g.B.Naming.count (jobs_taken c.args.take) c.args.reclaiming c.requires.take.1 c.requires.nothing;
+  taken = no_notes g.B.Naming.plan g.B.Naming.count (jobs_taken c.args.take) c.args.reclaiming c.requires.take.1 c.requires.unused;
 }
 
 pub jobs-preserved : goal.jobs-preserved

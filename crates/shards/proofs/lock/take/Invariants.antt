@@ -1,4 +1,4 @@
-use Rattle.std.proofs.Common.{◌≡◌, ◌<◌}
+use Rattle.std.proofs.Common.{◌≡◌, ◌<◌, ◌≤◌}
 use Rattle.shards.proofs.lock.take.Given as goal
 
 pub record Waits (g : goal.Over) (l : goal.Live-turns g) : Type 0 where
@@ -7,6 +7,7 @@ pub record Waits (g : goal.Over) (l : goal.Live-turns g) : Type 0 where
   pub lock : l.lock ≡ l.fn.lock
   pub some : 0 < l.phase
   pub few : l.phase < 3
+  pub looks : l.looks ≤ 12
   pub next : (goal.iterator-turns g).can_next l.iterator'
   pub finite : (goal.iterator-turns g).is_finite l.iterator'
 

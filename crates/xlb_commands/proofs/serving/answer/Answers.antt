@@ -1,9 +1,10 @@
-use Rattle.std.proofs.Common.{◌≡◌, ◌∙◌, ℕ, List, [], true, false, rules, sym, ap, string_bytes, true≢false}
+use Rattle.std.proofs.Common.{◌≡◌, ◌∙◌, ℕ, List, [], true, false, rules, refl, subst, sym, ap, string_bytes, true≢false}
 use Rattle.std.specs.Borrow.{Bor}
 use Rattle.command_line.specs.declared.commands.Settings.{Settings}
-use Rattle.command_line.specs.declared.commands.Settings.TheVariants.{Shipped}
+use Rattle.command_line.specs.declared.commands.Settings.TheVariants.{Shipped, Table}
 use Rattle.xlb_commands.specs.Files.{FileBytes}
 use Rattle.xlb_commands.specs.Results.{IsAnswer, IsShippedFile}
+use Rattle.xlb_commands.specs.Tables.{IsTableShown}
 use Rattle.xlb_commands.specs.declared.report.Report.{Report}
 use Rattle.xlb_commands.specs.declared.serving.CommandAnswer.{CommandAnswer}
 use Rattle.xlb_commands.specs.declared.serving.CommandAnswer.TheVariants as answers
@@ -22,3 +23,19 @@ returns-in_ok-write_shipped-in-Shipped-clause-answered g c =
     let same : c.args.settings.now ≡ Shipped c.in-Shipped.out c.in-Shipped.ring = search rules in
     shipped_whole _ _ c.args.settings.now c.in-Shipped.out c.in-Shipped.ring c.reported-in-Shipped.result told.0 same told.1 told.2
     (ap string_bytes told.3 ∙ c.in_ok-write_shipped-in-Shipped.ensures.silent) c.in_ok-write_shipped-in-Shipped.ensures.done
+
+-- tables are printed, of a script of which some command was refused, or none
+tables_shown : (before after : FileBytes) (settings : Settings) (script : Bor (List ℕ)) (ring : ℕ) (answer : CommandAnswer) (report : Report)
+    → settings ≡ Table script ring → answer ≡ answers.Reported report
+    → IsTableShown before script.now ring (string_bytes report.text) report.is_refused → IsAnswer before after settings answer
+tables_shown before after settings script ring answer report same is shown =
+    rw (same, is) (
+      (λ whole. subst (IsTableShown before script.now ring (string_bytes report.text)) whole shown),
+      (λ part. subst (IsTableShown before script.now ring (string_bytes report.text)) part shown),
+    )
+
+pub returns-in_ok-table_file-in-Table-clause-answered : goal.returns-in_ok-table_file-in-Table-clause-answered
+returns-in_ok-table_file-in-Table-clause-answered g c =
+    let same : c.args.settings.now ≡ Table c.in-Table.script c.in-Table.ring = search rules in
+    tables_shown _ _ c.args.settings.now c.in-Table.script c.in-Table.ring _ c.in_ok-table_file-in-Table.field-0 same refl
+    c.in_ok-table_file-in-Table.ensures.done

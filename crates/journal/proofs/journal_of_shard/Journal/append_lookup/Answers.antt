@@ -9,13 +9,13 @@ invariant_of-self c =
     let here : c.len-at.result ≡ length c.self.inside.bytes.items = cc in
     let there : c.len-start.result ≡ length c.self.inside.words.items = cc in
     let sized : length c.args.key.now ≡ c.self.inside.shape.key_size = rw (← c.self.view_is) at c.requires.key in
-    rw (c.put_row.ensures.items, c.put_words.ensures.items, c.put_bytes.ensures.items)
+    rw (c.put_row.ensures.items, c.put_word.ensures.items, c.put_bytes.ensures.items)
     (kept_more _ _ _ c.self.inside.rows.items _ c.self.inside.bytes.items c.args.key.now _ c.self.inside.words.items (c.in-Some.cell ∷ []) _
     (Found c.args.who c.len-at.result c.len-start.result) _ _ _ c.self.invariant (omega (arith, sized)) (omega arith) (
       omega (arith, there, length-append c.self.inside.words.items (c.in-Some.cell ∷ [])),
       omega (arith, here, sized, length-append c.self.inside.bytes.items c.args.key.now),
     )
-    c.put_row.ensures.room c.put_bytes.ensures.room c.put_words.ensures.room)
+    c.put_row.ensures.room c.put_bytes.ensures.room c.put_word.ensures.room)
 
 pub invariant_of-self-in-None : goal.invariant_of-self-in-None
 invariant_of-self-in-None c =
@@ -31,7 +31,7 @@ returns-in-Some c =
     let here : c.len-at.result ≡ length c.self.inside.bytes.items = cc in
     let there : c.len-start.result ≡ length c.self.inside.words.items = cc in
     let sized : length c.args.key.now ≡ c.self.inside.shape.key_size = rw (← c.self.view_is) at c.requires.key in
-    rw (c.put_row.ensures.items, c.put_words.ensures.items, c.put_bytes.ensures.items, ← c.self.view_is, c.in-Some.is)
+    rw (c.put_row.ensures.items, c.put_word.ensures.items, c.put_bytes.ensures.items, ← c.self.view_is, c.in-Some.is)
     (found_more _ _ _ _ c.self.inside.bytes.items c.args.key.now c.self.inside.words.items c.self.inside.rows.items c.args.who c.len-at.result c.len-start.result
     c.in-Some.cell c.self.invariant.within here sized there)
 

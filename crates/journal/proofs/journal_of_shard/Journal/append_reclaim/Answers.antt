@@ -7,12 +7,12 @@ use Rattle.journal.proofs.journal_of_shard.Journal.append_reclaim.Goals as goal
 pub invariant_of-self : goal.invariant_of-self
 invariant_of-self c =
     let there : c.len-start.result ≡ length c.self.inside.words.items = cc in
-    rw (c.put_row.ensures.items, c.put_words.ensures.items)
+    rw (c.put_row.ensures.items, c.put_word.ensures.items)
     (kept_words _ _ _ c.self.inside.rows.items _ c.self.inside.bytes.items _ c.self.inside.words.items (c.args.count ∷ []) _ (Reclaimed c.args.who c.len-start.result) _ _ c.self.invariant (omega arith)
-    (omega (arith, there, length-append c.self.inside.words.items (c.args.count ∷ [])), tt) c.put_row.ensures.room c.put_words.ensures.room)
+    (omega (arith, there, length-append c.self.inside.words.items (c.args.count ∷ [])), tt) c.put_row.ensures.room c.put_word.ensures.room)
 
 pub returns : goal.returns
 returns c =
     let there : c.len-start.result ≡ length c.self.inside.words.items = cc in
-    rw (c.put_row.ensures.items, c.put_words.ensures.items, ← c.self.view_is)
+    rw (c.put_row.ensures.items, c.put_word.ensures.items, ← c.self.view_is)
     (reclaimed_more _ _ _ _ c.self.inside.bytes.items c.self.inside.words.items c.self.inside.rows.items c.args.who c.len-start.result c.args.count c.self.invariant.within there)

@@ -15,7 +15,7 @@ invariant_of-self c =
     let room = c.put_bytes.ensures.room in
     rw (
       c.put_row.ensures.items,
-      c.put_words.ensures.items,
+      c.put_two_words.ensures.items,
       c.put_bytes-2.ensures.items,
       c.put_bytes.ensures.items,
       append_assoc c.self.inside.bytes.items c.args.key.now c.args.value.now,
@@ -33,7 +33,7 @@ invariant_of-self c =
         word_last c.self.inside.words.items (c.len-at.result ∷ c.args.flags ∷ []) c.len-start.result 0 there,
       ),
     )
-    c.put_row.ensures.room (omega (arith, room, c.put_bytes-2.ensures.room)) c.put_words.ensures.room)
+    c.put_row.ensures.room (omega (arith, room, c.put_bytes-2.ensures.room)) c.put_two_words.ensures.room)
 
 pub returns : goal.returns
 returns c =
@@ -43,7 +43,7 @@ returns c =
     let value_sized : length c.args.value.now ≡ c.self.inside.shape.value_size = rw (← c.self.view_is) at c.requires.value in
     rw (
       c.put_row.ensures.items,
-      c.put_words.ensures.items,
+      c.put_two_words.ensures.items,
       c.put_bytes-2.ensures.items,
       c.put_bytes.ensures.items,
       append_assoc c.self.inside.bytes.items c.args.key.now c.args.value.now,

@@ -16,6 +16,7 @@ returns-clause-gives g c =
     c.self.invariant c.requires.known c.requires.key_size c.requires.value_size c.as_slice.ensures.bytes c.as_slice-2.ensures.bytes
     c.bytes_have_8_bits.ensures c.bytes_have_8_bits-2.ensures)
     c.as_slice-3.ensures.bytes c.as_slice-4.ensures.bytes c.shard_of-shard.ensures c.number.ensures c.update.ensures.elsewhere c.update.result c.update.ensures.served
+    c.update.ensures.did
 
 pub returns-clause-refuses : goal.returns-clause-refuses
 returns-clause-refuses g c =
@@ -24,3 +25,4 @@ returns-clause-refuses g c =
     c.self.invariant c.requires.known c.requires.key_size c.requires.value_size c.as_slice.ensures.bytes c.as_slice-2.ensures.bytes
     c.bytes_have_8_bits.ensures c.bytes_have_8_bits-2.ensures)
     c.as_slice-3.ensures.bytes c.as_slice-4.ensures.bytes c.shard_of-shard.ensures c.number.ensures c.update.ensures.elsewhere c.update.result c.update.ensures.refused
+    c.update.ensures.did

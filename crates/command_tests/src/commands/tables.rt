@@ -1,0 +1,100 @@
+//! The lookup table after each command of a script.
+
+ghost use Rattle.std.specs.Prelude.{◌≡◌};
+
+use super::{Wanted, compare, put, refused};
+use folders::MemoryFolder;
+use std::alloc::Global;
+use std::process::Abort;
+use std::sync::Wait;
+use std::thread::Threads;
+
+/// Two backends come up, and the first one goes down.
+const SCRIPT: &str = "0 vip 203.0.113.1 80 udp\n0 up 0 192.0.2.1\n0 up 1 192.0.2.2\n20 down 0\n";
+
+/// Its tables of seven slots, and of 251, from populations that were made apart from this code.
+const OF_7: &str = "\
+command 1 frame 0 moved 0 least 0
+command 2 frame 0 moved 7 least 7
+backend 0 address 192.0.2.1 slots 7 percent 100.00
+command 3 frame 0 moved 3 least 3
+backend 0 address 192.0.2.1 slots 4 percent 57.14
+backend 1 address 192.0.2.2 slots 3 percent 42.86
+command 4 frame 20 moved 4 least 4
+backend 1 address 192.0.2.2 slots 7 percent 100.00
+";
+
+const OF_251: &str = "\
+command 1 frame 0 moved 0 least 0
+command 2 frame 0 moved 251 least 251
+backend 0 address 192.0.2.1 slots 251 percent 100.00
+command 3 frame 0 moved 125 least 125
+backend 0 address 192.0.2.1 slots 126 percent 50.20
+backend 1 address 192.0.2.2 slots 125 percent 49.80
+command 4 frame 20 moved 126 least 126
+backend 1 address 192.0.2.2 slots 251 percent 100.00
+";
+
+/// A backend comes up twice, and one goes down that is not up.
+const REFUSED: &str = "0 up 0 192.0.2.1\n0 up 0 192.0.2.2\n0 down 3\n";
+
+const OF_REFUSED: &str = "\
+command 1 frame 0 moved 7 least 7
+backend 0 address 192.0.2.1 slots 7 percent 100.00
+command 2 refused 92
+command 3 refused 91
+";
+
+const WHY_REFUSED: &str =
+    "  line 2 of the script, 0 up 0 192.0.2.2: this number or this address is up
+  line 3 of the script, 0 down 3: no such backend is up, or there is no such number: numbers are below 256 and below the ring's size
+";
+
+/// What a row shows; the script; the words behind it; what is to come.
+#[rattlefmt::skip]
+const ROWS: [(&str, &str, &str, Wanted<'static>); 4] = [
+    ("seven slots",        SCRIPT,  " --ring 7", Wanted { status: 0, out: OF_7,       err: "" }),
+    ("as a replay has it", SCRIPT,  "",          Wanted { status: 0, out: OF_251,     err: "" }),
+    ("refused commands",   REFUSED, " --ring 7", Wanted { status: 1, out: OF_REFUSED, err: WHY_REFUSED }),
+    ("no command",         "",      "",          Wanted { status: 0, out: "",         err: "" }),
+];
+
+/// Holds a row's tables against what is wanted.
+fn compare_tables<R: Abort + Threads + Wait + Sync>(
+    rt: &R,
+    alloc: Global,
+    name: &str,
+    script: &str,
+    words: &str,
+    wanted: Wanted<'_>,
+) {
+    let folder = put(
+        rt,
+        alloc,
+        MemoryFolder::new(alloc),
+        "script",
+        script.as_bytes(),
+    );
+    let line = format!(in alloc; "xlb table script{words}").expect(rt, "a line");
+    compare(rt, alloc, name, folder, &line, wanted);
+}
+
+#[test]
+fn tables_follow_each_command(rt: HostRuntime) {
+    for row in &ROWS {
+        compare_tables(&rt, rt.alloc(), row.0, row.1, row.2, row.3);
+    }
+}
+
+#[test]
+fn no_table_has_eight_slots(rt: HostRuntime) {
+    let words = " --ring 8";
+    compare_tables(
+        &rt,
+        rt.alloc(),
+        words,
+        SCRIPT,
+        words,
+        refused("fault 73 BadSize\n"),
+    );
+}

@@ -1,0 +1,39 @@
+-- The turns of an exact replay, one after the other: the order in which commands, records and rounds come.
+use Rattle.std.specs.Prelude.{ℕ, zero, suc, ◌-◌, ◌%◌, ◌==◌, nat_lt, List, [], ◌∷◌, ◌++◌, map, length, if◌then◌else◌}
+use Rattle.replay.specs.Actors.{numbers_from}
+
+pub data Turn : Type 0 where
+  -- the script's command of this number is applied
+  TheCommand : ℕ → Turn
+  -- the capture's record of this number is run, if it is long enough
+  TheRecord : ℕ → Turn
+  -- the reclaimer makes a round
+  TheRound : Turn
+
+-- how many commands are due once so many records were dispatched: those at the script's beginning that stand behind no more
+abbrev pub due_to : List ℕ → ℕ → ℕ
+due_to [] number = 0
+due_to (start ∷ later) number = if nat_lt number start then 0 else suc (due_to later number)
+
+-- how many commands were due before
+abbrev pub due_before : List ℕ → ℕ → ℕ
+due_before starts zero = 0
+due_before starts (suc number) = due_to starts number
+
+-- the commands from one number up to another
+abbrev pub commands_between : ℕ → ℕ → List Turn
+commands_between from end = map (λ (number : ℕ). TheCommand number) (numbers_from from (end - from))
+
+-- a round comes after every 64 records
+abbrev pub rounds_at : ℕ → List Turn
+rounds_at number = if number % 64 == 0 then TheRound ∷ [] else []
+
+-- the turns of so many records: before each record the commands that are due, then the record, then a round, if it is its time
+abbrev pub turns_to : List ℕ → ℕ → List Turn
+turns_to starts zero = []
+turns_to starts (suc number) =
+    turns_to starts number ++ (commands_between (due_before starts number) (due_to starts number) ++ TheRecord number ∷ rounds_at (suc number))
+
+-- all turns: behind the last record the commands that are left, and the last round
+abbrev pub all_turns : List ℕ → ℕ → List Turn
+all_turns starts records = turns_to starts records ++ (commands_between (due_before starts records) (length starts) ++ TheRound ∷ [])

@@ -1,0 +1,470 @@
+//! A replay on one thread: commands, records and rounds, one after the other.
+
+ghost use Rattle.std.specs.Prelude.{◌≡◌, ◌⊎◌, ◌<◌, ◌≤◌, ◌+◌, ◌%◌, ◌==◌, ◌^◌, ◌∷◌, ◌↔◌, [], ℕ, List, length, map, slice_get, Some, OnOk, OnErr, IfOk, IfSome, IsErrOf, IsFalse, vec_capacity};
+ghost use Rattle.machine.specs.Running.{program_of};
+ghost use Rattle.maglev.specs.RingSize.{IsRingSize};
+ghost use Rattle.semantics.specs.ShardPlan.{are_served_options};
+ghost use Rattle.semantics.specs.History.{IsLegalJournal};
+ghost use Rattle.semantics.specs.Program.{Program};
+ghost use Rattle.wire.specs.declared.records.Sent.{Sent as Record};
+ghost use Rattle.conntrack.specs.SteeringMaps.{steering_maps};
+ghost use Rattle.control.specs.declared.command.Command.{Command as Line};
+ghost use Rattle.control.specs.declared.fault.ControlFault.{ControlFault as Fault};
+ghost use Rattle.control.specs.Controlling.{refusal_of};
+ghost use Rattle.journals.specs.JournalsView.{AreJournals, entries_at};
+ghost use Rattle.shards.specs.NewShards.{shard_at};
+ghost use Rattle.shards.specs.Opening.{AreOpened};
+ghost use Rattle.replay.specs.declared.fault.ReplayFault.TheVariants.{BadOptions};
+ghost use Rattle.replay.specs.Accounts.{frames_in, no_counts, counted, sent_frames, sent_by};
+ghost use Rattle.replay.specs.Commands.{ServesScript, opened_controller};
+ghost use Rattle.replay.specs.ExactReplays.{IsInTurn, starts_in, first_state};
+ghost use Rattle.replay.specs.InTurn.{TurnState as State, IsRunInTurn, IsHandled, IsAppliedInTurn, IsSameSetting, IsRecordTurn, IsCommandTurn, IsRoundTurn, AreTurns};
+ghost use Rattle.replay.specs.Parts.{HasNoTable, refused_of};
+ghost use Rattle.replay.specs.RunsOverShards.{IsTold};
+ghost use Rattle.replay.specs.TurnStates.{state_in};
+ghost use Rattle.replay.specs.Turns.{commands_between, rounds_at, due_before, turns_to, all_turns};
+
+use crate::account::{Counts, record_end, send};
+use crate::closing::refused;
+use crate::controller::command_at;
+use crate::dispatch::{due, is_short, worker_of};
+use crate::fault::ReplayFault;
+use crate::outcome::{Applied, Outcome, RecordEnd};
+use crate::replaying::fault_of;
+use crate::runner::RunEnd;
+use crate::setting::{starts_of, table_for};
+use crate::shard_runner::{end_of, moment_of};
+use crate::turn_shards::TurnShards;
+use control::{Command, ControlFault, Controller, Script};
+use ebpf_decode::MapDef;
+use journals::{Journals, ShardJournal};
+use semantics::Options;
+use shards::PlainShards;
+use std::alloc::{AllocError, Global};
+use verifier::Verified;
+use wire::{Capture, Frame, Sent};
+
+/// After how many records the reclaimer makes a round.
+const ROUND_EVERY: usize = 64;
+
+/// A replay between two turns.
+#[derive(Drop)]
+pub(crate) struct Turns {
+    pub all: TurnShards,
+    pub controller: Controller,
+    pub noted: Vec<Applied>,
+    pub counts: Counts,
+    pub sent: Vec<Sent>,
+    pub ends: Vec<RecordEnd>,
+}
+
+/// Runs the program on a record's frame, as a worker. None where memory was refused, or the record has no Ethernet header.
+#[tactic(auto, using(crate::proofs::TurnLemmas::run_of_exit))]
+fn run_record(
+    alloc: Global,
+    verified: &Verified,
+    all: &mut TurnShards,
+    worker: u8,
+    sent: &Sent,
+) -> Option<RunEnd>
+    requires maps { all.old.maps ≡ verified.now.maps }
+    requires worker { worker < 8 }
+    requires among { worker < all.old.options.workers }
+    ensures run { IfSome result (λ end. IsRunInTurn (program_of verified.now all.old.options.shards) sent.now worker all.old.shards end all.new.shards) }
+    ensures maps { all.new.maps ≡ all.old.maps }
+    ensures options { all.new.options ≡ all.old.options }
+{
+    let Ok(mut frame) = Frame::of(alloc, &sent.bytes) else {
+        return None;
+    };
+    let moment = moment_of(sent, worker);
+    match all.run(verified, &moment, &mut frame) {
+        Ok(exit) => end_of(alloc, sent, exit, &frame).ok(),
+        Err(_) => Some(RunEnd::Stopped),
+    }
+}
+
+/// What becomes of a record: none where it is too short, else how its run ended, which the worker of its flow makes. Fails only for lack of
+/// memory.
+fn handle(
+    alloc: Global,
+    verified: &Verified,
+    all: &mut TurnShards,
+    sent: &Sent,
+) -> Result<Option<RunEnd>, AllocError>
+    requires maps { all.old.maps ≡ verified.now.maps }
+    ensures handled { IfOk result (λ end. IsHandled (program_of verified.now all.old.options.shards) all.old.options.workers sent.now all.old.shards end all.new.shards) }
+    ensures maps { all.new.maps ≡ all.old.maps }
+    ensures options { all.new.options ≡ all.old.options }
+{
+    if is_short(sent) {
+        return Ok(None);
+    }
+    let worker = worker_of(&sent.bytes, all.workers());
+    match run_record(alloc, verified, all, worker as u8, sent) {
+        Some(end) => Ok(Some(end)),
+        None => Err(AllocError),
+    }
+}
+
+/// Applies a command, and says for which fault it was refused, if for one.
+fn apply_to(
+    alloc: Global,
+    controller: &mut Controller,
+    command: &Command,
+    all: &mut TurnShards,
+) -> Option<ControlFault>
+    requires serves { all.old.maps ≡ steering_maps controller.old.size }
+    ensures did { IsAppliedInTurn result controller.old all.old command.now.action controller.new all.new }
+    ensures first { (fault : Fault) → refusal_of controller.old command.now.action ≡ Some fault → result ≡ Some fault }
+    ensures maps { all.new.maps ≡ all.old.maps }
+    ensures options { all.new.options ≡ all.old.options }
+    ensures size { controller.new.size ≡ controller.old.size }
+{
+    match controller.apply(alloc, command, all) {
+        Ok(()) => None,
+        Err(fault) => Some(fault),
+    }
+}
+
+impl Turns {
+    /// Before the first turn.
+    fn over(alloc: Global, all: TurnShards, size: u32) -> Turns
+        requires { IsRingSize size }
+        ensures { state_in result ≡ record { all = all; controller = opened_controller size; noted = []; counts = no_counts; sent = []; ends = [] } }
+    {
+        let controller = match Controller::open(alloc, size) {
+            Ok(controller) => controller,
+            Err(_) => unreachable!(),
+        };
+        Turns {
+            all,
+            controller,
+            noted: Vec::new(alloc),
+            counts: Counts::none(),
+            sent: Vec::new(alloc),
+            ends: Vec::new(alloc),
+        }
+    }
+
+    /// The turn of a record. Fails only for lack of memory; then the replay cannot go on.
+    fn record(
+        &mut self,
+        alloc: Global,
+        verified: &Verified,
+        capture: &Capture,
+        number: usize,
+    ) -> Result<(), AllocError>
+        requires number { number < length capture.now.records.items }
+        requires maps { self.old.all.maps ≡ verified.now.maps }
+        requires room { frames_in self.old.counts + 1 < 2 ^ 64 }
+        ensures turn { OnOk result (IsRecordTurn (program_of verified.now self.old.all.options.shards) capture.now.records.items self.old.all.options.workers number
+            (state_in self.old) (state_in self.new)) }
+        ensures same { OnOk result (IsSameSetting (state_in self.old) (state_in self.new)) }
+        ensures one_more { OnOk result (frames_in self.new.counts ≡ frames_in self.old.counts + 1) }
+    {
+        let sent = &capture.records[number];
+        let worker = worker_of(&sent.bytes, self.all.workers());
+        let end = handle(alloc, verified, &mut self.all, sent)?;
+        self.counts.count(&end);
+        self.ends.push(record_end(worker as u8, &end))?;
+        send(&mut self.sent, end)?;
+        Ok(())
+    }
+
+    /// The turn of a command. Fails only for lack of memory; then nothing is changed.
+    fn command(
+        &mut self,
+        alloc: Global,
+        script: &[Command],
+        number: usize,
+    ) -> Result<(), AllocError>
+        requires number { number < length script.now }
+        requires serves { ServesScript self.old.all.maps self.old.controller.size script.now }
+        ensures turn { OnOk result (IsCommandTurn script.now number (state_in self.old) (state_in self.new)) }
+        ensures same { OnOk result (IsSameSetting (state_in self.old) (state_in self.new)) }
+        ensures counted { OnOk result (frames_in self.new.counts ≡ frames_in self.old.counts) }
+    {
+        if self.noted.reserve(1).is_err() {
+            return Err(AllocError);
+        }
+        let line = command_at(script, number);
+        let fault = apply_to(alloc, &mut self.controller, line, &mut self.all);
+        self.noted.push_reserved(Applied {
+            command: number,
+            fault,
+        });
+        Ok(())
+    }
+
+    /// The turn of a round.
+    fn round(&mut self)
+        ensures turn { IsRoundTurn (state_in self.old) (state_in self.new) }
+        ensures same { IsSameSetting (state_in self.old) (state_in self.new) }
+        ensures counted { frames_in self.new.counts ≡ frames_in self.old.counts }
+    {
+        self.all.round();
+    }
+
+    /// A round, if it is its time.
+    fn round_at(&mut self, number: usize)
+        ensures turns { (program : Program) (script : List Line) (records : List Record) (workers : ℕ) →
+            AreTurns program script records workers (rounds_at number) (state_in self.old) (state_in self.new) }
+        ensures same { IsSameSetting (state_in self.old) (state_in self.new) }
+        ensures counted { frames_in self.new.counts ≡ frames_in self.old.counts }
+    {
+        if number % ROUND_EVERY == 0 {
+            self.round();
+        }
+    }
+
+    /// The turns of the commands from one number up to another.
+    fn commands(
+        &mut self,
+        alloc: Global,
+        script: &[Command],
+        from: usize,
+        end: usize,
+    ) -> Result<(), AllocError>
+        requires up { from ≤ end }
+        requires within { end ≤ length script.now }
+        requires serves { ServesScript self.old.all.maps self.old.controller.size script.now }
+        ensures turns { OnOk result ((program : Program) (records : List Record) (workers : ℕ) →
+            AreTurns program script.now records workers (commands_between from end) (state_in self.old) (state_in self.new)) }
+        ensures same { OnOk result (IsSameSetting (state_in self.old) (state_in self.new)) }
+        ensures counted { OnOk result (frames_in self.new.counts ≡ frames_in self.old.counts) }
+    {
+        'commands: for number in from..end {
+            self.command(alloc, script, number)?;
+        }
+        Ok(())
+    }
+
+    /// The turns from one record to the next: the commands that are due, the record, and a round, if it is its time. Returns which command is next.
+    fn record_turns(
+        &mut self,
+        alloc: Global,
+        verified: &Verified,
+        capture: &Capture,
+        script: &[Command],
+        starts: &[u32],
+        next: usize,
+        number: usize,
+    ) -> Result<usize, AllocError>
+        requires number { number < length capture.now.records.items }
+        requires starts { starts.now ≡ starts_in script.now }
+        requires next { (next ≡ due_before starts.now number) × (next ≤ length starts.now) }
+        requires maps { self.old.all.maps ≡ verified.now.maps }
+        requires serves { ServesScript self.old.all.maps self.old.controller.size script.now }
+        requires counted { frames_in self.old.counts ≡ number }
+        ensures next { IfOk result (λ end. (end ≡ due_before starts.now (number + 1)) × (end ≤ length starts.now)) }
+        ensures turns { OnOk result ((first : State) →
+            AreTurns (program_of verified.now self.old.all.options.shards) script.now capture.now.records.items self.old.all.options.workers
+            (turns_to starts.now number) first (state_in self.old) →
+            AreTurns (program_of verified.now self.old.all.options.shards) script.now capture.now.records.items self.old.all.options.workers
+            (turns_to starts.now (number + 1)) first (state_in self.new)) }
+        ensures same { OnOk result (IsSameSetting (state_in self.old) (state_in self.new)) }
+        ensures counted { OnOk result (frames_in self.new.counts ≡ number + 1) }
+    {
+        let end = due(starts, next, number);
+        self.commands(alloc, script, next, end)?;
+        self.record(alloc, verified, capture, number)?;
+        self.round_at(number + 1);
+        Ok(end)
+    }
+
+    /// The turns behind the last record.
+    fn last_turns(
+        &mut self,
+        alloc: Global,
+        script: &[Command],
+        starts: &[u32],
+        next: usize,
+        count: usize,
+    ) -> Result<(), AllocError>
+        requires starts { starts.now ≡ starts_in script.now }
+        requires next { (next ≡ due_before starts.now count) × (next ≤ length starts.now) }
+        requires serves { ServesScript self.old.all.maps self.old.controller.size script.now }
+        ensures turns { OnOk result ((program : Program) (records : List Record) (workers : ℕ) (first : State) →
+            AreTurns program script.now records workers (turns_to starts.now count) first (state_in self.old) →
+            AreTurns program script.now records workers (all_turns starts.now count) first (state_in self.new)) }
+        ensures same { OnOk result (IsSameSetting (state_in self.old) (state_in self.new)) }
+        ensures counted { OnOk result (frames_in self.new.counts ≡ frames_in self.old.counts) }
+    {
+        self.commands(alloc, script, next, starts.len())?;
+        let _ = count;
+        self.round();
+        Ok(())
+    }
+
+    /// The turns up to the last record. Returns which command is next.
+    fn all_records(
+        &mut self,
+        alloc: Global,
+        verified: &Verified,
+        capture: &Capture,
+        script: &[Command],
+        starts: &[u32],
+    ) -> Result<usize, AllocError>
+        requires starts { starts.now ≡ starts_in script.now }
+        requires maps { self.old.all.maps ≡ verified.now.maps }
+        requires serves { ServesScript self.old.all.maps self.old.controller.size script.now }
+        requires none { frames_in self.old.counts ≡ 0 }
+        ensures next { IfOk result (λ next. (next ≡ due_before starts.now (length capture.now.records.items)) × (next ≤ length starts.now)) }
+        ensures turns { OnOk result (AreTurns (program_of verified.now self.old.all.options.shards) script.now capture.now.records.items
+            self.old.all.options.workers (turns_to starts.now (length capture.now.records.items)) (state_in self.old) (state_in self.new)) }
+        ensures same { OnOk result (IsSameSetting (state_in self.old) (state_in self.new)) }
+        ensures each_once { OnOk result (frames_in self.new.counts ≡ length capture.now.records.items) }
+    {
+        let mut next = 0;
+        'records: for number in 0..capture.records.len() {
+            next = self.record_turns(alloc, verified, capture, script, starts, next, number)?;
+        }
+        Ok(next)
+    }
+
+    /// All turns.
+    fn take_all(
+        &mut self,
+        alloc: Global,
+        verified: &Verified,
+        capture: &Capture,
+        script: &[Command],
+        starts: &[u32],
+    ) -> Result<(), AllocError>
+        requires starts { starts.now ≡ starts_in script.now }
+        requires maps { self.old.all.maps ≡ verified.now.maps }
+        requires serves { ServesScript self.old.all.maps self.old.controller.size script.now }
+        requires none { frames_in self.old.counts ≡ 0 }
+        ensures turns { OnOk result (AreTurns (program_of verified.now self.old.all.options.shards) script.now capture.now.records.items
+            self.old.all.options.workers (all_turns (starts_in script.now) (length capture.now.records.items)) (state_in self.old) (state_in self.new)) }
+        ensures same { OnOk result (IsSameSetting (state_in self.old) (state_in self.new)) }
+        ensures each_once { OnOk result (frames_in self.new.counts ≡ length capture.now.records.items) }
+    {
+        let next = self.all_records(alloc, verified, capture, script, starts)?;
+        self.last_turns(alloc, script, starts, next, capture.records.len())?;
+        Ok(())
+    }
+
+    /// What is returned after the last turn.
+    fn finish(self, alloc: Global) -> Result<Outcome, AllocError>
+        ensures maps { IfOk result (λ outcome. outcome.journals.maps ≡ self.all.maps) }
+        ensures options { IfOk result (λ outcome. outcome.journals.options ≡ self.all.options) }
+        ensures counts { IfOk result (λ outcome. outcome.counts ≡ self.counts) }
+        ensures sent { IfOk result (λ outcome. outcome.sent.items ≡ self.sent.items) }
+        ensures ends { IfOk result (λ outcome. outcome.ends.items ≡ self.ends.items) }
+        ensures refused { IfOk result (λ outcome. outcome.refused.items ≡ refused_of self.noted.items) }
+        ensures count { IfOk result (λ outcome. length outcome.journals.shards ≡ length self.all.shards) }
+        ensures journals { IfOk result (λ outcome. (number : ℕ) → number < length self.all.shards →
+            entries_at outcome.journals number ≡ (shard_at self.all.shards number).journal) }
+        ensures legal { IfOk result (λ outcome. (number : ℕ) → number < length self.all.shards →
+            IsLegalJournal (shard_at self.all.shards number).plan (entries_at outcome.journals number)) }
+    {
+        let Turns {
+            all,
+            noted,
+            counts,
+            sent,
+            ends,
+            ..
+        } = self;
+        let (shards, maps, options) = all.into_parts();
+        let room = Vec::with_capacity(alloc, shards.count())?;
+        let journals = journals_of(shards, maps, options, room);
+        Ok(Outcome {
+            counts,
+            refused: refused(noted),
+            sent,
+            ends,
+            journals,
+        })
+    }
+}
+
+/// The shards' journals, moved into this room and not copied.
+fn journals_of(
+    shards: PlainShards,
+    maps: Vec<MapDef>,
+    options: Options,
+    mut room: Vec<ShardJournal>,
+) -> Journals
+    requires are { AreJournals maps.items options (length shards) }
+    requires empty { length room.items ≡ 0 }
+    requires room { length shards ≤ vec_capacity room }
+    ensures maps { result.maps ≡ maps.items }
+    ensures options { result.options ≡ options }
+    ensures count { length result.shards ≡ length shards }
+    ensures written { (number : ℕ) → number < length shards → entries_at result number ≡ (shard_at shards number).journal }
+    ensures legal { (number : ℕ) → number < length shards → IsLegalJournal (shard_at shards number).plan (entries_at result number) }
+{
+    let mut shards = shards.into_list();
+    let count = shards.len();
+    'shards: for number in 0..count {
+        let journal = shards.remove(0).into_journal();
+        room.push_reserved(ShardJournal::written(journal));
+    }
+    Journals::of(maps, options, room)
+}
+
+/// The replay over shards that were opened for the image's maps.
+fn turned(
+    alloc: Global,
+    verified: &Verified,
+    capture: &Capture,
+    script: &[Command],
+    size: u32,
+    all: TurnShards,
+    options: Options,
+) -> Result<Outcome, AllocError>
+    requires opened { AreOpened verified.now.maps options all.shards }
+    requires maps { all.maps ≡ verified.now.maps }
+    requires options { all.options ≡ options }
+    requires size { IsRingSize size }
+    requires script { ServesScript verified.now.maps size script.now }
+    ensures { IfOk result (IsInTurn (program_of verified.now options.shards) script.now options capture.now.records.items) }
+{
+    let _ = options;
+    let list = starts_of(alloc, script)?;
+    let starts: &[u32] = &list;
+    let mut turns = Turns::over(alloc, all, size);
+    turns.take_all(alloc, verified, capture, script, starts)?;
+    let outcome = turns.finish(alloc)?;
+    Ok(outcome)
+}
+
+/// Runs the program of an accepted image on the frames of a capture, on the calling thread: one turn after the other, each over the maps as the one
+/// before it left them. Before each record come the commands that are due then, in the script's order; then the record is run, by the worker
+/// of its flow, if it has 14 bytes; and after every 64 records the reclaimer makes a round. Behind the last record come the commands that are
+/// left, and one more round. So a command finds what the runs of all frames before it left, and what it sets is found by every later
+/// one; and two such replays of the same input give the same outcome, unless memory was refused to a command.
+///
+/// Refused with 51 where no shards of the image's maps can be opened with the options, or where there are commands and the image's maps
+/// are not those of steering; with 52 for lack of memory. Then nothing is left.
+pub fn replay_in_turn(
+    alloc: Global,
+    verified: &Verified,
+    capture: &Capture,
+    script: &Script,
+    options: Options,
+) -> Result<Outcome, ReplayFault>
+    ensures in_turn { IfOk result (IsInTurn (program_of verified.now options.shards) script.now options capture.now.records.items) }
+    ensures bad_options { IsErrOf result BadOptions ↔ (IsFalse (are_served_options verified.now.maps options) ⊎ HasNoTable
+        verified.now.maps script.now) }
+{
+    let image = verified.image();
+    let Some(size) = table_for(image.maps(), script.commands()) else {
+        return Err(ReplayFault::BadOptions);
+    };
+    match TurnShards::open(alloc, verified, options) {
+        Ok(all) => Ok(turned(
+            alloc,
+            verified,
+            capture,
+            script.commands(),
+            size,
+            all,
+            options,
+        )?),
+        Err(fault) => Err(fault_of(fault)),
+    }
+}

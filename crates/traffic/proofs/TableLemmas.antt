@@ -1,0 +1,90 @@
+-- The commands of a script up to a place, and what follows.
+use Rattle.std.proofs.Common.{suc, ◌≡◌, ◌∙◌, ◌++◌, ◌+◌, ◌<◌, ◌||◌, ℕ, Bool, true, false, List, [], ◌∷◌, ap, arith, drop, length, refl, subst, sym}
+use Rattle.std.proofs.lemmas.List.{append-nil, append_assoc}
+use Rattle.std.proofs.lemmas.List.Elements.{All-contains, All-from_recursion}
+use Rattle.conntrack.specs.SteeringMaps.{steering_maps}
+use Rattle.std.proofs.Math.Seq.{drop-length}
+use Rattle.std.proofs.Math.Bool.{or_assoc}
+use Rattle.maglev.specs.RingSize.{IsRingSize, ring_sizes}
+use Rattle.control.specs.declared.command.Command.{Command}
+use Rattle.control.specs.Controlling.{ControllerState}
+use Rattle.traffic.specs.WrittenMaps.{MapsState}
+use Rattle.maglev.specs.Population.{share_of}
+use Rattle.traffic.specs.TableText.{backend_line, lines_below, record_of, AreShown, AreTables, IsShown, no_backend_up, no_maps}
+
+pub some_slots : (size : ℕ) → IsRingSize size → 0 < size
+some_slots size served =
+    All-contains (λ n. 0 < n) ring_sizes size (All-from_recursion (λ n. 0 < n) ring_sizes (omega arith, (omega arith, (omega arith, (omega arith, tt))))) served
+
+-- whatever is shown from this place on, behind this text it is what is shown of the whole script
+abbrev pub IsShownUntil : ℕ → ℕ → List Command → ControllerState → MapsState → List ℕ → Bool → Type 0
+IsShownUntil size place commands state maps text some_refused =
+    (rest : List ℕ) (others : Bool) → AreShown place state maps (drop place commands) rest others
+    → AreTables size commands (text ++ rest) (some_refused || others)
+
+pub none_shown : (size : ℕ) (commands : List Command) (state : ControllerState) (maps : MapsState) (text : List ℕ) (some_refused : Bool)
+    → state ≡ no_backend_up size → maps ≡ no_maps size → text ≡ [] → some_refused ≡ false
+    → IsShownUntil size 0 commands state maps text some_refused
+none_shown size commands state maps text some_refused first none empty whole = λ rest others shown.
+    subst (λ (t : List ℕ). AreTables size commands (t ++ rest) (some_refused || others)) (sym empty)
+    (subst (λ (b : Bool). AreTables size commands rest (b || others)) (sym whole)
+    (subst (λ (s : ControllerState). AreShown 0 s (no_maps size) commands rest others) first
+    (subst (λ (s : MapsState). AreShown 0 state s commands rest others) none shown)))
+
+pub one_more : (size place place' : ℕ) (commands : List Command) (command : Command) (state state' : ControllerState) (maps maps' : MapsState)
+    (text text' first : List ℕ) (some_refused some_refused' one : Bool) → drop place commands ≡ command ∷ drop (place + 1) commands
+    → IsShownUntil size place commands state maps text some_refused → place' ≡ place → IsShown place' state maps command state' maps' first one
+    → text' ≡ text ++ first → some_refused' ≡ some_refused || one → IsShownUntil size (place + 1) commands state' maps' text' some_refused'
+one_more size place place' commands command state state' maps maps' text text' first some_refused some_refused' one next until same shown longer refused = λ rest others more.
+    let here = subst (λ (p : ℕ). IsShown p state maps command state' maps' first one) same shown in
+    let whole = until (first ++ rest) (one || others)
+    (subst (λ (c : List Command). AreShown place state maps c (first ++ rest) (one || others)) (sym next)
+    (state', maps', first, rest, one, others, here, more, refl, refl)) in
+    subst (λ (t : List ℕ). AreTables size commands t (some_refused' || others)) (sym (ap (λ (t : List ℕ). t ++ rest) longer ∙ append_assoc text first rest))
+    (subst (λ (b : Bool). AreTables size commands (text ++ (first ++ rest)) b)
+    (sym (ap (λ (b : Bool). b || others) refused ∙ or_assoc some_refused one others)) whole)
+
+or_none : (b : Bool) → (b || false) ≡ b
+or_none true = refl
+or_none false = refl
+
+pub all_shown : (size place : ℕ) (commands : List Command) (state : ControllerState) (maps : MapsState) (text : List ℕ) (some_refused : Bool)
+    → place ≡ length commands → IsShownUntil size place commands state maps text some_refused → AreTables size commands text some_refused
+all_shown size place commands state maps text some_refused at until =
+    subst (λ (t : List ℕ). AreTables size commands t some_refused) (append-nil text)
+    (subst (λ (b : Bool). AreTables size commands (text ++ []) b) (or_none some_refused)
+    (until [] false
+    (subst (λ (c : List Command). AreShown place state maps c [] false) (sym (ap (λ (n : ℕ). drop n commands) at ∙ drop-length commands)) (refl, refl))))
+
+pub none_more : (b : Bool) → b ≡ (b || false)
+none_more b = sym (or_none b)
+
+pub one_is : (b : Bool) → true ≡ (b || true)
+one_is true = refl
+one_is false = refl
+
+pub still_serves : (size size' maps' : ℕ) → size' ≡ size → steering_maps maps' ≡ steering_maps size → steering_maps maps' ≡ steering_maps size'
+still_serves size size' maps' same serves = serves ∙ ap steering_maps (sym same)
+
+same_line : (size size' number share share' : ℕ) (backend backend' : List ℕ) → size ≡ size' → share ≡ share' → backend ≡ backend'
+    → backend_line size number share backend ≡ backend_line size' number share' backend'
+same_line size size' number share share' backend backend' a b c =
+    ap (λ (n : ℕ). backend_line n number share backend) a
+    ∙ (ap (λ (n : ℕ). backend_line size' number n backend) b ∙ ap (λ (r : List ℕ). backend_line size' number share' r) c)
+
+one_below : (maps : MapsState) (number : ℕ) → lines_below maps (suc number) ≡
+    lines_below maps number ++ backend_line maps.size number (share_of (number + 1) maps.words) (record_of maps.backends number)
+unfolding lines_below
+one_below maps number = refl
+
+-- the lines below a number, and that of the number
+pub line_more : (maps : MapsState) (size number share : ℕ) (backend first before after : List ℕ) → before ≡ first ++ lines_below maps number
+    → after ≡ before ++ backend_line size number share backend → size ≡ maps.size → share ≡ share_of (number + 1) maps.words
+    → backend ≡ record_of maps.backends number → after ≡ first ++ lines_below maps (number + 1)
+line_more maps size number share backend first before after known more size_is share_is backend_is =
+    let on : number + 1 ≡ suc number = omega arith in
+    more
+    ∙ (ap (λ (t : List ℕ). t ++ backend_line size number share backend) known
+    ∙ (append_assoc first (lines_below maps number) (backend_line size number share backend)
+    ∙ ap (λ (t : List ℕ). first ++ t) (ap (λ (t : List ℕ). lines_below maps number ++ t) (same_line size maps.size number share _ backend _ size_is share_is backend_is)
+    ∙ (sym (one_below maps number) ∙ ap (lines_below maps) (sym on)))))

@@ -1,0 +1,131 @@
+-- The line of a record in a report, as CSV or as JSON (RFC 4180, RFC 8259): number, moment, worker, verdict, steps, case, backend, address.
+-- What is not known is empty, or null.
+use Rattle.std.specs.Prelude.{ℕ, ◌/◌, ◌%◌, ◌++◌, List, [], ◌∷◌, codes, decimal, Option, Some, None}
+use Rattle.traffic.specs.declared.kind.FrameKind.{FrameKind}
+use Rattle.traffic.specs.declared.kind.FrameKind.TheVariants as kinds
+use Rattle.traffic.specs.declared.record_line.ReportForm.{ReportForm}
+use Rattle.traffic.specs.declared.record_line.ReportForm.TheVariants.{Csv, Json}
+use Rattle.traffic.specs.declared.record_line.LineVerdict.{LineVerdict}
+use Rattle.traffic.specs.declared.record_line.LineVerdict.TheVariants as verdicts
+use Rattle.traffic.specs.declared.record_line.RecordLine.{RecordLine}
+use Rattle.traffic.specs.SummaryText.{address_text}
+
+-- ---- pieces
+
+-- the last six digits of a number
+abbrev pub six_digits : ℕ → List ℕ
+six_digits number =
+    decimal (number / 100000 % 10) ++ (decimal (number / 10000 % 10) ++ (decimal (number / 1000 % 10) ++ (decimal (number / 100 % 10)
+    ++ (decimal (number / 10 % 10) ++ decimal (number % 10)))))
+
+-- microseconds as seconds
+abbrev pub moment_text : ℕ → List ℕ
+moment_text micros = decimal (micros / 1000000) ++ (codes "." ++ six_digits micros)
+
+-- what is not known
+abbrev pub missing : ReportForm → List ℕ
+missing Csv = []
+missing Json = codes "null"
+
+abbrev pub number_text : ReportForm → Option ℕ → List ℕ
+number_text form None = missing form
+number_text form (Some number) = decimal number
+
+abbrev pub quoted : List ℕ → List ℕ
+quoted word = codes "\"" ++ (word ++ codes "\"")
+
+-- a word; none is not known
+abbrev pub word_text : ReportForm → List ℕ → List ℕ
+word_text form [] = missing form
+word_text Csv (first ∷ more) = first ∷ more
+word_text Json (first ∷ more) = quoted (first ∷ more)
+
+abbrev pub target_text : ReportForm → Option ℕ → List ℕ
+target_text form None = missing form
+target_text form (Some address) = word_text form (address_text address)
+
+-- ---- words
+
+abbrev pub verdict_word : LineVerdict → List ℕ
+verdict_word verdicts.Short = codes "SHORT"
+verdict_word verdicts.Stopped = codes "STOPPED"
+verdict_word verdicts.Aborted = codes "ABORTED"
+verdict_word verdicts.Drop = codes "DROP"
+verdict_word verdicts.Pass = codes "PASS"
+verdict_word verdicts.Tx = codes "TX"
+
+-- a frame without a flow, by its kind
+abbrev pub kind_word : FrameKind → List ℕ
+kind_word kinds.Short = codes "short"
+kind_word kinds.Ipv6 = codes "ipv6"
+kind_word kinds.Arp = codes "arp"
+kind_word kinds.Vlan = codes "vlan"
+kind_word kinds.OtherType = codes "other-type"
+kind_word kinds.Malformed = codes "malformed"
+kind_word kinds.Options = codes "options"
+kind_word kinds.Fragment = codes "fragment"
+kind_word kinds.Icmp = codes "icmp"
+kind_word kinds.OtherProtocol = codes "other-protocol"
+kind_word kinds.Expired = codes "expired"
+kind_word kinds.Large = codes "large"
+kind_word kinds.Flow = codes "no-backend"
+
+-- the case of the steering rule by which a frame of this kind has this verdict: a frame without a flow passes, and so does one whose flow is
+-- for no service; one that cannot go through the tunnel is dropped; any other is sent to a backend, or dropped where there is none
+abbrev pub case_word : FrameKind → LineVerdict → List ℕ
+case_word kind verdicts.Drop = kind_word kind
+case_word kind verdicts.Tx = codes "sent"
+case_word kinds.Expired verdicts.Pass = codes "no-service"
+case_word kinds.Large verdicts.Pass = codes "no-service"
+case_word kinds.Flow verdicts.Pass = codes "no-service"
+case_word kind verdicts.Pass = kind_word kind
+case_word kind verdicts.Short = codes "short"
+case_word kind verdicts.Stopped = []
+case_word kind verdicts.Aborted = []
+
+-- ---- lines
+
+-- which record it is, when it came, who ran it, and what came of it
+abbrev pub csv_front : List ℕ → List ℕ → List ℕ → List ℕ → List ℕ
+csv_front number moment worker verdict =
+    number ++ (codes "," ++ (moment ++ (codes "," ++ (worker ++ (codes "," ++ verdict)))))
+
+abbrev pub json_front : List ℕ → List ℕ → List ℕ → List ℕ → List ℕ
+json_front number moment worker verdict =
+    codes "{\"number\":" ++ (number ++ (codes ",\"moment\":" ++ (moment ++ (codes ",\"worker\":" ++ (worker ++ (codes ",\"verdict\":"
+    ++ verdict))))))
+
+abbrev pub front_of_pieces : ReportForm → List ℕ → List ℕ → List ℕ → List ℕ → List ℕ
+front_of_pieces Csv number moment worker verdict = csv_front number moment worker verdict
+front_of_pieces Json number moment worker verdict = json_front number moment worker verdict
+
+abbrev pub front_text : ReportForm → ℕ → ℕ → Option ℕ → LineVerdict → List ℕ
+front_text form number micros worker verdict =
+    front_of_pieces form (decimal number) (word_text form (moment_text micros)) (number_text form worker) (word_text form (verdict_word verdict))
+
+-- in how many steps, by which case, and where it was sent
+abbrev pub csv_back : List ℕ → List ℕ → List ℕ → List ℕ → List ℕ
+csv_back steps case backend address =
+    codes "," ++ (steps ++ (codes "," ++ (case ++ (codes "," ++ (backend ++ (codes "," ++ (address ++ codes "\n")))))))
+
+abbrev pub json_back : List ℕ → List ℕ → List ℕ → List ℕ → List ℕ
+json_back steps case backend address =
+    codes ",\"steps\":" ++ (steps ++ (codes ",\"case\":" ++ (case ++ (codes ",\"backend\":" ++ (backend ++ (codes ",\"address\":"
+    ++ (address ++ codes "}\n")))))))
+
+abbrev pub back_of_pieces : ReportForm → List ℕ → List ℕ → List ℕ → List ℕ → List ℕ
+back_of_pieces Csv steps case backend address = csv_back steps case backend address
+back_of_pieces Json steps case backend address = json_back steps case backend address
+
+abbrev pub back_text : ReportForm → Option ℕ → List ℕ → Option ℕ → Option ℕ → List ℕ
+back_text form steps case backend address =
+    back_of_pieces form (number_text form steps) (word_text form case) (number_text form backend) (target_text form address)
+
+abbrev pub record_line : ReportForm → RecordLine → List ℕ
+record_line form line =
+    front_text form line.number line.micros line.worker line.verdict ++ back_text form line.steps line.case_of.now line.backend line.address
+
+-- what stands before the first line
+abbrev pub head_of : ReportForm → List ℕ
+head_of Csv = codes "number,moment,worker,verdict,steps,case,backend,address\n"
+head_of Json = []

@@ -1,0 +1,25 @@
+-- How much of a lookup table each backend has, and how many of its slots change hands. A table is the list of its words, by slot: an owner's number and
+-- one, or 0 where nobody owns the slot.
+use Rattle.std.specs.Prelude.{ℕ, zero, suc, ◌+◌, ◌-◌, ◌==◌, List, slice_get, unwrap_or, if◌then◌else◌}
+use Rattle.maglev.specs.Population.{share_of}
+
+abbrev pub word_at : List ℕ → ℕ → ℕ
+word_at words place = unwrap_or (slice_get words place) 0
+
+-- how many of the first slots have another word in the second table than in the first
+abbrev pub moved_below : List ℕ → List ℕ → ℕ → ℕ
+moved_below old new zero = 0
+moved_below old new (suc place) = moved_below old new place + (if word_at old place == word_at new place then 0 else 1)
+
+-- how many slots more have this word in the second table
+abbrev pub gain_of : List ℕ → List ℕ → ℕ → ℕ
+gain_of old new word = share_of word new - share_of word old
+
+unfoldable pub gains_below : List ℕ → List ℕ → ℕ → ℕ
+gains_below old new zero = 0
+gains_below old new (suc word) = gains_below old new word + gain_of old new word
+
+-- The least number of slots that change hands from the first table to any in which each of 256 backends, and nobody, has the share of the second table:
+-- what each of them gains.
+abbrev pub least_moves : List ℕ → List ℕ → ℕ
+least_moves old new = gains_below old new 257
