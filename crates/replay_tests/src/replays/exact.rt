@@ -382,7 +382,7 @@ fn controllers_apart(one: &Outcome, other: &Outcome) -> usize {
             let first = journal.entry(place).who == Caller::Controller;
             let second = controls(other, number, place);
             if first != second {
-                apart += 1;
+                apart = apart.saturating_add(1);
             }
         }
     }
