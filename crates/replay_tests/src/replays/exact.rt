@@ -375,7 +375,7 @@ fn long_in_turn<R: Abort>(
 
 /// In how many places of the journals one has an entry of the controller, and the other none.
 fn controllers_apart(one: &Outcome, other: &Outcome) -> usize {
-    let mut apart = 0;
+    let mut apart: usize = 0;
     for number in 0..one.journals.count() {
         let journal = one.journals.journal(number);
         for place in 0..journal.len() {
