@@ -373,7 +373,8 @@ pub(crate) fn kinds(number: u8) -> Explanation
             name: "BadArgument",
             fields: FieldNames::Two("slot", "register"),
             meaning: "An argument of a call is of the wrong kind.",
-            causes: "r1 is no map (or for helper 44 not the context), r2 or r3 does not point to the stack, or what has to be a number is none (r4 of helper 2, r2 of helper 44).",
+            causes: "r1 is no map (or for helper 44 not the context), r2 or r3 does not point to the stack, or what has to be a number is none (r4 \
+                of helper 2, r2 of helper 44).",
             example: "A key that lies in the packet: copy it to the stack first.",
         },
         46 => Explanation {
@@ -424,7 +425,8 @@ pub(crate) fn shards(number: u8) -> Explanation
             name: "JournalFull",
             fields: FieldNames::One("shard"),
             meaning: "A shard's journal has no room for a call; for each run inside a place is kept for its leave.",
-            causes: "The journal was opened too small for the calls that are made: open it larger (--journal), or open more shards (--shards), over which the keys of hash maps are spread.",
+            causes: "The journal was opened too small for the calls that are made: open it larger (--journal), or open more shards (--shards), over \
+                which the keys of hash maps are spread.",
             example: "A journal of 16 entries and a run that makes twenty lookups.",
         },
         51 => Explanation {
@@ -612,7 +614,8 @@ pub(crate) fn scripts(number: u8) -> Explanation
             number: 93,
             name: "Refused",
             fields: FieldNames::One("answer"),
-            meaning: "A map refused what the controller set, a service's address or a value of `xlb run --update`; the answer is Linux's error number, negated.",
+            meaning: "A map refused what the controller set, a service's address or a value of `xlb run --update`; the answer is Linux's error \
+                number, negated.",
             causes: "The map is full: -7; an array has no such element: -7.",
             example: "The 65th service of one shard.",
         },
@@ -645,7 +648,8 @@ pub(crate) fn stopped() -> Explanation
         name: "JournalFull",
         fields: FieldNames::One("shard"),
         meaning: "A run was stopped, since a shard's journal has no room for its next call.",
-        causes: "The journal was opened too small for the calls of all runs together: open it larger (--journal), or open more shards (--shards), over which the keys of hash maps are spread.",
+        causes: "The journal was opened too small for the calls of all runs together: open it larger (--journal), or open more shards (--shards), \
+            over which the keys of hash maps are spread.",
         example: "A program of more lookups than the journal has entries.",
     }
 }

@@ -291,11 +291,13 @@ fn kinds(cause: Cause) -> (&'static str, &'static str) {
             "load the packet's start ([r1+0]) or look a value up, and work from that register",
         ),
         Cause::PointerArithmetic => (
-            "the only arithmetic with a pointer is to add a number to it or to subtract one, in 64 bits, with the pointer as destination; only the stack, the packet and values can be moved in so",
+            "the only arithmetic with a pointer is to add a number to it or to subtract one, in 64 bits, with the pointer as destination; only the \
+                stack, the packet and values can be moved in so",
             "compute the number first, in another register, and add it to a copy of the pointer",
         ),
         Cause::UnknownDelta => (
-            "such a pointer moves only by a single known number (the packet's also by adding one of which an upper bound is known, a value's so from image version 2 on)",
+            "such a pointer moves only by a single known number (the packet's also by adding one of which an upper bound is known, a value's so from \
+                image version 2 on)",
             "use a constant offset, or choose between constants by jumps",
         ),
         Cause::TestOfKinds => (
@@ -322,7 +324,8 @@ fn packet(cause: Cause) -> (&'static str, &'static str) {
         ),
         Cause::NoTestShows { .. } => (
             "no comparison with the packet's end shows, on every path to here, that the packet reaches so far",
-            "load the end ([r1+4]), add so many bytes to a copy of the pointer, and leave where that is greater (jgt copy, end, +n); if there is such a test, look at which way it jumps",
+            "load the end ([r1+4]), add so many bytes to a copy of the pointer, and leave where that is greater (jgt copy, end, +n); if there is \
+                such a test, look at which way it jumps",
         ),
         Cause::ComparedForFewer { .. } => (
             "the packet was compared with its end for fewer bytes",

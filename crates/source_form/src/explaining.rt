@@ -214,7 +214,8 @@ fn problem_text(
             "\"{last}\": no line has the label {last}: (a distance has its sign, as +3)"
         ),
         Problem::UnknownHelper => format!(in alloc;
-            "\"{last}\": no such helper: expected a number, map_lookup_elem, map_update_elem, map_delete_elem, ktime_get_ns, get_smp_processor_id or xdp_adjust_head"
+            "\"{last}\": no such helper: expected a number, map_lookup_elem, map_update_elem, map_delete_elem, ktime_get_ns, get_smp_processor_id or \
+                xdp_adjust_head"
         ),
         Problem::NoNumber => format!(in alloc;
             "\"{}\": no number: expected decimal digits, or 0x and hexadecimal digits, of 64 bits at most",
