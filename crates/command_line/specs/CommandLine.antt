@@ -90,20 +90,27 @@ replay_files =
     (option_rule (codes "script")))
     (option_rule (codes "journals"))
 
+-- and that of a line for each record
+abbrev pub replay_reported : App
+replay_reported = with_rule replay_files (option_rule (codes "report"))
+
 -- how its shards are opened
 abbrev pub replay_opened : App
 replay_opened =
     with_rule
-    (with_rule (with_rule replay_files (number_rule (codes "workers") 4294967295 (codes "1"))) (number_rule (codes "shards") 4294967295 (codes "1")))
+    (with_rule (with_rule replay_reported (number_rule (codes "workers") 4294967295 (codes "1"))) (number_rule (codes "shards") 4294967295 (codes "1")))
     (number_rule (codes "journal") 4294967295 (codes "65536"))
 
--- and the size of the lookup table, whether commands take effect at exact moments, and whether a summary is printed
+-- and the size of the lookup table, whether commands take effect at exact moments, whether a summary is printed, and whether records that are too
+-- long for a frame are skipped
 abbrev pub replay_command : App
 replay_command =
-    with_rule (with_rule (with_rule replay_opened (number_rule (codes "ring") 4294967295 (codes "251"))) (switch_rule (codes "exact")))
-    (switch_rule (codes "summary"))
+    with_rule
+    (with_rule (with_rule (with_rule replay_opened (number_rule (codes "ring") 4294967295 (codes "251"))) (switch_rule (codes "exact")))
+    (switch_rule (codes "summary")))
+    (switch_rule (codes "skip-long"))
 
--- the name, with `--version`; a command has to be given, and `help` tells of the commands
+-- the name, with `--version`; a command has to be given, and `help` describes the commands
 abbrev pub program_name : App
 program_name =
     on_top (λ s. record s { has_version = true; subcommand_required = true }) (new_app (codes "xlb"))

@@ -1,6 +1,6 @@
 -- What the settings are of a command and what was found for its arguments.
 use Rattle.std.specs.Prelude.{◌≡◌, ◌<◌, ◌^◌, ◌*◌, ◌+◌, ◌/◌, ℕ, Bool, List, [], length, true, false, ◌&&◌, Option, Some, None, option_map, ◌⊎◌}
-use Rattle.std.specs.Prelude.{IsTrue, IsFalse, ◌||◌, codes, is_some, unwrap_or, slice_get, slice_index_or}
+use Rattle.std.specs.Prelude.{IsTrue, IsFalse, ◌||◌, codes, is_none, is_some, unwrap_or, slice_get, slice_index_or}
 use Rattle.std.specs.Borrow.{Bor}
 use Rattle.std.specs.Str.{bytes_eq}
 use Rattle.std.specs.Str.Parse.{IsNumeral, digits_value, without_leading_plus}
@@ -123,8 +123,10 @@ abbrev pub AreReplayFiles : List Row → ReplayFiles → Type 0
 AreReplayFiles rows files = (files.capture.now ≡ word_of (codes "CAPTURE") rows)
     × (files.sent.now ≡ word_of (codes "SENT") rows)
     × (text_of files.image ≡ either (first_of (codes "image") rows) (first_of (codes "program") rows))
+    × (files.is_steering ≡ is_none (first_of (codes "image") rows))
     × (text_of files.script ≡ first_of (codes "script") rows)
     × (text_of files.journals ≡ first_of (codes "journals") rows)
+    × (text_of files.report ≡ first_of (codes "report") rows)
 
 -- and so are its options
 abbrev pub AreReplayOptions : List Row → Options → Type 0
@@ -162,12 +164,13 @@ IsReadFrom name rows (Shipped out ring) = is_named name (codes "shipped")
 IsReadFrom name rows (Table script ring) = is_named name (codes "table")
     × (script.now ≡ word_of (codes "SCRIPT") rows)
     × IsNumberOf 32 (codes "ring") rows ring
-IsReadFrom name rows (Replay files options ring exact summary) = is_named name (codes "replay")
+IsReadFrom name rows (Replay files options ring exact summary skip_long) = is_named name (codes "replay")
     × AreReplayFiles rows files
     × AreReplayOptions rows options
     × IsNumberOf 32 (codes "ring") rows ring
     × IsSwitchOf (codes "exact") rows exact
     × IsSwitchOf (codes "summary") rows summary
+    × IsSwitchOf (codes "skip-long") rows skip_long
     × IsFalse (are_both_given (codes "image") (codes "script") rows)
     × IsFalse (are_both_given (codes "image") (codes "program") rows)
 

@@ -7,7 +7,7 @@ use semantics::Options;
 /// A command with its words: names of files as they were given, and numbers.
 #[derive(Debug, Drop)]
 pub enum Settings<'a> {
-    /// Judges an image, and tells why where it is asked to explain.
+    /// Judges an image, and explains the result if asked to.
     Check {
         image: &'a str,
         explain: bool,
@@ -24,12 +24,12 @@ pub enum Settings<'a> {
         image: &'a str,
         source: bool,
     },
-    /// Tells whether journals are legal for an image's maps.
+    /// Checks whether journals are legal for an image's maps.
     Audit {
         image: &'a str,
         journals: &'a str,
     },
-    /// Tells what a fault means.
+    /// Explains a fault.
     Explain {
         about: Explanation,
     },
@@ -61,6 +61,8 @@ pub enum Settings<'a> {
         exact: bool,
         /// Whether lines on the error stream say what the traffic was.
         summary: bool,
+        /// Whether records of more than 2048 bytes are skipped, in place of refusing the capture.
+        skip_long: bool,
     },
 }
 
@@ -81,7 +83,11 @@ pub struct ReplayFiles<'a> {
     pub sent: &'a str,
     /// The image's file, of `--image` or of `--program`; the shipped program is run where it is missing.
     pub image: Option<&'a str>,
+    /// Whether the program is one of steering: the shipped program, or that of `--program`.
+    pub is_steering: bool,
     pub script: Option<&'a str>,
     /// Where the journals are written to.
     pub journals: Option<&'a str>,
+    /// Where a line for each record is written to.
+    pub report: Option<&'a str>,
 }

@@ -27,7 +27,7 @@ pub const OUT: &str = "OUT";
 /// The number or the name of a fault.
 pub const FAULT: &str = "FAULT";
 
-/// Whether a check tells why.
+/// Whether a check explains its result.
 pub const EXPLAIN: &str = "explain";
 
 /// Whether a text is in the source form.
@@ -56,6 +56,12 @@ pub const EXACT: &str = "exact";
 
 /// Whether a replay prints what its traffic was.
 pub const SUMMARY: &str = "summary";
+
+/// Whether a replay skips the records of a capture that are too long for a frame.
+pub const SKIP_LONG: &str = "skip-long";
+
+/// The file to which a replay writes a line for each record.
+pub const REPORT: &str = "report";
 
 /// The script of a replay.
 pub const SCRIPT: &str = "script";
@@ -87,11 +93,12 @@ const ABOUT: &str =
 const VERSION: &str = "0.1.0";
 
 const AFTER: &str = "\
-A file that cannot be read, or that is refused, is told on the standard error
-as `fault <number> <name>`, with what it is about, and the status is 1. The
-status is 2 where the command line is wrong, and 0 where the command is done.
-'xlb <COMMAND> --help' tells more of a command, and 'xlb explain <FAULT>' of a
-fault.";
+A file that cannot be read, or that is refused, is reported on the standard
+error as `fault <number> <name>` with its fields, and the status is 1. The
+status is 2 if the command line is wrong, and 0 if the command was done.
+'xlb <COMMAND> --help' describes a command, and 'xlb explain <FAULT>' a fault.
+The file - is the standard input, or where a file is written the standard
+output; what the command prints goes to the standard error then.";
 
 const AFTER_CHECK: &str = "\
 Prints one line:
@@ -99,11 +106,11 @@ Prints one line:
 A slot has eight bytes; an instruction takes one or two. A reader changes no
 map and does the same on each worker. A program that may not run is refused
 with the first rule that it breaks and the slot of the instruction, counted
-from 0. With --explain more lines follow: of a refused program what was known
-at that instruction, the rule and the usual remedy; of an accepted one what is
-known before each instruction, and why it is no reader.
-An image of version 2 may besides take addresses in the values of its maps
-(the instruction ldval), and have values of up to 256 bytes.";
+from 0. With --explain more lines follow: for a refused program what was known
+at that instruction, the rule and the usual remedy; for an accepted one what is
+known before each instruction, and why it is not a reader.
+An image of version 2 may also take addresses in the values of its maps (the
+instruction ldval), and have values of up to 256 bytes.";
 
 const AFTER_RUN: &str = "\
 Prints three lines:
@@ -111,13 +118,13 @@ Prints three lines:
   instructions <how many were run>
   frame <the frame afterwards, in hexadecimal>
 A dropped frame is thrown away, a passed one goes to the host, and tx sends it
-out; aborted: the program's answer is none of these. The maps are new: the
-elements of an array are zeros, other maps have no keys. With --update, which
-may be given any number of times, a key of a map gets a value before the run,
-as the controller sets it: MAP is the map's place in the image, from 0, KEY and
-VALUE are its bytes in hexadecimal, as many as the map's keys and values have.
-With --journals the file has the calls that the controller and the run made on
-each map, with their replies, where the run came to its end.";
+out; aborted means that the program returned none of these. The maps are new:
+the elements of an array are zeros, other maps have no keys. With --update,
+which may be given any number of times, the controller sets a key of a map to a
+value before the run: MAP is the map's place in the image, from 0, KEY and VALUE
+are bytes in hexadecimal, as many as the map's keys and values have. With
+--journals the calls that the controller and the run made on each map are
+written to the file, with their replies, if the run came to its end.";
 
 const AFTER_DISASM: &str = "\
 Prints `version 1`, a line for each map and a line for each instruction: what
@@ -130,35 +137,36 @@ line, counted from 1. With --source the text may have comments, blank lines,
 labels, hexadecimal numbers and names of helpers.";
 
 const AFTER_AUDIT: &str = "\
-Prints `legal` where each entry of each journal is a call that its caller may
+Prints `legal` if each entry of each journal is a call that its caller may
 make, with the reply that a map on one thread gives, and none came past a full
-journal. Else the first entry that is not is told, by its shard and its place
-there, counted from 0. Only the image's maps count: its program is not judged.";
+journal. Otherwise the first entry that is not is reported, by its shard and its
+place there, counted from 0. Only the image's maps count: its program is not
+judged.";
 
 const AFTER_EXPLAIN: &str = "\
 Prints what the fault means, what mostly leads to it, and an example. FAULT is
-its number or its name: of faults with one name (Memory, JournalFull) that with
-the least number is meant. A number or a name that no fault has is a mistake of
-the command line.";
+its number or its name. If several faults have the name (Memory, JournalFull),
+the one with the least number is explained. A number or a name that no fault
+has is a mistake of the command line.";
 
 const AFTER_SHIPPED: &str = "\
-Prints nothing. The image is the program that replay runs where it is given
-none, with its maps: audit takes it for that program's journals, where the ring
-is the same.";
+Prints nothing. The image is the program that replay runs if no other one is
+given, with its maps. Audit that program's journals with it, if the ring is the
+same.";
 
 const AFTER_TABLE: &str = "\
 Prints the lookup table that the controller of a replay writes, after each
 command of the script, in its order: a line
   command <its number, from 1> frame <its frame> moved <slots> least <slots>
-with how many slots change hands, and the fewest that have to for the shares
-that follow, and then a line for each backend that is up
+with the number of slots that change hands, and the fewest that have to for the
+shares that follow, and then a line for each backend that is up
   backend <number> address <address> slots <its share> percent <its share>
 A command that is refused has the line
   command <its number, from 1> refused <fault number>
 in which case the status is 1, and a line on the standard error says why.";
 
 const AFTER_REPLAY: &str = "\
-Prints how many frames there were, and of them the ones shorter than an
+Prints how many frames there were, and among them those shorter than an
 Ethernet header, those whose run was stopped by a full journal, and those of
 each verdict:
   frames <n>
@@ -177,9 +185,18 @@ the lookup table, and with a script. The controller works beside the workers: a
 command may take effect up to some 64 frames for each worker too early, because
 a worker's queue holds 64 frames, or later. With --exact it takes effect when
 all frames before it are done, and before a later one is begun. With --summary
-lines on the standard error say how many frames of which kind the capture has,
-how many were sent to which address, and, as the last line, how many of these
-were sent to another address than the frame of their flow before.";
+lines on the standard error give the number of frames of each kind in the
+capture, the number sent to each address, how many of these were sent to
+another address than the frame of their flow before, how many are for each
+service of the script, why others were not sent, and the first ten records
+that went to another address. A frame that was cut within its packet when it
+was captured is passed, as malformed (tcpdump -s 0 keeps frames whole).
+With --report one line for each record of the capture is written to the file:
+  number,moment,worker,verdict,steps,case,backend,address
+as CSV, or as a JSON object if the file's name ends in .json or .jsonl. The case
+is that of the steering rule; backend and address are where the frame was sent.
+A capture with a record of more than 2048 bytes is refused; with --skip-long
+such records are skipped, and a line on the standard error gives their number.";
 
 /// A file, or another word, that has to be given.
 fn file<'a>(alloc: Global, id: &'a str, help: &'a str) -> Arg<'a>
@@ -254,7 +271,7 @@ fn check<'a>(alloc: Global) -> Result<Command<'a>, AllocError>
     ensures local { IfOk result (λ command. (out-Command command).has_globals ≡ false) }
 {
     let image = file(alloc, IMAGE, "The image's file");
-    let explain = switch(alloc, EXPLAIN, "Tells why");
+    let explain = switch(alloc, EXPLAIN, "Explains the result");
     command(alloc, "check", "Judges an image", AFTER_CHECK)
         .arg(image)?
         .arg(explain)
@@ -333,7 +350,7 @@ fn audit<'a>(alloc: Global) -> Result<Command<'a>, AllocError>
     command(
         alloc,
         "audit",
-        "Tells whether journals are legal",
+        "Checks whether journals are legal",
         AFTER_AUDIT,
     )
     .arg(image)?
@@ -345,7 +362,7 @@ fn explain<'a>(alloc: Global) -> Result<Command<'a>, AllocError>
     ensures local { IfOk result (λ command. (out-Command command).has_globals ≡ false) }
 {
     let fault = file(alloc, FAULT, "The fault's number or name");
-    command(alloc, "explain", "Tells what a fault means", AFTER_EXPLAIN).arg(fault)
+    command(alloc, "explain", "Explains a fault", AFTER_EXPLAIN).arg(fault)
 }
 
 /// A number of 32 bits that may be given.
@@ -416,7 +433,7 @@ fn replay_named<'a>(alloc: Global) -> Result<Command<'a>, AllocError>
     .arg(sent)
 }
 
-/// All its words that name files.
+/// The same with its files that need not be named.
 fn replay_files<'a>(alloc: Global) -> Result<Command<'a>, AllocError>
     ensures app { IfOk result (λ command. app_of command ≡ line.replay_files) }
     ensures local { IfOk result (λ command. (out-Command command).has_globals ≡ false) }
@@ -440,6 +457,19 @@ fn replay_files<'a>(alloc: Global) -> Result<Command<'a>, AllocError>
         .arg(journals)
 }
 
+/// The same with the file of a line for each record.
+fn replay_reported<'a>(alloc: Global) -> Result<Command<'a>, AllocError>
+    ensures app { IfOk result (λ command. app_of command ≡ line.replay_reported) }
+    ensures local { IfOk result (λ command. (out-Command command).has_globals ≡ false) }
+{
+    let report = option(
+        alloc,
+        REPORT,
+        "The file to write a line for each record to; JSON if named .json or .jsonl",
+    );
+    replay_files(alloc)?.arg(report)
+}
+
 /// The same with the numbers by which its shards are opened.
 fn replay_opened<'a>(alloc: Global) -> Result<Command<'a>, AllocError>
     ensures app { IfOk result (λ command. app_of command ≡ line.replay_opened) }
@@ -458,7 +488,10 @@ fn replay_opened<'a>(alloc: Global) -> Result<Command<'a>, AllocError>
         "65536",
         "How many calls each shard may have, 16 to 1048576",
     );
-    replay_files(alloc)?.arg(workers)?.arg(shards)?.arg(journal)
+    replay_reported(alloc)?
+        .arg(workers)?
+        .arg(shards)?
+        .arg(journal)
 }
 
 fn replay<'a>(alloc: Global) -> Result<Command<'a>, AllocError>
@@ -475,10 +508,16 @@ fn replay<'a>(alloc: Global) -> Result<Command<'a>, AllocError>
         SUMMARY,
         "Prints the kinds of frames and where frames were sent, on the standard error",
     );
+    let skip_long = switch(
+        alloc,
+        SKIP_LONG,
+        "Skips records of more than 2048 bytes in place of refusing the capture",
+    );
     replay_opened(alloc)?
         .arg(ring(alloc))?
         .arg(exact)?
-        .arg(summary)
+        .arg(summary)?
+        .arg(skip_long)
 }
 
 /// The program's commands.

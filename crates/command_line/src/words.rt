@@ -18,8 +18,8 @@ ghost use Rattle.clap.specs.declared.error.kind.ErrorKind.TheVariants.{DisplayHe
 use crate::commands::{ReplayFiles, RunFiles, Settings};
 use crate::grammar::{
     CAPTURE, EXACT, EXPLAIN, FAULT, FRAME, IMAGE, JOURNAL, JOURNALS, JOURNALS_OUT, NOW, OUT,
-    PROGRAM, REPLAY_IMAGE, RING, SCRIPT, SENT, SHARDS, SOURCE, SUMMARY, TABLE_SCRIPT, TEXT, UPDATE,
-    WORKER, WORKERS, program,
+    PROGRAM, REPLAY_IMAGE, REPORT, RING, SCRIPT, SENT, SHARDS, SKIP_LONG, SOURCE, SUMMARY,
+    TABLE_SCRIPT, TEXT, UPDATE, WORKER, WORKERS, program,
 };
 use clap::{ArgMatches, Error};
 use faults::Explanation;
@@ -29,10 +29,10 @@ use std::alloc::Global;
 use std::convert::AsStr;
 use std::{fmt, io};
 
-/// What is told of a replay of both an image and a script.
+/// What is printed for a replay of both an image and a script.
 const TOGETHER: &str = "error: the options --image and --script cannot be used together";
 
-/// What is told of a replay of two images.
+/// What is printed for a replay of two images.
 const TWO_IMAGES: &str = "error: the options --image and --program cannot be used together";
 
 /// Why words are no command, or which text they ask for: help or the version.
@@ -247,6 +247,7 @@ fn replay_of<'a>(found: &ArgMatches<'a>) -> Asked<'a>
         ring: number_of(found, RING, 251),
         exact: switch(found, EXACT),
         summary: switch(found, SUMMARY),
+        skip_long: switch(found, SKIP_LONG),
     })
 }
 
@@ -295,8 +296,10 @@ fn replay_files_of<'a>(found: &ArgMatches<'a>) -> ReplayFiles<'a>
         capture: word(found, CAPTURE),
         sent: word(found, SENT),
         image: either(option(found, REPLAY_IMAGE), option(found, PROGRAM)),
+        is_steering: option(found, REPLAY_IMAGE).is_none(),
         script: option(found, SCRIPT),
         journals: option(found, JOURNALS_OUT),
+        report: option(found, REPORT),
     }
 }
 

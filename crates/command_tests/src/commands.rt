@@ -6,6 +6,7 @@ ghost use Rattle.std.specs.Prelude.{◌≡◌, ◌-◌, ◌<◌, ◌^◌};
 
 mod assembling;
 mod audits;
+mod checked_sources;
 mod clashes;
 mod devices;
 mod explained;
@@ -13,8 +14,10 @@ mod failing_devices;
 mod fault_texts;
 mod first_path;
 mod images;
+mod long_records;
 mod one_run;
 mod programs;
+mod record_reports;
 mod replays;
 mod run_journals;
 mod shipped;

@@ -43,22 +43,33 @@ enum Trouble {
     Memory,
 }
 
-/// The system's files, whose bytes no contract tells.
+/// The name of the program's standard input.
+pub const STANDARD_INPUT: &str = "/dev/stdin";
+
+/// The name of the program's standard output.
+pub const STANDARD_OUTPUT: &str = "/dev/stdout";
+
+/// The system's files, whose bytes no contract tells. Two names are not opened: what is read of `/dev/stdin` comes from the standard input, and what is
+/// written to `/dev/stdout` goes to the standard output, behind what was written there before.
 #[derive(Drop)]
-pub struct FileFolder<'a, R> {
+pub struct FileFolder<'a, R, I, O> {
     rt: &'a R,
+    input: I,
+    output: O,
     failures: u64,
     /// The last call that failed.
     last: Option<Failure>,
 }
 
-impl<'a, R> FileFolder<'a, R> {
-    /// The files of this runtime, with no failures.
-    pub fn new(rt: &'a R) -> FileFolder<'a, R>
+impl<'a, R, I, O> FileFolder<'a, R, I, O> {
+    /// The files of this runtime, with its standard input and standard output, and no failures.
+    pub fn new(rt: &'a R, input: I, output: O) -> FileFolder<'a, R, I, O>
         ensures { result.failures ≡ 0 }
     {
         FileFolder {
             rt,
+            input,
+            output,
             failures: 0,
             last: None,
         }
@@ -290,7 +301,32 @@ fn is_one_file<R: Files>(rt: &R, name: &str, other: &str) -> bool {
     }
 }
 
-impl<R> FileFolder<'_, R> {
+impl<R: Files, I: Read, O: Write> FileFolder<'_, R, I, O> {
+    /// The first bytes of a file, or of the standard input, of which the system does not say how many there are.
+    fn front(&mut self, alloc: Global, name: &str, most: usize) -> Result<Front, Trouble>
+        ensures front { IfOk result (IsShortFront most) }
+        ensures steady { self.new.failures ≡ self.old.failures }
+    {
+        if name == STANDARD_INPUT {
+            read_front(alloc, &mut self.input, most, 0)
+        } else {
+            front_of(self.rt, alloc, name, most)
+        }
+    }
+
+    /// Makes a file of the bytes, or gives them to the standard output.
+    fn put(&mut self, name: &str, bytes: &[u8]) -> Result<(), Failure>
+        ensures steady { self.new.failures ≡ self.old.failures }
+    {
+        if name == STANDARD_OUTPUT {
+            put_all(&mut self.output, bytes)
+        } else {
+            make(self.rt, name, bytes)
+        }
+    }
+}
+
+impl<R, I, O> FileFolder<'_, R, I, O> {
     /// Counts a failure, and keeps it for `complaint`.
     fn fail(&mut self, failure: Failure) -> FolderFault
         requires { self.old.failures < 2 ^ 64 - 1 }
@@ -303,7 +339,7 @@ impl<R> FileFolder<'_, R> {
     }
 }
 
-impl<R: Files> Folder for FileFolder<'_, R> {
+impl<R: Files, I: Read, O: Write> Folder for FileFolder<'_, R, I, O> {
     ghost holds = { λ _ _ _. Unit {0} };
 
     ghost are_one = { λ _ _ _. Unit {0} };
@@ -311,7 +347,7 @@ impl<R: Files> Folder for FileFolder<'_, R> {
     ghost failure_count = { λ folder. folder.failures };
 
     fn read(&mut self, alloc: Global, name: &str) -> Result<Vec<u8>, FolderFault> {
-        match front_of(self.rt, alloc, name, usize::MAX) {
+        match self.front(alloc, name, usize::MAX) {
             Ok(front) => Ok(front.bytes),
             Err(Trouble::Device(failure)) => Err(self.fail(failure)),
             Err(Trouble::Memory) => Err(FolderFault::Memory),
@@ -319,7 +355,7 @@ impl<R: Files> Folder for FileFolder<'_, R> {
     }
 
     fn read_front(&mut self, alloc: Global, name: &str, most: usize) -> Result<Front, FolderFault> {
-        match front_of(self.rt, alloc, name, most) {
+        match self.front(alloc, name, most) {
             Ok(front) => Ok(front),
             Err(Trouble::Device(failure)) => Err(self.fail(failure)),
             Err(Trouble::Memory) => Err(FolderFault::Memory),
@@ -327,7 +363,7 @@ impl<R: Files> Folder for FileFolder<'_, R> {
     }
 
     fn write(&mut self, _alloc: Global, name: &str, bytes: &[u8]) -> Result<(), FolderFault> {
-        match make(self.rt, name, bytes) {
+        match self.put(name, bytes) {
             Ok(()) => Ok(()),
             Err(failure) => Err(self.fail(failure)),
         }

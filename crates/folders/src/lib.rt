@@ -5,6 +5,6 @@ mod files;
 mod folder;
 mod memory_folder;
 
-pub use files::FileFolder;
+pub use files::{FileFolder, STANDARD_INPUT, STANDARD_OUTPUT};
 pub use folder::{Folder, FolderFault, Front};
 pub use memory_folder::MemoryFolder;

@@ -13,19 +13,19 @@ use Rattle.semantics.specs.Step.{Step, Continues, CallsMap, Exits, Traps}
 use Rattle.semantics.specs.Semantics.{next_step}
 use Rattle.semantics.specs.RunTrace.{RunTrace, HasExited, HasTrapped, GoesOn, trace_of, trace_from, IsReplyTo}
 use Rattle.semantics.specs.History.{shard_of_call}
-use Rattle.semantics.specs.System.{Setting, Idle, Runs, is_entered, run_over, IsInputFrame, input_frame}
+use Rattle.semantics.specs.System.{Setting, is_entered, input_frame}
 use Rattle.semantics.specs.System as model
 use Rattle.map_port.specs.Exchanges.{Exchange, calls_in, replies_in}
 use Rattle.shards.specs.declared.deeds.Deed.{Deed}
 use Rattle.shards.specs.declared.deeds.Deed.TheVariants.{Wrote}
 use Rattle.shards.specs.Deeds.{is_of_shard}
-use Rattle.shards.specs.Passes.{PassView, own_at}
+use Rattle.shards.specs.Passes.{own_at}
 use Rattle.shard_port.specs.Asking.{enter_by, leave_by}
 use Rattle.shard_port.specs.Sessions.{entry_of, is_at, entries_at, begun, session}
 use Rattle.shard_port.specs.PassSessions.{AreWithin}
 use Rattle.shard_port.specs.PassDeeds.{asked_deeds, entered_by, rising, leaving_deeds, run_deeds}
 use Rattle.runs.specs.FrameRuns.{AreFormed}
-use Rattle.guarantees.specs.Steps.{Writes, Move, does, asks, IsStep, RunBegins, RunGoesOn, RunEnds, CallIsServed, ShardIsEntered, AreStepsOfRun, leavings, entries_asked, entries_in, entries_on, deeds_asked, deeds_in}
+use Rattle.guarantees.specs.Steps.{Writes, Move, does, asks, RunBegins, RunGoesOn, RunEnds, CallIsServed, ShardIsEntered, AreStepsOfRun, leavings, entries_asked, entries_in, entries_on, deeds_asked, deeds_in}
 use Rattle.guarantees.specs.SystemLaws.{RunsAreOfTheSystem}
 use Rattle.guarantees.proofs.Leaving.{AreEntered, all_leave, left_on, deeds_left}
 

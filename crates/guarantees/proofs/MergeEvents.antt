@@ -9,7 +9,7 @@ use Rattle.semantics.specs.System.{Setting, SystemState, SystemEvent, BeginsRun,
 use Rattle.semantics.proofs.shared.SystemSteps.{state_there, state_elsewhere}
 use Rattle.shards.specs.declared.deeds.Deed.{Deed}
 use Rattle.shards.specs.declared.deeds.Deed.TheVariants.{Wrote, MetFull}
-use Rattle.guarantees.specs.Steps.{Asked, Nothing, Writes, Refused, Move, IsStep, AreSteps, deeds_asked, deeds_in}
+use Rattle.guarantees.specs.Steps.{Asked, Nothing, Writes, Refused, Move, AreSteps, deeds_asked, deeds_in}
 use Rattle.guarantees.specs.Moves.{IsMove, IsAskedSo, after_asked, is_event_of}
 use Rattle.guarantees.specs.Merging.{events_of}
 use Rattle.guarantees.proofs.MoveLemmas.{steps_are_moves}

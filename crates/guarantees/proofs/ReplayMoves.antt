@@ -34,7 +34,7 @@ use Rattle.replay.specs.Shares.{frames_of, share}
 use Rattle.guarantees.specs.Steps.{Move, Refused, AreSteps, running, begins, does, asks, beginning, leavings, entries_on, deeds_in}
 use Rattle.guarantees.specs.SystemRuns.{setting_of, HaveGrown, HaveDone, RanInSystem, HasStoppedInSystem}
 use Rattle.guarantees.specs.Merging.{is_refusal, NoneRefused}
-use Rattle.guarantees.specs.Headline.{moment_of, IsRunOfImage, IsStopOfImage, IsEitherOfImage, moves_to_stop, moves_of_either, moves_of_runs, AreOfRuns}
+use Rattle.guarantees.specs.Headline.{moment_of, IsRunOfImage, IsEitherOfImage, moves_to_stop, moves_of_either, moves_of_runs, AreOfRuns}
 use Rattle.guarantees.specs.ReplayMoves.{IsNotStopped, AreMovesOf, HasMoves}
 use Rattle.guarantees.proofs.DeedLemmas.{chosen_reversed}
 use Rattle.guarantees.proofs.EventLemmas.{append_on, append_deeds}

@@ -6,8 +6,8 @@
 //! `specs/Merging.antt` (its first half), `specs/ReplayMoves.antt`, `specs/SystemRuns.antt` and `specs/Steps.antt` here (one list of all
 //! events, the moves of a worker, runs and steps of the system); `Safety`, `System`, `RunTrace` and `History` of crates/semantics/specs;
 //! `specs/Deeds.antt` of crates/shards, `specs/FrameRuns.antt` of crates/runs and `specs/Accounted.antt` of crates/replay. Each file says by
-//! its imports where the smaller definitions are that it cites: shares, counts and passes of replay, and there what the controller and the reclaimer did (`Parts`, `Commands`, `Rounds`), sessions of shard_port, own entries of
-//! semantics.
+//! its imports where the smaller definitions are that it cites: shares, counts and passes of replay, and there what the controller and
+//! the reclaimer did (`Parts`, `Commands`, `Rounds`), sessions of shard_port, own entries of semantics.
 //!
 //! The other laws of this page say what these definitions come to. The laws of `step_laws` show that they are not empty, those of
 //! `place_laws` that a worker is inside and holds a cell by places in the history alone. `one_caller` speaks of runs one after the other

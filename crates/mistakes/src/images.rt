@@ -106,7 +106,7 @@ fn number_at(bytes: &[u8], place: usize) -> u32 {
 }
 
 /// The first of a map's four numbers that no map may have, and what is allowed.
-fn wrong_number(
+pub(crate) fn wrong_number(
     alloc: Global,
     version: u8,
     kind: u32,

@@ -3,7 +3,9 @@
 use crate::asserting::{holds, same, same_text};
 use disasm::{assemble, text};
 use ebpf_decode::DecodeFault;
-use source_form::{Problem, SourceFault, assemble_source, exact_text, explain, source};
+use source_form::{
+    Problem, SourceFault, assemble_source, begins_as_source, exact_text, explain, slot_note, source,
+};
 use std::alloc::Global;
 use std::process::Abort;
 use std::test::Fail;
@@ -91,7 +93,7 @@ fn first_run(rt: HostRuntime) -> Result<(), Fail> {
 
 // A line of a source, behind a first line, and the line of the exact text.
 #[rattlefmt::skip]
-const LINES: [(&str, &str); 27] = [
+const LINES: [(&str, &str); 38] = [
     ("add r1, -0x5",              "add r1, -5\n"),
     ("\tmov\t r1 ,\tr2  # moved", "mov r1, r2\n"),
     ("exit#",                     "exit\n"),
@@ -119,6 +121,17 @@ const LINES: [(&str, &str); 27] = [
     ("call bpf_get_smp_processor_id", "call 8\n"),
     ("call xdp_adjust_head",      "call 44\n"),
     ("map hash 4 8 16 # a map",   "map hash 4 8 16\n"),
+    ("mov r1, 0x9e3779b1",        "mov r1, -1640531535\n"),
+    ("mov32 r1,4294967295",       "mov32 r1, -1\n"),
+    ("and r1, 2147483648",        "and r1, -2147483648\n"),
+    ("and r1, 0x7fffffff",        "and r1, 2147483647\n"),
+    ("jgt r1, 0x80000000, +1",    "jgt r1, -2147483648, +1\n"),
+    ("stw [r10-4], 0xffffffff",   "stw [r10-4], -1\n"),
+    ("ldval r1, 0, 0xffffffff",   "ldval r1, 0, 4294967295\n"),
+    ("call 0xffffffff",           "call 4294967295\n"),
+    ("mov r1, 04294967295",       "mov r1, 04294967295\n"),
+    ("mov r1, 0x100000000",       "mov r1, 4294967296\n"),
+    ("mov r1, -0x80000001",       "mov r1, -2147483649\n"),
 ];
 
 /// Compares the line of the exact text that a line of a source means.
@@ -164,7 +177,7 @@ fn labels(rt: HostRuntime) -> Result<(), Fail> {
 
 // A bad source, the line, what is wrong, and the words for it.
 #[rattlefmt::skip]
-const BAD: [(&str, usize, Problem, &str); 29] = [
+const BAD: [(&str, usize, Problem, &str); 37] = [
     ("version 1\na:\nexit\n a: # again\n", 4, Problem::LabelTwice, "  \"a:\": an earlier line has this label\n"),
     ("version 1\n5a:\nexit\n", 2, Problem::NoLabelName, "  \"5a:\": expected a label's name before the colon: letters, digits, _ and ., no digit first\n"),
     ("version 1\na b:\nexit\n", 2, Problem::NoLabelName, "  \"a b:\": expected a label's name before the colon: letters, digits, _ and ., no digit first\n"),
@@ -182,18 +195,29 @@ const BAD: [(&str, usize, Problem, &str); 29] = [
     ("version 1\nlddw r1, -1\n", 2, Problem::NoNumber, "  \"-1\": no number: expected decimal digits, or 0x and hexadecimal digits, of 64 bits at most\n"),
     ("version 1\n# c\njqe r1, 2, +3\nexit\n", 3, Problem::NoSpelling, "  \"jqe\": no such instruction\n"),
     ("version 1\nexit\nmov r11, 2\n", 3, Problem::NoSpelling, "  \"r11\": expected a register, r0 to r10\n"),
-    ("version 1\na:\nmov r1, 0xffffffff\n", 3, Problem::NoSpelling, "  \"0xffffffff\": expected a register, r0 to r10, or a signed number of 32 bits\n"),
-    ("version 1\njeq r1, 5\n", 2, Problem::NoSpelling, "  \"jeq\": an operand is missing: a label, or a distance with its sign as +3\n"),
-    ("version 1\njeq r1, 5, 3\n", 2, Problem::NoSpelling, "  \"3\": expected a label, or a distance with its sign as +3\n"),
+    ("version 1\na:\nmov r1, 0x100000000\n", 3, Problem::NoSpelling,
+        "  \"0x100000000\": expected a register, r0 to r10, or a number from -2147483648 to 4294967295\n"),
+    ("version 1\nmov r1, 04294967295\n", 2, Problem::NoSpelling, "  \"04294967295\": expected a number without a zero in front\n"),
+    ("version 1\ncall 0xffffffff\n", 2, Problem::NoSpelling, "  \"0xffffffff\": expected a number from -2147483648 to 2147483647\n"),
+    ("version 1\nldmap r1, 4294967295\n", 2, Problem::NoSpelling, "  \"4294967295\": expected a number from -2147483648 to 2147483647\n"),
+    ("version 2\nldval r1, 0, -1\n", 2, Problem::NoSpelling, "  \"-1\": expected a number from 0 to 4294967295\n"),
+    ("version 1\nldxw r0, [r1+70000]\n", 2, Problem::NoSpelling, "  \"[r1+70000]\": expected an offset from -32768 to +32767\n"),
+    ("version 1\njeq r1, 5, +70000\n", 2, Problem::NoSpelling,
+        "  \"+70000\": expected a label, or a distance with its sign as +3, from -32768 to +32767\n"),
+    ("version 1\nja32 3\n", 2, Problem::NoSpelling,
+        "  \"3\": expected a label, or a distance with its sign as +3, from -2147483648 to +2147483647\n"),
+    ("version 1\nstxdw [r10-8], 5\n", 2, Problem::NoSpelling, "  \"5\": expected a register, r0 to r10: stdw stores a number\n"),
+    ("version 1\njeq r1, 5\n", 2, Problem::NoSpelling, "  \"jeq\": an operand is missing: a label, or a distance with its sign as +3, from -32768 to +32767\n"),
+    ("version 1\njeq r1, 5, 3\n", 2, Problem::NoSpelling, "  \"3\": expected a label, or a distance with its sign as +3, from -32768 to +32767\n"),
     ("version 1\nexit r1\n", 2, Problem::NoSpelling, "  \"r1\": no operand is expected here\n"),
     ("version 1\nldxw r0, [r1]\n", 2, Problem::NoSpelling, "  \"[r1]\": expected a place as [r1+0] or [r10-8]\n"),
     ("version 1\nstw [4+r1], 0\n", 2, Problem::NoSpelling, "  \"[4+r1]\": expected a place as [r1+0] or [r10-8]\n"),
-    ("version 1\nstdw [r10-8], r1\n", 2, Problem::NoSpelling, "  \"r1\": expected a number of 32 bits\n"),
+    ("version 1\nstdw [r10-8], r1\n", 2, Problem::NoSpelling, "  \"r1\": expected a number from -2147483648 to 4294967295: stxdw stores a register\n"),
     ("version 1\na: out: exit\n", 2, Problem::NoNumber, "  \"out:\": a line has one label at most\n"),
     ("version 1\na: b:\nexit\n", 2, Problem::NoSpelling, "  \"b:\": a line has one label at most\n"),
     ("version 1\na: exit\na: exit\n", 3, Problem::LabelTwice, "  \"a:\": an earlier line has this label\n"),
     ("version 1\nmov r0: 2\n", 2, Problem::NoLabelName, "  \"mov r0:\": expected a label's name before the colon: letters, digits, _ and ., no digit first\n"),
-    ("version 1\nja x\nx: mov r0, two\n", 3, Problem::NoSpelling, "  \"two\": expected a register, r0 to r10, or a signed number of 32 bits\n"),
+    ("version 1\nja x\nx: mov r0, two\n", 3, Problem::NoSpelling, "  \"two\": expected a register, r0 to r10, or a number from -2147483648 to 4294967295\n"),
     ("version 1\nout: call lookup # none\n", 2, Problem::UnknownHelper,
         "  \"lookup\": no such helper: expected a number, map_lookup_elem, map_update_elem, map_delete_elem, ktime_get_ns, get_smp_processor_id or \
          xdp_adjust_head\n"),
@@ -392,4 +416,59 @@ fn a_large_source(rt: HostRuntime) -> Result<(), Fail> {
     holds(&rt, "the text that is meant", is_meant);
     holds(&rt, "there and back", comes_back);
     Ok(())
+}
+
+// A source, a slot, and where its instruction is.
+#[rattlefmt::skip]
+const SLOTS: [(&str, u32, &str); 7] = [
+    ("version 1\nmov r0, 2\nexit\n",                     0, "  line 2\n"),
+    ("version 1\nmov r0, 2\nexit\n",                     1, "  line 3\n"),
+    ("version 1\nlddw r1, 5\nexit\n",                    1, "  line 2\n"),
+    ("version 1\nlddw r1, 5\nexit\n",                    2, "  line 3\n"),
+    ("version 1\na:\nja b\n# no key\nb:\n\n  exit\n",    1, "  line 7, after label \"b\"\n"),
+    ("version 1\na: mov r0, 2\nexit\nb:\n",             1, "  line 3, after label \"a\"\n"),
+    ("version 1\na: mov r0, 2\nb: exit",                 1, "  line 3, after label \"b\"\n"),
+];
+
+/// Compares where the instruction of each slot is.
+fn are_found(rt: &impl Abort, alloc: Global, rows: &[(&str, u32, &str)]) -> Result<(), Fail> {
+    for (written, slot, words) in rows {
+        let told = slot_note(alloc, written, *slot)?;
+        same_text(rt, written, &told, words);
+    }
+    Ok(())
+}
+
+#[test]
+fn slots(rt: HostRuntime) -> Result<(), Fail> {
+    are_found(&rt, rt.alloc(), &SLOTS)
+}
+
+// A file, and whether it begins as a source does.
+#[rattlefmt::skip]
+const BEGINNINGS: [(&str, bool); 8] = [
+    ("version 1\nexit\n",             true),
+    ("# a comment\n\n \tversion 2\n",  true),
+    ("\r\n#\n#version\nversion",       true),
+    ("",                              false),
+    ("# version 1\n",                 false),
+    ("XLBP version 1\n",              false),
+    ("mov r0, 2\nversion 1\n",        false),
+    ("0 vip 203.0.113.1 80 tcp\n",    false),
+];
+
+/// Compares whether each file begins as a source does.
+fn begin_so(rt: &impl Abort, rows: &[(&str, bool)]) {
+    for (written, is_source) in rows {
+        holds(
+            rt,
+            written,
+            begins_as_source(written.as_bytes()) == *is_source,
+        );
+    }
+}
+
+#[test]
+fn beginnings(rt: HostRuntime) {
+    begin_so(&rt, &BEGINNINGS);
 }

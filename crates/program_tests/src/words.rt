@@ -37,10 +37,23 @@ fn shown(alloc: Global, settings: Settings<'_>) -> Result<String, AllocError> {
             ring,
             exact,
             summary,
+            skip_long,
         } => {
             let mut text = replay_shown(alloc, files, options, ring)?;
             text.push_str(if exact { " exact" } else { "" })?;
             text.push_str(if summary { " summary" } else { "" })?;
+            text.push_str(if skip_long { " skip-long" } else { "" })?;
+            text.push_str(if files.is_steering {
+                ""
+            } else {
+                " no-steering"
+            })?;
+            text.push_str(if files.report.is_some() {
+                " report "
+            } else {
+                ""
+            })?;
+            text.push_str(files.report.unwrap_or(""))?;
             Ok(text)
         }
     }
@@ -85,8 +98,10 @@ fn replay_shown(
         capture,
         sent,
         image,
+        is_steering: _,
         script,
         journals,
+        report: _,
     } = files;
     let Options {
         workers,
@@ -102,7 +117,7 @@ fn replay_shown(
 }
 
 #[rattlefmt::skip]
-const READ: [(&str, &str); 38] = [
+const READ: [(&str, &str); 41] = [
     ("xlb check a",                             "check a false"),
     ("xlb check --explain a",                   "check a true"),
     ("xlb check a --explain",                   "check a true"),
@@ -137,10 +152,13 @@ const READ: [(&str, &str); 38] = [
     ("xlb table --ring 7 a",                    "table a 7"),
     ("xlb replay a b",                          "replay a b - - 1 1 65536 251 -"),
     ("xlb replay --script s a b --journals j",  "replay a b - s 1 1 65536 251 j"),
-    ("xlb replay a b --image i --workers 4 --shards 8 --journal 16 --ring 7", "replay a b i - 4 8 16 7 -"),
+    ("xlb replay a b --image i --workers 4 --shards 8 --journal 16 --ring 7", "replay a b i - 4 8 16 7 - no-steering"),
     ("xlb replay a b --program p --script s",   "replay a b p s 1 1 65536 251 -"),
     ("xlb replay --exact a b --script s",       "replay a b - s 1 1 65536 251 - exact"),
     ("xlb replay a b --summary",                "replay a b - - 1 1 65536 251 - summary"),
+    ("xlb replay a b --skip-long",              "replay a b - - 1 1 65536 251 - skip-long"),
+    ("xlb replay a b --report r.json",          "replay a b - - 1 1 65536 251 - report r.json"),
+    ("xlb replay --report r a --exact --skip-long b --journals j", "replay a b - - 1 1 65536 251 j exact skip-long report r"),
 ];
 
 /// Compares the settings of a command line.
@@ -166,7 +184,7 @@ fn reads_commands(rt: HostRuntime) -> Result<(), Fail> {
 
 /// A command line, the status, and what its text begins with.
 #[rattlefmt::skip]
-const REFUSED: [(&str, u8, &str); 51] = [
+const REFUSED: [(&str, u8, &str); 54] = [
     ("xlb",                                     2, "error: 'xlb' requires a subcommand but one was not provided"),
     ("xlb play a b",                            2, "error: unrecognized subcommand 'play'"),
     ("xlb replay a",                            2, "error: the following required arguments were not provided:\n  <SENT>"),
@@ -174,6 +192,9 @@ const REFUSED: [(&str, u8, &str); 51] = [
     ("xlb replay a b --image i --program p",    2, "error: the options --image and --program cannot be used together"),
     ("xlb replay a b --program p --image i --script s", 2, "error: the options --image and --script cannot be used together"),
     ("xlb replay a b --exact --exact",          2, "error: the argument '--exact' cannot be used multiple times"),
+    ("xlb replay a b --skip-long=yes",          2, "error: unexpected value 'yes' for '--skip-long' found; no more were expected"),
+    ("xlb replay a b --report",                 2, "error: a value is required for '--report <FILE>' but none was supplied"),
+    ("xlb run a b --report r",                  2, "error: unexpected argument '--report' found"),
     ("xlb help",                                0, "Replays captures through eBPF programs; checks, runs, audits, prints and assembles them"),
     ("xlb check",                               2, "error: the following required arguments were not provided:\n  <IMAGE>"),
     ("xlb check a b",                           2, "error: unexpected argument 'b' found"),

@@ -22,7 +22,7 @@ use Rattle.machine.specs.declared.exit.Stop.TheVariants.{JournalFull}
 use Rattle.runs.specs.FrameRuns.{HasStopped}
 use Rattle.shards.specs.CallerView.{CallerView, BeginsWith}
 use Rattle.journals.specs.JournalsView.{JournalsView, entries_at}
-use Rattle.shards.specs.Passes.{PassView, own_at, seen_at, pass_at, AreSettled}
+use Rattle.shards.specs.Passes.{PassView, seen_at, pass_at, AreSettled}
 use Rattle.shard_port.specs.PassSessions.{StoppedAtCall, StoppedAtEnter}
 use Rattle.replay.proofs.shared.FullStays.{full_stays}
 use Rattle.replay.specs.declared.account.Counts.{Counts}
@@ -157,7 +157,7 @@ module _ (count : ℕ) (plan : ℕ → ShardPlan) (program : Program) (worker : 
         grows = λ number within. begins_trans (seen_at after number) (seen_at chain.0 number) (seen_at before number) (rest.grows number within) (first.grows number within);
       }
 
-  chain_stands : (journals : JournalsView) (before : PassView) (runs : List Ran) (after : PassView) → IsSeenOf count journals after →
+  pub chain_stands : (journals : JournalsView) (before : PassView) (runs : List Ran) (after : PassView) → IsSeenOf count journals after →
       AreRuns before runs after → IsChainOfRuns (IsRunAt (IsRunIn plan count program worker journals) records) before runs after
   chain_stands journals before [] after seen chain = chain
   chain_stands journals before (ran ∷ later) after seen chain =

@@ -19,3 +19,11 @@ pub mod Accounts
 pub mod PartLemmas
 pub mod TurnLemmas
 pub mod TurnUpdates
+pub mod TurnDeeds
+pub mod TurnRuns
+pub mod TurnLeaving
+pub mod TurnCommands
+pub mod TurnRounds
+pub mod TurnFates
+pub mod TurnSimulation
+pub mod TurnAccounts

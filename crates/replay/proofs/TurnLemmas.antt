@@ -1,10 +1,10 @@
 -- What turns do, one after the other.
-use Rattle.std.proofs.Common.{◌≡◌, ◌≢◌, ⊎_elim, inl, inr, ℕ, zero, suc, ◌+◌, ◌-◌, ◌*◌, ◌%◌, ◌<◌, ◌≤◌, Bool, true, false, cond, nat_lt, List, [], ◌∷◌, ◌++◌, length, map, reverse, Some, ℤ, refl, sym, ap, ◌∙◌, subst, arith, append_assoc, add-one}
-use Rattle.std.specs.Prelude.{◌==◌, All, IsTrue, slice_get, slice_set, slice_index, slice_index_or, if◌then◌else◌, Result, Ok, Err, Option, None, OnErr}
+use Rattle.std.proofs.Common.{◌≡◌, ⊎_elim, inl, inr, ℕ, zero, suc, ◌+◌, ◌-◌, ◌*◌, ◌%◌, ◌<◌, ◌≤◌, Bool, true, false, nat_lt, List, [], ◌∷◌, ◌++◌, length, map, Some, ℤ, refl, sym, ap, ◌∙◌, subst, arith, add-one}
+use Rattle.std.specs.Prelude.{◌==◌, All, IsTrue, slice_get, slice_set, slice_index, if◌then◌else◌, Result, Ok, Err, Option, None, OnErr}
 use Rattle.std.specs.Coded.{le_prop}
 use Rattle.std.proofs.Math.Logic.{∥∥₁_elim}
 use Rattle.std.proofs.Math.Nat.{mul-le-mul_right}
-use Rattle.std.proofs.lemmas.Bool.{cases_eq, cases_lt}
+use Rattle.std.proofs.lemmas.Bool.{cases_lt}
 use Rattle.std.proofs.lemmas.Bool.Decides.{nat_tests}
 use Rattle.std.proofs.lemmas.List.{length-set}
 use Rattle.std.proofs.lemmas.Option.{get_or_from_slice_get}
@@ -13,11 +13,6 @@ use Rattle.ebpf_decode.specs.declared.map.MapDef.{MapDef}
 use Rattle.ebpf_decode.specs.declared.version.Version.TheVariants.{V2}
 use Rattle.wire.specs.FrameView.{FrameView}
 use Rattle.wire.specs.declared.records.Sent.{Sent}
-use Rattle.semantics.specs.declared.call.Call.{Call}
-use Rattle.semantics.specs.declared.call.Caller.TheVariants.{Controller, Reclaimer}
-use Rattle.semantics.specs.declared.call.Entry.{Entry}
-use Rattle.semantics.specs.declared.call.Reply.{Reply}
-use Rattle.semantics.specs.declared.call.Reply.TheVariants.{Freed}
 use Rattle.semantics.specs.declared.full.JournalFull.{JournalFull as FullJournal}
 use Rattle.semantics.specs.declared.options.Options.{Options}
 use Rattle.semantics.specs.declared.verdict.Verdict.{Verdict}
@@ -27,7 +22,6 @@ use Rattle.semantics.specs.Program.{Program}
 use Rattle.semantics.specs.ServedCalls.{IsKeyOf}
 use Rattle.semantics.specs.ShardPlan.{AreOptions}
 use Rattle.semantics.proofs.shared.ConditionLemmas.{bytes_test}
-use Rattle.semantics.proofs.shared.EachLemmas.{or_push_here, or_push_else}
 use Rattle.semantics.proofs.shared.ImageSizes.{image_sizes}
 use Rattle.semantics.proofs.shared.PlanLemmas.{few_parts}
 use Rattle.journals.specs.JournalsView.{AreImageMaps}
@@ -36,7 +30,6 @@ use Rattle.machine.specs.declared.exit.Stop.TheVariants.{JournalFull}
 use Rattle.machine.specs.Running.{Ends, StopsSo}
 use Rattle.map_port.specs.Served.{Maps, shard_of}
 use Rattle.shard_core.specs.JournaledShard.{JournaledShard, opened_shard}
-use Rattle.shard_core.specs.Calls.{reclaim_call, after_call}
 use Rattle.shards.specs.NewShards.{shard_at}
 use Rattle.shards.specs.Seats.{no_plan}
 use Rattle.shard_port.specs.Asking.{all_left}
@@ -60,17 +53,6 @@ use Rattle.replay.specs.Turns.{Turn, TheCommand, TheRecord, TheRound, due_to, du
 use Rattle.replay.specs.InTurn.{worker_port, EndsInTurn, StopsInTurn, IsExitInTurn, IsRunInTurn, ServesTurns, may_update_at, IsUpdatedAt, IsAskedInTurn, IsReclaimedInTurn, IsPartOfRound, IsRoundTo, TurnState, IsSameSetting, IsTurn, AreTurns}
 
 -- ---- lists
-
-pub pushed_at : {A : Type 0} (P : ℕ → A → Type 0) (xs : List A) (x d : A) (number : ℕ) → length xs ≡ number →
-    ((k : ℕ) → k < number → P k (slice_index_or xs k d)) → P number x → (k : ℕ) → k < number + 1 → P k (slice_index_or (xs ++ x ∷ []) k d)
-pushed_at P xs x d number long were is k below =
-    ⊎_elim
-    (λ (same : k ≡ number). subst (λ n. P n (slice_index_or (xs ++ x ∷ []) n d)) (sym same) (subst (P number) (sym (or_push_here xs x d number long)) is))
-    (λ (apart : k ≡ number → ⊥).
-    let less : k < number = omega (arith, below, apart) in
-    let there : k < length xs = omega (arith, less, long) in
-    subst (P k) (sym (or_push_else xs x d k there)) (were k less))
-    (cases_eq k number)
 
 pub set_same : {A : Type 0} (xs : List A) (number : ℕ) (x : A) → slice_get xs number ≡ Some x → slice_set xs number x ≡ xs
 set_same [] number x known = refl

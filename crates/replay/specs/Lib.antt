@@ -6,6 +6,7 @@ pub mod RunsInOrder
 pub mod Accounts
 pub mod Crews
 pub mod Actors
+pub mod Settings
 pub mod Resting
 pub mod SharedUpdates
 pub mod SharedLaws
@@ -21,3 +22,4 @@ pub mod InTurn
 pub mod TurnLaws
 pub mod TurnStates
 pub mod ExactReplays
+pub mod TurnsAccounted

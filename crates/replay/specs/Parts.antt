@@ -1,11 +1,12 @@
 -- What the controller and the reclaimer of a replay hand back.
-use Rattle.std.specs.Prelude.{◌≡◌, ◌<◌, ◌≤◌, ◌+◌, ◌/◌, ℕ, List, [], length, map, reverse, IfSome, is_some}
+use Rattle.std.specs.Prelude.{◌≡◌, ◌⊎◌, IsFalse, ◌<◌, ◌≤◌, ◌+◌, ◌/◌, ℕ, List, [], length, map, reverse, IfSome, is_some}
 use Rattle.std.specs.List.{AllByRecursion, filter}
 use Rattle.ebpf_decode.specs.declared.map.MapDef.{MapDef}
 use Rattle.semantics.specs.declared.call.Caller.TheVariants.{Controller, Reclaimer}
 use Rattle.semantics.specs.declared.options.Options.{Options}
 use Rattle.semantics.specs.declared.plan.ShardPlan.{ShardPlan}
 use Rattle.semantics.specs.CallerLaws.{own_entries}
+use Rattle.semantics.specs.ShardPlan.{are_served_options}
 use Rattle.semantics.specs.History.{IsJournalFull}
 use Rattle.journals.specs.JournalsView.{JournalsView, entries_at}
 use Rattle.shards.specs.declared.deeds.Deed.{Deed}
@@ -20,7 +21,8 @@ use Rattle.control.specs.Controlling.{ControllerState}
 use Rattle.control.specs.MapUpdates.{UpdateBytes}
 use Rattle.replay.specs.declared.outcome.Applied.{Applied}
 use Rattle.replay.specs.SharedUpdates.{shard_of, update_call}
-use Rattle.replay.specs.Commands.{CommanderView, CommandDone, AreNotedOf, AreDone, IsAccount, ServesScript, opened_controller, made_in, with_updates, commands_deeds}
+use Rattle.replay.specs.Commands.{CommanderView, CommandDone, AreNotedOf, AreDone, IsAccount, ServesScript}
+use Rattle.replay.specs.Commands.{opened_controller, made_in, with_updates, commands_deeds}
 use Rattle.replay.specs.ActorJobs.{AreCommandsTaken, AreRoundsMade, IsAccounted as IsControllersAccount}
 use Rattle.replay.specs.Rounds.{IsReclaimedBy, AreRoundsDone}
 use Rattle.replay.specs.Actors.{numbers_from}
@@ -44,6 +46,10 @@ pub record HasReclaimed (plan : ℕ → ShardPlan) (count : ℕ) (jobs : List Jo
 pub record HasNoTable (maps : List MapDef) (script : List Command) : Type 0 where
   pub some : ¬ (script ≡ [])
   pub none : (size : ℕ) → IsRingSize size → ¬ (maps ≡ steering_maps size)
+
+-- no shards of these maps are opened with the options, or there are commands and no lookup table for them
+abbrev pub AreBadOptions : List MapDef → Options → List Command → Type 0
+AreBadOptions maps options script = IsFalse (are_served_options maps options) ⊎ HasNoTable maps script
 
 -- which of the script's commands were applied, in order
 abbrev pub numbers_of : List Applied → List ℕ

@@ -1,13 +1,12 @@
 //! A whole replay.
 
-ghost use Rattle.std.specs.Prelude.{◌≡◌, ◌⊎◌, ◌<◌, ◌≤◌, ◌↔◌, IfOk, IsErrOf, IsFalse};
+ghost use Rattle.std.specs.Prelude.{◌≡◌, ◌<◌, ◌≤◌, ◌↔◌, IfOk, IsErrOf};
 ghost use Rattle.machine.specs.Running.{program_of};
-ghost use Rattle.semantics.specs.ShardPlan.{are_served_options};
 ghost use Rattle.maglev.specs.RingSize.{IsRingSize};
 ghost use Rattle.replay.specs.Commands.{ServesScript};
 ghost use Rattle.shards.specs.NewShards.{IsNamed};
 ghost use Rattle.replay.specs.Accounted.{IsAccounted};
-ghost use Rattle.replay.specs.Parts.{HasNoTable};
+ghost use Rattle.replay.specs.Parts.{AreBadOptions};
 ghost use Rattle.replay.specs.declared.fault.ReplayFault.TheVariants.{BadOptions};
 
 use crate::closing::closed;
@@ -18,7 +17,7 @@ use crate::setting::{
     new_controller, new_reclaimer, new_workers, run_threads, starts_of, table_for,
 };
 use crate::shard_runner::ShardRunner;
-use crate::threads::AllEnded;
+use crate::threads::{AllEnded, Setting};
 use control::Script;
 use rx_queues::Queues;
 use semantics::Options;
@@ -43,16 +42,16 @@ pub(crate) fn fault_of(fault: OpenFault) -> ReplayFault
 }
 
 /// The replay over shards that were opened for the image's maps.
-fn replay_over<B: Naming + Send + Sync, R: Threads + Wait + Sync, G: Gate + Sync>(
-    rt: &R,
+fn replay_over<'x, B: Naming + Send + Sync, R: Threads + Wait + Sync, G: Gate + Sync>(
+    rt: &'x R,
     alloc: Global,
-    verified: &Verified,
-    capture: &Capture,
-    script: &Script,
+    verified: &'x Verified,
+    capture: &'x Capture,
+    script: &'x Script,
     size: u32,
     opened: Opened,
     options: Options,
-    gate: &G,
+    gate: &'x G,
     pace: Pace,
 ) -> Result<Outcome, ReplayFault>
     requires named { IsNamed B.count B.table B.plan B.order opened }
@@ -90,9 +89,18 @@ fn replay_over<B: Naming + Send + Sync, R: Threads + Wait + Sync, G: Gate + Sync
         size,
     )?;
     let reclaimer = new_reclaimer(alloc, rt, &shards, &mut dealer, gate)?;
+    let setting = Setting {
+        rt,
+        alloc,
+        queues: &queues,
+        capture,
+        starts,
+        first,
+        pace,
+        runner: &runner,
+    };
     match run_threads(
-        rt, alloc, &queues, capture, script, size, starts, first, pace, &runner, controller,
-        reclaimer, put, takes, states,
+        setting, script, size, controller, reclaimer, put, takes, states,
     ) {
         Ok(
             AllEnded {
@@ -119,8 +127,7 @@ fn replay_at<R: Threads + Wait + Sync, G: Gate + Sync>(
     pace: Pace,
 ) -> Result<Outcome, ReplayFault>
     ensures accounted { IfOk result (IsAccounted (program_of verified.now options.shards) script.now options capture.now.records.items) }
-    ensures bad_options { IsErrOf result BadOptions ↔ (IsFalse (are_served_options verified.now.maps options) ⊎ HasNoTable
-        verified.now.maps script.now) }
+    ensures bad_options { IsErrOf result BadOptions ↔ AreBadOptions verified.now.maps options script.now }
 {
     let image = verified.image();
     let Some(size) = table_for(image.maps(), script.commands()) else {
@@ -164,8 +171,7 @@ pub fn replay<R: Threads + Wait + Sync, G: Gate + Sync>(
     gate: &G,
 ) -> Result<Outcome, ReplayFault>
     ensures accounted { IfOk result (IsAccounted (program_of verified.now options.shards) script.now options capture.now.records.items) }
-    ensures bad_options { IsErrOf result BadOptions ↔ (IsFalse (are_served_options verified.now.maps options) ⊎ HasNoTable
-        verified.now.maps script.now) }
+    ensures bad_options { IsErrOf result BadOptions ↔ AreBadOptions verified.now.maps options script.now }
 {
     replay_at(
         rt,
@@ -195,8 +201,7 @@ pub fn exact_replay<R: Threads + Wait + Sync, G: Gate + Sync>(
     gate: &G,
 ) -> Result<Outcome, ReplayFault>
     ensures accounted { IfOk result (IsAccounted (program_of verified.now options.shards) script.now options capture.now.records.items) }
-    ensures bad_options { IsErrOf result BadOptions ↔ (IsFalse (are_served_options verified.now.maps options) ⊎ HasNoTable
-        verified.now.maps script.now) }
+    ensures bad_options { IsErrOf result BadOptions ↔ AreBadOptions verified.now.maps options script.now }
 {
     replay_at(
         rt,

@@ -1,39 +1,37 @@
 //! What a replay begins with: the table and the numbers of its script, the passes, the controller and the reclaimer, and all of it
 //! together.
 
-ghost use Rattle.std.specs.Prelude.{◌≡◌, ◌<◌, ◌≤◌, ◌+◌, [], length, map, replicate, IfOk, IsErrOf, IfSome, IsNone};
+ghost use Rattle.std.specs.Prelude.{◌≡◌, ◌<◌, ◌≤◌, ◌+◌, [], length, map, IfOk, IsErrOf, IfSome, IsNone};
 ghost use Rattle.machine.specs.Running.{program_of};
 ghost use Rattle.maglev.specs.RingSize.{IsRingSize};
 ghost use Rattle.control.specs.declared.command.Command.{Command as Line};
 ghost use Rattle.semantics.specs.declared.call.Caller.TheVariants.{Reclaimer};
 ghost use Rattle.semantics.specs.Each.{Each};
-ghost use Rattle.rx_queues.specs.Passes.{IsPutPassOf, AreTakePasses, workers_of, jobs_put};
 ghost use Rattle.replay.specs.Actors.{AreDue, IsUnused, numbers_from};
 ghost use Rattle.replay.specs.Commands.{ServesScript, StaysOf};
 ghost use Rattle.replay.specs.Crews.{AreHandled};
 ghost use Rattle.replay.specs.Parts.{HasNoTable, IsStarted, IsScriptRun, numbers_of, rounds_of};
 ghost use Rattle.replay.specs.Rounds.{AreReclaimed};
+ghost use Rattle.replay.specs.Settings.{AreFreshPasses};
 ghost use Rattle.replay.specs.RunsOverShards.{IsNewAt, IsRunBy};
 ghost use Rattle.replay.specs.declared.fault.ReplayFault.TheVariants.{BadOptions};
 
 use crate::controller::{Commanded, Commander};
 use crate::dispatch::due;
 use crate::fault::ReplayFault;
-use crate::pace::Pace;
 use crate::reclaimer::Reclaiming;
 use crate::shard_runner::{ShardRunner, Working};
-use crate::threads::{AllEnded, run_all};
+use crate::threads::{AllEnded, Setting, run_all};
 use conntrack::table_size;
 use control::{Command, Script};
 use ebpf_decode::MapDef;
-use rx_queues::{PutPass, Queues, TakePass};
+use rx_queues::{PutPass, TakePass};
 use semantics::Caller;
 use shard_port::Gate;
 use shards::{Dealer, Naming, Pass, Shards};
 use std::alloc::{AllocError, Global};
 use std::sync::Wait;
 use std::thread::Threads;
-use wire::Capture;
 
 /// The smallest lookup table: that of a replay without commands, which has none.
 const SMALLEST: u32 = 7;
@@ -153,45 +151,34 @@ pub(crate) fn new_reclaimer<'x, B: Naming, R: Wait, G: Gate>(
 
 /// Runs all threads, from their start to their end.
 pub(crate) fn run_threads<'x, B: Naming + Send + Sync, R: Threads + Wait + Sync, G: Gate + Sync>(
-    rt: &'x R,
-    alloc: Global,
-    queues: &'x Queues,
-    capture: &'x Capture,
+    setting: Setting<'x, ShardRunner<'x, B, R, G>, R>,
     script: &'x Script,
     size: u32,
-    starts: &'x [u32],
-    first: usize,
-    pace: Pace,
-    runner: &'x ShardRunner<'x, B, R, G>,
     controller: Commander<'x, B, R, G>,
     reclaimer: Reclaiming<'x, B, R, G>,
     put: PutPass,
     takes: Vec<TakePass>,
     states: Vec<Working<B>>,
 ) -> Result<AllEnded<Working<B>, Commanded<B>, Pass<B>>, ReplayFault>
-    requires workers { (workers_of queues.now ≡ length states.items) × (0 < length states.items) × (length states.items ≤ 8) }
-    requires options { runner.now.shards.now.options.workers ≡ length states.items }
-    requires put { IsPutPassOf queues.now put × (jobs_put put ≡ replicate (length states.items + 2) []) }
-    requires takes { AreTakePasses queues.now takes.items }
+    requires passes { AreFreshPasses setting.queues.now (length states.items) put takes.items }
+    requires options { setting.runner.now.shards.now.options.workers ≡ length states.items }
     requires states { Each IsNewAt 0 states.items }
-    requires starts { length starts.now ≡ length script.now }
-    requires begun { AreDue starts.now 0 0 first }
-    requires started { IsStarted runner.now.shards.now.maps runner.now.shards.now.options script.now size controller first }
+    requires starts { length setting.starts.now ≡ length script.now }
+    requires begun { AreDue setting.starts.now 0 0 setting.first }
+    requires started { IsStarted setting.runner.now.shards.now.maps setting.runner.now.shards.now.options script.now size controller
+        setting.first }
     requires unused { IsUnused reclaimer }
-    ensures count { IfOk result (λ it. length it.workers.items ≡ runner.now.shards.now.options.workers) }
-    ensures handled { IfOk result (λ it. AreHandled IsNewAt
-        (IsRunBy B.count B.plan (program_of runner.now.verified.now runner.now.shards.now.options.shards)) capture.now.records.items
-        runner.now.shards.now.options.workers it.workers.items) }
-    ensures script { IfOk result (λ it. IsScriptRun B.plan runner.now.shards.now.maps runner.now.shards.now.options script.now size
-        it.controller.noted.items it.controller.pass) }
+    ensures count { IfOk result (λ it. length it.workers.items ≡ setting.entry.runner.now.shards.now.options.workers) }
+    ensures handled { IfOk result (λ it. AreHandled IsNewAt (IsRunBy B.count B.plan
+        (program_of setting.entry.runner.now.verified.now setting.entry.runner.now.shards.now.options.shards))
+        setting.entry.capture.now.records.items setting.entry.runner.now.shards.now.options.workers it.workers.items) }
+    ensures script { IfOk result (λ it. IsScriptRun B.plan setting.entry.runner.now.shards.now.maps
+        setting.entry.runner.now.shards.now.options script.now size it.controller.noted.items it.controller.pass) }
     ensures served { ¬ IsErrOf result BadOptions }
-    ensures rounds { IfOk result (λ it. AreReclaimed B.plan B.count (rounds_of (length capture.now.records.items)) it.reclaimer ×
-        (it.reclaimer.who ≡ Reclaimer)) }
+    ensures rounds { IfOk result (λ it. AreReclaimed B.plan B.count (rounds_of (length setting.entry.capture.now.records.items))
+        it.reclaimer × (it.reclaimer.who ≡ Reclaimer)) }
 {
     let _ = script;
     let _ = size;
-    run_all(
-        rt, alloc, queues, capture, starts, first, pace, runner, controller, reclaimer, put, takes,
-        states,
-    )
+    run_all(setting, controller, reclaimer, put, takes, states)
 }

@@ -1,9 +1,9 @@
 //! A replay on one thread: commands, records and rounds, one after the other.
 
-ghost use Rattle.std.specs.Prelude.{◌≡◌, ◌⊎◌, ◌<◌, ◌≤◌, ◌+◌, ◌%◌, ◌==◌, ◌^◌, ◌∷◌, ◌↔◌, [], ℕ, List, length, map, slice_get, Some, OnOk, OnErr, IfOk, IfSome, IsErrOf, IsFalse, vec_capacity};
+ghost use Rattle.std.specs.Prelude.{◌≡◌, ◌<◌, ◌≤◌, ◌+◌, ◌%◌, ◌==◌, ◌^◌, ◌↔◌, [], ℕ, List, length, Some};
+ghost use Rattle.std.specs.Prelude.{OnOk, IfOk, IfSome, IsErrOf};
 ghost use Rattle.machine.specs.Running.{program_of};
 ghost use Rattle.maglev.specs.RingSize.{IsRingSize};
-ghost use Rattle.semantics.specs.ShardPlan.{are_served_options};
 ghost use Rattle.semantics.specs.History.{IsLegalJournal};
 ghost use Rattle.semantics.specs.Program.{Program};
 ghost use Rattle.wire.specs.declared.records.Sent.{Sent as Record};
@@ -11,16 +11,17 @@ ghost use Rattle.conntrack.specs.SteeringMaps.{steering_maps};
 ghost use Rattle.control.specs.declared.command.Command.{Command as Line};
 ghost use Rattle.control.specs.declared.fault.ControlFault.{ControlFault as Fault};
 ghost use Rattle.control.specs.Controlling.{refusal_of};
-ghost use Rattle.journals.specs.JournalsView.{AreJournals, entries_at};
+ghost use Rattle.journals.specs.JournalsView.{entries_at};
 ghost use Rattle.shards.specs.NewShards.{shard_at};
 ghost use Rattle.shards.specs.Opening.{AreOpened};
 ghost use Rattle.replay.specs.declared.fault.ReplayFault.TheVariants.{BadOptions};
-ghost use Rattle.replay.specs.Accounts.{frames_in, no_counts, counted, sent_frames, sent_by};
+ghost use Rattle.replay.specs.Accounted.{IsAccounted};
+ghost use Rattle.replay.specs.Accounts.{frames_in, no_counts, counted};
 ghost use Rattle.replay.specs.Commands.{ServesScript, opened_controller};
-ghost use Rattle.replay.specs.ExactReplays.{IsInTurn, starts_in, first_state};
-ghost use Rattle.replay.specs.InTurn.{TurnState as State, IsRunInTurn, IsHandled, IsAppliedInTurn, IsSameSetting, IsRecordTurn, IsCommandTurn, IsRoundTurn, AreTurns};
-ghost use Rattle.replay.specs.Parts.{HasNoTable, refused_of};
-ghost use Rattle.replay.specs.RunsOverShards.{IsTold};
+ghost use Rattle.replay.specs.ExactReplays.{IsInTurn, starts_in};
+ghost use Rattle.replay.specs.InTurn.{TurnState as State, IsRunInTurn, IsHandled, IsAppliedInTurn, IsSameSetting};
+ghost use Rattle.replay.specs.InTurn.{IsRecordTurn, IsCommandTurn, IsRoundTurn, AreTurns};
+ghost use Rattle.replay.specs.Parts.{AreBadOptions, refused_of};
 ghost use Rattle.replay.specs.TurnStates.{state_in};
 ghost use Rattle.replay.specs.Turns.{commands_between, rounds_at, due_before, turns_to, all_turns};
 
@@ -29,6 +30,7 @@ use crate::closing::refused;
 use crate::controller::command_at;
 use crate::dispatch::{due, is_short, worker_of};
 use crate::fault::ReplayFault;
+use crate::laws::turns_are_accounted;
 use crate::outcome::{Applied, Outcome, RecordEnd};
 use crate::replaying::fault_of;
 use crate::runner::RunEnd;
@@ -36,10 +38,8 @@ use crate::setting::{starts_of, table_for};
 use crate::shard_runner::{end_of, moment_of};
 use crate::turn_shards::TurnShards;
 use control::{Command, ControlFault, Controller, Script};
-use ebpf_decode::MapDef;
-use journals::{Journals, ShardJournal};
+use runs::closing::journals_of;
 use semantics::Options;
-use shards::PlainShards;
 use std::alloc::{AllocError, Global};
 use verifier::Verified;
 use wire::{Capture, Frame, Sent};
@@ -70,7 +70,8 @@ fn run_record(
     requires maps { all.old.maps ≡ verified.now.maps }
     requires worker { worker < 8 }
     requires among { worker < all.old.options.workers }
-    ensures run { IfSome result (λ end. IsRunInTurn (program_of verified.now all.old.options.shards) sent.now worker all.old.shards end all.new.shards) }
+    ensures run { IfSome result (λ end. IsRunInTurn (program_of verified.now all.old.options.shards) sent.now worker all.old.shards end
+        all.new.shards) }
     ensures maps { all.new.maps ≡ all.old.maps }
     ensures options { all.new.options ≡ all.old.options }
 {
@@ -93,7 +94,8 @@ fn handle(
     sent: &Sent,
 ) -> Result<Option<RunEnd>, AllocError>
     requires maps { all.old.maps ≡ verified.now.maps }
-    ensures handled { IfOk result (λ end. IsHandled (program_of verified.now all.old.options.shards) all.old.options.workers sent.now all.old.shards end all.new.shards) }
+    ensures handled { IfOk result (λ end. IsHandled (program_of verified.now all.old.options.shards) all.old.options.workers sent.now
+        all.old.shards end all.new.shards) }
     ensures maps { all.new.maps ≡ all.old.maps }
     ensures options { all.new.options ≡ all.old.options }
 {
@@ -131,7 +133,8 @@ impl Turns {
     /// Before the first turn.
     fn over(alloc: Global, all: TurnShards, size: u32) -> Turns
         requires { IsRingSize size }
-        ensures { state_in result ≡ record { all = all; controller = opened_controller size; noted = []; counts = no_counts; sent = []; ends = [] } }
+        ensures { state_in result ≡
+            record { all = all; controller = opened_controller size; noted = []; counts = no_counts; sent = []; ends = [] } }
     {
         let controller = match Controller::open(alloc, size) {
             Ok(controller) => controller,
@@ -158,8 +161,8 @@ impl Turns {
         requires number { number < length capture.now.records.items }
         requires maps { self.old.all.maps ≡ verified.now.maps }
         requires room { frames_in self.old.counts + 1 < 2 ^ 64 }
-        ensures turn { OnOk result (IsRecordTurn (program_of verified.now self.old.all.options.shards) capture.now.records.items self.old.all.options.workers number
-            (state_in self.old) (state_in self.new)) }
+        ensures turn { OnOk result (IsRecordTurn (program_of verified.now self.old.all.options.shards) capture.now.records.items
+            self.old.all.options.workers number (state_in self.old) (state_in self.new)) }
         ensures same { OnOk result (IsSameSetting (state_in self.old) (state_in self.new)) }
         ensures one_more { OnOk result (frames_in self.new.counts ≡ frames_in self.old.counts + 1) }
     {
@@ -240,7 +243,8 @@ impl Turns {
         Ok(())
     }
 
-    /// The turns from one record to the next: the commands that are due, the record, and a round, if it is its time. Returns which command is next.
+    /// The turns from one record to the next: the commands that are due, the record, and a round, if it is its time. Returns which command
+    /// is next.
     fn record_turns(
         &mut self,
         alloc: Global,
@@ -310,7 +314,8 @@ impl Turns {
         requires maps { self.old.all.maps ≡ verified.now.maps }
         requires serves { ServesScript self.old.all.maps self.old.controller.size script.now }
         requires none { frames_in self.old.counts ≡ 0 }
-        ensures next { IfOk result (λ next. (next ≡ due_before starts.now (length capture.now.records.items)) × (next ≤ length starts.now)) }
+        ensures next { IfOk result (λ next. (next ≡ due_before starts.now (length capture.now.records.items)) ×
+            (next ≤ length starts.now)) }
         ensures turns { OnOk result (AreTurns (program_of verified.now self.old.all.options.shards) script.now capture.now.records.items
             self.old.all.options.workers (turns_to starts.now (length capture.now.records.items)) (state_in self.old) (state_in self.new)) }
         ensures same { OnOk result (IsSameSetting (state_in self.old) (state_in self.new)) }
@@ -337,7 +342,8 @@ impl Turns {
         requires serves { ServesScript self.old.all.maps self.old.controller.size script.now }
         requires none { frames_in self.old.counts ≡ 0 }
         ensures turns { OnOk result (AreTurns (program_of verified.now self.old.all.options.shards) script.now capture.now.records.items
-            self.old.all.options.workers (all_turns (starts_in script.now) (length capture.now.records.items)) (state_in self.old) (state_in self.new)) }
+            self.old.all.options.workers (all_turns (starts_in script.now) (length capture.now.records.items))
+            (state_in self.old) (state_in self.new)) }
         ensures same { OnOk result (IsSameSetting (state_in self.old) (state_in self.new)) }
         ensures each_once { OnOk result (frames_in self.new.counts ≡ length capture.now.records.items) }
     {
@@ -381,31 +387,6 @@ impl Turns {
     }
 }
 
-/// The shards' journals, moved into this room and not copied.
-fn journals_of(
-    shards: PlainShards,
-    maps: Vec<MapDef>,
-    options: Options,
-    mut room: Vec<ShardJournal>,
-) -> Journals
-    requires are { AreJournals maps.items options (length shards) }
-    requires empty { length room.items ≡ 0 }
-    requires room { length shards ≤ vec_capacity room }
-    ensures maps { result.maps ≡ maps.items }
-    ensures options { result.options ≡ options }
-    ensures count { length result.shards ≡ length shards }
-    ensures written { (number : ℕ) → number < length shards → entries_at result number ≡ (shard_at shards number).journal }
-    ensures legal { (number : ℕ) → number < length shards → IsLegalJournal (shard_at shards number).plan (entries_at result number) }
-{
-    let mut shards = shards.into_list();
-    let count = shards.len();
-    'shards: for number in 0..count {
-        let journal = shards.remove(0).into_journal();
-        room.push_reserved(ShardJournal::written(journal));
-    }
-    Journals::of(maps, options, room)
-}
-
 /// The replay over shards that were opened for the image's maps.
 fn turned(
     alloc: Global,
@@ -436,7 +417,8 @@ fn turned(
 /// before it left them. Before each record come the commands that are due then, in the script's order; then the record is run, by the worker
 /// of its flow, if it has 14 bytes; and after every 64 records the reclaimer makes a round. Behind the last record come the commands that are
 /// left, and one more round. So a command finds what the runs of all frames before it left, and what it sets is found by every later
-/// one; and two such replays of the same input give the same outcome, unless memory was refused to a command.
+/// one. Two such replays of the same input give the same outcome, unless memory was refused to a command (no law says so). What is returned is
+/// accounted for as what a replay on threads returns.
 ///
 /// Refused with 51 where no shards of the image's maps can be opened with the options, or where there are commands and the image's maps
 /// are not those of steering; with 52 for lack of memory. Then nothing is left.
@@ -447,24 +429,28 @@ pub fn replay_in_turn(
     script: &Script,
     options: Options,
 ) -> Result<Outcome, ReplayFault>
+    ensures accounted { IfOk result (IsAccounted (program_of verified.now options.shards) script.now options capture.now.records.items) }
     ensures in_turn { IfOk result (IsInTurn (program_of verified.now options.shards) script.now options capture.now.records.items) }
-    ensures bad_options { IsErrOf result BadOptions ↔ (IsFalse (are_served_options verified.now.maps options) ⊎ HasNoTable
-        verified.now.maps script.now) }
+    ensures bad_options { IsErrOf result BadOptions ↔ AreBadOptions verified.now.maps options script.now }
 {
+    turns_are_accounted();
     let image = verified.image();
     let Some(size) = table_for(image.maps(), script.commands()) else {
         return Err(ReplayFault::BadOptions);
     };
     match TurnShards::open(alloc, verified, options) {
-        Ok(all) => Ok(turned(
-            alloc,
-            verified,
-            capture,
-            script.commands(),
-            size,
-            all,
-            options,
-        )?),
+        Ok(all) => {
+            let _ = all.options();
+            Ok(turned(
+                alloc,
+                verified,
+                capture,
+                script.commands(),
+                size,
+                all,
+                options,
+            )?)
+        }
         Err(fault) => Err(fault_of(fault)),
     }
 }

@@ -1,12 +1,14 @@
 //! All threads from their start to their end.
 
-ghost use Rattle.std.specs.Prelude.{◌≡◌, ◌<◌, ◌≤◌, ◌+◌, ◌/◌, ◌∷◌, ◌++◌, [], ℕ, length, replicate, IfOk, IsErrOf, IfSome, IsNone, vec_capacity};
+ghost use Rattle.std.specs.Prelude.{◌≡◌, ◌<◌, ◌≤◌, ◌+◌, ◌/◌, ◌∷◌, ◌++◌, [], ℕ, length, replicate, vec_capacity};
+ghost use Rattle.std.specs.Prelude.{IfOk, IsErrOf, IfSome, IsNone};
 ghost use Rattle.rx_queues.specs.declared.job.Job.TheVariants.{Note, End};
 ghost use Rattle.rx_queues.specs.Passes.{IsPutPassOf, IsTakePassOf, TakeAtTheirPlaces, AreTakePasses};
 ghost use Rattle.rx_queues.specs.Passes.{place_taken_from, jobs_taken, workers_of, jobs_put};
-ghost use Rattle.replay.specs.Actors.{HasNoEnd, EndsOnce, AreAllEnded, AreBothEnded, OfCommandsFrom, round_jobs};
+ghost use Rattle.replay.specs.Actors.{HasNoEnd, EndsOnce, AreAllEnded, AreBothEnded, OfCommandsFrom};
 ghost use Rattle.semantics.specs.Each.{Each};
 ghost use Rattle.replay.specs.Crews.{IsReadyAt, AreHandled};
+ghost use Rattle.replay.specs.Settings.{IsReadyToRun, AreAllDone};
 ghost use Rattle.replay.specs.Puts.{put_at, AreNonePut, AreAllPut};
 ghost use Rattle.replay.specs.Shares.{frames_of};
 ghost use Rattle.replay.specs.declared.fault.ReplayFault.TheVariants.{BadOptions, NoThread};
@@ -19,11 +21,37 @@ use crate::pace::Pace;
 use crate::runner::Runner;
 use crate::worker::Lane;
 use rx_queues::{PutPass, Queues, TakePass};
-use std::alloc::Global;
+use std::alloc::{AllocError, Global};
 use std::sync::Wait;
 use std::thread;
 use std::thread::{Scope, Threads};
 use wire::Capture;
+
+/// What all threads of a replay share.
+pub struct Setting<'x, W, R> {
+    pub rt: &'x R,
+    pub alloc: Global,
+    pub queues: &'x Queues,
+    pub capture: &'x Capture,
+    /// Of each command, how many records are dispatched before it.
+    pub starts: &'x [u32],
+    /// How many commands were applied before the threads started.
+    pub first: usize,
+    pub pace: Pace,
+    pub runner: &'x W,
+}
+
+impl<'x, W, R> Copy for Setting<'x, W, R> {}
+
+impl<'x, W, R> Clone for Setting<'x, W, R> {
+    ghost is_clone = { λ it copy. copy ≡ it };
+
+    ghost is_infallible = { λ _. Unit {0} };
+
+    fn clone(&self) -> Result<Self, AllocError> {
+        Ok(*self)
+    }
+}
 
 /// What all workers did, and what the controller and the reclaimer handed back.
 #[derive(Drop)]
@@ -160,63 +188,72 @@ fn close_both<E: Drop, F: Drop, C: Actor<E>, D: Actor<F>, R: Threads + Wait>(
 /// Starts the workers, hands everything over, ends the workers and joins them.
 fn work_all<'s, X, S: Drop + Send + 's, W: Runner<S> + Sync + 's, R: Threads + Wait + Sync>(
     scope: &Scope<'s, X>,
-    rt: &'s R,
-    alloc: Global,
-    queues: &'s Queues,
-    capture: &'s Capture,
-    starts: &[u32],
-    first: usize,
-    pace: Pace,
-    runner: &'s W,
+    setting: Setting<'s, W, R>,
     put: &mut PutPass,
     lanes: Vec<Lane<'s, S, W>>,
     takes: Vec<TakePass>,
     states: Vec<S>,
 ) -> Result<Vec<Handled<S>>, ReplayFault>
-    requires workers { (workers_of queues.now ≡ length states.items) × (0 < length states.items) × (length states.items ≤ 8) }
-    requires first { first ≤ length starts.now }
-    requires put { IsPutPassOf queues.now put.old × (jobs_put put.old ≡ replicate (length states.items + 2) []) }
-    requires takes { (length states.items ≤ length takes.items) × TakeAtTheirPlaces queues.now takes.items }
-    requires states { Each (IsReadyAt (W.is_new runner.now) (W.is_idle runner.now)) 0 states.items }
+    requires workers { (workers_of setting.queues.now ≡ length states.items) × (0 < length states.items) × (length states.items ≤ 8) }
+    requires first { setting.first ≤ length setting.starts.now }
+    requires put { IsPutPassOf setting.queues.now put.old × (jobs_put put.old ≡ replicate (length states.items + 2) []) }
+    requires takes { (length states.items ≤ length takes.items) × TakeAtTheirPlaces setting.queues.now takes.items }
+    requires states { Each (IsReadyAt (W.is_new setting.runner.now) (W.is_idle setting.runner.now)) 0 states.items }
     requires room { (lanes.items ≡ []) × (length states.items ≤ vec_capacity lanes) }
-    ensures put { IsPutPassOf queues.now put.new }
+    ensures put { IsPutPassOf setting.entry.queues.now put.new }
     ensures count { IfOk result (λ all. length all.items ≡ length states.items) }
-    ensures handled { IfOk result (λ all. AreHandled (W.is_new runner.now) (W.runs runner.now) capture.now.records.items (length
-        states.items) all.items) }
-    ensures commands { IfOk result (λ all. OfCommandsFrom first starts.now (λ jobs. put_at (jobs_put put.new) (workers_of queues.now) ≡
-        jobs)) }
-    ensures notes { IfOk result (λ all. put_at (jobs_put put.new) (workers_of queues.now + 1) ≡ replicate (length
-        capture.now.records.items / 64) Note) }
+    ensures handled { IfOk result (λ all. AreHandled (W.is_new setting.entry.runner.now) (W.runs setting.entry.runner.now)
+        setting.entry.capture.now.records.items (length states.items) all.items) }
+    ensures commands { IfOk result (λ all. OfCommandsFrom setting.entry.first setting.entry.starts.now
+        (λ jobs. put_at (jobs_put put.new) (workers_of setting.entry.queues.now) ≡ jobs)) }
+    ensures notes { IfOk result (λ all. put_at (jobs_put put.new) (workers_of setting.entry.queues.now + 1) ≡
+        replicate (length setting.entry.capture.now.records.items / 64) Note) }
     ensures served { ¬ IsErrOf result BadOptions }
     ensures no_thread { IsErrOf result NoThread → AreNonePut (length states.items) (jobs_put put.new) }
-    ensures handed { ¬ IsErrOf result NoThread → AreAllPut (frames_of capture.now.records.items) (length states.items)
-        (length capture.now.records.items) (jobs_put put.new) }
+    ensures handed { ¬ IsErrOf result NoThread → AreAllPut (frames_of setting.entry.capture.now.records.items) (length states.items)
+        (length setting.entry.capture.now.records.items) (jobs_put put.new) }
     ensures ended { AreAllEnded (length states.items) (jobs_put put.new) }
-    ensures others { HasNoEnd (put_at (jobs_put put.new) (workers_of queues.now)) ×
-        HasNoEnd (put_at (jobs_put put.new) (workers_of queues.now + 1)) }
+    ensures others { HasNoEnd (put_at (jobs_put put.new) (workers_of setting.entry.queues.now)) ×
+        HasNoEnd (put_at (jobs_put put.new) (workers_of setting.entry.queues.now + 1)) }
 {
     let workers = states.len();
     match start_all(
-        scope, rt, alloc, queues, capture, runner, lanes, takes, states,
+        scope,
+        setting.rt,
+        setting.alloc,
+        setting.queues,
+        setting.capture,
+        setting.runner,
+        lanes,
+        takes,
+        states,
     ) {
         Ok(lanes) => {
             let dispatch = Dispatch {
-                queues,
-                capture,
-                starts,
-                first,
+                queues: setting.queues,
+                capture: setting.capture,
+                starts: setting.starts,
+                first: setting.first,
                 workers,
-                pace,
+                pace: setting.pace,
             };
-            dispatch.hand_all(rt, put);
-            end_all(rt, queues, put, workers);
-            match finish_all(rt, alloc, queues, capture, runner, put, lanes) {
+            dispatch.hand_all(setting.rt, put);
+            end_all(setting.rt, setting.queues, put, workers);
+            match finish_all(
+                setting.rt,
+                setting.alloc,
+                setting.queues,
+                setting.capture,
+                setting.runner,
+                put,
+                lanes,
+            ) {
                 Some(all) => Ok(all),
                 None => Err(ReplayFault::Memory),
             }
         }
         Err(lanes) => {
-            abandon(rt, queues, put, lanes, workers);
+            abandon(setting.rt, setting.queues, put, lanes, workers);
             Err(ReplayFault::NoThread)
         }
     }
@@ -235,14 +272,7 @@ fn run_all_in<
     R: Threads + Wait + Sync,
 >(
     scope: &Scope<'s, X>,
-    rt: &'s R,
-    alloc: Global,
-    queues: &'s Queues,
-    capture: &'s Capture,
-    starts: &[u32],
-    first: usize,
-    pace: Pace,
-    runner: &'s W,
+    setting: Setting<'s, W, R>,
     controller: C,
     reclaimer: D,
     put: &mut PutPass,
@@ -250,34 +280,32 @@ fn run_all_in<
     mut takes: Vec<TakePass>,
     states: Vec<S>,
 ) -> Result<AllEnded<S, E, F>, ReplayFault>
-    requires workers { (workers_of queues.now ≡ length states.items) × (0 < length states.items) × (length states.items ≤ 8) }
-    requires first { first ≤ length starts.now }
-    requires put { IsPutPassOf queues.now put.old × (jobs_put put.old ≡ replicate (length states.items + 2) []) }
-    requires takes { AreTakePasses queues.now takes.items }
-    requires states { Each (IsReadyAt (W.is_new runner.now) (W.is_idle runner.now)) 0 states.items }
-    requires ready { C.is_ready controller × D.is_ready reclaimer }
+    requires ready { IsReadyToRun W.is_new W.is_idle setting put.old takes.items states.items }
+    requires actors { C.is_ready controller × D.is_ready reclaimer }
     requires room { (lanes.items ≡ []) × (length states.items ≤ vec_capacity lanes) }
-    ensures count { IfOk result (λ it. length it.workers.items ≡ length states.items) }
-    ensures handled { IfOk result (λ it. AreHandled (W.is_new runner.now) (W.runs runner.now) capture.now.records.items
-        (length states.items) it.workers.items) }
-    ensures controller { IfOk result (λ it. OfCommandsFrom first starts.now (λ jobs. C.gives controller (jobs ++ End ∷ []) it.controller)) }
-    ensures reclaimer { IfOk result (λ it. D.gives reclaimer (round_jobs (length capture.now.records.items)) it.reclaimer) }
+    ensures done { IfOk result (AreAllDone W.is_new W.runs (C.gives controller) (D.gives reclaimer) setting.entry (length states.items)) }
     ensures served { ¬ IsErrOf result BadOptions }
     ensures no_thread { IsErrOf result NoThread → AreNonePut (length states.items) (jobs_put put.new) }
     ensures ended { AreAllEnded (length states.items + 2) (jobs_put put.new) }
 {
     let workers = states.len();
-    let last = last_two(queues, &mut takes, workers);
+    let last = last_two(setting.queues, &mut takes, workers);
     let Some((commanding, reclaiming)) = start_both(
-        scope, rt, alloc, queues, put, controller, reclaimer, workers, last,
+        scope,
+        setting.rt,
+        setting.alloc,
+        setting.queues,
+        put,
+        controller,
+        reclaimer,
+        workers,
+        last,
     ) else {
-        end_all(rt, queues, put, workers);
+        end_all(setting.rt, setting.queues, put, workers);
         return Err(ReplayFault::NoThread);
     };
-    match work_all(
-        scope, rt, alloc, queues, capture, starts, first, pace, runner, put, lanes, takes, states,
-    ) {
-        Ok(handled) => match close_both(rt, queues, put, commanding, reclaiming) {
+    match work_all(scope, setting, put, lanes, takes, states) {
+        Ok(handled) => match close_both(setting.rt, setting.queues, put, commanding, reclaiming) {
             Some((controller, reclaimer)) => Ok(AllEnded {
                 workers: handled,
                 controller,
@@ -286,19 +314,19 @@ fn run_all_in<
             None => Err(ReplayFault::Memory),
         },
         Err(fault) => {
-            end_both(rt, queues, put);
-            commanding.join(rt);
-            reclaiming.join(rt);
+            end_both(setting.rt, setting.queues, put);
+            commanding.join(setting.rt);
+            reclaiming.join(setting.rt);
             Err(fault)
         }
     }
 }
 
 /// Runs all records of a capture, each by the worker of its flow, on a thread for each of the workers' states, and beside them the
-/// controller and the reclaimer, each on a thread of its own. The controller is handed the commands from `first` on, each once as many
-/// records as `starts` says of it were dispatched and no later than after the last one; the reclaimer is asked for a round after every
-/// 64 records, and for one more after the workers' end. Where a thread can't be started or one of them is refused memory, those that
-/// were started have ended too.
+/// controller and the reclaimer, each on a thread of its own. The controller is handed the commands from `setting.first` on, each once as
+/// many records as `setting.starts` says of it were dispatched and no later than after the last one; the reclaimer is asked for a round
+/// after every 64 records, and for one more after the workers' end. Where a thread can't be started or one of them is refused memory,
+/// those that were started have ended too.
 pub fn run_all<
     'x,
     S: Drop + Send + 'x,
@@ -309,56 +337,32 @@ pub fn run_all<
     D: Actor<F> + Drop + Send + 'x,
     R: Threads + Wait + Sync + 'x,
 >(
-    rt: &'x R,
-    alloc: Global,
-    queues: &'x Queues,
-    capture: &'x Capture,
-    starts: &'x [u32],
-    first: usize,
-    pace: Pace,
-    runner: &'x W,
+    setting: Setting<'x, W, R>,
     controller: C,
     reclaimer: D,
     put: PutPass,
     takes: Vec<TakePass>,
     states: Vec<S>,
 ) -> Result<AllEnded<S, E, F>, ReplayFault>
-    requires workers { (workers_of queues.now ≡ length states.items) × (0 < length states.items) × (length states.items ≤ 8) }
-    requires first { first ≤ length starts.now }
-    requires put { IsPutPassOf queues.now put × (jobs_put put ≡ replicate (length states.items + 2) []) }
-    requires takes { AreTakePasses queues.now takes.items }
-    requires states { Each (IsReadyAt (W.is_new runner.now) (W.is_idle runner.now)) 0 states.items }
-    requires ready { C.is_ready controller × D.is_ready reclaimer }
-    ensures count { IfOk result (λ it. length it.workers.items ≡ length states.items) }
-    ensures handled { IfOk result (λ it. AreHandled (W.is_new runner.now) (W.runs runner.now) capture.now.records.items
-        (length states.items) it.workers.items) }
-    ensures controller { IfOk result (λ it. OfCommandsFrom first starts.now (λ jobs. C.gives controller (jobs ++ End ∷ []) it.controller)) }
-    ensures reclaimer { IfOk result (λ it. D.gives reclaimer (round_jobs (length capture.now.records.items)) it.reclaimer) }
+    requires ready { IsReadyToRun W.is_new W.is_idle setting put takes.items states.items }
+    requires actors { C.is_ready controller × D.is_ready reclaimer }
+    ensures done { IfOk result (AreAllDone W.is_new W.runs (C.gives controller) (D.gives reclaimer) setting.entry (length states.items)) }
     ensures served { ¬ IsErrOf result BadOptions }
 {
     thread::scope(
         thread::scope_env(),
-        rt,
+        setting.rt,
         |scope| -> Result<AllEnded<S, E, F>, ReplayFault>
-            requires workers { (workers_of queues.now ≡ length states.items) × (0 < length states.items) × (length states.items ≤ 8) }
-            requires first { first ≤ length starts.now }
-            requires put { IsPutPassOf queues.now put × (jobs_put put ≡ replicate (length states.items + 2) []) }
-            requires takes { AreTakePasses queues.now takes.items }
-            requires states { Each (IsReadyAt (W.is_new runner.now) (W.is_idle runner.now)) 0 states.items }
-            requires ready { C.is_ready controller × D.is_ready reclaimer }
-            ensures count { IfOk result (λ it. length it.workers.items ≡ length states.items) }
-            ensures handled { IfOk result (λ it. AreHandled (W.is_new runner.entry.now) (W.runs runner.entry.now)
-                capture.entry.now.records.items (length states.items) it.workers.items) }
-            ensures controller { IfOk result (λ it. OfCommandsFrom first starts.entry.now (λ jobs. C.gives controller (jobs ++ End ∷
-                []) it.controller)) }
-            ensures reclaimer { IfOk result (λ it. D.gives reclaimer (round_jobs (length capture.entry.now.records.items)) it.reclaimer) }
+            requires ready { IsReadyToRun W.is_new W.is_idle setting put takes.items states.items }
+            requires actors { C.is_ready controller × D.is_ready reclaimer }
+            ensures done { IfOk result (AreAllDone W.is_new W.runs (C.gives controller) (D.gives reclaimer) setting.entry
+                (length states.items)) }
             ensures served { ¬ IsErrOf result BadOptions }
         {
             let mut put = put;
-            let lanes = Vec::with_capacity(alloc, states.len())?;
+            let lanes = Vec::with_capacity(setting.alloc, states.len())?;
             run_all_in(
-                scope, rt, alloc, queues, capture, starts, first, pace, runner, controller,
-                reclaimer, &mut put, lanes, takes, states,
+                scope, setting, controller, reclaimer, &mut put, lanes, takes, states,
             )
         },
     )

@@ -1,6 +1,7 @@
-//! The shards of an exact replay, which one thread calls: a run, an update of the controller, a round of the reclaimer, each after the other.
+//! The shards of an exact replay, which one thread calls: a run, an update of the controller, a round of the reclaimer, each after the
+//! other.
 
-ghost use Rattle.std.specs.Prelude.{◌≡◌, ◌<◌, ◌≤◌, ◌↔◌, Some, IsTrue, IfOk, OnOk, OnErr, IfErr, IsErrOf, IsFalse, length, slice_get};
+ghost use Rattle.std.specs.Prelude.{◌≡◌, ◌<◌, ◌≤◌, ◌↔◌, IsTrue, IfOk, OnErr, IfErr, IsErrOf, IsFalse, length, slice_get};
 ghost use Rattle.map_rules.specs.declared.open_fault.OpenFault.TheVariants.{BadOptions};
 ghost use Rattle.semantics.specs.MachineState.{initial_state};
 ghost use Rattle.semantics.specs.ShardPlan.{AreOptions, are_served_options};
@@ -10,7 +11,8 @@ ghost use Rattle.shards.specs.NewShards.{shard_at};
 ghost use Rattle.shards.specs.Opening.{AreOpened};
 ghost use Rattle.shard_port.specs.PortView.{ServesMaps};
 ghost use Rattle.replay.specs.Rounds.{is_keyed};
-ghost use Rattle.replay.specs.InTurn.{EndsInTurn, StopsInTurn, IsAskedInTurn, IsPartOfRound, IsRoundTo, IsUpdatedAt, IsFullAt, may_update_at};
+ghost use Rattle.replay.specs.InTurn.{EndsInTurn, StopsInTurn, IsAskedInTurn, IsPartOfRound, IsRoundTo};
+ghost use Rattle.replay.specs.InTurn.{IsUpdatedAt, IsFullAt, may_update_at};
 
 use crate::reclaimer::is_keyed;
 use control::UpdatePort;
@@ -42,10 +44,11 @@ fn run_over(
     requires worker { moment.now.worker < 8 }
     requires among { moment.now.worker < options.workers }
     requires headroom { frame.old.headroom ≡ 256 }
-    ensures exit { IfOk result (λ exit. EndsInTurn (program_of verified.now options.shards) (initial_state frame.old moment.now.worker moment.now.now_ns)
-        moment.now.worker shards.old shards.new exit.verdict exit.steps frame.new) }
-    ensures stop { IfErr result (StopsInTurn (program_of verified.now options.shards) (initial_state frame.old moment.now.worker moment.now.now_ns)
-        moment.now.worker shards.old shards.new frame.new) }
+    ensures exit { IfOk result (λ exit. EndsInTurn (program_of verified.now options.shards)
+        (initial_state frame.old moment.now.worker moment.now.now_ns) moment.now.worker
+        shards.old shards.new exit.verdict exit.steps frame.new) }
+    ensures stop { IfErr result (StopsInTurn (program_of verified.now options.shards)
+        (initial_state frame.old moment.now.worker moment.now.now_ns) moment.now.worker shards.old shards.new frame.new) }
     ensures serve { ServesMaps verified.now.maps options shards.new }
 {
     let mut port = PlainPort::over(verified.image(), options, shards, moment.worker);
@@ -162,10 +165,11 @@ impl TurnShards {
         requires worker { moment.now.worker < 8 }
         requires among { moment.now.worker < self.old.options.workers }
         requires headroom { frame.old.headroom ≡ 256 }
-        ensures exit { IfOk result (λ exit. EndsInTurn (program_of verified.now self.old.options.shards) (initial_state frame.old moment.now.worker moment.now.now_ns)
-            moment.now.worker self.old.shards self.new.shards exit.verdict exit.steps frame.new) }
-        ensures stop { IfErr result (StopsInTurn (program_of verified.now self.old.options.shards) (initial_state frame.old moment.now.worker moment.now.now_ns)
-            moment.now.worker self.old.shards self.new.shards frame.new) }
+        ensures exit { IfOk result (λ exit. EndsInTurn (program_of verified.now self.old.options.shards)
+            (initial_state frame.old moment.now.worker moment.now.now_ns) moment.now.worker
+            self.old.shards self.new.shards exit.verdict exit.steps frame.new) }
+        ensures stop { IfErr result (StopsInTurn (program_of verified.now self.old.options.shards)
+            (initial_state frame.old moment.now.worker moment.now.now_ns) moment.now.worker self.old.shards self.new.shards frame.new) }
         ensures maps { self.new.maps ≡ self.old.maps }
         ensures options { self.new.options ≡ self.old.options }
     {
@@ -189,6 +193,14 @@ impl TurnShards {
         ensures few { self.now.options.workers ≤ 8 }
     {
         self.options.workers as usize
+    }
+
+    /// The options that they were opened with.
+    pub(crate) fn options(&self) -> Options
+        ensures options { result ≡ self.now.options }
+        ensures fit { AreOptions self.now.maps self.now.options }
+    {
+        self.options
     }
 
     /// The number of the shard of a map's key.

@@ -3,7 +3,7 @@
 ghost use Rattle.std.specs.Prelude.{◌≡◌, ◌<◌, ◌≤◌};
 
 use crate::asserting::same;
-use replay::{Actor, ActorEnded, FrameFate, Handled, Pace, RunEnd, Runner, run_all};
+use replay::{Actor, ActorEnded, FrameFate, Handled, Pace, RunEnd, Runner, Setting, run_all};
 use rx_queues::{Job, Queues, TakePass};
 use std::alloc::Global;
 use std::process::Abort;
@@ -222,15 +222,18 @@ fn run_beside<R: Abort + Threads + Wait + Sync>(
     let capture = capture(alloc, row.records)?;
     let (queues, put, takes) = Queues::open(alloc, row.workers)?;
     let states = vec![in alloc; 0; row.workers]?;
-    let ended = run_all(
+    let setting = Setting {
         rt,
         alloc,
-        &queues,
-        &capture,
-        &STARTS,
-        1,
+        queues: &queues,
+        capture: &capture,
+        starts: &STARTS,
+        first: 1,
         pace,
-        &Passing,
+        runner: &Passing,
+    };
+    let ended = run_all(
+        setting,
         actor_with_memory(1),
         actor_with_memory(0),
         put,
@@ -312,10 +315,17 @@ fn refused<R: Abort + Threads + Wait + Sync>(
         first: 0,
         is_refused: reclaimer,
     };
-    let ended = run_all(
-        rt, alloc, &queues, &capture, &STARTS, 1, pace, &runner, controller, reclaimer, put, takes,
-        states,
-    );
+    let setting = Setting {
+        rt,
+        alloc,
+        queues: &queues,
+        capture: &capture,
+        starts: &STARTS,
+        first: 1,
+        pace,
+        runner: &runner,
+    };
+    let ended = run_all(setting, controller, reclaimer, put, takes, states);
     let fault = match ended {
         Ok(_) => 0,
         Err(fault) => fault.number(),

@@ -11,7 +11,7 @@ use semantics::Options;
 use shards::PlainShards;
 
 /// The shards' journals, moved into this room and not copied.
-pub(crate) fn journals_of(
+pub fn journals_of(
     shards: PlainShards,
     maps: Vec<MapDef>,
     options: Options,

@@ -3,7 +3,7 @@
 #![tactic(auto)]
 
 mod alone;
-mod closing;
+pub mod closing;
 mod fault;
 pub mod plain_run;
 mod shard_runs;

@@ -1,12 +1,12 @@
 -- A line of an exact text means itself in the source form.
 use Rattle.std.proofs.Common.{◌≡◌, ◌∙◌, ℕ, zero, suc, ◌+◌, ◌<◌, ◌^◌, ◌/◌, ◌%◌, Bool, true, false, ◌&&◌, not, leb, ltb, eqb, List, [], ◌∷◌, ◌++◌, length, map, refl, sym, ap, arith, append_assoc, length-append, Ok}
-use Rattle.std.specs.Prelude.{ℤ, pos, negsuc, codes, FitsSigned, Some}
+use Rattle.std.specs.Prelude.{ℤ, pos, negsuc, codes, FitsSigned, Option, Some, None, if◌then◌else◌}
 use Rattle.std.specs.Int.{w16, w32, w64}
 use Rattle.std.specs.Fmt.{decimal, signed_decimal}
 use Rattle.std.specs.Str.{trim, skip_leading_whitespace}
 use Rattle.std.specs.Str.Parse.{digits_value}
 use Rattle.std.proofs.lemmas.Bool.Decides.{nat_tests}
-use Rattle.std.proofs.lemmas.Fmt.{decimal_by_steps, decimal_nonempty}
+use Rattle.std.proofs.lemmas.Fmt.{decimal_by_steps, decimal_nonempty, decimal_is_IsNumeral}
 use Rattle.std.proofs.lemmas.List.{append-nil}
 use Rattle.isa.specs.declared.operation.Register.{Register as RegisterName}
 use Rattle.isa.specs.declared.operation.Register.TheVariants.{R0, R1, R2, R3, R4, R5, R6, R7, R8, R9, R10}
@@ -37,9 +37,9 @@ use Rattle.text_lines.proofs.shared.ByteLemmas.{all_bytes, all_append, weaken}
 use Rattle.disasm.proofs.shared.Bytes.{word_byte, signed_word, sign_word, widest_fits, far_fits, wider_fits, register_word, register_tail}
 use Rattle.disasm.proofs.shared.Numbers.{whole, hex_value, hex_all}
 use Rattle.source_form.specs.declared.words.Form.{Form}
-use Rattle.source_form.specs.declared.words.Form.TheVariants.{Plain, Jump, Call, Wide}
-use Rattle.source_form.specs.SourceText.{parts_at, is_heading, form_of, is_number_byte, begins_number, number_in, number_meaning, last_meaning, operands_meaning}
-use Rattle.source_form.proofs.NumberReading.{number_again}
+use Rattle.source_form.specs.declared.words.Form.TheVariants.{Plain, Jump, Call, Wide, MapRow}
+use Rattle.source_form.specs.SourceText.{parts_at, is_heading, form_of, is_number_byte, begins_number, begins, number_in, number_meaning, is_upper_word, word_told, plain_value, immediate_meaning, early_meaning, last_meaning, operands_meaning}
+use Rattle.source_form.proofs.NumberReading.{number_again, number_none}
 use Rattle.source_form.proofs.Trimming.{both, other, no_mark, one_part, first_part, ascii_byte, solid, EndsWell, ends_word, ends_before, begin_kept, IsTrimmed, trim_same, trim_space}
 
 -- ---- bytes
@@ -102,6 +102,8 @@ head_form heads.Ja32 = Jump
 head_form (heads.JumpIf width test) = Jump
 head_form heads.Call = Call
 head_form heads.Lddw = Wide
+head_form heads.Ldmap = MapRow
+head_form heads.Ldval = MapRow
 head_form head = Plain
 
 -- what the stem alone says of the first word
@@ -369,9 +371,17 @@ three_is_list a b c fa fb fc =
 
 -- ---- what operands mean
 
--- an operand before others is as it is
+-- an operand that is no immediate is as it is
 abbrev IsShort : Operand → Type 0
 IsShort o = number_meaning (operand_text o) ≡ Ok (operand_text o)
+
+-- and one that may be
+abbrev IsImmediate : Operand → Type 0
+IsImmediate o = immediate_meaning (operand_text o) ≡ Ok (operand_text o)
+
+-- and one before others
+abbrev IsEarly : Form → Operand → Type 0
+IsEarly form o = early_meaning form (operand_text o) ≡ Ok (operand_text o)
 
 -- and the last one
 abbrev IsLast : Form → Operand → Type 0
@@ -380,8 +390,8 @@ IsLast form o = (statements : List (List ℕ)) (place : ℕ) → last_meaning st
 abbrev pub Stand : Form → Operands → Type 0
 Stand form Zero = Unit {0}
 Stand form (One a) = IsLast form a
-Stand form (Two a b) = IsShort a × IsLast form b
-Stand form (Three a b c) = IsShort a × IsShort b × IsLast form c
+Stand form (Two a b) = IsEarly form a × IsLast form b
+Stand form (Three a b c) = IsEarly form a × IsEarly form b × IsLast form c
 
 no_x : (text : List ℕ) → all_bytes (other 120) text ≡ true → number_meaning text ≡ Ok text
 no_x text a = rw (no_mark 120 text a) refl
@@ -410,16 +420,6 @@ short_place r z fits =
     (all_append (other 120) (register_text r) (with_sign z ++ 93 ∷ [])
     (weaken (word_byte 120) (other 120) no_x_in_name (register_text r) (register_word r)) tail)
 
-last_plain : (o : Operand) → IsShort o → IsLast Plain o
-last_plain o short = λ statements place. short
-
--- a distance begins with its sign
-last_jump : (z : ℤ) → FitsSigned w32 z → IsLast Jump (Distance z)
-unfolding operand_text
-last_jump (pos n) fits = λ statements place. short_distance (pos n) fits
-last_jump (negsuc n) fits = λ statements place. short_distance (negsuc n) fits
-
--- a helper's number begins with a sign or a digit
 abbrev digit_byte : ℕ → Bool
 digit_byte b = leb 48 b && ltb b 58
 
@@ -429,6 +429,83 @@ digit_is m lt = grind (arith, nat_tests)
 decimal_digits : (n : ℕ) → n < 2 ^ 64 → all_bytes digit_byte (decimal n) ≡ true
 decimal_digits n small = decimal_by_steps (λ m ds. all_bytes digit_byte ds ≡ true) (λ m lt. digit_is m lt) (λ m ds le a. all_append digit_byte ds ((48 + m % 10) ∷ []) a (digit_is (m % 10) (omega arith))) n small
 
+immediate_register : (r : RegisterName) → IsImmediate (Register r)
+unfolding operand_text
+immediate_register R0 = refl
+immediate_register R1 = refl
+immediate_register R2 = refl
+immediate_register R3 = refl
+immediate_register R4 = refl
+immediate_register R5 = refl
+immediate_register R6 = refl
+immediate_register R7 = refl
+immediate_register R8 = refl
+immediate_register R9 = refl
+immediate_register R10 = refl
+
+told_none : (text : List ℕ) (value : Option ℕ) → value ≡ None → number_meaning text ≡ Ok text → word_told text value ≡ Ok text
+told_none text value e short = rw e short
+
+-- it begins with a bracket, and so with no digit
+immediate_place : (r : RegisterName) (z : ℤ) → FitsSigned w16 z → IsImmediate (Place r z)
+unfolding operand_text
+immediate_place r z fits =
+    let text : List ℕ = 91 ∷ (register_text r ++ (with_sign z ++ 93 ∷ [])) in
+    told_none text (plain_value text) (number_none 10 text refl) (short_place r z fits)
+
+-- a signed number of 32 bits is none that is too large for one
+is_lower : (n : ℕ) → n < 2 ^ 31 → is_upper_word n ≡ false
+is_lower n lt = grind (arith, nat_tests)
+
+lower_told : (text : List ℕ) (n : ℕ) → n < 2 ^ 31 → number_meaning text ≡ Ok text → word_told text (Some n) ≡ Ok text
+lower_told text n lt short = rw (is_lower n lt) short
+
+no_prefix : (text : List ℕ) → all_bytes digit_byte text ≡ true → begins text (48 ∷ 120 ∷ []) ≡ false
+no_prefix [] a = refl
+no_prefix (x ∷ []) a = grind (arith, nat_tests)
+no_prefix (x ∷ y ∷ more) a =
+    let rest = (both (digit_byte x) (all_bytes digit_byte (y ∷ more)) a).1 in
+    let digit : digit_byte y ≡ true = (both (digit_byte y) (all_bytes digit_byte more) rest).0 in
+    grind (arith, nat_tests)
+
+chosen_told : (text : List ℕ) (zero_first : Bool) (value : Option ℕ) → number_meaning text ≡ Ok text → word_told text value ≡ Ok text
+    → word_told text (if zero_first then None else value) ≡ Ok text
+chosen_told text true value short told = short
+chosen_told text false value short told = told
+
+decimal_again : (n : ℕ) → n < 2 ^ 64 → number_in 10 (decimal n) ≡ Some n
+decimal_again n small =
+    let read = decimal_is_IsNumeral n small in
+    number_again 10 (decimal n) read.0 (rw read.1 small) ∙ ap (λ (m : ℕ). Some m) read.1
+
+value_told : (text : List ℕ) (value : Option ℕ) (n : ℕ) → value ≡ Some n → n < 2 ^ 31 → number_meaning text ≡ Ok text → word_told text value ≡ Ok text
+value_told text value n e lt short = rw e (lower_told text n lt short)
+
+immediate_number : (z : ℤ) → FitsSigned w32 z → IsImmediate (Number z)
+unfolding operand_text
+immediate_number (pos n) fits =
+    let text : List ℕ = decimal n in
+    let short = short_number (pos n) (widest_fits (pos n) fits) in
+    let plain = no_prefix text (decimal_digits n (omega arith)) in
+    rw plain (chosen_told text (begins text (48 ∷ [])) (number_in 10 text) short
+    (value_told text (number_in 10 text) n (decimal_again n (omega arith)) (omega arith) short))
+immediate_number (negsuc n) fits =
+    let text : List ℕ = signed_decimal (negsuc n) in
+    told_none text (plain_value text) (number_none 10 text refl) (short_number (negsuc n) (widest_fits (negsuc n) fits))
+
+last_plain : (o : Operand) → IsImmediate o → IsLast Plain o
+last_plain o immediate = λ statements place. immediate
+
+last_map : (o : Operand) → IsShort o → IsLast MapRow o
+last_map o short = λ statements place. short
+
+-- a distance begins with its sign
+last_jump : (z : ℤ) → FitsSigned w32 z → IsLast Jump (Distance z)
+unfolding operand_text
+last_jump (pos n) fits = λ statements place. short_distance (pos n) fits
+last_jump (negsuc n) fits = λ statements place. short_distance (negsuc n) fits
+
+-- a helper's number begins with a sign or a digit
 number_begins : (text : List ℕ) → 0 < length text → all_bytes digit_byte text ≡ true → begins_number text ≡ true
 number_begins [] some a = absurd (omega (arith, some))
 number_begins (x ∷ xs) some a =
@@ -460,24 +537,24 @@ last_wide n small = λ statements place. rw (hex_again n small) refl
 -- the operands of an instruction are as they are
 pub stand : (i : Insn) → FieldsFit i → Stand (head_form (head_of i)) (operands_of i)
 unfolding FieldsFit head_of operands_of head_form
-stand (insns.Alu width op dst (Imm value)) fits = (short_register dst, last_plain (Number value) (short_number value (widest_fits value fits)))
-stand (insns.Alu width op dst (Reg src)) fits = (short_register dst, last_plain (Register src) (short_register src))
-stand (insns.Neg width dst) fits = last_plain (Register dst) (short_register dst)
-stand (insns.Movsx extension dst src) fits = (short_register dst, last_plain (Register src) (short_register src))
-stand (insns.Movsx32 extension dst src) fits = (short_register dst, last_plain (Register src) (short_register src))
-stand (insns.End order swap_width dst) fits = last_plain (Register dst) (short_register dst)
+stand (insns.Alu width op dst (Imm value)) fits = (short_register dst, last_plain (Number value) (immediate_number value fits))
+stand (insns.Alu width op dst (Reg src)) fits = (short_register dst, last_plain (Register src) (immediate_register src))
+stand (insns.Neg width dst) fits = last_plain (Register dst) (immediate_register dst)
+stand (insns.Movsx extension dst src) fits = (short_register dst, last_plain (Register src) (immediate_register src))
+stand (insns.Movsx32 extension dst src) fits = (short_register dst, last_plain (Register src) (immediate_register src))
+stand (insns.End order swap_width dst) fits = last_plain (Register dst) (immediate_register dst)
 stand (insns.Ja distance) fits = last_jump distance (wider_fits distance fits)
 stand (insns.Ja32 distance) fits = last_jump distance fits
-stand (insns.JumpIf width test dst (Imm value) distance) fits = (short_register dst, short_number value (widest_fits value fits.1), last_jump distance (wider_fits distance fits.0))
-stand (insns.JumpIf width test dst (Reg src) distance) fits = (short_register dst, short_register src, last_jump distance (wider_fits distance fits.0))
-stand (insns.Ldx size dst src offset) fits = (short_register dst, last_plain (Place src offset) (short_place src offset fits))
-stand (insns.Ldxs extension dst src offset) fits = (short_register dst, last_plain (Place src offset) (short_place src offset fits))
-stand (insns.St size dst offset immediate) fits = (short_place dst offset fits.0, last_plain (Number immediate) (short_number immediate (widest_fits immediate fits.1)))
-stand (insns.Stx size dst src offset) fits = (short_place dst offset fits, last_plain (Register src) (short_register src))
-stand (insns.AtomicUpdate width op dst src offset) fits = (short_place dst offset fits, last_plain (Register src) (short_register src))
+stand (insns.JumpIf width test dst (Imm value) distance) fits = (immediate_register dst, immediate_number value fits.1, last_jump distance (wider_fits distance fits.0))
+stand (insns.JumpIf width test dst (Reg src) distance) fits = (immediate_register dst, immediate_register src, last_jump distance (wider_fits distance fits.0))
+stand (insns.Ldx size dst src offset) fits = (short_register dst, last_plain (Place src offset) (immediate_place src offset fits))
+stand (insns.Ldxs extension dst src offset) fits = (short_register dst, last_plain (Place src offset) (immediate_place src offset fits))
+stand (insns.St size dst offset immediate) fits = (short_place dst offset fits.0, last_plain (Number immediate) (immediate_number immediate fits.1))
+stand (insns.Stx size dst src offset) fits = (short_place dst offset fits, last_plain (Register src) (immediate_register src))
+stand (insns.AtomicUpdate width op dst src offset) fits = (short_place dst offset fits, last_plain (Register src) (immediate_register src))
 stand (insns.Lddw dst value) fits = (short_register dst, last_wide value fits)
-stand (insns.Ldmap dst map) fits = (short_register dst, last_plain (Number map) (short_number map (widest_fits map fits)))
-stand (insns.Ldval dst map offset) fits = (short_register dst, short_number map (widest_fits map fits.0), last_plain (Number (pos offset)) (short_number (pos offset) (omega (arith, fits.1))))
+stand (insns.Ldmap dst map) fits = (short_register dst, last_map (Number map) (short_number map (widest_fits map fits)))
+stand (insns.Ldval dst map offset) fits = (short_register dst, short_number map (widest_fits map fits.0), last_map (Number (pos offset)) (short_number (pos offset) (omega (arith, fits.1))))
 stand (insns.CallHelper helper) fits = last_call helper (widest_fits helper fits)
 stand insns.Exit fits = tt
 

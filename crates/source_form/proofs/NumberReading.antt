@@ -1,5 +1,5 @@
 -- What `parse` answers, as a function of the digits.
-use Rattle.std.proofs.Common.{◌≡◌, ℕ, ◌<◌, ◌^◌, Bool, true, false, ◌&&◌, not, List, [], ◌∷◌, length, get_or, Result, Ok, Err, Option, Some, None, refl, ap, arith}
+use Rattle.std.proofs.Common.{◌≡◌, ℕ, ◌<◌, ◌^◌, Bool, true, false, ◌&&◌, not, List, [], ◌∷◌, length, get_or, Result, Ok, Err, Option, Some, None, refl, ap, sym, arith}
 use Rattle.std.specs.Prelude.{◌≢◌, if◌then◌else◌, nat_lt, ◌==◌}
 use Rattle.std.specs.Result.{OkIff, result_ok}
 use Rattle.std.specs.Str.Parse.{AllDigits, IsNumeral, digits_value, ParsesUnsigned, without_leading_plus}
@@ -74,6 +74,10 @@ number_read radix bs r e h =
 none_if : (b : Bool) (v : Option ℕ) → None ≡ (if b && false then v else None)
 none_if true v = refl
 none_if false v = refl
+
+-- what is no digit writes no number
+pub number_none : (radix : ℕ) (ds : List ℕ) → all_digits radix ds ≡ false → number_in radix ds ≡ None
+number_none radix ds e = rw e (sym (none_if _ _))
 
 pub plus_16 : (bs : List ℕ) → begins bs (43 ∷ []) ≡ true → None ≡ number_in 16 bs
 plus_16 [] e = refl

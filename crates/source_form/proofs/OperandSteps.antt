@@ -7,19 +7,19 @@ use Rattle.source_form.specs.declared.fault.Problem.{Problem}
 use Rattle.source_form.specs.declared.fault.LineFault.{LineFault}
 use Rattle.source_form.specs.declared.fault.LineFault.TheVariants.{Bad, Memory}
 use Rattle.source_form.specs.declared.words.Form.{Form}
-use Rattle.source_form.specs.SourceText.{parts_at, before_mark, after_mark, number_meaning, last_meaning, then_told, operands_meaning}
+use Rattle.source_form.specs.SourceText.{parts_at, before_mark, after_mark, early_meaning, last_meaning, then_told, operands_meaning}
 use Rattle.source_form.specs.Told.{IsToldBy}
 use Rattle.source_form.proofs.Parts.{parts_none, parts_some, part_of, HasPart}
 
 -- what an operand and those after it mean
 meets : (statements : List (List ℕ)) (place : ℕ) (form : Form) (so_far operand : List ℕ) (parts : List (List ℕ)) → HasPart parts
-    → operands_meaning statements place form so_far (operand ∷ map trim parts) ≡ then_told (number_meaning operand) (λ text. operands_meaning statements place form ((so_far ++ text) ++ codes ", ") (map trim parts))
+    → operands_meaning statements place form so_far (operand ∷ map trim parts) ≡ then_told (early_meaning form operand) (λ text. operands_meaning statements place form ((so_far ++ text) ++ codes ", ") (map trim parts))
 unfolding operands_meaning
 meets statements place form so_far operand parts has = rw has.is refl
 
 pub goes : (statements : List (List ℕ)) (place : ℕ) (form : Form) (so_far list : List ℕ) → position_or_len (λ b. eqb b 44) list < length list
     → operands_meaning statements place form so_far (map trim (parts_at 44 list))
-    ≡ then_told (number_meaning (trim (before_mark 44 list))) (λ text. operands_meaning statements place form ((so_far ++ text) ++ codes ", ") (map trim (parts_at 44 (after_mark 44 list))))
+    ≡ then_told (early_meaning form (trim (before_mark 44 list))) (λ text. operands_meaning statements place form ((so_far ++ text) ++ codes ", ") (map trim (parts_at 44 (after_mark 44 list))))
 goes statements place form so_far list lt =
     ap (λ (parts : List (List ℕ)). operands_meaning statements place form so_far (map trim parts)) (parts_some 44 list lt)
     ∙ meets statements place form so_far (trim (before_mark 44 list)) (parts_at 44 (after_mark 44 list)) (part_of 44 (after_mark 44 list))
@@ -41,17 +41,17 @@ then_err m whole Memory next is told = tt
 
 -- an operand that has a text
 pub kept : (statements : List (List ℕ)) (place : ℕ) (form : Form) (so_far list operand more trimmed text so_far' : List ℕ) (whole : Result (List ℕ) Problem)
-    → (position_or_len (λ b. eqb b 44) list < length list) × (operand ≡ before_mark 44 list) × (more ≡ after_mark 44 list) → trimmed ≡ trim operand → number_meaning trimmed ≡ Ok text
+    → (position_or_len (λ b. eqb b 44) list < length list) × (operand ≡ before_mark 44 list) × (more ≡ after_mark 44 list) → trimmed ≡ trim operand → early_meaning form trimmed ≡ Ok text
     → so_far' ≡ (so_far ++ text) ++ codes ", " → operands_meaning statements place form so_far (map trim (parts_at 44 list)) ≡ whole
     → operands_meaning statements place form so_far' (map trim (parts_at 44 more)) ≡ whole
 kept statements place form so_far list operand more trimmed text so_far' whole cut is_trimmed told grown is =
     let same : trimmed ≡ trim (before_mark 44 list) = is_trimmed ∙ ap trim cut.1 in
-    let read : number_meaning (trim (before_mark 44 list)) ≡ Ok text = ap number_meaning (sym same) ∙ told in
+    let read : early_meaning form (trim (before_mark 44 list)) ≡ Ok text = ap (early_meaning form) (sym same) ∙ told in
     rw (grown, cut.2) (sym (goes statements place form so_far list cut.0 ∙ then_ok _ text _ read) ∙ is)
 
 -- one that has a problem
 pub stopped : (statements : List (List ℕ)) (place : ℕ) (form : Form) (so_far list operand more trimmed : List ℕ) (fault : LineFault) (whole : Result (List ℕ) Problem)
-    → (position_or_len (λ b. eqb b 44) list < length list) × (operand ≡ before_mark 44 list) × (more ≡ after_mark 44 list) → trimmed ≡ trim operand → IsToldBy (number_meaning trimmed) fault
+    → (position_or_len (λ b. eqb b 44) list < length list) × (operand ≡ before_mark 44 list) × (more ≡ after_mark 44 list) → trimmed ≡ trim operand → IsToldBy (early_meaning form trimmed) fault
     → operands_meaning statements place form so_far (map trim (parts_at 44 list)) ≡ whole → IsToldBy whole fault
 stopped statements place form so_far list operand more trimmed fault whole cut is_trimmed told is =
     let same : trimmed ≡ trim (before_mark 44 list) = is_trimmed ∙ ap trim cut.1 in

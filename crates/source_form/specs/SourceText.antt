@@ -14,7 +14,7 @@ use Rattle.semantics.specs.declared.linux.Helper.TheVariants.{KtimeGetNs, GetSmp
 use Rattle.source_form.specs.declared.fault.Problem.{Problem}
 use Rattle.source_form.specs.declared.fault.Problem.TheVariants.{LabelTwice, NoLabelName, UnknownLabel, UnknownHelper, NoNumber}
 use Rattle.source_form.specs.declared.words.Form.{Form}
-use Rattle.source_form.specs.declared.words.Form.TheVariants.{Plain, Jump, Call, Wide}
+use Rattle.source_form.specs.declared.words.Form.TheVariants.{Plain, Jump, Call, Wide, MapRow}
 use Rattle.source_form.specs.declared.fault.SourceFault.{SourceFault}
 use Rattle.source_form.specs.declared.fault.SourceFault.TheVariants.{BadLine}
 
@@ -79,12 +79,17 @@ has_text s = not (length (words_of s) == 0)
 abbrev pub is_heading : List ℕ → Bool
 is_heading word = bytes_eq word (codes "version") || bytes_eq word (codes "map")
 
--- what the last operand may be: of a jump a label, of a call a helper's name, of lddw a number of 64 bits
+-- the word begins an instruction that names a map
+abbrev pub names_map : List ℕ → Bool
+names_map word = bytes_eq word (codes "ldmap") || bytes_eq word (codes "ldval")
+
+-- what the operands may be: of a jump a label, of a call a helper's name, of lddw a number of 64 bits, of a map its number
 abbrev pub form_of : List ℕ → Form
 form_of word =
     if begins word (codes "j") then Jump
     else (if bytes_eq word (codes "call") then Call
-    else (if bytes_eq word (codes "lddw") then Wide else Plain))
+    else (if bytes_eq word (codes "lddw") then Wide
+    else (if names_map word then MapRow else Plain)))
 
 -- ---- slots and labels
 
@@ -92,7 +97,7 @@ form_of word =
 abbrev pub slots_of_word : List ℕ → ℕ
 slots_of_word word =
     if is_heading word then 0
-    else (if bytes_eq word (codes "lddw") || (bytes_eq word (codes "ldmap") || bytes_eq word (codes "ldval")) then 2 else 1)
+    else (if bytes_eq word (codes "lddw") || names_map word then 2 else 1)
 
 abbrev pub slots_of : List ℕ → ℕ
 slots_of s = if has_text s then slots_of_word (first_word (words_of s)) else 0
@@ -149,6 +154,26 @@ hex_meaning front back = if finishes front (codes "0") then signed_meaning (all_
 abbrev pub number_meaning : List ℕ → Result (List ℕ) Problem
 number_meaning operand = if has_mark 120 operand then hex_meaning (before_mark 120 operand) (after_mark 120 operand) else Ok operand
 
+-- ---- immediates
+
+-- a number that is written without a sign: in hexadecimal, or in decimal with no zero in front
+abbrev pub plain_value : List ℕ → Option ℕ
+plain_value operand =
+    if begins operand (codes "0x") then number_in 16 (drop 2 operand)
+    else (if begins operand (codes "0") then None else number_in 10 operand)
+
+-- a number of 32 bits that is too large for a signed one means the same bits: the negative number with them
+abbrev pub is_upper_word : ℕ → Bool
+is_upper_word value = nat_lt (2 ^ 31 - 1) value && nat_lt value (2 ^ 32)
+
+abbrev pub word_told : List ℕ → Option ℕ → Result (List ℕ) Problem
+word_told operand (Some value) = if is_upper_word value then Ok (codes "-" ++ decimal (2 ^ 32 - value)) else number_meaning operand
+word_told operand None = number_meaning operand
+
+-- an operand where a signed number of 32 bits may be
+abbrev pub immediate_meaning : List ℕ → Result (List ℕ) Problem
+immediate_meaning operand = word_told operand (plain_value operand)
+
 -- ---- last operands
 
 abbrev pub wide_value : List ℕ → Option ℕ
@@ -199,10 +224,19 @@ target_meaning statements place operand =
 
 -- the last operand of an instruction that is on this line
 abbrev pub last_meaning : List (List ℕ) → ℕ → Form → List ℕ → Result (List ℕ) Problem
-last_meaning statements place Plain operand = number_meaning operand
+last_meaning statements place Plain operand = immediate_meaning operand
 last_meaning statements place Jump operand = target_meaning statements place operand
 last_meaning statements place Call operand = helper_meaning operand
 last_meaning statements place Wide operand = wide_told (wide_value operand)
+last_meaning statements place MapRow operand = number_meaning operand
+
+-- one before the last: of a jump that compares, an immediate
+abbrev pub early_meaning : Form → List ℕ → Result (List ℕ) Problem
+early_meaning Plain operand = number_meaning operand
+early_meaning Jump operand = immediate_meaning operand
+early_meaning Call operand = number_meaning operand
+early_meaning Wide operand = number_meaning operand
+early_meaning MapRow operand = number_meaning operand
 
 -- what follows where there is no problem
 abbrev pub then_told : Result (List ℕ) Problem → (List ℕ → Result (List ℕ) Problem) → Result (List ℕ) Problem
@@ -214,7 +248,7 @@ unfoldable pub operands_meaning : List (List ℕ) → ℕ → Form → List ℕ 
 operands_meaning statements place form so_far [] = Ok so_far
 operands_meaning statements place form so_far (last ∷ []) = then_told (last_meaning statements place form last) (λ text. Ok (so_far ++ text))
 operands_meaning statements place form so_far (operand ∷ next ∷ more) =
-    then_told (number_meaning operand) (λ text. operands_meaning statements place form ((so_far ++ text) ++ codes ", ") (next ∷ more))
+    then_told (early_meaning form operand) (λ text. operands_meaning statements place form ((so_far ++ text) ++ codes ", ") (next ∷ more))
 
 -- a first word and its operands
 abbrev pub instruction_meaning : List (List ℕ) → ℕ → List ℕ → List ℕ → Result (List ℕ) Problem

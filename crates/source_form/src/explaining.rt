@@ -15,10 +15,17 @@ use std::alloc::{AllocError, Global};
 #[derive(Clone, Copy, Debug, PartialEq, Eq)]
 enum Kind {
     Register,
+    /// A number that is stored.
+    Immediate,
+    RegisterOrImmediate,
+    /// A helper's number, or a map's.
     Number,
-    RegisterOrNumber,
+    /// The number of a byte in a map's value.
+    Offset,
     Place,
     Target,
+    /// Of `ja32`.
+    FarTarget,
     Wide,
 }
 
@@ -27,30 +34,35 @@ enum Kind {
 fn kinds_of(word: &str) -> &'static [Kind] {
     if word == "exit" { return &[]; }
     if word == "call" { return &[Kind::Number]; }
-    if word == "ja" || word == "ja32" { return &[Kind::Target]; }
-    if word.starts_with("j") { return &[Kind::Register, Kind::RegisterOrNumber, Kind::Target]; }
+    if word == "ja" { return &[Kind::Target]; }
+    if word == "ja32" { return &[Kind::FarTarget]; }
+    if word.starts_with("j") { return &[Kind::Register, Kind::RegisterOrImmediate, Kind::Target]; }
     if word == "lddw" { return &[Kind::Register, Kind::Wide]; }
     if word == "ldmap" { return &[Kind::Register, Kind::Number]; }
-    if word == "ldval" { return &[Kind::Register, Kind::Number, Kind::Number]; }
+    if word == "ldval" { return &[Kind::Register, Kind::Number, Kind::Offset]; }
     if word.starts_with("ldx") { return &[Kind::Register, Kind::Place]; }
     if word.starts_with("stx") { return &[Kind::Place, Kind::Register]; }
-    if word.starts_with("st") { return &[Kind::Place, Kind::Number]; }
+    if word.starts_with("st") { return &[Kind::Place, Kind::Immediate]; }
     if word.starts_with("movsx") { return &[Kind::Register, Kind::Register]; }
     if word.starts_with("neg") || word.starts_with("le") || word.starts_with("be") || word.starts_with("swap") { return &[Kind::Register]; }
     if word == "add" || word == "add32" || word == "and" || word == "and32" || word == "arsh" || word == "arsh32" {
-        return &[Kind::Register, Kind::RegisterOrNumber];
+        return &[Kind::Register, Kind::RegisterOrImmediate];
     }
     if word.starts_with("a") { return &[Kind::Place, Kind::Register]; }
-    &[Kind::Register, Kind::RegisterOrNumber]
+    &[Kind::Register, Kind::RegisterOrImmediate]
 }
 
+#[rattlefmt::skip]
 fn kind_text(kind: Kind) -> &'static str {
     match kind {
         Kind::Register => "a register, r0 to r10",
-        Kind::Number => "a number of 32 bits",
-        Kind::RegisterOrNumber => "a register, r0 to r10, or a signed number of 32 bits",
+        Kind::Immediate => "a number from -2147483648 to 4294967295",
+        Kind::RegisterOrImmediate => "a register, r0 to r10, or a number from -2147483648 to 4294967295",
+        Kind::Number => "a number from -2147483648 to 2147483647",
+        Kind::Offset => "a number from 0 to 4294967295",
         Kind::Place => "a place as [r1+0] or [r10-8]",
-        Kind::Target => "a label, or a distance with its sign as +3",
+        Kind::Target => "a label, or a distance with its sign as +3, from -32768 to +32767",
+        Kind::FarTarget => "a label, or a distance with its sign as +3, from -2147483648 to +2147483647",
         Kind::Wide => "a number of 64 bits",
     }
 }
@@ -63,12 +75,21 @@ fn is_register(token: &str) -> bool {
     }
 }
 
-fn is_number(token: &str) -> bool {
-    !token.starts_with("+") && token.parse::<i64>().is_ok()
+/// Whether digits that are not needed are in front: a zero, or the sign of 0.
+fn has_idle_zero(token: &str) -> bool {
+    match token.strip_prefix("-") {
+        Some(digits) => digits.starts_with("0"),
+        None => token.starts_with("0") && token != "0",
+    }
 }
 
-fn is_distance(token: &str) -> bool {
-    (token.starts_with("+") || token.starts_with("-")) && token.parse::<i32>().is_ok()
+/// Whether it is a signed number of 32 bits without a plus.
+fn is_number(token: &str) -> bool {
+    !token.starts_with("+") && !has_idle_zero(token) && token.parse::<i32>().is_ok()
+}
+
+fn has_sign(token: &str) -> bool {
+    token.starts_with("+") || token.starts_with("-")
 }
 
 /// Whether it is a register with an offset of 16 bits behind its sign.
@@ -93,14 +114,38 @@ fn is_place(token: &str) -> bool {
     }
 }
 
+/// Whether it is a place whose offset alone is too large.
+fn is_far_place(token: &str) -> bool {
+    let Some(opened) = token.strip_prefix("[") else {
+        return false;
+    };
+    let Some(inner) = opened.strip_suffix("]") else {
+        return false;
+    };
+    let cut = match inner.split_once('+') {
+        Some(parts) => Some(parts),
+        None => inner.split_once('-'),
+    };
+    match cut {
+        Some((register, digits)) => {
+            is_register(register)
+                && !digits.is_empty()
+                && digits.bytes().all(|byte| byte.is_ascii_digit())
+        }
+        None => false,
+    }
+}
+
 /// Whether an operand of the exact text may be of this kind.
 fn is_of_kind(kind: Kind, token: &str) -> bool {
     match kind {
         Kind::Register => is_register(token),
-        Kind::Number => is_number(token),
-        Kind::RegisterOrNumber => is_register(token) || token.parse::<i32>().is_ok(),
+        Kind::Immediate | Kind::Number => is_number(token),
+        Kind::RegisterOrImmediate => is_register(token) || is_number(token),
+        Kind::Offset => !token.starts_with("+") && token.parse::<u32>().is_ok(),
         Kind::Place => is_place(token),
-        Kind::Target => is_distance(token),
+        Kind::Target => has_sign(token) && token.parse::<i16>().is_ok(),
+        Kind::FarTarget => has_sign(token) && token.parse::<i32>().is_ok(),
         Kind::Wide => token.starts_with("0x"),
     }
 }
@@ -136,6 +181,25 @@ fn no_number(alloc: Global, statement: &str) -> Result<&str, AllocError> {
     Ok(list)
 }
 
+/// What was expected in place of an operand of the exact text.
+fn expected_text(alloc: Global, word: &str, kind: Kind, token: &str) -> Result<String, AllocError> {
+    if kind == Kind::Place && is_far_place(token) {
+        return String::from_str(alloc, "an offset from -32768 to +32767");
+    }
+    if kind == Kind::Immediate && is_register(token) {
+        let size = word.strip_prefix("st").unwrap_or("");
+        return format!(in alloc; "{}: stx{size} stores a register", kind_text(kind));
+    }
+    if kind == Kind::Register && is_number(token) && word.starts_with("stx") {
+        let size = word.strip_prefix("stx").unwrap_or("");
+        return format!(in alloc; "{}: st{size} stores a number", kind_text(kind));
+    }
+    if has_idle_zero(token) {
+        return String::from_str(alloc, "a number without a zero in front");
+    }
+    String::from_str(alloc, kind_text(kind))
+}
+
 /// The first operand that is not of its kind.
 fn wrong_operand(
     alloc: Global,
@@ -148,11 +212,8 @@ fn wrong_operand(
         match (operands.get(place), exact.get(place)) {
             (Some(operand), Some(token)) => {
                 if !is_of_kind(*kind, token.trim()) {
-                    return format!(in alloc;
-                        "\"{}\": expected {}",
-                        operand.trim(),
-                        kind_text(*kind)
-                    );
+                    let expected = expected_text(alloc, word, *kind, token.trim())?;
+                    return format!(in alloc; "\"{}\": expected {expected}", operand.trim());
                 }
             }
             _ => return format!(in alloc;

@@ -1,6 +1,6 @@
 //! Which line of a source no image has, in words.
 
-use crate::labels::slots_of;
+use crate::slot_notes::line_of_slot;
 use crate::words::{first_word, words_of};
 use ebpf_decode::DecodeFault;
 use std::alloc::{AllocError, Global};
@@ -16,20 +16,6 @@ fn line_of_map(statements: &[&str], map: usize) -> usize {
                 return line;
             }
             before = before.saturating_add(1);
-        }
-    }
-    line
-}
-
-/// The line, counted from 1, of the instruction that takes a slot.
-fn line_of_slot(statements: &[&str], slot: u128) -> usize {
-    let mut line = 0usize;
-    let mut slots = 0u128;
-    'lines: for statement in statements {
-        line = line.saturating_add(1);
-        slots = slots.saturating_add(slots_of(*statement));
-        if slots > slot {
-            return line;
         }
     }
     line

@@ -8,7 +8,9 @@ ghost use Rattle.source_form.specs.Told.{IsToldBy, label_answer};
 
 use crate::fault::{LineFault, Problem};
 use crate::numbers::number_text;
-use crate::words::{begins_number, first_word, has_text, is_heading, is_name, label_of, words_of};
+use crate::words::{
+    begins_number, first_word, has_text, is_heading, is_name, label_of, names_map, words_of,
+};
 use std::alloc::{AllocError, Global};
 
 fn slots_of_word(word: &str) -> u128
@@ -18,7 +20,7 @@ fn slots_of_word(word: &str) -> u128
     if is_heading(word) {
         return 0;
     }
-    if word == "lddw" || word == "ldmap" || word == "ldval" {
+    if word == "lddw" || names_map(word) {
         2
     } else {
         1

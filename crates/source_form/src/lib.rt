@@ -2,6 +2,7 @@
 #![tactic(auto)]
 
 mod assembling;
+mod beginning;
 mod explaining;
 pub mod fault;
 mod images;
@@ -11,10 +12,13 @@ mod meaning;
 mod numbers;
 mod operands;
 mod printing;
+mod slot_notes;
 mod words;
 
 pub use assembling::assemble_source;
+pub use beginning::begins_as_source;
 pub use explaining::explain;
 pub use fault::{Problem, SourceFault};
 pub use meaning::exact_text;
 pub use printing::source;
+pub use slot_notes::slot_note;

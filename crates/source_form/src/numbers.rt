@@ -3,7 +3,7 @@
 ghost use Rattle.std.specs.Prelude.{◌≡◌, ◌++◌, Ok, IfOk, IfErr, string_bytes};
 ghost use Rattle.std.specs.Fmt.{decimal};
 ghost use Rattle.source_form.specs.SourceText.{finishes, number_in, is_sign, digits_of, bracket_of, signed_meaning, hex_meaning};
-ghost use Rattle.source_form.specs.SourceText.{number_meaning, wide_value, wide_told};
+ghost use Rattle.source_form.specs.SourceText.{number_meaning, plain_value, is_upper_word, immediate_meaning, wide_value, wide_told};
 ghost use Rattle.source_form.specs.Told.{IsToldBy};
 
 use crate::fault::{LineFault, Problem};
@@ -106,6 +106,41 @@ pub(crate) fn number_text(alloc: Global, operand: &str) -> Result<String, LineFa
     match operand.split_once('x') {
         Some((front, back)) => hex_text(alloc, front, back),
         None => Ok(String::from_str(alloc, operand)?),
+    }
+}
+
+/// A number that is written without a sign: in hexadecimal, or in decimal with no zero in front.
+fn plain_value(operand: &str) -> Option<u64>
+    ensures { result ≡ plain_value operand.now }
+{
+    if let Some(digits) = operand.strip_prefix("0x") {
+        return hex_in(digits);
+    }
+    if operand.starts_with("0") {
+        None
+    } else {
+        decimal_in(operand)
+    }
+}
+
+/// How many numbers of 32 bits there are.
+const WORDS: u64 = 0x1_0000_0000;
+
+/// Whether the number has 32 bits, and is too large for a signed number of 32 bits.
+fn is_upper_word(value: u64) -> bool
+    ensures { result ≡ is_upper_word value }
+{
+    WORDS / 2 <= value && value < WORDS
+}
+
+/// An operand where a signed number of 32 bits may be: one that is too large for that, and has 32 bits, is the negative number of the same bits.
+pub(crate) fn immediate_text(alloc: Global, operand: &str) -> Result<String, LineFault>
+    ensures ok { IfOk result (λ text. immediate_meaning operand.now ≡ Ok (string_bytes text)) }
+    ensures err { IfErr result (λ fault. IsToldBy (immediate_meaning operand.now) fault) }
+{
+    match plain_value(operand) {
+        Some(value) if is_upper_word(value) => Ok(format!(in alloc; "-{}", WORDS - value)?),
+        _ => number_text(alloc, operand),
     }
 }
 

@@ -4,13 +4,13 @@ ghost use Rattle.std.specs.Prelude.{◌≡◌, ◌≤◌, IfOk, IfErr, Ok, map, 
 ghost use Rattle.std.specs.Str.{trim};
 ghost use Rattle.std.specs.Fmt.{decimal};
 ghost use Rattle.semantics.specs.Linux.{helper_number};
-ghost use Rattle.source_form.specs.SourceText.{parts_at, helper_named, helper_told, helper_meaning, plain_name, last_meaning};
+ghost use Rattle.source_form.specs.SourceText.{parts_at, helper_named, helper_told, helper_meaning, plain_name, last_meaning, early_meaning};
 ghost use Rattle.source_form.specs.SourceText.{operands_meaning, instruction_meaning};
 ghost use Rattle.source_form.specs.Told.{IsToldBy};
 
 use crate::fault::{LineFault, Problem};
 use crate::labels::target_text;
-use crate::numbers::{number_text, wide_text};
+use crate::numbers::{immediate_text, number_text, wide_text};
 use crate::words::{Form, begins_number, form_of};
 use semantics::Helper;
 use std::alloc::{AllocError, Global};
@@ -86,10 +86,22 @@ fn last_text(
     ensures err { IfErr result (λ fault. IsToldBy (last_meaning (map (λ line. line.now) statements.now) place form operand.now) fault) }
 {
     match form {
-        Form::Plain => number_text(alloc, operand),
+        Form::Plain => immediate_text(alloc, operand),
         Form::Jump => target_text(alloc, statements, place, operand),
         Form::Call => helper_text(alloc, operand),
         Form::Wide => wide_text(alloc, operand),
+        Form::MapRow => number_text(alloc, operand),
+    }
+}
+
+/// An operand before the last one.
+fn early_text(alloc: Global, form: Form, operand: &str) -> Result<String, LineFault>
+    ensures ok { IfOk result (λ text. early_meaning form operand.now ≡ Ok (string_bytes text)) }
+    ensures err { IfErr result (λ fault. IsToldBy (early_meaning form operand.now) fault) }
+{
+    match form {
+        Form::Jump => immediate_text(alloc, operand),
+        Form::Plain | Form::Call | Form::Wide | Form::MapRow => number_text(alloc, operand),
     }
 }
 
@@ -111,7 +123,7 @@ fn operands_text(
     let mut out = so_far;
     let mut rest = list;
     'operands: while let Some((operand, more)) = rest.split_once(',') {
-        match number_text(alloc, operand.trim()) {
+        match early_text(alloc, form, operand.trim()) {
             Ok(text) => out.push_str(&text)?,
             Err(fault) => return Err(fault),
         }

@@ -3,10 +3,10 @@
 ghost use Rattle.std.specs.Prelude.{◌≡◌, ◌<◌, IfSome, IfNone, true, false, slice_index_or, length};
 ghost use Rattle.std.specs.List.{list_all};
 ghost use Rattle.source_form.specs.SourceText.{before_mark, finishes, all_but_last, statement, first_word, after_first_word};
-ghost use Rattle.source_form.specs.SourceText.{has_label, label_of, words_of, has_text, is_heading, form_of};
+ghost use Rattle.source_form.specs.SourceText.{has_label, label_of, words_of, has_text, is_heading, names_map, form_of};
 ghost use Rattle.source_form.specs.SourceText.{is_number_byte, begins_number, is_name, is_name_byte};
 
-/// What the last operand of an instruction may be.
+/// What the operands of an instruction may be, the last one above all.
 #[derive(Clone, Copy, Debug, PartialEq, Eq)]
 pub enum Form {
     /// A number, a register or a place.
@@ -17,6 +17,8 @@ pub enum Form {
     Call,
     /// A number of 64 bits.
     Wide,
+    /// The number of a map, and of a byte in its value: no immediate.
+    MapRow,
 }
 
 /// What is before the first mark, or all.
@@ -101,7 +103,14 @@ pub(crate) fn is_heading(word: &str) -> bool
     word == "version" || word == "map"
 }
 
-/// What the last operand behind this first word may be.
+/// Whether the word begins an instruction that names a map.
+pub(crate) fn names_map(word: &str) -> bool
+    ensures { result ≡ names_map word.now }
+{
+    word == "ldmap" || word == "ldval"
+}
+
+/// What the operands behind this first word may be.
 pub(crate) fn form_of(word: &str) -> Form
     ensures { result ≡ form_of word.now }
 {
@@ -112,7 +121,10 @@ pub(crate) fn form_of(word: &str) -> Form
         return Form::Call;
     }
     if word == "lddw" {
-        Form::Wide
+        return Form::Wide;
+    }
+    if names_map(word) {
+        Form::MapRow
     } else {
         Form::Plain
     }

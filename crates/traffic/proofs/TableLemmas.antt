@@ -1,15 +1,15 @@
 -- The commands of a script up to a place, and what follows.
-use Rattle.std.proofs.Common.{suc, ◌≡◌, ◌∙◌, ◌++◌, ◌+◌, ◌<◌, ◌||◌, ℕ, Bool, true, false, List, [], ◌∷◌, ap, arith, drop, length, refl, subst, sym}
+use Rattle.std.proofs.Common.{Err, None, Ok, Option, Result, Some, suc, ◌≡◌, ◌∙◌, ◌++◌, ◌+◌, ◌<◌, ℕ, List, [], ◌∷◌, ap, arith, drop, length, refl, subst, sym}
 use Rattle.std.proofs.lemmas.List.{append-nil, append_assoc}
 use Rattle.std.proofs.lemmas.List.Elements.{All-contains, All-from_recursion}
 use Rattle.conntrack.specs.SteeringMaps.{steering_maps}
 use Rattle.std.proofs.Math.Seq.{drop-length}
-use Rattle.std.proofs.Math.Bool.{or_assoc}
 use Rattle.maglev.specs.RingSize.{IsRingSize, ring_sizes}
 use Rattle.control.specs.declared.command.Command.{Command}
 use Rattle.control.specs.Controlling.{ControllerState}
 use Rattle.traffic.specs.WrittenMaps.{MapsState}
 use Rattle.maglev.specs.Population.{share_of}
+use Rattle.traffic.specs.declared.tables.Refused.{Refused}
 use Rattle.traffic.specs.TableText.{backend_line, lines_below, record_of, AreShown, AreTables, IsShown, no_backend_up, no_maps}
 
 pub some_slots : (size : ℕ) → IsRingSize size → 0 < size
@@ -17,51 +17,52 @@ some_slots size served =
     All-contains (λ n. 0 < n) ring_sizes size (All-from_recursion (λ n. 0 < n) ring_sizes (omega arith, (omega arith, (omega arith, (omega arith, tt))))) served
 
 -- whatever is shown from this place on, behind this text it is what is shown of the whole script
-abbrev pub IsShownUntil : ℕ → ℕ → List Command → ControllerState → MapsState → List ℕ → Bool → Type 0
-IsShownUntil size place commands state maps text some_refused =
-    (rest : List ℕ) (others : Bool) → AreShown place state maps (drop place commands) rest others
-    → AreTables size commands (text ++ rest) (some_refused || others)
+abbrev pub IsShownUntil : ℕ → ℕ → List Command → ControllerState → MapsState → List ℕ → List Refused → Type 0
+IsShownUntil size place commands state maps text noted =
+    (rest : List ℕ) (others : List Refused) → AreShown place state maps (drop place commands) rest others
+    → AreTables size commands (text ++ rest) (noted ++ others)
 
-pub none_shown : (size : ℕ) (commands : List Command) (state : ControllerState) (maps : MapsState) (text : List ℕ) (some_refused : Bool)
-    → state ≡ no_backend_up size → maps ≡ no_maps size → text ≡ [] → some_refused ≡ false
-    → IsShownUntil size 0 commands state maps text some_refused
-none_shown size commands state maps text some_refused first none empty whole = λ rest others shown.
-    subst (λ (t : List ℕ). AreTables size commands (t ++ rest) (some_refused || others)) (sym empty)
-    (subst (λ (b : Bool). AreTables size commands rest (b || others)) (sym whole)
+pub none_shown : (size : ℕ) (commands : List Command) (state : ControllerState) (maps : MapsState) (text : List ℕ) (noted : List Refused)
+    → state ≡ no_backend_up size → maps ≡ no_maps size → text ≡ [] → noted ≡ []
+    → IsShownUntil size 0 commands state maps text noted
+none_shown size commands state maps text noted first none empty whole = λ rest others shown.
+    subst (λ (t : List ℕ). AreTables size commands (t ++ rest) (noted ++ others)) (sym empty)
+    (subst (λ (b : List Refused). AreTables size commands rest (b ++ others)) (sym whole)
     (subst (λ (s : ControllerState). AreShown 0 s (no_maps size) commands rest others) first
     (subst (λ (s : MapsState). AreShown 0 state s commands rest others) none shown)))
 
 pub one_more : (size place place' : ℕ) (commands : List Command) (command : Command) (state state' : ControllerState) (maps maps' : MapsState)
-    (text text' first : List ℕ) (some_refused some_refused' one : Bool) → drop place commands ≡ command ∷ drop (place + 1) commands
-    → IsShownUntil size place commands state maps text some_refused → place' ≡ place → IsShown place' state maps command state' maps' first one
-    → text' ≡ text ++ first → some_refused' ≡ some_refused || one → IsShownUntil size (place + 1) commands state' maps' text' some_refused'
-one_more size place place' commands command state state' maps maps' text text' first some_refused some_refused' one next until same shown longer refused = λ rest others more.
+    (text text' first : List ℕ) (noted noted' one : List Refused) → drop place commands ≡ command ∷ drop (place + 1) commands
+    → IsShownUntil size place commands state maps text noted → place' ≡ place → IsShown place' state maps command state' maps' first one
+    → text' ≡ text ++ first → noted' ≡ noted ++ one → IsShownUntil size (place + 1) commands state' maps' text' noted'
+one_more size place place' commands command state state' maps maps' text text' first noted noted' one next until same shown longer more_noted = λ rest others more.
     let here = subst (λ (p : ℕ). IsShown p state maps command state' maps' first one) same shown in
-    let whole = until (first ++ rest) (one || others)
-    (subst (λ (c : List Command). AreShown place state maps c (first ++ rest) (one || others)) (sym next)
+    let whole = until (first ++ rest) (one ++ others)
+    (subst (λ (c : List Command). AreShown place state maps c (first ++ rest) (one ++ others)) (sym next)
     (state', maps', first, rest, one, others, here, more, refl, refl)) in
-    subst (λ (t : List ℕ). AreTables size commands t (some_refused' || others)) (sym (ap (λ (t : List ℕ). t ++ rest) longer ∙ append_assoc text first rest))
-    (subst (λ (b : Bool). AreTables size commands (text ++ (first ++ rest)) b)
-    (sym (ap (λ (b : Bool). b || others) refused ∙ or_assoc some_refused one others)) whole)
+    subst (λ (t : List ℕ). AreTables size commands t (noted' ++ others)) (sym (ap (λ (t : List ℕ). t ++ rest) longer ∙ append_assoc text first rest))
+    (subst (λ (b : List Refused). AreTables size commands (text ++ (first ++ rest)) b)
+    (sym (ap (λ (b : List Refused). b ++ others) more_noted ∙ append_assoc noted one others)) whole)
 
-or_none : (b : Bool) → (b || false) ≡ b
-or_none true = refl
-or_none false = refl
+pub all_shown : (size place : ℕ) (commands : List Command) (state : ControllerState) (maps : MapsState) (text : List ℕ) (noted : List Refused)
+    → place ≡ length commands → IsShownUntil size place commands state maps text noted → AreTables size commands text noted
+all_shown size place commands state maps text noted at until =
+    subst (λ (t : List ℕ). AreTables size commands t noted) (append-nil text)
+    (subst (λ (b : List Refused). AreTables size commands (text ++ []) b) (append-nil noted)
+    (until [] []
+    (subst (λ (c : List Command). AreShown place state maps c [] []) (sym (ap (λ (n : ℕ). drop n commands) at ∙ drop-length commands)) (refl, refl))))
 
-pub all_shown : (size place : ℕ) (commands : List Command) (state : ControllerState) (maps : MapsState) (text : List ℕ) (some_refused : Bool)
-    → place ≡ length commands → IsShownUntil size place commands state maps text some_refused → AreTables size commands text some_refused
-all_shown size place commands state maps text some_refused at until =
-    subst (λ (t : List ℕ). AreTables size commands t some_refused) (append-nil text)
-    (subst (λ (b : Bool). AreTables size commands (text ++ []) b) (or_none some_refused)
-    (until [] false
-    (subst (λ (c : List Command). AreShown place state maps c [] false) (sym (ap (λ (n : ℕ). drop n commands) at ∙ drop-length commands)) (refl, refl))))
+ok_is_no_err : {A E : Type 0} (x : A) (fault : E) → ◌≡◌ {A = Result A E} (Ok x) (Err fault) → ⊥
+ok_is_no_err x fault e = absurd cc
 
-pub none_more : (b : Bool) → b ≡ (b || false)
-none_more b = sym (or_none b)
+-- what was carried out was not refused
+pub not_refused : {A E : Type 0} (refusal : Option E) (x : A) → ((fault : E) → refusal ≡ Some fault → ◌≡◌ {A = Result A E} (Ok x) (Err fault)) → refusal ≡ None
+not_refused None x first = refl
+not_refused (Some fault) x first = absurd (ok_is_no_err x fault (first fault refl))
 
-pub one_is : (b : Bool) → true ≡ (b || true)
-one_is true = refl
-one_is false = refl
+-- a command that is not refused leaves what was noted
+pub none_noted : {now old : List Refused} → now ≡ old → now ≡ old ++ []
+none_noted {old = old} same = same ∙ sym (append-nil old)
 
 pub still_serves : (size size' maps' : ℕ) → size' ≡ size → steering_maps maps' ≡ steering_maps size → steering_maps maps' ≡ steering_maps size'
 still_serves size size' maps' same serves = serves ∙ ap steering_maps (sym same)

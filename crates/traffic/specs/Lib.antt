@@ -2,8 +2,10 @@
 pub mod Kinds
 pub mod Counting
 pub mod Moving
+pub mod LongRecords
 pub mod SummaryText
 pub mod RecordLines
+pub mod NotSent
 pub mod Holders
 pub mod WrittenMaps
 pub mod MapLaws

@@ -1,5 +1,5 @@
 -- Sent frames whose flow was sent to another address before.
-use Rattle.std.specs.Prelude.{ℕ, ◌+◌, ◌*◌, ◌==◌, not, nat_lt, Bool, false, List, [], ◌∷◌, Option, Some, None, length, reverse, slice_index}
+use Rattle.std.specs.Prelude.{ℕ, ◌+◌, ◌*◌, ◌==◌, not, nat_lt, Bool, false, List, [], ◌∷◌, ◌++◌, Option, Some, None, length, reverse, slice_index}
 use Rattle.std.specs.Prelude.{if◌then◌else◌}
 use Rattle.std.specs.Ordering.{nat_cmp}
 use Rattle.std.specs.BTreeMap.{get}
@@ -49,6 +49,14 @@ moves_until (sent ∷ older) = moves_until older + one_if (is_moved (passage_of 
 -- how many of the frames, in their order, went to another address than the last frame of their flow before them
 abbrev pub moves_in : List Sent → ℕ
 moves_in frames = moves_until (reverse frames)
+
+-- the places of those that are moved, counted from 0 from the oldest on; the frames are given the newest first
+abbrev pub moved_until : List Sent → List ℕ
+moved_until [] = []
+moved_until (sent ∷ older) = moved_until older ++ (if is_moved (passage_of sent.bytes.items) older then length older ∷ [] else [])
+
+abbrev pub moved_places : List Sent → List ℕ
+moved_places frames = moved_until (reverse frames)
 
 -- what a table has for a flow
 abbrev pub last_in : LastTargets → ℕ → Option ℕ

@@ -52,11 +52,14 @@ line_in frames kind = line_about (how_many kind frames) (phrase_of kind)
 abbrev pub lines_in : List Sent → List FrameKind → List ℕ
 lines_in frames list = flat_map (line_in frames) list
 
--- an address as four numbers with points
+-- four numbers with points between them
+abbrev pub dotted : ℕ → ℕ → ℕ → ℕ → List ℕ
+dotted first second third last =
+    decimal first ++ (codes "." ++ (decimal second ++ (codes "." ++ (decimal third ++ (codes "." ++ decimal last)))))
+
+-- an address as four numbers
 abbrev pub address_text : ℕ → List ℕ
-address_text address =
-    decimal (address / 16777216) ++ (codes "." ++ (decimal (address / 65536 % 256) ++ (codes "." ++ (decimal (address / 256 % 256)
-    ++ (codes "." ++ decimal (address % 256))))))
+address_text address = dotted (address / 16777216) (address / 65536 % 256) (address / 256 % 256) (address % 256)
 
 abbrev pub target_phrase : List ℕ → List ℕ
 target_phrase address = codes "sent to " ++ address

@@ -2,6 +2,8 @@
 use Rattle.std.specs.Prelude.{◌≡◌, ℕ, ◌==◌, ℤ, Bool, ◌||◌, not, nat_lt, bytes_eq, List, [], ◌∷◌, ◌++◌, length, set, slice_index, if◌then◌else◌}
 use Rattle.std.specs.List.{list_any}
 use Rattle.semantics.specs.LittleEndian.{number_of_bytes}
+use Rattle.conntrack.specs.SteeringMaps.{map_place}
+use Rattle.conntrack.specs.declared.steering_maps.SteeringMap.TheVariants.{Backends, Ring, Vips}
 use Rattle.control.specs.MapUpdates.{UpdateBytes}
 use Rattle.control.specs.ListOfUpdates.{answer_if}
 
@@ -38,15 +40,15 @@ keys_with keys key = if is_key_of keys key then keys else (if nat_lt (length key
 
 -- the map of services is the first one; every other map takes what it is asked
 abbrev pub answer_to : MapsState → UpdateBytes → ℤ
-answer_to state update = answer_if (not (update.map == 0) || is_key_taken state.keys update.key)
+answer_to state update = answer_if (not (update.map == map_place Vips) || is_key_taken state.keys update.key)
 
 -- the lookup table is the third map, and the backends are the fourth
 abbrev pub after_update : MapsState → UpdateBytes → MapsState
 after_update state update = record {
   size = state.size;
-  words = if update.map == 2 then put_at state.words (front_word update.key) (front_word update.value) else state.words;
-  backends = if update.map == 3 then put_at state.backends (front_word update.key) update.value else state.backends;
-  keys = if update.map == 0 then keys_with state.keys update.key else state.keys;
+  words = if update.map == map_place Ring then put_at state.words (front_word update.key) (front_word update.value) else state.words;
+  backends = if update.map == map_place Backends then put_at state.backends (front_word update.key) update.value else state.backends;
+  keys = if update.map == map_place Vips then keys_with state.keys update.key else state.keys;
 }
 
 -- the update is answered, and made

@@ -62,6 +62,16 @@ impl FrameKind {
         }
     }
 
+    /// Whether a frame of this kind has a flow: a whole datagram of TCP or UDP.
+    pub fn has_flow(self) -> bool
+        ensures { result ≡ has_flow self }
+    {
+        matches!(
+            self,
+            FrameKind::Expired | FrameKind::Large | FrameKind::Flow
+        )
+    }
+
     /// How many of the frames are of this kind.
     pub fn count_in(self, frames: &[Sent]) -> usize
         ensures { result ≡ how_many self frames.now }

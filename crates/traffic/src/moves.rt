@@ -1,8 +1,8 @@
 //! Flows that are sent to another backend than before.
 
-ghost use Rattle.std.specs.Prelude.{◌≡◌, ◌+◌, ◌^◌, ◌<◌, ◌≤◌, ℕ, None, IfOk, length};
+ghost use Rattle.std.specs.Prelude.{◌≡◌, ◌+◌, ◌^◌, ◌<◌, ◌≤◌, ◌∷◌, ◌++◌, [], ℕ, None, IfOk, OnOk, length, if◌then◌else◌};
 ghost use Rattle.traffic.specs.Counting.{address_at, one_if};
-ghost use Rattle.traffic.specs.Moving.{inner_flow, last_after, last_in, moves_by, moves_in, passage_of};
+ghost use Rattle.traffic.specs.Moving.{inner_flow, last_after, last_in, moved_places, moves_by, moves_in, passage_of};
 
 use crate::tunnels::target_of;
 use std::alloc::{AllocError, Global};
@@ -45,7 +45,7 @@ fn passage_of(frame: &[u8]) -> Option<(u128, u32)>
 }
 
 /// 1 for a frame that is counted.
-fn one_if(counted: bool) -> u64
+pub(crate) fn one_if(counted: bool) -> u64
     ensures { result ≡ one_if counted }
 {
     if counted { 1 } else { 0 }
@@ -92,4 +92,30 @@ pub fn moves_in(alloc: Global, frames: &[Sent]) -> Result<u64, AllocError>
         count += one_if(table.note(&sent.bytes)?);
     }
     Ok(count)
+}
+
+/// Appends a place, if its frame is moved.
+fn put_place(places: &mut Vec<usize>, is_moved: bool, place: usize) -> Result<(), AllocError>
+    ensures { OnOk result (places.new.items ≡ places.old.items ++ (if is_moved then place ∷ [] else [])) }
+{
+    if is_moved {
+        places.push(place)?;
+    }
+    Ok(())
+}
+
+/// The places, counted from 0, of the frames that went through a tunnel to another address than the last frame of their flow before them. It fails only
+/// for lack of memory.
+pub fn moved_places(alloc: Global, frames: &[Sent]) -> Result<Vec<usize>, AllocError>
+    ensures { IfOk result (λ places. places.items ≡ moved_places frames.now) }
+{
+    let mut table = LastTargets::none(alloc);
+    let mut places = Vec::new(alloc);
+    let mut place = 0;
+    'frames: for sent in frames {
+        let is_moved = table.note(&sent.bytes)?;
+        put_place(&mut places, is_moved, place)?;
+        place += 1;
+    }
+    Ok(places)
 }

@@ -1,7 +1,7 @@
 //! The summary of a replay's traffic, for people.
 
 ghost use Rattle.std.specs.Prelude.{◌≡◌, ◌++◌, ◌<◌, ◌^◌, IfOk, OnOk, string_bytes};
-ghost use Rattle.traffic.specs.SummaryText.{address_text, count_line, frames_word, IsSummary, IsSummaryOfSent, line_about, line_in, line_of};
+ghost use Rattle.traffic.specs.SummaryText.{address_text, count_line, dotted, frames_word, IsSummary, IsSummaryOfSent, line_about, line_in, line_of};
 ghost use Rattle.traffic.specs.SummaryText.{lines_in, phrase_of, target_phrase, targets_text};
 
 use crate::kind::FrameKind;
@@ -66,7 +66,12 @@ fn count_line(alloc: Global, count: u64, word: &str, phrase: &str) -> Result<Str
 }
 
 /// Appends the line of frames of which this is said, if there are any.
-fn put_line(alloc: Global, text: &mut String, count: u64, phrase: &str) -> Result<(), AllocError>
+pub(crate) fn put_line(
+    alloc: Global,
+    text: &mut String,
+    count: u64,
+    phrase: &str,
+) -> Result<(), AllocError>
     ensures { OnOk result (string_bytes text.new ≡ string_bytes text.old ++ line_about count phrase.now) }
 {
     if count == 0 {
@@ -102,15 +107,30 @@ fn put_kinds(
     Ok(())
 }
 
+/// Four numbers with points between them.
+pub(crate) fn dotted(
+    alloc: Global,
+    first: u32,
+    second: u32,
+    third: u32,
+    last: u32,
+) -> Result<String, AllocError>
+    ensures { IfOk result (λ text. string_bytes text ≡ dotted first second third last) }
+{
+    format!(in alloc; "{first}.{second}.{third}.{last}")
+}
+
 /// The text of an address.
 pub(crate) fn address_text(alloc: Global, address: u32) -> Result<String, AllocError>
     ensures { IfOk result (λ text. string_bytes text ≡ address_text address) }
 {
-    let first = address / 16_777_216;
-    let second = address / 65_536 % 256;
-    let third = address / 256 % 256;
-    let last = address % 256;
-    format!(in alloc; "{first}.{second}.{third}.{last}")
+    dotted(
+        alloc,
+        address / 16_777_216,
+        address / 65_536 % 256,
+        address / 256 % 256,
+        address % 256,
+    )
 }
 
 /// What is said of frames that were sent to an address.

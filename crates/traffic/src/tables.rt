@@ -1,12 +1,13 @@
 //! The lookup table after each command of a script, for people.
 
-ghost use Rattle.std.specs.Prelude.{◌≡◌, ◌++◌, ◌+◌, ◌<◌, ◌^◌, ◌||◌, ℕ, [], List, Bool, false, true, IfOk, OnOk, string_bytes};
+ghost use Rattle.std.specs.Prelude.{◌≡◌, ◌++◌, ◌+◌, ◌<◌, ◌^◌, ◌∷◌, ℕ, [], List, IfOk, OnOk, string_bytes};
 ghost use Rattle.maglev.specs.RingSize.{IsRingSize};
 ghost use Rattle.conntrack.specs.SteeringMaps.{steering_maps};
 ghost use Rattle.control.specs.FaultNumber.{control_fault_number};
-ghost use Rattle.traffic.specs.TableText.{backend_line, backend_text, byte_at, done_line, done_lines, dotted, hundredths, lines_below, percent_text, record_of, refused_line};
-ghost use Rattle.traffic.specs.TableText.{AreTables, IsShown, no_backend_up};
+ghost use Rattle.traffic.specs.TableText.{backend_line, backend_text, byte_at, done_line, done_lines, front_address, hundredths, lines_below};
+ghost use Rattle.traffic.specs.TableText.{percent_text, record_of, refused_line, AreTables, IsShown, is_some, no_backend_up};
 
+use crate::printing::dotted;
 use crate::shares::{least_moves, moved_slots, share_of};
 use crate::written_maps::WrittenMaps;
 use control::{Command, ControlFault, Controller, Script};
@@ -28,20 +29,17 @@ pub struct Refused {
 #[derive(Drop)]
 pub struct Tables {
     pub text: String,
-    /// Whether a command was refused.
-    pub is_refused: bool,
-    /// The commands that were, in their order.
+    /// The commands that were refused, in their order.
     pub refused: Vec<Refused>,
 }
 
 impl Tables {
     /// Nothing as yet.
     fn none(alloc: Global) -> Tables
-        ensures { (string_bytes result.text ≡ []) × (result.is_refused ≡ false) }
+        ensures { (string_bytes result.text ≡ []) × (result.refused.items ≡ []) }
     {
         Tables {
             text: String::new(alloc),
-            is_refused: false,
             refused: Vec::new(alloc),
         }
     }
@@ -49,7 +47,7 @@ impl Tables {
     /// Appends the lines of a command that was carried out.
     fn put(&mut self, lines: &str) -> Result<(), AllocError>
         ensures text { OnOk result (string_bytes self.new.text ≡ string_bytes self.old.text ++ lines.now) }
-        ensures is_refused { self.new.is_refused ≡ self.old.is_refused }
+        ensures refused { self.new.refused.items ≡ self.old.refused.items }
     {
         self.text.push_str(lines)
     }
@@ -57,13 +55,19 @@ impl Tables {
     /// Appends the line of one that was refused.
     fn refuse(&mut self, alloc: Global, place: usize, fault: ControlFault) -> Result<(), AllocError>
         ensures { OnOk result ((string_bytes self.new.text ≡ string_bytes self.old.text ++ refused_line place (control_fault_number fault))
-            × (self.new.is_refused ≡ true)) }
+            × (self.new.refused.items ≡ self.old.refused.items ++ record { place = place; fault = fault } ∷ [])) }
     {
         self.text
             .push_str(&refused_line(alloc, place, fault.number())?)?;
         self.refused.push(Refused { place, fault })?;
-        self.is_refused = true;
         Ok(())
+    }
+
+    /// Whether a command was refused.
+    pub fn is_refused(&self) -> bool
+        ensures { result ≡ is_some self.now.refused.items }
+    {
+        !self.refused.is_empty()
     }
 }
 
@@ -108,21 +112,23 @@ fn percent_text(alloc: Global, part: u128) -> Result<String, AllocError>
 }
 
 /// The byte at a place; 0 where there is none.
-fn byte_at(bytes: &[u8], place: usize) -> u8
+fn byte_at(bytes: &[u8], place: usize) -> u32
     ensures { result ≡ byte_at bytes.now place }
 {
-    bytes.get(place).copied().unwrap_or(0)
+    u32::from(bytes.get(place).copied().unwrap_or(0))
 }
 
-/// The text of an address, which a record begins with.
-fn dotted(alloc: Global, bytes: &[u8]) -> Result<String, AllocError>
-    ensures { IfOk result (λ text. string_bytes text ≡ dotted bytes.now) }
+/// The text of the address that a backend's record begins with.
+fn front_address(alloc: Global, bytes: &[u8]) -> Result<String, AllocError>
+    ensures { IfOk result (λ text. string_bytes text ≡ front_address bytes.now) }
 {
-    let a = byte_at(bytes, 0);
-    let b = byte_at(bytes, 1);
-    let c = byte_at(bytes, 2);
-    let d = byte_at(bytes, 3);
-    format!(in alloc; "{a}.{b}.{c}.{d}")
+    dotted(
+        alloc,
+        byte_at(bytes, 0),
+        byte_at(bytes, 1),
+        byte_at(bytes, 2),
+        byte_at(bytes, 3),
+    )
 }
 
 /// The line of a backend, from its words.
@@ -154,7 +160,7 @@ fn put_backend(
         return Ok(());
     }
     let percent = percent_text(alloc, hundredths(share, size))?;
-    let address = dotted(alloc, backend)?;
+    let address = front_address(alloc, backend)?;
     lines.push_str(&backend_text(alloc, number, address.as_str(), share, percent.as_str())?)
 }
 
@@ -215,9 +221,9 @@ fn show(
     tables: &mut Tables,
 ) -> Result<(), AllocError>
     requires { steering_maps maps.old.size ≡ steering_maps controller.old.size }
-    ensures shown { OnOk result ((first : List ℕ) × (one : Bool)
+    ensures shown { OnOk result ((first : List ℕ) × (one : List Refused)
         × IsShown place controller.old maps.old command.now controller.new maps.new first one
-        × (string_bytes tables.new.text ≡ string_bytes tables.old.text ++ first) × (tables.new.is_refused ≡ tables.old.is_refused || one)) }
+        × (string_bytes tables.new.text ≡ string_bytes tables.old.text ++ first) × (tables.new.refused.items ≡ tables.old.refused.items ++ one)) }
     ensures serves { steering_maps maps.new.size ≡ steering_maps controller.new.size }
 {
     let before = maps.words().to_vec(alloc)?;
@@ -246,7 +252,7 @@ fn opened(alloc: Global, size: u32) -> Controller
 /// so no command meets a full one (94). It fails only for lack of memory.
 pub fn tables_of(alloc: Global, script: &Script, size: u32) -> Result<Tables, AllocError>
     requires { IsRingSize size }
-    ensures { IfOk result (λ tables. AreTables size script.now (string_bytes tables.text) tables.is_refused) }
+    ensures { IfOk result (λ tables. AreTables size script.now (string_bytes tables.text) tables.refused.items) }
 {
     let mut controller = opened(alloc, size);
     let mut maps = WrittenMaps::open(alloc, size)?;

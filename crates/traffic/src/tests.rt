@@ -1,8 +1,11 @@
 //! Kinds of frames, the summary of a capture of them and of what was sent, and lookup tables.
 
+mod long_records;
+
+use crate::shares::{least_moves, moved_slots, share_of};
 use crate::{
-    Backends, FrameKind, LineVerdict, RecordLine, ReportForm, case_word, least_moves, moved_slots,
-    share_of, summary, tables_of,
+    Backends, FrameKind, LineVerdict, RecordLine, ReportForm, case_word, moved_places, services,
+    summary, tables_of,
 };
 use control::parse_script;
 use std::alloc::{AllocError, Global};
@@ -269,7 +272,7 @@ fn tables_have_shares_and_moves(rt: HostRuntime) {
     let tables = tables_of(alloc, &script, 7).expect(&rt, "tables");
     let text = tables.text.as_str();
     assert!(&rt; text == TABLES, "{text}");
-    assert!(&rt; tables.is_refused, "refused");
+    assert!(&rt; tables.is_refused(), "refused");
     assert!(&rt; tables.refused.len() == 1, "one");
 }
 
@@ -291,4 +294,49 @@ fn least_moves_are_what_shares_gain(rt: HostRuntime) {
         assert!(&rt; least_moves(old, new) == *least, "{name}");
     }
     assert!(&rt; share_of(2, &[2, 1, 2, 0]) == 2, "share");
+}
+
+/// Two services; a frame is for the first one.
+const SERVICES: &str = "0 vip 203.0.113.1 80 udp\n0 vip 203.0.113.1 80 tcp notrack\n";
+
+/// What is printed of a frame that is sent, one that is too large, one without a backend, and one that is passed.
+const REASONS: &str = "4 frames for 203.0.113.1 port 80 udp
+1 frame passed, for no service
+1 frame dropped, in packets of more than 1480 bytes
+1 frame dropped, without a tunnel or a backend that is up
+";
+
+#[test]
+fn frames_of_services_and_why_they_were_not_sent(rt: HostRuntime) {
+    let alloc = rt.alloc();
+    let script = parse_script(alloc, SERVICES.as_bytes()).expect(&rt, "a script");
+    let mut frames = Vec::new(alloc);
+    for total in [28, 1481, 1480, 30] {
+        frames
+            .push(datagram(alloc, total).expect(&rt, "a frame"))
+            .expect(&rt, "room");
+    }
+    let verdicts = [
+        LineVerdict::Tx,
+        LineVerdict::Drop,
+        LineVerdict::Drop,
+        LineVerdict::Pass,
+    ];
+    let text = services(alloc, &frames, &script, &verdicts).expect(&rt, "text");
+    let text = text.as_str();
+    assert!(&rt; text == REASONS, "{text}");
+}
+
+#[test]
+fn frames_that_moved_have_their_places(rt: HostRuntime) {
+    let alloc = rt.alloc();
+    let mut sent = Vec::new(alloc);
+    for (port, backend) in [(1, 1), (2, 1), (1, 2), (1, 1), (3, 1)] {
+        sent.push(tunnelled(alloc, port, backend).expect(&rt, "a frame"))
+            .expect(&rt, "room");
+    }
+    let places = moved_places(alloc, &sent).expect(&rt, "places");
+    assert!(&rt; places.len() == 2, "how many");
+    assert!(&rt; places[0] == 2, "the first one");
+    assert!(&rt; places[1] == 3, "the second one");
 }

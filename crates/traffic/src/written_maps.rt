@@ -5,6 +5,7 @@ ghost use Rattle.conntrack.specs.SteeringMaps.{steering_maps};
 ghost use Rattle.control.specs.ListOfUpdates.{answer_if};
 ghost use Rattle.traffic.specs.WrittenMaps.{MapsState, after_update, answer_to, front_word, is_key_of, is_key_taken, keys_with, put_at};
 
+use conntrack::SteeringMap;
 use control::UpdatePort;
 use semantics::{Errno, JournalFull, Key, Value};
 use std::alloc::{AllocError, Global};
@@ -17,9 +18,9 @@ const MOST_SERVICES: usize = 64;
 const BACKENDS: usize = 256;
 
 /// New maps of steering for a lookup table of a size, as a controller writes them: the table's words, the backends' records, and the services' keys. They
-/// answer as those of a replay do, but for full journals. Contracts see these parts.
+/// answer as those of a replay do, except that no journal is ever full. Contracts see these parts.
 #[derive(Debug, Drop)]
-pub struct WrittenMaps {
+pub(crate) struct WrittenMaps {
     size: u32,
     words: Vec<u32>,
     backends: Vec<Value>,
@@ -63,7 +64,7 @@ fn front_word(bytes: &[u8]) -> u32
 
 impl WrittenMaps {
     /// The maps before the first update.
-    pub fn open(alloc: Global, size: u32) -> Result<WrittenMaps, AllocError>
+    pub(crate) fn open(alloc: Global, size: u32) -> Result<WrittenMaps, AllocError>
         requires { 0 < size }
         ensures { IfOk result (λ maps. maps ≡ record { size = size; words = replicate size 0; backends = replicate 256 []; keys = [] }) }
     {
@@ -79,7 +80,7 @@ impl WrittenMaps {
     }
 
     /// How many slots the lookup table has.
-    pub fn size(&self) -> u32
+    pub(crate) fn size(&self) -> u32
         ensures size { result ≡ self.now.size }
         ensures positive { 0 < result }
     {
@@ -87,20 +88,20 @@ impl WrittenMaps {
     }
 
     /// The word of each slot of the lookup table: its owner's number and one, or 0.
-    pub fn words(&self) -> &[u32]
+    pub(crate) fn words(&self) -> &[u32]
         ensures { result.now ≡ self.now.words }
     {
         &self.words
     }
 
     /// The record of each backend, by its number.
-    pub fn backends(&self) -> &[Value]
+    pub(crate) fn backends(&self) -> &[Value]
         ensures { result.now ≡ self.now.backends }
     {
         &self.backends
     }
 
-    /// Keeps a service, and tells whether there was room for it.
+    /// Keeps a service; false where there was no room for it.
     fn put_key(&mut self, key: &Key) -> bool
         ensures taken { result ≡ is_key_taken self.old.keys key.now }
         ensures kept { self.new ≡ record (self.old) { keys = keys_with self.old.keys key.now } }
@@ -154,13 +155,13 @@ impl UpdatePort for WrittenMaps {
     ghost arrays_answer = { λ before after update answer stands answered. arrays_take before after update answer stands answered };
 
     fn update(&mut self, map: u32, key: &Key, value: &Value) -> Result<i32, JournalFull> {
-        if map == 0 {
+        if map == SteeringMap::Vips.place() {
             return Ok(answer_if(self.put_key(key)));
         }
         let place = front_word(key.as_slice());
-        if map == 2 {
+        if map == SteeringMap::Ring.place() {
             self.put_word(place, front_word(value.as_slice()));
-        } else if map == 3 {
+        } else if map == SteeringMap::Backends.place() {
             self.put_backend(place, value);
         }
         Ok(0)

@@ -1,5 +1,5 @@
 -- What a refusal by a later call says of the files as they stood before the earlier ones.
-use Rattle.std.proofs.Common.{◌≡◌, ℕ, List, Option, Some, None, arith, refl, subst}
+use Rattle.std.proofs.Common.{◌≡◌, ℕ, Bool, List, Option, Some, None, arith, refl, subst}
 use Rattle.journals.specs.JournalsView.{JournalsView}
 use Rattle.journals.specs.JournalText.{journals_text}
 use Rattle.xlb_commands.specs.declared.fault.Fault.{Fault}
@@ -48,11 +48,11 @@ script_refusal_before before after failed since (Some name) fault kept so (no_sc
 script_refusal_before before after failed since (Some name) fault kept so (no_script bytes why read explains is) =
     no_script bytes why ((kept name bytes).1 read) explains is
 
-pub capture_refusal_before : (before after : FileBytes) (failed since : Type 0) (name : List ℕ) (fault : Fault) → AreKept before after → (failed → since)
-    → IsCaptureRefusal after failed name fault → IsCaptureRefusal before since name fault
-capture_refusal_before before after failed since name fault kept so (no_capture_bytes unserved) =
+pub capture_refusal_before : (before after : FileBytes) (failed since : Type 0) (skip_long : Bool) (name : List ℕ) (fault : Fault) → AreKept before after → (failed → since)
+    → IsCaptureRefusal after failed skip_long name fault → IsCaptureRefusal before since skip_long name fault
+capture_refusal_before before after failed since skip_long name fault kept so (no_capture_bytes unserved) =
     no_capture_bytes (unserved_since failed since fault so unserved)
-capture_refusal_before before after failed since name fault kept so (no_capture bytes read is) = no_capture bytes ((kept name bytes).1 read) is
+capture_refusal_before before after failed since skip_long name fault kept so (no_capture bytes read is) = no_capture bytes ((kept name bytes).1 read) is
 
 -- where a file is named for the journals, it has their text
 pub written_down : (files : FileBytes) (name : Option (List ℕ)) (bytes : List ℕ) (journals : JournalsView)

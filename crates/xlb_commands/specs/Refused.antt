@@ -1,7 +1,7 @@
 -- Which fault a command is refused with: the first of what it reads and does, in that order. `failed` stands for: the device of the files
 -- failed, once, in the command's last use of it.
-use Rattle.std.specs.Prelude.{◌≡◌, ◌≢◌, ◌↔◌, ◌≤◌, ◌<◌, ◌+◌, ◌^◌, ◌⊎◌, ℕ, ℤ, List, [], Option, Some, None, true, false, IsTrue, IsFalse, IsUtf8}
-use Rattle.std.specs.Prelude.{codes, length, String, string_bytes}
+use Rattle.std.specs.Prelude.{◌≡◌, ◌≢◌, ◌↔◌, ◌≤◌, ◌<◌, ◌+◌, ◌^◌, ◌⊎◌, ℕ, ℤ, Bool, List, [], Option, Some, None, true, false, IsTrue, IsFalse, IsUtf8}
+use Rattle.std.specs.Prelude.{codes, length, take, String, string_bytes}
 use Rattle.std.specs.Io.KnownBytes.{append_known}
 use Rattle.text_lines.specs.NoText.{IsNoText}
 use Rattle.folders.specs.declared.folder.FolderFault.TheVariants as folder
@@ -28,6 +28,7 @@ use Rattle.audit.specs.Audited.{Explains as ExplainsJournals}
 use Rattle.journals.specs.LegalJournals.{AreLegal}
 use Rattle.disasm.specs.AssemblyText.{IsAssemblyText}
 use Rattle.source_form.specs.SourceImage.{IsSource}
+use Rattle.source_form.specs.SourceBeginning.{begins_as_source}
 use Rattle.faults.specs.Refusals.{IsRefusalText}
 use Rattle.ebpf_decode.specs.declared.map.MapDef.{MapDef}
 use Rattle.wire.specs.FrameView.{FrameView}
@@ -64,10 +65,10 @@ use Rattle.command_line.specs.declared.commands.Settings.{Settings}
 use Rattle.command_line.specs.declared.commands.Settings.TheVariants.{Check, Run, Disasm, Audit, Explain, Asm, Shipped, Replay, Table}
 use Rattle.xlb_commands.specs.declared.fault.Fault.{Fault}
 use Rattle.xlb_commands.specs.declared.fault.Fault.TheVariants as faults
-use Rattle.xlb_commands.specs.Files.{FileBytes, AreKept, AreOthersKept, IsImageFile}
+use Rattle.xlb_commands.specs.Files.{FileBytes, AreKept, AreOthersKept, IsImageFile, IsJudged}
 use Rattle.xlb_commands.specs.Clashes.{IsOver, clash_text}
 use Rattle.xlb_commands.specs.FaultLines.{fault_line, mistake_text}
-use Rattle.xlb_commands.specs.Replays.{IsProgramOf, IsScriptFile, IsScriptOf, IsCaptureOf, program_of_replay}
+use Rattle.xlb_commands.specs.Replays.{AreWritten, IsProgramOf, IsScriptFile, IsScriptOf, IsCaptureOf, AreCaptureBytes, program_of_replay}
 use Rattle.xlb_commands.specs.Results.{IsDone, IsDoneInPart, IsReported, IsMistake, Stream, run_options, program_of_run, start_of_run}
 
 -- ---- files
@@ -88,17 +89,17 @@ pub record IsDecodeRefusal (bytes : List ℕ) (why : DecodeFault) : Type 0 where
   pub first : why ≢ decode.Memory → first_decode_fault bytes ≡ Some why
   pub asked : why ≡ decode.Memory → IsTrue (may_ask_memory bytes)
 
+-- the bytes are no image, and the fault is that of the first that is wrong
+pub record IsNoImage (bytes : List ℕ) (fault : Fault) : Type 0 where
+  pub why : DecodeFault
+  pub refusal : IsDecodeRefusal bytes why
+  pub is : fault ≡ faults.Decode why
+
 -- the file was not read, or its bytes are no image
 pub data IsImageRefusal (files : FileBytes) (failed : Type 0) (name : List ℕ) (fault : Fault) : Type 0 where
   no_image_bytes : IsUnserved failed fault → IsImageRefusal files failed name fault
   no_image : (bytes : List ℕ) (why : DecodeFault) → files name bytes → IsDecodeRefusal bytes why → fault ≡ faults.Decode why
       → IsImageRefusal files failed name fault
-
--- the file is an image, which may run
-pub record IsProgramFile (files : FileBytes) (name : List ℕ) : Type 0 where
-  pub image : Contents
-  pub file : IsImageFile files name image
-  pub safe : IsSafeImage image.maps image.code
 
 -- no image was read, or it breaks a rule: its first reject
 pub data IsProgramRefusal (files : FileBytes) (failed : Type 0) (name : List ℕ) (fault : Fault) : Type 0 where
@@ -106,22 +107,10 @@ pub data IsProgramRefusal (files : FileBytes) (failed : Type 0) (name : List ℕ
   rejected : (image : Contents) (why : Reject) → IsImageFile files name image → IsFirstReject image.version image.maps image.code why
       → fault ≡ faults.Program why → IsProgramRefusal files failed name fault
 
--- xlb check: no program that may run, or it is one, and memory was refused for the line
-pub data IsCheckRefusal (files : FileBytes) (failed : Type 0) (name : List ℕ) (fault : Fault) : Type 0 where
-  not_accepted : IsProgramRefusal files failed name fault → IsCheckRefusal files failed name fault
-  no_line : IsProgramFile files name → fault ≡ faults.Memory → IsCheckRefusal files failed name fault
-
 -- what prints an image, or explains it: no image, or it is one, and memory was refused for the text
 pub data IsTextRefusal (files : FileBytes) (failed : Type 0) (name : List ℕ) (fault : Fault) : Type 0 where
   none_to_tell : IsImageRefusal files failed name fault → IsTextRefusal files failed name fault
   no_text : (image : Contents) → IsImageFile files name image → fault ≡ faults.Memory → IsTextRefusal files failed name fault
-
--- xlb check --explain: no image; or it is one, and memory was refused for the text, or it breaks a rule: its first reject
-pub data IsExplainRefusal (files : FileBytes) (failed : Type 0) (name : List ℕ) (fault : Fault) : Type 0 where
-  none_to_explain : IsImageRefusal files failed name fault → IsExplainRefusal files failed name fault
-  no_explanation : (image : Contents) → IsImageFile files name image → fault ≡ faults.Memory → IsExplainRefusal files failed name fault
-  explained : (image : Contents) (why : Reject) → IsImageFile files name image → IsFirstReject image.version image.maps image.code why
-      → fault ≡ faults.Program why → IsExplainRefusal files failed name fault
 
 -- ---- frames
 
@@ -140,6 +129,11 @@ pub data IsSpellingRefusal (bytes : List ℕ) (why : AsmFault) : Type 0 where
   no_utf8 : (line : ℕ) → IsNoText bytes line → why ≡ texts.BadLine line → IsSpellingRefusal bytes why
   misspelled : IsUtf8 bytes → ExplainsText bytes why → IsSpellingRefusal bytes why
 
+-- why bytes mean no image in the source form: the line of what is no text, or where all is text its fault
+pub data IsNoSource (bytes : List ℕ) (fault : Fault) : Type 0 where
+  no_utf8_source : (line : ℕ) → IsNoText bytes line → fault ≡ faults.Text (texts.BadLine line) → IsNoSource bytes fault
+  no_meaning : (why : SourceFault) → IsUtf8 bytes → ExplainsSource bytes why → fault ≡ faults.Source why → IsNoSource bytes fault
+
 -- a file was not written: memory was refused for its bytes or for what is printed, or it could not be written
 pub data IsUnwritten (failed : Type 0) (fault : Fault) : Type 0 where
   not_written : IsUnserved failed fault → IsUnwritten failed fault
@@ -156,12 +150,38 @@ pub data IsAsmRefusal (files after : FileBytes) (failed : Type 0) (name : List �
 -- xlb asm --source: the same of the source form
 pub data IsSourceRefusal (files after : FileBytes) (failed : Type 0) (name : List ℕ) (fault : Fault) : Type 0 where
   no_source_bytes : AreKept files after → IsUnserved failed fault → IsSourceRefusal files after failed name fault
-  no_utf8_source : (bytes : List ℕ) (line : ℕ) → AreKept files after → files name bytes → IsNoText bytes line → fault ≡ faults.Text (texts.BadLine line)
-      → IsSourceRefusal files after failed name fault
-  no_meaning : (bytes : List ℕ) (why : SourceFault) → AreKept files after → files name bytes → IsUtf8 bytes → ExplainsSource bytes why
-      → fault ≡ faults.Source why → IsSourceRefusal files after failed name fault
+  no_source : (bytes : List ℕ) → AreKept files after → files name bytes → IsNoSource bytes fault → IsSourceRefusal files after failed name fault
   no_source_image_file : (bytes : List ℕ) (image : Contents) → files name bytes → IsSource bytes image → IsUnwritten failed fault
       → IsSourceRefusal files after failed name fault
+
+-- ---- programs that are judged
+
+-- the first bytes of the file, as many as are read of an image, begin as a source does, or do not
+pub record BeginsAs (files : FileBytes) (name : List ℕ) (is_source : Bool) : Type 0 where
+  pub bytes : List ℕ
+  pub read : files name bytes
+  pub begins : begins_as_source (take 33048 bytes) ≡ is_source
+
+-- what is to be judged was not read; or the file does not begin as a source, and is no image; or it does, and means none
+pub data IsNotJudged (files : FileBytes) (failed : Type 0) (name : List ℕ) (fault : Fault) : Type 0 where
+  no_judged_bytes : IsUnserved failed fault → IsNotJudged files failed name fault
+  no_judged_image : (bytes : List ℕ) → files name bytes → begins_as_source (take 33048 bytes) ≡ false → IsNoImage bytes fault
+      → IsNotJudged files failed name fault
+  no_judged_source : (bytes : List ℕ) → BeginsAs files name true → files name bytes → IsNoSource bytes fault → IsNotJudged files failed name fault
+
+-- xlb check: nothing to judge; or an image that breaks a rule: its first reject; or one that may run, and memory was refused for the line
+pub data IsCheckRefusal (files : FileBytes) (failed : Type 0) (name : List ℕ) (fault : Fault) : Type 0 where
+  not_judged : IsNotJudged files failed name fault → IsCheckRefusal files failed name fault
+  not_accepted : (image : Contents) (why : Reject) → IsJudged files name image → IsFirstReject image.version image.maps image.code why
+      → fault ≡ faults.Program why → IsCheckRefusal files failed name fault
+  no_line : (image : Contents) → IsJudged files name image → IsSafeImage image.maps image.code → fault ≡ faults.Memory → IsCheckRefusal files failed name fault
+
+-- xlb check --explain: nothing to judge; or an image for which memory was refused for the text, or which breaks a rule: its first reject
+pub data IsExplainRefusal (files : FileBytes) (failed : Type 0) (name : List ℕ) (fault : Fault) : Type 0 where
+  none_to_explain : IsNotJudged files failed name fault → IsExplainRefusal files failed name fault
+  no_explanation : (image : Contents) → IsJudged files name image → fault ≡ faults.Memory → IsExplainRefusal files failed name fault
+  explained : (image : Contents) (why : Reject) → IsJudged files name image → IsFirstReject image.version image.maps image.code why
+      → fault ≡ faults.Program why → IsExplainRefusal files failed name fault
 
 -- ---- journals
 
@@ -190,7 +210,7 @@ pub data LacksRoom (journals : Option (List ℕ)) (fault : Fault) : Type 0 where
   no_report_room : fault ≡ faults.Memory → LacksRoom journals fault
   no_journal_room : (name : List ℕ) → journals ≡ Some name → fault ≡ faults.Journals journal_faults.Memory → LacksRoom journals fault
 
--- a file is named for the journals, and was not written
+-- a file is named for the journals, or for another thing that is written where one is named, and was not written
 pub record AreUnwritten (journals : Option (List ℕ)) (failed : Type 0) (fault : Fault) : Type 0 where
   pub name : List ℕ
   pub named : journals ≡ Some name
@@ -305,48 +325,60 @@ pub data IsNoCapture (bytes : List ℕ) (fault : Fault) : Type 0 where
   too_large : 2 ^ 40 < length bytes → fault ≡ faults.Memory → IsNoCapture bytes fault
   no_records : (why : CaptureFault) → RefusesCapture bytes why → fault ≡ faults.Capture why → IsNoCapture bytes fault
 
+-- what of the bytes is read is no capture; or memory was refused for the bytes without the long records
+pub data IsNoCaptureIn (skip_long : Bool) (bytes : List ℕ) (fault : Fault) : Type 0 where
+  left_refused : (left : List ℕ) → AreCaptureBytes skip_long bytes left → IsNoCapture left fault → IsNoCaptureIn skip_long bytes fault
+  none_left : IsTrue skip_long → fault ≡ faults.Memory → IsNoCaptureIn skip_long bytes fault
+
 -- the file was not read, or its bytes are no capture
-pub data IsCaptureRefusal (files : FileBytes) (failed : Type 0) (name : List ℕ) (fault : Fault) : Type 0 where
-  no_capture_bytes : IsUnserved failed fault → IsCaptureRefusal files failed name fault
-  no_capture : (bytes : List ℕ) → files name bytes → IsNoCapture bytes fault → IsCaptureRefusal files failed name fault
+pub data IsCaptureRefusal (files : FileBytes) (failed : Type 0) (skip_long : Bool) (name : List ℕ) (fault : Fault) : Type 0 where
+  no_capture_bytes : IsUnserved failed fault → IsCaptureRefusal files failed skip_long name fault
+  no_capture : (bytes : List ℕ) → files name bytes → IsNoCaptureIn skip_long bytes fault → IsCaptureRefusal files failed skip_long name fault
 
 -- what a replay reads: a program that may run, a script and a capture
-pub record AreReplayInputs (files : FileBytes) (names : ReplayFiles) (ring : ℕ) (program : Contents) (script : List Command) (records : List Sent) :
-    Type 0 where
+pub record AreReplayInputs (files : FileBytes) (names : ReplayFiles) (ring : ℕ) (skip_long : Bool) (program : Contents) (script : List Command)
+    (records : List Sent) : Type 0 where
   pub program_is : IsReplayProgram files (text_of names.image) ring program
   pub script_is : IsScriptOf files (text_of names.script) script
-  pub capture_is : IsCaptureOf files names.capture.now records
+  pub capture_is : IsCaptureOf files skip_long names.capture.now records
 
 -- why the replay was given up: for its options exactly where no shards are opened with them, or the script has commands and the maps are not those of
 -- steering; else memory was refused, or a thread could not be started
 abbrev pub IsGivenUp : List MapDef → List Command → Options → ReplayFault → Type 0
 IsGivenUp maps script options why = (why ≡ replays.BadOptions) ↔ (IsFalse (are_served_options maps options) ⊎ HasNoTable maps script)
 
--- The files of a replay were not written: that of the sent frames, and no other file changed; or that of the journals, and the sent frames are in theirs.
-pub data AreUnfiled (before after : FileBytes) (failed : Type 0) (names : ReplayFiles) (sent : List ℕ) (fault : Fault) : Type 0 where
-  no_sent_file : AreOthersKept before after names.sent.now → IsUnserved failed fault → AreUnfiled before after failed names sent fault
+-- The files of a replay were not written: that of the sent frames, and no other file changed; or that of the journals, and the sent frames are in theirs;
+-- or that of the report, and the sent frames and the journals are in theirs.
+pub data AreUnfiled (before after : FileBytes) (failed : Type 0) (names : ReplayFiles) (sent : List ℕ) (journals : JournalsView) (fault : Fault) :
+    Type 0 where
+  no_sent_file : AreOthersKept before after names.sent.now → IsUnserved failed fault → AreUnfiled before after failed names sent journals fault
   no_journals_file : (text_of names.journals ≢ Some names.sent.now → after names.sent.now sent) → AreUnwritten (text_of names.journals) failed fault
-      → AreUnfiled before after failed names sent fault
+      → AreUnfiled before after failed names sent journals fault
+  no_report_file : (text_of names.journals ≢ Some names.sent.now → text_of names.report ≢ Some names.sent.now → after names.sent.now sent)
+      → (text_of names.report ≢ text_of names.journals → AreWritten after (text_of names.journals) journals)
+      → AreUnwritten (text_of names.report) failed fault → AreUnfiled before after failed names sent journals fault
 
 -- xlb replay: no program that may run; no script; no capture; a replay that was given up; one that was made, and memory was refused for its sent frames,
--- its journals or its report; until then no file changed; or its files were not written
-pub data IsReplayRefusal (files after : FileBytes) (failed : Type 0) (names : ReplayFiles) (options : Options) (ring : ℕ) (fault : Fault) : Type 0 where
+-- its journals, its report or what is printed; until then no file changed; or its files were not written
+pub data IsReplayRefusal (files after : FileBytes) (failed : Type 0) (names : ReplayFiles) (options : Options) (ring : ℕ) (skip_long : Bool)
+    (fault : Fault) : Type 0 where
   no_replay_program : AreKept files after → IsReplayProgramRefusal files failed (text_of names.image) ring fault
-      → IsReplayRefusal files after failed names options ring fault
+      → IsReplayRefusal files after failed names options ring skip_long fault
   no_replay_script : (program : Contents) → AreKept files after → IsReplayProgram files (text_of names.image) ring program
-      → IsScriptRefusal files failed (text_of names.script) fault → IsReplayRefusal files after failed names options ring fault
+      → IsScriptRefusal files failed (text_of names.script) fault → IsReplayRefusal files after failed names options ring skip_long fault
   no_replay_capture : (program : Contents) (script : List Command) → AreKept files after → IsReplayProgram files (text_of names.image) ring program
-      → IsScriptOf files (text_of names.script) script → IsCaptureRefusal files failed names.capture.now fault
-      → IsReplayRefusal files after failed names options ring fault
+      → IsScriptOf files (text_of names.script) script → IsCaptureRefusal files failed skip_long names.capture.now fault
+      → IsReplayRefusal files after failed names options ring skip_long fault
   given_up : (program : Contents) (script : List Command) (records : List Sent) (why : ReplayFault) → AreKept files after
-      → AreReplayInputs files names ring program script records → IsGivenUp program.maps script options why → fault ≡ faults.Replay why
-      → IsReplayRefusal files after failed names options ring fault
+      → AreReplayInputs files names ring skip_long program script records → IsGivenUp program.maps script options why → fault ≡ faults.Replay why
+      → IsReplayRefusal files after failed names options ring skip_long fault
   not_reported : (program : Contents) (script : List Command) (records : List Sent) (outcome : Outcome) → AreKept files after
-      → AreReplayInputs files names ring program script records → IsAccounted (program_of_replay program options) script options records outcome
-      → LacksRoom (text_of names.journals) fault → IsReplayRefusal files after failed names options ring fault
+      → AreReplayInputs files names ring skip_long program script records → IsAccounted (program_of_replay program options) script options records outcome
+      → LacksRoom (text_of names.journals) fault → IsReplayRefusal files after failed names options ring skip_long fault
   not_written_down : (program : Contents) (script : List Command) (records : List Sent) (outcome : Outcome)
-      → AreReplayInputs files names ring program script records → IsAccounted (program_of_replay program options) script options records outcome
-      → AreUnfiled files after failed names (capture_bytes outcome.sent.items) fault → IsReplayRefusal files after failed names options ring fault
+      → AreReplayInputs files names ring skip_long program script records → IsAccounted (program_of_replay program options) script options records outcome
+      → AreUnfiled files after failed names (capture_bytes outcome.sent.items) outcome.journals fault
+      → IsReplayRefusal files after failed names options ring skip_long fault
 
 -- ---- commands
 
@@ -362,7 +394,7 @@ IsRefusedWith before after failed (Asm text out false) fault = IsAsmRefusal befo
 IsRefusedWith before after failed (Asm text out true) fault = IsSourceRefusal before after failed text.now fault
 IsRefusedWith before after failed (Shipped out ring) fault = IsShippedFileRefusal before after failed ring fault
 IsRefusedWith before after failed (Table script ring) fault = IsTableRefusal before failed script.now ring fault
-IsRefusedWith before after failed (Replay files options ring exact summary) fault = IsReplayRefusal before after failed files options ring fault
+IsRefusedWith before after failed (Replay files options ring exact summary skip_long) fault = IsReplayRefusal before after failed files options ring skip_long fault
 
 -- the fault that is told: the command was refused with it; or it was done, and what it prints could not be printed
 pub data IsToldFault (before after : FileBytes) (failed unprinted : Type 0) (settings : Settings) (fault : Fault) : Type 0 where

@@ -1,5 +1,5 @@
 -- What it means that a replay is done: the files that it read and wrote, and its report.
-use Rattle.std.specs.Prelude.{◌≡◌, ◌≢◌, ◌+◌, ◌++◌, ◌∷◌, ℕ, List, [], Option, Some, None, codes, decimal, length}
+use Rattle.std.specs.Prelude.{◌≡◌, ◌≢◌, ◌+◌, ◌++◌, ◌∷◌, ℕ, Bool, true, false, List, [], Option, Some, None, codes, decimal, length}
 use Rattle.std.specs.List.{flat_map}
 use Rattle.ebpf_decode.specs.ImageContents.{Contents}
 use Rattle.semantics.specs.Safety.{IsSafeImage}
@@ -28,9 +28,12 @@ use Rattle.guarantees.specs.Headline.{Headline}
 use Rattle.guarantees.specs.ReaderReplays.{all_sent_at_opening}
 use Rattle.steered_replays.specs.SteeredRuns.{IsSteeredReplay}
 use Rattle.steered_replays.specs.Totals.{AreTotals}
+use Rattle.traffic.specs.LongRecords.{IsShortened}
+use Rattle.traffic.specs.declared.long_records.ShortenedCapture.{ShortenedCapture}
 use Rattle.command_line.specs.declared.commands.ReplayFiles.{ReplayFiles}
 use Rattle.command_line.specs.Reading.{text_of}
 use Rattle.xlb_commands.specs.Files.{FileBytes, IsImageFile}
+use Rattle.xlb_commands.specs.RecordReports.{IsReportFile}
 
 -- ---- what is read
 
@@ -50,11 +53,28 @@ abbrev pub IsScriptOf : FileBytes → Option (List ℕ) → List Command → Typ
 IsScriptOf files (Some name) script = IsScriptFile files name script
 IsScriptOf files None script = IsScriptText [] script
 
--- the file is a capture of these records
-pub record IsCaptureOf (files : FileBytes) (name : List ℕ) (records : List Sent) : Type 0 where
+-- the bytes of the file without its records of more than 2048 bytes
+pub record AreWithoutLong (bytes left : List ℕ) : Type 0 where
+  pub shortened : ShortenedCapture
+  pub is : IsShortened bytes shortened
+  pub left_are : shortened.bytes.items ≡ left
+
+-- what of the file's bytes is read as a capture: all of them, or if long records are skipped those without them
+abbrev pub AreCaptureBytes : Bool → List ℕ → List ℕ → Type 0
+AreCaptureBytes false bytes left = bytes ≡ left
+AreCaptureBytes true bytes left = AreWithoutLong bytes left
+
+-- the bytes are a capture of these records, besides those that are skipped
+pub record IsCaptureIn (skip_long : Bool) (bytes : List ℕ) (records : List Sent) : Type 0 where
+  pub left : List ℕ
+  pub left_are : AreCaptureBytes skip_long bytes left
+  pub spelled : IsCaptureFile left records
+
+-- the file is a capture of these records, besides those that are skipped
+pub record IsCaptureOf (files : FileBytes) (skip_long : Bool) (name : List ℕ) (records : List Sent) : Type 0 where
   pub bytes : List ℕ
   pub read : files name bytes
-  pub spelled : IsCaptureFile bytes records
+  pub spelled : IsCaptureIn skip_long bytes records
 
 -- ---- what is written
 
@@ -139,10 +159,11 @@ pub record KeepsHeadline (image : Contents) (script : List Command) (options : O
   pub kept : Headline verified script options records outcome
 
 -- The program may run; script and capture are read from their files; the replay accounts for every record, every command and every entry
--- of the journals; the headline holds of it; the shipped program follows the steering rule; one that only reads sends the same for every number of workers; the sent frames and the journals are written to their files; and what is
--- printed are the counts, and the commands that were refused.
-pub record IsReplayed (before after : FileBytes) (files : ReplayFiles) (options : Options) (ring : ℕ) (printed : List ℕ) (refused : List Applied) :
-    Type 0 where
+-- of the journals; the headline holds of it; the shipped program follows the steering rule; one that only reads sends the same for every number of
+-- workers; the sent frames, the journals and the report are written to their files; and what is printed are the counts, and the commands that were
+-- refused.
+pub record IsReplayed (before after : FileBytes) (files : ReplayFiles) (options : Options) (ring : ℕ) (skip_long : Bool) (printed : List ℕ)
+    (refused : List Applied) : Type 0 where
   pub program : Contents
   pub program_is : IsProgramOf before (text_of files.image) ring program
   pub states : List (Option State)
@@ -151,24 +172,27 @@ pub record IsReplayed (before after : FileBytes) (files : ReplayFiles) (options 
   pub script : List Command
   pub script_is : IsScriptOf before (text_of files.script) script
   pub records : List Sent
-  pub capture : IsCaptureOf before files.capture.now records
+  pub capture : IsCaptureOf before skip_long files.capture.now records
   pub outcome : Outcome
   pub accounted : IsAccounted (program_of_replay program options) script options records outcome
   pub headline : KeepsHeadline program script options records outcome
   pub by_rule : FollowsRule (text_of files.image) ring script options records outcome
   pub readers : SendsAlike program states script options records outcome
   pub refused_are : outcome.refused.items ≡ refused
-  -- the journals are written after the sent frames; both have one name in no command that is done (Clashes)
-  pub sent : text_of files.journals ≢ Some files.sent.now → after files.sent.now (capture_bytes outcome.sent.items)
-  pub journals : AreWritten after (text_of files.journals) outcome.journals
+  -- the journals are written after the sent frames, and the report after both; two of them have one name in no command that is done (Clashes)
+  pub sent :
+      text_of files.journals ≢ Some files.sent.now → text_of files.report ≢ Some files.sent.now → after files.sent.now (capture_bytes outcome.sent.items)
+  pub journals : text_of files.report ≢ text_of files.journals → AreWritten after (text_of files.journals) outcome.journals
+  pub report : IsReportFile after (text_of files.report) files.is_steering script records outcome
   pub lines : printed ≡ counts_text outcome.counts ++ refusals_text refused
 
 -- and every command of the script was carried out
-abbrev pub IsReplayedWhole : FileBytes → FileBytes → ReplayFiles → Options → ℕ → List ℕ → Type 0
-IsReplayedWhole before after files options ring printed = IsReplayed before after files options ring printed []
+abbrev pub IsReplayedWhole : FileBytes → FileBytes → ReplayFiles → Options → ℕ → Bool → List ℕ → Type 0
+IsReplayedWhole before after files options ring skip_long printed = IsReplayed before after files options ring skip_long printed []
 
 -- but some command of the script was refused
-pub record IsReplayedInPart (before after : FileBytes) (files : ReplayFiles) (options : Options) (ring : ℕ) (printed : List ℕ) : Type 0 where
+pub record IsReplayedInPart (before after : FileBytes) (files : ReplayFiles) (options : Options) (ring : ℕ) (skip_long : Bool) (printed : List ℕ) :
+    Type 0 where
   pub refused : List Applied
   pub some : refused ≢ []
-  pub replayed : IsReplayed before after files options ring printed refused
+  pub replayed : IsReplayed before after files options ring skip_long printed refused

@@ -34,7 +34,7 @@ use Rattle.xlb_commands.specs.declared.one_run.RunAnswer.{RunAnswer}
 use Rattle.xlb_commands.specs.declared.one_run.RunAnswer.TheVariants.{Printed, Mistaken}
 use Rattle.xlb_commands.specs.declared.serving.CommandAnswer.{CommandAnswer}
 use Rattle.xlb_commands.specs.declared.serving.CommandAnswer.TheVariants as answers
-use Rattle.xlb_commands.specs.Files.{FileBytes, AreKept, AreOthersKept, AreAllButKept, AreAllKeptBut, IsImageFile}
+use Rattle.xlb_commands.specs.Files.{FileBytes, AreKept, AreOthersKept, AreAllButKept, AreAllKeptBut, IsImageFile, IsJudged}
 use Rattle.xlb_commands.specs.Replays.{AreWritten, IsReplayedWhole, IsReplayedInPart}
 use Rattle.xlb_commands.specs.Tables.{IsTableShown}
 use Rattle.command_line.specs.declared.commands.RunFiles.{RunFiles}
@@ -53,10 +53,10 @@ accepted_text slots maps reader =
 abbrev pub accepted_line : Contents → Bool → List ℕ
 accepted_line image reader = accepted_text (total_slots image.code) (length image.maps) (yes_or_no reader)
 
--- the image may run: the verifier accepts it, with these entry states, and it is safe
+-- the image, which is that of a file or of a source, may run: the verifier accepts it, with these entry states, and it is safe
 pub record IsChecked (files : FileBytes) (name : List ℕ) (printed : List ℕ) : Type 0 where
   pub image : Contents
-  pub file : IsImageFile files name image
+  pub file : IsJudged files name image
   pub states : List (Option State)
   pub accepted : Accepts image.version image.maps image.code states
   pub safe : IsSafeImage image.maps image.code
@@ -186,12 +186,12 @@ IsDone before after (Explain about) printed = printed ≡ explanation_text about
 IsDone before after (Asm text out false) printed = IsAssembled before after text.now out.now × (printed ≡ [])
 IsDone before after (Asm text out true) printed = IsSourceAssembled before after text.now out.now × (printed ≡ [])
 IsDone before after (Shipped out ring) printed = IsShippedFile after out.now ring × (printed ≡ [])
-IsDone before after (Replay files options ring exact summary) printed = IsReplayedWhole before after files options ring printed
+IsDone before after (Replay files options ring exact summary skip_long) printed = IsReplayedWhole before after files options ring skip_long printed
 IsDone before after (Table script ring) printed = IsTableShown before script.now ring printed false
 
 -- the command is done but for a part that was refused, as the report tells: commands of a script
 abbrev pub IsDoneInPart : FileBytes → FileBytes → Settings → List ℕ → Type 0
-IsDoneInPart before after (Replay files options ring exact summary) printed = IsReplayedInPart before after files options ring printed
+IsDoneInPart before after (Replay files options ring exact summary skip_long) printed = IsReplayedInPart before after files options ring skip_long printed
 IsDoneInPart before after (Table script ring) printed = IsTableShown before script.now ring printed true
 IsDoneInPart before after other printed = ⊥
 
@@ -205,7 +205,7 @@ KeepsFiles before after (Explain about) = AreKept before after
 KeepsFiles before after (Asm text out source) = AreOthersKept before after out.now
 KeepsFiles before after (Shipped out ring) = AreOthersKept before after out.now
 KeepsFiles before after (Table script ring) = AreKept before after
-KeepsFiles before after (Replay files options ring exact summary) = AreAllButKept before after files.sent.now (text_of files.journals)
+KeepsFiles before after (Replay files options ring exact summary skip_long) = AreAllButKept before after files.sent.now (text_of files.journals) (text_of files.report)
 
 -- a stream: what it was given, where that is known, and how many of its calls failed
 pub record Stream : Type 0 where
@@ -223,7 +223,7 @@ pub record AreNotesPrinted (before after : Stream) : Type 0 where
 
 -- what the error stream is given after a command's report: of a replay and of tables such lines, of another command nothing
 abbrev pub IsNoted : Settings → Stream → Stream → Type 0
-IsNoted (Replay files options ring exact summary) before after = AreNotesPrinted before after
+IsNoted (Replay files options ring exact summary skip_long) before after = AreNotesPrinted before after
 IsNoted (Table script ring) before after = AreNotesPrinted before after
 IsNoted other before after = after ≡ before
 

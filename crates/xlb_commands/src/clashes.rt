@@ -2,7 +2,7 @@
 
 ghost use Rattle.std.specs.Prelude.{◌≡◌, ◌≢◌, ◌⊎◌, ℕ, List, Some, None, IfOk, IfSome, string_bytes};
 ghost use Rattle.command_line.specs.Reading.{text_of};
-ghost use Rattle.xlb_commands.specs.Clashes.{AreApart, IsOver, IsReplayInput, clash_text};
+ghost use Rattle.xlb_commands.specs.Clashes.{AreApart, IsOver, IsOverInReplay, IsReplayInput, clash_text};
 
 use command_line::{ReplayFiles, RunFiles, Settings};
 use folders::Folder;
@@ -66,8 +66,8 @@ fn over_inputs<'a, D: Folder>(
     over(folder, written, files.script)
 }
 
-/// The same of all that a replay writes.
-fn over_in_replay<'a, D: Folder>(folder: &D, files: &ReplayFiles<'a>) -> Option<Clash<'a>>
+/// Whether the sent frames of a replay, or its journals, are written over what it reads, or these over those.
+fn frames_or_journals_over<'a, D: Folder>(folder: &D, files: &ReplayFiles<'a>) -> Option<Clash<'a>>
     ensures found { IfSome result (λ clash. ((clash.written.now ≡ files.now.sent.now) × IsReplayInput files.now clash.other.now)
         ⊎ ((text_of files.now.journals ≡ Some clash.written.now)
         × (IsReplayInput files.now clash.other.now ⊎ (clash.other.now ≡ files.now.sent.now)))) }
@@ -83,6 +83,36 @@ fn over_in_replay<'a, D: Folder>(folder: &D, files: &ReplayFiles<'a>) -> Option<
         return Some(clash);
     }
     over(folder, files.journals, Some(files.sent))
+}
+
+/// Whether the report of a replay is written over what it reads, or writes before.
+fn report_over<'a, D: Folder>(folder: &D, files: &ReplayFiles<'a>) -> Option<Clash<'a>>
+    ensures found { IfSome result (λ clash. (text_of files.now.report ≡ Some clash.written.now)
+        × (IsReplayInput files.now clash.other.now
+        ⊎ ((clash.other.now ≡ files.now.sent.now) ⊎ (text_of files.now.journals ≡ Some clash.other.now)))) }
+    ensures one { IfSome result (λ clash. D.are_one folder.now clash.written.now clash.other.now) }
+    ensures none { result ≡ None → (name second : List ℕ) → text_of files.now.report ≡ Some name
+        → IsReplayInput files.now second ⊎ ((second ≡ files.now.sent.now) ⊎ (text_of files.now.journals ≡ Some second)) → name ≢ second }
+{
+    if let Some(clash) = over_inputs(folder, files.report, files) {
+        return Some(clash);
+    }
+    if let Some(clash) = over(folder, files.report, Some(files.sent)) {
+        return Some(clash);
+    }
+    over(folder, files.report, files.journals)
+}
+
+/// The same of all that a replay writes.
+fn over_in_replay<'a, D: Folder>(folder: &D, files: &ReplayFiles<'a>) -> Option<Clash<'a>>
+    ensures found { IfSome result (λ clash. IsOverInReplay files.now clash.written.now clash.other.now) }
+    ensures one { IfSome result (λ clash. D.are_one folder.now clash.written.now clash.other.now) }
+    ensures none { result ≡ None → (written other : List ℕ) → IsOverInReplay files.now written other → written ≢ other }
+{
+    if let Some(clash) = frames_or_journals_over(folder, files) {
+        return Some(clash);
+    }
+    report_over(folder, files)
 }
 
 /// The same of the journals of a run.

@@ -1,16 +1,18 @@
 //! What each command does with its files.
 
-ghost use Rattle.std.specs.Prelude.{◌≡◌, ◌↔◌, ◌+◌, ◌-◌, ◌%◌, ◌<◌, ◌≤◌, ◌^◌, ℕ, [], List, length, string_bytes};
+ghost use Rattle.std.specs.Prelude.{◌≡◌, ◌↔◌, ◌+◌, ◌-◌, ◌%◌, ◌<◌, ◌≤◌, ◌^◌, ◌==◌, ℕ, [], List, false, length, string_bytes};
 ghost use Rattle.std.specs.Prelude.{IfErr, IfOk, IsUtf8, OnOk};
 ghost use Rattle.semantics.specs.Safety.{IsSafeImage};
 ghost use Rattle.semantics.specs.System.{IsInputFrame};
 ghost use Rattle.disasm.specs.AssemblyText.{IsAssemblyText};
+ghost use Rattle.ebpf_decode.specs.ImageFormat.{IsImageEncoding};
+ghost use Rattle.source_form.specs.SourceImage.{IsSource};
 ghost use Rattle.text_lines.specs.NoText.{IsNoText};
 ghost use Rattle.folders.specs.Fronts.{HasFront, IsFrontOf};
-ghost use Rattle.xlb_commands.specs.Files.{AreKept, AreOthersKept, IsImageFile};
+ghost use Rattle.xlb_commands.specs.Files.{AreKept, AreOthersKept, IsImageFile, IsJudged};
 ghost use Rattle.xlb_commands.specs.Results.{IsChecked, IsExplained, IsDisassembled, IsSourceShown, IsAudited, IsAssembled, IsSourceAssembled};
 ghost use Rattle.xlb_commands.specs.Refused.{HasFailed, IsUnserved, IsUnwritten, IsDecodeRefusal, IsImageRefusal, IsProgramRefusal, IsFrameRefusal};
-ghost use Rattle.xlb_commands.specs.Refused.{IsCheckRefusal, IsExplainRefusal, IsTextRefusal, IsAuditRefusal};
+ghost use Rattle.xlb_commands.specs.Refused.{IsNoImage, IsNoSource, IsNotJudged, IsCheckRefusal, IsExplainRefusal, IsTextRefusal, IsAuditRefusal};
 ghost use Rattle.xlb_commands.specs.Refused.{IsSpellingRefusal, IsAsmRefusal, IsSourceRefusal};
 ghost use Rattle.disasm.specs.declared.fault.AsmFault.TheVariants.{BadLine};
 
@@ -24,10 +26,10 @@ use folders::{Folder, FolderFault, Front};
 use journals::{FileFault, Journals, journals_of};
 use reasons::explain;
 use semantics::facts::frame_may_come_in;
-use source_form::{SourceFault, assemble_source, explain as explain_source, source};
+use source_form::{SourceFault, assemble_source, begins_as_source, source};
 use std::alloc::{AllocError, Global};
 use text_lines::text_or_line;
-use verifier::{Verified, verify};
+use verifier::{Reject, Verified, verify};
 use wire::{Frame, FrameFault};
 
 /// What is printed of legal journals.
@@ -119,6 +121,22 @@ fn fault_of_long(alloc: Global, front: &Front) -> DecodeFault
     fault
 }
 
+/// The image of a file that has this front.
+fn image_of_front(alloc: Global, front: &Front) -> Result<Image, Refusal>
+    requires { (length front.now.bytes.items == front.now.length) ≡ false → 33048 ≤ length front.now.bytes.items }
+    ensures found { IfOk result (λ image. (bytes : List ℕ) → IsFrontOf bytes 33048 front.now → IsImageEncoding bytes image) }
+    ensures refused { IfErr result (λ refusal. (bytes : List ℕ) → IsFrontOf bytes 33048 front.now → IsNoImage bytes refusal.fault) }
+{
+    if !front.is_whole() {
+        let fault = fault_of_long(alloc, front);
+        return Err(refused_image(alloc, &front.bytes, fault));
+    }
+    match decode(alloc, &front.bytes) {
+        Ok(image) => Ok(image),
+        Err(fault) => Err(refused_image(alloc, &front.bytes, fault)),
+    }
+}
+
 /// The image of a file.
 pub(crate) fn image_of<D: Folder>(
     alloc: Global,
@@ -133,13 +151,9 @@ pub(crate) fn image_of<D: Folder>(
         (HasFailed (D.failure_count folder.old) (D.failure_count folder.new)) name.now refusal.fault) }
 {
     let front = front_of(alloc, folder, name, MOST_OF_IMAGE)?;
-    if !front.is_whole() {
-        let fault = fault_of_long(alloc, &front);
-        return Err(refused_image(alloc, &front.bytes, fault));
-    }
-    match decode(alloc, &front.bytes) {
+    match image_of_front(alloc, &front) {
         Ok(image) => Ok(image),
-        Err(fault) => Err(refused_image(alloc, &front.bytes, fault)),
+        Err(refusal) => Err(refusal),
     }
 }
 
@@ -207,7 +221,81 @@ fn refused_frame(alloc: Global, bytes: &[u8], fault: FrameFault) -> Refusal
     Refusal::hinted(Fault::Frame(fault), hints::of_frame(alloc, bytes, fault))
 }
 
-/// Judges an image.
+/// The text of a source whose file has this front.
+fn source_bytes<D: Folder>(
+    alloc: Global,
+    folder: &mut D,
+    name: &str,
+    front: Front,
+) -> Result<Vec<u8>, Refusal>
+    requires count { D.failure_count folder.old < 2 ^ 64 - 1 }
+    requires front { HasFront (D.holds folder.old name.now) 33048 front }
+    ensures bytes { IfOk result (λ bytes. D.holds folder.old name.now bytes.items) }
+    ensures kept { AreKept (D.holds folder.old) (D.holds folder.new) }
+    ensures refused { IfErr result (λ refusal. IsUnserved (HasFailed (D.failure_count folder.old) (D.failure_count folder.new)) refusal.fault) }
+{
+    if front.is_whole() {
+        return Ok(front.bytes);
+    }
+    bytes_of(alloc, folder, name)
+}
+
+/// The image of a file that has this front, and no text, since it is no source.
+fn image_without_source(alloc: Global, front: &Front) -> Result<(Image, Vec<u8>), Refusal>
+    requires { (length front.now.bytes.items == front.now.length) ≡ false → 33048 ≤ length front.now.bytes.items }
+    ensures found { IfOk result (λ program. (bytes : List ℕ) → IsFrontOf bytes 33048 front.now → IsImageEncoding bytes program.0) }
+    ensures refused { IfErr result (λ refusal. (bytes : List ℕ) → IsFrontOf bytes 33048 front.now → IsNoImage bytes refusal.fault) }
+{
+    match image_of_front(alloc, front) {
+        Ok(image) => Ok((image, Vec::new(alloc))),
+        Err(refusal) => Err(refusal),
+    }
+}
+
+/// The image that is to be judged, and where the file is a source, its text.
+fn program_of_file<D: Folder>(
+    alloc: Global,
+    folder: &mut D,
+    name: &str,
+) -> Result<(Image, Vec<u8>), Refusal>
+    requires { D.failure_count folder.old < 2 ^ 64 - 1 }
+    ensures file { IfOk result (λ program. IsJudged (D.holds folder.old) name.now program.0) }
+    ensures kept { AreKept (D.holds folder.old) (D.holds folder.new) }
+    ensures refused { IfErr result (λ refusal. IsNotJudged (D.holds folder.old)
+        (HasFailed (D.failure_count folder.old) (D.failure_count folder.new)) name.now refusal.fault) }
+{
+    let front = front_of(alloc, folder, name, MOST_OF_IMAGE)?;
+    if !begins_as_source(&front.bytes) {
+        return image_without_source(alloc, &front);
+    }
+    let bytes = source_bytes(alloc, folder, name, front)?;
+    match image_of_source(alloc, &bytes) {
+        Ok(image) => Ok((image, bytes)),
+        Err(refusal) => Err(refusal),
+    }
+}
+
+/// A program that the verifier refuses, and where its file is a source, on which line.
+fn rejected(alloc: Global, source: &[u8], reject: Reject) -> Refusal
+    ensures { result.fault ≡ Fault.Program reject }
+{
+    Refusal::hinted(
+        Fault::Program(reject),
+        hints::of_reject(alloc, source, reject),
+    )
+}
+
+/// The same with the explanation below.
+fn rejected_for(alloc: Global, source: &[u8], reject: Reject, reasons: String) -> Refusal
+    ensures { result.fault ≡ Fault.Program reject }
+{
+    Refusal::hinted(
+        Fault::Program(reject),
+        hints::of_explained(alloc, source, reject, reasons),
+    )
+}
+
+/// Judges an image, or the image that a source means.
 pub fn check<D: Folder>(alloc: Global, folder: &mut D, image: &str) -> Result<String, Refusal>
     requires { D.failure_count folder.old < 2 ^ 64 - 1 }
     ensures done { IfOk result (λ text. IsChecked (D.holds folder.old) image.now (string_bytes text)) }
@@ -215,11 +303,14 @@ pub fn check<D: Folder>(alloc: Global, folder: &mut D, image: &str) -> Result<St
     ensures refused { IfErr result (λ refusal. IsCheckRefusal (D.holds folder.old)
         (HasFailed (D.failure_count folder.old) (D.failure_count folder.new)) image.now refusal.fault) }
 {
-    let verified = judged_of(alloc, folder, image)?;
-    Ok(accepted(alloc, &verified)?)
+    let (image, source) = program_of_file(alloc, folder, image)?;
+    match verify(alloc, image) {
+        Ok(verified) => Ok(accepted(alloc, &verified)?),
+        Err(reject) => Err(rejected(alloc, &source, reject)),
+    }
 }
 
-/// Judges an image, and tells why.
+/// Judges an image, or the image that a source means, and says why.
 pub fn check_explained<D: Folder>(
     alloc: Global,
     folder: &mut D,
@@ -231,7 +322,7 @@ pub fn check_explained<D: Folder>(
     ensures refused { IfErr result (λ refusal. IsExplainRefusal (D.holds folder.old)
         (HasFailed (D.failure_count folder.old) (D.failure_count folder.new)) image.now refusal.fault) }
 {
-    let image = image_of(alloc, folder, image)?;
+    let (image, source) = program_of_file(alloc, folder, image)?;
     let reasons = explain(alloc, &image)?;
     match verify(alloc, image) {
         Ok(verified) => {
@@ -239,10 +330,7 @@ pub fn check_explained<D: Folder>(
             text.push_str(reasons.as_str())?;
             Ok(text)
         }
-        Err(reject) => Err(Refusal {
-            fault: Fault::Program(reject),
-            notes: Some(reasons),
-        }),
+        Err(reject) => Err(rejected_for(alloc, &source, reject, reasons)),
     }
 }
 
@@ -350,11 +438,36 @@ fn refused_text(alloc: Global, bytes: &[u8], fault: AsmFault) -> Refusal
 fn noted_text(alloc: Global, bytes: &[u8], fault: AsmFault) -> Result<Option<String>, AllocError> {
     match (fault, str::from_utf8(bytes)) {
         (AsmFault::Image(why), Ok(text)) => {
-            Ok(Some(explain_source(alloc, text, SourceFault::Image(why))?))
+            hints::of_source_fault(alloc, text, SourceFault::Image(why))
         }
-        (AsmFault::Memory, _) => Ok(None),
-        _ => hints::of_text(alloc, bytes),
+        (AsmFault::BadLine { line }, _) => hints::of_text(alloc, bytes, line),
+        _ => Ok(None),
     }
+}
+
+/// The image that the bytes of a source mean.
+fn image_of_source(alloc: Global, bytes: &[u8]) -> Result<Image, Refusal>
+    ensures found { IfOk result (λ image. IsSource bytes.now image) }
+    ensures refused { IfErr result (λ refusal. IsNoSource bytes.now refusal.fault) }
+{
+    let source = match utf8(bytes) {
+        Ok(source) => source,
+        Err(fault) => return Err(refused_text(alloc, bytes, fault)),
+    };
+    match assemble_source(alloc, source) {
+        Ok(image) => Ok(image),
+        Err(fault) => Err(refused_source(alloc, source, fault)),
+    }
+}
+
+/// Why a source was refused, and where to look.
+fn refused_source(alloc: Global, source: &str, fault: SourceFault) -> Refusal
+    ensures { result.fault ≡ Fault.Source fault }
+{
+    Refusal::hinted(
+        Fault::Source(fault),
+        hints::of_source_fault(alloc, source, fault),
+    )
 }
 
 /// Writes an image to a file.
@@ -413,15 +526,8 @@ pub fn assemble_source_file<D: Folder>(
         (HasFailed (D.failure_count folder.old) (D.failure_count folder.new)) text.now refusal.fault) }
 {
     let bytes = bytes_of(alloc, folder, text)?;
-    let source = match utf8(&bytes) {
-        Ok(source) => source,
-        Err(fault) => return Err(refused_text(alloc, &bytes, fault)),
-    };
-    match assemble_source(alloc, source) {
+    match image_of_source(alloc, &bytes) {
         Ok(image) => write_image(alloc, folder, &image, out),
-        Err(fault) => Err(Refusal::noted(
-            Fault::Source(fault),
-            explain_source(alloc, source, fault),
-        )),
+        Err(refusal) => Err(refusal),
     }
 }

@@ -3,15 +3,17 @@
 use audit::AuditFault;
 use control::ControlFault;
 use ebpf_decode::{DecodeFault, MapDef};
+use faults::Fields;
 use journals::{FileFault, Journals};
 use mistakes::{
-    about_capture, about_entry, about_frame, about_image, about_journals, about_map, about_options,
-    about_script, about_worker,
+    about_capture, about_entry, about_frame, about_image, about_journals, about_map,
+    about_map_line, about_options, about_script, about_worker,
 };
 use replay::ReplayFault;
 use semantics::Options;
-use source_form::{SourceFault, assemble_source};
+use source_form::{SourceFault, assemble_source, explain, slot_note};
 use std::alloc::{AllocError, Global};
+use verifier::Reject;
 use wire::{CaptureFault, FrameFault};
 
 /// The first bytes of images.
@@ -121,8 +123,12 @@ pub(crate) fn of_worker(alloc: Global, worker: u32) -> Result<Option<String>, Al
     Ok(Some(about_worker(alloc, worker)?))
 }
 
-/// Of bytes that are no exact text.
-pub(crate) fn of_text(alloc: Global, bytes: &[u8]) -> Result<Option<String>, AllocError> {
+/// Of bytes that are no exact text, because of this line.
+pub(crate) fn of_text(
+    alloc: Global,
+    bytes: &[u8],
+    line: usize,
+) -> Result<Option<String>, AllocError> {
     if bytes.starts_with(IMAGE_MAGIC) {
         return note(
             alloc,
@@ -130,19 +136,74 @@ pub(crate) fn of_text(alloc: Global, bytes: &[u8]) -> Result<Option<String>, All
         );
     }
     match str::from_utf8(bytes) {
-        Ok(text) => of_source(alloc, text),
+        Ok(text) => of_source(alloc, text, line),
         Err(_) => Ok(None),
     }
 }
 
-/// Of a text that is right in the source form, if it is.
-fn of_source(alloc: Global, text: &str) -> Result<Option<String>, AllocError> {
+/// Of a text that is right in the source form, or whose line is wrong there too.
+fn of_source(alloc: Global, text: &str, exact: usize) -> Result<Option<String>, AllocError> {
     match assemble_source(alloc, text) {
         Ok(_) | Err(SourceFault::Image(_)) => note(
             alloc,
             "TEXT is in the source form: 'xlb asm --source' makes an image of it",
         ),
+        Err(SourceFault::BadLine { line, problem }) if line == exact => {
+            Ok(Some(explain(alloc, text, SourceFault::BadLine { line, problem })?))
+        }
         Err(_) => Ok(None),
+    }
+}
+
+/// Of a source that means no image.
+pub(crate) fn of_source_fault(
+    alloc: Global,
+    source: &str,
+    fault: SourceFault,
+) -> Result<Option<String>, AllocError> {
+    match fault {
+        SourceFault::Image(DecodeFault::BadMap { map }) => {
+            Ok(Some(about_map_line(alloc, source, map)?))
+        }
+        SourceFault::Memory => Ok(None),
+        _ => Ok(Some(explain(alloc, source, fault)?)),
+    }
+}
+
+/// The slot that a reject names.
+fn slot_of(reject: Reject) -> Option<u32> {
+    match reject.fields() {
+        Fields::One(slot) | Fields::Two(slot, _) => u32::try_from(slot).ok(),
+        _ => None,
+    }
+}
+
+/// Of a program that may not run: where its instruction is in the source, if its file is one.
+pub(crate) fn of_reject(
+    alloc: Global,
+    source: &[u8],
+    reject: Reject,
+) -> Result<Option<String>, AllocError> {
+    match (slot_of(reject), str::from_utf8(source)) {
+        (Some(slot), Ok(text)) if !text.is_empty() => Ok(Some(slot_note(alloc, text, slot)?)),
+        _ => Ok(None),
+    }
+}
+
+/// The same, and behind it why the program may not run.
+pub(crate) fn of_explained(
+    alloc: Global,
+    source: &[u8],
+    reject: Reject,
+    reasons: String,
+) -> Result<Option<String>, AllocError> {
+    match of_reject(alloc, source, reject)? {
+        Some(place) => {
+            let mut notes = place;
+            notes.push_str(reasons.as_str())?;
+            Ok(Some(notes))
+        }
+        None => Ok(Some(reasons)),
     }
 }
 
@@ -164,6 +225,22 @@ pub(crate) fn of_capture(
     };
     let all = bytes.len();
     Ok(Some(format!(in alloc; "at byte {offset} of {all}")?))
+}
+
+/// The same fault of a file that has so many records more before the one that it names.
+pub(crate) fn behind(fault: CaptureFault, skipped: u64) -> CaptureFault {
+    match fault {
+        CaptureFault::CutHead { record } => CaptureFault::CutHead {
+            record: record.saturating_add(skipped),
+        },
+        CaptureFault::CutFrame { record } => CaptureFault::CutFrame {
+            record: record.saturating_add(skipped),
+        },
+        CaptureFault::FrameTooLong { record } => CaptureFault::FrameTooLong {
+            record: record.saturating_add(skipped),
+        },
+        other => other,
+    }
 }
 
 /// Where the record of a number, counted from 1, begins; 0 for the header. The records before it are whole.

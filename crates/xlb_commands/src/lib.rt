@@ -9,6 +9,7 @@ mod hints;
 mod notes;
 mod one_run;
 mod progress;
+mod record_report;
 mod replays;
 mod report;
 mod serving;

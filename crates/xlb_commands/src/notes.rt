@@ -1,11 +1,12 @@
-//! What a person is told of a replay that was made, besides its report.
+//! Lines for people below the report of a replay.
 
+use crate::record_report::{is_tx, verdict_in};
 use control::{ControlFault, Script};
 use journals::Journals;
-use replay::{Applied, Outcome};
+use replay::{Applied, Outcome, RecordEnd};
 use std::alloc::{AllocError, Global};
 use text_lines::cut;
-use traffic::Refused;
+use traffic::{LineVerdict, Refused, moved_places, services};
 use wire::Capture;
 
 /// The slots of the shipped program's lookup table, where the command line names no others.
@@ -14,16 +15,26 @@ const RING: u32 = 251;
 /// The room that a full journal may still have: no run enters a shard without room for its Leave.
 const LAST: u64 = 1;
 
-/// What is told of a replay.
-#[derive(Clone, Copy)]
-pub(crate) struct Notes<'a> {
+/// The records of a capture that a replay does not have as they were on the wire.
+#[derive(Clone, Copy, Debug, Default)]
+pub(crate) struct Passed {
     /// How many records have fewer bytes than the frames that were captured.
     pub cut: u64,
+    /// How many records are skipped because they keep more than 2048 bytes.
+    pub long: u64,
+}
+
+/// What is printed below the report of a replay.
+#[derive(Clone, Copy)]
+pub(crate) struct Notes<'a> {
+    pub passed: Passed,
     /// The slots of the shipped program's lookup table.
     pub ring: u32,
     /// The image's file, if one is named.
     pub image: Option<&'a str>,
-    /// Whether it is told what the traffic was.
+    /// Whether the program is one of steering.
+    pub is_steering: bool,
+    /// Whether the summary of the traffic is printed.
     pub summary: bool,
 }
 
@@ -39,14 +50,33 @@ impl Notes<'_> {
         let mut text = String::new(alloc);
         put_refused(alloc, &mut text, script, &outcome.refused)?;
         self.put_ring(alloc, &mut text)?;
+        self.put_long(alloc, &mut text)?;
         self.put_cut(alloc, &mut text)?;
         if outcome.counts.stopped > 0 {
+            put_stopped(alloc, &mut text, &outcome.ends)?;
             put_full(alloc, &mut text, &outcome.journals)?;
         }
         if self.summary {
-            text.push_str(&traffic::summary(alloc, &capture.records, &outcome.sent)?)?;
+            self.put_summary(alloc, &mut text, capture, script, outcome)?;
         }
         Ok(text)
+    }
+
+    /// What the capture has, where its frames went, why others were not sent, and which frames went elsewhere than the frame of their flow before.
+    fn put_summary(
+        &self,
+        alloc: Global,
+        text: &mut String,
+        capture: &Capture,
+        script: &Script,
+        outcome: &Outcome,
+    ) -> Result<(), AllocError> {
+        text.push_str(&traffic::summary(alloc, &capture.records, &outcome.sent)?)?;
+        if self.is_steering {
+            let verdicts = verdicts_of(alloc, &outcome.ends)?;
+            text.push_str(&services(alloc, &capture.records, script, &verdicts)?)?;
+        }
+        put_moved(alloc, text, outcome)
     }
 
     /// A size of the lookup table that is not used.
@@ -61,9 +91,19 @@ impl Notes<'_> {
         text.push_str(line.as_str())
     }
 
+    /// Records that were skipped.
+    fn put_long(&self, alloc: Global, text: &mut String) -> Result<(), AllocError> {
+        let long = self.passed.long;
+        if long == 0 {
+            return Ok(());
+        }
+        let line = format!(in alloc; "long {long}: records above 2048 bytes were skipped\n")?;
+        text.push_str(line.as_str())
+    }
+
     /// Records that were cut when they were captured.
     fn put_cut(&self, alloc: Global, text: &mut String) -> Result<(), AllocError> {
-        let cut = self.cut;
+        let cut = self.passed.cut;
         if cut == 0 {
             return Ok(());
         }
@@ -74,8 +114,8 @@ impl Notes<'_> {
     }
 }
 
-/// The most commands that are told in lines of their own.
-const MOST_TOLD: usize = 10;
+/// The most commands that have lines of their own.
+const MOST_LINES: usize = 10;
 
 /// The same lines of commands that the lookup tables of a script name as refused.
 pub(crate) fn about_refused(
@@ -106,11 +146,11 @@ fn put_refused(
         return Ok(());
     }
     let lines = script.text(alloc)?;
-    for one in refused.iter().take(MOST_TOLD) {
+    for one in refused.iter().take(MOST_LINES) {
         put_command(alloc, text, lines.as_str(), one)?;
     }
-    if refused.len() > MOST_TOLD {
-        let more = refused.len().saturating_sub(MOST_TOLD);
+    if refused.len() > MOST_LINES {
+        let more = refused.len().saturating_sub(MOST_LINES);
         text.push_str(&format!(in alloc; "and {more} more commands of the script\n")?)?;
     }
     Ok(())
@@ -157,6 +197,19 @@ fn why_refused(fault: ControlFault) -> &'static str {
     }
 }
 
+/// The first record, counted from 1, whose run a full journal stopped.
+fn put_stopped(alloc: Global, text: &mut String, ends: &[RecordEnd]) -> Result<(), AllocError> {
+    let Some(place) = ends
+        .iter()
+        .position(|end| matches!(end, RecordEnd::Stopped { .. }))
+    else {
+        return Ok(());
+    };
+    let record = place.saturating_add(1);
+    let line = format!(in alloc; "record {record} is the first whose run was stopped\n")?;
+    text.push_str(line.as_str())
+}
+
 /// Which journals are full, and what makes more room.
 fn put_full(alloc: Global, text: &mut String, journals: &Journals) -> Result<(), AllocError> {
     'shards: for number in 0..journals.count() {
@@ -179,5 +232,44 @@ fn put_shard(
 ) -> Result<(), AllocError> {
     let map = number.checked_div(shards).unwrap_or(0);
     let line = format!(in alloc; "the journal of shard {number} is full, of map {map}\n")?;
+    text.push_str(line.as_str())
+}
+
+/// The verdict of each record.
+fn verdicts_of(alloc: Global, ends: &[RecordEnd]) -> Result<Vec<LineVerdict>, AllocError> {
+    ends.iter().map(|end| verdict_in(*end)).collect(alloc)
+}
+
+/// The records whose frames went elsewhere than the frame of their flow before: the first ten.
+fn put_moved(alloc: Global, text: &mut String, outcome: &Outcome) -> Result<(), AllocError> {
+    let moved = moved_places(alloc, &outcome.sent)?;
+    let mut next: usize = 0;
+    let mut sent: usize = 0;
+    for number in 0..outcome.ends.len() {
+        if is_tx(verdict_in(outcome.ends[number])) {
+            if next < MOST_LINES && moved.get(next).copied() == Some(sent) {
+                next = next.saturating_add(1);
+                put_record(alloc, text, number)?;
+            }
+            sent = sent.saturating_add(1);
+        }
+    }
+    put_more(alloc, text, moved.len().saturating_sub(next))
+}
+
+/// How many such records have no line.
+fn put_more(alloc: Global, text: &mut String, more: usize) -> Result<(), AllocError> {
+    if more == 0 {
+        return Ok(());
+    }
+    text.push_str(&format!(in alloc; "and {more} more records\n")?)
+}
+
+/// The line of such a record, counted from 0 here and from 1 there.
+fn put_record(alloc: Global, text: &mut String, number: usize) -> Result<(), AllocError> {
+    let record = number as u128 + 1;
+    let line = format!(in alloc;
+        "record {record} went to another address than the frame of its flow before\n"
+    )?;
     text.push_str(line.as_str())
 }

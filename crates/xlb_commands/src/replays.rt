@@ -28,24 +28,27 @@ ghost use Rattle.journals.specs.JournalText.{journals_text};
 ghost use Rattle.command_line.specs.Reading.{text_of};
 ghost use Rattle.xlb_commands.specs.Files.{AreKept, AreAllButKept};
 ghost use Rattle.xlb_commands.specs.Refused.{HasFailed, LacksRoom, AreUnfiled, IsReplayProgramRefusal, IsScriptFileRefusal, IsScriptRefusal};
-ghost use Rattle.xlb_commands.specs.Refused.{IsNoCapture, IsCaptureRefusal, IsReplayRefusal};
-ghost use Rattle.xlb_commands.specs.Replays.{IsProgramOf, IsScriptOf, IsScriptFile, IsCaptureOf, IsReplayed, HasBytes, FollowsRule, reader_file};
-ghost use Rattle.xlb_commands.specs.Replays.{counts_text, refusals_text};
+ghost use Rattle.xlb_commands.specs.Refused.{IsNoCapture, IsNoCaptureIn, IsCaptureRefusal, IsReplayRefusal};
+ghost use Rattle.xlb_commands.specs.Replays.{IsProgramOf, IsScriptOf, IsScriptFile, IsCaptureIn, IsCaptureOf, IsReplayed, HasBytes, FollowsRule, reader_file};
+ghost use Rattle.xlb_commands.specs.Replays.{counts_text, refusals_text, AreWritten};
+ghost use Rattle.xlb_commands.specs.RecordReports.{form_of, report_text};
 
 use crate::commands::{bytes_of, judged_of};
 use crate::fault::{Fault, Refusal};
 use crate::hints;
-use crate::notes::Notes;
+use crate::notes::{Notes, Passed};
 use crate::progress::{Progress, Rounds};
+use crate::record_report::report_for;
 use crate::report::{Report, replayed};
 use crate::shipping::shipped_program;
-use crate::written::{journal_bytes, write_journals_to, write_to};
+use crate::written::{journal_bytes, write_journals_to, write_text_to, write_to};
 use command_line::ReplayFiles;
 use control::{Script, parse_script};
 use folders::Folder;
 use guarantees::headline;
 use guarantees::readers::readers_send_as_at_opening;
 use guarantees::replays::all_are_captured;
+use journals::Journals;
 use replay::{Outcome, ReplayFault, exact_replay, replay};
 use semantics::Options;
 use shard_port::Gate;
@@ -54,6 +57,7 @@ use std::sync::Wait;
 use std::thread::Threads;
 use steered_replays::exact::exact_shipped_replay;
 use steered_replays::replays::shipped_replay;
+use traffic::without_long_records;
 use verifier::Verified;
 use wire::{Capture, MemorySink, MemorySource, Sent, read_capture, write_capture};
 
@@ -159,23 +163,75 @@ fn records_of(alloc: Global, bytes: &[u8]) -> Result<Capture, Refusal>
     }
 }
 
-/// The capture of a file, and in `cut` how many of its records keep fewer bytes than their frames had.
+/// A refusal of a capture without its long records, of which so many were left out, with the byte of the whole file.
+fn in_whole_file(alloc: Global, bytes: &[u8], skipped: u64, refusal: Refusal) -> Refusal
+    ensures { result.fault ≡ refusal.fault }
+{
+    match refusal.fault {
+        Fault::Capture(fault) => Refusal::hinted(
+            refusal.fault,
+            hints::of_capture(alloc, bytes, hints::behind(fault, skipped)),
+        ),
+        _ => refusal,
+    }
+}
+
+/// The records of a capture's bytes that keep at most 2048 bytes, and in `passed` how many keep more.
+fn short_records_of(alloc: Global, bytes: &[u8], passed: &mut Passed) -> Result<Capture, Refusal>
+    ensures records { IfOk result (λ capture. IsCaptureIn true bytes.now capture.records.items) }
+    ensures refused { IfErr result (λ refusal. IsNoCaptureIn true bytes.now refusal.fault) }
+{
+    let shortened = without_long_records(alloc, bytes)?;
+    match records_of(alloc, &shortened.bytes) {
+        Ok(capture) => {
+            passed.cut = hints::cut_records(&shortened.bytes, capture.records.len());
+            passed.long = shortened.skipped;
+            Ok(capture)
+        }
+        Err(refusal) => Err(in_whole_file(alloc, bytes, shortened.skipped, refusal)),
+    }
+}
+
+/// The records of a capture's bytes, and in `passed` how many of these were cut when they were captured. `skip_long`: without those of more than 2048
+/// bytes, which are counted, in place of refusing the capture.
+fn records_in(
+    alloc: Global,
+    bytes: &[u8],
+    skip_long: bool,
+    passed: &mut Passed,
+) -> Result<Capture, Refusal>
+    ensures records { IfOk result (λ capture. IsCaptureIn skip_long bytes.now capture.records.items) }
+    ensures refused { IfErr result (λ refusal. IsNoCaptureIn skip_long bytes.now refusal.fault) }
+{
+    if skip_long {
+        return short_records_of(alloc, bytes, passed);
+    }
+    match records_of(alloc, bytes) {
+        Ok(capture) => {
+            passed.cut = hints::cut_records(bytes, capture.records.len());
+            Ok(capture)
+        }
+        Err(refusal) => Err(refusal),
+    }
+}
+
+/// The capture of a file, and in `passed` which of its records are not as their frames were.
 fn capture_of<D: Folder>(
     alloc: Global,
     folder: &mut D,
     name: &str,
-    cut: &mut u64,
+    skip_long: bool,
+    passed: &mut Passed,
 ) -> Result<Capture, Refusal>
     requires { D.failure_count folder.old < 2 ^ 64 - 1 }
-    ensures capture { IfOk result (λ capture. IsCaptureOf (D.holds folder.old) name.now capture.records.items) }
+    ensures capture { IfOk result (λ capture. IsCaptureOf (D.holds folder.old) skip_long name.now capture.records.items) }
     ensures kept { AreKept (D.holds folder.old) (D.holds folder.new) }
     ensures steady { OnOk result (D.failure_count folder.new ≡ D.failure_count folder.old) }
     ensures refused { IfErr result (λ refusal. IsCaptureRefusal (D.holds folder.old)
-        (HasFailed (D.failure_count folder.old) (D.failure_count folder.new)) name.now refusal.fault) }
+        (HasFailed (D.failure_count folder.old) (D.failure_count folder.new)) skip_long name.now refusal.fault) }
 {
     let bytes = bytes_of(alloc, folder, name)?;
-    let capture = records_of(alloc, &bytes)?;
-    *cut = hints::cut_records(&bytes, capture.records.len());
+    let capture = records_in(alloc, &bytes, skip_long, passed)?;
     Ok(capture)
 }
 
@@ -328,54 +384,79 @@ fn given_up(alloc: Global, options: Options, verified: &Verified, fault: ReplayF
 struct Leavings {
     sent: MemorySink,
     journals: MemorySink,
+    /// The line of each record.
+    lines: String,
     report: Report,
 }
 
-/// What a replay of so many frames leaves, with these notes. The bytes of the journals are made where a file is named for them.
+/// What a replay of a capture leaves, with these notes. The bytes of the journals and the lines of the records are made where a file is named for
+/// them.
 fn left_of(
     alloc: Global,
-    frames: usize,
+    files: &ReplayFiles<'_>,
+    script: &Script,
+    capture: &Capture,
     outcome: &Outcome,
-    journals: Option<&str>,
     notes: Option<String>,
 ) -> Result<Leavings, Refusal>
-    requires { frames ≡ frames_in outcome.now.counts }
+    requires frames { length capture.now.records.items ≡ frames_in outcome.now.counts }
+    requires ends { length outcome.now.ends.items ≡ length capture.now.records.items }
     ensures sent { IfOk result (λ left. left.sent.bytes ≡ capture_bytes outcome.now.sent.items) }
-    ensures journals { IfOk result (λ left. (file : List ℕ) → text_of journals.entry ≡ Some file → left.journals.bytes ≡ journals_text outcome.now.journals) }
+    ensures journals { IfOk result (λ left. (file : List ℕ) → text_of files.now.journals ≡ Some file →
+        left.journals.bytes ≡ journals_text outcome.now.journals) }
+    ensures lines { IfOk result (λ left. (file : List ℕ) → text_of files.now.report ≡ Some file →
+        string_bytes left.lines ≡ report_text (form_of file) files.now.is_steering script.now capture.now.records.items outcome.now.ends.items
+        outcome.now.sent.items) }
     ensures text { IfOk result (λ left. string_bytes left.report.text ≡ counts_text outcome.now.counts ++ refusals_text outcome.now.refused.items) }
     ensures whole { IfOk result (λ left. (outcome.now.refused.items ≡ []) ↔ (left.report.is_refused ≡ false)) }
-    ensures refused { IfErr result (λ refusal. LacksRoom (text_of journals.entry) refusal.fault) }
+    ensures refused { IfErr result (λ refusal. LacksRoom (text_of files.now.journals) refusal.fault) }
 {
     let sent = bytes_of_frames(alloc, &outcome.sent)?;
-    let journals = journal_bytes(alloc, journals, &outcome.journals)?;
+    let journals = journal_bytes(alloc, files.journals, &outcome.journals)?;
+    let lines = report_for(
+        alloc,
+        files.report,
+        files.is_steering,
+        script,
+        capture,
+        outcome,
+    )?;
+    let frames = capture.records.len();
     let report = replayed(alloc, frames, outcome.counts, &outcome.refused, notes)?;
     Ok(Leavings {
         sent,
         journals,
+        lines,
         report,
     })
 }
 
-/// Writes the files of a replay: the sent frames, and after them the journals, where a file is named for them.
+/// Writes the files of a replay: the sent frames, after them the journals, and after them the report, where files are named for these.
 fn write_files<D: Folder>(
     alloc: Global,
     folder: &mut D,
     files: &ReplayFiles<'_>,
     left: &Leavings,
+    journals: &Journals,
 ) -> Result<(), Refusal>
-    requires { D.failure_count folder.old < 2 ^ 64 - 1 }
-    ensures sent { OnOk result (text_of files.now.journals ≢ Some files.now.sent.now → D.holds folder.new files.now.sent.now left.now.sent.bytes) }
-    ensures journals { OnOk result (HasBytes (D.holds folder.new) (text_of files.now.journals) left.now.journals.bytes) }
-    ensures others { AreAllButKept (D.holds folder.old) (D.holds folder.new) files.now.sent.now (text_of files.now.journals) }
+    requires failures { D.failure_count folder.old < 2 ^ 64 - 1 }
+    requires journals { (file : List ℕ) → text_of files.now.journals ≡ Some file → left.now.journals.bytes ≡ journals_text journals.now }
+    ensures sent { OnOk result (text_of files.now.journals ≢ Some files.now.sent.now → text_of files.now.report ≢ Some files.now.sent.now →
+        D.holds folder.new files.now.sent.now left.now.sent.bytes) }
+    ensures journals { OnOk result (text_of files.now.report ≢ text_of files.now.journals →
+        AreWritten (D.holds folder.new) (text_of files.now.journals) journals.now) }
+    ensures report { OnOk result (HasBytes (D.holds folder.new) (text_of files.now.report) (string_bytes left.now.lines)) }
+    ensures others { AreAllButKept (D.holds folder.old) (D.holds folder.new) files.now.sent.now (text_of files.now.journals) (text_of files.now.report) }
     ensures refused { IfErr result (λ refusal. AreUnfiled (D.holds folder.old) (D.holds folder.new)
-        (HasFailed (D.failure_count folder.old) (D.failure_count folder.new)) files.now left.now.sent.bytes refusal.fault) }
+        (HasFailed (D.failure_count folder.old) (D.failure_count folder.new)) files.now left.now.sent.bytes journals.now refusal.fault) }
 {
     write_to(alloc, folder, files.sent, &left.sent)?;
     write_journals_to(alloc, folder, files.journals, &left.journals)?;
+    write_text_to(alloc, folder, files.report, left.lines.as_str())?;
     Ok(())
 }
 
-/// Runs the frames of a capture, and writes those that are sent, the journals where a file is named for them, and a report. All input is read and
+/// Runs the frames of a capture, and writes those that are sent, and the journals and a line for each record where files are named for them. All input is read and
 /// checked before anything starts: the image, the script, the capture, then the options. No file is made where one is refused, nor where memory is
 /// refused for anything that is written or printed.
 pub fn replay_files<R: Threads + Wait + Sync, D: Folder, P: Progress + Sync>(
@@ -387,20 +468,21 @@ pub fn replay_files<R: Threads + Wait + Sync, D: Folder, P: Progress + Sync>(
     ring: u32,
     exact: bool,
     summary: bool,
+    skip_long: bool,
     progress: &P,
 ) -> Result<Report, Refusal>
     requires { D.failure_count folder.old < 2 ^ 64 - 1 }
     ensures done { IfOk result (λ report. (refused : List Noted)
-        × IsReplayed (D.holds folder.old) (D.holds folder.new) files.now options ring (string_bytes report.text) refused
+        × IsReplayed (D.holds folder.old) (D.holds folder.new) files.now options ring skip_long (string_bytes report.text) refused
         × ((refused ≡ []) ↔ (report.is_refused ≡ false))) }
-    ensures kept { AreAllButKept (D.holds folder.old) (D.holds folder.new) files.now.sent.now (text_of files.now.journals) }
+    ensures kept { AreAllButKept (D.holds folder.old) (D.holds folder.new) files.now.sent.now (text_of files.now.journals) (text_of files.now.report) }
     ensures refused { IfErr result (λ refusal. IsReplayRefusal (D.holds folder.old) (D.holds folder.new)
-        (HasFailed (D.failure_count folder.old) (D.failure_count folder.new)) files.now options ring refusal.fault) }
+        (HasFailed (D.failure_count folder.old) (D.failure_count folder.new)) files.now options ring skip_long refusal.fault) }
 {
     let verified = program_of(alloc, folder, files.image, ring)?;
     let script = script_of(alloc, folder, files.script)?;
-    let mut cut = 0;
-    let capture = capture_of(alloc, folder, files.capture, &mut cut)?;
+    let mut passed = Passed::default();
+    let capture = capture_of(alloc, folder, files.capture, skip_long, &mut passed)?;
     let rounds = Rounds::of(progress, &verified, &options, &capture);
     let outcome = match outcome_with(
         rt,
@@ -418,19 +500,14 @@ pub fn replay_files<R: Threads + Wait + Sync, D: Folder, P: Progress + Sync>(
         Err(fault) => return Err(given_up(alloc, options, &verified, fault)),
     };
     let notes = Notes {
-        cut,
+        passed,
         ring,
         image: files.image,
+        is_steering: files.is_steering,
         summary,
     };
     let notes = notes.text(alloc, &capture, &script, &outcome).ok();
-    let left = left_of(
-        alloc,
-        capture.records.len(),
-        &outcome,
-        files.journals,
-        notes,
-    )?;
-    write_files(alloc, folder, files, &left)?;
+    let left = left_of(alloc, files, &script, &capture, &outcome, notes)?;
+    write_files(alloc, folder, files, &left, &outcome.journals)?;
     Ok(left.report)
 }

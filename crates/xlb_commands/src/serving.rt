@@ -118,8 +118,9 @@ fn answer<R: Threads + Wait + Sync, D: Folder, P: Progress + Sync>(
             ring,
             exact,
             summary,
+            skip_long,
         } => Ok(CommandAnswer::Reported(replay_files(
-            rt, alloc, folder, files, *options, *ring, *exact, *summary, progress,
+            rt, alloc, folder, files, *options, *ring, *exact, *summary, *skip_long, progress,
         )?)),
     }
 }

@@ -3,10 +3,9 @@
 ghost use Rattle.std.specs.Prelude.{◌≡◌, ◌-◌, ◌<◌, ◌^◌, IfErr, IfOk, OnOk, false, true, string_bytes};
 ghost use Rattle.control.specs.declared.fault.ControlFault.TheVariants as scripts;
 ghost use Rattle.maglev.specs.RingSize.{IsRingSize};
-ghost use Rattle.traffic.specs.TableText.{AreTables};
 ghost use Rattle.xlb_commands.specs.Files.{AreKept};
 ghost use Rattle.xlb_commands.specs.Refused.{HasFailed, IsTableRefusal};
-ghost use Rattle.xlb_commands.specs.Tables.{IsTableShown};
+ghost use Rattle.xlb_commands.specs.Tables.{AreShownTables, IsTableShown};
 
 use crate::fault::{Fault, Refusal};
 use crate::notes::about_refused;
@@ -33,13 +32,14 @@ fn sized(ring: u32) -> Result<(), Refusal>
 /// The tables of a script, with a note on each command that was refused.
 fn shown(alloc: Global, script: &Script, ring: u32) -> Result<Report, AllocError>
     requires { IsRingSize ring }
-    ensures { IfOk result (λ report. AreTables ring script.now (string_bytes report.text) report.is_refused) }
+    ensures { IfOk result (λ report. AreShownTables ring script.now (string_bytes report.text) report.is_refused) }
 {
     let tables = tables_of(alloc, script, ring)?;
     let notes = about_refused(alloc, script, &tables.refused).ok();
+    let is_refused = tables.is_refused();
     Ok(Report {
         text: tables.text,
-        is_refused: tables.is_refused,
+        is_refused,
         notes,
     })
 }

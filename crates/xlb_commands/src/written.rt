@@ -1,4 +1,4 @@
-//! Journals, written to a file.
+//! Journals and reports, written to files.
 
 ghost use Rattle.std.specs.Prelude.{◌≡◌, ◌-◌, ◌<◌, ◌^◌, List, ℕ, Some, IfErr, IfOk, OnOk};
 ghost use Rattle.journals.specs.JournalText.{journals_text};
@@ -41,6 +41,25 @@ pub(crate) fn journal_bytes(
     }
 }
 
+/// Writes a file of these bytes.
+fn write_bytes_to<D: Folder>(
+    alloc: Global,
+    folder: &mut D,
+    name: &str,
+    bytes: &[u8],
+) -> Result<(), Refusal>
+    requires { D.failure_count folder.old < 2 ^ 64 - 1 }
+    ensures written { OnOk result (D.holds folder.new name.now bytes.now) }
+    ensures others { AreOthersKept (D.holds folder.old) (D.holds folder.new) name.now }
+    ensures steady { OnOk result (D.failure_count folder.new ≡ D.failure_count folder.old) }
+    ensures refused { IfErr result (λ refusal. IsUnserved (HasFailed (D.failure_count folder.old) (D.failure_count folder.new)) refusal.fault) }
+{
+    match folder.write(alloc, name, bytes) {
+        Ok(()) => Ok(()),
+        Err(fault) => Err(unserved(alloc, folder, name, fault)),
+    }
+}
+
 /// Writes a file.
 pub(crate) fn write_to<D: Folder>(
     alloc: Global,
@@ -54,10 +73,7 @@ pub(crate) fn write_to<D: Folder>(
     ensures steady { OnOk result (D.failure_count folder.new ≡ D.failure_count folder.old) }
     ensures refused { IfErr result (λ refusal. IsUnserved (HasFailed (D.failure_count folder.old) (D.failure_count folder.new)) refusal.fault) }
 {
-    match folder.write(alloc, name, file.bytes()) {
-        Ok(()) => Ok(()),
-        Err(fault) => Err(unserved(alloc, folder, name, fault)),
-    }
+    write_bytes_to(alloc, folder, name, file.bytes())
 }
 
 /// Writes the file of the journals, where one is named.
@@ -70,11 +86,31 @@ pub(crate) fn write_journals_to<D: Folder>(
     requires { D.failure_count folder.old < 2 ^ 64 - 1 }
     ensures written { OnOk result (HasBytes (D.holds folder.new) (text_of name.entry) file.now.bytes) }
     ensures others { AreAllKeptBut (D.holds folder.old) (D.holds folder.new) (text_of name.entry) }
+    ensures steady { OnOk result (D.failure_count folder.new ≡ D.failure_count folder.old) }
     ensures refused { IfErr result (λ refusal. AreUnwritten (text_of name.entry)
         (HasFailed (D.failure_count folder.old) (D.failure_count folder.new)) refusal.fault) }
 {
     match name {
         Some(name) => write_to(alloc, folder, name, file),
+        None => Ok(()),
+    }
+}
+
+/// Writes the file of a text, where one is named.
+pub(crate) fn write_text_to<D: Folder>(
+    alloc: Global,
+    folder: &mut D,
+    name: Option<&str>,
+    text: &str,
+) -> Result<(), Refusal>
+    requires { D.failure_count folder.old < 2 ^ 64 - 1 }
+    ensures written { OnOk result (HasBytes (D.holds folder.new) (text_of name.entry) text.now) }
+    ensures others { AreAllKeptBut (D.holds folder.old) (D.holds folder.new) (text_of name.entry) }
+    ensures refused { IfErr result (λ refusal. AreUnwritten (text_of name.entry)
+        (HasFailed (D.failure_count folder.old) (D.failure_count folder.new)) refusal.fault) }
+{
+    match name {
+        Some(name) => write_bytes_to(alloc, folder, name, text.as_bytes()),
         None => Ok(()),
     }
 }

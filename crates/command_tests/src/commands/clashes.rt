@@ -16,7 +16,7 @@ const KEPT: &[u8] = b"as it was";
 type Row = (&'static str, &'static str, &'static str, &'static str);
 
 #[rattlefmt::skip]
-const ROWS: [Row; 13] = [
+const ROWS: [Row; 18] = [
     ("an image over its text",       "xlb asm kept kept",                             "kept", "kept"),
     ("an image over its source",     "xlb asm --source kept kept",                    "kept", "kept"),
     ("a run's journals and frame",   "xlb run image kept --journals kept",            "kept", "kept"),
@@ -29,6 +29,11 @@ const ROWS: [Row; 13] = [
     ("journals and image",           "xlb replay frame sent --image kept --journals kept", "kept", "kept"),
     ("journals and script",          "xlb replay frame sent --script kept --journals kept", "kept", "kept"),
     ("journals and sent frames",     "xlb replay frame kept --journals kept",         "kept", "kept"),
+    ("a report and capture",         "xlb replay kept sent --report kept",            "kept", "kept"),
+    ("a report and image",           "xlb replay frame sent --image kept --report kept", "kept", "kept"),
+    ("a report and script",          "xlb replay frame sent --script kept --report kept", "kept", "kept"),
+    ("a report and sent frames",     "xlb replay frame kept --report kept",           "kept", "kept"),
+    ("a report and journals",        "xlb replay frame sent --journals kept --report kept", "kept", "kept"),
     ("before any fault of a file",   "xlb replay nosuch kept --image nosuch --journals kept --workers 9", "kept", "kept"),
 ];
 

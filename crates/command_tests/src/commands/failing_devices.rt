@@ -166,7 +166,7 @@ const JOURNALS: &str =
 type Row = (&'static str, u64, &'static [&'static str]);
 
 #[rattlefmt::skip]
-const ROWS: [Row; 10] = [
+const ROWS: [Row; 11] = [
     ("xlb check image", 1, &[]),
     ("xlb check --explain image", 1, &[]),
     ("xlb run image frame", 2, &[]),
@@ -177,6 +177,7 @@ const ROWS: [Row; 10] = [
     ("xlb audit image journals", 2, &[]),
     ("xlb explain 7", 0, &[]),
     ("xlb replay capture made --script script --ring 7 --journal 256 --journals more", 4, &["made", "more"]),
+    ("xlb replay capture made --script script --ring 7 --journal 256 --journals more --report lines", 5, &["made", "more", "lines"]),
 ];
 
 /// The files that the commands read.

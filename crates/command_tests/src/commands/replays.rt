@@ -101,6 +101,37 @@ const NOT_TO_LIVE: &str = "\
     01000000020000002a0000002a000000\
     02000000000102000000000208004500001c0001000000111494c6336407cb0071019c40005000080000";
 
+/// A capture of the datagram twice.
+const TWO_DATAGRAMS: &str = "\
+    d4c3b2a1020004000000000000000000ffff000001000000\
+    01000000020000002a0000002a000000\
+    02000000000102000000000208004500001c0001000040111494c6336407cb0071019c40005000080000\
+    01000000020000002a0000002a000000\
+    02000000000102000000000208004500001c0001000040111494c6336407cb0071019c40005000080000";
+
+/// A capture of the same, first in the one tunnel and then in the other.
+const IN_BOTH_TUNNELS: &str = "\
+    d4c3b2a1020004000000000000000000ffff000001000000\
+    01000000020000003e0000003e000000\
+    02000000000b02000000000a0800450000300000400040046ec00a000009c00002014500001c0001000040111494c6336407cb0071019c40005000080000\
+    01000000020000003e0000003e000000\
+    02000000000b02000000000a0800450000300000400040046ebf0a000009c00002024500001c0001000040111494c6336407cb0071019c40005000080000";
+
+/// Its backend goes down behind the first frame, and another one comes up.
+const MOVES: &str =
+    "0 gateway 10.0.0.9 02:00:00:00:00:0a 02:00:00:00:00:0b\n0 vip 203.0.113.1 80 udp\n0 up 0 192.0.2.1\n1 down 0\n1 up 1 192.0.2.2\n";
+
+/// A flow that moves, in a summary.
+const MOVED: &str = "  2 frames of TCP or UDP that fit into a tunnel
+  1 frame sent to 192.0.2.1
+  1 frame sent to 192.0.2.2
+  1 frame sent to another address than the frame of their flow before
+  2 frames for 203.0.113.1 port 80 udp
+  record 2 went to another address than the frame of its flow before
+";
+
+const TWO_TX: &str = "frames 2\nshort 0\nstopped 0\naborted 0\ndrop 0\npass 0\ntx 2\n";
+
 /// Reports of replays.
 const NO_FRAME: &str = "frames 0\nshort 0\nstopped 0\naborted 0\ndrop 0\npass 0\ntx 0\n";
 
@@ -115,7 +146,8 @@ const ONE_TX: &str = "frames 1\nshort 0\nstopped 0\naborted 0\ndrop 0\npass 0\nt
 const THREE_TX: &str = "frames 3\nshort 0\nstopped 0\naborted 0\ndrop 0\npass 0\ntx 3\n";
 
 /// Notes below reports.
-const FULL: &str = "  the journal of shard 0 is full, of map 0
+const FULL: &str = "  record 5 is the first whose run was stopped
+  the journal of shard 0 is full, of map 0
   frames whose run needs a full journal are not run to their end: --journal N, at most 1048576, and --shards N, at most 8, make more room
 ";
 
@@ -193,7 +225,7 @@ const ROWS: [Row; 18] = [
 
 /// Frames that the shipped program steers.
 #[rattlefmt::skip]
-const STEERED: [Row; 10] = [
+const STEERED: [Row; 11] = [
     ("a service's backend",      "", SERVICE, DATAGRAM, "--script script", 0, ONE_TX, "", IN_A_TUNNEL),
     ("without tracking",         "", UNTRACKED, DATAGRAM, "--script script", 0, ONE_TX, "", IN_A_TUNNEL),
     ("no backend",               "", NO_BACKEND, DATAGRAM, "--script script --ring 7", 0, ONE_DROP, "", HEAD),
@@ -203,9 +235,10 @@ const STEERED: [Row; 10] = [
     ("no tunnel",                "", NO_TUNNEL, DATAGRAM, "--script script", 0, ONE_DROP, "", HEAD),
     ("no script",                "", "", DATAGRAM, "--script script", 0, ONE_PASS, "", HEAD),
     ("a summary of one frame", "", SERVICE, DATAGRAM, "--script script --summary", 0, ONE_TX,
-        "  1 frame of TCP or UDP that fit into a tunnel\n  1 frame sent to 192.0.2.1\n", IN_A_TUNNEL),
+        "  1 frame of TCP or UDP that fit into a tunnel\n  1 frame sent to 192.0.2.1\n  1 frame for 203.0.113.1 port 80 udp\n", IN_A_TUNNEL),
+    ("a summary of a flow that moves", "", MOVES, TWO_DATAGRAMS, "--script script --exact --summary", 0, TWO_TX, MOVED, IN_BOTH_TUNNELS),
     ("a summary of one that has expired", "", SERVICE, NOT_TO_LIVE, "--script script --summary", 0, ONE_DROP,
-        "  1 frame of TCP or UDP with a time to live of 0\n", HEAD),
+        "  1 frame of TCP or UDP with a time to live of 0\n  1 frame for 203.0.113.1 port 80 udp\n  1 frame dropped, with a time to live of 0\n", HEAD),
 ];
 
 /// The files of a replay: a script, the bytes of a capture's digits, and the image of a text where there is one.

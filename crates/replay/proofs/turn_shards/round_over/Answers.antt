@@ -1,5 +1,4 @@
-use Rattle.std.proofs.Common.{◌≡◌, ◌<◌, ◌∙◌, length, refl, subst, arith}
-use Rattle.replay.specs.InTurn.{IsRoundTo}
+use Rattle.std.proofs.Common.{◌∙◌}
 use Rattle.replay.proofs.TurnLemmas.{part_count, round_more}
 use Rattle.replay.proofs.turn_shards.round_over.Goals as goal
 

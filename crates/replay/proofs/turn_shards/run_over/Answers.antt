@@ -3,7 +3,6 @@ use Rattle.std.proofs.lemmas.Result.{IfOk-weaker, IfErr-weaker}
 use Rattle.semantics.specs.declared.options.Options.{Options}
 use Rattle.semantics.specs.MachineState.{initial_state}
 use Rattle.machine.specs.Running.{program_of, Ends, StopsSo}
-use Rattle.map_port.specs.Served.{Maps}
 use Rattle.shard_port.specs.PlainPorts.{PortGives, PortRefuses, maps_of}
 use Rattle.replay.proofs.TurnLemmas.{ends_in_turn, stops_in_turn}
 use Rattle.replay.proofs.turn_shards.run_over.Goals as goal

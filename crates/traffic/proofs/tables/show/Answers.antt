@@ -1,8 +1,8 @@
-use Rattle.std.proofs.Common.{◌∙◌, ◌++◌, List, ℕ, ap, refl, true, false, string_bytes}
+use Rattle.std.proofs.Common.{◌∙◌, ◌++◌, List, [], ◌∷◌, ℕ, ap, refl, string_bytes}
 use Rattle.std.proofs.lemmas.Result.{on_ok_weaker}
 use Rattle.control.specs.FaultNumber.{control_fault_number}
 use Rattle.traffic.specs.TableText.{carried_out, done_lines, refused, refused_line}
-use Rattle.traffic.proofs.TableLemmas.{none_more, one_is}
+use Rattle.traffic.proofs.TableLemmas.{none_noted, not_refused}
 use Rattle.traffic.proofs.tables.show.Goals as goal
 
 pub returns-in-Ok-clause-shown : goal.returns-in-Ok-clause-shown
@@ -11,11 +11,11 @@ returns-in-Ok-clause-shown c =
     on_ok_weaker c.put.result
     (λ longer. (
       string_bytes c.in_ok-lines-in-Ok.lines,
-      false,
-      carried_out c.in-Ok.ensures.done
+      [],
+      carried_out (not_refused _ c.in-Ok.field-0 c.in-Ok.ensures.first) c.in-Ok.ensures.done
           (c.in_ok-lines-in-Ok.ensures ∙ ap (λ (words : List ℕ). done_lines c.args.place c.args.command.now.frame words c.apply.new.port) before) refl,
       longer ∙ ap (λ (t : List ℕ). string_bytes c.args.tables.now.text ++ t) c.as_str.ensures.value,
-      c.put.ensures.is_refused ∙ none_more c.args.tables.now.is_refused,
+      none_noted c.put.ensures.refused,
     ))
     c.put.ensures.text
 
@@ -24,9 +24,9 @@ returns-clause-shown c =
     on_ok_weaker c.refuse.result
     (λ said. (
       refused_line c.args.place (control_fault_number c.in-Err.fault),
-      true,
+      record { place = c.args.place; fault = c.in-Err.fault } ∷ [],
       refused c.in-Err.fault c.in-Err.ensures.left refl refl,
       said.0,
-      said.1 ∙ one_is c.args.tables.now.is_refused,
+      said.1,
     ))
     c.refuse.ensures

@@ -12,8 +12,8 @@ pub lines-preserved : goal.lines-preserved
 lines-preserved c =
     let shown = c.in_ok-show.ensures.shown in (
       one_more c.args.size c.lines.command-index c.lines.place c.commands-commands.result.now _ c.lines.controller c.show.new.controller c.lines.maps
-          c.show.new.maps (string_bytes c.lines.tables.text) (string_bytes c.show.new.tables.text) shown.0 c.lines.tables.is_refused
-          c.show.new.tables.is_refused shown.1
+          c.show.new.maps (string_bytes c.lines.tables.text) (string_bytes c.show.new.tables.text) shown.0 c.lines.tables.refused.items
+          c.show.new.tables.refused.items shown.1
           (drop_more c.commands-commands.result.now c.lines.command-index _ c.lines-test.true) c.lines.invariant.0 c.lines.invariant.1 shown.2 shown.3 shown.4,
       ap (λ (n : ℕ). n + 1) c.lines.invariant.1,
       c.in_ok-show.ensures.serves,
@@ -21,6 +21,6 @@ lines-preserved c =
 
 pub returns : goal.returns
 returns c =
-    subst (λ (s : List Command). AreTables c.args.size s (string_bytes c.lines.tables.text) c.lines.tables.is_refused) c.commands-commands.ensures
+    subst (λ (s : List Command). AreTables c.args.size s (string_bytes c.lines.tables.text) c.lines.tables.refused.items) c.commands-commands.ensures
     (all_shown c.args.size c.lines.command-index c.commands-commands.result.now c.lines.controller c.lines.maps (string_bytes c.lines.tables.text)
-    c.lines.tables.is_refused (omega (arith, c.lines.auto.command-index-end, c.lines-test.false)) c.lines.invariant.0)
+    c.lines.tables.refused.items (omega (arith, c.lines.auto.command-index-end, c.lines-test.false)) c.lines.invariant.0)

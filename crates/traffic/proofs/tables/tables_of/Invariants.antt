@@ -5,5 +5,5 @@ use Rattle.traffic.proofs.tables.tables_of.Given as goal
 
 abbrev pub invariant-lines : goal.invariant-lines
 invariant-lines l =
-    IsShownUntil l.size l.command-index l.commands l.controller l.maps (string_bytes l.tables.text) l.tables.is_refused
+    IsShownUntil l.size l.command-index l.commands l.controller l.maps (string_bytes l.tables.text) l.tables.refused.items
     × (l.place ≡ l.command-index) × (steering_maps l.maps.size ≡ steering_maps l.controller.size)

@@ -1,21 +1,29 @@
-use Rattle.std.proofs.Common.{◌≡◌, ◌⊎◌, inl, inr, ℕ, List, Some, rules, ap, refl, sym}
+use Rattle.std.proofs.Common.{◌≡◌, ◌≢◌, ◌⊎◌, ◌∙◌, inl, inr, ℕ, List, Some, rules, sym}
 use Rattle.command_line.specs.declared.commands.ReplayFiles.{ReplayFiles}
-use Rattle.xlb_commands.specs.Clashes.{IsReplayInput}
+use Rattle.command_line.specs.Reading.{text_of}
+use Rattle.xlb_commands.specs.Clashes.{IsOverInReplay, IsReplayInput}
 use Rattle.xlb_commands.proofs.clashes.over_in_replay.Goals as goal
 
--- journals that are no input and not the sent frames
-journals_apart : (files : ReplayFiles) (name second : List ℕ) → (IsReplayInput files second → name ≡ second → ⊥)
-    → (files.sent.now ≡ second → name ≡ second → ⊥) → IsReplayInput files second ⊎ (second ≡ files.sent.now) → name ≡ second → ⊥
-journals_apart files name second no_input not_sent (inl input) same = no_input input same
-journals_apart files name second no_input not_sent (inr is) same = not_sent (sym is) same
+-- what a replay writes: the sent frames, the journals, or the report
+replay_apart : (files : ReplayFiles) (written other : List ℕ)
+    → ((second : List ℕ) → IsReplayInput files second → files.sent.now ≢ second)
+    → ((name second : List ℕ) → text_of files.journals ≡ Some name → IsReplayInput files second ⊎ (second ≡ files.sent.now) → name ≢ second)
+    → ((name second : List ℕ) → text_of files.report ≡ Some name
+    → IsReplayInput files second ⊎ ((second ≡ files.sent.now) ⊎ (text_of files.journals ≡ Some second)) → name ≢ second)
+    → IsOverInReplay files written other → written ≢ other
+replay_apart files written other sent journals report (inl both) = λ same. sent other both.1 (sym both.0 ∙ same)
+replay_apart files written other sent journals report (inr (inl both)) = journals written other both.0 both.1
+replay_apart files written other sent journals report (inr (inr both)) = report written other both.0 both.1
 
-pub returns-clause-sent : goal.returns-clause-sent
-returns-clause-sent g c = λ none second input same.
-    c.over_inputs.ensures.none (search rules) c.args.files.now.sent.now second refl input same
+-- what was found first is found among all
+sooner : {A B : Type 0} (C : Type 0) → A ⊎ B → A ⊎ (B ⊎ C)
+sooner C (inl a) = inl a
+sooner C (inr b) = inr (inl b)
 
-pub returns-clause-journals : goal.returns-clause-journals
-returns-clause-journals g c = λ none name second named either same.
-    journals_apart c.args.files.now name second
-    (λ input. c.over_inputs-2.ensures.none (search rules) name second named input)
-    (λ is. c.over.ensures.none none name second named (ap (λ (it : List ℕ). Some it) is))
-    either same
+pub returns-in-Some-clause-found : goal.returns-in-Some-clause-found
+returns-in-Some-clause-found g c = sooner _ c.in-Some.ensures.found
+
+pub returns-clause-none : goal.returns-clause-none
+returns-clause-none g c = λ none written other over.
+    replay_apart c.args.files.now written other
+    (c.frames_or_journals_over.ensures.sent (search rules)) (c.frames_or_journals_over.ensures.journals (search rules)) (c.report_over.ensures.none none) over

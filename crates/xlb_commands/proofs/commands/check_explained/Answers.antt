@@ -1,4 +1,4 @@
-use Rattle.std.proofs.Common.{◌∙◌, ◌↔◌, ◌++◌, ℕ, List, IsTrue, refl, ap, subst, length, string_bytes}
+use Rattle.std.proofs.Common.{◌∙◌, ◌↔◌, ◌++◌, ℕ, List, IsTrue, ap, subst, length, string_bytes}
 use Rattle.ebpf_decode.specs.declared.insn.Insn.{Insn}
 use Rattle.ebpf_decode.specs.declared.map.MapDef.{MapDef}
 use Rattle.ebpf_decode.specs.InstructionEncoding.{total_slots}
@@ -8,8 +8,8 @@ use Rattle.std.proofs.lemmas.Result.{err_from_is_err_and}
 use Rattle.xlb_commands.specs.Refused.{none_to_explain, no_explanation, explained}
 use Rattle.xlb_commands.proofs.commands.check_explained.Goals as goal
 
-pub returns-in_ok-push_str-in-Ok-clause-done : goal.returns-in_ok-push_str-in-Ok-clause-done
-returns-in_ok-push_str-in-Ok-clause-done g c =
+pub returns-in-Ok-clause-done : goal.returns-in-Ok-clause-done
+returns-in-Ok-clause-done g c =
     let image = c.in_ok-image.image in
     let verified = c.in-Ok.verified in
     let maps = c.in-Ok.ensures.accepted.0 in
@@ -56,6 +56,6 @@ returns-in_err-push_str-in-Ok-clause-refused g c =
     let p = err_from_is_err_and c.from_residual-in_err-push_str-in-Ok.result c.from_residual-in_err-push_str-in-Ok.ensures.1 in
     rw p.1 (no_explanation c.in_ok-image.image c.in_ok-image.ensures.file p.2)
 
-pub returns-in-Err-clause-refused : goal.returns-in-Err-clause-refused
-returns-in-Err-clause-refused g c =
-    explained c.in_ok-image.image c.in-Err.reject c.in_ok-image.ensures.file c.in-Err.ensures.rejected refl
+pub returns-clause-refused : goal.returns-clause-refused
+returns-clause-refused g c =
+    explained c.in_ok-image.image c.in-Err.reject c.in_ok-image.ensures.file c.in-Err.ensures.rejected c.rejected_for.ensures

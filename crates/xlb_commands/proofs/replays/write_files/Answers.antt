@@ -1,7 +1,19 @@
+use Rattle.std.proofs.Common.{◌≡◌, ◌≢◌, ℕ, List, Option, Some, None, refl, subst}
 use Rattle.std.proofs.lemmas.Result.{err_from_is_err_and}
-use Rattle.xlb_commands.specs.Refused.{no_sent_file, no_journals_file}
+use Rattle.journals.specs.JournalsView.{JournalsView}
+use Rattle.journals.specs.JournalText.{journals_text}
+use Rattle.xlb_commands.specs.Files.{FileBytes, AreAllKeptBut}
+use Rattle.xlb_commands.specs.Refused.{no_sent_file, no_journals_file, no_report_file}
+use Rattle.xlb_commands.specs.Replays.{AreWritten, HasBytes}
 use Rattle.xlb_commands.proofs.Refusals.{failed_since, unfiled_since}
 use Rattle.xlb_commands.proofs.replays.write_files.Goals as goal
+
+-- the journals stay where the report is written to another file
+journals_stay : (before after : FileBytes) (name report : Option (List ℕ)) (bytes : List ℕ) (journals : JournalsView) → AreAllKeptBut before after report
+    → ((file : List ℕ) → name ≡ Some file → bytes ≡ journals_text journals) → HasBytes before name bytes → report ≢ name → AreWritten after name journals
+journals_stay before after None report bytes journals others same has apart = has
+journals_stay before after (Some file) report bytes journals others same has apart =
+    subst (λ (it : List ℕ). after file it) (same file refl) ((others file bytes apart).0 has)
 
 pub returns-in_err-write_to-clause-refused : goal.returns-in_err-write_to-clause-refused
 returns-in_err-write_to-clause-refused g c =
@@ -15,5 +27,21 @@ returns-in_err-write_journals_to-clause-refused g c =
     (no_journals_file (λ other. (c.write_journals_to.ensures.others _ _ other).0 c.in_ok-write_to.ensures.written)
     (unfiled_since _ _ _ _ (failed_since _ _ _ c.in_ok-write_to.ensures.steady) c.in_err-write_journals_to.ensures.refused))
 
+pub returns-in_err-write_text_to-clause-refused : goal.returns-in_err-write_text_to-clause-refused
+returns-in_err-write_text_to-clause-refused g c =
+    let p = err_from_is_err_and c.from_residual-in_err-write_text_to.result c.from_residual-in_err-write_text_to.ensures.1 in
+    rw (p.1, p.2)
+    (no_report_file
+    (λ other third. (c.write_text_to.ensures.others _ _ third).0 ((c.write_journals_to.ensures.others _ _ other).0 c.in_ok-write_to.ensures.written))
+    (journals_stay _ _ _ _ _ c.args.journals.now c.write_text_to.ensures.others c.requires.journals c.in_ok-write_journals_to.ensures.written)
+    (unfiled_since _ _ _ _
+    (λ failed. failed_since _ _ _ c.in_ok-write_to.ensures.steady (failed_since _ _ _ c.in_ok-write_journals_to.ensures.steady failed))
+    c.in_err-write_text_to.ensures.refused))
+
 pub returns-clause-sent : goal.returns-clause-sent
-returns-clause-sent g c = λ other. (c.write_journals_to.ensures.others _ _ other).0 c.in_ok-write_to.ensures.written
+returns-clause-sent g c = λ other third.
+    (c.write_text_to.ensures.others _ _ third).0 ((c.write_journals_to.ensures.others _ _ other).0 c.in_ok-write_to.ensures.written)
+
+pub returns-clause-journals : goal.returns-clause-journals
+returns-clause-journals g c =
+    journals_stay _ _ _ _ _ c.args.journals.now c.write_text_to.ensures.others c.requires.journals c.in_ok-write_journals_to.ensures.written

@@ -1,4 +1,4 @@
-use Rattle.std.proofs.Common.{◌≡◌, ◌≤◌, ◌<◌, ◌+◌, ℕ, length, refl, sym, ap, ◌∙◌, subst, arith}
+use Rattle.std.proofs.Common.{◌+◌, refl, sym, ◌∙◌, subst, arith}
 use Rattle.semantics.specs.declared.options.Options.{Options}
 use Rattle.machine.specs.Running.{program_of}
 use Rattle.replay.specs.InTurn.{AreTurns}

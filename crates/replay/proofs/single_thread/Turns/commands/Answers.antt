@@ -1,4 +1,4 @@
-use Rattle.std.proofs.Common.{◌≡◌, ◌≤◌, ℕ, List, refl, sym, ◌∙◌, subst, arith}
+use Rattle.std.proofs.Common.{◌≡◌, ℕ, List, refl, sym, ◌∙◌, subst, arith}
 use Rattle.replay.specs.Turns.{Turn, TheCommand, commands_between}
 use Rattle.replay.specs.InTurn.{AreTurns}
 use Rattle.replay.specs.TurnStates.{state_in}

@@ -1,13 +1,12 @@
-use Rattle.std.proofs.Common.{◌≡◌, ◌<◌, ◌≤◌, ◌+◌, ℕ, length, refl, sym, ap, ◌∙◌, subst, add-one, arith}
+use Rattle.std.proofs.Common.{◌≡◌, ◌+◌, ℕ, length, sym, ap, ◌∙◌, subst, add-one, arith}
 use Rattle.std.proofs.lemmas.List.{length-map}
 use Rattle.semantics.specs.declared.options.Options.{Options}
 use Rattle.control.specs.declared.command.Command.{Command}
 use Rattle.machine.specs.Running.{program_of}
-use Rattle.replay.specs.Turns.{TheRecord, due_to, due_before, turns_to}
-use Rattle.replay.specs.ExactReplays.{starts_in}
-use Rattle.replay.specs.InTurn.{IsTurn, AreTurns, IsSameSetting}
+use Rattle.replay.specs.Turns.{TheRecord, due_before}
+use Rattle.replay.specs.InTurn.{IsTurn}
 use Rattle.replay.specs.TurnStates.{state_in}
-use Rattle.replay.proofs.TurnLemmas.{due_is, record_more, setting_more, still_serves}
+use Rattle.replay.proofs.TurnLemmas.{due_is, record_more, setting_more}
 use Rattle.replay.proofs.single_thread.Turns.record_turns.Goals as goal
 
 pub commands-requires-clause-within : goal.commands-requires-clause-within

@@ -1,0 +1,90 @@
+//! Replays of captures with a record of more than 2048 bytes.
+
+use super::{Wanted, compare_digits, lacks, left_by, put, with_image};
+use folders::MemoryFolder;
+use std::alloc::{AllocError, Global};
+use std::process::Abort;
+use std::sync::Wait;
+use std::thread::Threads;
+
+/// Sends every frame.
+const SENDS: &str = "version 1\nmov r0, 3\nexit\n";
+
+/// The header of a capture.
+const HEADER: [u8; 24] = [
+    0xd4, 0xc3, 0xb2, 0xa1, 2, 0, 4, 0, 0, 0, 0, 0, 0, 0, 0, 0, 0xff, 0xff, 0, 0, 1, 0, 0, 0,
+];
+
+/// A record of 14 zeros.
+const RECORD: [u8; 30] = [
+    1, 0, 0, 0, 2, 0, 0, 0, 14, 0, 0, 0, 14, 0, 0, 0, 0, 0, 0, 0, 0, 0, 0, 0, 0, 0, 0, 0, 0, 0,
+];
+
+/// The head of a record of 2049 bytes.
+const LONG_HEAD: [u8; 16] = [1, 0, 0, 0, 2, 0, 0, 0, 1, 8, 0, 0, 1, 8, 0, 0];
+
+/// A capture of two frames of 14 zeros, at 1 second and 2 microseconds.
+const TWO_ZEROS: &str = "\
+    d4c3b2a1020004000000000000000000ffff000001000000\
+    01000000020000000e0000000e000000\
+    0000000000000000000000000000\
+    01000000020000000e0000000e000000\
+    0000000000000000000000000000";
+
+/// A capture of a record of 14 zeros, one of 2049 zeros, and so many bytes of another one of 14 zeros.
+fn capture(alloc: Global, bytes_of_last: usize) -> Result<Vec<u8>, AllocError> {
+    let mut bytes = Vec::from_slice(alloc, &HEADER)?;
+    bytes.extend_from_slice(&RECORD)?;
+    bytes.extend_from_slice(&LONG_HEAD)?;
+    for _ in 0..2049 {
+        bytes.push(0)?;
+    }
+    bytes.extend_from_slice(RECORD.get(..bytes_of_last).unwrap_or(&RECORD))?;
+    Ok(bytes)
+}
+
+/// What a row shows; how many bytes of the last record there are; the words after the files; what it comes to: its status, its report and its fault, or
+/// its notes; and the digits of the sent file, nothing where there is no such file.
+type Row = (
+    &'static str,
+    usize,
+    &'static str,
+    u8,
+    &'static str,
+    &'static str,
+    &'static str,
+);
+
+const TWO_TX: &str = "frames 2\nshort 0\nstopped 0\naborted 0\ndrop 0\npass 0\ntx 2\n";
+
+#[rattlefmt::skip]
+const ROWS: [Row; 3] = [
+    ("a long record is refused", 30, "--workers 1", 1, "", "fault 6 FrameTooLong record 2\n  at byte 54 of 2149\n", ""),
+    ("a long record is skipped", 30, "--skip-long", 0, TWO_TX, "  long 1: records above 2048 bytes were skipped\n", TWO_ZEROS),
+    ("a cut record behind it",   29, "--skip-long", 1, "", "fault 5 CutFrame record 2\n  at byte 2119 of 2148\n", ""),
+];
+
+/// Holds what a replay comes to against a row.
+fn compare_row<R: Abort + Threads + Wait + Sync>(rt: &R, alloc: Global, row: &Row) {
+    let (name, bytes_of_last, words, status, out, err, sent) = *row;
+    let bytes = capture(alloc, bytes_of_last).expect(rt, "a capture");
+    let folder = put(rt, alloc, MemoryFolder::new(alloc), "capture", &bytes);
+    let folder = with_image(rt, alloc, name, folder, SENDS);
+    let line = format!(in alloc; "xlb replay capture sent --image image {words}").expect(
+        rt, "a line",
+    );
+    let wanted = Wanted { status, out, err };
+    let folder = left_by(rt, alloc, name, folder, &line, wanted);
+    if sent.is_empty() {
+        lacks(rt, alloc, name, folder, "sent");
+    } else {
+        compare_digits(rt, alloc, name, folder, "sent", sent);
+    }
+}
+
+#[test]
+fn long_records_are_skipped(rt: HostRuntime) {
+    for row in &ROWS {
+        compare_row(&rt, rt.alloc(), row);
+    }
+}

@@ -1,0 +1,232 @@
+-- The account of a replay on one thread.
+use Rattle.std.proofs.Common.{◌≡◌, ℕ, zero, suc, ◌/◌, ◌<◌, List, [], ◌∷◌, length, replicate, reverse, get_or, refl, sym, ap, ◌∙◌, subst, arith}
+use Rattle.std.specs.Prelude.{Option, Some, None, slice_get, option_map}
+use Rattle.std.proofs.lemmas.List.{length-map, length-replicate, reverse-reverse}
+use Rattle.wire.specs.declared.records.Sent.{Sent}
+use Rattle.semantics.specs.declared.call.Caller.{Caller}
+use Rattle.semantics.specs.declared.call.Caller.TheVariants.{Worker, Controller, Reclaimer}
+use Rattle.semantics.specs.declared.call.Entry.{Entry}
+use Rattle.semantics.specs.declared.options.Options.{Options}
+use Rattle.semantics.specs.declared.plan.ShardPlan.{ShardPlan}
+use Rattle.semantics.specs.CallerLaws.{own_entries}
+use Rattle.semantics.specs.History.{IsLegalJournal}
+use Rattle.semantics.specs.Program.{Program}
+use Rattle.semantics.specs.Reclamation.{is_inside}
+use Rattle.semantics.specs.ShardPlan.{plan_at, AreOptions}
+use Rattle.journals.specs.JournalsView.{entries_at}
+use Rattle.shard_core.specs.JournaledShard.{JournaledShard, opened_shard}
+use Rattle.shards.specs.CallerView.{CallerView, BeginsWith, nothing_seen}
+use Rattle.shards.specs.NewShards.{shard_at}
+use Rattle.shards.specs.SharedMaps.{ArePlans}
+use Rattle.shards.specs.declared.deeds.Part.TheVariants.{ByCaller}
+use Rattle.shards.specs.Deeds.{deeds_of, made_on}
+use Rattle.shards.specs.Passes.{PassView, view_at, seen_at, AreSettled}
+use Rattle.shard_port.specs.PassSessions.{WritesOwnSessions, WritesRefusedOwnSessions}
+use Rattle.shard_port.proofs.shared.ReadyLemmas.{plan_number}
+use Rattle.control.specs.declared.command.Command.{Command}
+use Rattle.replay.specs.declared.outcome.Outcome.{Outcome}
+use Rattle.replay.specs.declared.runner.Ran.{Ran}
+use Rattle.replay.specs.Accounts.{runs_at, sent_frames}
+use Rattle.replay.specs.Accounted.{IsWorkOf, IsAccounted}
+use Rattle.replay.specs.Actors.{IsUnused, numbers_from}
+use Rattle.replay.specs.Commands.{opened_controller}
+use Rattle.replay.specs.Parts.{IsScriptRun, rounds_of}
+use Rattle.replay.specs.RunJobs.{records_of}
+use Rattle.replay.specs.RunsInOrder.{IsRunAt, IsChainOfRuns}
+use Rattle.replay.specs.RunsOverShards.{IsRunOf, IsRunIn}
+use Rattle.replay.specs.Shares.{frames_of, share}
+use Rattle.replay.specs.ExactReplays.{IsInTurn, starts_in, first_state}
+use Rattle.replay.specs.TurnsAccounted.{TurnsAreAccounted}
+use Rattle.replay.proofs.Accounts.{IsOwnIn, chain_stands}
+use Rattle.replay.proofs.CommandAccounts.{commander_of_nothing}
+use Rattle.replay.proofs.PartLemmas.{script_stands, rounds_stand}
+use Rattle.replay.proofs.RoundLemmas.{no_round}
+use Rattle.replay.proofs.TurnDeeds.{IsPassOf}
+use Rattle.replay.proofs.TurnSimulation.{IsSimulated, all_turned}
+
+-- ---- shards that were opened
+
+one_opened : (found : Option ShardPlan) (one : JournaledShard) → Some one ≡ option_map opened_shard found →
+    (found ≡ Some one.plan) × (one ≡ opened_shard one.plan)
+one_opened None one is = absurd cc
+one_opened (Some plan) one is =
+    let same : one ≡ opened_shard plan = cc in
+    (ap (λ (shard : JournaledShard). Some shard.plan) (sym same), same ∙ ap (λ (shard : JournaledShard). opened_shard shard.plan) (sym same))
+
+there_at : (shards : List JournaledShard) (number : ℕ) (other : JournaledShard) → number < length shards → slice_get shards number ≡ Some (get_or shards number other)
+there_at [] number other within = absurd (omega (arith, within))
+there_at (one ∷ rest) zero other within = refl
+there_at (one ∷ rest) (suc number) other within = there_at rest number other (omega (arith, within))
+
+-- ---- a pass that has seen nothing
+
+same_each : {A : Type 0} (count place : ℕ) (x : A) → get_or (replicate count x) place x ≡ x
+same_each zero place x = refl
+same_each (suc count) zero x = refl
+same_each (suc count) (suc place) x = same_each count place x
+
+abbrev unused : ℕ → Caller → PassView
+unused count who = record { who = who; views = replicate count nothing_seen; deeds = [] }
+
+unused_at : (count : ℕ) (who : Caller) (number : ℕ) → view_at (unused count who) number ≡ nothing_seen
+unused_at count who number = same_each count number nothing_seen
+
+is_unused : (count : ℕ) (who : Caller) → IsUnused (unused count who)
+is_unused count who = (unused_at count who, refl)
+
+unused_mine : (count : ℕ) (who : Caller) → IsPassOf count who [] (unused count who)
+unused_mine count who = record {
+  caller = refl;
+  sized = length-replicate count nothing_seen;
+  own = λ number within. ap (λ (view : CallerView). view.own) (unused_at count who number);
+  begins = λ number within. ([], sym (ap (λ (view : CallerView). view.seen) (unused_at count who number)));
+  did = refl;
+}
+
+-- ---- the account
+
+module _ (program : Program) (script : List Command) (options : Options) (records : List Sent) (outcome : Outcome) (are : AreOptions program.maps options)
+    (turns : IsInTurn program script options records outcome) (writes : WritesOwnSessions) (writes_refused : WritesRefusedOwnSessions) where
+  abbrev count : ℕ
+  count = length turns.opened
+
+  abbrev plan : ℕ → ShardPlan
+  plan number = (shard_at turns.opened number).plan
+
+  opened_at : (number : ℕ) → number < count →
+      (plan_at program.maps options number ≡ Some (plan number)) × (shard_at turns.opened number ≡ opened_shard (plan number))
+  opened_at number within =
+      one_opened (plan_at program.maps options number) (shard_at turns.opened number)
+      (sym (there_at turns.opened number _ within) ∙ turns.opened_are.each number within)
+
+  plans : ArePlans program.maps options count plan
+  plans = record { count_is = turns.opened_are.count; each = λ number within. (opened_at number within).0 }
+
+  numbered : (number : ℕ) → number < count → (plan number).number ≡ number
+  numbered number within = (plan_number options number (slice_get program.maps (number / options.shards)) (plan number) (opened_at number within).0).0
+
+  staffed : (worker : ℕ) → worker < options.workers → (number : ℕ) → number < count → worker < (plan number).workers
+  staffed worker below number within =
+      subst (λ (n : ℕ). worker < n)
+      (sym (plan_number options number (slice_get program.maps (number / options.shards)) (plan number) (opened_at number within).0).3) below
+
+  no_runs : (worker : ℕ) → runs_at (replicate options.workers []) worker ≡ []
+  no_runs worker = same_each options.workers worker []
+
+  -- before the first turn
+  first : IsSimulated program script options records turns.size plan count 0 0 0 (first_state program options turns.opened turns.size)
+  first = record {
+    order = [];
+    sound = record { within = tt; met = tt; legal = λ number within. tt };
+    left = record {
+      sized = refl;
+      planned = λ number within. refl;
+      written = λ number within. ap (λ (one : JournaledShard). reverse one.journal) (opened_at number within).1;
+    };
+    maps = refl;
+    options_are = refl;
+    runs = replicate options.workers [];
+    lists = length-replicate options.workers [];
+    passes = λ worker. unused count (Worker worker);
+    mine = λ worker below. unused_mine count (Worker worker);
+    outside = λ worker below number within. ap (λ (view : CallerView). is_inside worker view.own) (unused_at count (Worker worker) number);
+    handled = λ worker below. record {
+      records_are = ap records_of (no_runs worker);
+      before = unused count (Worker worker);
+      is_new = record { who = refl; nothing = unused_at count (Worker worker); idle = refl };
+      chain = subst (λ (list : List Ran). IsChainOfRuns (IsRunAt (IsRunOf count plan program worker) records) (unused count (Worker worker)) list
+          (unused count (Worker worker))) (sym (no_runs worker)) refl;
+    };
+    counts = refl;
+    sent = refl;
+    ends = refl;
+    controller = unused count Controller;
+    controls = unused_mine count Controller;
+    each_once = refl;
+    account = (commander_of_nothing plan script [] turns.size (opened_controller turns.size) program.maps options (unused count Controller)
+        (record { maps = program.maps; options = options; pass = unused count Controller }) (is_unused count Controller) refl turns.serves refl refl refl).account;
+    reclaimer = unused count Reclaimer;
+    reclaims = unused_mine count Reclaimer;
+    reclaimed = no_round plan count (unused count Reclaimer) (is_unused count Reclaimer);
+  }
+
+  -- behind the last one
+  ended : IsSimulated program script options records turns.size plan count (length records) (length (starts_in script)) (rounds_of (length records)) turns.last
+  ended = all_turned program script options records turns.size plan count writes writes_refused are.some_worker numbered staffed (starts_in script)
+      (length records) (first_state program options turns.opened turns.size) turns.last first turns.in_order
+
+  in_last : (number : ℕ) → number < count → number < length turns.last.all.shards
+  in_last number within = subst (λ (n : ℕ). number < n) (sym ended.left.sized) within
+
+  history_is : (number : ℕ) → number < count → made_on number ended.order ≡ reverse (entries_at outcome.journals number)
+  history_is number within = sym (ended.left.written number within) ∙ ap reverse (sym (turns.journals number (in_last number within)))
+
+  settled : (who : Caller) (pass : PassView) → IsPassOf count who ended.order pass → AreSettled count outcome.journals pass
+  settled who pass mine number within = record {
+    begins = subst (λ (history : List Entry). BeginsWith history (seen_at pass number)) (history_is number within) (mine.begins number within);
+    own = mine.own number within ∙ ap (own_entries who) (history_is number within)
+        ∙ ap (λ (one : Caller). own_entries one (reverse (entries_at outcome.journals number))) (sym mine.caller);
+  }
+
+  owned : (who : Caller) (pass : PassView) → IsPassOf count who ended.order pass → IsOwnIn ended.order pass
+  owned who pass mine = mine.did ∙ ap (λ (one : Caller). deeds_of (ByCaller one) ended.order) (sym mine.caller)
+
+  work : (worker : ℕ) → worker < options.workers → IsWorkOf (IsRunAt (IsRunIn plan count program worker outcome.journals) records)
+      (share (frames_of records) options.workers worker (length records)) worker (runs_at ended.runs worker) count outcome.journals ended.order
+  work worker below =
+      let did = ended.handled worker below in
+      let mine = ended.mine worker below in
+      record {
+        after = ended.passes worker;
+        handled = record {
+          records_are = did.records_are;
+          before = did.before;
+          is_new = did.is_new;
+          chain = chain_stands count plan program worker records outcome.journals did.before (runs_at ended.runs worker) (ended.passes worker)
+              (λ number within. (settled (Worker worker) (ended.passes worker) mine number within).begins) did.chain;
+        };
+        own = λ number within. mine.own number within ∙ ap (own_entries (Worker worker)) (history_is number within);
+        did = mine.did;
+      }
+
+  script_run : IsScriptRun plan program.maps options script turns.size turns.last.noted ended.controller
+  script_run = record {
+    each_once = ended.each_once ∙ ap (λ (n : ℕ). numbers_from 0 n) (length-map script (λ line. line.frame));
+    state = turns.last.controller;
+    account = ended.account;
+    who = ended.controls.caller;
+  }
+
+  accounted : IsAccounted program script options records outcome
+  accounted = record {
+    maps = turns.maps;
+    options_are = turns.options_are;
+    count = count;
+    count_is = turns.count_is ∙ ended.left.sized;
+    plan = plan;
+    plans = plans;
+    legal = λ number within. subst (λ (p : ShardPlan). IsLegalJournal p (entries_at outcome.journals number)) (ended.left.planned number within)
+        (turns.legal number (in_last number within));
+    order = ended.order;
+    ordered = record {
+      within = ended.sound.within;
+      journals_are = λ number within. sym (reverse-reverse (entries_at outcome.journals number)) ∙ ap reverse (sym (history_is number within));
+      met = ended.sound.met;
+    };
+    runs = ended.runs;
+    workers = ended.lists;
+    work = work;
+    counts = turns.counts ∙ ended.counts;
+    each_once = turns.each_once;
+    sent = ap sent_frames turns.sent ∙ ended.sent;
+    ends = turns.ends ∙ ended.ends;
+    commands = script_stands plan program.maps options count script turns.size turns.last.noted ended.controller outcome.journals ended.order
+        outcome.refused.items plans are turns.size_is_served turns.serves script_run (settled Controller ended.controller ended.controls)
+        (owned Controller ended.controller ended.controls) turns.refused;
+    rounds = rounds_stand plan count (rounds_of (length records)) outcome.journals ended.order ended.reclaimer ended.reclaims.caller
+        (settled Reclaimer ended.reclaimer ended.reclaims) (owned Reclaimer ended.reclaimer ended.reclaims) ended.reclaimed;
+  }
+
+pub turns_are_accounted : WritesOwnSessions → WritesRefusedOwnSessions → TurnsAreAccounted
+turns_are_accounted writes writes_refused program script options records outcome are turns =
+    accounted program script options records outcome are turns writes writes_refused

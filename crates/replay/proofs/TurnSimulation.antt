@@ -1,0 +1,512 @@
+-- A replay on one thread, turn after turn, as one order of all deeds with a pass for each caller.
+use Rattle.std.proofs.Common.{◌≡◌, ⊎_elim, ℕ, zero, suc, ◌+◌, ◌-◌, ◌/◌, ◌%◌, ◌<◌, ◌≤◌, ◌==◌, nat_lt, Bool, true, false, List, [], ◌∷◌, ◌++◌, length, map, refl, sym, ap, ◌∙◌, subst, arith, eq-eqb, ne_eqb}
+use Rattle.std.specs.Prelude.{Option, Some, None, slice_get, if◌then◌else◌}
+use Rattle.std.proofs.Math.Nat.{mod-lt, div-add-mod}
+use Rattle.std.proofs.lemmas.Bool.{cases_eq}
+use Rattle.std.proofs.lemmas.Bool.Decides.{nat_tests}
+use Rattle.wire.specs.FrameView.{FrameView}
+use Rattle.wire.specs.declared.records.Sent.{Sent}
+use Rattle.semantics.specs.declared.call.Caller.TheVariants.{Worker, Controller, Reclaimer}
+use Rattle.semantics.proofs.shared.EachLemmas.{set_count}
+use Rattle.semantics.specs.declared.options.Options.{Options}
+use Rattle.semantics.specs.declared.plan.ShardPlan.{ShardPlan}
+use Rattle.semantics.specs.Program.{Program}
+use Rattle.ebpf_decode.specs.declared.map.MapDef.{MapDef}
+use Rattle.machine.specs.declared.exit.Stop.{Stop}
+use Rattle.machine.specs.declared.exit.Stop.TheVariants.{JournalFull}
+use Rattle.shard_core.specs.JournaledShard.{JournaledShard}
+use Rattle.shards.specs.declared.deeds.Deed.{Deed}
+use Rattle.shards.specs.Passes.{PassView}
+use Rattle.shard_port.specs.PassSessions.{WritesOwnSessions, WritesRefusedOwnSessions, IsOutsideAt}
+use Rattle.runs.specs.FrameRuns.{HasStopped}
+use Rattle.control.specs.declared.command.Command.{Command}
+use Rattle.control.specs.Controlling.{ControllerState}
+use Rattle.replay.specs.declared.account.Counts.{Counts}
+use Rattle.replay.specs.declared.outcome.Applied.{Applied}
+use Rattle.replay.specs.declared.outcome.RecordEnd.{RecordEnd}
+use Rattle.replay.specs.declared.runner.Ran.{Ran}
+use Rattle.replay.specs.declared.runner.RunEnd.{RunEnd}
+use Rattle.replay.specs.declared.runner.RunEnd.TheVariants.{Stopped, Exited}
+use Rattle.replay.specs.Shares.{frames_of, frame_at, is_short, worker_of_frame, share}
+use Rattle.replay.specs.Accounts.{SentFrame, runs_at, end_at, fate_of, counted, counts_of, sent_by, sent_frames, sent_of, record_end, ends_of, AreRunsOfShares}
+use Rattle.replay.specs.Actors.{numbers_from}
+use Rattle.replay.specs.Commands.{IsAccount}
+use Rattle.replay.specs.Parts.{numbers_of}
+use Rattle.replay.specs.Rounds.{AreReclaimed}
+use Rattle.replay.specs.RunsInOrder.{IsRunAt, HasHandled}
+use Rattle.replay.specs.RunsOverShards.{IsNewPass, IsRunOf, start_of}
+use Rattle.replay.specs.Turns.{Turn, TheCommand, TheRecord, TheRound, due_to, due_before, commands_between, rounds_at, turns_to, all_turns}
+use Rattle.replay.specs.InTurn.{IsRunInTurn, IsHandled, TurnState, IsRecordTurn, IsCommandTurn, IsRoundTurn, AreTurns}
+use Rattle.replay.proofs.CommandAccounts.{account_more}
+use Rattle.replay.proofs.PartLemmas.{numbers_next}
+use Rattle.replay.proofs.PutLemmas.{share_of_short, share_of_other, share_of_own, worker_below}
+use Rattle.replay.proofs.TurnDeeds.{IsSound, AreLeftBy, IsPassOf, Stands, IsMoreBy, others_stay}
+use Rattle.replay.proofs.TurnLeaving.{ends_by_pass, stops_by_pass}
+use Rattle.replay.proofs.TurnCommands.{by_pass, command_by_pass}
+use Rattle.replay.proofs.TurnRounds.{round_by_pass}
+use Rattle.replay.proofs.TurnFates.{records_push, chain_push, with_run, run_here, run_else, fates_stay, fate_now, counts_stay, sent_stays, ends_stay}
+
+-- ---- lists
+
+record_there : (records : List Sent) (number : ℕ) (captured : Sent) → slice_get records number ≡ Some captured →
+    frame_at (frames_of records) number ≡ captured.bytes.items
+record_there [] number captured known = absurd cc
+record_there (first ∷ later) zero captured known = let same : first ≡ captured = cc in ap (λ (sent : Sent). sent.bytes.items) same
+record_there (first ∷ later) (suc number) captured known = record_there later number captured known
+
+-- ---- where a replay stands
+
+module _ (program : Program) (script : List Command) (options : Options) (records : List Sent) (size : ℕ) (plan : ℕ → ShardPlan) (count : ℕ) where
+  pub record IsSimulated (number next rounds : ℕ) (state : TurnState) : Type 0 where
+    pub order : List Deed
+    pub sound : IsSound plan count order
+    pub left : AreLeftBy plan count order state.all.shards
+    pub maps : state.all.maps ≡ program.maps
+    pub options_are : state.all.options ≡ options
+    -- the workers
+    pub runs : List (List Ran)
+    pub lists : length runs ≡ options.workers
+    pub passes : ℕ → PassView
+    pub mine : (worker : ℕ) → worker < options.workers → IsPassOf count (Worker worker) order (passes worker)
+    pub outside : (worker : ℕ) → worker < options.workers → (shard : ℕ) → shard < count → IsOutsideAt worker (passes worker) shard
+    pub handled : (worker : ℕ) → worker < options.workers →
+        HasHandled (IsNewPass worker) (IsRunAt (IsRunOf count plan program worker) records) (share (frames_of records) options.workers worker number)
+        (runs_at runs worker) (passes worker)
+    pub counts : state.counts ≡ counts_of (frames_of records) options.workers runs number
+    pub sent : sent_frames state.sent ≡ sent_of (frames_of records) options.workers runs number
+    pub ends : state.ends ≡ ends_of (frames_of records) options.workers runs number
+    -- the controller
+    pub controller : PassView
+    pub controls : IsPassOf count Controller order controller
+    pub each_once : numbers_of state.noted ≡ numbers_from 0 next
+    pub account : IsAccount plan program.maps options script size state.noted state.controller controller
+    -- the reclaimer
+    pub reclaimer : PassView
+    pub reclaims : IsPassOf count Reclaimer order reclaimer
+    pub reclaimed : AreReclaimed plan count rounds reclaimer
+
+module _ (program : Program) (script : List Command) (options : Options) (records : List Sent) (size : ℕ) (plan : ℕ → ShardPlan) (count : ℕ)
+    (writes : WritesOwnSessions) (writes_refused : WritesRefusedOwnSessions) (some_worker : 0 < options.workers)
+    (numbered : (number : ℕ) → number < count → (plan number).number ≡ number)
+    (staffed : (worker : ℕ) → worker < options.workers → (number : ℕ) → number < count → worker < (plan number).workers) where
+  abbrev Simulated : ℕ → ℕ → ℕ → TurnState → Type 0
+  Simulated = IsSimulated program script options records size plan count
+
+  abbrev frames : List (List ℕ)
+  frames = frames_of records
+
+  -- what became of a record that is long enough
+  abbrev fate_long : List (List Ran) → ℕ → Option RunEnd
+  fate_long runs number =
+      end_at (runs_at runs (worker_of_frame (frame_at frames number) options.workers))
+      (length (share frames options.workers (worker_of_frame (frame_at frames number) options.workers) number))
+
+  -- ---- a round
+
+  round_turn : (number next rounds : ℕ) (before after : TurnState) → Simulated number next rounds before → IsRoundTurn before after →
+      Simulated number next (rounds + 1) after
+  round_turn number next rounds before after was turn =
+      let done = round_by_pass plan count numbered rounds was.order was.reclaimer before.all.shards after.all.shards
+      (record { sound = was.sound; left = was.left; mine = was.reclaims }) was.reclaimed turn.round in
+      record {
+        order = done.order';
+        sound = done.stands.sound;
+        left = done.stands.left;
+        maps = turn.maps ∙ was.maps;
+        options_are = turn.options ∙ was.options_are;
+        runs = was.runs;
+        lists = was.lists;
+        passes = was.passes;
+        mine = λ worker below. others_stay count Reclaimer (Worker worker) was.order done.order' (was.passes worker) done.more refl (was.mine worker below);
+        outside = was.outside;
+        handled = was.handled;
+        counts = turn.counts ∙ was.counts;
+        sent = ap sent_frames turn.sent ∙ was.sent;
+        ends = turn.ends ∙ was.ends;
+        controller = was.controller;
+        controls = others_stay count Reclaimer Controller was.order done.order' was.controller done.more refl was.controls;
+        each_once = ap numbers_of turn.noted ∙ was.each_once;
+        account = subst (λ (state : ControllerState). IsAccount plan program.maps options script size after.noted state was.controller) (sym turn.controller)
+            (subst (λ (noted : List Applied). IsAccount plan program.maps options script size noted before.controller was.controller) (sym turn.noted) was.account);
+        reclaimer = done.pass';
+        reclaims = done.stands.mine;
+        reclaimed = done.reclaimed;
+      }
+
+  -- ---- a command
+
+  command_turn : (number next rounds : ℕ) (before after : TurnState) → Simulated number next rounds before → IsCommandTurn script next before after →
+      Simulated number (next + 1) rounds after
+  command_turn number next rounds before after was turn =
+      let done = command_by_pass plan count numbered turn.fault was.order was.controller before.controller before.all turn.command.action after.controller
+      after.all (record { sound = was.sound; left = was.left; mine = was.controls }) turn.did turn.first in
+      let last : Applied = record { command = next; fault = turn.fault } in
+      let maps : after.all.maps ≡ program.maps = done.effect.moved.maps ∙ was.maps in
+      let options_are : after.all.options ≡ options = done.effect.moved.options ∙ was.options_are in
+      let there : IsAccount plan before.all.maps before.all.options script size before.noted before.controller was.controller =
+      subst (λ (o : Options). IsAccount plan before.all.maps o script size before.noted before.controller was.controller) (sym was.options_are)
+      (subst (λ (m : List MapDef). IsAccount plan m options script size before.noted before.controller was.controller) (sym was.maps) was.account) in
+      let more : IsAccount plan after.all.maps after.all.options script size (before.noted ++ last ∷ []) after.controller done.pass' =
+      account_more plan script size before.noted before.controller after.controller (by_pass before.all was.controller) (by_pass after.all done.pass')
+      turn.command last there turn.known done.effect in
+      let moved : IsAccount plan program.maps options script size (before.noted ++ last ∷ []) after.controller done.pass' =
+      subst (λ (o : Options). IsAccount plan program.maps o script size (before.noted ++ last ∷ []) after.controller done.pass') options_are
+      (subst (λ (m : List MapDef). IsAccount plan m after.all.options script size (before.noted ++ last ∷ []) after.controller done.pass') maps more) in
+      record {
+        order = done.order';
+        sound = done.stands.sound;
+        left = done.stands.left;
+        maps = maps;
+        options_are = options_are;
+        runs = was.runs;
+        lists = was.lists;
+        passes = was.passes;
+        mine = λ worker below. others_stay count Controller (Worker worker) was.order done.order' (was.passes worker) done.more refl (was.mine worker below);
+        outside = was.outside;
+        handled = was.handled;
+        counts = turn.counts ∙ was.counts;
+        sent = ap sent_frames turn.sent ∙ was.sent;
+        ends = turn.ends ∙ was.ends;
+        controller = done.pass';
+        controls = done.stands.mine;
+        each_once = numbers_next before.noted after.noted last next was.each_once refl turn.noted;
+        account = subst (λ (noted : List Applied). IsAccount plan program.maps options script size noted after.controller done.pass') (sym turn.noted) moved;
+        reclaimer = was.reclaimer;
+        reclaims = others_stay count Controller Reclaimer was.order done.order' was.reclaimer done.more refl was.reclaims;
+        reclaimed = was.reclaimed;
+      }
+
+  -- ---- a run
+
+  record IsRunByPass (worker : ℕ) (captured : Sent) (order : List Deed) (pass : PassView) (end : RunEnd) (after : List JournaledShard) : Type 0 where
+    order' : List Deed
+    pass' : PassView
+    more : IsMoreBy (Worker worker) order order'
+    stands : Stands plan count (Worker worker) order' after pass'
+    outside : (shard : ℕ) → shard < count → IsOutsideAt worker pass' shard
+    run : IsRunOf count plan program worker captured pass end pass'
+
+  stop_outside : (worker : ℕ) (captured : Sent) (before after : PassView) (frame : FrameView) (stop : Stop) →
+      HasStopped program (start_of captured worker) plan count worker before after frame stop → (shard : ℕ) → shard < count → IsOutsideAt worker after shard
+  stop_outside worker captured before after frame (JournalFull shard) was = was.sessions.outside
+
+  run_by_pass : (worker : ℕ) (captured : Sent) (order : List Deed) (pass : PassView) (end : RunEnd) (before after : List JournaledShard) →
+      worker < options.workers → Stands plan count (Worker worker) order before pass → ((shard : ℕ) → shard < count → IsOutsideAt worker pass shard) →
+      IsRunInTurn program captured worker before end after → IsRunByPass worker captured order pass end after
+  run_by_pass worker captured order pass Stopped before after below stands outside turn =
+      let done = stops_by_pass plan count worker numbered (staffed worker below) writes_refused program (start_of captured worker) order before after pass
+      turn.frame turn.stop stands outside turn.run in
+      record {
+        order' = done.order';
+        pass' = done.pass';
+        more = done.more;
+        stands = done.stands;
+        outside = stop_outside worker captured pass done.pass' turn.frame turn.stop done.run;
+        run = record { frame = turn.frame; stop = turn.stop; run = done.run };
+      }
+  run_by_pass worker captured order pass (Exited steps fate) before after below stands outside turn =
+      let done = ends_by_pass plan count worker numbered (staffed worker below) writes program (start_of captured worker) order before after pass
+      turn.verdict turn.steps turn.frame stands outside turn.run in
+      record {
+        order' = done.order';
+        pass' = done.pass';
+        more = done.more;
+        stands = done.stands;
+        outside = done.run.sessions.outside;
+        run = record { verdict = turn.verdict; steps = turn.steps; frame = turn.frame; run = done.run; told = turn.told; counted = turn.counted };
+      }
+
+  -- ---- a record
+
+  -- one that is too short changes nothing
+  short_turn : (number next rounds : ℕ) (before after : TurnState) (captured : Sent) → Simulated number next rounds before →
+      frame_at frames number ≡ captured.bytes.items → is_short captured.bytes.items ≡ true → after.all.shards ≡ before.all.shards →
+      after.all.maps ≡ before.all.maps → after.all.options ≡ before.all.options → after.controller ≡ before.controller → after.noted ≡ before.noted →
+      after.counts ≡ counted before.counts None → sent_frames after.sent ≡ sent_frames before.sent ++ [] →
+      after.ends ≡ before.ends ++ record_end (worker_of_frame captured.bytes.items options.workers) None ∷ [] → Simulated (suc number) next rounds after
+  short_turn number next rounds before after captured was there short shards maps opts controller noted counts sent ends =
+      let is : is_short (frame_at frames number) ≡ true = ap is_short there ∙ short in
+      let none : fate_of frames options.workers was.runs number ≡ None =
+      ap (λ (test : Bool). if test then None else fate_long was.runs number) is in
+      record {
+        order = was.order;
+        sound = was.sound;
+        left = subst (λ (list : List JournaledShard). AreLeftBy plan count was.order list) (sym shards) was.left;
+        maps = maps ∙ was.maps;
+        options_are = opts ∙ was.options_are;
+        runs = was.runs;
+        lists = was.lists;
+        passes = was.passes;
+        mine = was.mine;
+        outside = was.outside;
+        handled = λ worker below. subst (λ (numbers : List ℕ). HasHandled (IsNewPass worker) (IsRunAt (IsRunOf count plan program worker) records) numbers
+            (runs_at was.runs worker) (was.passes worker)) (sym (share_of_short frames options.workers worker number is)) (was.handled worker below);
+        counts = counts ∙ ap (λ (c : Counts). counted c None) was.counts
+            ∙ ap (λ (fate : Option RunEnd). counted (counts_of frames options.workers was.runs number) fate) (sym none);
+        sent = sent ∙ ap (λ (list : List SentFrame). list ++ sent_by None) was.sent
+            ∙ ap (λ (fate : Option RunEnd). sent_of frames options.workers was.runs number ++ sent_by fate) (sym none);
+        ends = ends ∙ ap (λ (list : List RecordEnd). list ++ record_end (worker_of_frame captured.bytes.items options.workers) None ∷ []) was.ends
+            ∙ ap (λ (bytes : List ℕ). ends_of frames options.workers was.runs number ++ record_end (worker_of_frame bytes options.workers) None ∷ []) (sym there)
+            ∙ ap (λ (fate : Option RunEnd). ends_of frames options.workers was.runs number ++
+            record_end (worker_of_frame (frame_at frames number) options.workers) fate ∷ []) (sym none);
+        controller = was.controller;
+        controls = was.controls;
+        each_once = ap numbers_of noted ∙ was.each_once;
+        account = subst (λ (state : ControllerState). IsAccount plan program.maps options script size after.noted state was.controller) (sym controller)
+            (subst (λ (list : List Applied). IsAccount plan program.maps options script size list before.controller was.controller) (sym noted) was.account);
+        reclaimer = was.reclaimer;
+        reclaims = was.reclaims;
+        reclaimed = was.reclaimed;
+      }
+
+  -- any other one is one run more of the worker of its flow
+  module _ (number next rounds : ℕ) (before after : TurnState) (captured : Sent) (was : Simulated number next rounds before)
+      (known : slice_get records number ≡ Some captured) (long : is_short captured.bytes.items ≡ false) (end : RunEnd)
+      (turn : IsRunInTurn program captured (worker_of_frame captured.bytes.items options.workers) before.all.shards end after.all.shards) where
+    abbrev own : ℕ
+    own = worker_of_frame captured.bytes.items options.workers
+
+    there : frame_at frames number ≡ captured.bytes.items
+    there = record_there records number captured known
+
+    who : worker_of_frame (frame_at frames number) options.workers ≡ own
+    who = ap (λ (bytes : List ℕ). worker_of_frame bytes options.workers) there
+
+    is_long : is_short (frame_at frames number) ≡ false
+    is_long = ap is_short there ∙ long
+
+    below_own : own < options.workers
+    below_own = worker_below captured.bytes.items options.workers some_worker
+
+    done : IsRunByPass own captured was.order (was.passes own) end after.all.shards
+    done = run_by_pass own captured was.order (was.passes own) end before.all.shards after.all.shards below_own
+        (record { sound = was.sound; left = was.left; mine = was.mine own below_own }) (was.outside own below_own) turn
+
+    abbrev ran : Ran
+    ran = record { number = number; end = end }
+
+    abbrev runs' : List (List Ran)
+    runs' = with_run own ran was.runs
+
+    abbrev passes' : ℕ → PassView
+    passes' worker = if worker == own then done.pass' else was.passes worker
+
+    pass_here : passes' own ≡ done.pass'
+    pass_here = ap (λ (test : Bool). if test then done.pass' else was.passes own) (eq-eqb own own refl)
+
+    pass_else : (worker : ℕ) → (worker ≡ own → ⊥) → passes' worker ≡ was.passes worker
+    pass_else worker apart = ap (λ (test : Bool). if test then done.pass' else was.passes worker) (ne_eqb worker own apart)
+
+    are : AreRunsOfShares frames options.workers number was.runs
+    are worker below = (was.handled worker below).records_are
+
+    within : own < length was.runs
+    within = subst (λ (n : ℕ). own < n) (sym was.lists) below_own
+
+    -- what is so of each worker's runs and pass
+    abbrev OfEach : (ℕ → List Ran → PassView → Type 0) → Type 0
+    OfEach P = (worker : ℕ) → worker < options.workers → P worker (runs_at runs' worker) (passes' worker)
+
+    each : (P : ℕ → List Ran → PassView → Type 0) → P own (runs_at was.runs own ++ ran ∷ []) done.pass' →
+        ((worker : ℕ) → worker < options.workers → (worker ≡ own → ⊥) → P worker (runs_at was.runs worker) (was.passes worker)) → OfEach P
+    each P here others worker below = ⊎_elim
+        (λ (same : worker ≡ own). subst (λ (w : ℕ). P w (runs_at runs' w) (passes' w)) (sym same)
+        (subst (λ (list : List Ran). P own list (passes' own)) (sym (run_here own ran was.runs within))
+        (subst (λ (pass : PassView). P own (runs_at was.runs own ++ ran ∷ []) pass) (sym pass_here) here)))
+        (λ (apart : worker ≡ own → ⊥). subst (λ (list : List Ran). P worker list (passes' worker)) (sym (run_else own worker ran was.runs apart))
+        (subst (λ (pass : PassView). P worker (runs_at was.runs worker) pass) (sym (pass_else worker apart)) (others worker below apart)))
+        (cases_eq worker own)
+
+    mine_then : OfEach (λ worker list pass. IsPassOf count (Worker worker) done.order' pass)
+    mine_then = each (λ worker list pass. IsPassOf count (Worker worker) done.order' pass) done.stands.mine
+        (λ worker below apart. others_stay count (Worker own) (Worker worker) was.order done.order' (was.passes worker) done.more
+        (ne_eqb own worker (λ same. apart (sym same))) (was.mine worker below))
+
+    outside_then : OfEach (λ worker list pass. (shard : ℕ) → shard < count → IsOutsideAt worker pass shard)
+    outside_then = each (λ worker list pass. (shard : ℕ) → shard < count → IsOutsideAt worker pass shard) done.outside
+        (λ worker below apart. was.outside worker below)
+
+    handled_then : OfEach (λ worker list pass. HasHandled (IsNewPass worker) (IsRunAt (IsRunOf count plan program worker) records)
+        (share frames options.workers worker (suc number)) list pass)
+    handled_then = each (λ worker list pass. HasHandled (IsNewPass worker) (IsRunAt (IsRunOf count plan program worker) records)
+        (share frames options.workers worker (suc number)) list pass)
+        (record {
+          records_are = records_push (runs_at was.runs own) ran ∙ ap (λ (list : List ℕ). list ++ number ∷ []) (was.handled own below_own).records_are
+              ∙ sym (share_of_own frames options.workers own number is_long (eq-eqb (worker_of_frame (frame_at frames number) options.workers) own who));
+          before = (was.handled own below_own).before;
+          is_new = (was.handled own below_own).is_new;
+          chain = chain_push (IsRunAt (IsRunOf count plan program own) records) (was.handled own below_own).before (was.passes own) done.pass'
+              (runs_at was.runs own) ran (was.handled own below_own).chain (record { sent = captured; known = known; run = done.run });
+        })
+        (λ worker below apart. subst (λ (numbers : List ℕ). HasHandled (IsNewPass worker) (IsRunAt (IsRunOf count plan program worker) records) numbers
+        (runs_at was.runs worker) (was.passes worker))
+        (sym (share_of_other frames options.workers worker number is_long
+        (ne_eqb (worker_of_frame (frame_at frames number) options.workers) worker (λ same. apart (sym same ∙ who)))))
+        (was.handled worker below))
+
+    fate : fate_of frames options.workers runs' number ≡ Some end
+    fate = fate_now frames options.workers own number ran was.runs below_own was.lists are is_long who
+
+    same_below : (one : ℕ) → one < number → fate_of frames options.workers runs' one ≡ fate_of frames options.workers was.runs one
+    same_below = fates_stay frames options.workers own number ran was.runs below_own was.lists are
+
+    long_turn : after.all.maps ≡ before.all.maps → after.all.options ≡ before.all.options → after.controller ≡ before.controller →
+        after.noted ≡ before.noted → after.counts ≡ counted before.counts (Some end) → sent_frames after.sent ≡ sent_frames before.sent ++ sent_by (Some end) →
+        after.ends ≡ before.ends ++ record_end own (Some end) ∷ [] → Simulated (suc number) next rounds after
+    long_turn maps opts controller noted counts sent ends = record {
+      order = done.order';
+      sound = done.stands.sound;
+      left = done.stands.left;
+      maps = maps ∙ was.maps;
+      options_are = opts ∙ was.options_are;
+      runs = runs';
+      lists = set_count was.runs own _ ∙ was.lists;
+      passes = passes';
+      mine = mine_then;
+      outside = outside_then;
+      handled = handled_then;
+      counts = counts ∙ ap (λ (c : Counts). counted c (Some end)) (was.counts ∙ sym (counts_stay frames options.workers was.runs runs' number same_below))
+          ∙ ap (λ (one : Option RunEnd). counted (counts_of frames options.workers runs' number) one) (sym fate);
+      sent = sent ∙ ap (λ (list : List SentFrame). list ++ sent_by (Some end)) (was.sent ∙ sym (sent_stays frames options.workers was.runs runs' number same_below))
+          ∙ ap (λ (one : Option RunEnd). sent_of frames options.workers runs' number ++ sent_by one) (sym fate);
+      ends = ends ∙ ap (λ (list : List RecordEnd). list ++ record_end own (Some end) ∷ [])
+          (was.ends ∙ sym (ends_stay frames options.workers was.runs runs' number same_below))
+          ∙ ap (λ (worker : ℕ). ends_of frames options.workers runs' number ++ record_end worker (Some end) ∷ []) (sym who)
+          ∙ ap (λ (one : Option RunEnd). ends_of frames options.workers runs' number ++
+          record_end (worker_of_frame (frame_at frames number) options.workers) one ∷ []) (sym fate);
+      controller = was.controller;
+      controls = others_stay count (Worker own) Controller was.order done.order' was.controller done.more refl was.controls;
+      each_once = ap numbers_of noted ∙ was.each_once;
+      account = subst (λ (state : ControllerState). IsAccount plan program.maps options script size after.noted state was.controller) (sym controller)
+          (subst (λ (list : List Applied). IsAccount plan program.maps options script size list before.controller was.controller) (sym noted) was.account);
+      reclaimer = was.reclaimer;
+      reclaims = others_stay count (Worker own) Reclaimer was.order done.order' was.reclaimer done.more refl was.reclaims;
+      reclaimed = was.reclaimed;
+    }
+
+  by_end : (number next rounds : ℕ) (before after : TurnState) (captured : Sent) → Simulated number next rounds before →
+      slice_get records number ≡ Some captured → (end : Option RunEnd) →
+      IsHandled program options.workers captured before.all.shards end after.all.shards →
+      after.all.maps ≡ before.all.maps → after.all.options ≡ before.all.options → after.controller ≡ before.controller → after.noted ≡ before.noted →
+      after.counts ≡ counted before.counts end → sent_frames after.sent ≡ sent_frames before.sent ++ sent_by end →
+      after.ends ≡ before.ends ++ record_end (worker_of_frame captured.bytes.items options.workers) end ∷ [] → Simulated (suc number) next rounds after
+  by_end number next rounds before after captured was known None handled maps opts controller noted counts sent ends =
+      short_turn number next rounds before after captured was (record_there records number captured known) handled.short handled.nothing maps opts controller
+      noted counts sent ends
+  by_end number next rounds before after captured was known (Some end) handled maps opts controller noted counts sent ends =
+      long_turn number next rounds before after captured was known handled.long end handled.run maps opts controller noted counts sent ends
+
+  record_turn : (number next rounds : ℕ) (before after : TurnState) → Simulated number next rounds before →
+      IsRecordTurn program records options.workers number before after → Simulated (suc number) next rounds after
+  record_turn number next rounds before after was turn =
+      by_end number next rounds before after turn.captured was turn.known turn.end turn.handled turn.maps turn.options turn.controller turn.noted turn.counts
+      turn.sent turn.ends
+
+  -- ---- turn after turn
+
+  abbrev Turned : List Turn → TurnState → TurnState → Type 0
+  Turned = AreTurns program script records options.workers
+
+  turns_split : (first second : List Turn) (before after : TurnState) → Turned (first ++ second) before after →
+      (middle : TurnState) × Turned first before middle × Turned second middle after
+  turns_split [] second before after turns = (before, refl, turns)
+  turns_split (turn ∷ first) second before after turns =
+      let rest = turns_split first second turns.0 after turns.2 in
+      (rest.0, (turns.0, turns.1, rest.1), rest.2)
+
+  commands_turned : (count_of : ℕ) (number next rounds : ℕ) (before after : TurnState) → Simulated number next rounds before →
+      Turned (map (λ (one : ℕ). TheCommand one) (numbers_from next count_of)) before after → Simulated number (next + count_of) rounds after
+  commands_turned zero number next rounds before after was turns =
+      subst (λ (n : ℕ). Simulated number n rounds after) (omega arith) (subst (λ (state : TurnState). Simulated number next rounds state) (sym turns) was)
+  commands_turned (suc count_of) number next rounds before after was turns =
+      subst (λ (n : ℕ). Simulated number n rounds after) (omega arith)
+      (commands_turned count_of number (next + 1) rounds turns.0 after (command_turn number next rounds before turns.0 was turns.1) turns.2)
+
+  between_turned : (number from end rounds : ℕ) (before after : TurnState) → from ≤ end → Simulated number from rounds before →
+      Turned (commands_between from end) before after → Simulated number end rounds after
+  between_turned number from end rounds before after up was turns =
+      subst (λ (n : ℕ). Simulated number n rounds after) (omega (arith, up))
+      (commands_turned (end - from) number from rounds before after was turns)
+
+  round_over : (number : ℕ) → (suc number % 64 == 0) ≡ true → number / 64 + 1 ≡ suc number / 64
+  round_over number is =
+      let whole : suc number % 64 ≡ 0 = grind (arith, nat_tests) in
+      let now = div-add-mod (suc number) 64 in
+      let earlier = div-add-mod number 64 in
+      let less = mod-lt number {m = 64} (omega arith) in
+      omega (arith, whole, now, earlier, less)
+
+  round_on : (number : ℕ) → (suc number % 64 == 0) ≡ false → number / 64 ≡ suc number / 64
+  round_on number is =
+      let some : 0 < suc number % 64 = grind (arith, nat_tests) in
+      let now = div-add-mod (suc number) 64 in
+      let earlier = div-add-mod number 64 in
+      let more = mod-lt (suc number) {m = 64} (omega arith) in
+      let less = mod-lt number {m = 64} (omega arith) in
+      omega (arith, some, now, earlier, less, more)
+
+  round_turned : (number next : ℕ) (before after : TurnState) → Simulated (suc number) next (number / 64) before →
+      Turned (rounds_at (suc number)) before after → Simulated (suc number) next (suc number / 64) after
+  round_turned number next before after was turns = by_test (suc number % 64 == 0) refl turns
+    where
+      by_test : (due : Bool) → (suc number % 64 == 0) ≡ due → Turned (if due then TheRound ∷ [] else []) before after →
+          Simulated (suc number) next (suc number / 64) after
+      by_test true is one =
+          subst (λ (n : ℕ). Simulated (suc number) next n after) (round_over number is)
+          (subst (λ (state : TurnState). Simulated (suc number) next (number / 64 + 1) state) (sym one.2)
+          (round_turn (suc number) next (number / 64) before one.0 was one.1))
+      by_test false is none =
+          subst (λ (n : ℕ). Simulated (suc number) next n after) (round_on number is)
+          (subst (λ (state : TurnState). Simulated (suc number) next (number / 64) state) (sym none) was)
+
+  -- ---- which commands are due
+
+  due_within : (starts : List ℕ) (number : ℕ) → due_to starts number ≤ length starts
+  due_within [] number = omega arith
+  due_within (start ∷ later) number = by_test (nat_lt number start) (due_within later number)
+    where
+      by_test : (early : Bool) → due_to later number ≤ length later → (if early then 0 else suc (due_to later number)) ≤ length (start ∷ later)
+      by_test true rest = omega arith
+      by_test false rest = omega (arith, rest)
+
+  due_grows : (starts : List ℕ) (number : ℕ) → due_to starts number ≤ due_to starts (suc number)
+  due_grows [] number = omega arith
+  due_grows (start ∷ later) number = by_tests (nat_lt number start) (nat_lt (suc number) start) refl refl (due_grows later number)
+    where
+      by_tests : (early still : Bool) → nat_lt number start ≡ early → nat_lt (suc number) start ≡ still → due_to later number ≤ due_to later (suc number) →
+          (if early then 0 else suc (due_to later number)) ≤ (if still then 0 else suc (due_to later (suc number)))
+      by_tests true still is next rest = omega arith
+      by_tests false true is next rest = absurd (let past : start ≤ number = grind (arith, nat_tests) in let before : suc number < start = grind (arith, nat_tests) in omega (arith, past, before))
+      by_tests false false is next rest = omega (arith, rest)
+
+  before_within : (starts : List ℕ) (number : ℕ) → due_before starts number ≤ length starts
+  before_within starts zero = omega arith
+  before_within starts (suc number) = due_within starts number
+
+  due_after : (starts : List ℕ) (number : ℕ) → due_before starts number ≤ due_to starts number
+  due_after starts zero = omega arith
+  due_after starts (suc number) = due_grows starts number
+
+  -- ---- all of them
+
+  records_turned : (starts : List ℕ) (number : ℕ) (first after : TurnState) → Simulated 0 0 0 first → Turned (turns_to starts number) first after →
+      Simulated number (due_before starts number) (number / 64) after
+  records_turned starts zero first after was turns = subst (λ (state : TurnState). Simulated 0 0 0 state) (sym turns) was
+  records_turned starts (suc number) first after was turns =
+      let parts = turns_split (turns_to starts number)
+      (commands_between (due_before starts number) (due_to starts number) ++ TheRecord number ∷ rounds_at (suc number)) first after turns in
+      let earlier = records_turned starts number first parts.0 was parts.1 in
+      let due = turns_split (commands_between (due_before starts number) (due_to starts number)) (TheRecord number ∷ rounds_at (suc number)) parts.0 after parts.2 in
+      let commanded = between_turned number (due_before starts number) (due_to starts number) (number / 64) parts.0 due.0 (due_after starts number) earlier due.1 in
+      let ran = record_turn number (due_to starts number) (number / 64) due.0 due.2.0 commanded due.2.1 in
+      round_turned number (due_to starts number) due.2.0 after ran due.2.2
+
+  pub all_turned : (starts : List ℕ) (number : ℕ) (first after : TurnState) → Simulated 0 0 0 first → Turned (all_turns starts number) first after →
+      Simulated number (length starts) (number / 64 + 1) after
+  all_turned starts number first after was turns =
+      let parts = turns_split (turns_to starts number) (commands_between (due_before starts number) (length starts) ++ TheRound ∷ []) first after turns in
+      let earlier = records_turned starts number first parts.0 was parts.1 in
+      let left = turns_split (commands_between (due_before starts number) (length starts)) (TheRound ∷ []) parts.0 after parts.2 in
+      let commanded = between_turned number (due_before starts number) (length starts) (number / 64) parts.0 left.0 (before_within starts number) earlier left.1 in
+      subst (λ (state : TurnState). Simulated number (length starts) (number / 64 + 1) state) (sym left.2.2)
+      (round_turn number (length starts) (number / 64) left.0 left.2.0 commanded left.2.1)

@@ -1,0 +1,41 @@
+-- What the threads of a replay begin with, and what they have done when all have ended.
+use Rattle.std.specs.Prelude.{◌≡◌, ◌<◌, ◌≤◌, ◌+◌, ◌∷◌, ◌++◌, ℕ, List, [], length, replicate}
+use Rattle.semantics.specs.Each.{Each}
+use Rattle.wire.specs.declared.records.Sent.{Sent}
+use Rattle.rx_queues.specs.declared.job.Job.{Job}
+use Rattle.rx_queues.specs.declared.job.Job.TheVariants.{End}
+use Rattle.rx_queues.specs.declared.passes.PutPass.{PutPass}
+use Rattle.rx_queues.specs.declared.passes.TakePass.{TakePass}
+use Rattle.rx_queues.specs.declared.passes.Queues.{Queues}
+use Rattle.rx_queues.specs.Passes.{IsPutPassOf, AreTakePasses, workers_of, jobs_put}
+use Rattle.replay.specs.declared.runner.RunEnd.{RunEnd}
+use Rattle.replay.specs.declared.threads.AllEnded.{AllEnded}
+use Rattle.replay.specs.declared.threads.Setting.{Setting}
+use Rattle.replay.specs.Actors.{OfCommandsFrom, round_jobs}
+use Rattle.replay.specs.Crews.{IsReadyAt, AreHandled}
+
+-- the passes of queues for so many workers, a controller and a reclaimer, through which nothing was put yet
+pub record AreFreshPasses (queues : Queues) (workers : ℕ) (put : PutPass) (takes : List TakePass) : Type 0 where
+  pub workers_are : workers_of queues ≡ workers
+  pub some : 0 < workers
+  pub few : workers ≤ 8
+  pub may_put : IsPutPassOf queues put
+  pub nothing_put : jobs_put put ≡ replicate (workers + 2) []
+  pub may_take : AreTakePasses queues takes
+
+-- there is a worker for each state, which may go to the worker's thread; nothing was put through the passes yet; and no more commands came first
+-- than there are
+pub record IsReadyToRun {S W R : Type 0} (IsNew IsIdle : W → ℕ → S → Type 0) (setting : Setting W R) (put : PutPass) (takes : List TakePass)
+    (states : List S) : Type 0 where
+  pub passes : AreFreshPasses setting.queues.now (length states) put takes
+  pub within : setting.first ≤ length setting.starts.now
+  pub states_are : Each (IsReadyAt (IsNew setting.runner.now) (IsIdle setting.runner.now)) 0 states
+
+-- each of so many workers ran its records, in order; the controller handed back what it has for the commands that did not come first, and the
+-- reclaimer what it has for its rounds
+pub record AreAllDone {S E F W R : Type 0} (IsNew : W → ℕ → S → Type 0) (IsRun : W → ℕ → Sent → S → RunEnd → S → Type 0)
+    (Commands : List Job → E → Type 0) (Rounds : List Job → F → Type 0) (setting : Setting W R) (workers : ℕ) (ended : AllEnded S E F) : Type 0 where
+  pub count : length ended.workers.items ≡ workers
+  pub handled : AreHandled (IsNew setting.runner.now) (IsRun setting.runner.now) setting.capture.now.records.items workers ended.workers.items
+  pub commands : OfCommandsFrom setting.first setting.starts.now (λ jobs. Commands (jobs ++ End ∷ []) ended.controller)
+  pub rounds : Rounds (round_jobs (length setting.capture.now.records.items)) ended.reclaimer

@@ -1,0 +1,111 @@
+-- Why frames of flows were not sent, and how many frames are for a service.
+use Rattle.std.specs.Prelude.{ℕ, zero, suc, ◌+◌, ◌==◌, ◌&&◌, ◌++◌, not, nat_lt, Bool, true, false, List, [], ◌∷◌, Option, Some, None, codes, decimal}
+use Rattle.std.specs.Prelude.{length, filter, slice_get, slice_index, if◌then◌else◌}
+use Rattle.std.specs.List.{flat_map}
+use Rattle.wire.specs.BigEndian.{be_word_at}
+use Rattle.wire.specs.FlowBytes.{protocol_number}
+use Rattle.wire.specs.declared.flow.Transport.{Transport}
+use Rattle.wire.specs.declared.flow.Transport.TheVariants.{Tcp, Udp}
+use Rattle.wire.specs.declared.records.Sent.{Sent}
+use Rattle.conntrack.specs.declared.keys.Service.{Service}
+use Rattle.control.specs.declared.command.Action.{Action}
+use Rattle.control.specs.declared.command.Action.TheVariants.{Vip}
+use Rattle.control.specs.declared.command.Command.{Command}
+use Rattle.traffic.specs.declared.kind.FrameKind.{FrameKind}
+use Rattle.traffic.specs.declared.kind.FrameKind.TheVariants as kinds
+use Rattle.traffic.specs.declared.not_sent.NotSent.{NotSent}
+use Rattle.traffic.specs.declared.not_sent.NotSent.TheVariants.{NoService, Expired, Large, NoBackend}
+use Rattle.traffic.specs.declared.record_line.LineVerdict.{LineVerdict}
+use Rattle.traffic.specs.declared.record_line.LineVerdict.TheVariants as verdicts
+use Rattle.traffic.specs.Counting.{one_if}
+use Rattle.traffic.specs.Kinds.{has_flow, kind_of}
+use Rattle.traffic.specs.SummaryText.{dotted, line_about}
+
+-- ---- reasons
+
+-- a frame of this kind, whose run came to this verdict, was not sent for this reason
+abbrev pub is_not_sent : NotSent → FrameKind → LineVerdict → Bool
+is_not_sent NoService kind verdicts.Pass = has_flow kind
+is_not_sent Expired kinds.Expired verdicts.Drop = true
+is_not_sent Large kinds.Large verdicts.Drop = true
+is_not_sent NoBackend kinds.Flow verdicts.Drop = true
+is_not_sent reason kind verdict = false
+
+abbrev pub is_record_not_sent : NotSent → Option Sent → Option LineVerdict → Bool
+is_record_not_sent reason None verdict = false
+is_record_not_sent reason (Some sent) None = false
+is_record_not_sent reason (Some sent) (Some verdict) = is_not_sent reason (kind_of sent.bytes.items) verdict
+
+-- how many of the first records were not sent for this reason
+abbrev pub not_sent_below : NotSent → List Sent → List LineVerdict → ℕ → ℕ
+not_sent_below reason frames list zero = 0
+not_sent_below reason frames list (suc place) =
+    not_sent_below reason frames list place + one_if (is_record_not_sent reason (slice_get frames place) (slice_get list place))
+
+abbrev pub reason_phrase : NotSent → List ℕ
+reason_phrase NoService = codes "passed, for no service"
+reason_phrase Expired = codes "dropped, with a time to live of 0"
+reason_phrase Large = codes "dropped, in packets of more than 1480 bytes"
+reason_phrase NoBackend = codes "dropped, without a tunnel or a backend that is up"
+
+abbrev pub reasons : List NotSent
+reasons = NoService ∷ Expired ∷ Large ∷ NoBackend ∷ []
+
+abbrev pub reason_line : List Sent → List LineVerdict → NotSent → List ℕ
+reason_line frames list reason = line_about (not_sent_below reason frames list (length frames)) (reason_phrase reason)
+
+abbrev pub reason_lines : List Sent → List LineVerdict → List NotSent → List ℕ
+reason_lines frames list some = flat_map (reason_line frames list) some
+
+-- ---- services
+
+-- the address at which a frame's packet is sent to, byte by byte
+abbrev pub is_to : List ℕ → List ℕ → Bool
+is_to address bytes =
+    slice_index bytes 30 == slice_index address 0 && slice_index bytes 31 == slice_index address 1
+    && slice_index bytes 32 == slice_index address 2 && slice_index bytes 33 == slice_index address 3
+
+-- the frame has a flow to the service
+abbrev pub is_for : Service → List ℕ → Bool
+is_for service bytes =
+    has_flow (kind_of bytes) && not (nat_lt (length bytes) 38) && is_to service.address.0 bytes
+    && be_word_at 36 bytes == service.port && slice_index bytes 23 == protocol_number service.transport
+
+-- how many of the frames do
+abbrev pub how_many_for : Service → List Sent → ℕ
+how_many_for service frames = length (filter (λ (sent : Sent). is_for service sent.bytes.items) frames)
+
+abbrev pub transport_word : Transport → List ℕ
+transport_word Tcp = codes "tcp"
+transport_word Udp = codes "udp"
+
+-- for its address and port
+abbrev pub words_of_service : List ℕ → ℕ → List ℕ → List ℕ
+words_of_service address port transport = codes "for " ++ (address ++ (codes " port " ++ (decimal port ++ (codes " " ++ transport))))
+
+abbrev pub service_phrase : Service → List ℕ
+service_phrase service =
+    words_of_service
+    (dotted (slice_index service.address.0 0) (slice_index service.address.0 1) (slice_index service.address.0 2) (slice_index service.address.0 3))
+    service.port (transport_word service.transport)
+
+abbrev pub service_line : List Sent → Service → List ℕ
+service_line frames service = line_about (how_many_for service frames) (service_phrase service)
+
+-- the service that a command names, if it names one
+abbrev pub service_of : Action → Option Service
+service_of (Vip service is_notrack) = Some service
+service_of action = None
+
+abbrev pub line_of_command : List Sent → Option Service → List ℕ
+line_of_command frames None = []
+line_of_command frames (Some service) = service_line frames service
+
+abbrev pub service_lines : List Sent → List Command → List ℕ
+service_lines frames script = flat_map (λ (command : Command). line_of_command frames (service_of command.action)) script
+
+-- ---- both
+
+-- the text of the frames of services, and of those that were not sent
+abbrev pub services_text : List Sent → List Command → List LineVerdict → List ℕ
+services_text frames script list = service_lines frames script ++ reason_lines frames list reasons

@@ -1,0 +1,242 @@
+//! Which services the frames are for, and why frames of flows were not sent.
+
+ghost use Rattle.std.specs.Prelude.{◌≡◌, ◌++◌, ◌≤◌, IfOk, OnOk, length, slice_get, string_bytes};
+ghost use Rattle.traffic.specs.NotSent.{how_many_for, is_for, is_not_sent, is_record_not_sent, is_to, line_of_command, not_sent_below, reason_line};
+ghost use Rattle.traffic.specs.NotSent.{reason_lines, reason_phrase, service_line, service_lines, service_of, service_phrase, services_text, transport_word};
+ghost use Rattle.traffic.specs.NotSent.{words_of_service};
+
+use crate::kind::FrameKind;
+use crate::moves::one_if;
+use crate::printing::{dotted, put_line};
+use crate::record_line::LineVerdict;
+use conntrack::Service;
+use control::{Action, Command, Script};
+use std::alloc::{AllocError, Global};
+use wire::{Sent, Transport, word_at};
+
+/// Why a frame of a flow was not sent, by the steering rule.
+#[derive(Clone, Copy, Debug, PartialEq, Eq)]
+pub enum NotSent {
+    /// It is for no service: it passes.
+    NoService,
+    /// It is for a service, and its time to live is 0: it is dropped.
+    Expired,
+    /// It is for a service, and too large for a tunnel: it is dropped.
+    Large,
+    /// It is for a service, and no tunnel is set up, or no backend is up that it could go to: it is dropped.
+    NoBackend,
+}
+
+/// The reasons, in the order in which they are printed.
+const REASONS: [NotSent; 4] = [
+    NotSent::NoService,
+    NotSent::Expired,
+    NotSent::Large,
+    NotSent::NoBackend,
+];
+
+impl NotSent {
+    /// Whether a frame of this kind, whose run came to this verdict, was not sent for this reason.
+    pub fn applies(self, kind: FrameKind, verdict: LineVerdict) -> bool
+        ensures { result ≡ is_not_sent self kind verdict }
+    {
+        match verdict {
+            LineVerdict::Pass => match self {
+                NotSent::NoService => kind.has_flow(),
+                _ => false,
+            },
+            LineVerdict::Drop => match self {
+                NotSent::NoService => false,
+                NotSent::Expired => matches!(kind, FrameKind::Expired),
+                NotSent::Large => matches!(kind, FrameKind::Large),
+                NotSent::NoBackend => matches!(kind, FrameKind::Flow),
+            },
+            _ => false,
+        }
+    }
+
+    /// The reason in words.
+    fn phrase(self) -> &'static str
+        ensures { result.now ≡ reason_phrase self }
+    {
+        match self {
+            NotSent::NoService => "passed, for no service",
+            NotSent::Expired => "dropped, with a time to live of 0",
+            NotSent::Large => "dropped, in packets of more than 1480 bytes",
+            NotSent::NoBackend => "dropped, without a tunnel or a backend that is up",
+        }
+    }
+
+    /// Whether the record of this number was not sent for this reason.
+    fn applies_at(self, frames: &[Sent], verdicts: &[LineVerdict], place: usize) -> bool
+        ensures { result ≡ is_record_not_sent self (slice_get frames.now place) (slice_get verdicts.now place) }
+    {
+        let Some(sent) = frames.get(place) else {
+            return false;
+        };
+        let Some(verdict) = verdicts.get(place) else {
+            return false;
+        };
+        self.applies(FrameKind::of(&sent.bytes), *verdict)
+    }
+
+    /// How many records were not sent for this reason.
+    fn count(self, frames: &[Sent], verdicts: &[LineVerdict]) -> u64
+        ensures { result ≡ not_sent_below self frames.now verdicts.now (length frames.now) }
+    {
+        let mut count = 0;
+        'places: for place in 0..frames.len() {
+            count += one_if(self.applies_at(frames, verdicts, place));
+        }
+        count
+    }
+}
+
+/// Appends a line for each reason for which a record was not sent.
+fn put_reasons(
+    alloc: Global,
+    text: &mut String,
+    reasons: &[NotSent],
+    frames: &[Sent],
+    verdicts: &[LineVerdict],
+) -> Result<(), AllocError>
+    ensures { OnOk result (string_bytes text.new ≡ string_bytes text.old ++ reason_lines frames.now verdicts.now reasons.now) }
+{
+    'reasons: for reason in reasons {
+        put_line(alloc, text, reason.count(frames, verdicts), reason.phrase())?;
+    }
+    Ok(())
+}
+
+/// Whether the packet is sent to this address.
+fn is_to(address: &[u8; 4], frame: &[u8]) -> bool
+    requires { 38 ≤ length frame.now }
+    ensures { result ≡ is_to address.now frame.now }
+{
+    frame[30] == address[0]
+        && frame[31] == address[1]
+        && frame[32] == address[2]
+        && frame[33] == address[3]
+}
+
+/// Whether a frame has a flow to the service.
+pub fn is_for(service: &Service, frame: &[u8]) -> bool
+    ensures { result ≡ is_for service.now frame.now }
+{
+    FrameKind::of(frame).has_flow()
+        && frame.len() >= 38
+        && is_to(&service.address.0, frame)
+        && word_at(frame, 36) == service.port
+        && frame[23] == service.transport.number()
+}
+
+/// How many of the frames have.
+fn count_for(service: &Service, frames: &[Sent]) -> usize
+    ensures { result ≡ how_many_for service.now frames.now }
+{
+    frames
+        .iter()
+        .filter(|sent| is_for(service, &sent.bytes))
+        .count()
+}
+
+/// A transport, as a script has it.
+fn transport_word(transport: Transport) -> &'static str
+    ensures { result.now ≡ transport_word transport }
+{
+    match transport {
+        Transport::Tcp => "tcp",
+        Transport::Udp => "udp",
+    }
+}
+
+/// What is printed of frames for a service.
+fn service_phrase(alloc: Global, service: &Service) -> Result<String, AllocError>
+    ensures { IfOk result (λ text. string_bytes text ≡ service_phrase service.now) }
+{
+    let bytes = service.address.0;
+    let address = dotted(
+        alloc,
+        u32::from(bytes[0]),
+        u32::from(bytes[1]),
+        u32::from(bytes[2]),
+        u32::from(bytes[3]),
+    )?;
+    phrase_of(
+        alloc,
+        address.as_str(),
+        service.port,
+        transport_word(service.transport),
+    )
+}
+
+/// The words of a service's phrase.
+fn phrase_of(alloc: Global, address: &str, port: u16, transport: &str) -> Result<String, AllocError>
+    ensures { IfOk result (λ text. string_bytes text ≡ words_of_service address.now port transport.now) }
+{
+    format!(in alloc; "for {address} port {port} {transport}")
+}
+
+/// Appends the line of a service, if a frame is for it.
+fn put_service(
+    alloc: Global,
+    text: &mut String,
+    service: &Service,
+    frames: &[Sent],
+) -> Result<(), AllocError>
+    ensures { OnOk result (string_bytes text.new ≡ string_bytes text.old ++ service_line frames.now service.now) }
+{
+    let phrase = service_phrase(alloc, service)?;
+    put_line(
+        alloc,
+        text,
+        count_for(service, frames) as u64,
+        phrase.as_str(),
+    )
+}
+
+/// Appends the line of the service that a command names.
+fn put_command(
+    alloc: Global,
+    text: &mut String,
+    command: &Command,
+    frames: &[Sent],
+) -> Result<(), AllocError>
+    ensures { OnOk result (string_bytes text.new ≡ string_bytes text.old ++ line_of_command frames.now (service_of command.now.action)) }
+{
+    match command.action {
+        Action::Vip { service, .. } => put_service(alloc, text, &service, frames),
+        _ => Ok(()),
+    }
+}
+
+/// Appends the lines of all services of a script.
+fn put_services(
+    alloc: Global,
+    text: &mut String,
+    script: &[Command],
+    frames: &[Sent],
+) -> Result<(), AllocError>
+    ensures { OnOk result (string_bytes text.new ≡ string_bytes text.old ++ service_lines frames.now script.now) }
+{
+    'commands: for command in script {
+        put_command(alloc, text, command, frames)?;
+    }
+    Ok(())
+}
+
+/// How many of the captured frames are for each service of the script, in its order, and how many frames of flows were not sent for which reason, by the
+/// verdicts of their records: a line for each of which there is a frame. It fails only for lack of memory.
+pub fn services(
+    alloc: Global,
+    frames: &[Sent],
+    script: &Script,
+    verdicts: &[LineVerdict],
+) -> Result<String, AllocError>
+    ensures { IfOk result (λ text. string_bytes text ≡ services_text frames.now script.now verdicts.now) }
+{
+    let mut text = String::new(alloc);
+    put_services(alloc, &mut text, script.commands(), frames)?;
+    put_reasons(alloc, &mut text, &REASONS, frames, verdicts)?;
+    Ok(text)
+}

@@ -1,0 +1,116 @@
+//! Captures with records of more than 2048 bytes, and what is left of them.
+
+use crate::without_long_records;
+use std::alloc::{AllocError, Global};
+use std::process::Abort;
+use wire::{Capture, CaptureFault, MemorySource, read_capture};
+
+/// The header of a capture: pcap 2.4, low byte first, with a snap length of 262144 bytes.
+const HEADER: [u8; 24] = [
+    0xd4, 0xc3, 0xb2, 0xa1, 2, 0, 4, 0, 0, 0, 0, 0, 0, 0, 0, 0, 0, 0, 4, 0, 1, 0, 0, 0,
+];
+
+/// What a row shows; how many bytes each of three records keeps, and whether it stays; how many bytes of the file are missing at its end; and how many
+/// records are left out.
+type Row = (&'static str, u16, bool, u16, bool, u16, bool, usize, u64);
+
+#[rattlefmt::skip]
+const ROWS: [Row; 10] = [
+    ("no long record",                           14,    true,  2048, true,  60,    true,  0,     0),
+    ("2049 bytes are too many",                  14,    true,  2049, false, 60,    true,  0,     1),
+    ("the first one",                            2049,  false, 0,    true,  14,    true,  0,     1),
+    ("the last one",                             14,    true,  0,    true,  9000,  false, 0,     1),
+    ("all of them",                              2049,  false, 4000, false, 65535, false, 0,     3),
+    ("the last byte of a long record is cut",    14,    true,  2049, false, 9000,  true,  1,     1),
+    ("a long record is cut behind its head",     9000,  false, 14,   true,  9000,  true,  9000,  1),
+    ("the head of a long record is cut",         9000,  false, 14,   true,  9000,  true,  9001,  1),
+    ("a short record is cut",                    9000,  false, 9000, false, 14,    true,  14,    2),
+    ("a cut record before a long one, both cut", 14,    true,  60,   true,  9000,  true,  9060,  0),
+];
+
+/// A record: its moment has its number, as each byte that it keeps; of its frame a byte more was there.
+fn put_record(file: &mut Vec<u8>, number: u8, kept: u16) -> Result<(), AllocError> {
+    let original = u32::from(kept) + 1;
+    file.extend_from_slice(&[number, 1, 2, 3, number, 4, 5, 0])?;
+    file.extend_from_slice(&u32::from(kept).to_le_bytes())?;
+    file.extend_from_slice(&original.to_le_bytes())?;
+    for _ in 0..kept {
+        file.push(number)?;
+    }
+    Ok(())
+}
+
+/// The file of a row: of all its records, or of those that stay.
+fn file_of(alloc: Global, row: &Row, all: bool) -> Result<Vec<u8>, AllocError> {
+    let (_, first, first_stays, second, second_stays, third, third_stays, missing, _) = *row;
+    let mut file = Vec::from_slice(alloc, &HEADER)?;
+    if all || first_stays {
+        put_record(&mut file, 1, first)?;
+    }
+    if all || second_stays {
+        put_record(&mut file, 2, second)?;
+    }
+    if all || third_stays {
+        put_record(&mut file, 3, third)?;
+    }
+    let left = file.len().saturating_sub(missing);
+    file.truncate(left);
+    Ok(file)
+}
+
+/// Compares what is left of a row's file.
+fn compare(rt: &impl Abort, alloc: Global, row: &Row) {
+    let (name, .., skipped) = *row;
+    let file = file_of(alloc, row, true).expect(rt, "memory");
+    let wanted = file_of(alloc, row, false).expect(rt, "memory");
+    let shortened = without_long_records(alloc, &file).expect(rt, "memory");
+    assert!(rt; shortened.bytes.as_slice() == wanted.as_slice(), "{name}");
+    assert!(rt; shortened.skipped == skipped, "{name}");
+}
+
+#[test]
+fn long_records_are_left_out(rt: HostRuntime) {
+    for row in &ROWS {
+        compare(&rt, rt.alloc(), row);
+    }
+}
+
+/// Compares what is left of bytes that have no whole record.
+fn stays(rt: &impl Abort, alloc: Global, bytes: &[u8]) {
+    let shortened = without_long_records(alloc, bytes).expect(rt, "memory");
+    assert!(rt; shortened.bytes.as_slice() == bytes, "bytes");
+    assert!(rt; shortened.skipped == 0, "none");
+}
+
+#[test]
+fn files_without_records_stay(rt: HostRuntime) {
+    for length in 0..25 {
+        stays(
+            &rt,
+            rt.alloc(),
+            HEADER.get(..length).expect(&rt, "a length"),
+        );
+    }
+    let mut endless = Vec::from_slice(rt.alloc(), &HEADER).expect(&rt, "memory");
+    let put = endless.extend_from_slice(&[0, 0, 0, 0, 0, 0, 0, 0, 255, 255, 255, 255, 0, 0, 0, 0]);
+    put.expect(&rt, "memory");
+    put_record(&mut endless, 1, 9000).expect(&rt, "memory");
+    stays(&rt, rt.alloc(), &endless);
+}
+
+/// Reads a capture of fewer bytes than a million.
+fn read(alloc: Global, bytes: &mut Vec<u8>) -> Result<Capture, CaptureFault> {
+    bytes.truncate(1_000_000);
+    read_capture(alloc, &mut MemorySource::new(bytes))
+}
+
+#[test]
+fn what_is_left_is_read(rt: HostRuntime) {
+    let alloc = rt.alloc();
+    let mut file = file_of(alloc, &ROWS[1], true).expect(&rt, "memory");
+    assert!(&rt; read(alloc, &mut file).is_err(), "a long record");
+    let mut shortened = without_long_records(alloc, &file).expect(&rt, "memory");
+    let capture = read(alloc, &mut shortened.bytes).expect(&rt, "a capture");
+    assert!(&rt; capture.records.len() == 2, "two");
+    assert!(&rt; capture.records[1].bytes.len() == 60, "the third");
+}

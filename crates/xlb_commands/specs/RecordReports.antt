@@ -1,0 +1,145 @@
+-- The report of a replay: a line for each record, in the capture's order, of what the replay says of it.
+use Rattle.std.specs.Prelude.{◌≡◌, ℕ, zero, suc, ◌+◌, ◌*◌, ◌++◌, ◌∷◌, ◌||◌, Bool, true, false, List, [], Option, Some, None, codes, fold, length}
+use Rattle.std.specs.Prelude.{◌==◌, if◌then◌else◌, slice_get, slice_index_or}
+use Rattle.std.specs.List.{ends_with}
+use Rattle.wire.specs.declared.records.Sent.{Sent}
+use Rattle.semantics.specs.declared.verdict.Verdict.{Verdict}
+use Rattle.semantics.specs.declared.verdict.Verdict.TheVariants as verdicts
+use Rattle.control.specs.declared.command.Action.{Action}
+use Rattle.control.specs.declared.command.Action.TheVariants.{Up}
+use Rattle.control.specs.declared.command.Command.{Command}
+use Rattle.replay.specs.declared.outcome.Outcome.{Outcome}
+use Rattle.replay.specs.declared.outcome.RecordEnd.{RecordEnd}
+use Rattle.replay.specs.declared.outcome.RecordEnd.TheVariants.{Short, Stopped, Exited}
+use Rattle.traffic.specs.Counting.{address_at, one_if, target_of}
+use Rattle.traffic.specs.Holders.{holder_among, holder_in, only_number}
+use Rattle.traffic.specs.Kinds.{kind_of}
+use Rattle.traffic.specs.RecordLines.{back_text, case_word, front_text, head_of}
+use Rattle.traffic.specs.declared.backends.Backends.{Backends}
+use Rattle.traffic.specs.declared.record_line.LineVerdict.{LineVerdict}
+use Rattle.traffic.specs.declared.record_line.LineVerdict.TheVariants as words
+use Rattle.traffic.specs.declared.record_line.ReportForm.{ReportForm}
+use Rattle.traffic.specs.declared.record_line.ReportForm.TheVariants.{Csv, Json}
+use Rattle.xlb_commands.specs.Files.{FileBytes}
+
+-- ---- the form
+
+-- the text ends so
+abbrev pub finishes : List ℕ → List ℕ → Bool
+finishes text end = ends_with (λ a b. a == b) text end
+
+-- JSON if the file's name ends so, otherwise CSV
+abbrev pub form_of : List ℕ → ReportForm
+form_of name = if finishes name (codes ".json") || finishes name (codes ".jsonl") then Json else Csv
+
+-- ---- what became of a record
+
+-- the worker that ran it
+abbrev pub worker_in : RecordEnd → Option ℕ
+worker_in Short = None
+worker_in (Stopped worker) = Some worker
+worker_in (Exited worker verdict steps) = Some worker
+
+abbrev pub word_of_verdict : Verdict → LineVerdict
+word_of_verdict verdicts.Aborted = words.Aborted
+word_of_verdict verdicts.Drop = words.Drop
+word_of_verdict verdicts.Pass = words.Pass
+word_of_verdict verdicts.Tx = words.Tx
+
+abbrev pub verdict_in : RecordEnd → LineVerdict
+verdict_in Short = words.Short
+verdict_in (Stopped worker) = words.Stopped
+verdict_in (Exited worker verdict steps) = word_of_verdict verdict
+
+-- in how many steps its run ended
+abbrev pub steps_in : RecordEnd → Option ℕ
+steps_in Short = None
+steps_in (Stopped worker) = None
+steps_in (Exited worker verdict steps) = Some steps
+
+-- whether its frame was sent
+abbrev pub is_tx : LineVerdict → Bool
+is_tx words.Tx = true
+is_tx other = false
+
+abbrev pub is_sent : RecordEnd → Bool
+is_sent end = is_tx (verdict_in end)
+
+-- by which case of the steering rule, if the program is one of steering
+abbrev pub case_in : Bool → List ℕ → RecordEnd → List ℕ
+case_in true frame end = case_word (kind_of frame) (verdict_in end)
+case_in false frame end = []
+
+-- ---- where it was sent
+
+-- the address to which the tunnel of a sent frame leads
+abbrev pub target_in : Option Sent → Option ℕ
+target_in None = None
+target_in (Some sent) = target_of sent.bytes.items
+
+-- the same for a record that was sent as this frame
+abbrev pub address_in : RecordEnd → Option Sent → Option ℕ
+address_in end sent = if is_sent end then target_in sent else None
+
+-- backends as (number, address), the newest first, with what a command names
+abbrev pub named_by : List (ℕ × ℕ) → Action → List (ℕ × ℕ)
+named_by older (Up backend address) = (backend, address_at 0 address.0) ∷ older
+named_by older other = older
+
+abbrev pub named_in : List (ℕ × ℕ) → Command → List (ℕ × ℕ)
+named_in older command = named_by older command.action
+
+-- the backends that a script names, the last one first
+abbrev pub backends_in : List Command → List (ℕ × ℕ)
+backends_in script = fold named_in [] script
+
+-- a table has of each address which of these backends has it
+abbrev pub HasNamed : Backends → List (ℕ × ℕ) → Type 0
+HasNamed table backends = (address : ℕ) → holder_in table address ≡ holder_among address backends
+
+-- the backend with this address: the only number with which the script names it
+abbrev pub backend_at : List (ℕ × ℕ) → Option ℕ → Option ℕ
+backend_at backends None = None
+backend_at backends (Some address) = only_number (holder_among address backends)
+
+-- ---- the lines
+
+-- the line of a record, counted from 0: its number, counted from 1, its moment in microseconds, its worker, its verdict, its steps, the case, the backend and
+-- the address
+abbrev pub line_text : ReportForm → Bool → List (ℕ × ℕ) → ℕ → Sent → RecordEnd → Option Sent → List ℕ
+line_text form is_steering backends number captured end sent =
+    front_text form (number + 1) (captured.seconds * 1000000 + captured.micros) (worker_in end) (verdict_in end)
+    ++ back_text form (steps_in end) (case_in is_steering captured.bytes.items end) (backend_at backends (address_in end sent)) (address_in end sent)
+
+-- what became of the record of this number
+abbrev pub end_of : List RecordEnd → ℕ → RecordEnd
+end_of ends number = slice_index_or ends number Short
+
+-- how many of the first so many records were sent: the place of the next one among the sent frames
+abbrev pub sent_before : List RecordEnd → ℕ → ℕ
+sent_before ends zero = 0
+sent_before ends (suc number) = sent_before ends number + one_if (is_sent (end_of ends number))
+
+-- the line of the record of this number, if there is one
+abbrev pub line_of : ReportForm → Bool → List (ℕ × ℕ) → List RecordEnd → List Sent → ℕ → Option Sent → List ℕ
+line_of form is_steering backends ends sent number None = []
+line_of form is_steering backends ends sent number (Some captured) =
+    line_text form is_steering backends number captured (end_of ends number) (slice_get sent (sent_before ends number))
+
+-- the lines of the first so many records
+abbrev pub lines_until : ReportForm → Bool → List (ℕ × ℕ) → List Sent → List RecordEnd → List Sent → ℕ → List ℕ
+lines_until form is_steering backends records ends sent zero = []
+lines_until form is_steering backends records ends sent (suc number) =
+    lines_until form is_steering backends records ends sent number
+    ++ line_of form is_steering backends ends sent number (slice_get records number)
+
+-- the head, and the lines of all records
+abbrev pub report_text : ReportForm → Bool → List Command → List Sent → List RecordEnd → List Sent → List ℕ
+report_text form is_steering script records ends sent =
+    head_of form ++ lines_until form is_steering (backends_in script) records ends sent (length records)
+
+-- where a file is named for it, it has the report
+abbrev pub IsReportFile : FileBytes → Option (List ℕ) → Bool → List Command → List Sent → Outcome → Type 0
+IsReportFile files None is_steering script records outcome = Unit {0}
+IsReportFile files (Some name) is_steering script records outcome =
+    files name (report_text (form_of name) is_steering script records outcome.ends.items outcome.sent.items)

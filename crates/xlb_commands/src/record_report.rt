@@ -1,0 +1,269 @@
+//! The report of a replay: a line for each record.
+
+ghost use Rattle.std.specs.Prelude.{◌≡◌, ◌++◌, ◌-◌, ◌<◌, ◌^◌, ℕ, List, Some, IfOk, IfErr, OnOk, length, slice_get, string_bytes};
+ghost use Rattle.command_line.specs.Reading.{text_of};
+ghost use Rattle.traffic.specs.Counting.{address_at};
+ghost use Rattle.xlb_commands.specs.RecordReports.{address_in, backend_at, backends_in, case_in, finishes, form_of, is_tx, line_text};
+ghost use Rattle.xlb_commands.specs.RecordReports.{lines_until, named_in, report_text, steps_in, verdict_in, word_of_verdict, worker_in, HasNamed};
+ghost use Rattle.xlb_commands.specs.declared.fault.Fault.TheVariants.{Memory};
+
+use crate::fault::Refusal;
+use control::{Action, Command, Script};
+use replay::{Outcome, RecordEnd};
+use semantics::Verdict;
+use std::alloc::{AllocError, Global};
+use traffic::{Backends, FrameKind, LineVerdict, RecordLine, ReportForm, case_word, target_of};
+use wire::{Capture, Ipv4Address, Sent};
+
+/// Whether a text ends so.
+fn finishes(text: &str, end: &str) -> bool
+    ensures { result ≡ finishes text.now end.now }
+{
+    text.ends_with(end)
+}
+
+/// The form of a report in a file of this name: JSON if the name ends in `.json` or `.jsonl`, otherwise CSV.
+fn form_of(name: &str) -> ReportForm
+    ensures { result ≡ form_of name.now }
+{
+    if finishes(name, ".json") || finishes(name, ".jsonl") {
+        ReportForm::Json
+    } else {
+        ReportForm::Csv
+    }
+}
+
+/// The worker that ran a record.
+fn worker_in(end: RecordEnd) -> Option<u64>
+    ensures { result ≡ worker_in end }
+{
+    match end {
+        RecordEnd::Short => None,
+        RecordEnd::Stopped { worker } => Some(u64::from(worker)),
+        RecordEnd::Exited { worker, .. } => Some(u64::from(worker)),
+    }
+}
+
+/// A verdict's word.
+fn word_of_verdict(verdict: Verdict) -> LineVerdict
+    ensures { result ≡ word_of_verdict verdict }
+{
+    match verdict {
+        Verdict::Aborted => LineVerdict::Aborted,
+        Verdict::Drop => LineVerdict::Drop,
+        Verdict::Pass => LineVerdict::Pass,
+        Verdict::Tx => LineVerdict::Tx,
+    }
+}
+
+/// What became of a record, in a word.
+pub(crate) fn verdict_in(end: RecordEnd) -> LineVerdict
+    ensures { result ≡ verdict_in end }
+{
+    match end {
+        RecordEnd::Short => LineVerdict::Short,
+        RecordEnd::Stopped { .. } => LineVerdict::Stopped,
+        RecordEnd::Exited { verdict, .. } => word_of_verdict(verdict),
+    }
+}
+
+/// In how many steps the run of a record ended.
+fn steps_in(end: RecordEnd) -> Option<u64>
+    ensures { result ≡ steps_in end }
+{
+    match end {
+        RecordEnd::Exited { steps, .. } => Some(steps),
+        RecordEnd::Short | RecordEnd::Stopped { .. } => None,
+    }
+}
+
+/// Whether a frame was sent.
+pub(crate) fn is_tx(verdict: LineVerdict) -> bool
+    ensures { result ≡ is_tx verdict }
+{
+    match verdict {
+        LineVerdict::Tx => true,
+        _ => false,
+    }
+}
+
+/// The case of the steering rule, if the program is one of steering.
+fn case_in(is_steering: bool, frame: &[u8], end: RecordEnd) -> &'static str
+    ensures { result.now ≡ case_in is_steering frame.now end }
+{
+    if is_steering {
+        case_word(FrameKind::of(frame), verdict_in(end))
+    } else {
+        ""
+    }
+}
+
+/// The address to which the frame of a record was sent, which is at this place among the sent ones.
+fn address_in(end: RecordEnd, sent: &[Sent], place: usize) -> Option<u32>
+    ensures { result ≡ address_in end (slice_get sent.now place) }
+{
+    if is_tx(verdict_in(end)) && place < sent.len() {
+        target_of(&sent[place].bytes)
+    } else {
+        None
+    }
+}
+
+/// An address as one number, the first byte highest.
+fn address_number(address: Ipv4Address) -> u32
+    ensures { result ≡ address_at 0 address.0 }
+{
+    let [first, second, third, last] = address.0;
+    let high = u32::from(first) * 256 + u32::from(second);
+    let low = u32::from(third) * 256 + u32::from(last);
+    high * 65536 + low
+}
+
+/// Notes the backend that a command names, if it names one with its address.
+fn name_in(table: &mut Backends, command: &Command) -> Result<(), AllocError>
+    ensures { OnOk result ((older : List (ℕ × ℕ)) → HasNamed table.old older → HasNamed table.new (named_in older command.now)) }
+{
+    match command.action {
+        Action::Up { backend, address } => { table.name(backend, address_number(address)) }
+        _ => Ok(()),
+    }
+}
+
+/// The backends that a script names.
+fn backends_in(alloc: Global, script: &[Command]) -> Result<Backends, AllocError>
+    ensures { IfOk result (λ table. HasNamed table (backends_in script.now)) }
+{
+    let mut table = Backends::none(alloc);
+    'commands: for command in script {
+        name_in(&mut table, command)?;
+    }
+    Ok(table)
+}
+
+/// The number of the backend with this address.
+fn backend_at(table: &Backends, script: &Script, address: Option<u32>) -> Option<u64>
+    requires { HasNamed table.now (backends_in script.now) }
+    ensures { result ≡ backend_at (backends_in script.now) address }
+{
+    match address {
+        Some(address) => match table.number_of(address) {
+            Some(number) => Some(u64::from(number)),
+            None => None,
+        },
+        None => None,
+    }
+}
+
+/// What all lines of a report have in common.
+#[derive(Clone, Copy)]
+struct Lines<'a> {
+    form: ReportForm,
+    /// Whether the program is one of steering.
+    is_steering: bool,
+    script: &'a Script,
+    /// The backends that the script names.
+    table: &'a Backends,
+    /// The frames that were sent.
+    sent: &'a [Sent],
+}
+
+impl Lines<'_> {
+    /// The line of a record, counted from 0, whose frame is at this place among those that were sent, if it was.
+    fn line(
+        &self,
+        alloc: Global,
+        number: usize,
+        record: &Sent,
+        end: RecordEnd,
+        place: usize,
+    ) -> Result<String, AllocError>
+        requires named { HasNamed self.now.table.now (backends_in self.now.script.now) }
+        requires number { number < 2 ^ 64 - 1 }
+        ensures { IfOk result (λ text. string_bytes text ≡ line_text self.now.form self.now.is_steering (backends_in self.now.script.now) number
+            record.now end (slice_get self.now.sent.now place)) }
+    {
+        let address = address_in(end, self.sent, place);
+        let line = RecordLine {
+            number: number + 1,
+            micros: u64::from(record.seconds) * 1_000_000 + u64::from(record.micros),
+            worker: worker_in(end),
+            verdict: verdict_in(end),
+            steps: steps_in(end),
+            case_of: case_in(self.is_steering, &record.bytes, end),
+            backend: backend_at(self.table, self.script, address),
+            address,
+        };
+        self.form.line(alloc, &line)
+    }
+
+    /// Appends the lines of all records, which ended so.
+    fn put_all(
+        &self,
+        alloc: Global,
+        text: &mut String,
+        records: &[Sent],
+        ends: &[RecordEnd],
+    ) -> Result<(), AllocError>
+        requires named { HasNamed self.now.table.now (backends_in self.now.script.now) }
+        requires ends { length ends.now ≡ length records.now }
+        ensures { OnOk result (string_bytes text.new ≡ string_bytes text.old ++ lines_until self.now.form self.now.is_steering
+            (backends_in self.now.script.now) records.now ends.now self.now.sent.now (length records.now)) }
+    {
+        let mut place = 0;
+        'records: for number in 0..records.len() {
+            let end = ends[number];
+            let line = self.line(alloc, number, &records[number], end, place)?;
+            text.push_str(line.as_str())?;
+            if is_tx(verdict_in(end)) {
+                place += 1;
+            }
+        }
+        Ok(())
+    }
+}
+
+/// The report of a replay in this form.
+fn report_text(
+    alloc: Global,
+    form: ReportForm,
+    is_steering: bool,
+    script: &Script,
+    capture: &Capture,
+    outcome: &Outcome,
+) -> Result<String, AllocError>
+    requires { length outcome.now.ends.items ≡ length capture.now.records.items }
+    ensures { IfOk result (λ text. string_bytes text ≡ report_text form is_steering script.now capture.now.records.items outcome.now.ends.items
+        outcome.now.sent.items) }
+{
+    let table = backends_in(alloc, script.commands())?;
+    let lines = Lines {
+        form,
+        is_steering,
+        script,
+        table: &table,
+        sent: &outcome.sent,
+    };
+    let mut text = String::from_str(alloc, form.head())?;
+    lines.put_all(alloc, &mut text, &capture.records, &outcome.ends)?;
+    Ok(text)
+}
+
+/// The report of a replay for the file of this name, if one is named; otherwise none.
+pub(crate) fn report_for(
+    alloc: Global,
+    name: Option<&str>,
+    is_steering: bool,
+    script: &Script,
+    capture: &Capture,
+    outcome: &Outcome,
+) -> Result<String, Refusal>
+    requires { length outcome.now.ends.items ≡ length capture.now.records.items }
+    ensures text { IfOk result (λ text. (file : List ℕ) → text_of name.entry ≡ Some file → string_bytes text ≡ report_text (form_of file) is_steering
+        script.now capture.now.records.items outcome.now.ends.items outcome.now.sent.items) }
+    ensures refused { IfErr result (λ refusal. refusal.fault ≡ Memory) }
+{
+    match name {
+        Some(name) => Ok(report_text(alloc, form_of(name), is_steering, script, capture, outcome)?),
+        None => Ok(String::new(alloc)),
+    }
+}
