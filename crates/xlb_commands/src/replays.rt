@@ -456,8 +456,8 @@ fn write_files<D: Folder>(
     Ok(())
 }
 
-/// Runs the frames of a capture, and writes those that are sent, and the journals and a line for each record where files are named for them. All input is read and
-/// checked before anything starts: the image, the script, the capture, then the options. No file is made where one is refused, nor where memory is
+/// Runs the frames of a capture, and writes those that are sent, and the journals and a line for each record where files are named for them. All
+/// input is read and checked before anything starts: the image, the script, the capture, then the options. No file is made where one is refused, nor where memory is
 /// refused for anything that is written or printed.
 pub fn replay_files<R: Threads + Wait + Sync, D: Folder, P: Progress + Sync>(
     rt: &R,
