@@ -4,7 +4,7 @@ use Rattle.std.specs.Prelude.{slice_index_or, slice_set}
 use Rattle.std.proofs.lemmas.List.{length-set, set-get_or}
 use Rattle.isa.specs.declared.operation.Width.{Width}
 use Rattle.isa.specs.declared.operation.Test.{Test}
-use Rattle.isa.specs.declared.operation.Source.{Source}
+use Rattle.isa.specs.declared.operation.SourceOperand.{SourceOperand}
 use Rattle.isa.specs.declared.operation.Register.{Register}
 use Rattle.ebpf_decode.specs.declared.insn.Insn.TheVariants.{JumpIf}
 use Rattle.ebpf_decode.specs.declared.map.MapDef.{MapDef}
@@ -73,7 +73,7 @@ as_taken program held taken fallen machine distance (Exits verdict last) j = abs
 as_taken program held taken fallen machine distance (Traps cause) j = absurd j
 
 -- on the edge that the run takes
-branches : (program : Program) (held : Held) (machine : MachineState) (width : Width) (test : Test) (dst : Register) (source : Source) (distance : ℤ) (n : ℕ) →
+branches : (program : Program) (held : Held) (machine : MachineState) (width : Width) (test : Test) (dst : Register) (source : SourceOperand) (distance : ℤ) (n : ℕ) →
     distance ≡ pos n → (taken : Bool) (edges : Bool → State) → Abstracts program.maps held (edges taken) machine →
     SplitsOn program held (edges true) (edges false) machine distance (branch_step (JumpIf width test dst source distance) machine distance taken)
 unfolding slot_count
@@ -83,7 +83,7 @@ branches program held machine width test dst source distance n is true edges a =
 branches program held machine width test dst source distance n is false edges a =
     inr (record { at = refl; counted = refl; sound = moved_on program.maps held (edges false) machine (machine.slot + 1) (machine.steps + 1) a (omega arith) })
 
-pub jump_if_follows : (program : Program) (held : Held) (state : State) (machine : MachineState) (width : Width) (test : Test) (dst : Register) (source : Source)
+pub jump_if_follows : (program : Program) (held : Held) (state : State) (machine : MachineState) (width : Width) (test : Test) (dst : Register) (source : SourceOperand)
     (distance : ℤ) (flow : Flow) → Abstracts program.maps held state machine → SourceFits source → JumpsForward (JumpIf width test dst source distance) →
     flow_of program.maps state machine.slot (JumpIf width test dst source distance) ≡ Ok flow →
     Follows program held flow machine (JumpIf width test dst source distance) (instruction_step program (JumpIf width test dst source distance) machine)

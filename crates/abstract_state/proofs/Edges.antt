@@ -8,8 +8,8 @@ use Rattle.isa.specs.declared.operation.Width.{Width}
 use Rattle.isa.specs.declared.operation.Width.TheVariants.{Bits64}
 use Rattle.isa.specs.declared.operation.Test.{Test}
 use Rattle.isa.specs.declared.operation.Test.TheVariants.{Eq, Gt, Ge, Ne, Lt, Le}
-use Rattle.isa.specs.declared.operation.Source.{Source}
-use Rattle.isa.specs.declared.operation.Source.TheVariants.{Imm}
+use Rattle.isa.specs.declared.operation.SourceOperand.{SourceOperand}
+use Rattle.isa.specs.declared.operation.SourceOperand.TheVariants.{Imm}
 use Rattle.isa.specs.declared.operation.Register.{Register}
 use Rattle.ebpf_decode.specs.declared.map.MapDef.{MapDef}
 use Rattle.semantics.specs.LittleEndian.{reaches}
@@ -97,7 +97,7 @@ differ_edge s machine map id second u (inr c) =
 is_zero : (machine : MachineState) (immediate : ℤ) → int_eq immediate (pos 0) ≡ true → Number 0 ≡ source_value machine (Imm immediate)
 is_zero machine immediate t = ap (λ z. source_value machine (Imm z)) (sym ((Decides-int_eq immediate (pos 0)).0 t))
 
-null_edge : (s : Setting) (machine : MachineState) (width : Width) (test : Test) (map id : ℕ) (second : Kind) (u : RegisterValue) (source : Source) →
+null_edge : (s : Setting) (machine : MachineState) (width : Width) (test : Test) (map id : ℕ) (second : Kind) (u : RegisterValue) (source : SourceOperand) →
     IsLookedUp s map id u → is_null_test width test source ≡ true →
     Edge s width test (ValueOrNull map id) second u (jump_outcome machine width test u (source_value machine source))
 null_edge s machine Bits64 Eq map id second u (Imm immediate) c t =
@@ -234,7 +234,7 @@ against_a_place maps held ids machine width test (Value map id off) u v source c
 -- ---- every allowed test
 
 pub edge_of : (maps : List MapDef) (held : Held) (ids : Ids) (machine : MachineState) (width : Width) (test : Test) (first second : Kind) (u : RegisterValue)
-    (dst : Register) (source : Source) → KindCovers (setting_of maps held ids machine) first u →
+    (dst : Register) (source : SourceOperand) → KindCovers (setting_of maps held ids machine) first u →
     KindCovers (setting_of maps held ids machine) second (source_value machine source) → allowed_test width test first second dst source ≡ Ok tt →
     Edge (setting_of maps held ids machine) width test first second u (jump_outcome machine width test u (source_value machine source))
 edge_of maps held ids machine width test (Scalar i) second u dst source c d e =

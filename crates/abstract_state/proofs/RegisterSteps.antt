@@ -13,8 +13,8 @@ use Rattle.isa.specs.declared.operation.SwapWidth.{SwapWidth}
 use Rattle.isa.specs.declared.operation.SwapWidth.TheVariants.{Swap16, Swap32, Swap64}
 use Rattle.isa.specs.declared.operation.AluOp.{AluOp}
 use Rattle.isa.specs.declared.operation.AluOp.TheVariants.{Mov}
-use Rattle.isa.specs.declared.operation.Source.{Source}
-use Rattle.isa.specs.declared.operation.Source.TheVariants.{Imm, Reg}
+use Rattle.isa.specs.declared.operation.SourceOperand.{SourceOperand}
+use Rattle.isa.specs.declared.operation.SourceOperand.TheVariants.{Imm, Reg}
 use Rattle.isa.specs.declared.operation.Register.{Register}
 use Rattle.isa.specs.declared.operation.Register.TheVariants.{R0}
 use Rattle.ebpf_decode.specs.declared.insn.Insn.{Insn}
@@ -54,7 +54,7 @@ stands program held state machine a insn h = record { later = omega arith; bases
 
 -- ---- two operands
 
-source_set : (state : State) (op : AluOp) (dst : Register) (source : Source) → reads_operands state op dst source ≡ Ok tt →
+source_set : (state : State) (op : AluOp) (dst : Register) (source : SourceOperand) → reads_operands state op dst source ≡ Ok tt →
     is_set (source_kind state source) (blamed dst source) ≡ Ok tt
 source_set state op dst (Imm immediate) e = refl
 source_set state Mov dst (Reg register) e = e
@@ -68,7 +68,7 @@ small_values maps sizes map = by_found (slice_get maps map) refl
     by_found None is = zero-le
     by_found (Some definition) is = (each_at HasImageSizes maps map definition sizes is).value_size
 
-pub alu_follows : (program : Program) (held : Held) (state : State) (machine : MachineState) (width : Width) (op : AluOp) (dst : Register) (source : Source) (flow : Flow) →
+pub alu_follows : (program : Program) (held : Held) (state : State) (machine : MachineState) (width : Width) (op : AluOp) (dst : Register) (source : SourceOperand) (flow : Flow) →
     Abstracts program.maps held state machine → AllByRecursion HasImageSizes program.maps → SourceFits source →
     flow_of program.maps state machine.slot (Alu width op dst source) ≡ Ok flow →
     Follows program held flow machine (Alu width op dst source) (instruction_step program (Alu width op dst source) machine)

@@ -6,8 +6,8 @@ use Rattle.isa.specs.declared.operation.Width.TheVariants.{Bits32, Bits64}
 use Rattle.isa.specs.declared.operation.AluOp.{AluOp}
 use Rattle.isa.specs.declared.operation.AluOp.TheVariants.{Add, Sub, Mov}
 use Rattle.isa.specs.declared.operation.Register.{Register}
-use Rattle.isa.specs.declared.operation.Source.{Source}
-use Rattle.isa.specs.declared.operation.Source.TheVariants.{Imm, Reg}
+use Rattle.isa.specs.declared.operation.SourceOperand.{SourceOperand}
+use Rattle.isa.specs.declared.operation.SourceOperand.TheVariants.{Imm, Reg}
 use Rattle.ebpf_decode.specs.declared.map.MapDef.{MapDef}
 use Rattle.ebpf_decode.specs.declared.version.Version.{Version}
 use Rattle.ebpf_decode.specs.declared.version.Version.TheVariants.{V1, V2}
@@ -23,12 +23,12 @@ use Rattle.abstract_state.specs.States.{Checked, ◌>>=◌, kind_of, with_kind, 
 use Rattle.abstract_state.specs.Places.{place_within, offsets_within}
 
 -- an immediate is a single number, sign-extended to 64 bits
-abbrev pub source_kind : State → Source → Kind
+abbrev pub source_kind : State → SourceOperand → Kind
 source_kind state (Imm immediate) = Scalar (constant_of (twos_complement 64 immediate))
 source_kind state (Reg register) = kind_of state register
 
 -- the register that a source of a wrong kind is blamed on; with an immediate that is the destination
-abbrev pub blamed : Register → Source → Register
+abbrev pub blamed : Register → SourceOperand → Register
 blamed dst (Imm immediate) = dst
 blamed dst (Reg register) = register
 
@@ -106,7 +106,7 @@ abbrev pub alu_kind : List MapDef → Version → ℕ → Width → AluOp → Ki
 alu_kind maps version slot width Mov first second dst source = moved_kind width second source
 alu_kind maps version slot width op first second dst source = combined_kind maps version slot width op first second dst source
 
-abbrev pub after_alu_of : List MapDef → State → ℕ → Width → AluOp → Register → Source → Checked State
+abbrev pub after_alu_of : List MapDef → State → ℕ → Width → AluOp → Register → SourceOperand → Checked State
 after_alu_of maps state slot width op dst source =
     alu_kind maps state.version slot width op (kind_of state dst) (source_kind state source) dst (blamed dst source) >>=
     (λ kind. Ok (with_kind state dst kind))

@@ -9,8 +9,8 @@ use Rattle.isa.specs.declared.operation.Test.{Test}
 use Rattle.isa.specs.declared.operation.AtomicOp.{AtomicOp}
 use Rattle.isa.specs.declared.operation.AtomicOp.TheVariants.{CompareExchange}
 use Rattle.isa.specs.declared.operation.Size.{Size}
-use Rattle.isa.specs.declared.operation.Source.{Source}
-use Rattle.isa.specs.declared.operation.Source.TheVariants.{Imm, Reg}
+use Rattle.isa.specs.declared.operation.SourceOperand.{SourceOperand}
+use Rattle.isa.specs.declared.operation.SourceOperand.TheVariants.{Imm, Reg}
 use Rattle.isa.specs.declared.operation.Register.{Register}
 use Rattle.isa.specs.declared.operation.Register.TheVariants.{R0, R1, R2, R3, R4, R10}
 use Rattle.ebpf_decode.specs.declared.insn.Insn.{Insn}
@@ -55,15 +55,15 @@ is_set kind register = Ok tt
 abbrev pub reads : State → Register → Checked (Unit {0})
 reads state register = is_set (kind_of state register) register
 
-abbrev pub reads_source : State → Source → Checked (Unit {0})
+abbrev pub reads_source : State → SourceOperand → Checked (Unit {0})
 reads_source state (Imm immediate) = Ok tt
 reads_source state (Reg register) = reads state register
 
-abbrev pub reads_both : State → Register → Source → Checked (Unit {0})
+abbrev pub reads_both : State → Register → SourceOperand → Checked (Unit {0})
 reads_both state dst source = reads state dst >>= (λ _. reads_source state source)
 
 -- a move does not read what it overwrites
-abbrev pub reads_operands : State → AluOp → Register → Source → Checked (Unit {0})
+abbrev pub reads_operands : State → AluOp → Register → SourceOperand → Checked (Unit {0})
 reads_operands state Mov dst source = reads_source state source
 reads_operands state op dst source = reads_both state dst source
 
@@ -86,7 +86,7 @@ reads_arguments state XdpAdjustHead = reads_both state R1 (Reg R2)
 
 -- ---- what an instruction leaves
 
-abbrev pub alu_flow : List MapDef → State → ℕ → Width → AluOp → Register → Source → Checked State
+abbrev pub alu_flow : List MapDef → State → ℕ → Width → AluOp → Register → SourceOperand → Checked State
 alu_flow maps state slot width op dst source =
     writable dst >>= (λ _. reads_operands state op dst source >>= (λ _. after_alu_of maps state slot width op dst source))
 
@@ -156,7 +156,7 @@ call_flow maps state slot number =
     helper_at number >>= (λ helper. reads_arguments state helper >>= (λ _. call_of maps state slot helper))
 
 -- a conditional jump
-abbrev pub test_flow : State → Width → Test → Register → Source → Checked Flow
+abbrev pub test_flow : State → Width → Test → Register → SourceOperand → Checked Flow
 test_flow state width test dst source =
     reads_both state dst source >>= (λ _.
     allowed_test width test (kind_of state dst) (source_kind state source) dst source >>= (λ _.

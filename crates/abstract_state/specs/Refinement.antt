@@ -6,8 +6,8 @@ use Rattle.isa.specs.declared.operation.Width.TheVariants.{Bits64}
 use Rattle.isa.specs.declared.operation.Test.{Test}
 use Rattle.isa.specs.declared.operation.Test.TheVariants.{Eq, Gt, Ge, Ne, Lt, Le}
 use Rattle.isa.specs.declared.operation.Register.{Register}
-use Rattle.isa.specs.declared.operation.Source.{Source}
-use Rattle.isa.specs.declared.operation.Source.TheVariants.{Imm}
+use Rattle.isa.specs.declared.operation.SourceOperand.{SourceOperand}
+use Rattle.isa.specs.declared.operation.SourceOperand.TheVariants.{Imm}
 use Rattle.abstract_scalar.specs.declared.interval.Interval.{Interval}
 use Rattle.abstract_scalar.specs.Intervals.{is_single}
 use Rattle.abstract_scalar.specs.Cuts.{refine_of}
@@ -24,7 +24,7 @@ use Rattle.abstract_state.specs.Facts.{told}
 -- ---- what is allowed
 
 -- the null test: whole registers are equal to, or differ from, the immediate 0
-abbrev pub is_null_test : Width → Test → Source → Bool
+abbrev pub is_null_test : Width → Test → SourceOperand → Bool
 is_null_test Bits64 Eq (Imm immediate) = int_eq immediate (pos 0)
 is_null_test Bits64 Ne (Imm immediate) = int_eq immediate (pos 0)
 is_null_test width test source = false
@@ -56,7 +56,7 @@ against_packet other source = wrong source
 abbrev pub when : Bool → Register → Checked (Unit {0}) → Checked (Unit {0})
 when allowed register go = if allowed then go else wrong register
 
-abbrev pub allowed_test : Width → Test → Kind → Kind → Register → Source → Checked (Unit {0})
+abbrev pub allowed_test : Width → Test → Kind → Kind → Register → SourceOperand → Checked (Unit {0})
 allowed_test width test (Scalar i) other dst source = against_scalar other (blamed dst source)
 allowed_test width test (ValueOrNull map id) other dst source = when (is_null_test width test source) dst (Ok tt)
 allowed_test width test (Packet id off range) other dst source = when (is_order width test) dst (against_end other (blamed dst source))
@@ -111,7 +111,7 @@ refined (Some kind) fact state dst = with_kind state dst kind
 refined None fact state dst = told fact state
 
 -- what is known on the edge where the test is taken, or on the one where it isn't
-abbrev pub refine_state : State → Width → Test → Register → Source → Bool → State
+abbrev pub refine_state : State → Width → Test → Register → SourceOperand → Bool → State
 refine_state state width test dst source taken =
     refined (number_cut width test taken (kind_of state dst) (source_kind state source))
     (fact_of test taken (kind_of state dst) (source_kind state source)) state dst

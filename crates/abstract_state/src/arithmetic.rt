@@ -12,19 +12,19 @@ ghost use Rattle.abstract_state.specs.Arithmetic.{alu_kind, after_alu_of};
 use crate::broken_rule::BrokenRule;
 use crate::kind::{Kind, Offsets};
 use crate::places::{STACK_SIZE, offsets_within, place_within};
-use crate::site::{Operands, Site};
+use crate::site::{AluOperands, Site};
 use crate::state::State;
 use abstract_scalar::Interval;
 use ebpf_decode::{MapDef, Version};
-use isa::{AluOp, Register, Source, Width};
+use isa::{AluOp, Register, SourceOperand, Width};
 
 /// The register that a source of a wrong kind is blamed on; with an immediate that is the destination.
-pub(crate) fn blamed(dst: Register, source: Source) -> Register
+pub(crate) fn blamed(dst: Register, source: SourceOperand) -> Register
     ensures { result ≡ blamed dst source }
 {
     match source {
-        Source::Imm(_) => dst,
-        Source::Reg(register) => register,
+        SourceOperand::Imm(_) => dst,
+        SourceOperand::Reg(register) => register,
     }
 }
 
@@ -126,7 +126,7 @@ fn moved_value(
 
 /// A pointer moved by a number of which only an interval is known: a packet pointer gets a base of its own, of which no range
 /// is known, and an address in a value an interval of offsets.
-fn moved_far(site: Site<'_>, op: AluOp, on: Operands, i: Interval) -> Result<Kind, BrokenRule>
+fn moved_far(site: Site<'_>, op: AluOp, on: AluOperands, i: Interval) -> Result<Kind, BrokenRule>
     ensures { result ≡ moved_far site.entry.maps.now on.version site.entry.slot op on.first i on.source }
 {
     match (op, on.first) {
@@ -149,7 +149,7 @@ fn moved_far(site: Site<'_>, op: AluOp, on: Operands, i: Interval) -> Result<Kin
 }
 
 /// A pointer moved by what another register holds.
-fn pointer_sum(site: Site<'_>, op: AluOp, on: Operands) -> Result<Kind, BrokenRule>
+fn pointer_sum(site: Site<'_>, op: AluOp, on: AluOperands) -> Result<Kind, BrokenRule>
     ensures { result ≡ pointer_sum site.entry.maps.now on.version site.entry.slot op on.first on.second on.dst on.source }
 {
     match on.second {
@@ -179,7 +179,7 @@ fn combined_pointer(
     site: Site<'_>,
     width: Width,
     op: AluOp,
-    on: Operands,
+    on: AluOperands,
 ) -> Result<Kind, BrokenRule>
     ensures { result ≡ combined_pointer site.entry.maps.now on.version site.entry.slot width op on.first on.second on.dst on.source }
 {
@@ -191,7 +191,7 @@ fn combined_pointer(
 }
 
 /// An operation that reads its destination.
-fn combined(site: Site<'_>, width: Width, op: AluOp, on: Operands) -> Result<Kind, BrokenRule>
+fn combined(site: Site<'_>, width: Width, op: AluOp, on: AluOperands) -> Result<Kind, BrokenRule>
     ensures { result ≡ combined_kind site.entry.maps.now on.version site.entry.slot width op on.first on.second on.dst on.source }
 {
     match on.first {
@@ -204,7 +204,7 @@ fn combined(site: Site<'_>, width: Width, op: AluOp, on: Operands) -> Result<Kin
 }
 
 /// The kind of what an arithmetic operation leaves in its destination.
-fn alu_kind(site: Site<'_>, width: Width, op: AluOp, on: Operands) -> Result<Kind, BrokenRule>
+fn alu_kind(site: Site<'_>, width: Width, op: AluOp, on: AluOperands) -> Result<Kind, BrokenRule>
     ensures { result ≡ alu_kind site.entry.maps.now on.version site.entry.slot width op on.first on.second on.dst on.source }
 {
     match op {
@@ -215,14 +215,14 @@ fn alu_kind(site: Site<'_>, width: Width, op: AluOp, on: Operands) -> Result<Kin
 
 impl State {
     /// What is known of a second operand: an immediate is a single number, sign-extended to 64 bits.
-    pub(crate) fn source(&self, source: Source) -> Kind
+    pub(crate) fn source(&self, source: SourceOperand) -> Kind
         ensures { result ≡ source_kind self.now source }
     {
         match source {
-            Source::Imm(immediate) => Kind::Scalar(Interval::constant(i64::from(
+            SourceOperand::Imm(immediate) => Kind::Scalar(Interval::constant(i64::from(
                 immediate,
             ).cast_unsigned())),
-            Source::Reg(register) => self.kind(register),
+            SourceOperand::Reg(register) => self.kind(register),
         }
     }
 
@@ -235,7 +235,7 @@ impl State {
         width: Width,
         op: AluOp,
         dst: Register,
-        source: Source,
+        source: SourceOperand,
     ) -> Result<State, BrokenRule>
         ensures { result ≡ after_alu_of site.entry.maps.now self site.entry.slot width op dst source }
     {
@@ -250,11 +250,11 @@ impl State {
         width: Width,
         op: AluOp,
         dst: Register,
-        source: Source,
+        source: SourceOperand,
     ) -> Result<(), BrokenRule>
         ensures { kept result self.new ≡ after_alu_of site.entry.maps.now self.old site.entry.slot width op dst source }
     {
-        let on = Operands {
+        let on = AluOperands {
             first: self.kind(dst),
             second: self.source(source),
             dst,

@@ -11,15 +11,15 @@ use crate::fact::Fact;
 use crate::kind::Kind;
 use crate::state::State;
 use abstract_scalar::Interval;
-use isa::{Register, Source, Test, Width};
+use isa::{Register, SourceOperand, Test, Width};
 
 /// Whether whole registers are tested for being 0, or not 0.
-fn is_null_test(width: Width, test: Test, source: Source) -> bool
+fn is_null_test(width: Width, test: Test, source: SourceOperand) -> bool
     ensures { result ≡ is_null_test width test source }
 {
     match (width, test, source) {
-        (Width::Bits64, Test::Eq, Source::Imm(immediate)) => immediate == 0,
-        (Width::Bits64, Test::Ne, Source::Imm(immediate)) => immediate == 0,
+        (Width::Bits64, Test::Eq, SourceOperand::Imm(immediate)) => immediate == 0,
+        (Width::Bits64, Test::Ne, SourceOperand::Imm(immediate)) => immediate == 0,
         _ => false,
     }
 }
@@ -74,7 +74,7 @@ pub(crate) fn allowed_test(
     kind: Kind,
     other: Kind,
     dst: Register,
-    source: Source,
+    source: SourceOperand,
 ) -> Result<(), BrokenRule>
     ensures { result ≡ allowed_test width test kind other dst source }
 {
@@ -196,7 +196,7 @@ impl State {
         width: Width,
         test: Test,
         dst: Register,
-        source: Source,
+        source: SourceOperand,
         taken: bool,
     ) -> State
         ensures { result ≡ refine_state self width test dst source taken }
@@ -211,7 +211,7 @@ impl State {
         width: Width,
         test: Test,
         dst: Register,
-        source: Source,
+        source: SourceOperand,
         taken: bool,
     )
         ensures { self.new ≡ refine_state self.old width test dst source taken }

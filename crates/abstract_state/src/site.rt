@@ -13,7 +13,7 @@ pub struct Site<'a> {
 
 /// Two operands, with the registers that a refusal names, and the version whose rules hold.
 #[derive(Clone, Copy)]
-pub(crate) struct Operands {
+pub(crate) struct AluOperands {
     pub(crate) first: Kind,
     pub(crate) second: Kind,
     pub(crate) dst: Register,

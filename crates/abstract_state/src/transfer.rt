@@ -31,7 +31,7 @@
 //! reclaimer do. And no run is endless, since each step goes up. A refusal may be needless, since less is known than is true: of
 //! numbers only an unsigned interval is followed, no single bits, no signed bounds, and no relation between two registers.
 //!
-//! The order of rules within an instruction is part of the promise, since the first that is broken is told: a write of R10; then an
+//! The order of rules within an instruction is part of the promise, since the first that is broken is returned: a write of R10; then an
 //! unknown helper or map; then an unset register, the destination before the source; then the rule of the instruction's class.
 
 ghost use Rattle.std.specs.Prelude.{◌≡◌, Some};
@@ -56,8 +56,8 @@ use crate::state::State;
 use abstract_scalar::Interval;
 use ebpf_decode::{Insn, MapDef, MapKind};
 use isa::{
-    AluOp, AtomicOp, ByteOrder, Extension, Register, ShortExtension, Size, Source, SwapWidth, Test,
-    Width,
+    AluOp, AtomicOp, ByteOrder, Extension, Register, ShortExtension, Size, SourceOperand,
+    SwapWidth, Test, Width,
 };
 use semantics::Helper;
 
@@ -162,17 +162,17 @@ impl State {
     }
 
     /// A source is read.
-    fn reads_source(&self, source: Source) -> Result<(), BrokenRule>
+    fn reads_source(&self, source: SourceOperand) -> Result<(), BrokenRule>
         ensures { result ≡ reads_source self.now source }
     {
         match source {
-            Source::Imm(_) => Ok(()),
-            Source::Reg(register) => self.reads(register),
+            SourceOperand::Imm(_) => Ok(()),
+            SourceOperand::Reg(register) => self.reads(register),
         }
     }
 
     /// Destination and source are read.
-    fn reads_both(&self, dst: Register, source: Source) -> Result<(), BrokenRule>
+    fn reads_both(&self, dst: Register, source: SourceOperand) -> Result<(), BrokenRule>
         ensures { result ≡ reads_both self.now dst source }
     {
         self.reads(dst)?;
@@ -180,7 +180,12 @@ impl State {
     }
 
     /// What an arithmetic operation reads: a move does not read what it overwrites.
-    fn reads_operands(&self, op: AluOp, dst: Register, source: Source) -> Result<(), BrokenRule>
+    fn reads_operands(
+        &self,
+        op: AluOp,
+        dst: Register,
+        source: SourceOperand,
+    ) -> Result<(), BrokenRule>
         ensures { result ≡ reads_operands self.now op dst source }
     {
         match op {
@@ -215,11 +220,11 @@ impl State {
     {
         match helper {
             Helper::MapLookupElem | Helper::MapDeleteElem | Helper::XdpAdjustHead => {
-                self.reads_both(Register::R1, Source::Reg(Register::R2))
+                self.reads_both(Register::R1, SourceOperand::Reg(Register::R2))
             }
             Helper::MapUpdateElem => {
-                self.reads_both(Register::R1, Source::Reg(Register::R2))?;
-                self.reads_both(Register::R3, Source::Reg(Register::R4))
+                self.reads_both(Register::R1, SourceOperand::Reg(Register::R2))?;
+                self.reads_both(Register::R3, SourceOperand::Reg(Register::R4))
             }
             Helper::KtimeGetNs | Helper::GetSmpProcessorId => Ok(()),
         }
@@ -233,7 +238,7 @@ impl State {
         width: Width,
         op: AluOp,
         dst: Register,
-        source: Source,
+        source: SourceOperand,
     ) -> Result<(), BrokenRule>
         ensures { kept result self.new ≡ alu_flow site.entry.maps.now self.old site.entry.slot width op dst source }
     {
@@ -314,7 +319,7 @@ impl State {
     {
         self.reads(dst)?;
         let to = self.address(dst, offset);
-        let stored = self.source(Source::Imm(immediate));
+        let stored = self.source(SourceOperand::Imm(immediate));
         self.store_at(site, size, to, stored)
     }
 
@@ -330,7 +335,7 @@ impl State {
     ) -> Result<(), BrokenRule>
         ensures { kept result self.new ≡ store_register_flow site.entry.maps.now self.old size dst src offset }
     {
-        self.reads_both(dst, Source::Reg(src))?;
+        self.reads_both(dst, SourceOperand::Reg(src))?;
         let to = self.address(dst, offset);
         let stored = self.kind(src);
         self.store_at(site, size, to, stored)

@@ -1,4 +1,4 @@
-//! Who may make a call, told without reading the journal back.
+//! Who may make a call, known without reading the journal back.
 
 ghost use Rattle.std.specs.Prelude.{◌≡◌, reverse};
 ghost use Rattle.semantics.specs.History.{meets};

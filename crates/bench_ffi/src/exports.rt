@@ -7,7 +7,7 @@ use std::alloc::Global;
 /// What the runs of a call came to.
 #[repr(C)]
 #[derive(Drop)]
-pub struct Outcome {
+pub struct LastRun {
     /// The last run's verdict: 1 drop, 2 pass, 3 send, 0 else.
     pub verdict: u64,
     /// How many instructions the last run did.
@@ -49,7 +49,7 @@ pub extern "C" fn bench_ffi_run(
     frame: &[u8],
     runs: u32,
     journal: u32,
-    outcome: &mut Outcome,
+    outcome: &mut LastRun,
 ) -> u8 {
     let verified = match accept(alloc, image) {
         Ok(verified) => verified,
@@ -76,7 +76,7 @@ pub extern "C" fn bench_ffi_prepare(
     frame: &[u8],
     runs: u32,
     journal: u32,
-    outcome: &mut Outcome,
+    outcome: &mut LastRun,
 ) -> u8 {
     let verified = match accept(alloc, image) {
         Ok(verified) => verified,

@@ -20,7 +20,7 @@ const MOMENT: Moment = Moment {
 
 /// What a run came to.
 #[derive(Clone, Copy, Debug)]
-pub struct Ran {
+pub struct HashedRun {
     pub exit: Exit,
     /// The hash of the frame that it left.
     pub hash: u64,
@@ -50,7 +50,12 @@ fn frame_of(alloc: Global, bytes: &[u8]) -> Result<Frame, u8>
 }
 
 /// Opens shards and runs the program on a frame of these bytes, or returns the number of the fault.
-pub fn run_once(alloc: Global, verified: &Verified, bytes: &[u8], journal: u32) -> Result<Ran, u8> {
+pub fn run_once(
+    alloc: Global,
+    verified: &Verified,
+    bytes: &[u8],
+    journal: u32,
+) -> Result<HashedRun, u8> {
     opened_serve();
     let options = options(journal);
     let mut shards = match PlainShards::open(alloc, verified.image(), options) {
@@ -63,7 +68,7 @@ pub fn run_once(alloc: Global, verified: &Verified, bytes: &[u8], journal: u32) 
     let ended = run(verified, &mut frame, &MOMENT, &mut port);
     port.finish();
     match ended {
-        Ok(exit) => Ok(Ran {
+        Ok(exit) => Ok(HashedRun {
             exit,
             hash: fnv1a64(frame.bytes()),
         }),

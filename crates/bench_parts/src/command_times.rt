@@ -21,12 +21,12 @@ const COUNTS: [u8; 4] = [2, 10, 50, 100];
 
 /// Maps that take every update and keep none: what is timed is the controller alone.
 #[derive(Drop)]
-struct Sink {
+struct UpdateSink {
     maps: Vec<MapDef>,
     updates: usize,
 }
 
-impl UpdatePort for Sink {
+impl UpdatePort for UpdateSink {
     ghost use Rattle.std.specs.Prelude.{◌≡◌, pos};
     ghost use Rattle.bench_parts.specs.Sinks.{IsTaken};
 
@@ -68,7 +68,11 @@ fn down(number: u8) -> Command {
 }
 
 /// A controller with this many backends up, numbered from 0.
-fn with_backends(alloc: Global, count: u8, sink: &mut Sink) -> Result<Controller, ControlFault>
+fn with_backends(
+    alloc: Global,
+    count: u8,
+    sink: &mut UpdateSink,
+) -> Result<Controller, ControlFault>
     requires { sink.old.maps.items ≡ steering_maps SIZE }
     ensures size { IfOk result (λ controller. controller.size ≡ SIZE) }
     ensures serves { sink.new.maps.items ≡ steering_maps SIZE }
@@ -83,7 +87,7 @@ fn with_backends(alloc: Global, count: u8, sink: &mut Sink) -> Result<Controller
 /// Times one row, and prints it.
 fn measure(rt: &HostRuntime, count: u8) -> Result<(), Error> {
     let alloc = rt.alloc();
-    let mut sink = Sink {
+    let mut sink = UpdateSink {
         maps: maps(alloc, SIZE)?,
         updates: 0,
     };

@@ -13,7 +13,7 @@ ghost use Rattle.bench_parts.specs.FrameOptions.{bench_options};
 use anyhow::Error;
 use machine::{Exit, Moment, Stop, run};
 use putting::{options, put_session};
-use rows::{FRAMES, ROWS, Row, SIZE, frame_bytes};
+use rows::{FRAMES, FrameRow, ROWS, SIZE, frame_bytes};
 use semantics::Verdict;
 use shard_port::PlainPort;
 use shard_port::laws::{opened_serve, stays_one_port};
@@ -65,7 +65,7 @@ fn run_all(
     alloc: Global,
     verified: &Verified,
     shards: &mut PlainShards,
-    row: &Row,
+    row: &FrameRow,
 ) -> Result<u32, Error>
     requires options { AreOptions verified.now.maps bench_options }
     requires shards { ServesMaps verified.now.maps bench_options shards.old }
@@ -82,7 +82,7 @@ fn run_all(
 }
 
 /// Makes the frames alone.
-fn make_all(alloc: Global, row: &Row) -> Result<usize, Error> {
+fn make_all(alloc: Global, row: &FrameRow) -> Result<usize, Error> {
     let mut sum = 0usize;
     'frames: for number in 0..FRAMES {
         let frame = Frame::of(alloc, &frame_bytes(row, number))?;
@@ -92,7 +92,7 @@ fn make_all(alloc: Global, row: &Row) -> Result<usize, Error> {
 }
 
 /// What a frame's run takes, in tenths of a nanosecond, and how many frames were sent.
-fn timed(rt: &HostRuntime, verified: &Verified, row: &Row) -> Result<(u128, u32), Error> {
+fn timed(rt: &HostRuntime, verified: &Verified, row: &FrameRow) -> Result<(u128, u32), Error> {
     let alloc = rt.alloc();
     let mut shards = PlainShards::open(alloc, verified.image(), options())?;
     opened_serve();
@@ -106,7 +106,7 @@ fn timed(rt: &HostRuntime, verified: &Verified, row: &Row) -> Result<(u128, u32)
 }
 
 /// What making a frame takes, in tenths of a nanosecond.
-fn made(rt: &HostRuntime, row: &Row) -> Result<u128, Error> {
+fn made(rt: &HostRuntime, row: &FrameRow) -> Result<u128, Error> {
     let start = Instant::now(rt)?;
     let sum = make_all(rt.alloc(), row)?;
     let time = start.elapsed(rt)?.as_nanos();
@@ -118,7 +118,7 @@ fn made(rt: &HostRuntime, row: &Row) -> Result<u128, Error> {
 }
 
 /// Prints the least of some times, and the least for the frames alone.
-fn measure(rt: &HostRuntime, verified: &Verified, row: &Row) -> Result<(), Error> {
+fn measure(rt: &HostRuntime, verified: &Verified, row: &FrameRow) -> Result<(), Error> {
     let mut least = u128::MAX;
     let mut frame = u128::MAX;
     let mut last = 0;

@@ -19,16 +19,16 @@ const FACTOR_INVERSE: u64 = 0xf1de_83e1_9937_733d;
 
 const START: u64 = 0xcbf2_9ce4_8422_2325;
 
-type Key = [u8; 16];
+type KeyBytes = [u8; 16];
 
-fn joined(first: u64, second: u64) -> Key {
+fn joined(first: u64, second: u64) -> KeyBytes {
     let [a, b, c, d, e, f, g, h] = first.to_le_bytes();
     let [i, j, k, l, m, n, o, p] = second.to_le_bytes();
     [a, b, c, d, e, f, g, h, i, j, k, l, m, n, o, p]
 }
 
 /// The keys of a row: those of different kinds differ.
-fn key(number: u64, kind: u64) -> Key {
+fn key(number: u64, kind: u64) -> KeyBytes {
     let x = number.wrapping_mul(0xbf58_476d_1ce4_e5b9);
     joined(x ^ (x >> 29), x.wrapping_mul(0x94d0_49bb_1331_11eb) ^ kind)
 }
@@ -39,7 +39,7 @@ fn mixed(hash: u64, word: u64) -> u64 {
 }
 
 /// Keys that were chosen to have one hash.
-fn colliding_key(number: u64, kind: u64) -> Key {
+fn colliding_key(number: u64, kind: u64) -> KeyBytes {
     let first = number.wrapping_mul(2).wrapping_add(kind);
     let target: u64 = 0x0123_4567_89ab_cdef;
     let before = (target ^ (target >> 32)).wrapping_mul(FACTOR_INVERSE);
@@ -47,7 +47,7 @@ fn colliding_key(number: u64, kind: u64) -> Key {
 }
 
 /// Keys in an order that memory does not follow.
-fn keys(alloc: Global, count: u32, kind: u64, chosen: bool) -> Result<Vec<Key>, AllocError> {
+fn keys(alloc: Global, count: u32, kind: u64, chosen: bool) -> Result<Vec<KeyBytes>, AllocError> {
     let mut keys = Vec::new(alloc);
     for i in 0..count {
         let number = u64::from(i.wrapping_mul(40503) & count.wrapping_sub(1));
@@ -60,7 +60,7 @@ fn keys(alloc: Global, count: u32, kind: u64, chosen: bool) -> Result<Vec<Key>, 
     Ok(keys)
 }
 
-fn try_insert(shard: &mut HashShard, key: &Key, id: u64)
+fn try_insert(shard: &mut HashShard, key: &KeyBytes, id: u64)
     requires { shard.old.size ≡ 16 }
     ensures { shard.new.size ≡ 16 }
 {
@@ -69,7 +69,7 @@ fn try_insert(shard: &mut HashShard, key: &Key, id: u64)
     }
 }
 
-fn fill(shard: &mut HashShard, keys: &[Key])
+fn fill(shard: &mut HashShard, keys: &[KeyBytes])
     requires { shard.old.size ≡ 16 }
     ensures { shard.new.size ≡ 16 }
 {
@@ -78,7 +78,7 @@ fn fill(shard: &mut HashShard, keys: &[Key])
     }
 }
 
-fn finds(shard: &HashShard, keys: &[Key]) -> u64
+fn finds(shard: &HashShard, keys: &[KeyBytes]) -> u64
     requires { shard.now.size ≡ 16 }
 {
     let mut sum: u64 = 0;
@@ -93,7 +93,7 @@ fn finds(shard: &HashShard, keys: &[Key]) -> u64
     sum
 }
 
-fn count_of(keys: &[Key]) -> u32 {
+fn count_of(keys: &[KeyBytes]) -> u32 {
     let count = keys.len();
     if count < 1_000_000 {
         count as u32
@@ -102,7 +102,7 @@ fn count_of(keys: &[Key]) -> u32 {
     }
 }
 
-fn round(shard: &HashShard, keys: &[Key]) -> u64
+fn round(shard: &HashShard, keys: &[KeyBytes]) -> u64
     requires { shard.now.size ≡ 16 }
 {
     let mut sum: u64 = 0;
@@ -126,7 +126,7 @@ fn make_room(shard: &mut LruShard) -> u64
 }
 
 /// An update of a key as an LRU shard makes it: a new key takes the place of the one that was used longest ago.
-fn update(shard: &mut LruShard, key: &Key, id: u64) -> u64
+fn update(shard: &mut LruShard, key: &KeyBytes, id: u64) -> u64
     requires { shard.old.size ≡ 16 }
     ensures { shard.new.size ≡ 16 }
 {
@@ -140,7 +140,7 @@ fn update(shard: &mut LruShard, key: &Key, id: u64) -> u64
     gone
 }
 
-fn updates(shard: &mut LruShard, keys: &[Key]) -> u64
+fn updates(shard: &mut LruShard, keys: &[KeyBytes]) -> u64
     requires { shard.old.size ≡ 16 }
     ensures { shard.new.size ≡ 16 }
 {

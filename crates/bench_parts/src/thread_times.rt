@@ -11,7 +11,7 @@ use anyhow::Error;
 use core_calls::timed_core;
 use ebpf_decode::{Image, Insn, Version};
 use shards::{Naming, Opened, Shards};
-use shared_calls::{LOOKUPS, MAP, OPTIONS, THREADS, Task, task_of, work};
+use shared_calls::{CallTask, LOOKUPS, MAP, OPTIONS, THREADS, task_of, work};
 use std::alloc::Global;
 use std::marker::Brand;
 use std::sync::Wait;
@@ -36,8 +36,8 @@ fn image(alloc: Global) -> Result<Image, Error> {
 fn two<B: Naming + Send + Sync, R: Threads + Wait + Sync>(
     rt: &R,
     shards: &Shards<B>,
-    first: Task<B>,
-    second: Task<B>,
+    first: CallTask<B>,
+    second: CallTask<B>,
 ) -> u64
     requires first { IsReady B.count B.plan first.pass first.shard }
     requires second { IsReady B.count B.plan second.pass second.shard }
@@ -58,10 +58,10 @@ fn two<B: Naming + Send + Sync, R: Threads + Wait + Sync>(
 fn four<B: Naming + Send + Sync, R: Threads + Wait + Sync>(
     rt: &R,
     shards: &Shards<B>,
-    first: Task<B>,
-    second: Task<B>,
-    third: Task<B>,
-    fourth: Task<B>,
+    first: CallTask<B>,
+    second: CallTask<B>,
+    third: CallTask<B>,
+    fourth: CallTask<B>,
 ) -> u64
     requires first { IsReady B.count B.plan first.pass first.shard }
     requires second { IsReady B.count B.plan second.pass second.shard }

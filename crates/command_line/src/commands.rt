@@ -7,7 +7,7 @@ use semantics::Options;
 /// A command with its words: names of files as they were given, and numbers.
 #[derive(Debug, Drop)]
 pub enum Settings<'a> {
-    /// Judges an image, and explains the result if asked to.
+    /// Judges an image or a source, and explains the result if asked to.
     Check {
         image: &'a str,
         explain: bool,

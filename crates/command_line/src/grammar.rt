@@ -101,12 +101,14 @@ The file - is the standard input, or where a file is written the standard
 output; what the command prints goes to the standard error then.";
 
 const AFTER_CHECK: &str = "\
-Prints one line:
+IMAGE may be a source, as asm --source reads it, in place of an image: a file
+whose first word, behind comments and blank lines, is `version`. Prints one line:
   accepted slots <slots> maps <maps> reader <yes or no>
 A slot has eight bytes; an instruction takes one or two. A reader changes no
 map and does the same on each worker. A program that may not run is refused
 with the first rule that it breaks and the slot of the instruction, counted
-from 0. With --explain more lines follow: for a refused program what was known
+from 0; of a source, its line and the label above it are in a line below.
+With --explain more lines follow: for a refused program what was known
 at that instruction, the rule and the usual remedy; for an accepted one what is
 known before each instruction, and why it is not a reader.
 An image of version 2 may also take addresses in the values of its maps (the
@@ -118,7 +120,9 @@ Prints three lines:
   instructions <how many were run>
   frame <the frame afterwards, in hexadecimal>
 A dropped frame is thrown away, a passed one goes to the host, and tx sends it
-out; aborted means that the program returned none of these. The maps are new:
+out; aborted means that the program returned none of these. FRAME has raw bytes;
+of a text, or of hexadecimal digits, the letters are run, and a line on the
+standard error says so. The maps are new:
 the elements of an array are zeros, other maps have no keys. With --update,
 which may be given any number of times, the controller sets a key of a map to a
 value before the run: MAP is the map's place in the image, from 0, KEY and VALUE
@@ -141,7 +145,9 @@ Prints `legal` if each entry of each journal is a call that its caller may
 make, with the reply that a map on one thread gives, and none came past a full
 journal. Otherwise the first entry that is not is reported, by its shard and its
 place there, counted from 0. Only the image's maps count: its program is not
-judged.";
+judged. They have to be those of the program that wrote the journals: for the
+shipped program, 'xlb shipped --ring N' writes its image for the --ring N of the
+replay.";
 
 const AFTER_EXPLAIN: &str = "\
 Prints what the fault means, what mostly leads to it, and an example. FAULT is
@@ -188,13 +194,15 @@ all frames before it are done, and before a later one is begun. With --summary
 lines on the standard error give the number of frames of each kind in the
 capture, the number sent to each address, how many of these were sent to
 another address than the frame of their flow before, how many are for each
-service of the script, why others were not sent, and the first ten records
-that went to another address. A frame that was cut within its packet when it
+service of the script, why others were not sent, how many slots of the lookup
+table each backend has at the end, and the first ten records that went to
+another address. A frame that was cut within its packet when it
 was captured is passed, as malformed (tcpdump -s 0 keeps frames whole).
 With --report one line for each record of the capture is written to the file:
   number,moment,worker,verdict,steps,case,backend,address
-as CSV, or as a JSON object if the file's name ends in .json or .jsonl. The case
-is that of the steering rule; backend and address are where the frame was sent.
+as CSV, or as a JSON object if the file's name ends in .json or .jsonl, in upper
+or lower case. The case is that of the steering rule; backend and address are
+where the frame was sent.
 A capture with a record of more than 2048 bytes is refused; with --skip-long
 such records are skipped, and a line on the standard error gives their number.";
 
@@ -270,9 +278,9 @@ fn check<'a>(alloc: Global) -> Result<Command<'a>, AllocError>
     ensures app { IfOk result (λ command. app_of command ≡ line.check_command) }
     ensures local { IfOk result (λ command. (out-Command command).has_globals ≡ false) }
 {
-    let image = file(alloc, IMAGE, "The image's file");
+    let image = file(alloc, IMAGE, "The file of the image, or of a source");
     let explain = switch(alloc, EXPLAIN, "Explains the result");
-    command(alloc, "check", "Judges an image", AFTER_CHECK)
+    command(alloc, "check", "Judges an image or a source", AFTER_CHECK)
         .arg(image)?
         .arg(explain)
 }

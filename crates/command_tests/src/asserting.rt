@@ -16,6 +16,11 @@ pub fn same_bytes_of(rt: &impl Abort, name: &str, fact: &str, found: &[u8], want
     assert!(rt; found == wanted, "{name}: {fact}");
 }
 
+/// Ends the test where a text is not the wanted one.
+pub fn same_text(rt: &impl Abort, name: &str, found: &str, wanted: &str) {
+    assert_eq!(rt; found, wanted, "{name}");
+}
+
 /// Ends the test where a status is not the wanted one.
 pub fn same_status(rt: &impl Abort, name: &str, found: u8, wanted: u8) {
     assert_eq!(rt; found, wanted, "{name}: status");

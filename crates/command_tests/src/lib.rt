@@ -1,4 +1,4 @@
-//! Tests of the commands of `xlb` over files in memory, and of such files.
+//! Tests of the commands of `xlb` over files in memory, of such files, and of the texts that the commands print.
 #![tactic(auto)]
 
 #[cfg(test)]
@@ -6,4 +6,8 @@ mod asserting;
 #[cfg(test)]
 mod commands;
 #[cfg(test)]
+mod counted_traffic;
+#[cfg(test)]
 mod files_in_memory;
+#[cfg(test)]
+mod told_mistakes;

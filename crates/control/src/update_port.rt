@@ -74,10 +74,7 @@ fn put<U: UpdatePort>(
     ensures refuses { OnErr result (U.refuses port.old (record { map = map_place map; key = key.now; value = value.now }) port.new) }
     ensures serves { U.serves port.new ≡ U.serves port.old }
 {
-    match port.update(map.place(), &key_of(key), &value_of(value)) {
-        Ok(answer) => Ok(answer),
-        Err(full) => Err(full),
-    }
+    port.update(map.place(), &key_of(key), &value_of(value))
 }
 
 /// Makes an update.

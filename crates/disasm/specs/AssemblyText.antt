@@ -4,8 +4,8 @@ use Rattle.std.specs.Fmt.{decimal, signed_decimal}
 use Rattle.std.specs.List.{flat_map}
 use Rattle.isa.specs.declared.operation.Register.{Register}
 use Rattle.isa.specs.declared.operation.Register.TheVariants.{R0, R1, R2, R3, R4, R5, R6, R7, R8, R9, R10}
-use Rattle.isa.specs.declared.operation.Source.{Source}
-use Rattle.isa.specs.declared.operation.Source.TheVariants.{Imm, Reg}
+use Rattle.isa.specs.declared.operation.SourceOperand.{SourceOperand}
+use Rattle.isa.specs.declared.operation.SourceOperand.TheVariants.{Imm, Reg}
 use Rattle.ebpf_decode.specs.declared.insn.Insn.{Insn}
 use Rattle.ebpf_decode.specs.declared.insn.Insn.TheVariants as insns
 use Rattle.ebpf_decode.specs.declared.map.MapDef.{MapDef}
@@ -97,7 +97,7 @@ head_of (insns.CallHelper helper) = Call
 head_of insns.Exit = Exit
 
 -- an immediate, or a register
-abbrev pub source_operand : Source → Operand
+abbrev pub source_operand : SourceOperand → Operand
 source_operand (Imm value) = operands.Number value
 source_operand (Reg register) = operands.Register register
 

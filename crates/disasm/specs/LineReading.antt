@@ -4,8 +4,8 @@ use Rattle.std.specs.Int.{w16, w32, w64}
 use Rattle.std.specs.List.{starts_with}
 use Rattle.isa.specs.declared.operation.Register.{Register}
 use Rattle.isa.specs.declared.operation.Register.TheVariants.{R0}
-use Rattle.isa.specs.declared.operation.Source.{Source}
-use Rattle.isa.specs.declared.operation.Source.TheVariants.{Imm, Reg}
+use Rattle.isa.specs.declared.operation.SourceOperand.{SourceOperand}
+use Rattle.isa.specs.declared.operation.SourceOperand.TheVariants.{Imm, Reg}
 use Rattle.ebpf_decode.specs.declared.insn.Insn.{Insn}
 use Rattle.ebpf_decode.specs.declared.insn.Insn.TheVariants as insns
 use Rattle.disasm.specs.declared.head.Head.{Head}
@@ -78,7 +78,7 @@ abbrev pub count_in : ℤ → ℕ
 count_in (pos n) = if nat_lt n 0x1_0000_0000 then n else 0
 count_in (negsuc n) = 0
 
-abbrev pub source_in : Operand → Source
+abbrev pub source_in : Operand → SourceOperand
 source_in (operands.Register r) = Reg r
 source_in o = Imm (word_in (number_in o))
 

@@ -13,7 +13,7 @@ ghost use Rattle.disasm.specs.LineReading.{short_in, word_in, count_in, offset_i
 
 use crate::operand::{Operand, register_text};
 use isa::operation::REGISTERS;
-use isa::{Register, Source};
+use isa::{Register, SourceOperand};
 use text_lines::{after, cut};
 
 fn register_of(text: &str) -> Register
@@ -188,12 +188,12 @@ impl Operand {
         }
     }
 
-    pub(crate) fn source(self) -> Source
+    pub(crate) fn source(self) -> SourceOperand
         ensures { result ≡ source_in self }
     {
         match self {
-            Operand::Register(register) => Source::Reg(register),
-            _ => Source::Imm(word(self.number())),
+            Operand::Register(register) => SourceOperand::Reg(register),
+            _ => SourceOperand::Imm(word(self.number())),
         }
     }
 }

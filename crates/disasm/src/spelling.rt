@@ -6,7 +6,7 @@ ghost use Rattle.disasm.specs.AssemblyText.{source_operand, head_of, operands_of
 use crate::head::Head;
 use crate::operand::{Operand, Operands};
 use ebpf_decode::Insn;
-use isa::Source;
+use isa::SourceOperand;
 use std::alloc::{AllocError, Global};
 
 /// The first word of the instruction's line.
@@ -40,12 +40,12 @@ fn head_of(insn: Insn) -> Head
     }
 }
 
-fn source_operand(source: Source) -> Operand
+fn source_operand(source: SourceOperand) -> Operand
     ensures { result ≡ source_operand source }
 {
     match source {
-        Source::Imm(value) => Operand::Number(i64::from(value)),
-        Source::Reg(register) => Operand::Register(register),
+        SourceOperand::Imm(value) => Operand::Number(i64::from(value)),
+        SourceOperand::Reg(register) => Operand::Register(register),
     }
 }
 

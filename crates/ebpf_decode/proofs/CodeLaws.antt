@@ -5,8 +5,8 @@ use Rattle.std.specs.List.{flat_map, AllByRecursion}
 use Rattle.std.proofs.lemmas.Grind.{flat_map-append}
 use Rattle.std.proofs.lemmas.List.{length-append, append-nil}
 use Rattle.std.proofs.lemmas.List.Sums.{sum_by-cons}
-use Rattle.isa.specs.declared.operation.Source.TheVariants.{Imm, Reg}
-use Rattle.ebpf_decode.specs.declared.slot.Slot.{Slot}
+use Rattle.isa.specs.declared.operation.SourceOperand.TheVariants.{Imm, Reg}
+use Rattle.ebpf_decode.specs.declared.slot.CodeSlot.{CodeSlot}
 use Rattle.ebpf_decode.specs.declared.fault.SlotFault.{SlotFault}
 use Rattle.ebpf_decode.specs.declared.fault.DecodeFault.{DecodeFault}
 use Rattle.ebpf_decode.specs.declared.wide.WideHead.{WideHead}
@@ -30,7 +30,7 @@ code_whole : (version : Version) (insn : Insn) (code : List Insn) → more_slots
 unfolding code_from
 code_whole version insn code none whole rest place = rw (none, whole version place, rest (place + 1)) refl
 
-code_wide : (version : Version) (first second : Slot) (head : WideHead) (insn : Insn) (code : List Insn) → ((place : ℕ) → step_at version place None first ≡ Ok (Head head)) → ((place : ℕ) → step_at version place (Some head) second ≡ Ok (Whole insn)) → ((place : ℕ) → code_from version place None (slots_of code) ≡ Ok code) → (place : ℕ) → code_from version place None (first ∷ second ∷ slots_of code) ≡ Ok (insn ∷ code)
+code_wide : (version : Version) (first second : CodeSlot) (head : WideHead) (insn : Insn) (code : List Insn) → ((place : ℕ) → step_at version place None first ≡ Ok (Head head)) → ((place : ℕ) → step_at version place (Some head) second ≡ Ok (Whole insn)) → ((place : ℕ) → code_from version place None (slots_of code) ≡ Ok code) → (place : ℕ) → code_from version place None (first ∷ second ∷ slots_of code) ≡ Ok (insn ∷ code)
 unfolding code_from
 code_wide version first second head insn code one two rest place = rw (one place, two (place + 1), rest (place + 1 + 1)) refl
 
@@ -72,7 +72,7 @@ at_ok place (Ok x) reading e = let same : x ≡ reading = cc in rw same refl
 at_ok place (Err d) reading e = absurd cc
 
 -- a first slot that waits for its second
-abbrev heads : Option WideHead → List Slot
+abbrev heads : Option WideHead → List CodeSlot
 heads None = []
 heads (Some head) = head_slot head ∷ []
 
@@ -104,15 +104,15 @@ fits_of (CallHelper helper) none fits = fits.immediate
 fits_of Exit none fits = tt
 
 -- what one slot, after those that wait, is the encoding of
-record IsStep (version : Version) (pending : Option WideHead) (s : Slot) (reading : SlotReading) : Type 0 where
+record IsStep (version : Version) (pending : Option WideHead) (s : CodeSlot) (reading : SlotReading) : Type 0 where
   slots : heads pending ++ s ∷ [] ≡ slots_of (finished_by reading) ++ heads (pending_of reading)
   fits : AllByRecursion (IsAllowed version) (finished_by reading)
   pending_fits : PendingFits version (pending_of reading)
 
-head_step : (version : Version) (s : Slot) (head : WideHead) → SlotFits s → head_at version s ≡ Ok head → IsStep version None s (Head head)
+head_step : (version : Version) (s : CodeSlot) (head : WideHead) → SlotFits s → head_at version s ≡ Ok head → IsStep version None s (Head head)
 head_step version s head fits e =
     let is = (head_reads version s).encoded head e in
-    record { slots = ap (λ (t : Slot). t ∷ []) is.0; fits = tt; pending_fits = (head_fits head (subst SlotFits is.0 fits), is.1) }
+    record { slots = ap (λ (t : CodeSlot). t ∷ []) is.0; fits = tt; pending_fits = (head_fits head (subst SlotFits is.0 fits), is.1) }
 
 -- an instruction of one slot is in both versions
 one_slot_in_version : (version : Version) (insn : Insn) → more_slots_of insn ≡ [] → IsInVersion version insn
@@ -120,27 +120,27 @@ unfolding more_slots_of is_in_version
 one_slot_in_version version (Ldval dst map offset) none = absurd cc
 one_slot_in_version version insn none = refl
 
-whole_step : (version : Version) (s : Slot) (insn : Insn) → SlotFits s → reading_in version (class_of s) s ≡ Ok (Whole insn) → IsStep version None s (Whole insn)
+whole_step : (version : Version) (s : CodeSlot) (insn : Insn) → SlotFits s → reading_in version (class_of s) s ≡ Ok (Whole insn) → IsStep version None s (Whole insn)
 whole_step version s insn fits e =
     let is = instruction_reads version (class_of s) s insn e in
     let none : more_slots_of insn ≡ [] = is.1 in
-    record { slots = rw none (ap (λ (t : Slot). t ∷ []) is.0); fits = ((fits_of insn none (subst SlotFits is.0 fits), one_slot_in_version version insn none), tt); pending_fits = tt }
+    record { slots = rw none (ap (λ (t : CodeSlot). t ∷ []) is.0); fits = ((fits_of insn none (subst SlotFits is.0 fits), one_slot_in_version version insn none), tt); pending_fits = tt }
 
-second_is_step : (version : Version) (head : WideHead) (s : Slot) (insn : Insn) → HeadFits head × IsHeadOf version head → SlotFits s → second_at head s ≡ Ok insn → IsStep version (Some head) s (Whole insn)
+second_is_step : (version : Version) (head : WideHead) (s : CodeSlot) (insn : Insn) → HeadFits head × IsHeadOf version head → SlotFits s → second_at head s ≡ Ok insn → IsStep version (Some head) s (Whole insn)
 second_is_step version head s insn head_ok fits e =
     let is = second_found head s insn e in
     let slots : head_slot head ∷ s ∷ [] ≡ slots_of_instruction (wide_insn head s) = wide_slots head s head_ok.0 fits is.0 in
     let made : head_slot head ∷ s ∷ [] ≡ slots_of_instruction insn = slots ∙ ap slots_of_instruction is.1 in
     record { slots = made ∙ sym (append-nil (slots_of_instruction insn)) ∙ sym (append-nil (slots_of_instruction insn ++ [])); fits = ((subst FieldsFit is.1 (wide_fits head s head_ok.0 fits), subst (IsInVersion version) is.1 (wide_in_version version head s head_ok.1)), tt); pending_fits = tt }
 
-step_found : (version : Version) (place : ℕ) (pending : Option WideHead) (s : Slot) (reading : SlotReading) → SlotFits s → PendingFits version pending → step_at version place pending s ≡ Ok reading → IsStep version pending s reading
+step_found : (version : Version) (place : ℕ) (pending : Option WideHead) (s : CodeSlot) (reading : SlotReading) → SlotFits s → PendingFits version pending → step_at version place pending s ≡ Ok reading → IsStep version pending s reading
 unfolding step_at
 step_found version place None s (Whole insn) fits waiting e = whole_step version s insn fits (at_ok place (reading_in version (class_of s) s) (Whole insn) e)
 step_found version place None s (Head head) fits waiting e = head_step version s head fits (head_is_read version (class_of s) s head (at_ok place (reading_in version (class_of s) s) (Head head) e))
 step_found version place (Some head) s (Whole insn) fits waiting e = second_is_step version head s insn waiting fits (whole_is (second_at head s) insn (at_ok (place - 1) (whole (second_at head s)) (Whole insn) e))
 step_found version place (Some head) s (Head other) fits waiting e = absurd (whole_is_no_head (second_at head s) other (at_ok (place - 1) (whole (second_at head s)) (Head other) e))
 
-code_one : (version : Version) (place : ℕ) (pending : Option WideHead) (s : Slot) (rest : List Slot) → code_from version place pending (s ∷ rest) ≡ (step_at version place pending s >>= λ reading. code_from version (place + 1) (pending_of reading) rest >>= λ others. Ok (finished_by reading ++ others))
+code_one : (version : Version) (place : ℕ) (pending : Option WideHead) (s : CodeSlot) (rest : List CodeSlot) → code_from version place pending (s ∷ rest) ≡ (step_at version place pending s >>= λ reading. code_from version (place + 1) (pending_of reading) rest >>= λ others. Ok (finished_by reading ++ others))
 unfolding code_from
 code_one version place None s rest = refl
 code_one version place (Some head) s rest = refl
@@ -149,7 +149,7 @@ all_append : (version : Version) (xs ys : List Insn) → AllByRecursion (IsAllow
 all_append version [] ys fx fy = fy
 all_append version (x ∷ xs) ys fx fy = (fx.0, all_append version xs ys fx.1 fy)
 
-abbrev IsCode : Version → List Slot → List Insn → Type 0
+abbrev IsCode : Version → List CodeSlot → List Insn → Type 0
 IsCode version slots code = (slots ≡ slots_of code) × AllByRecursion (IsAllowed version) code
 
 abbrev program : List Insn → Result (List Insn) DecodeFault
@@ -158,7 +158,7 @@ program code = Ok code
 same_program : (a b : List Insn) → program a ≡ program b → a ≡ b
 same_program a b e = cc
 
-pub code_found : (version : Version) (place : ℕ) (pending : Option WideHead) (slots : List Slot) (code : List Insn) → AllByRecursion SlotFits slots → PendingFits version pending → code_from version place pending slots ≡ Ok code → IsCode version (heads pending ++ slots) code
+pub code_found : (version : Version) (place : ℕ) (pending : Option WideHead) (slots : List CodeSlot) (code : List Insn) → AllByRecursion SlotFits slots → PendingFits version pending → code_from version place pending slots ≡ Ok code → IsCode version (heads pending ++ slots) code
 code_found version place None [] code fits waiting e = let P : List Insn → Type 0 = λ c. IsCode version [] c in subst P (same_program [] code (unfold code_from in e)) (refl, tt)
 code_found version place (Some head) [] code fits waiting e = absurd (unfold code_from in cc)
 code_found version place pending (s ∷ rest) code fits waiting e =
@@ -168,7 +168,7 @@ code_found version place pending (s ∷ rest) code fits waiting e =
     let others = code_found version (place + 1) (pending_of b.0) rest c.0 fits.1 step.pending_fits c.1 in
     let whole = finished_by b.0 in
     let slots : heads pending ++ s ∷ rest ≡ slots_of (whole ++ c.0) =
-    sym (append_assoc (heads pending) (s ∷ []) rest) ∙ ap (λ (x : List Slot). x ++ rest) step.slots ∙ append_assoc (slots_of whole) (heads (pending_of b.0)) rest ∙ ap (λ (x : List Slot). slots_of whole ++ x) others.0 ∙ sym (flat_map-append slots_of_instruction whole c.0) in
+    sym (append_assoc (heads pending) (s ∷ []) rest) ∙ ap (λ (x : List CodeSlot). x ++ rest) step.slots ∙ append_assoc (slots_of whole) (heads (pending_of b.0)) rest ∙ ap (λ (x : List CodeSlot). slots_of whole ++ x) others.0 ∙ sym (flat_map-append slots_of_instruction whole c.0) in
     let P : List Insn → Type 0 = λ x. IsCode version (heads pending ++ s ∷ rest) x in
     subst P (same_program (whole ++ c.0) code c.2) (slots, all_append version whole c.0 step.fits others.1)
 

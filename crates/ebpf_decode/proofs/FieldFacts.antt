@@ -27,9 +27,9 @@ use Rattle.isa.specs.declared.operation.AtomicOp.{AtomicOp}
 use Rattle.isa.specs.declared.operation.AtomicOp.TheVariants.{AtomicAdd}
 use Rattle.isa.specs.declared.operation.Size.{Size}
 use Rattle.isa.specs.declared.operation.Size.TheVariants.{U8}
-use Rattle.isa.specs.declared.operation.Source.{Source}
-use Rattle.isa.specs.declared.operation.Source.TheVariants.{Imm, Reg}
-use Rattle.ebpf_decode.specs.declared.slot.Slot.{Slot}
+use Rattle.isa.specs.declared.operation.SourceOperand.{SourceOperand}
+use Rattle.isa.specs.declared.operation.SourceOperand.TheVariants.{Imm, Reg}
+use Rattle.ebpf_decode.specs.declared.slot.CodeSlot.{CodeSlot}
 use Rattle.ebpf_decode.specs.declared.insn.Insn.{Insn}
 use Rattle.ebpf_decode.specs.declared.insn.Insn.TheVariants.{Alu, Neg, Movsx, Movsx32, End, Ja, Ja32, JumpIf, Ldx, Ldxs, St, Stx, AtomicUpdate, Lddw, Ldmap, Ldval, CallHelper, Exit}
 use Rattle.isa.specs.InstructionCodes.{class_number, alu_class, jump_class, alu_code, alu_offset, mode_number, test_code, size_code, extension_size, width_size, atomic_code}
@@ -67,7 +67,7 @@ test_code_small : (test : Test) → test_code test < 16
 test_code_small Eq = lit< tt
 test_code_small test = lit< tt
 
-source_bit_small : (source : Source) → source_bit source < 2
+source_bit_small : (source : SourceOperand) → source_bit source < 2
 source_bit_small (Imm value) = lit< tt
 source_bit_small (Reg src) = lit< tt
 
@@ -128,7 +128,7 @@ atomic_fits : (op : AtomicOp) → FitsSigned w32 (pos (atomic_code op))
 atomic_fits AtomicAdd = record { sfits = lit< tt }
 atomic_fits op = record { sfits = lit< tt }
 
-NumbersFit : Slot → Type 0
+NumbersFit : CodeSlot → Type 0
 NumbersFit s = FitsSigned w16 s.offset × FitsSigned w32 s.immediate
 
 numbers_fit : (insn : Insn) → FieldsFit insn → NumbersFit (slot_of insn)
@@ -168,7 +168,7 @@ more_fit (Ldmap dst map) fits = (record { opcode = lit< tt; dst = lit< tt; src =
 more_fit (Ldval dst map offset) fits = (record { opcode = lit< tt; dst = lit< tt; src = lit< tt; offset = none16; immediate = sfits_to_z {w = w32} (record { fits = fits.1 }) }, tt)
 more_fit insn fits = tt
 
-all_slots : (xs ys : List Slot) → AllByRecursion SlotFits xs → AllByRecursion SlotFits ys → AllByRecursion SlotFits (xs ++ ys)
+all_slots : (xs ys : List CodeSlot) → AllByRecursion SlotFits xs → AllByRecursion SlotFits ys → AllByRecursion SlotFits (xs ++ ys)
 all_slots [] ys fx fy = fy
 all_slots (x ∷ xs) ys fx fy = (fx.0, all_slots xs ys fx.1 fy)
 

@@ -22,10 +22,10 @@ use Rattle.isa.specs.declared.operation.AtomicOp.{AtomicOp}
 use Rattle.isa.specs.declared.operation.AtomicOp.TheVariants.{AtomicAdd}
 use Rattle.isa.specs.declared.operation.Size.{Size}
 use Rattle.isa.specs.declared.operation.Size.TheVariants.{U8}
-use Rattle.isa.specs.declared.operation.Source.TheVariants.{Imm, Reg}
+use Rattle.isa.specs.declared.operation.SourceOperand.TheVariants.{Imm, Reg}
 use Rattle.isa.specs.declared.operation.Register.{Register}
 use Rattle.isa.specs.declared.operation.Register.TheVariants.{R0}
-use Rattle.ebpf_decode.specs.declared.slot.Slot.{Slot}
+use Rattle.ebpf_decode.specs.declared.slot.CodeSlot.{CodeSlot}
 use Rattle.ebpf_decode.specs.declared.fault.SlotFault.{SlotFault}
 use Rattle.ebpf_decode.specs.declared.fault.SlotFault.TheVariants.{FieldNotZero}
 use Rattle.ebpf_decode.specs.declared.wide.WideHead.{WideHead}
@@ -43,96 +43,96 @@ use Rattle.ebpf_decode.proofs.shared.SlotLaws.{equal_from_same, same_itself}
 -- ---- what is read is encoded so
 
 -- an outcome that is no instruction but the one that this slot encodes
-pub record Reads (s : Slot) (outcome : Result Insn SlotFault) : Type 0 where
+pub record Reads (s : CodeSlot) (outcome : Result Insn SlotFault) : Type 0 where
   pub encoded : (insn : Insn) → outcome ≡ Ok insn → (s ≡ slot_of insn) × (more_slots_of insn ≡ [])
 
-reads_bind : {A : Type 0} (s : Slot) (r : Result A SlotFault) (f : A → Result Insn SlotFault) → ((x : A) → Reads s (f x)) → Reads s (r >>= f)
+reads_bind : {A : Type 0} (s : CodeSlot) (r : Result A SlotFault) (f : A → Result Insn SlotFault) → ((x : A) → Reads s (f x)) → Reads s (r >>= f)
 reads_bind s (Ok x) f h = h x
 reads_bind s (Err e) f h = record { encoded = λ insn eq. absurd cc }
 
-reads_if : (s : Slot) (b : Bool) (x y : Result Insn SlotFault) → Reads s x → Reads s y → Reads s (cond b x y)
+reads_if : (s : CodeSlot) (b : Bool) (x y : Result Insn SlotFault) → Reads s x → Reads s y → Reads s (cond b x y)
 reads_if s true x y p q = p
 reads_if s false x y p q = q
 
-reads_err : (s : Slot) (e : SlotFault) → Reads s (Err e)
+reads_err : (s : CodeSlot) (e : SlotFault) → Reads s (Err e)
 reads_err s e = record { encoded = λ insn eq. absurd cc }
 
 abbrev done : Insn → Result Insn SlotFault
 done insn = Ok insn
 
-only_exact : (s : Slot) (insn other : Insn) (b : Bool) → same_slot s (slot_of insn) ≡ b → more_slots_of insn ≡ [] → cond b (done insn) (Err FieldNotZero) ≡ Ok other → (s ≡ slot_of other) × (more_slots_of other ≡ [])
+only_exact : (s : CodeSlot) (insn other : Insn) (b : Bool) → same_slot s (slot_of insn) ≡ b → more_slots_of insn ≡ [] → cond b (done insn) (Err FieldNotZero) ≡ Ok other → (s ≡ slot_of other) × (more_slots_of other ≡ [])
 only_exact s insn other true same none e = let it : insn ≡ other = cc in rw (← it) (equal_from_same s (slot_of insn) same, none)
 only_exact s insn other false same none e = absurd cc
 
-reads_exactly : (s : Slot) (insn : Insn) → more_slots_of insn ≡ [] → Reads s (exactly s insn)
+reads_exactly : (s : CodeSlot) (insn : Insn) → more_slots_of insn ≡ [] → Reads s (exactly s insn)
 unfolding exactly
 reads_exactly s insn none = record { encoded = λ other e. only_exact s insn other (same_slot s (slot_of insn)) refl none e }
 
-binary_reads : (width : Width) (s : Slot) → Reads s (binary_at width s)
+binary_reads : (width : Width) (s : CodeSlot) → Reads s (binary_at width s)
 unfolding binary_at more_slots_of
 binary_reads width s = reads_bind s (alu_op_at _ s.offset) _ (λ op. reads_bind s (register_at s.dst) _ (λ dst. reads_bind s (source_at s) _ (λ source. reads_exactly s (Alu width op dst source) refl)))
 
-neg_reads : (width : Width) (s : Slot) → Reads s (neg_at width s)
+neg_reads : (width : Width) (s : CodeSlot) → Reads s (neg_at width s)
 unfolding neg_at more_slots_of
 neg_reads width s = reads_bind s (register_at s.dst) _ (λ dst. reads_exactly s (Neg width dst) refl)
 
-movsx_reads : (width : Width) (s : Slot) → Reads s (movsx_at width s)
+movsx_reads : (width : Width) (s : CodeSlot) → Reads s (movsx_at width s)
 unfolding movsx_at more_slots_of
 movsx_reads Bits64 s = reads_bind s (extension_at s.offset) _ (λ e. reads_bind s (register_at s.dst) _ (λ dst. reads_bind s (register_at s.src) _ (λ src. reads_exactly s (Movsx e dst src) refl)))
 movsx_reads Bits32 s = reads_bind s (short_extension_at s.offset) _ (λ e. reads_bind s (register_at s.dst) _ (λ dst. reads_bind s (register_at s.src) _ (λ src. reads_exactly s (Movsx32 e dst src) refl)))
 
-end_reads : (s : Slot) → Reads s (end_at s)
+end_reads : (s : CodeSlot) → Reads s (end_at s)
 unfolding end_at more_slots_of
 end_reads s = reads_bind s (order_at s.opcode) _ (λ order. reads_bind s (swap_width_at s.immediate) _ (λ width. reads_bind s (register_at s.dst) _ (λ dst. reads_exactly s (End order width dst) refl)))
 
-arithmetic_reads : (width : Width) (s : Slot) → Reads s (arithmetic_at width s)
+arithmetic_reads : (width : Width) (s : CodeSlot) → Reads s (arithmetic_at width s)
 unfolding arithmetic_at
 arithmetic_reads width s = reads_if s _ _ _ (neg_reads width s) (reads_if s _ _ _ (end_reads s) (reads_if s _ _ _ (movsx_reads width s) (binary_reads width s)))
 
-conditional_reads : (width : Width) (s : Slot) → Reads s (conditional_at width s)
+conditional_reads : (width : Width) (s : CodeSlot) → Reads s (conditional_at width s)
 unfolding conditional_at more_slots_of
 conditional_reads width s = reads_bind s (test_at _) _ (λ test. reads_bind s (register_at s.dst) _ (λ dst. reads_bind s (source_at s) _ (λ source. reads_exactly s (JumpIf width test dst source s.offset) refl)))
 
-call_reads : (s : Slot) → Reads s (call_at s)
+call_reads : (s : CodeSlot) → Reads s (call_at s)
 unfolding call_at more_slots_of
 call_reads s = reads_if s _ _ _ (reads_exactly s (CallHelper s.immediate) refl) (reads_if s _ _ _ (reads_err s _) (reads_err s _))
 
-jump_reads : (width : Width) (s : Slot) → Reads s (jump_at width s)
+jump_reads : (width : Width) (s : CodeSlot) → Reads s (jump_at width s)
 unfolding jump_at more_slots_of
 jump_reads width s = reads_if s _ _ _ (reads_exactly s (Ja s.offset) refl) (reads_if s _ _ _ (reads_exactly s (Ja32 s.immediate) refl) (reads_if s _ _ _ (call_reads s) (reads_if s _ _ _ (reads_exactly s Exit refl) (conditional_reads width s))))
 
-ldx_reads : (s : Slot) → Reads s (ldx_at s)
+ldx_reads : (s : CodeSlot) → Reads s (ldx_at s)
 unfolding ldx_at more_slots_of
 ldx_reads s = reads_bind s (size_at _) _ (λ size. reads_bind s (register_at s.dst) _ (λ dst. reads_bind s (register_at s.src) _ (λ src. reads_exactly s (Ldx size dst src s.offset) refl)))
 
-ldxs_reads : (s : Slot) → Reads s (ldxs_at s)
+ldxs_reads : (s : CodeSlot) → Reads s (ldxs_at s)
 unfolding ldxs_at more_slots_of
 ldxs_reads s = reads_bind s (extension_size_at _) _ (λ e. reads_bind s (register_at s.dst) _ (λ dst. reads_bind s (register_at s.src) _ (λ src. reads_exactly s (Ldxs e dst src s.offset) refl)))
 
-st_reads : (s : Slot) → Reads s (st_at s)
+st_reads : (s : CodeSlot) → Reads s (st_at s)
 unfolding st_at more_slots_of
 st_reads s = reads_bind s (size_at _) _ (λ size. reads_bind s (register_at s.dst) _ (λ dst. reads_exactly s (St size dst s.offset s.immediate) refl))
 
-stx_reads : (s : Slot) → Reads s (stx_at s)
+stx_reads : (s : CodeSlot) → Reads s (stx_at s)
 unfolding stx_at more_slots_of
 stx_reads s = reads_bind s (size_at _) _ (λ size. reads_bind s (register_at s.dst) _ (λ dst. reads_bind s (register_at s.src) _ (λ src. reads_exactly s (Stx size dst src s.offset) refl)))
 
-atomic_reads : (s : Slot) → Reads s (atomic_at s)
+atomic_reads : (s : CodeSlot) → Reads s (atomic_at s)
 unfolding atomic_at more_slots_of
 atomic_reads s = reads_bind s (width_at _) _ (λ width. reads_bind s (atomic_op_at s.immediate) _ (λ op. reads_bind s (register_at s.dst) _ (λ dst. reads_bind s (register_at s.src) _ (λ src. reads_exactly s (AtomicUpdate width op dst src s.offset) refl))))
 
-load_reads : (mode : Option Mode) (s : Slot) → Reads s (load_at mode s)
+load_reads : (mode : Option Mode) (s : CodeSlot) → Reads s (load_at mode s)
 unfolding load_at
 load_reads (Some modes.Mem) s = ldx_reads s
 load_reads (Some modes.MemSx) s = ldxs_reads s
 load_reads mode s = reads_err s _
 
-store_immediate_reads : (mode : Option Mode) (s : Slot) → Reads s (store_immediate_at mode s)
+store_immediate_reads : (mode : Option Mode) (s : CodeSlot) → Reads s (store_immediate_at mode s)
 unfolding store_immediate_at
 store_immediate_reads (Some modes.Mem) s = st_reads s
 store_immediate_reads mode s = reads_err s _
 
-store_reads : (mode : Option Mode) (s : Slot) → Reads s (store_at mode s)
+store_reads : (mode : Option Mode) (s : CodeSlot) → Reads s (store_at mode s)
 unfolding store_at
 store_reads (Some modes.Mem) s = stx_reads s
 store_reads (Some modes.Atomic) s = atomic_reads s
@@ -158,7 +158,7 @@ begun_is_not_whole (Ok read) insn e = cc
 begun_is_not_whole (Err fault) insn e = cc
 
 -- an instruction that ends with this slot is the one that the slot encodes
-pub instruction_reads : (version : Version) (c : Class) (s : Slot) (insn : Insn) → reading_in version c s ≡ Ok (Whole insn) → (s ≡ slot_of insn) × (more_slots_of insn ≡ [])
+pub instruction_reads : (version : Version) (c : Class) (s : CodeSlot) (insn : Insn) → reading_in version c s ≡ Ok (Whole insn) → (s ≡ slot_of insn) × (more_slots_of insn ≡ [])
 unfolding reading_in
 instruction_reads version classes.Ld s insn e = absurd (begun_is_not_whole (head_at version s) insn e)
 instruction_reads version classes.Ldx s insn e = (load_reads (mode_of s) s).encoded insn (whole_is _ insn e)
@@ -170,7 +170,7 @@ instruction_reads version classes.Jmp s insn e = (jump_reads Bits64 s).encoded i
 instruction_reads version classes.Jmp32 s insn e = (jump_reads Bits32 s).encoded insn (whole_is _ insn e)
 
 -- only a slot of class LD begins an instruction of two
-pub head_is_read : (version : Version) (c : Class) (s : Slot) (head : WideHead) → reading_in version c s ≡ Ok (Head head) → head_at version s ≡ Ok head
+pub head_is_read : (version : Version) (c : Class) (s : CodeSlot) (head : WideHead) → reading_in version c s ≡ Ok (Head head) → head_at version s ≡ Ok head
 unfolding reading_in
 head_is_read version classes.Ld s head e = begun_is (head_at version s) head e
 head_is_read version classes.Ldx s head e = absurd (whole_is_no_head _ head e)

@@ -2,9 +2,9 @@
 use Rattle.std.proofs.Common.{◌≡◌, ◌<◌, [], ◌∷◌, subst, lit<}
 use Rattle.isa.specs.declared.operation.Register.{Register}
 use Rattle.isa.specs.declared.operation.Register.TheVariants.{R0}
-use Rattle.isa.specs.declared.operation.Source.{Source}
-use Rattle.isa.specs.declared.operation.Source.TheVariants.{Imm, Reg}
-use Rattle.ebpf_decode.specs.declared.slot.Slot.{Slot}
+use Rattle.isa.specs.declared.operation.SourceOperand.{SourceOperand}
+use Rattle.isa.specs.declared.operation.SourceOperand.TheVariants.{Imm, Reg}
+use Rattle.ebpf_decode.specs.declared.slot.CodeSlot.{CodeSlot}
 use Rattle.ebpf_decode.specs.declared.insn.Insn.{Insn}
 use Rattle.ebpf_decode.specs.declared.insn.Insn.TheVariants.{Alu, Neg, Movsx, Movsx32, End, Ja, Ja32, JumpIf, Ldx, Ldxs, St, Stx, AtomicUpdate, Lddw, Ldmap, Ldval, CallHelper, Exit}
 use Rattle.isa.specs.InstructionCodes.{register_number}
@@ -14,11 +14,11 @@ pub register_small : (r : Register) → register_number r < 16
 register_small R0 = lit< tt
 register_small r = lit< tt
 
-source_small : (source : Source) → source_register source < 16
+source_small : (source : SourceOperand) → source_register source < 16
 source_small (Imm value) = lit< tt
 source_small (Reg r) = register_small r
 
-abbrev pub IsSmall : Slot → Type 0
+abbrev pub IsSmall : CodeSlot → Type 0
 IsSmall s = (s.dst < 16) × (s.src < 16)
 
 none : (0 < 16) × (0 < 16)
@@ -45,10 +45,10 @@ slot_small (Ldval dst map offset) = (register_small dst, lit< tt)
 slot_small (CallHelper helper) = (lit< tt, lit< tt)
 slot_small Exit = (lit< tt, lit< tt)
 
-same_head : (a b : Slot) → a ∷ [] ≡ b ∷ [] → a ≡ b
+same_head : (a b : CodeSlot) → a ∷ [] ≡ b ∷ [] → a ≡ b
 same_head a b e = cc
 
-pub more_small : (insn : Insn) (s : Slot) → more_slots_of insn ≡ s ∷ [] → IsSmall s
+pub more_small : (insn : Insn) (s : CodeSlot) → more_slots_of insn ≡ s ∷ [] → IsSmall s
 unfolding more_slots_of
 more_small (Lddw dst value) s e = subst IsSmall (same_head _ s e) (lit< tt, lit< tt)
 more_small (Ldmap dst map) s e = subst IsSmall (same_head _ s e) (lit< tt, lit< tt)

@@ -16,10 +16,10 @@ use Rattle.isa.specs.declared.operation.SwapWidth.{SwapWidth}
 use Rattle.isa.specs.declared.operation.Test.{Test}
 use Rattle.isa.specs.declared.operation.AtomicOp.{AtomicOp}
 use Rattle.isa.specs.declared.operation.Size.{Size}
-use Rattle.isa.specs.declared.operation.Source.{Source}
-use Rattle.isa.specs.declared.operation.Source.TheVariants.{Imm, Reg}
+use Rattle.isa.specs.declared.operation.SourceOperand.{SourceOperand}
+use Rattle.isa.specs.declared.operation.SourceOperand.TheVariants.{Imm, Reg}
 use Rattle.isa.specs.declared.operation.Register.{Register}
-use Rattle.ebpf_decode.specs.declared.slot.Slot.{Slot}
+use Rattle.ebpf_decode.specs.declared.slot.CodeSlot.{CodeSlot}
 use Rattle.ebpf_decode.specs.declared.fault.SlotFault.{SlotFault}
 use Rattle.ebpf_decode.specs.declared.fault.SlotFault.TheVariants.{UnknownOpcode, NotInProfile, BadRegister, FieldNotZero, WideCut}
 use Rattle.ebpf_decode.specs.declared.fault.DecodeFault.{DecodeFault}
@@ -53,19 +53,19 @@ abbrev pub ◌>>=◌ : {A B E : Type 0} → Result A E → (A → Result B E) �
 
 -- ---- the parts of an opcode
 
-abbrev pub class_of : Slot → Class
+abbrev pub class_of : CodeSlot → Class
 class_of s = class_of_opcode s.opcode
 
-abbrev pub source_bit_of : Slot → ℕ
+abbrev pub source_bit_of : CodeSlot → ℕ
 source_bit_of s = s.opcode / 8 % 2
 
-abbrev pub code_of : Slot → ℕ
+abbrev pub code_of : CodeSlot → ℕ
 code_of s = s.opcode / 16
 
-abbrev pub size_of : Slot → ℕ
+abbrev pub size_of : CodeSlot → ℕ
 size_of s = s.opcode / 8 % 4
 
-abbrev pub mode_of : Slot → Option Mode
+abbrev pub mode_of : CodeSlot → Option Mode
 mode_of s = mode_of_opcode s.opcode
 
 -- ---- what a number names
@@ -104,31 +104,31 @@ unfoldable pub atomic_op_at : ℤ → Result AtomicOp SlotFault
 atomic_op_at (pos code) = ok_or (atomic_op_of code) UnknownOpcode
 atomic_op_at (negsuc n) = Err UnknownOpcode
 
-unfoldable pub source_at : Slot → Result Source SlotFault
+unfoldable pub source_at : CodeSlot → Result SourceOperand SlotFault
 source_at s =
     if source_bit_of s == 0 then Ok (Imm s.immediate) else do
       src ← register_at s.src
       Ok (Reg src)
 
 -- The instruction, where the slot is its encoding. It differs at most in fields that the instruction does not use.
-unfoldable pub exactly : Slot → Insn → Result Insn SlotFault
+unfoldable pub exactly : CodeSlot → Insn → Result Insn SlotFault
 exactly s insn = if same_slot s (slot_of insn) then Ok insn else Err FieldNotZero
 
 -- ---- arithmetic
 
-unfoldable pub binary_at : Width → Slot → Result Insn SlotFault
+unfoldable pub binary_at : Width → CodeSlot → Result Insn SlotFault
 binary_at width s = do
   op ← alu_op_at (code_of s) s.offset
   dst ← register_at s.dst
   source ← source_at s
   exactly s (Alu width op dst source)
 
-unfoldable pub neg_at : Width → Slot → Result Insn SlotFault
+unfoldable pub neg_at : Width → CodeSlot → Result Insn SlotFault
 neg_at width s = do
   dst ← register_at s.dst
   exactly s (Neg width dst)
 
-unfoldable pub movsx_at : Width → Slot → Result Insn SlotFault
+unfoldable pub movsx_at : Width → CodeSlot → Result Insn SlotFault
 movsx_at Bits64 s = do
   extension ← extension_at s.offset
   dst ← register_at s.dst
@@ -140,7 +140,7 @@ movsx_at Bits32 s = do
   src ← register_at s.src
   exactly s (Movsx32 extension dst src)
 
-unfoldable pub end_at : Slot → Result Insn SlotFault
+unfoldable pub end_at : CodeSlot → Result Insn SlotFault
 end_at s = do
   order ← order_at s.opcode
   width ← swap_width_at s.immediate
@@ -148,7 +148,7 @@ end_at s = do
   exactly s (End order width dst)
 
 -- classes ALU and ALU64: a move between registers with an offset is a sign-extending one
-unfoldable pub arithmetic_at : Width → Slot → Result Insn SlotFault
+unfoldable pub arithmetic_at : Width → CodeSlot → Result Insn SlotFault
 arithmetic_at width s =
     if s.opcode == neg_opcode width then neg_at width s else
     if code_of s == end_code then end_at s else
@@ -156,7 +156,7 @@ arithmetic_at width s =
 
 -- ---- jumps
 
-unfoldable pub conditional_at : Width → Slot → Result Insn SlotFault
+unfoldable pub conditional_at : Width → CodeSlot → Result Insn SlotFault
 conditional_at width s = do
   test ← test_at (code_of s)
   dst ← register_at s.dst
@@ -164,13 +164,13 @@ conditional_at width s = do
   exactly s (JumpIf width test dst source s.offset)
 
 -- source 0 is a helper; 1 and 2 are program-local and kernel functions, which images may not call
-unfoldable pub call_at : Slot → Result Insn SlotFault
+unfoldable pub call_at : CodeSlot → Result Insn SlotFault
 call_at s =
     if s.src == 0 then exactly s (CallHelper s.immediate) else
     if nat_le s.src 2 then Err NotInProfile else Err UnknownOpcode
 
 -- classes JMP and JMP32
-unfoldable pub jump_at : Width → Slot → Result Insn SlotFault
+unfoldable pub jump_at : Width → CodeSlot → Result Insn SlotFault
 jump_at width s =
     if s.opcode == ja_opcode then exactly s (Ja s.offset) else
     if s.opcode == ja32_opcode then exactly s (Ja32 s.immediate) else
@@ -179,34 +179,34 @@ jump_at width s =
 
 -- ---- memory
 
-unfoldable pub ldx_at : Slot → Result Insn SlotFault
+unfoldable pub ldx_at : CodeSlot → Result Insn SlotFault
 ldx_at s = do
   size ← size_at (size_of s)
   dst ← register_at s.dst
   src ← register_at s.src
   exactly s (Ldx size dst src s.offset)
 
-unfoldable pub ldxs_at : Slot → Result Insn SlotFault
+unfoldable pub ldxs_at : CodeSlot → Result Insn SlotFault
 ldxs_at s = do
   extension ← extension_size_at (size_of s)
   dst ← register_at s.dst
   src ← register_at s.src
   exactly s (Ldxs extension dst src s.offset)
 
-unfoldable pub st_at : Slot → Result Insn SlotFault
+unfoldable pub st_at : CodeSlot → Result Insn SlotFault
 st_at s = do
   size ← size_at (size_of s)
   dst ← register_at s.dst
   exactly s (St size dst s.offset s.immediate)
 
-unfoldable pub stx_at : Slot → Result Insn SlotFault
+unfoldable pub stx_at : CodeSlot → Result Insn SlotFault
 stx_at s = do
   size ← size_at (size_of s)
   dst ← register_at s.dst
   src ← register_at s.src
   exactly s (Stx size dst src s.offset)
 
-unfoldable pub atomic_at : Slot → Result Insn SlotFault
+unfoldable pub atomic_at : CodeSlot → Result Insn SlotFault
 atomic_at s = do
   width ← width_at (size_of s)
   op ← atomic_op_at s.immediate
@@ -215,16 +215,16 @@ atomic_at s = do
   exactly s (AtomicUpdate width op dst src s.offset)
 
 -- classes LDX, ST and STX, by the mode
-unfoldable pub load_at : Option Mode → Slot → Result Insn SlotFault
+unfoldable pub load_at : Option Mode → CodeSlot → Result Insn SlotFault
 load_at (Some modes.Mem) s = ldx_at s
 load_at (Some modes.MemSx) s = ldxs_at s
 load_at mode s = Err UnknownOpcode
 
-unfoldable pub store_immediate_at : Option Mode → Slot → Result Insn SlotFault
+unfoldable pub store_immediate_at : Option Mode → CodeSlot → Result Insn SlotFault
 store_immediate_at (Some modes.Mem) s = st_at s
 store_immediate_at mode s = Err UnknownOpcode
 
-unfoldable pub store_at : Option Mode → Slot → Result Insn SlotFault
+unfoldable pub store_at : Option Mode → CodeSlot → Result Insn SlotFault
 store_at (Some modes.Mem) s = stx_at s
 store_at (Some modes.Atomic) s = atomic_at s
 store_at mode s = Err UnknownOpcode
@@ -232,12 +232,12 @@ store_at mode s = Err UnknownOpcode
 -- ---- wide instructions, of two slots
 
 -- the first slot of a wide instruction: what is known before the second
-unfoldable pub head_slot : WideHead → Slot
+unfoldable pub head_slot : WideHead → CodeSlot
 head_slot (Number dst low) = slot wide_opcode (register_number dst) 0 (pos 0) low
 head_slot (Map dst map) = slot wide_opcode (register_number dst) 1 (pos 0) map
 head_slot (Value dst map) = slot wide_opcode (register_number dst) 2 (pos 0) map
 
-unfoldable pub exact_head : Slot → WideHead → Result WideHead SlotFault
+unfoldable pub exact_head : CodeSlot → WideHead → Result WideHead SlotFault
 exact_head s head = if same_slot s (head_slot head) then Ok head else Err FieldNotZero
 
 -- legacy loads from packets (RFC 9669, section 5.5), in words, half words and bytes
@@ -246,28 +246,28 @@ is_legacy_mode (Some modes.Abs) = true
 is_legacy_mode (Some modes.Ind) = true
 is_legacy_mode mode = false
 
-abbrev pub is_legacy : Slot → Bool
+abbrev pub is_legacy : CodeSlot → Bool
 is_legacy s = is_legacy_mode (mode_of s) && not (size_of s == 3)
 
-unfoldable pub number_head_at : Slot → Result WideHead SlotFault
+unfoldable pub number_head_at : CodeSlot → Result WideHead SlotFault
 number_head_at s = do
   dst ← register_at s.dst
   exact_head s (Number dst s.immediate)
 
-unfoldable pub map_head_at : Slot → Result WideHead SlotFault
+unfoldable pub map_head_at : CodeSlot → Result WideHead SlotFault
 map_head_at s = do
   dst ← register_at s.dst
   exact_head s (Map dst s.immediate)
 
 -- in version 2 alone
-unfoldable pub value_head_at : Version → Slot → Result WideHead SlotFault
+unfoldable pub value_head_at : Version → CodeSlot → Result WideHead SlotFault
 value_head_at V1 s = Err NotInProfile
 value_head_at V2 s = do
   dst ← register_at s.dst
   exact_head s (Value dst s.immediate)
 
 -- class LD: source 0 is a number, 1 a map of the image, 2 an address in a map's value; 3 to 6 are forms that images may not have
-unfoldable pub head_at : Version → Slot → Result WideHead SlotFault
+unfoldable pub head_at : Version → CodeSlot → Result WideHead SlotFault
 head_at version s =
     if s.opcode == wide_opcode then
     (if s.src == 0 then number_head_at s else
@@ -277,18 +277,18 @@ head_at version s =
     if is_legacy s then Err NotInProfile else Err UnknownOpcode
 
 -- the instruction of a first and a second slot
-unfoldable pub wide_insn : WideHead → Slot → Insn
+unfoldable pub wide_insn : WideHead → CodeSlot → Insn
 wide_insn (Number dst low) s = Lddw dst (cast_unsigned w32 s.immediate * 2 ^ 32 + cast_unsigned w32 low)
 wide_insn (Map dst map) s = Ldmap dst map
 wide_insn (Value dst map) s = Ldval dst map (cast_unsigned w32 s.immediate)
 
 -- the second slot has zeros, except the upper half of a number, or an offset in a value
-unfoldable pub second_slot : WideHead → Slot → Slot
+unfoldable pub second_slot : WideHead → CodeSlot → CodeSlot
 second_slot (Number dst low) s = slot 0 0 0 (pos 0) s.immediate
 second_slot (Map dst map) s = slot 0 0 0 (pos 0) (pos 0)
 second_slot (Value dst map) s = slot 0 0 0 (pos 0) s.immediate
 
-unfoldable pub second_at : WideHead → Slot → Result Insn SlotFault
+unfoldable pub second_at : WideHead → CodeSlot → Result Insn SlotFault
 second_at head s = if same_slot s (second_slot head s) then Ok (wide_insn head s) else Err FieldNotZero
 
 -- ---- one slot
@@ -304,7 +304,7 @@ begun (Ok head) = Ok (Head head)
 begun (Err fault) = Err fault
 
 -- a slot of this class
-unfoldable pub reading_in : Version → Class → Slot → Result SlotReading SlotFault
+unfoldable pub reading_in : Version → Class → CodeSlot → Result SlotReading SlotFault
 reading_in version classes.Ld s = begun (head_at version s)
 reading_in version classes.Ldx s = whole (load_at (mode_of s) s)
 reading_in version classes.St s = whole (store_immediate_at (mode_of s) s)
@@ -329,7 +329,7 @@ at_slot place (Ok x) = Ok x
 at_slot place (Err fault) = Err (fault_at place fault)
 
 -- what one slot returns, after the head of a wide instruction or nothing; a fault of a wide instruction names its first slot
-unfoldable pub step_at : Version → ℕ → Option WideHead → Slot → Result SlotReading DecodeFault
+unfoldable pub step_at : Version → ℕ → Option WideHead → CodeSlot → Result SlotReading DecodeFault
 step_at version place None s = at_slot place (reading_in version (class_of s) s)
 step_at version place (Some head) s = at_slot (place - 1) (whole (second_at head s))
 
@@ -342,7 +342,7 @@ finished_by (Whole insn) = insn ∷ []
 finished_by (Head head) = []
 
 -- the instructions of the slots from a place on
-unfoldable pub code_from : Version → ℕ → Option WideHead → List Slot → Result (List Insn) DecodeFault
+unfoldable pub code_from : Version → ℕ → Option WideHead → List CodeSlot → Result (List Insn) DecodeFault
 code_from version place None [] = Ok []
 code_from version place (Some head) [] = Err (faults.WideCut (place - 1))
 code_from version place pending (s ∷ rest) = do

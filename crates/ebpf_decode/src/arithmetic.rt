@@ -5,11 +5,11 @@ ghost use Rattle.ebpf_decode.specs.InstructionReading.{binary_at, neg_at, movsx_
 
 use crate::fault::SlotFault;
 use crate::insn::Insn;
-use crate::slot::Slot;
+use crate::slot::CodeSlot;
 use crate::{codes, encoding};
 use isa::Width;
 
-impl Slot {
+impl CodeSlot {
     /// The arithmetic instruction of a slot of class ALU or ALU64, or its first fault.
     #[tactic(auto, unfolding(crate::specs::InstructionReading::arithmetic_at))]
     pub(crate) fn arithmetic(self, width: Width) -> Result<Insn, SlotFault>

@@ -10,11 +10,11 @@ ghost use Rattle.ebpf_decode.specs.InstructionEncoding.{source_immediate};
 
 use crate::codes;
 use crate::insn::Insn;
-use crate::slot::Slot;
+use crate::slot::CodeSlot;
 use crate::wide::WideHead;
 use isa::{
-    AluOp, AtomicOp, ByteOrder, Class, Extension, Mode, Register, Size, Source, SwapWidth, Test,
-    Width,
+    AluOp, AtomicOp, ByteOrder, Class, Extension, Mode, Register, Size, SourceOperand, SwapWidth,
+    Test, Width,
 };
 
 /// The opcode of a negation.
@@ -66,39 +66,39 @@ pub fn exit_opcode() -> u8
     codes::operation_opcode(codes::EXIT, 0, Class::Jmp)
 }
 
-fn source_bit(source: Source) -> u8
+fn source_bit(source: SourceOperand) -> u8
     ensures bit { result ≡ source_bit source }
     ensures below { result < 2 }
 {
     match source {
-        Source::Imm(_) => 0,
-        Source::Reg(_) => 1,
+        SourceOperand::Imm(_) => 0,
+        SourceOperand::Reg(_) => 1,
     }
 }
 
-fn source_register(source: Source) -> u8
+fn source_register(source: SourceOperand) -> u8
     ensures { result ≡ source_register source }
 {
     match source {
-        Source::Imm(_) => 0,
-        Source::Reg(register) => register.number(),
+        SourceOperand::Imm(_) => 0,
+        SourceOperand::Reg(register) => register.number(),
     }
 }
 
-fn source_immediate(source: Source) -> i32
+fn source_immediate(source: SourceOperand) -> i32
     ensures { result ≡ source_immediate source }
 {
     match source {
-        Source::Imm(value) => value,
-        Source::Reg(_) => 0,
+        SourceOperand::Imm(value) => value,
+        SourceOperand::Reg(_) => 0,
     }
 }
 
 #[tactic(auto, unfolding(crate::specs::InstructionEncoding::slot_of))]
-fn binary_slot(width: Width, op: AluOp, dst: Register, source: Source) -> Slot
+fn binary_slot(width: Width, op: AluOp, dst: Register, source: SourceOperand) -> CodeSlot
     ensures { result ≡ slot_of (Insn.Alu width op dst source) }
 {
-    Slot {
+    CodeSlot {
         opcode: codes::operation_opcode(op.code(), source_bit(source), width.alu_class()),
         dst: dst.number(),
         src: source_register(source),
@@ -108,10 +108,10 @@ fn binary_slot(width: Width, op: AluOp, dst: Register, source: Source) -> Slot
 }
 
 #[tactic(auto, unfolding(crate::specs::InstructionEncoding::slot_of))]
-fn neg_slot(width: Width, dst: Register) -> Slot
+fn neg_slot(width: Width, dst: Register) -> CodeSlot
     ensures { result ≡ slot_of (Insn.Neg width dst) }
 {
-    Slot {
+    CodeSlot {
         opcode: neg_opcode(width),
         dst: dst.number(),
         src: 0,
@@ -120,10 +120,10 @@ fn neg_slot(width: Width, dst: Register) -> Slot
     }
 }
 
-fn movsx_slot(width: Width, bits: i16, dst: Register, src: Register) -> Slot
+fn movsx_slot(width: Width, bits: i16, dst: Register, src: Register) -> CodeSlot
     ensures { result ≡ slot (movsx_opcode width) (register_number dst) (register_number src) bits (pos 0) }
 {
-    Slot {
+    CodeSlot {
         opcode: movsx_opcode(width),
         dst: dst.number(),
         src: src.number(),
@@ -133,10 +133,10 @@ fn movsx_slot(width: Width, bits: i16, dst: Register, src: Register) -> Slot
 }
 
 #[tactic(auto, unfolding(crate::specs::InstructionEncoding::slot_of))]
-fn end_slot(order: ByteOrder, swap_width: SwapWidth, dst: Register) -> Slot
+fn end_slot(order: ByteOrder, swap_width: SwapWidth, dst: Register) -> CodeSlot
     ensures { result ≡ slot_of (Insn.End order swap_width dst) }
 {
-    Slot {
+    CodeSlot {
         opcode: codes::order_opcode(order),
         dst: dst.number(),
         src: 0,
@@ -146,10 +146,10 @@ fn end_slot(order: ByteOrder, swap_width: SwapWidth, dst: Register) -> Slot
 }
 
 /// A jump or a call that has no registers.
-fn bare_slot(opcode: u8, offset: i16, immediate: i32) -> Slot
+fn bare_slot(opcode: u8, offset: i16, immediate: i32) -> CodeSlot
     ensures { result ≡ slot opcode 0 0 offset immediate }
 {
-    Slot {
+    CodeSlot {
         opcode,
         dst: 0,
         src: 0,
@@ -159,10 +159,16 @@ fn bare_slot(opcode: u8, offset: i16, immediate: i32) -> Slot
 }
 
 #[tactic(auto, unfolding(crate::specs::InstructionEncoding::slot_of))]
-fn conditional_slot(width: Width, test: Test, dst: Register, source: Source, distance: i16) -> Slot
+fn conditional_slot(
+    width: Width,
+    test: Test,
+    dst: Register,
+    source: SourceOperand,
+    distance: i16,
+) -> CodeSlot
     ensures { result ≡ slot_of (Insn.JumpIf width test dst source distance) }
 {
-    Slot {
+    CodeSlot {
         opcode: codes::operation_opcode(test.code(), source_bit(source), width.jump_class()),
         dst: dst.number(),
         src: source_register(source),
@@ -172,10 +178,10 @@ fn conditional_slot(width: Width, test: Test, dst: Register, source: Source, dis
 }
 
 /// A load or a store of a register, which has no immediate.
-fn memory_slot(opcode: u8, dst: Register, src: Register, offset: i16, immediate: i32) -> Slot
+fn memory_slot(opcode: u8, dst: Register, src: Register, offset: i16, immediate: i32) -> CodeSlot
     ensures { result ≡ slot opcode (register_number dst) (register_number src) offset immediate }
 {
-    Slot {
+    CodeSlot {
         opcode,
         dst: dst.number(),
         src: src.number(),
@@ -185,10 +191,10 @@ fn memory_slot(opcode: u8, dst: Register, src: Register, offset: i16, immediate:
 }
 
 #[tactic(auto, unfolding(crate::specs::InstructionEncoding::slot_of))]
-fn st_slot(size: Size, dst: Register, offset: i16, immediate: i32) -> Slot
+fn st_slot(size: Size, dst: Register, offset: i16, immediate: i32) -> CodeSlot
     ensures { result ≡ slot_of (Insn.St size dst offset immediate) }
 {
-    Slot {
+    CodeSlot {
         opcode: codes::memory_opcode(Mode::Mem, size, Class::St),
         dst: dst.number(),
         src: 0,
@@ -198,7 +204,7 @@ fn st_slot(size: Size, dst: Register, offset: i16, immediate: i32) -> Slot
 }
 
 #[tactic(auto, unfolding(crate::specs::InstructionEncoding::slot_of))]
-fn ldx_slot(size: Size, dst: Register, src: Register, offset: i16) -> Slot
+fn ldx_slot(size: Size, dst: Register, src: Register, offset: i16) -> CodeSlot
     ensures { result ≡ slot_of (Insn.Ldx size dst src offset) }
 {
     let opcode = codes::memory_opcode(Mode::Mem, size, Class::Ldx);
@@ -206,7 +212,7 @@ fn ldx_slot(size: Size, dst: Register, src: Register, offset: i16) -> Slot
 }
 
 #[tactic(auto, unfolding(crate::specs::InstructionEncoding::slot_of))]
-fn ldxs_slot(extension: Extension, dst: Register, src: Register, offset: i16) -> Slot
+fn ldxs_slot(extension: Extension, dst: Register, src: Register, offset: i16) -> CodeSlot
     ensures { result ≡ slot_of (Insn.Ldxs extension dst src offset) }
 {
     let opcode = codes::memory_opcode(Mode::MemSx, extension.size(), Class::Ldx);
@@ -214,7 +220,7 @@ fn ldxs_slot(extension: Extension, dst: Register, src: Register, offset: i16) ->
 }
 
 #[tactic(auto, unfolding(crate::specs::InstructionEncoding::slot_of))]
-fn stx_slot(size: Size, dst: Register, src: Register, offset: i16) -> Slot
+fn stx_slot(size: Size, dst: Register, src: Register, offset: i16) -> CodeSlot
     ensures { result ≡ slot_of (Insn.Stx size dst src offset) }
 {
     let opcode = codes::memory_opcode(Mode::Mem, size, Class::Stx);
@@ -222,7 +228,7 @@ fn stx_slot(size: Size, dst: Register, src: Register, offset: i16) -> Slot
 }
 
 #[tactic(auto, unfolding(crate::specs::InstructionEncoding::slot_of))]
-fn atomic_slot(width: Width, op: AtomicOp, dst: Register, src: Register, offset: i16) -> Slot
+fn atomic_slot(width: Width, op: AtomicOp, dst: Register, src: Register, offset: i16) -> CodeSlot
     ensures { result ≡ slot_of (Insn.AtomicUpdate width op dst src offset) }
 {
     let opcode = codes::memory_opcode(Mode::Atomic, width.size(), Class::Stx);
@@ -231,25 +237,25 @@ fn atomic_slot(width: Width, op: AtomicOp, dst: Register, src: Register, offset:
 
 /// The first slot of a wide instruction.
 #[tactic(auto, unfolding(crate::specs::InstructionReading::head_slot))]
-pub fn head_slot(head: WideHead) -> Slot
+pub fn head_slot(head: WideHead) -> CodeSlot
     ensures { result ≡ head_slot head }
 {
     match head {
-        WideHead::Number { dst, low } => Slot {
+        WideHead::Number { dst, low } => CodeSlot {
             opcode: wide_opcode(),
             dst: dst.number(),
             src: 0,
             offset: 0,
             immediate: low,
         },
-        WideHead::Map { dst, map } => Slot {
+        WideHead::Map { dst, map } => CodeSlot {
             opcode: wide_opcode(),
             dst: dst.number(),
             src: 1,
             offset: 0,
             immediate: map,
         },
-        WideHead::Value { dst, map } => Slot {
+        WideHead::Value { dst, map } => CodeSlot {
             opcode: wide_opcode(),
             dst: dst.number(),
             src: 2,
@@ -276,7 +282,7 @@ fn high_half(value: u64) -> i32
 /// The first slot of an instruction, with zero in each field that it does not use.
 #[rattlefmt::skip]
 #[tactic(auto, unfolding(crate::specs::InstructionEncoding::slot_of, crate::specs::InstructionReading::head_slot))]
-pub fn slot_of(insn: Insn) -> Slot
+pub fn slot_of(insn: Insn) -> CodeSlot
     ensures { result ≡ slot_of insn }
 {
     match insn {
@@ -303,7 +309,7 @@ pub fn slot_of(insn: Insn) -> Slot
 
 /// The second slot of a wide instruction: zeros, except the upper half of a number, or an offset in a value.
 #[tactic(auto, unfolding(crate::specs::InstructionEncoding::more_slots_of))]
-pub fn second_slot_of(insn: Insn) -> Option<Slot>
+pub fn second_slot_of(insn: Insn) -> Option<CodeSlot>
     ensures { more_slots_of insn ≡ option_list result }
 {
     match insn {

@@ -13,14 +13,26 @@ use crate::map::MapDef;
 use crate::version::Version;
 use std::marker::Model;
 
-/// How many maps an image may have.
-const MAX_MAPS: usize = 16;
+/// The bytes with which an image begins: `XLBP`.
+pub const MAGIC: [u8; 4] = [0x58, 0x4c, 0x42, 0x50];
 
-/// The bytes with which an image begins.
-pub(crate) const MAGIC: [u8; 4] = [0x58, 0x4c, 0x42, 0x50];
+/// The bytes of an image's head.
+pub const HEAD_LEN: usize = 8;
+
+/// The bytes of each map behind the head.
+pub const MAP_LEN: usize = 16;
+
+/// The bytes of a slot.
+pub const SLOT_LEN: usize = 8;
+
+/// How many maps an image may have.
+pub const MAX_MAPS: usize = 16;
 
 /// How many slots an image may have.
 pub const MAX_SLOTS: usize = 4096;
+
+/// The bytes of the longest image.
+pub const MAX_LEN: usize = HEAD_LEN + MAP_LEN * MAX_MAPS + SLOT_LEN * MAX_SLOTS;
 
 /// The version, the maps and the program of an image, such that the image format encodes them: at most 16 maps, each one that
 /// an image of the version may have, and 1 to 4096 slots of instructions that it may have.

@@ -7,8 +7,8 @@ ghost use Rattle.ebpf_decode.specs.Versions.{is_in_version};
 
 use crate::version::Version;
 use isa::{
-    AluOp, AtomicOp, ByteOrder, Extension, Register, ShortExtension, Size, Source, SwapWidth, Test,
-    Width,
+    AluOp, AtomicOp, ByteOrder, Extension, Register, ShortExtension, Size, SourceOperand,
+    SwapWidth, Test, Width,
 };
 
 /// An instruction (RFC 9669, sections 3 to 5). A wide instruction is one, though it takes two slots; distances count slots
@@ -20,7 +20,7 @@ pub enum Insn {
         width: Width,
         op: AluOp,
         dst: Register,
-        source: Source,
+        source: SourceOperand,
     },
     /// `dst = -dst`.
     Neg {
@@ -58,7 +58,7 @@ pub enum Insn {
         width: Width,
         test: Test,
         dst: Register,
-        source: Source,
+        source: SourceOperand,
         distance: i16,
     },
     /// `dst` is the value at `[src + offset]`, zero-extended.

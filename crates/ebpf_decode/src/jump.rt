@@ -5,11 +5,11 @@ ghost use Rattle.ebpf_decode.specs.InstructionReading.{conditional_at, call_at, 
 
 use crate::fault::SlotFault;
 use crate::insn::Insn;
-use crate::slot::Slot;
+use crate::slot::CodeSlot;
 use crate::{codes, encoding};
 use isa::Width;
 
-impl Slot {
+impl CodeSlot {
     /// The jump, call or exit of a slot of class JMP or JMP32, or its first fault.
     #[tactic(auto, unfolding(crate::specs::InstructionReading::jump_at))]
     pub(crate) fn jump(self, width: Width) -> Result<Insn, SlotFault>

@@ -6,10 +6,10 @@ ghost use Rattle.ebpf_decode.specs.InstructionReading.{ldx_at, ldxs_at, st_at, s
 use crate::codes;
 use crate::fault::SlotFault;
 use crate::insn::Insn;
-use crate::slot::Slot;
+use crate::slot::CodeSlot;
 use isa::Mode;
 
-impl Slot {
+impl CodeSlot {
     /// The load of a slot of class LDX, or its first fault.
     #[tactic(auto, unfolding(crate::specs::InstructionReading::load_at))]
     pub(crate) fn load(self) -> Result<Insn, SlotFault>

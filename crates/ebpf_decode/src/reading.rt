@@ -11,7 +11,7 @@ use crate::fault::{DecodeFault, SlotFault};
 use crate::image::{Image, MAGIC, MAX_SLOTS};
 use crate::insn::Insn;
 use crate::map::MapDef;
-use crate::slot::Slot;
+use crate::slot::CodeSlot;
 use crate::version::Version;
 use crate::wide::{SlotReading, WideHead};
 use std::alloc::{AllocError, Global};
@@ -70,7 +70,7 @@ fn step(
     version: Version,
     place: u32,
     pending: Option<WideHead>,
-    slot: Slot,
+    slot: CodeSlot,
 ) -> Result<SlotReading, DecodeFault>
     ensures { result ≡ step_at version place pending slot }
 {
@@ -84,7 +84,7 @@ fn step(
 }
 
 #[tactic(auto, unfolding(crate::specs::InstructionReading::step_at))]
-fn first_step(version: Version, place: u32, slot: Slot) -> Result<SlotReading, DecodeFault>
+fn first_step(version: Version, place: u32, slot: CodeSlot) -> Result<SlotReading, DecodeFault>
     ensures { result ≡ step_at version place None slot }
 {
     match slot.reading(version) {
@@ -128,7 +128,7 @@ fn slots_code(
     let mut rest = bytes;
     for place in 0..count {
         let (_, after) = rest.split_at(8);
-        let reading = step(version, place, pending, Slot::of(rest))?;
+        let reading = step(version, place, pending, CodeSlot::of(rest))?;
         pending = pending_of(reading);
         keep(&mut code, reading)?;
         rest = after;

@@ -5,11 +5,11 @@ ghost use Rattle.ebpf_decode.specs.InstructionReading.{class_of, source_bit_of, 
 
 use crate::fault::SlotFault;
 use crate::insn::Insn;
-use crate::slot::Slot;
+use crate::slot::CodeSlot;
 use crate::version::Version;
 use crate::wide::{SlotReading, WideHead};
 use crate::{codes, encoding};
-use isa::{Class, Mode, Source, Width};
+use isa::{Class, Mode, SourceOperand, Width};
 
 /// An instruction that ends with its first slot.
 pub(crate) fn whole(read: Result<Insn, SlotFault>) -> Result<SlotReading, SlotFault>
@@ -31,7 +31,7 @@ fn begun(read: Result<WideHead, SlotFault>) -> Result<SlotReading, SlotFault>
     }
 }
 
-impl Slot {
+impl CodeSlot {
     /// What a slot returns that ends no wide instruction, or its first fault.
     #[tactic(auto, unfolding(crate::specs::InstructionReading::reading_in))]
     pub(crate) fn reading(self, version: Version) -> Result<SlotReading, SlotFault>
@@ -79,14 +79,14 @@ impl Slot {
 
     /// The second operand of arithmetic or a conditional jump, or fault 17.
     #[tactic(auto, unfolding(crate::specs::InstructionReading::source_at))]
-    pub(crate) fn source(self) -> Result<Source, SlotFault>
+    pub(crate) fn source(self) -> Result<SourceOperand, SlotFault>
         ensures { result ≡ source_at self }
     {
         if self.opcode / 8 % 2 == 0 {
-            return Ok(Source::Imm(self.immediate));
+            return Ok(SourceOperand::Imm(self.immediate));
         }
         let src = codes::register_at(self.src)?;
-        Ok(Source::Reg(src))
+        Ok(SourceOperand::Reg(src))
     }
 
     /// The instruction, where this slot is its encoding, and else fault 18: then the slot differs from it in a field that the

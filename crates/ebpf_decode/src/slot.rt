@@ -5,7 +5,7 @@ ghost use Rattle.ebpf_decode.specs.SlotForm.{slot_at, same_slot};
 
 /// The fields of a slot, before they are read as an instruction (RFC 9669, section 3).
 #[derive(Clone, Copy, Debug, PartialEq, Eq)]
-pub struct Slot {
+pub struct CodeSlot {
     /// Class, operation and source, or class, mode and size.
     pub opcode: u8,
     /// The low four bits of the second byte.
@@ -16,13 +16,13 @@ pub struct Slot {
     pub immediate: i32,
 }
 
-impl Slot {
+impl CodeSlot {
     /// The first slot of the bytes.
-    pub(crate) fn of(bytes: &[u8]) -> Slot
+    pub(crate) fn of(bytes: &[u8]) -> CodeSlot
         requires { 8 ≤ length bytes.now }
         ensures { result ≡ slot_at bytes.now }
     {
-        Slot {
+        CodeSlot {
             opcode: bytes[0],
             dst: bytes[1] % 16,
             src: bytes[1] / 16,
@@ -32,7 +32,7 @@ impl Slot {
     }
 
     /// Whether all fields are the same.
-    pub(crate) fn is_same(self, other: Slot) -> bool
+    pub(crate) fn is_same(self, other: CodeSlot) -> bool
         ensures { result ≡ same_slot self other }
     {
         self.opcode == other.opcode

@@ -7,7 +7,7 @@ ghost use Rattle.ebpf_decode.specs.InstructionReading.{head_at, wide_insn, secon
 
 use crate::fault::SlotFault;
 use crate::insn::Insn;
-use crate::slot::Slot;
+use crate::slot::CodeSlot;
 use crate::version::Version;
 use crate::{codes, encoding};
 use isa::{Mode, Register, Size};
@@ -35,7 +35,7 @@ pub enum SlotReading {
 impl WideHead {
     /// The instruction that this head and a second slot make, or fault 18.
     #[tactic(auto, unfolding(crate::specs::InstructionReading::second_at))]
-    pub(crate) fn with_second(self, slot: Slot) -> Result<Insn, SlotFault>
+    pub(crate) fn with_second(self, slot: CodeSlot) -> Result<Insn, SlotFault>
         ensures { result ≡ second_at self slot }
     {
         if slot.is_same(self.second_slot(slot)) {
@@ -47,14 +47,14 @@ impl WideHead {
 
     /// The second slot, with zero in each field that is not used.
     #[tactic(auto, unfolding(crate::specs::InstructionReading::second_slot))]
-    fn second_slot(self, slot: Slot) -> Slot
+    fn second_slot(self, slot: CodeSlot) -> CodeSlot
         ensures { result ≡ second_slot self slot }
     {
         let immediate = match self {
             WideHead::Number { .. } | WideHead::Value { .. } => slot.immediate,
             WideHead::Map { .. } => 0,
         };
-        Slot {
+        CodeSlot {
             opcode: 0,
             dst: 0,
             src: 0,
@@ -64,7 +64,7 @@ impl WideHead {
     }
 
     #[tactic(auto, unfolding(crate::specs::InstructionReading::wide_insn))]
-    fn insn(self, slot: Slot) -> Insn
+    fn insn(self, slot: CodeSlot) -> Insn
         ensures { result ≡ wide_insn self slot }
     {
         match self {
@@ -99,7 +99,7 @@ fn is_legacy_mode(mode: Option<Mode>) -> bool
     }
 }
 
-impl Slot {
+impl CodeSlot {
     /// The head of a wide instruction in a slot of class LD, or its first fault. The sources 3 to 6, in version 1 also 2, and
     /// the legacy loads are not in the profile.
     #[tactic(auto, unfolding(crate::specs::InstructionReading::head_at))]

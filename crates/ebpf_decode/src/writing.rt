@@ -13,7 +13,7 @@ use crate::encoding;
 use crate::image::{Image, MAGIC};
 use crate::insn::Insn;
 use crate::map::MapDef;
-use crate::slot::Slot;
+use crate::slot::CodeSlot;
 use crate::version::Version;
 use std::alloc::{AllocError, Global};
 
@@ -43,7 +43,7 @@ fn put_maps(out: &mut Vec<u8>, maps: &[MapDef]) -> Result<(), AllocError>
     Ok(())
 }
 
-fn put_slot(out: &mut Vec<u8>, slot: Slot) -> Result<(), AllocError>
+fn put_slot(out: &mut Vec<u8>, slot: CodeSlot) -> Result<(), AllocError>
     requires dst { slot.dst < 16 }
     requires src { slot.src < 16 }
     ensures { OnOk result (out.new.items ≡ out.old.items ++ slot_bytes slot) }

@@ -1,6 +1,6 @@
 //! The system's files.
 
-ghost use Rattle.std.specs.Prelude.{◌≡◌, ◌+◌, ◌-◌, ◌<◌, ◌^◌, IfOk};
+ghost use Rattle.std.specs.Prelude.{◌≡◌, ◌+◌, ◌-◌, ◌<◌, ◌≤◌, ◌^◌, IfOk};
 ghost use Rattle.folders.specs.Fronts.{IsShortFront};
 
 use crate::folder::{Folder, FolderFault, Front};
@@ -11,8 +11,14 @@ use std::os::unix::fs::MetadataExt;
 use std::rt::Files;
 use std::{fs, io};
 
-/// The most bytes that are read of a file: one that gives more has no end.
-const MOST: u64 = 1 << 40;
+/// The most bytes that are read of an ordinary file.
+const MOST_OF_FILE: u64 = 1 << 40;
+
+/// The most bytes that are read of a device, a pipe or the standard input: one that gives more may have no end.
+const MOST_OF_STREAM: u64 = 1 << 30;
+
+/// Why no more is read of these, and what to do.
+const ENDLESS: &str = "it gave more than 1073741824 bytes: save it as a file, and name that";
 
 /// The longest name that the system takes.
 const LONGEST_NAME: usize = 4096;
@@ -49,7 +55,7 @@ pub const STANDARD_INPUT: &str = "/dev/stdin";
 /// The name of the program's standard output.
 pub const STANDARD_OUTPUT: &str = "/dev/stdout";
 
-/// The system's files, whose bytes no contract tells. Two names are not opened: what is read of `/dev/stdin` comes from the standard input, and what is
+/// The system's files, whose bytes no contract knows. Two names are not opened: what is read of `/dev/stdin` comes from the standard input, and what is
 /// written to `/dev/stdout` goes to the standard output, behind what was written there before.
 #[derive(Drop)]
 pub struct FileFolder<'a, R, I, O> {
@@ -88,13 +94,16 @@ impl Step {
     }
 }
 
-/// Reads the first bytes of what a reader gives, at most `most`, and no more. Where there are so many, `size` says how many there are in all, if it is more.
+/// Reads the first bytes of what a reader gives, at most `most`, and no more. Where `most` are read, `size` says how many there are in all, if it is more.
+/// A reader that is asked for more than `limit` bytes and has them fails.
 fn read_front<S: Read>(
     alloc: Global,
     reader: &mut S,
     most: usize,
     size: u64,
+    limit: u64,
 ) -> Result<Front, Trouble>
+    requires { limit ≤ 2 ^ 40 }
     ensures { IfOk result (IsShortFront most) }
 {
     let mut bytes = Vec::new(alloc);
@@ -118,8 +127,8 @@ fn read_front<S: Read>(
             Ok(count) => count,
             Err(error) => return Err(failed(Step::Reading, error)),
         };
-        if MOST - length < count as u64 {
-            let error = io::Error::new(ErrorKind::FileTooLarge, "it has no end");
+        if limit - length < count as u64 {
+            let error = io::Error::new(ErrorKind::FileTooLarge, ENDLESS);
             return Err(failed(Step::Reading, error));
         }
         if bytes.extend_from_slice(&buffer[..count]).is_err() {
@@ -128,11 +137,17 @@ fn read_front<S: Read>(
     }
 }
 
-/// How many bytes an ordinary file has; 0 where the system does not say, as of a device or a pipe.
-fn size_of<F: OpenFile>(file: &F) -> u64 {
+/// How many bytes an ordinary file has; none where the system does not say, as of a device or a pipe.
+fn size_of<F: OpenFile>(file: &F) -> Option<u64> {
     match file.metadata() {
-        Ok(found) => { if found.is_file() { found.len() } else { 0 } }
-        Err(_) => 0,
+        Ok(found) => {
+            if found.is_file() {
+                Some(found.len())
+            } else {
+                None
+            }
+        }
+        Err(_) => None,
     }
 }
 
@@ -146,10 +161,10 @@ fn front_of<R: Files>(rt: &R, alloc: Global, name: &str, most: usize) -> Result<
     ensures { IfOk result (IsShortFront most) }
 {
     match fs::open(rt, name) {
-        Ok(mut file) => {
-            let size = size_of(&file);
-            read_front(alloc, &mut file, most, size)
-        }
+        Ok(mut file) => match size_of(&file) {
+            Some(size) => read_front(alloc, &mut file, most, size, MOST_OF_FILE),
+            None => read_front(alloc, &mut file, most, 0, MOST_OF_STREAM),
+        },
         Err(error) => Err(failed(Step::Opening, error)),
     }
 }
@@ -308,7 +323,7 @@ impl<R: Files, I: Read, O: Write> FileFolder<'_, R, I, O> {
         ensures steady { self.new.failures ≡ self.old.failures }
     {
         if name == STANDARD_INPUT {
-            read_front(alloc, &mut self.input, most, 0)
+            read_front(alloc, &mut self.input, most, 0, MOST_OF_STREAM)
         } else {
             front_of(self.rt, alloc, name, most)
         }

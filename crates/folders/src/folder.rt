@@ -72,7 +72,7 @@ pub trait Folder {
         ensures device { IsErrOf result FolderFault.Device ↔ (failure_count self.new ≡ failure_count self.old + 1) }
         ensures no_device { IsErrOf result FolderFault.Memory → failure_count self.new ≡ failure_count self.old };
 
-    /// The first bytes of a file, at most so many, and how many it has. No more are read, and it takes no more memory, however long the file is. A device
+    /// The first bytes of a file, at most `most`, and how many it has. No more are read, and it takes no more memory, however long the file is. A device
     /// or a pipe has no length: of these the bytes that were read are counted.
     fn read_front(&mut self, alloc: Global, name: &str, most: usize) -> Result<Front, FolderFault>
         requires { failure_count self.old < 2 ^ 64 - 1 }
@@ -100,6 +100,6 @@ pub trait Folder {
     fn failures(&self) -> u64
         ensures { result ≡ failure_count self.now };
 
-    /// What a person is told of the last call that failed, which was of the file of this name: what could not be done, and why.
+    /// A line for people on the last call that failed, which was of the file of this name: what could not be done, and why.
     fn complaint(&self, alloc: Global, name: &str) -> Result<String, AllocError>;
 }

@@ -12,7 +12,7 @@ use Rattle.semantics.specs.declared.plan.ShardPlan.{ShardPlan}
 use Rattle.semantics.specs.History.{shard_of_call, IsJournalFull}
 use Rattle.shards.specs.declared.deeds.Deed.{Deed}
 use Rattle.shards.specs.declared.deeds.Deed.TheVariants.{Wrote, MetFull}
-use Rattle.shards.specs.declared.deeds.Part.TheVariants.{ByCaller}
+use Rattle.shards.specs.declared.deeds.OrderPart.TheVariants.{ByCaller}
 use Rattle.shards.specs.Deeds.{shard_of_deed, is_deed_of, is_of_shard, entries_made, made_on, IsMetBehind, AreMet}
 
 abbrev pub is_deed_by : ℕ → Deed → Bool

@@ -18,7 +18,7 @@ use Rattle.machine.specs.declared.exit.Stop.TheVariants.{JournalFull}
 use Rattle.machine.specs.Running.{program_of}
 use Rattle.journals.specs.JournalsView.{JournalsView, entries_at}
 use Rattle.shards.specs.declared.deeds.Deed.{Deed}
-use Rattle.shards.specs.Deeds.{shard_of_deed, AreMet}
+use Rattle.shards.specs.Deeds.{entries_made, shard_of_deed, AreMet}
 use Rattle.shards.specs.Passes.{PassView}
 use Rattle.shards.specs.SharedMaps.{ArePlans}
 use Rattle.runs.specs.FrameRuns.{HasStopped}
@@ -170,7 +170,7 @@ one_list : (verified : Verified) (options : Options) → AreOptions verified.map
     ArePlans verified.maps options count plan → (runs : List (List Ran)) (journals : JournalsView) →
     ((number : ℕ) → number < count → IsLegalJournal (plan number) (entries_at journals number)) → (order : List Deed) →
     IsOrderOf plan count journals order → (moves : HasMoves (setting_of verified options) count runs journals order) →
-    IsOneList (setting_of verified options) count (λ number. entries_at journals number) moves.moves
+    IsOneList (setting_of verified options) count (λ number. entries_at journals number) moves.moves (entries_made (reverse order))
 one_list verified options fit plan count plans runs journals legal order ordered moves =
     one_order_is_one_list (setting_of verified options) plan count (λ number. entries_at journals number) moves.moves (reverse order)
     (record {

@@ -23,15 +23,15 @@ use Rattle.semantics.specs.System.{Setting, SystemState, SystemEvent, Controls, 
 use Rattle.semantics.proofs.shared.SystemSteps.{history_there, history_elsewhere, same_everywhere}
 use Rattle.shards.specs.declared.deeds.Deed.{Deed}
 use Rattle.shards.specs.declared.deeds.Deed.TheVariants.{Wrote, MetFull}
-use Rattle.shards.specs.Deeds.{shard_of_deed, made_on}
-use Rattle.guarantees.specs.Steps.{Asked, Nothing, Writes, Refused, Move, AreSteps, deeds_asked, deeds_in}
+use Rattle.shards.specs.Deeds.{shard_of_deed, entries_made, made_on}
+use Rattle.guarantees.specs.Steps.{Asked, Nothing, Writes, Refused, Move, AreSteps, entries_asked, deeds_asked, deeds_in}
 use Rattle.guarantees.specs.Moves.{Answers, IsAskedSo, after_asked, is_event_of}
-use Rattle.guarantees.specs.Merging.{IsOrderOfMoves, events_of, OneOrderIsOneList}
+use Rattle.guarantees.specs.Merging.{IsOrderOfMoves, IsWrittenNext, AreWrittenInOrder, events_of, OneOrderIsOneList}
 use Rattle.guarantees.proofs.Callers.{worker_below}
 use Rattle.guarantees.proofs.LegalEntries.{entry_is_legal}
 use Rattle.guarantees.proofs.MoveLemmas.{numbered}
 use Rattle.guarantees.proofs.DeedLemmas.{is_deed_by, made_append, met_at}
-use Rattle.guarantees.proofs.MergeEvents.{HappenFrom, then_happen, IsListed, listed, AreOwn, own_stay, own_go, Advance, advance, RunsOut, runs_out}
+use Rattle.guarantees.proofs.MergeEvents.{HappenFrom, then_happen, then_written, entries_are, IsListed, listed, AreOwn, own_stay, own_go, Advance, advance, RunsOut, runs_out}
 
 -- ---- what is left to do, by worker
 
@@ -58,22 +58,25 @@ record Stands (setting : Setting) (count : ℕ) (deeds earlier later : List Deed
   own : (worker : ℕ) → worker < setting.options.workers → deeds_in worker (rest worker) ≡ filter (is_deed_by worker) later
   none : (worker : ℕ) → setting.options.workers ≤ worker → rest worker ≡ []
 
-record Merged (setting : Setting) (count : ℕ) (deeds : List Deed) (system : SystemState) (rest : ℕ → List Move) : Type 0 where
+record Merged (setting : Setting) (count : ℕ) (deeds : List Deed) (entries : List Entry) (system : SystemState) (rest : ℕ → List Move) : Type 0 where
   events : List SystemEvent
   last : SystemState
   happen : HappenFrom setting system events last
+  written : AreWrittenInOrder setting system events entries
   of_each : (worker : ℕ) → filter (is_event_of worker) events ≡ events_of (rest worker)
   histories : (number : ℕ) → number < count → history_of last number ≡ reverse (made_on number deeds)
   idle : (worker : ℕ) → worker_state last worker ≡ Idle
 
 -- events of one worker, and then the rest
 go_on : (setting : Setting) (count worker : ℕ) (deeds : List Deed) (system after : SystemState) (rest : ℕ → List Move) (moves : List Move)
-    (done : List SystemEvent) → HappenFrom setting system done after → AreOwn worker done →
-    events_of (rest worker) ≡ done ++ events_of moves → Merged setting count deeds after (put worker moves rest) → Merged setting count deeds system rest
-go_on setting count worker deeds system after rest moves done happen own parts merged = record {
+    (done : List SystemEvent) (first more : List Entry) → HappenFrom setting system done after → AreWrittenInOrder setting system done first →
+    AreOwn worker done → events_of (rest worker) ≡ done ++ events_of moves → Merged setting count deeds more after (put worker moves rest) →
+    Merged setting count deeds (first ++ more) system rest
+go_on setting count worker deeds system after rest moves done first more happen written own parts merged = record {
   events = done ++ merged.events;
   last = merged.last;
   happen = then_happen setting system after merged.last done merged.events happen merged.happen;
+  written = then_written setting system after done merged.events first more happen written merged.written;
   of_each = λ other. filter-append (is_event_of other) done merged.events
       ∙ ap (λ (list : List SystemEvent). filter (is_event_of other) done ++ list) (merged.of_each other)
       ∙ ⊎_elim
@@ -90,13 +93,15 @@ go_on setting count worker deeds system after rest moves done happen own parts m
 }
 
 -- an event of no worker, and then the rest
-go_by : (setting : Setting) (count : ℕ) (deeds : List Deed) (system : SystemState) (rest : ℕ → List Move) (event : SystemEvent) →
-    CanHappen setting system event → ((worker : ℕ) → is_event_of worker event ≡ false) →
-    Merged setting count deeds (after_event setting system event) rest → Merged setting count deeds system rest
-go_by setting count deeds system rest event can nobody merged = record {
+go_by : (setting : Setting) (count : ℕ) (deeds : List Deed) (system : SystemState) (rest : ℕ → List Move) (event : SystemEvent)
+    (first more : List Entry) → CanHappen setting system event → IsWrittenNext system first (after_event setting system event) →
+    ((worker : ℕ) → is_event_of worker event ≡ false) → Merged setting count deeds more (after_event setting system event) rest →
+    Merged setting count deeds (first ++ more) system rest
+go_by setting count deeds system rest event first more can written nobody merged = record {
   events = event ∷ merged.events;
   last = merged.last;
   happen = (can, merged.happen);
+  written = (first, more, refl, written, merged.written);
   of_each = λ worker.
       ap (λ (test : Bool). cond test (event ∷ filter (is_event_of worker) merged.events) (filter (is_event_of worker) merged.events)) (nobody worker)
       ∙ merged.of_each worker;
@@ -123,11 +128,12 @@ OnlyBelow most rest = (worker : ℕ) → most ≤ worker → rest worker ≡ []
 
 finish : (setting : Setting) (count : ℕ) (deeds : List Deed) (most : ℕ) → setting.options.workers ≤ 8 → most ≤ setting.options.workers →
     (system : SystemState) (rest : ℕ → List Move) → Stands setting count deeds deeds [] system rest → OnlyBelow most rest →
-    Merged setting count deeds system rest
+    Merged setting count deeds [] system rest
 finish setting count deeds zero small fits system rest stands none = record {
   events = [];
   last = system;
   happen = refl;
+  written = refl;
   of_each = λ worker. ap events_of (sym (none worker (omega arith)));
   histories = stands.histories;
   idle = λ worker. subst (λ (list : List Move). AreSteps setting count worker (worker_state system worker) list Idle) (none worker (omega arith))
@@ -138,7 +144,8 @@ finish setting count deeds (suc most) small fits system rest stands none =
     let few : most < length system.workers = omega (arith, fits, small, eight) in
     let out : RunsOut setting most system (rest most) =
     runs_out setting count most (rest most) system few (stands.own most (omega (arith, fits))) (stands.steps most) in
-    go_on setting count most deeds system out.after rest [] (events_of (rest most)) out.happen out.own (sym (append-nil (events_of (rest most))))
+    go_on setting count most deeds system out.after rest [] (events_of (rest most)) [] [] out.happen out.written out.own
+    (sym (append-nil (events_of (rest most))))
     (finish setting count deeds most small (omega (arith, fits)) out.after (put most [] rest)
     (record {
       split = stands.split;
@@ -210,14 +217,15 @@ asked_shards system (Refused call) = refl
 
 abbrev MergesFrom : Setting → ℕ → List Deed → List Deed → List Deed → Type 0
 MergesFrom setting count deeds earlier later =
-    (system : SystemState) (rest : ℕ → List Move) → Stands setting count deeds earlier later system rest → Merged setting count deeds system rest
+    (system : SystemState) (rest : ℕ → List Move) → Stands setting count deeds earlier later system rest →
+    Merged setting count deeds (entries_made later) system rest
 
 by_worker : (setting : Setting) (count worker : ℕ) (deeds earlier later : List Deed) (deed : Deed) (asked : Asked) (system : SystemState)
     (rest : ℕ → List Move) → setting.options.workers ≤ 8 → worker < setting.options.workers →
     Stands setting count deeds earlier (deed ∷ later) system rest → deeds_asked worker asked ≡ deed ∷ [] → is_deed_by worker deed ≡ true →
     ((other : ℕ) → other ≢ worker → is_deed_by other deed ≡ false) → IsAskedSo setting system asked →
     ((after : SystemState) → after.histories ≡ (after_asked system asked).histories → HaveHistories count (earlier ++ deed ∷ []) after) →
-    MergesFrom setting count deeds (earlier ++ deed ∷ []) later → Merged setting count deeds system rest
+    MergesFrom setting count deeds (earlier ++ deed ∷ []) later → Merged setting count deeds (entries_made (deed ∷ later)) system rest
 by_worker setting count worker deeds earlier later deed asked system rest small below stands one own_deed not_others asks histories onward =
     let made : deeds_in worker (rest worker) ≡ deed ∷ filter (is_deed_by worker) later =
     stands.own worker below
@@ -226,7 +234,11 @@ by_worker setting count worker deeds earlier later deed asked system rest small 
     let few : worker < length system.workers = omega (arith, below, small, eight) in
     let ahead : Advance setting count worker system (rest worker) asked (filter (is_deed_by worker) later) =
     advance setting count worker asked deed (filter (is_deed_by worker) later) (rest worker) system few one asks made (stands.steps worker) in
-    go_on setting count worker deeds system ahead.after rest ahead.rest (events_of ahead.done) ahead.happen ahead.own ahead.parts
+    let parts : entries_asked asked ++ entries_made later ≡ entries_made (deed ∷ later) =
+    sym (entries_are worker asked later (entries_made later) refl) ∙ ap (λ (list : List Deed). entries_made (list ++ later)) one in
+    subst (λ (entries : List Entry). Merged setting count deeds entries system rest) parts
+    (go_on setting count worker deeds system ahead.after rest ahead.rest (events_of ahead.done) (entries_asked asked) (entries_made later)
+    ahead.happen ahead.written ahead.own ahead.parts
     (onward ahead.after (put worker ahead.rest rest)
     (record {
       split = stands.split ∙ sym (append_assoc earlier (deed ∷ []) later);
@@ -242,15 +254,17 @@ by_worker setting count worker deeds earlier later deed asked system rest small 
           ∙ ap (λ (test : Bool). cond test (deed ∷ filter (is_deed_by other) later) (filter (is_deed_by other) later)) (not_others other apart))
           (cases_eq other worker);
       none = λ other past. put_other worker other ahead.rest rest (λ same. omega (arith, same, past, below)) ∙ stands.none other past;
-    }))
+    })))
 
 -- a deed that is no event: a look at a full journal by no worker of the options
 passed_over : (setting : Setting) (count : ℕ) (deeds earlier later : List Deed) (deed : Deed) (system : SystemState) (rest : ℕ → List Move) →
     Stands setting count deeds earlier (deed ∷ later) system rest →
     ((worker : ℕ) → worker < setting.options.workers → is_deed_by worker deed ≡ false) → HaveHistories count (earlier ++ deed ∷ []) system →
-    MergesFrom setting count deeds (earlier ++ deed ∷ []) later → Merged setting count deeds system rest
-passed_over setting count deeds earlier later deed system rest stands not_theirs histories onward =
-    onward system rest
+    entries_made (deed ∷ later) ≡ entries_made later → MergesFrom setting count deeds (earlier ++ deed ∷ []) later →
+    Merged setting count deeds (entries_made (deed ∷ later)) system rest
+passed_over setting count deeds earlier later deed system rest stands not_theirs histories nothing onward =
+    subst (λ (entries : List Entry). Merged setting count deeds entries system rest) (sym nothing)
+    (onward system rest
     (record {
       split = stands.split ∙ sym (append_assoc earlier (deed ∷ []) later);
       within = stands.within.1;
@@ -261,7 +275,7 @@ passed_over setting count deeds earlier later deed system rest stands not_theirs
       own = λ worker below. stands.own worker below
           ∙ ap (λ (test : Bool). cond test (deed ∷ filter (is_deed_by worker) later) (filter (is_deed_by worker) later)) (not_theirs worker below);
       none = stands.none;
-    })
+    }))
 
 -- ---- what a deed meets at its own place
 
@@ -363,11 +377,11 @@ by_nobody : (setting : Setting) (count : ℕ) (deeds earlier later : List Deed) 
     (rest : ℕ → List Move) → Stands setting count deeds earlier (Wrote entry ∷ later) system rest → CanHappen setting system event →
     after_event setting system event ≡ with_entry system (shard_of_call entry.call) entry → ((worker : ℕ) → is_event_of worker event ≡ false) →
     ((worker : ℕ) → is_deed_by worker (Wrote entry) ≡ false) →
-    MergesFrom setting count deeds (earlier ++ Wrote entry ∷ []) later → Merged setting count deeds system rest
+    MergesFrom setting count deeds (earlier ++ Wrote entry ∷ []) later → Merged setting count deeds (entry ∷ entries_made later) system rest
 by_nobody setting count deeds earlier later entry event system rest stands can leads nobody not_theirs onward =
     let after : SystemState = with_entry system (shard_of_call entry.call) entry in
-    go_by setting count deeds system rest event can nobody
-    (subst (λ (here : SystemState). Merged setting count deeds here rest) (sym leads)
+    go_by setting count deeds system rest event (entry ∷ []) (entries_made later) can (ap (λ (here : SystemState). here.histories) leads) nobody
+    (subst (λ (here : SystemState). Merged setting count deeds (entries_made later) here rest) (sym leads)
     (onward after rest
     (record {
       split = stands.split ∙ sym (append_assoc earlier (Wrote entry ∷ []) later);
@@ -386,7 +400,7 @@ by_nobody setting count deeds earlier later entry event system rest stands can l
 wrote : (setting : Setting) (plan : ℕ → ShardPlan) (count : ℕ) (journal : ℕ → List Entry) (moves : ℕ → List Move) (deeds earlier later : List Deed)
     (entry : Entry) (system : SystemState) (rest : ℕ → List Move) → IsOrderOfMoves setting plan count journal moves deeds →
     Stands setting count deeds earlier (Wrote entry ∷ later) system rest → MergesFrom setting count deeds (earlier ++ Wrote entry ∷ []) later →
-    (who : Caller) → entry.who ≡ who → Merged setting count deeds system rest
+    (who : Caller) → entry.who ≡ who → Merged setting count deeds (entry ∷ entries_made later) system rest
 wrote setting plan count journal moves deeds earlier later entry system rest order stands onward (Worker worker) is =
     let place = at_place setting plan count journal moves deeds earlier later entry system rest order stands in
     let same : (worker == worker) ≡ true = grind (arith, nat_tests) in
@@ -423,7 +437,7 @@ wrote setting plan count journal moves deeds earlier later entry system rest ord
 looked : (setting : Setting) (plan : ℕ → ShardPlan) (count : ℕ) (journal : ℕ → List Entry) (moves : ℕ → List Move) (deeds earlier later : List Deed)
     (worker : ℕ) (call : Call) (system : SystemState) (rest : ℕ → List Move) → IsOrderOfMoves setting plan count journal moves deeds →
     worker < setting.options.workers → Stands setting count deeds earlier (MetFull (Worker worker) call ∷ later) system rest →
-    MergesFrom setting count deeds (earlier ++ MetFull (Worker worker) call ∷ []) later → Merged setting count deeds system rest
+    MergesFrom setting count deeds (earlier ++ MetFull (Worker worker) call ∷ []) later → Merged setting count deeds (entries_made later) system rest
 looked setting plan count journal moves deeds earlier later worker call system rest order below stands onward =
     let shard : ℕ = shard_of_call call in
     let same : (worker == worker) ≡ true = grind (arith, nat_tests) in
@@ -445,21 +459,21 @@ looked setting plan count journal moves deeds earlier later worker call system r
 met_full : (setting : Setting) (plan : ℕ → ShardPlan) (count : ℕ) (journal : ℕ → List Entry) (moves : ℕ → List Move) (deeds earlier later : List Deed)
     (who : Caller) (call : Call) (system : SystemState) (rest : ℕ → List Move) → IsOrderOfMoves setting plan count journal moves deeds →
     Stands setting count deeds earlier (MetFull who call ∷ later) system rest →
-    MergesFrom setting count deeds (earlier ++ MetFull who call ∷ []) later → Merged setting count deeds system rest
+    MergesFrom setting count deeds (earlier ++ MetFull who call ∷ []) later → Merged setting count deeds (entries_made later) system rest
 met_full setting plan count journal moves deeds earlier later (Worker worker) call system rest order stands onward = ⊎_elim
     (λ (below : worker < setting.options.workers).
     looked setting plan count journal moves deeds earlier later worker call system rest order below stands onward)
     (λ (past : setting.options.workers ≤ worker).
     passed_over setting count deeds earlier later (MetFull (Worker worker) call) system rest stands
     (λ other below. ne_eqb worker other (λ same. omega (arith, same, past, below)))
-    (after_look count earlier system system (Worker worker) call stands.histories refl) onward)
+    (after_look count earlier system system (Worker worker) call stands.histories refl) refl onward)
     (cases_lt worker setting.options.workers)
 met_full setting plan count journal moves deeds earlier later Controller call system rest order stands onward =
     passed_over setting count deeds earlier later (MetFull Controller call) system rest stands (λ worker below. refl)
-    (after_look count earlier system system Controller call stands.histories refl) onward
+    (after_look count earlier system system Controller call stands.histories refl) refl onward
 met_full setting plan count journal moves deeds earlier later Reclaimer call system rest order stands onward =
     passed_over setting count deeds earlier later (MetFull Reclaimer call) system rest stands (λ worker below. refl)
-    (after_look count earlier system system Reclaimer call stands.histories refl) onward
+    (after_look count earlier system system Reclaimer call stands.histories refl) refl onward
 
 merge : (setting : Setting) (plan : ℕ → ShardPlan) (count : ℕ) (journal : ℕ → List Entry) (moves : ℕ → List Move) (deeds : List Deed) →
     IsOrderOfMoves setting plan count journal moves deeds → (later earlier : List Deed) → MergesFrom setting count deeds earlier later
@@ -479,7 +493,7 @@ merge setting plan count journal moves deeds order (MetFull who call ∷ later) 
 pub one_order_is_one_list : OneOrderIsOneList
 one_order_is_one_list setting plan count journal moves deeds order =
     let opening : SystemState = opening_system setting in
-    let merged : Merged setting count deeds opening moves =
+    let merged : Merged setting count deeds (entries_made deeds) opening moves =
     merge setting plan count journal moves deeds order deeds [] opening moves
     (record {
       split = refl;
@@ -501,6 +515,7 @@ one_order_is_one_list setting plan count journal moves deeds order =
     record {
       events = merged.events;
       can = whole.0;
+      written = merged.written;
       of_each = merged.of_each;
       histories = λ number below. ap (λ (system : SystemState). reverse (history_of system number)) whole.1
           ∙ ap reverse (merged.histories number below) ∙ reverse-reverse (made_on number deeds) ∙ order.journals number below;

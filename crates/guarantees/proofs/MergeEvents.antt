@@ -1,5 +1,5 @@
 -- Events of one worker, and of no worker, from a state of the system on.
-use Rattle.std.proofs.Common.{◌≡◌, ◌≢◌, ℕ, ◌<◌, ◌==◌, Bool, true, false, cond, List, [], ◌∷◌, ◌++◌, length, reverse, refl, sym, ◌∙◌, ap, subst, append_assoc}
+use Rattle.std.proofs.Common.{◌≡◌, ◌≢◌, ℕ, ◌<◌, ◌==◌, Bool, true, false, cond, List, [], ◌∷◌, ◌++◌, length, reverse, refl, sym, ◌∙◌, ap, subst, append_assoc, append-nil}
 use Rattle.std.specs.Prelude.{filter}
 use Rattle.std.specs.List.{AllByRecursion}
 use Rattle.std.proofs.lemmas.Bool.{ne_eqb, eqb-true}
@@ -9,9 +9,11 @@ use Rattle.semantics.specs.System.{Setting, SystemState, SystemEvent, BeginsRun,
 use Rattle.semantics.proofs.shared.SystemSteps.{state_there, state_elsewhere}
 use Rattle.shards.specs.declared.deeds.Deed.{Deed}
 use Rattle.shards.specs.declared.deeds.Deed.TheVariants.{Wrote, MetFull}
-use Rattle.guarantees.specs.Steps.{Asked, Nothing, Writes, Refused, Move, AreSteps, deeds_asked, deeds_in}
+use Rattle.shards.specs.Deeds.{entries_made}
+use Rattle.semantics.specs.declared.call.Entry.{Entry}
+use Rattle.guarantees.specs.Steps.{Asked, Nothing, Writes, Refused, Move, AreSteps, entries_asked, deeds_asked, deeds_in}
 use Rattle.guarantees.specs.Moves.{IsMove, IsAskedSo, after_asked, is_event_of}
-use Rattle.guarantees.specs.Merging.{events_of}
+use Rattle.guarantees.specs.Merging.{events_of, IsWrittenNext, AreWrittenInOrder}
 use Rattle.guarantees.proofs.MoveLemmas.{steps_are_moves}
 
 -- ---- lists of events, the oldest first
@@ -37,6 +39,36 @@ listed setting earlier (event ∷ events) last can happen =
     let same : reverse events ++ (event ∷ earlier) ≡ reverse (event ∷ events) ++ earlier =
     sym (ap (λ (list : List SystemEvent). list ++ earlier) (reverse-append (event ∷ []) events) ∙ append_assoc (reverse events) (event ∷ []) earlier) in
     subst (λ (list : List SystemEvent). IsListed setting list last) same (listed setting (event ∷ earlier) events last (happen.0, can) happen.1)
+
+-- ---- what events write
+
+-- two lists of events, one after the other
+pub then_written : (setting : Setting) (before after : SystemState) (done later : List SystemEvent) (entries more : List Entry) →
+    HappenFrom setting before done after → AreWrittenInOrder setting before done entries → AreWrittenInOrder setting after later more →
+    AreWrittenInOrder setting before (done ++ later) (entries ++ more)
+then_written setting before after [] later entries more happen written onward =
+    subst (λ (list : List Entry). AreWrittenInOrder setting before later (list ++ more)) (sym written)
+    (subst (λ (here : SystemState). AreWrittenInOrder setting here later more) (sym happen) onward)
+then_written setting before after (event ∷ done) later entries more happen written onward = (
+  written.0,
+  written.1 ++ more,
+  ap (λ (list : List Entry). list ++ more) written.2 ∙ append_assoc written.0 written.1 more,
+  written.3,
+  then_written setting (after_event setting before event) after done later written.1 more happen.1 written.4 onward,
+)
+
+-- what is asked of a shard is what is written
+asked_written : (before after : SystemState) (asked : Asked) → after.histories ≡ (after_asked before asked).histories →
+    IsWrittenNext before (entries_asked asked) after
+asked_written before after Nothing same = same
+asked_written before after (Writes entry) same = same
+asked_written before after (Refused call) same = same
+
+pub entries_are : (worker : ℕ) (asked : Asked) (later : List Deed) (entries : List Entry) → entries_made later ≡ entries →
+    entries_made (deeds_asked worker asked ++ later) ≡ entries_asked asked ++ entries
+entries_are worker Nothing later entries rest = rest
+entries_are worker (Writes entry) later entries rest = ap (λ (list : List Entry). entry ∷ list) rest
+entries_are worker (Refused call) later entries rest = rest
 
 -- ---- events of one worker
 
@@ -111,6 +143,7 @@ pub record Advance (setting : Setting) (count worker : ℕ) (before : SystemStat
     pub own : AreOwn worker (events_of done)
     pub after : SystemState
     pub happen : HappenFrom setting before (events_of done) after
+    pub written : AreWrittenInOrder setting before (events_of done) (entries_asked asked)
     pub histories : after.histories ≡ (after_asked before asked).histories
     pub eight : length after.workers ≡ length before.workers
     pub others : (other : ℕ) → other ≢ worker → worker_state after other ≡ worker_state before other
@@ -134,6 +167,13 @@ over_one setting count worker before move moves asked later next none few means 
       happen = (
         means.can before refl quiet,
         subst (λ here. HappenFrom setting here (events_of rest.done) rest.after) (sym leads) rest.happen,
+      );
+      written = (
+        [],
+        entries_asked asked,
+        refl,
+        ap (λ (system : SystemState). system.histories) leads,
+        subst (λ here. AreWrittenInOrder setting here (events_of rest.done) (entries_asked asked)) (sym leads) rest.written,
       );
       histories = rest.histories ∙ asked_histories before worker next asked;
       eight = rest.eight ∙ length-set before.workers worker next;
@@ -160,6 +200,13 @@ the_deed setting count worker before move moves asked later next same few means 
       own = (means.own, tt);
       after = with_worker (after_asked before asked) worker next;
       happen = (means.can before refl so, leads);
+      written = (
+        entries_asked asked,
+        [],
+        sym (append-nil (entries_asked asked)),
+        asked_written before (after_event setting before move.event) asked (ap (λ (system : SystemState). system.histories) leads),
+        refl,
+      );
       histories = refl;
       eight = length-set (after_asked before asked).workers worker next ∙ ap length workers;
       others = λ other apart. state_elsewhere (after_asked before asked) worker other next apart
@@ -217,6 +264,7 @@ pub record RunsOut (setting : Setting) (worker : ℕ) (before : SystemState) (mo
   pub own : AreOwn worker (events_of moves)
   pub after : SystemState
   pub happen : HappenFrom setting before (events_of moves) after
+  pub written : AreWrittenInOrder setting before (events_of moves) []
   pub histories : after.histories ≡ before.histories
   pub eight : length after.workers ≡ length before.workers
   pub others : (other : ℕ) → other ≢ worker → worker_state after other ≡ worker_state before other
@@ -246,6 +294,13 @@ out_by setting count worker move moves before onward few none steps Nothing is =
       own = (means.own, rest.own);
       after = rest.after;
       happen = (means.can before refl quiet, subst (λ here. HappenFrom setting here (events_of moves) rest.after) (sym leads) rest.happen);
+      written = (
+        [],
+        [],
+        refl,
+        ap (λ (system : SystemState). system.histories) leads,
+        subst (λ here. AreWrittenInOrder setting here (events_of moves) []) (sym leads) rest.written,
+      );
       histories = rest.histories;
       eight = rest.eight ∙ length-set before.workers worker steps.0;
       others = λ other apart. rest.others other apart ∙ state_elsewhere before worker other steps.0 apart;
@@ -264,6 +319,7 @@ runs_out setting count worker [] before few none steps = record {
   own = tt;
   after = before;
   happen = refl;
+  written = refl;
   histories = refl;
   eight = refl;
   others = λ other apart. refl;

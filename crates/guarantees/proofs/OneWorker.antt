@@ -20,11 +20,12 @@ use Rattle.shard_port.specs.PassDeeds.{rising}
 use Rattle.shard_port.specs.PassSessions.{session_at}
 use Rattle.guarantees.specs.Steps.{begins, does, InRun, running, AreStepsOfRun, beginning, leavings, entries_on}
 use Rattle.guarantees.specs.Steps.{Asked, Nothing, Writes, Refused, Move, IsStep, RunBegins, RunGoesOn, RunEnds, CallIsServed, ShardIsEntered, CallIsRefused, EnterIsRefused, ShardIsLeft, AreSteps, entries_asked, entries_in, deeds_asked, deeds_in}
-use Rattle.guarantees.specs.Merging.{is_refusal, NoneRefused, moves_of, OneWorkerIsOneList}
+use Rattle.guarantees.specs.Merging.{is_refusal, NoneRefused, moves_of, IsOneList, OneWorkerIsOneList}
 use Rattle.guarantees.specs.Merging.{IsSetBefore, set_and_done, RunAloneIsOneList}
 use Rattle.guarantees.proofs.DeedLemmas.{is_deed_by}
 use Rattle.guarantees.proofs.EveryEntry.{all_both, all_reverse}
 use Rattle.guarantees.proofs.Merge.{one_order_is_one_list}
+use Rattle.guarantees.proofs.MergeEvents.{entries_are}
 use Rattle.guarantees.proofs.Leaving.{all_leave}
 use Rattle.guarantees.proofs.EventLemmas.{Reaches, Exited, reached, append_on, whole_session}
 
@@ -97,12 +98,6 @@ written_by worker other (Writes entry) later none apart own others rest =
 written_by worker other (Refused call) later none apart own others rest = absurd cc
 
 -- ---- entries
-
-entries_are : (worker : ℕ) (asked : Asked) (later : List Deed) (entries : List Entry) → entries_made later ≡ entries →
-    entries_made (deeds_asked worker asked ++ later) ≡ entries_asked asked ++ entries
-entries_are worker Nothing later entries rest = rest
-entries_are worker (Writes entry) later entries rest = ap (λ (list : List Entry). entry ∷ list) rest
-entries_are worker (Refused call) later entries rest = rest
 
 all_entries : (worker : ℕ) (moves : List Move) → entries_made (deeds_in worker moves) ≡ entries_in moves
 all_entries worker [] = refl
@@ -182,7 +177,10 @@ pub one_worker_is_one_list : OneWorkerIsOneList
 one_worker_is_one_list setting plan count worker set moves options count_is plans before steps none legal =
     let own = all_own setting count worker moves Idle Idle steps in
     let deeds : List Deed = deeds_set set ++ deeds_in worker moves in
-    one_order_is_one_list setting plan count (set_and_done set moves) (moves_of worker moves) deeds
+    let all : entries_made deeds ≡ set ++ entries_in moves =
+    set_entries set (deeds_in worker moves) ∙ ap (λ (list : List Entry). set ++ list) (all_entries worker moves) in
+    subst (λ (entries : List Entry). IsOneList setting count (set_and_done set moves) (moves_of worker moves) entries) all
+    (one_order_is_one_list setting plan count (set_and_done set moves) (moves_of worker moves) deeds
     (record {
       options = options;
       count_is = count_is;
@@ -214,7 +212,7 @@ one_worker_is_one_list setting plan count worker set moves options count_is plan
           ∙ none_past setting count worker moves Idle (subst (λ (one : ℕ). setting.options.workers ≤ one) same past) steps))
           (λ apart. ap (λ (test : Bool). cond test moves []) (ne_eqb other worker apart))
           (cases_eq other worker);
-    })
+    }))
 
 -- ---- one run
 
@@ -291,6 +289,7 @@ run_alone_is_one_list setting plan count worker told now frame set exchanges ver
       list = record {
         events = made.events;
         can = made.can;
+        written = made.written;
         of_each = made.of_each;
         histories = λ number below. made.histories number below
             ∙ ap (λ (list : List Entry). filter (is_of_shard number) set ++ list) (done number);

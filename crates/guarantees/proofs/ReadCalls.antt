@@ -5,7 +5,7 @@ use Rattle.isa.specs.Words.{twos_complement}
 use Rattle.isa.specs.declared.operation.Register.{Register}
 use Rattle.isa.specs.declared.operation.AtomicOp.{AtomicOp}
 use Rattle.isa.specs.declared.operation.Size.{Size}
-use Rattle.isa.specs.declared.operation.Source.TheVariants.{Reg}
+use Rattle.isa.specs.declared.operation.SourceOperand.TheVariants.{Reg}
 use Rattle.isa.specs.declared.operation.Width.{Width}
 use Rattle.isa.specs.Atomic.{fetched_register}
 use Rattle.ebpf_decode.specs.declared.insn.Insn.{Insn}

@@ -21,7 +21,7 @@ use Rattle.machine.specs.declared.moment.Moment.{Moment}
 use Rattle.journals.specs.JournalsView.{JournalsView, entries_at}
 use Rattle.shards.specs.CallerView.{CallerView}
 use Rattle.shards.specs.declared.deeds.Deed.{Deed}
-use Rattle.shards.specs.declared.deeds.Part.TheVariants.{ByCaller}
+use Rattle.shards.specs.declared.deeds.OrderPart.TheVariants.{ByCaller}
 use Rattle.shards.specs.Deeds.{deeds_of}
 use Rattle.shards.specs.Passes.{PassView, own_at}
 use Rattle.replay.specs.declared.runner.Ran.{Ran}

@@ -10,8 +10,8 @@ use Rattle.isa.specs.declared.operation.Extension.{Extension}
 use Rattle.isa.specs.declared.operation.AtomicOp.{AtomicOp}
 use Rattle.isa.specs.declared.operation.AtomicOp.TheVariants.{CompareExchange}
 use Rattle.isa.specs.declared.operation.Test.{Test}
-use Rattle.isa.specs.declared.operation.Source.{Source}
-use Rattle.isa.specs.declared.operation.Source.TheVariants.{Imm, Reg}
+use Rattle.isa.specs.declared.operation.SourceOperand.{SourceOperand}
+use Rattle.isa.specs.declared.operation.SourceOperand.TheVariants.{Imm, Reg}
 use Rattle.isa.specs.declared.operation.Register.{Register}
 use Rattle.isa.specs.declared.operation.Register.TheVariants.{R0, R1, R2, R3, R4, R5, R6, R7, R8, R9, R10}
 use Rattle.isa.specs.Atomic.{fetched_register}
@@ -72,7 +72,7 @@ same_write worker insn state dst o p e =
 
 -- ---- what does not ask for the worker
 
-same_source : (worker : ℕ) (state : MachineState) (source : Source) → source_value (at_worker worker state) source ≡ source_value state source
+same_source : (worker : ℕ) (state : MachineState) (source : SourceOperand) → source_value (at_worker worker state) source ≡ source_value state source
 same_source worker state (Imm immediate) = refl
 same_source worker state (Reg register) = refl
 

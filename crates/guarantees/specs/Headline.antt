@@ -21,6 +21,7 @@ use Rattle.machine.specs.declared.moment.Moment.{Moment}
 use Rattle.machine.specs.Running.{program_of}
 use Rattle.journals.specs.JournalsView.{JournalsView, entries_at}
 use Rattle.shards.specs.declared.deeds.Deed.{Deed}
+use Rattle.shards.specs.Deeds.{entries_made}
 use Rattle.shards.specs.Passes.{PassView}
 use Rattle.shards.specs.SharedMaps.{ArePlans}
 use Rattle.runs.specs.FrameRuns.{HasRun, HasStopped}
@@ -161,8 +162,10 @@ pub record Headline (verified : Verified) (script : List Command) (options : Opt
       (worker : ℕ) → worker < options.workers →
       AreOfRuns verified options plan count worker records runs outcome.journals order work (moves.moves worker)
   -- the steps of all workers, with what the controller and the reclaimer did, are one list of events of the system, which can all happen
-  -- from the opening on; each worker's are in their order in it; after it the histories are the journals, and every worker is idle
-  pub list : IsOneList (setting_of verified options) count (λ number. entries_at outcome.journals number) moves.moves
+  -- from the opening on; each worker's are in their order in it; they write the entries of the one order, in this order over all shards; after
+  -- it the histories are the journals, and every worker is idle
+  pub list :
+      IsOneList (setting_of verified options) count (λ number. entries_at outcome.journals number) moves.moves (entries_made (reverse order))
   -- the frames that were sent are those of these runs
   pub sent : sent_frames outcome.sent.items ≡ sent_of (frames_of records) options.workers runs (length records)
 

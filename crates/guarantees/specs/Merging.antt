@@ -13,12 +13,12 @@ use Rattle.semantics.specs.declared.call.Entry.{Entry}
 use Rattle.semantics.specs.declared.plan.ShardPlan.{ShardPlan}
 use Rattle.semantics.specs.ShardPlan.{plan_at, AreOptions}
 use Rattle.semantics.specs.History.{shard_of_call, IsLegalJournal}
-use Rattle.semantics.specs.System.{Setting, program_of, IsInputFrame, input_frame, SystemEvent, Idle}
-use Rattle.semantics.specs.System.{worker_state, history_of, system_after, CanAllHappen}
+use Rattle.semantics.specs.System.{Setting, program_of, IsInputFrame, input_frame, SystemEvent, SystemState, Idle}
+use Rattle.semantics.specs.System.{worker_state, history_of, with_entry, after_event, opening_system, system_after, CanAllHappen}
 use Rattle.shards.specs.declared.deeds.Deed.{Deed}
-use Rattle.shards.specs.declared.deeds.Part.TheVariants.{ByCaller}
-use Rattle.shards.specs.Deeds.{deeds_of, is_of_shard, made_on, AreMet, AreWithin as DeedsAreWithin}
-use Rattle.guarantees.specs.Steps.{Asked, Refused, Move, AreSteps, entries_on, deeds_in, begins}
+use Rattle.shards.specs.declared.deeds.OrderPart.TheVariants.{ByCaller}
+use Rattle.shards.specs.Deeds.{deeds_of, is_of_shard, entries_made, made_on, AreMet, AreWithin as DeedsAreWithin}
+use Rattle.guarantees.specs.Steps.{Asked, Refused, Move, AreSteps, entries_in, entries_on, deeds_in, begins}
 use Rattle.guarantees.specs.Moves.{is_event_of}
 
 abbrev pub is_refusal : Asked → Bool
@@ -44,11 +44,25 @@ pub record IsOrderOfMoves (setting : Setting) (plan : ℕ → ShardPlan) (count 
 abbrev pub events_of : List Move → List SystemEvent
 events_of moves = map (λ (move : Move). move.event) moves
 
--- one list of events, which can all happen from the opening on; of each worker it has the worker's own events, in their order; after it the
--- histories are the journals, and every worker is idle
-pub record IsOneList (setting : Setting) (count : ℕ) (journal : ℕ → List Entry) (moves : ℕ → List Move) : Type 0 where
+-- from one state of the system to the next, no history changes, or one has this entry more
+abbrev pub IsWrittenNext : SystemState → List Entry → SystemState → Type 0
+IsWrittenNext before [] after = after.histories ≡ before.histories
+IsWrittenNext before (entry ∷ []) after = after.histories ≡ (with_entry before (shard_of_call entry.call) entry).histories
+IsWrittenNext before (entry ∷ other ∷ more) after = ⊥
+
+-- the events, from this state of the system on, write just these entries, over all shards in this order: each event the next one, or none
+abbrev pub AreWrittenInOrder : Setting → SystemState → List SystemEvent → List Entry → Type 0
+AreWrittenInOrder setting before [] entries = entries ≡ []
+AreWrittenInOrder setting before (event ∷ later) entries =
+    (first : List Entry) × (more : List Entry) × (entries ≡ first ++ more) × IsWrittenNext before first (after_event setting before event)
+    × AreWrittenInOrder setting (after_event setting before event) later more
+
+-- one list of events, which can all happen from the opening on; of each worker it has the worker's own events, in their order; over all shards
+-- they write these entries, in this order; after it the histories are the journals, and every worker is idle
+pub record IsOneList (setting : Setting) (count : ℕ) (journal : ℕ → List Entry) (moves : ℕ → List Move) (entries : List Entry) : Type 0 where
   pub events : List SystemEvent
   pub can : CanAllHappen setting (reverse events)
+  pub written : AreWrittenInOrder setting (opening_system setting) events entries
   pub of_each : (worker : ℕ) → filter (is_event_of worker) events ≡ events_of (moves worker)
   pub histories : (number : ℕ) → number < count → reverse (history_of (system_after setting (reverse events)) number) ≡ journal number
   pub idle : (worker : ℕ) → worker_state (system_after setting (reverse events)) worker ≡ Idle
@@ -57,7 +71,7 @@ pub record IsOneList (setting : Setting) (count : ℕ) (journal : ℕ → List E
 abbrev pub OneOrderIsOneList : Type 0
 OneOrderIsOneList =
     (setting : Setting) (plan : ℕ → ShardPlan) (count : ℕ) (journal : ℕ → List Entry) (moves : ℕ → List Move) (deeds : List Deed) →
-    IsOrderOfMoves setting plan count journal moves deeds → IsOneList setting count journal moves
+    IsOrderOfMoves setting plan count journal moves deeds → IsOneList setting count journal moves (entries_made deeds)
 
 -- ---- one worker, behind what the controller set
 
@@ -87,7 +101,7 @@ OneWorkerIsOneList =
     ((number : ℕ) → number < count → plan_at setting.maps setting.options number ≡ Some (plan number)) →
     AllByRecursion (IsSetBefore count) set → AreSteps setting count worker Idle moves Idle → NoneRefused moves →
     ((number : ℕ) → number < count → IsLegalJournal (plan number) (set_and_done set moves number)) →
-    IsOneList setting count (set_and_done set moves) (moves_of worker moves)
+    IsOneList setting count (set_and_done set moves) (moves_of worker moves) (set ++ entries_in moves)
 
 -- the run of one worker behind that, by its trace
 pub record IsRunAlone (setting : Setting) (count worker told now : ℕ) (frame : List ℕ) (exchanges : List Exchange) (verdict : Verdict)
@@ -113,7 +127,7 @@ pub record IsListOfOne (setting : Setting) (count worker told now : ℕ) (frame 
   pub run : List Move
   pub moves : List Move
   pub begins_so : moves ≡ begins worker frame now told ∷ run
-  pub list : IsOneList setting count (set_and_run set worker exchanges) (moves_of worker moves)
+  pub list : IsOneList setting count (set_and_run set worker exchanges) (moves_of worker moves) (set ++ entries_in moves)
 
 -- journals that have what the controller set and then one run, as `run_alone` makes them, are one list of events of the system
 abbrev pub RunAloneIsOneList : Type 0

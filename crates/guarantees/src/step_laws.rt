@@ -18,7 +18,7 @@ pub fn steps_are_listed()
     ensures one { MovesLeadToOne }
 {}
 
-/// A run of the system is the trace of its program on its frame, at its time and with the worker's number that it was told, on replies of
+/// A run of the system is the trace of its program on its frame, at its time and with the worker's number that it was given, on replies of
 /// the calls' form that stand session by session among its worker's own entries: what `run_frame` ensures of a run's calls and replies.
 pub fn runs_are_traces()
     ensures { RunsAreTraces }

@@ -13,6 +13,6 @@ pub use atomics::atomic;
 pub use byte_swap::swap;
 pub use comparison::{test32, test64};
 pub use operation::{
-    AluOp, AtomicOp, ByteOrder, Class, Extension, Mode, Register, ShortExtension, Size, Source,
-    SwapWidth, Test, Width,
+    AluOp, AtomicOp, ByteOrder, Class, Extension, Mode, Register, ShortExtension, Size,
+    SourceOperand, SwapWidth, Test, Width,
 };

@@ -185,7 +185,7 @@ pub enum Register {
 
 /// The second operand of an instruction (RFC 9669, section 4).
 #[derive(Clone, Copy, Debug, PartialEq, Eq)]
-pub enum Source {
+pub enum SourceOperand {
     /// K: the 32-bit immediate, sign-extended where 64 bits are wanted.
     Imm(i32),
     /// X: the source register.

@@ -8,7 +8,6 @@ ghost use Rattle.journal.specs.Rows.{IsBare, entry_of};
 ghost use Rattle.journal.specs.Ranges.{IsShortRange};
 
 use crate::append::{AtomicChange, CellRange};
-use crate::kept_bytes::{put_bytes, put_four_words, put_two_words, put_word};
 use crate::row::{Row, Shape};
 use semantics::{Caller, Entry};
 use std::alloc::{AllocError, Global};
@@ -235,4 +234,45 @@ fn put_row(rows: &mut Vec<Row>, row: Row)
     ensures room { vec_capacity rows.old ≤ vec_capacity rows.new }
 {
     rows.push_reserved(row);
+}
+
+/// Puts bytes behind the others, for which there is room.
+pub fn put_bytes(bytes: &mut Vec<u8>, more: &[u8])
+    requires { vec_len bytes.old + length more.now ≤ vec_capacity bytes.old }
+    ensures items { bytes.new.items ≡ bytes.old.items ++ more.now }
+    ensures room { vec_capacity bytes.old ≤ vec_capacity bytes.new }
+{
+    if bytes.extend_from_slice(more).is_err() {
+        unreachable!()
+    }
+}
+
+/// Puts a number behind the others, for which there is room.
+pub(crate) fn put_word(words: &mut Vec<u64>, first: u64)
+    requires { vec_len words.old < vec_capacity words.old }
+    ensures items { words.new.items ≡ words.old.items ++ first ∷ [] }
+    ensures room { vec_capacity words.old ≤ vec_capacity words.new }
+{
+    words.push_reserved(first);
+}
+
+/// Puts two numbers behind the others. They are written one by one: written together they would be copied by one wide load right after two
+/// narrow stores, for which an older processor waits.
+pub(crate) fn put_two_words(words: &mut Vec<u64>, first: u64, second: u64)
+    requires { vec_len words.old + 2 ≤ vec_capacity words.old }
+    ensures items { words.new.items ≡ words.old.items ++ first ∷ second ∷ [] }
+    ensures room { vec_capacity words.old ≤ vec_capacity words.new }
+{
+    put_word(words, first);
+    put_word(words, second);
+}
+
+/// Puts four numbers behind the others, in the same way.
+pub(crate) fn put_four_words(words: &mut Vec<u64>, first: u64, second: u64, third: u64, fourth: u64)
+    requires { vec_len words.old + 4 ≤ vec_capacity words.old }
+    ensures items { words.new.items ≡ words.old.items ++ first ∷ second ∷ third ∷ fourth ∷ [] }
+    ensures room { vec_capacity words.old ≤ vec_capacity words.new }
+{
+    put_two_words(words, first, second);
+    put_two_words(words, third, fourth);
 }

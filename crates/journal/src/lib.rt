@@ -8,10 +8,9 @@
 
 mod append;
 mod journal_of_shard;
-mod kept_bytes;
 mod row;
 
 pub use append::{AtomicChange, CellRange};
-pub use journal_of_shard::Journal;
-pub use kept_bytes::{key_at, put_bytes, value_at};
+pub use journal_of_shard::{Journal, put_bytes};
+pub use row::{key_at, value_at};
 pub use semantics::{Caller, Entry};

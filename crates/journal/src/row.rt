@@ -1,10 +1,9 @@
 //! An entry as a journal keeps it.
 
 ghost use Rattle.std.specs.Prelude.{◌≡◌, ◌+◌, ◌<◌, ◌≤◌, length};
-ghost use Rattle.journal.specs.Rows.{word, who_of, call_of, reply_of, entry_of, IsWithin, AreWordsWithin};
+ghost use Rattle.journal.specs.Rows.{part, word, who_of, call_of, reply_of, entry_of, IsWithin, AreWordsWithin};
 
-use crate::kept_bytes::{key_at, value_at};
-use semantics::{Call, Caller, CellRef, Entry, Reply};
+use semantics::{Call, Caller, CellRef, Entry, Key, Reply, Value};
 
 /// The head of an entry: kind, caller and small fields. Its numbers are among the journal's words from `start` on, and its key, with its value behind it,
 /// is among the journal's bytes from `at` on; the shard is the journal's. Small fields come first, so that no variant has more than 12 bytes.
@@ -73,6 +72,38 @@ pub(crate) struct Shape {
     pub shard: u32,
     pub key_size: u32,
     pub value_size: u32,
+}
+
+/// This many bytes from a place on.
+fn part(bytes: &[u8], at: u64, size: u32) -> &[u8]
+    requires { at + size ≤ length bytes.now }
+    ensures bytes { result.now ≡ part at size bytes.now }
+    ensures size { length result.now ≡ size }
+{
+    let at = at as usize;
+    &bytes[at..at + size as usize]
+}
+
+/// The key of this many bytes from a place on.
+pub fn key_at(bytes: &[u8], at: u64, size: u32) -> Key
+    requires within { at + size ≤ length bytes.now }
+    requires size { size ≤ 32 }
+    ensures { result ≡ part at size bytes.now }
+{
+    let mut key = Key::empty();
+    key.append(part(bytes, at, size));
+    key
+}
+
+/// The value of this many bytes from a place on.
+pub fn value_at(bytes: &[u8], at: u64, size: u32) -> Value
+    requires within { at + size ≤ length bytes.now }
+    requires size { size ≤ 256 }
+    ensures { result ≡ part at size bytes.now }
+{
+    let mut value = Value::empty();
+    value.append(part(bytes, at, size));
+    value
 }
 
 /// The word at a place.

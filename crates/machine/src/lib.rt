@@ -1,7 +1,6 @@
 //! The machine: runs an image that the verifier accepted, on one frame.
 #![tactic(auto)]
 
-mod act;
 mod advance;
 mod arms;
 mod calls;

@@ -1,4 +1,4 @@
-//! Who may call a shard, told by whatever knows who is inside and who holds which cell.
+//! Who may call a shard, as anything knows it that knows who is inside and who holds which cell.
 
 ghost use Rattle.std.specs.Prelude.{◌≡◌, ◌<◌, List};
 ghost use Rattle.semantics.specs.declared.call.Entry.{Entry};

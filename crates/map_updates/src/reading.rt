@@ -28,7 +28,7 @@ pub enum Mistake {
     Memory,
 }
 
-/// The update that three words say: a map's place in decimal, a key and a value in hexadecimal. Of several mistakes the first is told.
+/// The update that three words say: a map's place in decimal, a key and a value in hexadecimal. Of several mistakes the first is returned.
 pub fn update_of(alloc: Global, map: &str, key: &str, value: &str) -> Result<MapUpdate, Mistake>
     ensures read { IfOk result (IsWritten map.now key.now value.now) }
     ensures mistaken { IfErr result (IsMistaken map.now key.now value.now) }

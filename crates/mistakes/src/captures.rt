@@ -3,7 +3,7 @@
 ghost use Rattle.std.specs.Prelude.{string_bytes, IfOk};
 ghost use Rattle.mistakes.specs.Notes.{AreNotes};
 
-use crate::kinds::{Kind, kind_of, name_of};
+use crate::kinds::{FileKind, kind_of, name_of};
 use crate::notes::notes_of;
 use crate::quoting::first_bytes;
 use std::alloc::{AllocError, Global};
@@ -14,17 +14,17 @@ const WANTED: &str =
 
 /// How a capture is made of the file, or where it belongs.
 #[rattlefmt::skip]
-fn remedy_of(kind: Kind) -> &'static str {
+fn remedy_of(kind: FileKind) -> &'static str {
     match kind {
-        Kind::BigEndianCapture | Kind::NanosecondCapture | Kind::Pcapng
+        FileKind::BigEndianCapture | FileKind::NanosecondCapture | FileKind::Pcapng
             => "editcap -F pcap CAPTURE NEW writes it as a classic capture (editcap comes with Wireshark)",
-        Kind::Gzip => "unpack it first: gzip -d FILE",
-        Kind::Frame => "xlb run IMAGE FRAME runs one frame; text2pcap and editcap make captures",
-        Kind::HexDigits
+        FileKind::Gzip => "unpack it first: gzip -d FILE",
+        FileKind::Frame => "xlb run IMAGE FRAME runs one frame; text2pcap and editcap make captures",
+        FileKind::HexDigits
             => "text2pcap makes a capture of hexadecimal digits with offsets in front of them: \
                 xxd -g 1 FRAME | text2pcap - NEW (text2pcap comes with Wireshark)",
-        Kind::Image | Kind::Elf | Kind::ImageText | Kind::Journals | Kind::Script => "are two names on the command line swapped?",
-        Kind::Empty | Kind::Capture | Kind::Text | Kind::Unknown => "",
+        FileKind::Image | FileKind::Elf | FileKind::ImageText | FileKind::Journals | FileKind::Script => "are two names on the command line swapped?",
+        FileKind::Empty | FileKind::Capture | FileKind::Text | FileKind::Unknown => "",
     }
 }
 
@@ -97,10 +97,10 @@ pub fn about_capture(alloc: Global, bytes: &[u8]) -> Result<String, AllocError>
     ensures { IfOk result (λ text. AreNotes 3 (string_bytes text)) }
 {
     let kind = kind_of(alloc, bytes);
-    if kind == Kind::Capture {
+    if kind == FileKind::Capture {
         return about_header(alloc, bytes);
     }
-    if kind == Kind::Unknown {
+    if kind == FileKind::Unknown {
         return about_unknown(alloc, bytes);
     }
     notes_of(alloc, name_of(kind), WANTED, remedy_of(kind))

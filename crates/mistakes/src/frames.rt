@@ -3,22 +3,23 @@
 ghost use Rattle.std.specs.Prelude.{string_bytes, IfOk};
 ghost use Rattle.mistakes.specs.Notes.{AreNotes};
 
-use crate::kinds::{Kind, kind_of, name_of};
+use crate::kinds::{FileKind, kind_of, name_of};
 use crate::notes::notes_of;
 use std::alloc::{AllocError, Global};
+use wire::MAX_FRAME;
 
 /// How a frame is made of the file, or where it belongs.
 #[rattlefmt::skip]
-fn remedy_of(kind: Kind) -> &'static str {
+fn remedy_of(kind: FileKind) -> &'static str {
     match kind {
-        Kind::HexDigits => "xxd -r -p FRAME NEW makes bytes of hexadecimal digits",
-        Kind::Capture => "xlb replay runs the frames of a capture",
-        Kind::BigEndianCapture | Kind::NanosecondCapture | Kind::Pcapng
+        FileKind::HexDigits => "xxd -r -p FRAME NEW makes bytes of hexadecimal digits",
+        FileKind::Capture => "xlb replay runs the frames of a capture",
+        FileKind::BigEndianCapture | FileKind::NanosecondCapture | FileKind::Pcapng
             => "xlb replay runs the frames of a classic capture; editcap -F pcap CAPTURE NEW makes one of this file (editcap comes with Wireshark)",
-        Kind::Gzip => "unpack it first: gzip -d FILE",
-        Kind::Image | Kind::Elf | Kind::ImageText | Kind::Journals | Kind::Script
+        FileKind::Gzip => "unpack it first: gzip -d FILE",
+        FileKind::Image | FileKind::Elf | FileKind::ImageText | FileKind::Journals | FileKind::Script
             => "the frame comes after the image on the command line: are two names swapped?",
-        Kind::Empty | Kind::Frame | Kind::Text | Kind::Unknown => "",
+        FileKind::Empty | FileKind::Frame | FileKind::Text | FileKind::Unknown => "",
     }
 }
 
@@ -29,7 +30,7 @@ pub fn about_frame(alloc: Global, bytes: &[u8]) -> Result<String, AllocError>
     ensures { IfOk result (λ text. AreNotes 3 (string_bytes text)) }
 {
     let all = bytes.len();
-    let long = if all > 2048 {
+    let long = if all > MAX_FRAME {
         String::from_str(alloc, "the file has more than 2048 bytes")?
     } else {
         format!(in alloc; "the file has {all} bytes")?
@@ -46,4 +47,20 @@ pub fn about_frame(alloc: Global, bytes: &[u8]) -> Result<String, AllocError>
         "expected the bytes of one Ethernet frame, 14 to 2048 of them",
         remedy_of(kind),
     )
+}
+
+/// Lines for people on a frame's file that is a text: what it is, that its letters are the frame's bytes, and how bytes are made of digits. Nothing of other bytes.
+///
+/// At most three lines, each with two spaces at its beginning and a line feed at its end. It can fail only for lack of memory.
+pub fn about_text_as_frame(alloc: Global, bytes: &[u8]) -> Result<String, AllocError>
+    ensures { IfOk result (λ text. AreNotes 3 (string_bytes text)) }
+{
+    let kind = kind_of(alloc, bytes);
+    if !kind.is_text() {
+        return notes_of(alloc, "", "", "");
+    }
+    let all = bytes.len();
+    let what = format!(in alloc; "FRAME: {}", name_of(kind))?;
+    let run = format!(in alloc; "its {all} letters were run as the bytes of the frame")?;
+    notes_of(alloc, what.as_str(), run.as_str(), remedy_of(kind))
 }

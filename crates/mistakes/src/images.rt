@@ -3,29 +3,27 @@
 ghost use Rattle.std.specs.Prelude.{string_bytes, IfOk};
 ghost use Rattle.mistakes.specs.Notes.{AreNotes};
 
-use crate::kinds::{Kind, kind_of, name_of};
+use crate::kinds::{FileKind, kind_of, name_of};
 use crate::notes::notes_of;
 use crate::quoting::first_bytes;
+use crate::scripts::BYTE_ORDER_MARK;
+use ebpf_decode::image::{HEAD_LEN, MAP_LEN};
 use std::alloc::{AllocError, Global};
-
-/// The bytes of a head, and of each map behind it.
-const HEAD: usize = 8;
-
-const MAP: usize = 16;
 
 /// What makes an image of the file, or where it belongs.
 #[rattlefmt::skip]
-fn remedy_of(kind: Kind) -> &'static str {
+fn remedy_of(kind: FileKind) -> &'static str {
     match kind {
-        Kind::Elf
+        FileKind::Elf
             => "xlb runs images of its own format: write the program as a source (docs/FORMATS.md), \
                 and make an image of it with xlb asm --source SOURCE IMAGE",
-        Kind::ImageText => "make an image of it with xlb asm TEXT IMAGE, or, where it has comments or labels, with xlb asm --source TEXT IMAGE",
-        Kind::Text => "an image is made of a text with xlb asm --source TEXT IMAGE; a text begins with version 1 or version 2",
-        Kind::Gzip => "unpack it first: gzip -d FILE",
-        Kind::Capture | Kind::BigEndianCapture | Kind::NanosecondCapture | Kind::Pcapng | Kind::Journals | Kind::Script | Kind::Frame | Kind::HexDigits
+        FileKind::ImageText => "make an image of it with xlb asm TEXT IMAGE, or, where it has comments or labels, with xlb asm --source TEXT IMAGE",
+        FileKind::Text => "an image is made of a text with xlb asm --source TEXT IMAGE; a text begins with version 1 or version 2",
+        FileKind::Gzip => "unpack it first: gzip -d FILE",
+        FileKind::Capture | FileKind::BigEndianCapture | FileKind::NanosecondCapture | FileKind::Pcapng
+        | FileKind::Journals | FileKind::Script | FileKind::Frame | FileKind::HexDigits
             => "the image comes first on the command line: are two names swapped?",
-        Kind::Empty | Kind::Image | Kind::Unknown => "",
+        FileKind::Empty | FileKind::Image | FileKind::Unknown => "",
     }
 }
 
@@ -42,7 +40,7 @@ fn about_head(alloc: Global, bytes: &[u8]) -> Result<String, AllocError> {
     let all = bytes.len();
     let version = byte_at(bytes, 4);
     let maps = byte_at(bytes, 5);
-    if all < HEAD {
+    if all < HEAD_LEN {
         return format!(in alloc; "the file ends after {all} bytes, within its head of 8 bytes");
     }
     if version != 1 && version != 2 {
@@ -54,7 +52,7 @@ fn about_head(alloc: Global, bytes: &[u8]) -> Result<String, AllocError> {
     if byte_at(bytes, 6) != 0 || byte_at(bytes, 7) != 0 {
         return String::from_str(alloc, "bytes 6 and 7 are not zero");
     }
-    let least = HEAD + MAP * usize::from(maps);
+    let least = HEAD_LEN + MAP_LEN * usize::from(maps);
     format!(in alloc;
         "the file ends after {all} bytes, within its list of {maps} maps: the list ends at byte {least}"
     )
@@ -66,11 +64,16 @@ fn about_unknown(alloc: Global, bytes: &[u8]) -> Result<String, AllocError>
 {
     let found = first_bytes(alloc, bytes)?;
     let begun = format!(in alloc; "the file begins with the bytes {found}")?;
+    let remedy = if bytes.starts_with(BYTE_ORDER_MARK) {
+        "the bytes ef bb bf are a byte order mark: tail -c +4 FILE > NEW takes it away from a source"
+    } else {
+        ""
+    };
     notes_of(
         alloc,
         begun.as_str(),
         "expected an image, which begins with 58 4c 42 50 (XLBP)",
-        "",
+        remedy,
     )
 }
 
@@ -81,11 +84,11 @@ pub fn about_image(alloc: Global, bytes: &[u8]) -> Result<String, AllocError>
     ensures { IfOk result (λ text. AreNotes 3 (string_bytes text)) }
 {
     let kind = kind_of(alloc, bytes);
-    if kind == Kind::Image {
+    if kind == FileKind::Image {
         let wrong = about_head(alloc, bytes)?;
         return notes_of(alloc, wrong.as_str(), "", "");
     }
-    if kind == Kind::Unknown {
+    if kind == FileKind::Unknown {
         return about_unknown(alloc, bytes);
     }
     notes_of(
@@ -150,7 +153,7 @@ pub(crate) fn wrong_number(
 pub fn about_map(alloc: Global, bytes: &[u8], map: u32) -> Result<String, AllocError>
     ensures { IfOk result (λ text. AreNotes 3 (string_bytes text)) }
 {
-    let place = HEAD.saturating_add((map as usize).saturating_mul(MAP));
+    let place = HEAD_LEN.saturating_add((map as usize).saturating_mul(MAP_LEN));
     let (wrong, allowed) = wrong_number(
         alloc,
         byte_at(bytes, 4),

@@ -1,11 +1,12 @@
 //! What kind of file some bytes are, by how they begin.
 
 use control::parse_script;
+use ebpf_decode::image::MAGIC;
 use std::alloc::Global;
 
 /// A kind of file that people hand over where another one is wanted.
 #[derive(Clone, Copy, Debug, PartialEq, Eq)]
-pub(crate) enum Kind {
+pub(crate) enum FileKind {
     Empty,
     Image,
     /// An ELF object, as compilers write it.
@@ -31,23 +32,37 @@ pub(crate) enum Kind {
     Unknown,
 }
 
+impl FileKind {
+    /// Whether files of this kind have letters alone.
+    pub(crate) fn is_text(self) -> bool {
+        matches!(
+            self,
+            FileKind::ImageText
+                | FileKind::Journals
+                | FileKind::Script
+                | FileKind::HexDigits
+                | FileKind::Text
+        )
+    }
+}
+
 /// The kinds that begin with bytes of their own.
 #[rattlefmt::skip]
-const MAGICS: [(&[u8], Kind); 10] = [
-    (b"XLBP",              Kind::Image),
-    (b"\x7fELF",           Kind::Elf),
-    (b"\xd4\xc3\xb2\xa1",  Kind::Capture),
-    (b"\xa1\xb2\xc3\xd4",  Kind::BigEndianCapture),
-    (b"\x4d\x3c\xb2\xa1",  Kind::NanosecondCapture),
-    (b"\xa1\xb2\x3c\x4d",  Kind::NanosecondCapture),
-    (b"\x0a\x0d\x0d\x0a",  Kind::Pcapng),
-    (b"\x1f\x8b",          Kind::Gzip),
-    (b"version ",          Kind::ImageText),
-    (b"XLBJ ",             Kind::Journals),
+const MAGICS: [(&[u8], FileKind); 10] = [
+    (&MAGIC,               FileKind::Image),
+    (b"\x7fELF",           FileKind::Elf),
+    (b"\xd4\xc3\xb2\xa1",  FileKind::Capture),
+    (b"\xa1\xb2\xc3\xd4",  FileKind::BigEndianCapture),
+    (b"\x4d\x3c\xb2\xa1",  FileKind::NanosecondCapture),
+    (b"\xa1\xb2\x3c\x4d",  FileKind::NanosecondCapture),
+    (b"\x0a\x0d\x0d\x0a",  FileKind::Pcapng),
+    (b"\x1f\x8b",          FileKind::Gzip),
+    (b"version ",          FileKind::ImageText),
+    (b"XLBJ ",             FileKind::Journals),
 ];
 
 /// The kind whose first bytes these are.
-fn by_magic(bytes: &[u8]) -> Option<Kind> {
+fn by_magic(bytes: &[u8]) -> Option<FileKind> {
     for (magic, kind) in &MAGICS {
         if bytes.starts_with(*magic) {
             return Some(*kind);
@@ -88,47 +103,47 @@ fn is_script(alloc: Global, bytes: &[u8]) -> bool {
 }
 
 /// The kind of file that the bytes are, as far as they show it.
-pub(crate) fn kind_of(alloc: Global, bytes: &[u8]) -> Kind {
+pub(crate) fn kind_of(alloc: Global, bytes: &[u8]) -> FileKind {
     if bytes.is_empty() {
-        return Kind::Empty;
+        return FileKind::Empty;
     }
     if let Some(kind) = by_magic(bytes) {
         return kind;
     }
     if is_frame(bytes) {
-        return Kind::Frame;
+        return FileKind::Frame;
     }
     if is_hex_digits(bytes) {
-        return Kind::HexDigits;
+        return FileKind::HexDigits;
     }
     if !is_text(bytes) {
-        return Kind::Unknown;
+        return FileKind::Unknown;
     }
     if is_script(alloc, bytes) {
-        Kind::Script
+        FileKind::Script
     } else {
-        Kind::Text
+        FileKind::Text
     }
 }
 
 /// What a kind is called.
 #[rattlefmt::skip]
-pub(crate) fn name_of(kind: Kind) -> &'static str {
+pub(crate) fn name_of(kind: FileKind) -> &'static str {
     match kind {
-        Kind::Empty             => "the file is empty",
-        Kind::Image             => "the file is an image",
-        Kind::Elf               => "the file is an ELF object, as compilers write it",
-        Kind::Capture           => "the file is a capture",
-        Kind::BigEndianCapture  => "the file is a capture whose numbers have the high byte first",
-        Kind::NanosecondCapture => "the file is a capture with nanoseconds",
-        Kind::Pcapng            => "the file is a pcapng capture",
-        Kind::Gzip              => "the file is compressed with gzip",
-        Kind::ImageText         => "the file is the text of an image",
-        Kind::Journals          => "the file has journals",
-        Kind::Script            => "the file is a script of commands",
-        Kind::HexDigits         => "the file has hexadecimal digits in place of bytes",
-        Kind::Frame             => "the file is an Ethernet frame",
-        Kind::Text              => "the file is a text",
-        Kind::Unknown           => "",
+        FileKind::Empty             => "the file is empty",
+        FileKind::Image             => "the file is an image",
+        FileKind::Elf               => "the file is an ELF object, as compilers write it",
+        FileKind::Capture           => "the file is a capture",
+        FileKind::BigEndianCapture  => "the file is a capture whose numbers have the high byte first",
+        FileKind::NanosecondCapture => "the file is a capture with nanoseconds",
+        FileKind::Pcapng            => "the file is a pcapng capture",
+        FileKind::Gzip              => "the file is compressed with gzip",
+        FileKind::ImageText         => "the file is the text of an image",
+        FileKind::Journals          => "the file has journals",
+        FileKind::Script            => "the file is a script of commands",
+        FileKind::HexDigits         => "the file has hexadecimal digits in place of bytes",
+        FileKind::Frame             => "the file is an Ethernet frame",
+        FileKind::Text              => "the file is a text",
+        FileKind::Unknown           => "",
     }
 }

@@ -12,14 +12,12 @@ mod openings;
 mod quoting;
 mod scripts;
 mod spacing;
-#[cfg(test)]
-mod tests;
 mod words;
 
 pub use captures::about_capture;
-pub use frames::about_frame;
+pub use frames::{about_frame, about_text_as_frame};
 pub use histories::{about_entry, about_journals};
 pub use images::{about_image, about_map};
 pub use map_lines::about_map_line;
-pub use openings::{about_options, about_worker};
+pub use openings::{about_options, about_ring, about_worker};
 pub use scripts::about_script;

@@ -5,6 +5,7 @@ ghost use Rattle.mistakes.specs.Notes.{AreNotes};
 
 use crate::notes::notes_of;
 use ebpf_decode::MapDef;
+use maglev::RING_SIZES;
 use semantics::Options;
 use std::alloc::{AllocError, Global};
 
@@ -83,4 +84,33 @@ pub fn about_worker(alloc: Global, worker: u32) -> Result<String, AllocError>
     ensures { IfOk result (λ text. AreNotes 3 (string_bytes text)) }
 {
     about_number(alloc, "worker", worker, "expected 0 to 7")
+}
+
+/// The least size of a lookup table that is larger than this.
+fn next_size(ring: u32) -> Option<u32> {
+    for size in &RING_SIZES {
+        if *size > ring {
+            return Some(*size);
+        }
+    }
+    None
+}
+
+/// Lines for people on a number of slots that no lookup table has (fault 73): which numbers there are, and the next larger one.
+///
+/// At most three lines, each with two spaces at its beginning and a line feed at its end. It can fail only for lack of memory.
+pub fn about_ring(alloc: Global, ring: u32) -> Result<String, AllocError>
+    ensures { IfOk result (λ text. AreNotes 3 (string_bytes text)) }
+{
+    let wrong = format!(in alloc; "--ring {ring}")?;
+    let next = match next_size(ring) {
+        Some(size) => format!(in alloc; "the next larger one is {size}")?,
+        None => String::from_str(alloc, "the largest one is 65537")?,
+    };
+    notes_of(
+        alloc,
+        wrong.as_str(),
+        "expected the number of slots of a lookup table: 7, 251, 4093 or 65537",
+        next.as_str(),
+    )
 }

@@ -3,10 +3,10 @@
 ghost use Rattle.std.specs.Prelude.{string_bytes, IfOk};
 ghost use Rattle.mistakes.specs.Notes.{AreNotes};
 
-use crate::kinds::{Kind, kind_of, name_of};
+use crate::kinds::{FileKind, kind_of, name_of};
 use crate::notes::notes_of;
 use crate::quoting::quoted;
-use crate::spacing::{Mistake, spacing_mistake};
+use crate::spacing::{LineMistake, spacing_mistake};
 use crate::words::{command_in, example_of, words_mistake};
 use std::alloc::{AllocError, Global};
 use text_lines::{count_of, cut, text_or_line};
@@ -35,7 +35,7 @@ pub(crate) fn line_at(text: &str, line: usize) -> Option<(&str, &str, bool)> {
 }
 
 /// The first mistake of the line.
-fn mistake_in<'a>(line: &'a str, before: &str) -> Option<Mistake<'a>> {
+fn mistake_in<'a>(line: &'a str, before: &str) -> Option<LineMistake<'a>> {
     let (frame, _) = cut(before, ' ');
     match spacing_mistake(line) {
         Some(mistake) => Some(mistake),
@@ -48,7 +48,7 @@ fn about_mistake(
     alloc: Global,
     line: usize,
     text: &str,
-    mistake: Mistake<'_>,
+    mistake: LineMistake<'_>,
 ) -> Result<String, AllocError>
     ensures { IfOk result (λ text. AreNotes 3 (string_bytes text)) }
 {
@@ -92,7 +92,7 @@ fn about_line(alloc: Global, text: &str, line: usize) -> Result<String, AllocErr
 }
 
 /// The lines on a file that is of another kind.
-fn about_kind(alloc: Global, kind: Kind) -> Result<String, AllocError>
+fn about_kind(alloc: Global, kind: FileKind) -> Result<String, AllocError>
     ensures { IfOk result (λ text. AreNotes 3 (string_bytes text)) }
 {
     notes_of(
@@ -104,12 +104,30 @@ fn about_kind(alloc: Global, kind: Kind) -> Result<String, AllocError>
 }
 
 /// Whether a file of this kind has no lines to look at.
-fn is_other(kind: Kind) -> bool {
-    kind != Kind::Script
-        && kind != Kind::Text
-        && kind != Kind::HexDigits
-        && kind != Kind::Unknown
-        && kind != Kind::Empty
+fn is_other(kind: FileKind) -> bool {
+    kind != FileKind::Script
+        && kind != FileKind::Text
+        && kind != FileKind::HexDigits
+        && kind != FileKind::Unknown
+        && kind != FileKind::Empty
+}
+
+/// The bytes that some editors put in front of a text in UTF-8.
+pub(crate) const BYTE_ORDER_MARK: &[u8] = b"\xef\xbb\xbf";
+
+/// The lines on a file, called so on the command line, that begins with them.
+pub(crate) fn about_byte_order_mark(alloc: Global, file: &str) -> Result<String, AllocError>
+    ensures { IfOk result (λ text. AreNotes 3 (string_bytes text)) }
+{
+    let expected = format!(in alloc;
+        "expected plain ASCII text: tail -c +4 {file} > NEW takes the mark away"
+    )?;
+    notes_of(
+        alloc,
+        "line 1, column 1: the file begins with a byte order mark, the bytes ef bb bf",
+        expected.as_str(),
+        "",
+    )
 }
 
 /// The lines on bytes that are no text.
@@ -138,6 +156,9 @@ pub fn about_script(alloc: Global, bytes: &[u8], line: usize) -> Result<String, 
     let kind = kind_of(alloc, bytes);
     if is_other(kind) {
         return about_kind(alloc, kind);
+    }
+    if line == 1 && bytes.starts_with(BYTE_ORDER_MARK) {
+        return about_byte_order_mark(alloc, "SCRIPT");
     }
     match text_or_line(bytes) {
         Ok(text) => about_line(alloc, text, line),

@@ -2,16 +2,19 @@
 
 /// A mistake in a line: after how many bytes of the line the wrong piece begins, the piece, what is wrong with it, and what was expected.
 #[derive(Clone, Copy, Debug, PartialEq, Eq)]
-pub(crate) struct Mistake<'a> {
+pub(crate) struct LineMistake<'a> {
     pub before: usize,
     pub piece: &'a str,
     pub what: &'static str,
     pub expected: &'static str,
 }
 
-/// What a mark at the line's first wrong byte says.
+/// A mark, what is wrong where a line has it, and what was expected.
+pub(crate) type Mark = (&'static str, &'static str, &'static str);
+
+/// The marks of a script.
 #[rattlefmt::skip]
-const MARKS: [(&str, &str, &str); 6] = [
+const MARKS: [Mark; 6] = [
     ("#",  "a comment: a script has none",              "a command, and then the end of the line"),
     (";",  "a comment: a script has none",              "a command, and then the end of the line"),
     ("//", "a comment: a script has none",              "a command, and then the end of the line"),
@@ -29,7 +32,7 @@ fn before_mark(line: &str, mark: &str) -> Option<usize> {
 }
 
 /// Whether this is fewer than another mark has before it, or there is no other mark.
-fn comes_first(before: usize, first: Option<Mistake<'_>>) -> bool {
+fn comes_first(before: usize, first: Option<LineMistake<'_>>) -> bool {
     match first {
         Some(mistake) => before < mistake.before,
         None => true,
@@ -37,13 +40,13 @@ fn comes_first(before: usize, first: Option<Mistake<'_>>) -> bool {
 }
 
 /// The mistake of the first of the marks that the line has.
-fn mark_mistake(line: &str) -> Option<Mistake<'_>> {
-    let mut first: Option<Mistake<'_>> = None;
-    for (mark, what, expected) in &MARKS {
+pub(crate) fn mark_mistake<'a>(line: &'a str, marks: &[Mark]) -> Option<LineMistake<'a>> {
+    let mut first: Option<LineMistake<'a>> = None;
+    for (mark, what, expected) in marks {
         if let Some(before) = before_mark(line, *mark)
             && comes_first(before, first)
         {
-            first = Some(Mistake {
+            first = Some(LineMistake {
                 before,
                 piece: *mark,
                 what: *what,
@@ -66,9 +69,9 @@ fn no_ascii(line: &str) -> Option<(usize, &str)> {
 }
 
 /// The mistake in the line's bytes or spaces that comes first, if there is one.
-pub(crate) fn spacing_mistake(line: &str) -> Option<Mistake<'_>> {
+pub(crate) fn spacing_mistake(line: &str) -> Option<LineMistake<'_>> {
     if line.is_empty() {
-        return Some(Mistake {
+        return Some(LineMistake {
             before: 0,
             piece: "",
             what: "an empty line",
@@ -76,26 +79,31 @@ pub(crate) fn spacing_mistake(line: &str) -> Option<Mistake<'_>> {
         });
     }
     if let Some((before, piece)) = no_ascii(line) {
-        return Some(Mistake {
+        return Some(LineMistake {
             before,
             piece,
             what: "a letter outside ASCII",
             expected: "plain ASCII text",
         });
     }
-    if let Some(mistake) = mark_mistake(line) {
-        return Some(mistake);
+    match mark_mistake(line, &MARKS) {
+        Some(mistake) => Some(mistake),
+        None => outer_space(line, "the number of a frame"),
     }
+}
+
+/// The mistake of a space before the line's first word, where this is expected, or behind its last one.
+pub(crate) fn outer_space<'a>(line: &'a str, expected: &'static str) -> Option<LineMistake<'a>> {
     if line.starts_with(" ") {
-        return Some(Mistake {
+        return Some(LineMistake {
             before: 0,
             piece: " ",
             what: "a space at the line's beginning",
-            expected: "the number of a frame",
+            expected,
         });
     }
     match line.strip_suffix(" ") {
-        Some(front) => Some(Mistake {
+        Some(front) => Some(LineMistake {
             before: front.len(),
             piece: " ",
             what: "a space at the line's end",

@@ -1,11 +1,11 @@
 //! What is wrong with the words of a line of a script.
 
-use crate::spacing::Mistake;
+use crate::spacing::LineMistake;
 use text_lines::{count_of, cut};
 
 /// What a word of a command is.
 #[derive(Clone, Copy, Debug, PartialEq, Eq)]
-enum Part {
+enum WordKind {
     Frame,
     Command,
     Address,
@@ -19,12 +19,12 @@ enum Part {
 
 /// The words behind a command's name.
 #[rattlefmt::skip]
-fn parts_of(command: &str) -> &'static [Part] {
+fn parts_of(command: &str) -> &'static [WordKind] {
     match command {
-        "vip" => &[Part::Address, Part::Port, Part::Protocol, Part::Flag],
-        "up" => &[Part::Backend, Part::Address],
-        "down" => &[Part::Backend],
-        "gateway" => &[Part::Address, Part::Mac, Part::Mac],
+        "vip" => &[WordKind::Address, WordKind::Port, WordKind::Protocol, WordKind::Flag],
+        "up" => &[WordKind::Backend, WordKind::Address],
+        "down" => &[WordKind::Backend],
+        "gateway" => &[WordKind::Address, WordKind::Mac, WordKind::Mac],
         _ => &[],
     }
 }
@@ -42,16 +42,16 @@ pub(crate) fn example_of(command: &str) -> &'static str {
 }
 
 #[rattlefmt::skip]
-fn expected_of(part: Part) -> &'static str {
+fn expected_of(part: WordKind) -> &'static str {
     match part {
-        Part::Frame => "how many frames come before the command: 0 to 4294967295, in decimal digits",
-        Part::Command => "vip, up, down or gateway, in lower case",
-        Part::Address => "an address as 192.0.2.1: four numbers from 0 to 255 with dots between them",
-        Part::Port => "a port: 0 to 65535, in decimal digits",
-        Part::Protocol => "tcp or udp, in lower case",
-        Part::Flag => "notrack, or the end of the line",
-        Part::Backend => "a backend's number, in decimal digits",
-        Part::Mac => "an Ethernet address as 02:00:00:00:00:0a: six pairs of hexadecimal digits in lower case with colons between them",
+        WordKind::Frame => "how many frames come before the command: 0 to 4294967295, in decimal digits",
+        WordKind::Command => "vip, up, down or gateway, in lower case",
+        WordKind::Address => "an address as 192.0.2.1: four numbers from 0 to 255 with dots between them",
+        WordKind::Port => "a port: 0 to 65535, in decimal digits",
+        WordKind::Protocol => "tcp or udp, in lower case",
+        WordKind::Flag => "notrack, or the end of the line",
+        WordKind::Backend => "a backend's number, in decimal digits",
+        WordKind::Mac => "an Ethernet address as 02:00:00:00:00:0a: six pairs of hexadecimal digits in lower case with colons between them",
     }
 }
 
@@ -195,30 +195,30 @@ fn command_problem(word: &str) -> Option<&'static str> {
 }
 
 /// What is wrong with a word that should be this.
-fn problem_of(part: Part, word: &str) -> Option<&'static str> {
-    if word.is_empty() && part != Part::Flag {
+fn problem_of(part: WordKind, word: &str) -> Option<&'static str> {
+    if word.is_empty() && part != WordKind::Flag {
         return Some("a word is missing");
     }
     match part {
-        Part::Frame => number_problem(word, u32::MAX),
-        Part::Command => command_problem(word),
-        Part::Address => address_problem(word),
-        Part::Port => number_problem(word, 65535),
-        Part::Protocol => protocol_problem(word),
-        Part::Flag => if word.is_empty() {
+        WordKind::Frame => number_problem(word, u32::MAX),
+        WordKind::Command => command_problem(word),
+        WordKind::Address => address_problem(word),
+        WordKind::Port => number_problem(word, 65535),
+        WordKind::Protocol => protocol_problem(word),
+        WordKind::Flag => if word.is_empty() {
             None
         } else {
             flag_problem(word)
         },
-        Part::Backend => number_problem(word, u32::MAX),
-        Part::Mac => mac_problem(word),
+        WordKind::Backend => number_problem(word, u32::MAX),
+        WordKind::Mac => mac_problem(word),
     }
 }
 
-/// The mistake in a word that should be this, behind so many bytes of the line.
-fn word_mistake(part: Part, before: usize, piece: &str) -> Option<Mistake<'_>> {
+/// The mistake in a word that should be this, behind the first `before` bytes of the line.
+fn word_mistake(part: WordKind, before: usize, piece: &str) -> Option<LineMistake<'_>> {
     match problem_of(part, piece) {
-        Some(what) => Some(Mistake {
+        Some(what) => Some(LineMistake {
             before,
             piece,
             what,
@@ -229,7 +229,7 @@ fn word_mistake(part: Part, before: usize, piece: &str) -> Option<Mistake<'_>> {
 }
 
 /// The mistake in the words behind a command's name.
-fn list_mistake<'a>(command: &str, before: usize, list: &'a str) -> Option<Mistake<'a>> {
+fn list_mistake<'a>(command: &str, before: usize, list: &'a str) -> Option<LineMistake<'a>> {
     let mut at = before;
     let mut rest = list;
     for part in parts_of(command) {
@@ -243,7 +243,7 @@ fn list_mistake<'a>(command: &str, before: usize, list: &'a str) -> Option<Mista
     if rest.is_empty() {
         return None;
     }
-    Some(Mistake {
+    Some(LineMistake {
         before: at,
         piece: rest,
         what: "one word too many",
@@ -259,22 +259,22 @@ pub(crate) fn command_in(line: &str) -> &str {
 }
 
 /// The first mistake in the words of a line with single spaces between them, after a line whose frame is this.
-pub(crate) fn words_mistake(line: &str, least: u32) -> Option<Mistake<'_>> {
+pub(crate) fn words_mistake(line: &str, least: u32) -> Option<LineMistake<'_>> {
     let (frame, action) = cut(line, ' ');
     let (command, list) = cut(action, ' ');
     let second = frame.len().saturating_add(1);
     let third = second.saturating_add(command.len()).saturating_add(1);
-    if let Some(mistake) = word_mistake(Part::Frame, 0, frame) {
+    if let Some(mistake) = word_mistake(WordKind::Frame, 0, frame) {
         return Some(mistake);
     }
-    if let Some(mistake) = word_mistake(Part::Command, second, command) {
+    if let Some(mistake) = word_mistake(WordKind::Command, second, command) {
         return Some(mistake);
     }
     if let Some(mistake) = list_mistake(command, third, list) {
         return Some(mistake);
     }
     if count_of(frame) < least {
-        return Some(Mistake {
+        return Some(LineMistake {
             before: 0,
             piece: frame,
             what: "below the number of the line before",

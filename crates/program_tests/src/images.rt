@@ -4,8 +4,8 @@ use crate::asserting::{holds, prints, same, same_at, same_fact};
 use crate::programs::image_of;
 use ebpf_decode::*;
 use isa::{
-    AluOp, AtomicOp, ByteOrder, Extension, Register, ShortExtension, Size, Source, SwapWidth, Test,
-    Width,
+    AluOp, AtomicOp, ByteOrder, Extension, Register, ShortExtension, Size, SourceOperand,
+    SwapWidth, Test, Width,
 };
 use std::alloc::{AllocError, Global};
 use std::process::Abort;
@@ -219,13 +219,13 @@ fn wide_instructions(rt: HostRuntime) -> Result<(), Fail> {
 #[rattlefmt::skip]
 static INSTRUCTIONS: [(&str, Insn, [u8; 8]); 19] = [
     ("add K, negative",
-        Insn::Alu { width: Width::Bits64, op: AluOp::Add, dst: Register::R1, source: Source::Imm(-5) },
+        Insn::Alu { width: Width::Bits64, op: AluOp::Add, dst: Register::R1, source: SourceOperand::Imm(-5) },
         [0x07, 0x01, 0x00, 0x00, 0xfb, 0xff, 0xff, 0xff]),
     ("sdiv X",
-        Insn::Alu { width: Width::Bits32, op: AluOp::Sdiv, dst: Register::R3, source: Source::Reg(Register::R4) },
+        Insn::Alu { width: Width::Bits32, op: AluOp::Sdiv, dst: Register::R3, source: SourceOperand::Reg(Register::R4) },
         [0x3c, 0x43, 0x01, 0x00, 0x00, 0x00, 0x00, 0x00]),
     ("mov X",
-        Insn::Alu { width: Width::Bits64, op: AluOp::Mov, dst: Register::R2, source: Source::Reg(Register::R10) },
+        Insn::Alu { width: Width::Bits64, op: AluOp::Mov, dst: Register::R2, source: SourceOperand::Reg(Register::R10) },
         [0xbf, 0xa2, 0x00, 0x00, 0x00, 0x00, 0x00, 0x00]),
     ("neg",
         Insn::Neg { width: Width::Bits32, dst: Register::R9 },
@@ -249,10 +249,10 @@ static INSTRUCTIONS: [(&str, Insn, [u8; 8]); 19] = [
         Insn::Ja32 { distance: 70000 },
         [0x06, 0x00, 0x00, 0x00, 0x70, 0x11, 0x01, 0x00]),
     ("jeq K",
-        Insn::JumpIf { width: Width::Bits64, test: Test::Eq, dst: Register::R0, source: Source::Imm(0), distance: 3 },
+        Insn::JumpIf { width: Width::Bits64, test: Test::Eq, dst: Register::R0, source: SourceOperand::Imm(0), distance: 3 },
         [0x15, 0x00, 0x03, 0x00, 0x00, 0x00, 0x00, 0x00]),
     ("jslt X, low halves",
-        Insn::JumpIf { width: Width::Bits32, test: Test::Slt, dst: Register::R5, source: Source::Reg(Register::R6), distance: 1 },
+        Insn::JumpIf { width: Width::Bits32, test: Test::Slt, dst: Register::R5, source: SourceOperand::Reg(Register::R6), distance: 1 },
         [0xce, 0x65, 0x01, 0x00, 0x00, 0x00, 0x00, 0x00]),
     ("ldxw",
         Insn::Ldx { size: Size::U32, dst: Register::R2, src: Register::R1, offset: 4 },

@@ -3,14 +3,14 @@
 use crate::judged_programs::is_judged;
 use ebpf_decode::{Insn, MapDef, MapKind, Version};
 use isa::Register::{R0, R1, R2, R3, R4, R5, R6, R10};
-use isa::{AluOp, AtomicOp, Size, Source, Test, Width};
+use isa::{AluOp, AtomicOp, Size, SourceOperand, Test, Width};
 use std::test::Fail;
 use test_support::{address, alu, atomic, jump, load, store};
 use verifier::*;
 
 const EXIT: Insn = Insn::Exit;
 
-const NUMBER: Insn = alu!(AluOp::Mov, R5, Source::Imm(3));
+const NUMBER: Insn = alu!(AluOp::Mov, R5, SourceOperand::Imm(3));
 
 const ADD_COUNT: Insn = atomic!(Width::Bits64, AtomicOp::AtomicAdd, R6, 0, R5);
 
@@ -63,23 +63,23 @@ const START: Insn = load!(Size::U32, R2, R1, 0);
 
 const END: Insn = load!(Size::U32, R3, R1, 4);
 
-const PLACE: Insn = alu!(AluOp::Mov, R4, Source::Reg(R2));
+const PLACE: Insn = alu!(AluOp::Mov, R4, SourceOperand::Reg(R2));
 
-const ADD_14: Insn = alu!(AluOp::Add, R4, Source::Imm(14));
+const ADD_14: Insn = alu!(AluOp::Add, R4, SourceOperand::Imm(14));
 
-const PASS: Insn = alu!(AluOp::Mov, R0, Source::Imm(2));
+const PASS: Insn = alu!(AluOp::Mov, R0, SourceOperand::Imm(2));
 
-const JGT_4: Insn = jump!(Test::Gt, R4, Source::Reg(R3), 4);
+const JGT_4: Insn = jump!(Test::Gt, R4, SourceOperand::Reg(R3), 4);
 
-const JGT_5: Insn = jump!(Test::Gt, R4, Source::Reg(R3), 5);
+const JGT_5: Insn = jump!(Test::Gt, R4, SourceOperand::Reg(R3), 5);
 
 const BYTE: Insn = load!(Size::U8, R5, R2, 13);
 
-const ADD_BYTE: Insn = alu!(AluOp::Add, R6, Source::Reg(R5));
+const ADD_BYTE: Insn = alu!(AluOp::Add, R6, SourceOperand::Reg(R5));
 
-const AND_254: Insn = alu!(AluOp::And, R5, Source::Imm(254));
+const AND_254: Insn = alu!(AluOp::And, R5, SourceOperand::Imm(254));
 
-const AND_252: Insn = alu!(AluOp::And, R5, Source::Imm(252));
+const AND_252: Insn = alu!(AluOp::And, R5, SourceOperand::Imm(252));
 
 const STORE_1: Insn = store!(Size::U8, R6, 0, 3);
 

@@ -3,7 +3,7 @@
 use crate::asserting::{prints, same, same_fact};
 use crate::programs::{image_of, repeated};
 use ebpf_decode::{Insn, MapDef, MapKind, Version};
-use isa::{AluOp, AtomicOp, Register, Size, Source, Test, Width};
+use isa::{AluOp, AtomicOp, Register, Size, SourceOperand, Test, Width};
 use std::alloc::Global;
 use std::process::Abort;
 use std::test::Fail;
@@ -22,21 +22,21 @@ const PASS: Insn = Insn::Alu {
     width: Width::Bits64,
     op: AluOp::Mov,
     dst: Register::R0,
-    source: Source::Imm(2),
+    source: SourceOperand::Imm(2),
 };
 
 const LEAK: Insn = Insn::Alu {
     width: Width::Bits64,
     op: AluOp::Mov,
     dst: Register::R0,
-    source: Source::Reg(Register::R1),
+    source: SourceOperand::Reg(Register::R1),
 };
 
 const OVER_R10: Insn = Insn::Alu {
     width: Width::Bits64,
     op: AluOp::Mov,
     dst: Register::R10,
-    source: Source::Imm(1),
+    source: SourceOperand::Imm(1),
 };
 
 const JA_1: Insn = Insn::Ja { distance: 1 };
@@ -73,21 +73,21 @@ const PLACE: Insn = Insn::Alu {
     width: Width::Bits64,
     op: AluOp::Mov,
     dst: Register::R4,
-    source: Source::Reg(Register::R2),
+    source: SourceOperand::Reg(Register::R2),
 };
 
 const ADD_14: Insn = Insn::Alu {
     width: Width::Bits64,
     op: AluOp::Add,
     dst: Register::R4,
-    source: Source::Imm(14),
+    source: SourceOperand::Imm(14),
 };
 
 const JGT_1: Insn = Insn::JumpIf {
     width: Width::Bits64,
     test: Test::Gt,
     dst: Register::R4,
-    source: Source::Reg(Register::R3),
+    source: SourceOperand::Reg(Register::R3),
     distance: 1,
 };
 
@@ -95,7 +95,7 @@ const JGE_1: Insn = Insn::JumpIf {
     width: Width::Bits64,
     test: Test::Ge,
     dst: Register::R4,
-    source: Source::Reg(Register::R3),
+    source: SourceOperand::Reg(Register::R3),
     distance: 1,
 };
 
@@ -103,7 +103,7 @@ const JGT_6: Insn = Insn::JumpIf {
     width: Width::Bits64,
     test: Test::Gt,
     dst: Register::R4,
-    source: Source::Reg(Register::R3),
+    source: SourceOperand::Reg(Register::R3),
     distance: 6,
 };
 
@@ -153,14 +153,14 @@ const ADD_LENGTH: Insn = Insn::Alu {
     width: Width::Bits64,
     op: AluOp::Add,
     dst: Register::R2,
-    source: Source::Reg(Register::R5),
+    source: SourceOperand::Reg(Register::R5),
 };
 
 const ADD_1: Insn = Insn::Alu {
     width: Width::Bits64,
     op: AluOp::Add,
     dst: Register::R4,
-    source: Source::Imm(1),
+    source: SourceOperand::Imm(1),
 };
 
 // A lookup in map 0.
@@ -175,14 +175,14 @@ const KEY_AT: Insn = Insn::Alu {
     width: Width::Bits64,
     op: AluOp::Mov,
     dst: Register::R2,
-    source: Source::Reg(Register::R10),
+    source: SourceOperand::Reg(Register::R10),
 };
 
 const KEY_DOWN: Insn = Insn::Alu {
     width: Width::Bits64,
     op: AluOp::Add,
     dst: Register::R2,
-    source: Source::Imm(-4),
+    source: SourceOperand::Imm(-4),
 };
 
 const MAP: Insn = Insn::Ldmap {
@@ -196,7 +196,7 @@ const JEQ_NULL: Insn = Insn::JumpIf {
     width: Width::Bits64,
     test: Test::Eq,
     dst: Register::R0,
-    source: Source::Imm(0),
+    source: SourceOperand::Imm(0),
     distance: 1,
 };
 
@@ -204,7 +204,7 @@ const JNE_NULL: Insn = Insn::JumpIf {
     width: Width::Bits64,
     test: Test::Ne,
     dst: Register::R0,
-    source: Source::Imm(0),
+    source: SourceOperand::Imm(0),
     distance: 1,
 };
 
@@ -219,7 +219,7 @@ const COPY: Insn = Insn::Alu {
     width: Width::Bits64,
     op: AluOp::Mov,
     dst: Register::R6,
-    source: Source::Reg(Register::R0),
+    source: SourceOperand::Reg(Register::R0),
 };
 
 const COPY_VALUE: Insn = Insn::Ldx {
@@ -318,21 +318,21 @@ const VALUE_AT: Insn = Insn::Alu {
     width: Width::Bits64,
     op: AluOp::Mov,
     dst: Register::R3,
-    source: Source::Reg(Register::R10),
+    source: SourceOperand::Reg(Register::R10),
 };
 
 const VALUE_DOWN: Insn = Insn::Alu {
     width: Width::Bits64,
     op: AluOp::Add,
     dst: Register::R3,
-    source: Source::Imm(-16),
+    source: SourceOperand::Imm(-16),
 };
 
 const FLAGS: Insn = Insn::Alu {
     width: Width::Bits64,
     op: AluOp::Mov,
     dst: Register::R4,
-    source: Source::Imm(0),
+    source: SourceOperand::Imm(0),
 };
 
 const UPDATE: Insn = Insn::CallHelper { helper: 2 };
@@ -343,14 +343,14 @@ const ONE: Insn = Insn::Alu {
     width: Width::Bits64,
     op: AluOp::Mov,
     dst: Register::R1,
-    source: Source::Imm(1),
+    source: SourceOperand::Imm(1),
 };
 
 const JEQ_NULL_3: Insn = Insn::JumpIf {
     width: Width::Bits64,
     test: Test::Eq,
     dst: Register::R0,
-    source: Source::Imm(0),
+    source: SourceOperand::Imm(0),
     distance: 3,
 };
 
@@ -387,7 +387,7 @@ const BACK_20: Insn = Insn::Alu {
     width: Width::Bits64,
     op: AluOp::Mov,
     dst: Register::R2,
-    source: Source::Imm(-20),
+    source: SourceOperand::Imm(-20),
 };
 
 const MOVE_HEAD: Insn = Insn::CallHelper { helper: 44 };

@@ -8,7 +8,7 @@ use crate::straight_code::{
 use abstract_state::{BrokenRule, Kind};
 use ebpf_decode::Insn;
 use isa::Register::{R0, R1, R2, R3, R4, R6, R7, R10};
-use isa::{AtomicOp, Register, Size, Source, Test, Width};
+use isa::{AtomicOp, Register, Size, SourceOperand, Test, Width};
 use test_support::{add, atomic, jump, load, mov, number, put, store};
 
 const UPDATE: Insn = Insn::CallHelper { helper: 2 };
@@ -123,7 +123,7 @@ static LEFT: [(&str, &[Insn], Register, Result<Kind, BrokenRule>); 10] = [
     ("a packet pointer of before is unset", &[load!(Size::U32, R6, R1, 0), BACK_20, MOVE_HEAD, load!(Size::U8, R0, R6, 0)], R0,
         Err(BrokenRule::UnsetRegister(R6))),
     ("the end of before is unset",
-        &[load!(Size::U32, R6, R1, 4), CONTEXT, BACK_20, MOVE_HEAD, load!(Size::U32, R4, R7, 0), jump!(Test::Gt, R4, Source::Reg(R6))], R0,
+        &[load!(Size::U32, R6, R1, 4), CONTEXT, BACK_20, MOVE_HEAD, load!(Size::U32, R4, R7, 0), jump!(Test::Gt, R4, SourceOperand::Reg(R6))], R0,
         Err(BrokenRule::UnsetRegister(R6))),
     ("a spilled one reads as unset bytes",
         &[load!(Size::U32, R6, R1, 0), put!(Size::U64, R10, -8, R6), BACK_20, MOVE_HEAD, load!(Size::U64, R4, R10, -8)], R0,

@@ -6,7 +6,7 @@ use ebpf_decode::{Insn, Version, decode};
 use image_shape::{
     ShapeFault, check_shape, edges_go_up, falls_through, one_answer, runs_follow_edges,
 };
-use isa::{AluOp, Register, Source, Test, Width};
+use isa::{AluOp, Register, SourceOperand, Test, Width};
 use std::alloc::Global;
 use std::process::Abort;
 use std::test::Fail;
@@ -16,7 +16,7 @@ const MOV: Insn = Insn::Alu {
     width: Width::Bits64,
     op: AluOp::Mov,
     dst: Register::R0,
-    source: Source::Imm(2),
+    source: SourceOperand::Imm(2),
 };
 
 const LDDW: Insn = Insn::Lddw {
@@ -55,7 +55,7 @@ const JEQ_BACK: Insn = Insn::JumpIf {
     width: Width::Bits64,
     test: Test::Eq,
     dst: Register::R0,
-    source: Source::Imm(0),
+    source: SourceOperand::Imm(0),
     distance: -1,
 };
 
@@ -63,7 +63,7 @@ const JEQ: Insn = Insn::JumpIf {
     width: Width::Bits64,
     test: Test::Eq,
     dst: Register::R0,
-    source: Source::Imm(0),
+    source: SourceOperand::Imm(0),
     distance: 0,
 };
 
@@ -71,7 +71,7 @@ const JEQ_1: Insn = Insn::JumpIf {
     width: Width::Bits32,
     test: Test::Eq,
     dst: Register::R0,
-    source: Source::Imm(0),
+    source: SourceOperand::Imm(0),
     distance: 1,
 };
 
@@ -79,7 +79,7 @@ const JEQ_2: Insn = Insn::JumpIf {
     width: Width::Bits64,
     test: Test::Eq,
     dst: Register::R0,
-    source: Source::Reg(Register::R1),
+    source: SourceOperand::Reg(Register::R1),
     distance: 2,
 };
 

@@ -14,7 +14,7 @@ mod scripted;
 use crate::asserting::{same, same_fact};
 use ebpf_decode::Insn;
 use isa::Register::{R0, R1, R2, R3, R4, R5, R10};
-use isa::{AluOp, Register, Size, Source, Test, Width};
+use isa::{AluOp, Register, Size, SourceOperand, Test, Width};
 use listing::{EXIT, checked};
 use machine::{Exit, Moment, Stop};
 use programs::{MOMENT, accepted, ran};
@@ -50,7 +50,7 @@ fn ends(
 
 #[rattlefmt::skip]
 static HEADS: [(&str, &[Insn], Exit); 6] = [
-    ("a verdict alone", &[Insn::Alu { width: Width::Bits64, op: AluOp::Mov, dst: Register::R0, source: Source::Imm(2) }],
+    ("a verdict alone", &[Insn::Alu { width: Width::Bits64, op: AluOp::Mov, dst: Register::R0, source: SourceOperand::Imm(2) }],
         Exit { verdict: Verdict::Pass, steps: 2 }),
     ("a number above 32 bits", &[Insn::Lddw { dst: Register::R0, value: 0x1_0000_0001 }], Exit { verdict: Verdict::Drop, steps: 2 }),
     ("helper 5 is the time", &[Insn::CallHelper { helper: 5 }], Exit { verdict: Verdict::Tx,   steps: 2 }),
@@ -145,7 +145,7 @@ fn a_byte_that_a_strict_test_covers(rt: HostRuntime) -> Result<(), Fail> {
         mov!(R4, R2),
         add!(R4, 14),
         number!(R0, 2),
-        jump!(Test::Ge, R4, Source::Reg(R3), 1),
+        jump!(Test::Ge, R4, SourceOperand::Reg(R3), 1),
     ];
     let tail = [load!(Size::U8, R0, R2, 14), EXIT];
     for &(name, bytes, want) in &STRICT_ROWS {
@@ -166,10 +166,10 @@ fn a_place_that_the_packet_tells(rt: HostRuntime) -> Result<(), Fail> {
     let head = checked!(14, 6);
     let tail = [
         load!(Size::U8, R5, R2, 13),
-        alu!(AluOp::Add, R2, Source::Reg(R5)),
+        alu!(AluOp::Add, R2, SourceOperand::Reg(R5)),
         mov!(R4, R2),
         add!(R4, 1),
-        jump!(Test::Gt, R4, Source::Reg(R3), 1),
+        jump!(Test::Gt, R4, SourceOperand::Reg(R3), 1),
         load!(Size::U8, R0, R2, 0),
         EXIT,
     ];
@@ -188,7 +188,7 @@ static MOMENTS: [(&str, i32, Verdict); 2] = [
     ("the low 32 bits of the time are 1",       5, Verdict::Drop),
 ];
 
-/// Each worker is told its own number, and each run its own time.
+/// Each run has its own time and the number of its worker.
 #[test]
 fn each_run_has_its_moment(rt: HostRuntime) -> Result<(), Fail> {
     let moment = Moment {
@@ -266,7 +266,10 @@ static JUMPS: [(&str, i32, Insn, Exit); 4] = [
 #[test]
 fn jumps_over_slots(rt: HostRuntime) -> Result<(), Fail> {
     for &(name, number, jump, want) in &JUMPS {
-        let head = [number!(R0, number), jump!(Test::Eq, R0, Source::Imm(2), 2)];
+        let head = [
+            number!(R0, number),
+            jump!(Test::Eq, R0, SourceOperand::Imm(2), 2),
+        ];
         let tail = [number!(R0, 1), jump, number!(R0, 3), EXIT];
         ends(&rt, rt.alloc(), &MOMENT, &head, &tail, &[0; 14], want, name)?;
     }

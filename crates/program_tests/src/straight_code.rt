@@ -6,7 +6,7 @@ use crate::rows::scalar;
 use abstract_state::{BrokenRule, Kind, Offsets, Site, State, Way};
 use ebpf_decode::{Insn, MapDef, MapKind, Version};
 use isa::Register::{R0, R1, R2, R3, R4, R5, R6, R10};
-use isa::{AluOp, AtomicOp, Extension, Register, Size, Source, Test, Width};
+use isa::{AluOp, AtomicOp, Extension, Register, Size, SourceOperand, Test, Width};
 use std::process::Abort;
 use test_support::{add, alu, jump, load, mov, number, put, store};
 
@@ -31,7 +31,7 @@ pub(crate) const PLACE: Insn = mov!(R4, R2);
 
 pub(crate) const ADD_14: Insn = add!(R4, 14);
 
-pub(crate) const JGT: Insn = jump!(Test::Gt, R4, Source::Reg(R3));
+pub(crate) const JGT: Insn = jump!(Test::Gt, R4, SourceOperand::Reg(R3));
 
 // A lookup in map 0 of the key 7, and its null test.
 pub(crate) const KEY: Insn = store!(Size::U32, R10, -4, 7);
@@ -44,7 +44,7 @@ pub(crate) const MAP: Insn = Insn::Ldmap { dst: R1, map: 0 };
 
 pub(crate) const LOOKUP: Insn = Insn::CallHelper { helper: 1 };
 
-pub(crate) const JEQ: Insn = jump!(Test::Eq, R0, Source::Imm(0));
+pub(crate) const JEQ: Insn = jump!(Test::Eq, R0, SourceOperand::Imm(0));
 
 /// The kind of a register after some instructions, or the first rule that one of them breaks.
 fn known_after(code: &[Insn], taken: bool, register: Register) -> Result<Kind, BrokenRule> {
@@ -150,16 +150,16 @@ fn registers_after_straight_code(rt: HostRuntime) {
 static EDGES: [(&str, &[Insn], bool, Register, Kind); 12] = [
     ("at most the end: so many bytes", &[START, END, PLACE, ADD_14, JGT], false, R2, COVERED),
     ("past the end: nothing", &[START, END, PLACE, ADD_14, JGT], true, R2, FORGOTTEN),
-    ("before the end: one more", &[START, END, PLACE, ADD_14, jump!(Test::Ge, R4, Source::Reg(R3))], false, R2, ONE_MORE),
-    ("taken below the end: one more", &[START, END, PLACE, ADD_14, jump!(Test::Lt, R4, Source::Reg(R3))], true, R2, ONE_MORE),
-    ("the end above a place: one more", &[START, END, PLACE, ADD_14, jump!(Test::Gt, R3, Source::Reg(R4))], true, R2, ONE_MORE),
-    ("the end not below a place: so many", &[START, END, PLACE, ADD_14, jump!(Test::Lt, R3, Source::Reg(R4))], false, R2, COVERED),
+    ("before the end: one more", &[START, END, PLACE, ADD_14, jump!(Test::Ge, R4, SourceOperand::Reg(R3))], false, R2, ONE_MORE),
+    ("taken below the end: one more", &[START, END, PLACE, ADD_14, jump!(Test::Lt, R4, SourceOperand::Reg(R3))], true, R2, ONE_MORE),
+    ("the end above a place: one more", &[START, END, PLACE, ADD_14, jump!(Test::Gt, R3, SourceOperand::Reg(R4))], true, R2, ONE_MORE),
+    ("the end not below a place: so many", &[START, END, PLACE, ADD_14, jump!(Test::Lt, R3, SourceOperand::Reg(R4))], false, R2, COVERED),
     ("a spilled copy is told too", &[START, END, PLACE, ADD_14, put!(Size::U64, R10, -8, R2), JGT, load!(Size::U64, R6, R10, -8)], false, R6, COVERED),
     ("null where equal", &[KEY, KEY_AT, KEY_DOWN, MAP, LOOKUP, JEQ], true, R0, scalar!(0, 0)),
     ("a value where not equal", &[KEY, KEY_AT, KEY_DOWN, MAP, LOOKUP, JEQ], false, R0, VALUE),
-    ("a value where jne is taken", &[KEY, KEY_AT, KEY_DOWN, MAP, LOOKUP, jump!(Test::Ne, R0, Source::Imm(0))], true, R0, VALUE),
+    ("a value where jne is taken", &[KEY, KEY_AT, KEY_DOWN, MAP, LOOKUP, jump!(Test::Ne, R0, SourceOperand::Imm(0))], true, R0, VALUE),
     ("all copies are told", &[KEY, KEY_AT, KEY_DOWN, MAP, LOOKUP, mov!(R6, R0), JEQ], false, R6, VALUE),
-    ("a number is cut", &[KEY, load!(Size::U32, R4, R10, -4), jump!(Test::Gt, R4, Source::Imm(9))], false, R4, scalar!(0, 9)),
+    ("a number is cut", &[KEY, load!(Size::U32, R4, R10, -4), jump!(Test::Gt, R4, SourceOperand::Imm(9))], false, R4, scalar!(0, 9)),
 ];
 
 #[test]
@@ -199,7 +199,7 @@ static BROKEN: [(&str, &[Insn], BrokenRule); 26] = [
     ("a lookup without a map", &[KEY, KEY_AT, KEY_DOWN, LOOKUP], BrokenRule::BadArgument(R1)),
     ("no helper 99, before unset registers", &[Insn::CallHelper { helper: 99 }], BrokenRule::UnknownHelper),
     ("no map 1", &[Insn::Ldmap { dst: R1, map: 1 }], BrokenRule::UnknownMap),
-    ("two pointers added", &[alu!(AluOp::Add, R1, Source::Reg(R10))], BrokenRule::WrongKind(R1)),
+    ("two pointers added", &[alu!(AluOp::Add, R1, SourceOperand::Reg(R10))], BrokenRule::WrongKind(R1)),
     ("a stack pointer past the frame pointer", &[mov!(R2, R10), add!(R2, 1)], BrokenRule::StackBounds),
 ];
 
@@ -287,7 +287,13 @@ fn joined_states(rt: HostRuntime) {
 /// The kind of R10 after eight is taken from it.
 fn moved_down() -> Result<Kind, BrokenRule> {
     let opening = State::opening(Version::V1);
-    let down = opening.after_alu(site(0), Width::Bits64, AluOp::Add, R10, Source::Imm(-8))?;
+    let down = opening.after_alu(
+        site(0),
+        Width::Bits64,
+        AluOp::Add,
+        R10,
+        SourceOperand::Imm(-8),
+    )?;
     Ok(down.kind(R10))
 }
 
@@ -303,6 +309,6 @@ fn states_by_value(rt: HostRuntime) {
     let read = load!(Size::U32, R0, R1, 16);
     let name = "the receive queue is read";
     goes(&rt, name, &mut queue, 0, read, Ok(Way::Falls));
-    let high = queue.refine(Width::Bits64, Test::Gt, R0, Source::Imm(3), true);
+    let high = queue.refine(Width::Bits64, Test::Gt, R0, SourceOperand::Imm(3), true);
     same(&rt, "above 3", &high.kind(R0), &scalar!(4, 7));
 }

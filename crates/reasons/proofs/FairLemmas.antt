@@ -13,8 +13,8 @@ use Rattle.isa.specs.declared.operation.AtomicOp.{AtomicOp}
 use Rattle.isa.specs.declared.operation.AtomicOp.TheVariants.{CompareExchange}
 use Rattle.isa.specs.declared.operation.Extension.{Extension}
 use Rattle.isa.specs.declared.operation.Test.{Test}
-use Rattle.isa.specs.declared.operation.Source.{Source}
-use Rattle.isa.specs.declared.operation.Source.TheVariants.{Imm, Reg}
+use Rattle.isa.specs.declared.operation.SourceOperand.{SourceOperand}
+use Rattle.isa.specs.declared.operation.SourceOperand.TheVariants.{Imm, Reg}
 use Rattle.isa.specs.declared.operation.Register.{Register}
 use Rattle.isa.specs.declared.operation.Register.TheVariants.{R0, R1, R2, R3, R4, R10}
 use Rattle.isa.specs.InstructionCodes.{size_bytes, width_size, extension_size}
@@ -228,7 +228,7 @@ against_packet_fair : (state : State) (kind : Kind) (source : Register) → Asks
 against_packet_fair state (Packet id off range) source = tt
 against_packet_fair state other source = tt
 
-test_fair : (state : State) (width : Width) (test : Test) (kind other : Kind) (dst : Register) (source : Source) →
+test_fair : (state : State) (width : Width) (test : Test) (kind other : Kind) (dst : Register) (source : SourceOperand) →
     Asks state (allowed_test width test kind other dst source)
 test_fair state width test (Scalar i) other dst source = against_scalar_fair state other (blamed dst source)
 test_fair state width test (ValueOrNull map id) other dst source = fair_if state (is_null_test width test source) (Ok tt) (Err (WrongKind dst)) tt tt
@@ -408,15 +408,15 @@ set_fair state kind register e = tt
 reads_fair : (state : State) (register : Register) → Asks state (reads state register)
 reads_fair state register = set_fair state (kind_of state register) register refl
 
-source_fair : (state : State) (source : Source) → Asks state (reads_source state source)
+source_fair : (state : State) (source : SourceOperand) → Asks state (reads_source state source)
 source_fair state (Imm immediate) = tt
 source_fair state (Reg register) = reads_fair state register
 
-both_fair : (state : State) (dst : Register) (source : Source) → Asks state (reads_both state dst source)
+both_fair : (state : State) (dst : Register) (source : SourceOperand) → Asks state (reads_both state dst source)
 both_fair state dst source =
     fair_then state (λ _. Unit {0}) (reads state dst) (λ _. reads_source state source) (reads_fair state dst) (λ _. source_fair state source)
 
-operands_fair : (state : State) (op : AluOp) (dst : Register) (source : Source) → Asks state (reads_operands state op dst source)
+operands_fair : (state : State) (op : AluOp) (dst : Register) (source : SourceOperand) → Asks state (reads_operands state op dst source)
 operands_fair state Mov dst source = source_fair state source
 operands_fair state op dst source = both_fair state dst source
 
@@ -500,13 +500,13 @@ refined_version : (cut : Option Kind) (fact : Fact) (state : State) (dst : Regis
 refined_version (Some kind) fact state dst = refl
 refined_version None fact state dst = refl
 
-edge_version : (state : State) (width : Width) (test : Test) (dst : Register) (source : Source) (taken : Bool) →
+edge_version : (state : State) (width : Width) (test : Test) (dst : Register) (source : SourceOperand) (taken : Bool) →
     (refine_state state width test dst source taken).version ≡ state.version
 edge_version state width test dst source taken =
     refined_version (number_cut width test taken (kind_of state dst) (source_kind state source))
     (fact_of test taken (kind_of state dst) (source_kind state source)) state dst
 
-splits_kept : (state : State) (width : Width) (test : Test) (dst : Register) (source : Source) → Fair state (HasVersion state.version) (test_flow state width test dst source)
+splits_kept : (state : State) (width : Width) (test : Test) (dst : Register) (source : SourceOperand) → Fair state (HasVersion state.version) (test_flow state width test dst source)
 splits_kept state width test dst source =
     fair_then state (HasVersion state.version) (reads_both state dst source)
     (λ _. allowed_test width test (kind_of state dst) (source_kind state source) dst source >>=

@@ -1,7 +1,7 @@
 -- What breaks a rule: the causes of each number, distinguished by the instruction and by what is known before it.
 use Rattle.std.specs.Prelude.{ℕ, ◌+◌, ◌==◌, ℤ, pos, negsuc, ◌+ℤ◌, List, length, Option, Some, None, slice_get, if◌then◌else◌}
-use Rattle.isa.specs.declared.operation.Source.{Source}
-use Rattle.isa.specs.declared.operation.Source.TheVariants.{Imm, Reg}
+use Rattle.isa.specs.declared.operation.SourceOperand.{SourceOperand}
+use Rattle.isa.specs.declared.operation.SourceOperand.TheVariants.{Imm, Reg}
 use Rattle.isa.specs.declared.operation.Register.{Register}
 use Rattle.isa.specs.declared.operation.Register.TheVariants.{R1, R4}
 use Rattle.isa.specs.InstructionCodes.{size_bytes, extension_size, width_size}
@@ -78,7 +78,7 @@ abbrev pub interval_in : Kind → Option Interval
 interval_in (Scalar i) = Some i
 interval_in other = None
 
-abbrev pub moved_by : State → Source → Option Interval
+abbrev pub moved_by : State → SourceOperand → Option Interval
 moved_by state (Reg register) = interval_in (kind_of state register)
 moved_by state (Imm immediate) = None
 

@@ -8,8 +8,8 @@ use Rattle.isa.specs.declared.operation.AtomicOp.{AtomicOp}
 use Rattle.isa.specs.Atomic.{compares_r0}
 use Rattle.isa.specs.declared.operation.Register.{Register}
 use Rattle.isa.specs.declared.operation.Register.TheVariants.{R0, R1, R2, R3, R4}
-use Rattle.isa.specs.declared.operation.Source.{Source}
-use Rattle.isa.specs.declared.operation.Source.TheVariants.{Imm, Reg}
+use Rattle.isa.specs.declared.operation.SourceOperand.{SourceOperand}
+use Rattle.isa.specs.declared.operation.SourceOperand.TheVariants.{Imm, Reg}
 use Rattle.isa.specs.InstructionCodes.{register_number}
 use Rattle.ebpf_decode.specs.declared.insn.Insn.{Insn}
 use Rattle.ebpf_decode.specs.declared.insn.Insn.TheVariants.{Alu, Neg, Movsx, Movsx32, End, JumpIf, Ldx, Ldxs, St, Stx, AtomicUpdate, CallHelper, Exit}
@@ -40,7 +40,7 @@ abbrev pub used_line : State → Option Register → List ℕ
 used_line state (Some register) = register_line state register
 used_line state None = []
 
-abbrev pub source_register : Source → Option Register
+abbrev pub source_register : SourceOperand → Option Register
 source_register (Imm immediate) = None
 source_register (Reg register) = Some register
 

@@ -11,7 +11,7 @@ use abstract_scalar::Interval;
 use abstract_state::{BrokenRule, Kind, State};
 use ebpf_decode::{Insn, MapDef};
 use image_shape::ShapeFault;
-use isa::{Register, Source};
+use isa::{Register, SourceOperand};
 use semantics::Helper;
 
 /// What an instruction does with its operands, as far as the rules distinguish instructions.
@@ -187,7 +187,7 @@ fn source_interval(state: &State, insn: Insn) -> Option<Interval>
 {
     match insn {
         Insn::Alu {
-            source: Source::Reg(register),
+            source: SourceOperand::Reg(register),
             ..
         } => match state.kind(register) {
             Kind::Scalar(i) => Some(i),

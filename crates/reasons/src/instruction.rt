@@ -13,7 +13,7 @@ use crate::wording::{put_kind, put_word};
 use abstract_state::{Kind, STACK_SIZE, StackWord, State};
 use disasm::line;
 use ebpf_decode::{Insn, MapDef};
-use isa::{AluOp, AtomicOp, Register, Source};
+use isa::{AluOp, AtomicOp, Register, SourceOperand};
 use semantics::Helper;
 use std::alloc::{AllocError, Global};
 
@@ -66,12 +66,12 @@ fn put_used_line(
 }
 
 /// The register of a source.
-fn source_register(source: Source) -> Option<Register>
+fn source_register(source: SourceOperand) -> Option<Register>
     ensures { result ≡ source_register source }
 {
     match source {
-        Source::Imm(_) => None,
-        Source::Reg(register) => Some(register),
+        SourceOperand::Imm(_) => None,
+        SourceOperand::Reg(register) => Some(register),
     }
 }
 

@@ -41,7 +41,7 @@ use Rattle.replay.specs.declared.outcome.RecordEnd.{RecordEnd}
 use Rattle.replay.specs.declared.shard_runner.Working.{Working}
 use Rattle.replay.specs.RunsOverShards.{IsNewPass, IsNewAt, IsIdle, IsRunOf, IsRunBy, IsRunIn, IsExit, StopsFor, IsFullAtEnd, pass_in, start_of}
 use Rattle.shards.specs.declared.deeds.Deed.{Deed}
-use Rattle.shards.specs.declared.deeds.Part.TheVariants.{ByCaller}
+use Rattle.shards.specs.declared.deeds.OrderPart.TheVariants.{ByCaller}
 use Rattle.shards.specs.Deeds.{deeds_of}
 use Rattle.replay.specs.Accounted.{IsWorkOf}
 

@@ -18,7 +18,7 @@ use Rattle.shard_core.specs.JournaledShard.{JournaledShard, opened_shard}
 use Rattle.shards.specs.CallerView.{CallerView, BeginsWith, nothing_seen}
 use Rattle.shards.specs.NewShards.{shard_at}
 use Rattle.shards.specs.SharedMaps.{ArePlans}
-use Rattle.shards.specs.declared.deeds.Part.TheVariants.{ByCaller}
+use Rattle.shards.specs.declared.deeds.OrderPart.TheVariants.{ByCaller}
 use Rattle.shards.specs.Deeds.{deeds_of, made_on}
 use Rattle.shards.specs.Passes.{PassView, view_at, seen_at, AreSettled}
 use Rattle.shard_port.specs.PassSessions.{WritesOwnSessions, WritesRefusedOwnSessions}

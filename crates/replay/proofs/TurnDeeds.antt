@@ -17,7 +17,7 @@ use Rattle.shards.specs.LockRule.{no_plan}
 use Rattle.shards.specs.NewShards.{shard_at}
 use Rattle.shards.specs.declared.deeds.Deed.{Deed}
 use Rattle.shards.specs.declared.deeds.Deed.TheVariants.{Wrote, MetFull}
-use Rattle.shards.specs.declared.deeds.Part.TheVariants.{ByCaller}
+use Rattle.shards.specs.declared.deeds.OrderPart.TheVariants.{ByCaller}
 use Rattle.shards.specs.Deeds.{shard_of_deed, caller_of_deed, deeds_of, made_on, AreMet, AreWithin}
 use Rattle.shards.specs.Passes.{PassView, view_at, own_at, seen_at, IsElsewhereSame}
 

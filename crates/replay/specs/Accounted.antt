@@ -9,7 +9,7 @@ use Rattle.semantics.specs.History.{IsLegalJournal}
 use Rattle.semantics.specs.Program.{Program}
 use Rattle.journals.specs.JournalsView.{JournalsView, entries_at}
 use Rattle.shards.specs.declared.deeds.Deed.{Deed}
-use Rattle.shards.specs.declared.deeds.Part.TheVariants.{ByCaller}
+use Rattle.shards.specs.declared.deeds.OrderPart.TheVariants.{ByCaller}
 use Rattle.shards.specs.Deeds.{deeds_of, made_on, AreMet, AreWithin}
 use Rattle.shards.specs.Passes.{PassView, own_at}
 use Rattle.shards.specs.SharedMaps.{ArePlans}

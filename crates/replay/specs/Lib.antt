@@ -7,7 +7,6 @@ pub mod Accounts
 pub mod Crews
 pub mod Actors
 pub mod Settings
-pub mod Resting
 pub mod SharedUpdates
 pub mod SharedLaws
 pub mod Commands

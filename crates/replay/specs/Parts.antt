@@ -10,7 +10,7 @@ use Rattle.semantics.specs.ShardPlan.{are_served_options}
 use Rattle.semantics.specs.History.{IsJournalFull}
 use Rattle.journals.specs.JournalsView.{JournalsView, entries_at}
 use Rattle.shards.specs.declared.deeds.Deed.{Deed}
-use Rattle.shards.specs.declared.deeds.Part.TheVariants.{ByCaller}
+use Rattle.shards.specs.declared.deeds.OrderPart.TheVariants.{ByCaller}
 use Rattle.shards.specs.Deeds.{deeds_of}
 use Rattle.shards.specs.Passes.{PassView}
 use Rattle.rx_queues.specs.declared.job.Job.{Job}

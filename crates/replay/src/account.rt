@@ -62,7 +62,7 @@ fn verdict_for(fate: &FrameFate) -> Verdict
     }
 }
 
-/// What is told of a record of this worker: that it is short, or how its run ended.
+/// The report on a record of this worker: that it is short, or how its run ended.
 pub(crate) fn record_end(worker: u8, fate: &Option<RunEnd>) -> RecordEnd
     ensures { result ≡ record_end worker fate.now }
 {
@@ -111,7 +111,7 @@ fn next_fate(
     Some(end)
 }
 
-/// Counts all records, and gathers what is sent and what is told of each, in the capture's order. Frames are moved from the runs, not
+/// Counts all records, and gathers what is sent and the report on each, in the capture's order. Frames are moved from the runs, not
 /// copied.
 pub(crate) fn account(
     alloc: Global,

@@ -45,7 +45,7 @@ impl<'a, B: Naming, W: Wait, G: Gate> Model for Commander<'a, B, W, G> {
 
 impl<'a, B: Naming, W: Wait, G: Gate> Commander<'a, B, W, G> {
     /// The controller of a script that has applied nothing, with a pass that has seen nothing: for a lookup table of `size` slots,
-    /// which the shards' maps have, or for an empty script. The gate is told of each answer.
+    /// which the shards' maps have, or for an empty script. Each answer goes through the gate.
     pub fn over(
         alloc: Global,
         rt: &'a W,

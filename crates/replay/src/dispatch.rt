@@ -2,20 +2,18 @@
 //! notes to the reclaimer.
 
 ghost use Rattle.std.specs.Prelude.{◌≡◌, ◌<◌, ◌≤◌, ◌+◌, ◌∷◌, [], length, ◌%◌, ◌==◌, slice_index, if◌then◌else◌};
-ghost use Rattle.rx_queues.specs.Passes.{IsPutPassOf, HasQueue, queue_of, with_job_at, workers_of, jobs_put, are_actors_at_rest};
+ghost use Rattle.rx_queues.specs.Passes.{IsPutPassOf, HasQueue, queue_of, with_job_at, workers_of, jobs_put};
 ghost use Rattle.replay.specs.Shares.{frames_of, frame_at, is_short, worker_of_frame};
 ghost use Rattle.replay.specs.Actors.{AreDispatched, ArePutAt, AreHandedOver, AreDue, AreBothEnded};
 ghost use Rattle.replay.specs.Puts.{ArePutWithEnd, with_record};
-ghost use Rattle.replay.specs.Resting.{IsAtRest, AreActorsAtRest};
 ghost use Rattle.rx_queues.specs.declared.job.Job.TheVariants.{Note};
 
-use crate::pace::Pace;
 use rx_queues::{Caller, Job, PutPass, Queues, spread};
 use std::sync::Wait;
 use wire::{Capture, MIN_FRAME, Sent, flow_of};
 
 /// After how many records the reclaimer makes a round.
-const ROUND_EVERY: usize = 64;
+pub(crate) const ROUND_EVERY: usize = 64;
 
 /// The worker that handles a frame: the one of its flow, and worker 0 where it has none.
 pub(crate) fn worker_of(frame: &[u8], workers: usize) -> usize
@@ -36,61 +34,6 @@ pub(crate) fn is_short(sent: &Sent) -> bool
     sent.bytes.len() < MIN_FRAME
 }
 
-/// Waits, in an exact replay, until all that was handed over is done.
-fn rest<R: Wait>(rt: &R, queues: &Queues, put: &mut PutPass, pace: Pace)
-    requires pass { IsPutPassOf queues.now put.old }
-    ensures pass { IsPutPassOf queues.now put.new }
-    ensures put { jobs_put put.new ≡ jobs_put put.old }
-    ensures at_rest { IsAtRest pace put.new }
-    ensures actors { AreActorsAtRest pace put.new }
-{
-    match pace {
-        Pace::Free => {}
-        Pace::Exact => queues.wait_for_rest(rt, put),
-    }
-}
-
-/// Hands a job to the controller or the reclaimer: in an exact replay while all is at rest. Waits while its queue is full.
-fn hand_at_rest<R: Wait>(
-    rt: &R,
-    queues: &Queues,
-    put: &mut PutPass,
-    who: Caller,
-    job: Job,
-    pace: Pace,
-)
-    requires queue { HasQueue (workers_of queues.now) who }
-    requires pass { IsPutPassOf queues.now put.old }
-    requires at_rest { IsAtRest pace put.old }
-    ensures pass { IsPutPassOf queues.now put.new }
-    ensures put { jobs_put put.new ≡ with_job_at (queue_of (workers_of queues.now) who) job (jobs_put put.old) }
-{
-    let _ = pace;
-    queues.put_waiting(rt, who, job, put);
-}
-
-/// Hands a job to the controller or the reclaimer. In an exact replay it waits until all is done that was handed over before, and then
-/// until this job is.
-fn hand_alone<R: Wait>(
-    rt: &R,
-    queues: &Queues,
-    put: &mut PutPass,
-    who: Caller,
-    job: Job,
-    pace: Pace,
-)
-    requires queue { HasQueue (workers_of queues.now) who }
-    requires pass { IsPutPassOf queues.now put.old }
-    ensures pass { IsPutPassOf queues.now put.new }
-    ensures put { jobs_put put.new ≡ with_job_at (queue_of (workers_of queues.now) who) job (jobs_put put.old) }
-    ensures at_rest { IsAtRest pace put.new }
-    ensures actors { AreActorsAtRest pace put.new }
-{
-    rest(rt, queues, put, pace); // until what was handed over before is done
-    hand_at_rest(rt, queues, put, who, job, pace);
-    rest(rt, queues, put, pace); // until this job is done
-}
-
 /// Hands one record to its worker, if it is long enough. Waits while the worker's queue is full.
 fn hand<R: Wait>(
     rt: &R,
@@ -104,7 +47,6 @@ fn hand<R: Wait>(
     requires workers { (workers_of queues.now ≡ workers) × (0 < workers) × (workers ≤ 8) }
     requires pass { IsPutPassOf queues.now put.old }
     ensures pass { IsPutPassOf queues.now put.new }
-    ensures at_rest { are_actors_at_rest put.new ≡ are_actors_at_rest put.old }
     ensures put { jobs_put put.new ≡ with_record (frame_at (frames_of capture.now.records.items) number) workers number (jobs_put put.old) }
 {
     let sent = &capture.records[number];
@@ -121,28 +63,6 @@ fn hand<R: Wait>(
     }
 }
 
-/// The same: in an exact replay while the controller and the reclaimer are at rest, which they stay.
-fn hand_beside_rest<R: Wait>(
-    rt: &R,
-    queues: &Queues,
-    put: &mut PutPass,
-    capture: &Capture,
-    workers: usize,
-    number: usize,
-    pace: Pace,
-)
-    requires number { number < length capture.now.records.items }
-    requires workers { (workers_of queues.now ≡ workers) × (0 < workers) × (workers ≤ 8) }
-    requires pass { IsPutPassOf queues.now put.old }
-    requires actors { AreActorsAtRest pace put.old }
-    ensures pass { IsPutPassOf queues.now put.new }
-    ensures actors { AreActorsAtRest pace put.new }
-    ensures put { jobs_put put.new ≡ with_record (frame_at (frames_of capture.now.records.items) number) workers number (jobs_put put.old) }
-{
-    let _ = pace;
-    hand(rt, queues, put, capture, workers, number);
-}
-
 /// Up to which command those from `next` on are due, once `number` records were dispatched.
 pub(crate) fn due(starts: &[u32], next: usize, number: usize) -> usize
     requires { next ≤ length starts.now }
@@ -157,30 +77,14 @@ pub(crate) fn due(starts: &[u32], next: usize, number: usize) -> usize
 }
 
 /// Hands the commands from `next` on to the controller, up to `end`.
-fn hand_commands<R: Wait>(
-    rt: &R,
-    queues: &Queues,
-    put: &mut PutPass,
-    next: usize,
-    end: usize,
-    pace: Pace,
-)
+fn hand_commands<R: Wait>(rt: &R, queues: &Queues, put: &mut PutPass, next: usize, end: usize)
     requires up { next ≤ end }
     requires pass { IsPutPassOf queues.now put.old }
-    requires actors { AreActorsAtRest pace put.old }
     ensures pass { IsPutPassOf queues.now put.new }
-    ensures actors { AreActorsAtRest pace put.new }
     ensures put { AreHandedOver (workers_of queues.now) next end (jobs_put put.old) (jobs_put put.new) }
 {
     'commands: for number in next..end {
-        hand_alone(
-            rt,
-            queues,
-            put,
-            Caller::Controller,
-            Job::Command(number),
-            pace,
-        );
+        queues.put_waiting(rt, Caller::Controller, Job::Command(number), put);
     }
 }
 
@@ -193,16 +97,14 @@ pub(crate) fn ask_round<R: Wait>(rt: &R, queues: &Queues, put: &mut PutPass)
     queues.put_waiting(rt, Caller::Reclaimer, Job::Note, put);
 }
 
-/// Asks the reclaimer for a round where so many records were dispatched that one is due.
-fn ask_due_round<R: Wait>(rt: &R, queues: &Queues, put: &mut PutPass, number: usize, pace: Pace)
+/// Asks the reclaimer for a round where one is due, by the number of records that were dispatched.
+fn ask_due_round<R: Wait>(rt: &R, queues: &Queues, put: &mut PutPass, number: usize)
     requires pass { IsPutPassOf queues.now put.old }
-    requires actors { AreActorsAtRest pace put.old }
     ensures pass { IsPutPassOf queues.now put.new }
-    ensures actors { AreActorsAtRest pace put.new }
     ensures put { ArePutAt (workers_of queues.now + 1) (if number % 64 == 0 then Note ∷ [] else []) (jobs_put put.old) (jobs_put put.new) }
 {
     if number % ROUND_EVERY == 0 {
-        hand_alone(rt, queues, put, Caller::Reclaimer, Job::Note, pace);
+        ask_round(rt, queues, put);
     }
 }
 
@@ -216,7 +118,6 @@ pub(crate) struct Dispatch<'a> {
     pub starts: &'a [u32],
     pub first: usize,
     pub workers: usize,
-    pub pace: Pace,
     pub ghost few: { (workers_of queues.now ≡ workers) × (0 < workers) × (workers ≤ 8) },
 }
 
@@ -225,17 +126,15 @@ impl<'a> Dispatch<'a> {
     fn hand_due<R: Wait>(&self, rt: &R, put: &mut PutPass, next: usize, number: usize) -> usize
         requires next { next ≤ length self.now.starts.now }
         requires pass { IsPutPassOf self.now.queues.now put.old }
-        requires actors { AreActorsAtRest self.now.pace put.old }
         requires dispatched { AreDispatched (frames_of self.now.capture.now.records.items) self.now.starts.now self.now.workers number
             self.now.first next (jobs_put put.old) }
         ensures pass { IsPutPassOf self.now.queues.now put.new }
-        ensures actors { AreActorsAtRest self.now.pace put.new }
         ensures due { AreDue self.now.starts.now next number result }
         ensures dispatched { AreDispatched (frames_of self.now.capture.now.records.items) self.now.starts.now self.now.workers number
             self.now.first result (jobs_put put.new) }
     {
         let end = due(self.starts, next, number);
-        hand_commands(rt, self.queues, put, next, end, self.pace);
+        hand_commands(rt, self.queues, put, next, end);
         end
     }
 
@@ -244,40 +143,28 @@ impl<'a> Dispatch<'a> {
         requires number { number < length self.now.capture.now.records.items }
         requires none_due { next < length self.now.starts.now → number < slice_index self.now.starts.now next }
         requires pass { IsPutPassOf self.now.queues.now put.old }
-        requires actors { AreActorsAtRest self.now.pace put.old }
         requires dispatched { AreDispatched (frames_of self.now.capture.now.records.items) self.now.starts.now self.now.workers number
             self.now.first next (jobs_put put.old) }
         ensures pass { IsPutPassOf self.now.queues.now put.new }
-        ensures actors { AreActorsAtRest self.now.pace put.new }
         ensures dispatched { AreDispatched (frames_of self.now.capture.now.records.items) self.now.starts.now self.now.workers (number + 1)
             self.now.first next (jobs_put put.new) }
     {
         let _ = next;
-        hand_beside_rest(
-            rt,
-            self.queues,
-            put,
-            self.capture,
-            self.workers,
-            number,
-            self.pace,
-        );
-        ask_due_round(rt, self.queues, put, number + 1, self.pace);
+        hand(rt, self.queues, put, self.capture, self.workers, number);
+        ask_due_round(rt, self.queues, put, number + 1);
     }
 
     /// Hands over the commands from `next` on once all records were dispatched.
     fn hand_left<R: Wait>(&self, rt: &R, put: &mut PutPass, next: usize)
         requires next { next ≤ length self.now.starts.now }
         requires pass { IsPutPassOf self.now.queues.now put.old }
-        requires actors { AreActorsAtRest self.now.pace put.old }
         requires dispatched { AreDispatched (frames_of self.now.capture.now.records.items) self.now.starts.now self.now.workers
             (length self.now.capture.now.records.items) self.now.first next (jobs_put put.old) }
         ensures pass { IsPutPassOf self.now.queues.now put.new }
-        ensures actors { AreActorsAtRest self.now.pace put.new }
         ensures dispatched { AreDispatched (frames_of self.now.capture.now.records.items) self.now.starts.now self.now.workers
             (length self.now.capture.now.records.items) self.now.first (length self.now.starts.now) (jobs_put put.new) }
     {
-        hand_commands(rt, self.queues, put, next, self.starts.len(), self.pace);
+        hand_commands(rt, self.queues, put, next, self.starts.len());
     }
 
     /// Hands everything over, in this order.
@@ -287,11 +174,9 @@ impl<'a> Dispatch<'a> {
         requires nothing { AreDispatched (frames_of self.now.capture.now.records.items) self.now.starts.now self.now.workers 0
             self.now.first self.now.first (jobs_put put.old) }
         ensures pass { IsPutPassOf self.now.queues.now put.new }
-        ensures actors { AreActorsAtRest self.now.pace put.new }
         ensures put { AreDispatched (frames_of self.now.capture.now.records.items) self.now.starts.now self.now.workers
             (length self.now.capture.now.records.items) self.now.first (length self.now.starts.now) (jobs_put put.new) }
     {
-        rest(rt, self.queues, put, self.pace);
         let mut next = self.first;
         'records: for number in 0..self.capture.records.len() {
             next = self.hand_due(rt, put, next, number);

@@ -19,9 +19,9 @@
 //! that breaks it is refused where it is written. Behind the last record come the commands that are left. Commands of frame 0 are
 //! applied before the threads start (`setting`).
 //!
-//! In an exact replay the dispatcher also waits: before it hands over a command or a note until all that it handed over is done, and after
-//! it until this is done. A job is done when its thread asks for the next one and finds none (`Queues::wait_for_rest`). The methods require
-//! that the dispatcher has waited (`IsAtRest`, `AreActorsAtRest`).
+//! So a command acts no earlier than it is handed over, but while workers still have jobs of their queues: some frames before it may be run
+//! after it. An exact replay ([`replay_in_turn`]) has no threads: on the calling thread it makes each record's run, each command and each
+//! round in turn.
 //!
 //! # Passes
 //!
@@ -57,7 +57,6 @@ mod dispatch;
 mod fault;
 pub mod laws;
 mod outcome;
-mod pace;
 mod reclaimer;
 mod replaying;
 mod runner;
@@ -75,9 +74,8 @@ pub use controller::{Commanded, Commander};
 pub use crew::Handled;
 pub use fault::ReplayFault;
 pub use outcome::{Applied, Outcome, RecordEnd};
-pub use pace::Pace;
 pub use reclaimer::Reclaiming;
-pub use replaying::{exact_replay, replay};
+pub use replaying::replay;
 pub use runner::{FrameFate, Ran, RunEnd, Runner};
 pub use shard_port::{Gate, NoGate};
 pub use single_thread::replay_in_turn;

@@ -29,7 +29,7 @@ pub enum RecordEnd {
     Stopped {
         worker: u8,
     },
-    /// The worker of its flow ran it to the program's end, in so many steps.
+    /// The worker of its flow ran it to the program's end, in `steps` steps.
     Exited {
         worker: u8,
         verdict: Verdict,

@@ -40,7 +40,7 @@ impl<'a, B: Naming, W: Wait, G: Gate> Model for Reclaiming<'a, B, W, G> {
 }
 
 impl<'a, B: Naming, W: Wait, G: Gate> Reclaiming<'a, B, W, G> {
-    /// The reclaimer with its pass. The gate is told of each reply.
+    /// The reclaimer with its pass. Each reply goes through the gate.
     pub fn over(
         rt: &'a W,
         shards: &'a Shards<B>,

@@ -12,7 +12,6 @@ ghost use Rattle.replay.specs.declared.fault.ReplayFault.TheVariants.{BadOptions
 use crate::closing::closed;
 use crate::fault::ReplayFault;
 use crate::outcome::Outcome;
-use crate::pace::Pace;
 use crate::setting::{
     new_controller, new_reclaimer, new_workers, run_threads, starts_of, table_for,
 };
@@ -52,7 +51,6 @@ fn replay_over<'x, B: Naming + Send + Sync, R: Threads + Wait + Sync, G: Gate + 
     opened: Opened,
     options: Options,
     gate: &'x G,
-    pace: Pace,
 ) -> Result<Outcome, ReplayFault>
     requires named { IsNamed B.count B.table B.plan B.order opened }
     requires maps { opened.maps ≡ verified.now.maps }
@@ -96,7 +94,6 @@ fn replay_over<'x, B: Naming + Send + Sync, R: Threads + Wait + Sync, G: Gate + 
         capture,
         starts,
         first,
-        pace,
         runner: &runner,
     };
     match run_threads(
@@ -115,32 +112,6 @@ fn replay_over<'x, B: Naming + Send + Sync, R: Threads + Wait + Sync, G: Gate + 
     }
 }
 
-/// A replay at either pace.
-fn replay_at<R: Threads + Wait + Sync, G: Gate + Sync>(
-    rt: &R,
-    alloc: Global,
-    verified: &Verified,
-    capture: &Capture,
-    script: &Script,
-    options: Options,
-    gate: &G,
-    pace: Pace,
-) -> Result<Outcome, ReplayFault>
-    ensures accounted { IfOk result (IsAccounted (program_of verified.now options.shards) script.now options capture.now.records.items) }
-    ensures bad_options { IsErrOf result BadOptions ↔ AreBadOptions verified.now.maps options script.now }
-{
-    let image = verified.image();
-    let Some(size) = table_for(image.maps(), script.commands()) else {
-        return Err(ReplayFault::BadOptions);
-    };
-    match Opened::open(alloc, image, options) {
-        Ok(opened) => replay_over::<Brand, R, G>(
-            rt, alloc, verified, capture, script, size, opened, options, gate, pace,
-        ),
-        Err(fault) => Err(fault_of(fault)),
-    }
-}
-
 /// Runs the program of an accepted image on the frames of a capture, by as many workers on threads as the options say, over shared maps
 /// in which nothing has happened. A controller on a thread of its own applies the commands of a script: those at frame 0 before the
 /// first record, and each other one when as many records as its frame number were dispatched, no later than after the last; and a
@@ -156,7 +127,7 @@ fn replay_at<R: Threads + Wait + Sync, G: Gate + Sync>(
 /// at full journals among it: of a worker its runs, of the controller the commands' updates in the script's order, of the reclaimer a round
 /// after the other, each from the lowest shard up.
 ///
-/// The gate is told of each reply of a run, of the controller and of the reclaimer, by the actor that has it, which holds no lock then.
+/// Each reply to a run, to the controller and to the reclaimer goes through the gate: the actor that has it calls the gate, and holds no lock then.
 ///
 /// Refused with 51 where no shards of the image's maps can be opened with the options, or where there are commands and the image's maps
 /// are not those of steering; with 52 for lack of memory; with 56 where a thread could not be started. Then nothing is left, and every
@@ -173,44 +144,14 @@ pub fn replay<R: Threads + Wait + Sync, G: Gate + Sync>(
     ensures accounted { IfOk result (IsAccounted (program_of verified.now options.shards) script.now options capture.now.records.items) }
     ensures bad_options { IsErrOf result BadOptions ↔ AreBadOptions verified.now.maps options script.now }
 {
-    replay_at(
-        rt,
-        alloc,
-        verified,
-        capture,
-        script,
-        options,
-        gate,
-        Pace::Free,
-    )
-}
-
-/// The same, with exact moments: a command takes effect after every frame before it was run to its end, and before any later one is handed
-/// to a worker; and so does each round of the reclaimer, after every 64 records. So two such replays of the same input send the same
-/// frames, by any number of workers, as long as flows share nothing that depends on their order; and by one worker they are the same in
-/// every entry of every journal. It takes longer, since the workers wait at each command and each round.
-///
-/// Returns and refuses what `replay` does.
-pub fn exact_replay<R: Threads + Wait + Sync, G: Gate + Sync>(
-    rt: &R,
-    alloc: Global,
-    verified: &Verified,
-    capture: &Capture,
-    script: &Script,
-    options: Options,
-    gate: &G,
-) -> Result<Outcome, ReplayFault>
-    ensures accounted { IfOk result (IsAccounted (program_of verified.now options.shards) script.now options capture.now.records.items) }
-    ensures bad_options { IsErrOf result BadOptions ↔ AreBadOptions verified.now.maps options script.now }
-{
-    replay_at(
-        rt,
-        alloc,
-        verified,
-        capture,
-        script,
-        options,
-        gate,
-        Pace::Exact,
-    )
+    let image = verified.image();
+    let Some(size) = table_for(image.maps(), script.commands()) else {
+        return Err(ReplayFault::BadOptions);
+    };
+    match Opened::open(alloc, image, options) {
+        Ok(opened) => replay_over::<Brand, R, G>(
+            rt, alloc, verified, capture, script, size, opened, options, gate,
+        ),
+        Err(fault) => Err(fault_of(fault)),
+    }
 }

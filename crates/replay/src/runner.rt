@@ -32,7 +32,7 @@ pub trait Runner<S> {
 pub enum RunEnd {
     /// A journal was full for the run's next call: the calls before it stand, and the frame is not sent.
     Stopped,
-    /// The program came to its end, after so many instructions, a wide one counted once.
+    /// The program came to its end, after `steps` instructions, a wide one counted once.
     Exited { steps: u64, frame: FrameFate },
 }
 

@@ -23,7 +23,7 @@ pub(crate) struct Working<B: Naming> {
     pub replies: u64,
 }
 
-/// Runs an accepted program over shared shards of its maps, by the workers' passes, and tells a gate of each reply.
+/// Runs an accepted program over shared shards of its maps, by the workers' passes; each reply goes through a gate.
 #[derive(Drop)]
 pub(crate) struct ShardRunner<'a, B: Naming, R: Wait, G: Gate> {
     pub rt: &'a R,
@@ -58,7 +58,7 @@ fn sent_of(alloc: Global, captured: &Sent, frame: &Frame) -> Result<Sent, AllocE
     })
 }
 
-/// What becomes of a record's frame by its verdict, for a run of so many steps.
+/// What becomes of a record's frame by its verdict, for a run of `steps` steps.
 pub(crate) fn end_of(
     alloc: Global,
     captured: &Sent,

@@ -14,7 +14,7 @@ ghost use Rattle.control.specs.Controlling.{refusal_of};
 ghost use Rattle.journals.specs.JournalsView.{entries_at};
 ghost use Rattle.shards.specs.NewShards.{shard_at};
 ghost use Rattle.shards.specs.Opening.{AreOpened};
-ghost use Rattle.replay.specs.declared.fault.ReplayFault.TheVariants.{BadOptions};
+ghost use Rattle.replay.specs.declared.fault.ReplayFault.TheVariants.{BadOptions, NoThread};
 ghost use Rattle.replay.specs.Accounted.{IsAccounted};
 ghost use Rattle.replay.specs.Accounts.{frames_in, no_counts, counted};
 ghost use Rattle.replay.specs.Commands.{ServesScript, opened_controller};
@@ -28,7 +28,7 @@ ghost use Rattle.replay.specs.Turns.{commands_between, rounds_at, due_before, tu
 use crate::account::{Counts, record_end, send};
 use crate::closing::refused;
 use crate::controller::command_at;
-use crate::dispatch::{due, is_short, worker_of};
+use crate::dispatch::{ROUND_EVERY, due, is_short, worker_of};
 use crate::fault::ReplayFault;
 use crate::laws::turns_are_accounted;
 use crate::outcome::{Applied, Outcome, RecordEnd};
@@ -39,13 +39,11 @@ use crate::shard_runner::{end_of, moment_of};
 use crate::turn_shards::TurnShards;
 use control::{Command, ControlFault, Controller, Script};
 use runs::closing::journals_of;
-use semantics::Options;
+use semantics::{Caller, Options};
+use shard_port::Gate;
 use std::alloc::{AllocError, Global};
 use verifier::Verified;
 use wire::{Capture, Frame, Sent};
-
-/// After how many records the reclaimer makes a round.
-const ROUND_EVERY: usize = 64;
 
 /// A replay between two turns.
 #[derive(Drop)]
@@ -302,13 +300,14 @@ impl Turns {
     }
 
     /// The turns up to the last record. Returns which command is next.
-    fn all_records(
+    fn all_records<G: Gate>(
         &mut self,
         alloc: Global,
         verified: &Verified,
         capture: &Capture,
         script: &[Command],
         starts: &[u32],
+        gate: &G,
     ) -> Result<usize, AllocError>
         requires starts { starts.now ≡ starts_in script.now }
         requires maps { self.old.all.maps ≡ verified.now.maps }
@@ -324,18 +323,20 @@ impl Turns {
         let mut next = 0;
         'records: for number in 0..capture.records.len() {
             next = self.record_turns(alloc, verified, capture, script, starts, next, number)?;
+            show(gate, number + 1);
         }
         Ok(next)
     }
 
     /// All turns.
-    fn take_all(
+    fn take_all<G: Gate>(
         &mut self,
         alloc: Global,
         verified: &Verified,
         capture: &Capture,
         script: &[Command],
         starts: &[u32],
+        gate: &G,
     ) -> Result<(), AllocError>
         requires starts { starts.now ≡ starts_in script.now }
         requires maps { self.old.all.maps ≡ verified.now.maps }
@@ -347,7 +348,7 @@ impl Turns {
         ensures same { OnOk result (IsSameSetting (state_in self.old) (state_in self.new)) }
         ensures each_once { OnOk result (frames_in self.new.counts ≡ length capture.now.records.items) }
     {
-        let next = self.all_records(alloc, verified, capture, script, starts)?;
+        let next = self.all_records(alloc, verified, capture, script, starts, gate)?;
         self.last_turns(alloc, script, starts, next, capture.records.len())?;
         Ok(())
     }
@@ -387,8 +388,15 @@ impl Turns {
     }
 }
 
+/// Calls the gate after a round, if there was one behind this many records.
+fn show<G: Gate>(gate: &G, number: usize) {
+    if number % ROUND_EVERY == 0 {
+        gate.replied(Caller::Reclaimer, (number / ROUND_EVERY) as u64);
+    }
+}
+
 /// The replay over shards that were opened for the image's maps.
-fn turned(
+fn turned<G: Gate>(
     alloc: Global,
     verified: &Verified,
     capture: &Capture,
@@ -396,6 +404,7 @@ fn turned(
     size: u32,
     all: TurnShards,
     options: Options,
+    gate: &G,
 ) -> Result<Outcome, AllocError>
     requires opened { AreOpened verified.now.maps options all.shards }
     requires maps { all.maps ≡ verified.now.maps }
@@ -408,7 +417,7 @@ fn turned(
     let list = starts_of(alloc, script)?;
     let starts: &[u32] = &list;
     let mut turns = Turns::over(alloc, all, size);
-    turns.take_all(alloc, verified, capture, script, starts)?;
+    turns.take_all(alloc, verified, capture, script, starts, gate)?;
     let outcome = turns.finish(alloc)?;
     Ok(outcome)
 }
@@ -420,18 +429,23 @@ fn turned(
 /// one. Two such replays of the same input give the same outcome, unless memory was refused to a command (no law says so). What is returned is
 /// accounted for as what a replay on threads returns.
 ///
+/// The gate is called after each round that follows a record, as for a reply of the reclaimer, with the number of such rounds: it shows how
+/// far the replay is.
+///
 /// Refused with 51 where no shards of the image's maps can be opened with the options, or where there are commands and the image's maps
 /// are not those of steering; with 52 for lack of memory. Then nothing is left.
-pub fn replay_in_turn(
+pub fn replay_in_turn<G: Gate>(
     alloc: Global,
     verified: &Verified,
     capture: &Capture,
     script: &Script,
     options: Options,
+    gate: &G,
 ) -> Result<Outcome, ReplayFault>
     ensures accounted { IfOk result (IsAccounted (program_of verified.now options.shards) script.now options capture.now.records.items) }
     ensures in_turn { IfOk result (IsInTurn (program_of verified.now options.shards) script.now options capture.now.records.items) }
     ensures bad_options { IsErrOf result BadOptions ↔ AreBadOptions verified.now.maps options script.now }
+    ensures no_thread { ¬ IsErrOf result NoThread }
 {
     turns_are_accounted();
     let image = verified.image();
@@ -449,6 +463,7 @@ pub fn replay_in_turn(
                 size,
                 all,
                 options,
+                gate,
             )?)
         }
         Err(fault) => Err(fault_of(fault)),

@@ -17,7 +17,6 @@ use crate::actor::{Actor, ActorThread, settled_actor, start_actor};
 use crate::crew::{Handled, abandon, finish_all, start_all};
 use crate::dispatch::{Dispatch, ask_round, end_all, end_both};
 use crate::fault::ReplayFault;
-use crate::pace::Pace;
 use crate::runner::Runner;
 use crate::worker::Lane;
 use rx_queues::{PutPass, Queues, TakePass};
@@ -37,7 +36,6 @@ pub struct Setting<'x, W, R> {
     pub starts: &'x [u32],
     /// How many commands were applied before the threads started.
     pub first: usize,
-    pub pace: Pace,
     pub runner: &'x W,
 }
 
@@ -75,7 +73,7 @@ fn last_two(queues: &Queues, takes: &mut Vec<TakePass>, workers: usize) -> (Take
     (controller, reclaimer)
 }
 
-/// Starts the controller and the reclaimer. None where one of them can't be started; then both were told to end, and none runs.
+/// Starts the controller and the reclaimer. None where one of them can't be started; then both were asked to end, and none runs.
 fn start_both<
     's,
     X,
@@ -235,7 +233,6 @@ fn work_all<'s, X, S: Drop + Send + 's, W: Runner<S> + Sync + 's, R: Threads + W
                 starts: setting.starts,
                 first: setting.first,
                 workers,
-                pace: setting.pace,
             };
             dispatch.hand_all(setting.rt, put);
             end_all(setting.rt, setting.queues, put, workers);
@@ -259,7 +256,7 @@ fn work_all<'s, X, S: Drop + Send + 's, W: Runner<S> + Sync + 's, R: Threads + W
     }
 }
 
-/// Starts all threads in a scope, hands everything over, ends the threads and joins them. On each way out every thread was told to end.
+/// Starts all threads in a scope, hands everything over, ends the threads and joins them. On each way out every thread was asked to end.
 fn run_all_in<
     's,
     X,

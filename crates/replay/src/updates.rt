@@ -1,4 +1,4 @@
-//! The maps that a controller updates, as shards that other callers share; and a port whose replies a gate is told of.
+//! The maps that a controller updates, as shards that other callers share; and a port whose replies go through a gate.
 
 ghost use Rattle.std.specs.Prelude.{◌≡◌, ◌<◌};
 ghost use Rattle.semantics.specs.declared.call.Caller.TheVariants.{Controller};
@@ -90,7 +90,7 @@ impl<'a, B: Naming, W: Wait> UpdatePort for SharedUpdates<'a, B, W> {
     }
 }
 
-/// A port to the maps that a controller updates: each answer is counted and told to the gate, and is the answer of the port within.
+/// A port to the maps that a controller updates: each answer is counted, goes through the gate, and is the answer of the port within.
 #[derive(Drop)]
 pub struct GatedUpdates<'a, U: UpdatePort, G: Gate> {
     pub port: U,

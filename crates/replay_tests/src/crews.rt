@@ -3,7 +3,7 @@
 ghost use Rattle.std.specs.Prelude.{◌≡◌, ◌<◌, ◌≤◌};
 
 use crate::asserting::same;
-use replay::{Actor, ActorEnded, FrameFate, Handled, Pace, RunEnd, Runner, Setting, run_all};
+use replay::{Actor, ActorEnded, FrameFate, Handled, RunEnd, Runner, Setting, run_all};
 use rx_queues::{Job, Queues, TakePass};
 use std::alloc::Global;
 use std::process::Abort;
@@ -210,12 +210,11 @@ fn are_runs(rt: &impl Abort, workers: &[Handled<u64>], want: &[u64]) {
     }
 }
 
-/// Runs the row with a controller and a reclaimer at a pace, and compares.
+/// Runs the row with a controller and a reclaimer, and compares.
 fn run_beside<R: Abort + Threads + Wait + Sync>(
     rt: &R,
     alloc: Global,
     row: Row<'_>,
-    pace: Pace,
 ) -> Result<(), Fail>
     requires { (0 < row.workers) × (row.workers ≤ 8) }
 {
@@ -229,7 +228,6 @@ fn run_beside<R: Abort + Threads + Wait + Sync>(
         capture: &capture,
         starts: &STARTS,
         first: 1,
-        pace,
         runner: &Passing,
     };
     let ended = run_all(
@@ -259,16 +257,7 @@ fn run_beside<R: Abort + Threads + Wait + Sync>(
 fn each_record_is_run_once(rt: HostRuntime) -> Result<(), Fail> {
     for row in ROWS {
         prove!(0 < row.workers && row.workers <= 8);
-        run_beside(&rt, rt.alloc(), row, Pace::Free)?;
-    }
-    Ok(())
-}
-
-#[test]
-fn each_record_is_run_once_at_exact_moments(rt: HostRuntime) -> Result<(), Fail> {
-    for row in ROWS {
-        prove!(0 < row.workers && row.workers <= 8);
-        run_beside(&rt, rt.alloc(), row, Pace::Exact)?;
+        run_beside(&rt, rt.alloc(), row)?;
     }
     Ok(())
 }
@@ -296,7 +285,6 @@ fn refused<R: Abort + Threads + Wait + Sync>(
     rt: &R,
     alloc: Global,
     refusal: &Refusal,
-    pace: Pace,
 ) -> Result<(u8, u64), Fail> {
     let (_, worker, run, controller, reclaimer, ..) = *refusal;
     let capture = capture(alloc, 1000)?;
@@ -322,7 +310,6 @@ fn refused<R: Abort + Threads + Wait + Sync>(
         capture: &capture,
         starts: &STARTS,
         first: 1,
-        pace,
         runner: &runner,
     };
     let ended = run_all(setting, controller, reclaimer, put, takes, states);
@@ -333,17 +320,15 @@ fn refused<R: Abort + Threads + Wait + Sync>(
     Ok((fault, runner.asked.load(Ordering::SeqCst)))
 }
 
-/// Compares a refusal's fault and runs at both paces.
+/// Compares a refusal's fault and runs.
 fn is_refused<R: Abort + Threads + Wait + Sync>(
     rt: &R,
     alloc: Global,
     refusal: &Refusal,
 ) -> Result<(), Fail> {
     let (name, _, _, _, _, fault, asked) = *refusal;
-    for pace in [Pace::Free, Pace::Exact] {
-        let found = refused(rt, alloc, refusal, pace)?;
-        same(rt, name, &found, &(fault, asked));
-    }
+    let found = refused(rt, alloc, refusal)?;
+    same(rt, name, &found, &(fault, asked));
     Ok(())
 }
 

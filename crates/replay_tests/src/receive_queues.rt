@@ -6,10 +6,8 @@ ghost use Rattle.rx_queues.specs.Passes.{HasQueue, workers_of, queue_of, IsPutPa
 use crate::asserting::{holds, same, same_at};
 use rx_queues::{Caller, Job, OpenFault, PutPass, Queues, TakePass, spread};
 use std::alloc::Global;
-use std::hint::spin_loop;
 use std::process::Abort;
 use std::sync::Wait;
-use std::sync::atomic::{AtomicU64, Ordering};
 use std::thread;
 use std::thread::Threads;
 use wire::{FlowKey, Ipv4Address, Transport};
@@ -178,99 +176,6 @@ fn a_thousand_frames_go_through_each_queue(rt: HostRuntime) -> Result<(), OpenFa
         let (back, came) = pass_through(&rt, &queues, caller_at(8, place), put, take, 1000);
         put = back;
         same_at(&rt, "frames through queue", place as u64, &came, &1000);
-    }
-    Ok(())
-}
-
-// Waits a little.
-fn dawdle() {
-    for _ in 0..20_000u32 {
-        spin_loop();
-    }
-}
-
-// Takes jobs up to the end, and counts each as done a while after it was taken.
-fn take_slowly<R: Wait>(rt: &R, queues: &Queues, mut take: TakePass, done: &AtomicU64)
-    requires { IsTakePassOf queues.now take }
-{
-    'takes: for _ in rt.forever() {
-        match queues.take_waiting(rt, &mut take) {
-            Job::End => break,
-            _ => {
-                dawdle();
-                done.fetch_add(1, Ordering::SeqCst);
-            }
-        }
-    }
-}
-
-// Puts notes, the more the later, and waits for rest after each round of them; then the end. Gives how often not all were done then.
-fn put_and_rest<R: Wait>(
-    rt: &R,
-    queues: &Queues,
-    who: Caller,
-    mut put: PutPass,
-    done: &AtomicU64,
-) -> (PutPass, u64)
-    requires queue { HasQueue (workers_of queues.now) who }
-    requires put { IsPutPassOf queues.now put }
-    ensures { IsPutPassOf queues.now result.0 }
-{
-    let before = done.load(Ordering::SeqCst);
-    let mut early: u64 = 0;
-    'puts: for number in 1..150u64 {
-        queues.put_waiting(rt, who, Job::Note, &mut put);
-        if number % 7 < 3 {
-            queues.wait_for_rest(rt, &mut put);
-            if done.load(Ordering::SeqCst).wrapping_sub(before) != number {
-                early = early.wrapping_add(1);
-            }
-        }
-    }
-    queues.wait_for_rest(rt, &mut put);
-    (put, early)
-}
-
-// One thread puts and waits for rest, another takes and is slow.
-fn rest_at<R: Threads + Wait + Sync>(
-    rt: &R,
-    queues: &Queues,
-    who: Caller,
-    put: PutPass,
-    take: TakePass,
-    done: &AtomicU64,
-) -> u64
-    requires queue { HasQueue (workers_of queues.now) who }
-    requires put { IsPutPassOf queues.now put }
-    requires take { IsTakePassOf queues.now take }
-{
-    let (early, ()) = thread::join(
-        rt,
-        move ||
-            requires queue { HasQueue (workers_of queues.now) who }
-            requires put { IsPutPassOf queues.now put }
-        {
-            let (mut put, early) = put_and_rest(rt, queues, who, put, done);
-            queues.put_waiting(rt, who, Job::End, &mut put);
-            early
-        },
-        move ||
-            requires { IsTakePassOf queues.now take }
-        { take_slowly(rt, queues, take, done) },
-    );
-    early
-}
-
-/// All is at rest only when each job is done, not when the last one was taken.
-#[test]
-fn rest_comes_after_the_last_job(rt: HostRuntime) -> Result<(), OpenFault> {
-    let (queues, put, mut takes) = Queues::open(rt.alloc(), 2)?;
-    if let Some(take) = last_of(&queues, &mut takes) {
-        let done = AtomicU64::new(0);
-        let who = caller_at(2, takes.len());
-        let early = rest_at(&rt, &queues, who, put, take, &done);
-        same(&rt, "how often it came early", &early, &0);
-        same(&rt, "jobs done", &done.load(Ordering::SeqCst), &149);
     }
     Ok(())
 }

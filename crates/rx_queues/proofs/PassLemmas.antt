@@ -1,17 +1,15 @@
 -- Lists of queues and of the rights to them.
 use Rattle.std.proofs.Common.{◌≡◌, ◌≢◌, ℕ, zero, suc, ◌<◌, List, [], ◌∷◌, ◌++◌, map, length, set, get_or, refl, sym, ap, ◌∙◌, subst, ⊎_elim, arith}
-use Rattle.std.specs.Prelude.{Bool, Option, Result, Ok, Err, OnOk, OnErr, IfErr, slice_index_or}
+use Rattle.std.specs.Prelude.{Option, Result, Ok, Err, OnOk, OnErr, IfErr, slice_index_or}
 use mathlib.Core.Option.{some, some-injective}
 use lib.ListN.{get_elem?}
 use Rattle.atomic_table.proofs.Lists.{at_set, at_index}
 use Rattle.crossbeam_queue.specs.declared.array_queue.Doing.{Doing}
 use Rattle.crossbeam_queue.specs.declared.array_queue.Slotted.{Slotted}
 use Rattle.crossbeam_queue.specs.Passes.{Pass, view}
-use Rattle.semantics.specs.declared.call.Caller.{Caller}
-use Rattle.semantics.specs.declared.call.Caller.TheVariants.{Worker, Controller, Reclaimer}
 use Rattle.rx_queues.specs.declared.job.Job.{Job}
 use Rattle.rx_queues.specs.declared.rule.JobsKnown.{JobsKnown}
-use Rattle.rx_queues.specs.Passes.{IsPutPassFor, IsTakePassFor, ArePutPasses, IsTakePassAt, with_job_at, WasFull, rest_after}
+use Rattle.rx_queues.specs.Passes.{IsPutPassFor, IsTakePassFor, ArePutPasses, IsTakePassAt, with_job_at, WasFull}
 
 abbrev pub Line : Type 0 → Type 0 → Type 0
 Line Q A = Slotted (Option Job) (Doing Job JobsKnown) Q A
@@ -92,9 +90,3 @@ pub on_full : (result : Result Unit Job) (passes : List (Pass Job JobsKnown)) (a
 on_full (Ok done) passes at place was here within mine full = tt
 on_full (Err back) passes at place was here within mine full =
     subst (λ (jobs : List Job). WasFull jobs) (sym (put_there passes at was within mine) ∙ ap (λ n. slice_index_or (map put_of passes) n []) here) full
-
--- a second put for the same caller changes no more
-pub rest_twice : (who : Caller) (rest : Bool) → rest_after who (rest_after who rest) ≡ rest_after who rest
-rest_twice (Worker number) rest = refl
-rest_twice Controller rest = refl
-rest_twice Reclaimer rest = refl

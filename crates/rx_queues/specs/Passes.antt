@@ -1,5 +1,5 @@
 -- Which queue is whose, which passes belong to which queues, and what a queue's passes have put and taken.
-use Rattle.std.specs.Prelude.{◌≡◌, ℕ, zero, suc, ◌+◌, ◌<◌, Bool, true, false, List, [], ◌∷◌, ◌++◌, map, length, slice_index_or, Option}
+use Rattle.std.specs.Prelude.{◌≡◌, ℕ, zero, suc, ◌+◌, ◌<◌, true, List, [], ◌∷◌, ◌++◌, map, length, slice_index_or, Option}
 use mathlib.Core.Option.{some}
 use lib.ListN.{get_elem?}
 use Rattle.crossbeam_queue.specs.declared.array_queue.Doing.{Doing}
@@ -31,19 +31,6 @@ workers_of queues = queues.workers
 -- what was put through the pass, queue by queue
 abbrev pub jobs_put : PutPass → List (List Job)
 jobs_put pass = map (λ (one : Pass Job JobsKnown). (view one).put) pass.passes.items
-
--- the pass's owner has waited until all was done that was put, and put nothing since
-abbrev pub is_at_rest : PutPass → Bool
-is_at_rest pass = pass.all_rest
-
--- it has put nothing for the controller and the reclaimer since
-abbrev pub are_actors_at_rest : PutPass → Bool
-are_actors_at_rest pass = pass.actors_rest
-
--- whether those two are still at rest after a put for a caller
-abbrev pub rest_after : Caller → Bool → Bool
-rest_after (Worker number) rest = rest
-rest_after who rest = false
 
 -- what was taken through the pass
 abbrev pub jobs_taken : TakePass → List Job

@@ -4,15 +4,13 @@
 //! [`TakePass`]; each knows what was done through it, and threads share the [`Queues`] by reference.
 #![tactic(auto)]
 
-mod flow_spread;
 mod job;
 mod passes;
-mod patience;
 mod queues;
 mod rule;
 
-pub use flow_spread::spread;
 pub use job::Job;
 pub use map_rules::OpenFault;
 pub use passes::{PutPass, Queues, TakePass};
+pub use queues::spread;
 pub use semantics::Caller;

@@ -1,27 +1,62 @@
-//! The queues, and what is done with them.
+//! The queues: the worker of a flow, and what is done with them. A thread that waits for a queue asks again for a moment, and then sleeps.
 
-ghost use Rattle.std.specs.Prelude.{◌≡◌, ◌<◌, ◌≤◌, ◌+◌, ◌∷◌, ◌++◌, ◌↔◌, [], ℕ, length, map, replicate, IfOk, IfErr, OnErr, IsErrOf, OnOk, true, false};
-ghost use Rattle.std.specs.Prelude.{MatchOption, slice_index_or};
+ghost use Rattle.std.specs.Prelude.{◌≡◌, ◌<◌, ◌≤◌, ◌+◌, ◌∷◌, ◌++◌, ◌↔◌, [], ℕ, length, map, replicate, IfOk, IfErr, OnErr, IsErrOf, OnOk, true};
+ghost use Rattle.std.specs.Prelude.{MatchOption, option_map, slice_index_or};
 ghost use Rattle.crossbeam_queue.specs.Passes.{view, IsPassOf, ruled_capacity};
 ghost use Rattle.rx_queues.specs.Fifo.{IsTakenInOrder, known};
 ghost use Rattle.rx_queues.specs.Passes.{queue_of, HasQueue, workers_of, jobs_put, jobs_taken, jobs_put_for, with_job_at, IsPutPassOf};
 ghost use Rattle.rx_queues.specs.Passes.{IsTakePassOf, place_taken_from, AreTakePasses, IsPutPassFor, IsTakePassFor, WasFull};
-ghost use Rattle.rx_queues.specs.Passes.{is_at_rest, are_actors_at_rest, rest_after};
+ghost use Rattle.rx_queues.specs.Spread.{worker_of_flow};
 ghost use Rattle.map_rules.specs.declared.open_fault.OpenFault.TheVariants.{BadOptions};
 
 use crate::job::Job;
 use crate::passes::{PutPass, Queues, TakePass};
-use crate::patience::{Bell, Patience, SPINS};
-use crate::rule::{Puts, Queue, QueuePass, Roles, Takes};
+use crate::rule::{PutsJob, Queue, QueuePass, Roles, TakesJob};
 use map_rules::OpenFault;
 use semantics::Caller;
 use std::alloc::{AllocError, Global};
-use std::hint;
 use std::sync::Wait;
 use std::sync::atomic::{AtomicUsize, Ordering};
+use std::thread::Parker;
+use std::time::Duration;
+use std::{hint, thread};
+use wire::{FlowKey, fnv1a64};
 
 /// How many jobs a queue holds at most.
 const CAPACITY: usize = 64;
+
+/// How often whoever waits asks again at once. A job mostly goes in or out in this time where the other side is at work.
+const SPINS: u32 = 64;
+
+/// How often a worker then gives the processor away before it sleeps: whoever puts may be waking up.
+const WORKERS_YIELDS: u32 = 100;
+
+/// How often the controller and the reclaimer do, which have little to do.
+const OTHERS_YIELDS: u32 = 4;
+
+/// The longest sleep of whoever takes. The system adds what its timers are late, mostly 50 µs.
+const LONGEST_NAP_MICROS: u64 = 64;
+
+/// The longest sleep of whoever puts, if nobody rings.
+const LONGEST_SLEEP_MICROS: u64 = 1000;
+
+/// After how many jobs whoever takes looks whether somebody waits for room.
+const RING_EVERY: u8 = 16;
+
+/// No queue.
+const NOWHERE: usize = usize::MAX;
+
+/// The worker that handles the frames of a flow: the 64-bit FNV-1a hash of its key, modulo the number of workers. Frames
+/// without a flow go to worker 0. So one flow's frames go through one queue, and are handled in the order of the capture.
+pub fn spread(key: Option<&FlowKey>, workers: usize) -> usize
+    requires { 0 < workers }
+    ensures { result ≡ worker_of_flow (option_map (λ flow. flow.now) key.entry) workers }
+{
+    match key {
+        Some(key) => (fnv1a64(&key.bytes()) % workers as u64) as usize,
+        None => 0,
+    }
+}
 
 impl Queues {
     /// Opens a queue of 64 jobs for each of 1 to 8 workers, for the controller and for the reclaimer, with the right to put into all
@@ -33,7 +68,6 @@ impl Queues {
     ) -> Result<(Queues, PutPass, Vec<TakePass>), OpenFault>
         ensures workers { IfOk result (λ opened. workers_of opened.0 ≡ workers) }
         ensures put { IfOk result (λ opened. IsPutPassOf opened.0 opened.1 × (jobs_put opened.1 ≡ replicate (workers + 2) [])) }
-        ensures at_rest { IfOk result (λ opened. (is_at_rest opened.1 ≡ true) × (are_actors_at_rest opened.1 ≡ true)) }
         ensures take { IfOk result (λ opened. AreTakePasses opened.0 opened.2.items) }
         ensures bad_options { IsErrOf result BadOptions ↔ ¬ ((1 ≤ workers) × (workers ≤ 8)) }
     {
@@ -43,7 +77,6 @@ impl Queues {
         let mut queues = Vec::new(alloc);
         let mut puts = Vec::new(alloc);
         let mut takes = Vec::new(alloc);
-        let mut done = Vec::new(alloc);
         'queues: for queue in 0..workers + 2 {
             let (line, put, take) = opened(alloc)?;
             queues.push(line)?;
@@ -51,10 +84,8 @@ impl Queues {
             takes.push(TakePass {
                 queue,
                 pass: take,
-                taken: 0,
                 questions: 0,
             })?;
-            done.push(AtomicUsize::new(0))?;
         }
         let bell = Bell::new();
         Ok((
@@ -62,14 +93,8 @@ impl Queues {
                 queues,
                 workers,
                 bell,
-                done,
             },
-            PutPass {
-                passes: puts,
-                count: 0,
-                all_rest: true,
-                actors_rest: true,
-            },
+            PutPass { passes: puts },
             takes,
         ))
     }
@@ -96,16 +121,11 @@ impl Queues {
         ensures put { OnOk result (jobs_put pass.new ≡ with_job_at (queue_of (workers_of self.now) who) job (jobs_put pass.old)) }
         ensures back { IfErr result (λ back. (back ≡ job) × (jobs_put pass.new ≡ jobs_put pass.old)) }
         ensures full { OnErr result (WasFull (jobs_put_for self.now who pass.old)) }
-        ensures at_rest { (is_at_rest pass.new ≡ false) × (are_actors_at_rest pass.new ≡ rest_after who (are_actors_at_rest pass.old)) }
     {
         let place = self.place(who);
         let queue = &self.queues[place];
         let mine = &mut pass.passes[place];
-        let put = push(rt, queue, mine, job);
-        pass.count = pass.count.wrapping_add(usize::from(put.is_ok()));
-        pass.all_rest = false;
-        pass.actors_rest = rest_after(who, pass.actors_rest);
-        put
+        push(rt, queue, mine, job)
     }
 
     /// Takes the oldest job from the pass's queue. None only where the queue was empty at one moment of the call. Takes no memory,
@@ -118,12 +138,7 @@ impl Queues {
         pass.questions = pass.questions.wrapping_add(1);
         self.bell.ring(pass.queue, pass.questions);
         let queue = &self.queues[pass.queue];
-        let job = pop(rt, queue, &mut pass.pass);
-        match job {
-            Some(_) => pass.taken = pass.taken.wrapping_add(1),
-            None => self.done[pass.queue].store(pass.taken, Ordering::SeqCst),
-        }
-        job
+        pop(rt, queue, &mut pass.pass)
     }
 }
 
@@ -135,7 +150,6 @@ impl Queues {
         requires pass { IsPutPassOf self.now pass.old }
         ensures pass { IsPutPassOf self.now pass.new }
         ensures put { jobs_put pass.new ≡ with_job_at (queue_of (workers_of self.now) who) job (jobs_put pass.old) }
-        ensures at_rest { (is_at_rest pass.new ≡ false) × (are_actors_at_rest pass.new ≡ rest_after who (are_actors_at_rest pass.old)) }
     {
         let place = self.place(who);
         let mut spins = SPINS;
@@ -169,41 +183,12 @@ impl Queues {
         unreachable!()
     }
 
-    /// How many jobs are done, as far as whoever took them said by finding nothing more to take, modulo 2^64.
-    fn count_done(&self) -> usize {
-        let mut count: usize = 0;
-        'queues: for done in &self.done {
-            count = count.wrapping_add(done.load(Ordering::SeqCst));
-        }
-        count
-    }
-
-    /// Waits until all jobs that were put are done: until whoever takes from a queue has taken all of them and then found it empty, for
-    /// each queue. Takes no memory. It may not return: where nobody takes from a queue, its jobs are never done.
-    pub fn wait_for_rest<R: Wait>(&self, rt: &R, pass: &mut PutPass)
-        requires pass { IsPutPassOf self.now pass.old }
-        ensures pass { IsPutPassOf self.now pass.new }
-        ensures put { jobs_put pass.new ≡ jobs_put pass.old }
-        ensures at_rest { (is_at_rest pass.new ≡ true) × (are_actors_at_rest pass.new ≡ true) }
-    {
-        let mut patience = Patience::new(true);
-        'tries: for _ in rt.forever() {
-            if self.count_done() == pass.count {
-                break;
-            }
-            patience.wait(rt);
-        }
-        pass.all_rest = true;
-        pass.actors_rest = true;
-    }
-
     /// Ends a right to take: what was taken through it, in order, is a beginning of what was put into its queue, whichever threads
     /// put and took. Takes no memory.
     pub fn settle(&self, put: &mut PutPass, take: TakePass)
         requires put { IsPutPassOf self.now put.old }
         requires take { IsTakePassOf self.now take }
         ensures pass { IsPutPassOf self.now put.new × (jobs_put put.new ≡ jobs_put put.old) }
-        ensures at_rest { (is_at_rest put.new ≡ is_at_rest put.old) × (are_actors_at_rest put.new ≡ are_actors_at_rest put.old) }
         ensures in_order { IsTakenInOrder (jobs_taken take) (slice_index_or (jobs_put put.old) (place_taken_from take) []) }
     {
         let TakePass {
@@ -217,17 +202,6 @@ impl Queues {
     }
 }
 
-// Whether the controller and the reclaimer are still at rest after a put for a caller.
-fn rest_after(who: Caller, rest: bool) -> bool
-    ensures { result ≡ rest_after who rest }
-{
-    match who {
-        Caller::Worker { .. } => rest,
-        Caller::Controller => false,
-        Caller::Reclaimer => false,
-    }
-}
-
 // The two rights to one queue together show that what was taken is a beginning of what was put.
 fn join(queue: &Queue, put: &mut QueuePass, take: QueuePass)
     requires put { IsPutPassFor queue.now put.old }
@@ -236,7 +210,7 @@ fn join(queue: &Queue, put: &mut QueuePass, take: QueuePass)
     ensures in_order { IsTakenInOrder (view take).taken (view put.old).put }
 {
     queue.absorb::<Roles>(put, take);
-    queue.learn_as::<Puts>(put);
+    queue.learn_as::<PutsJob>(put);
 }
 
 // One queue, with the right to put and the right to take.
@@ -257,7 +231,7 @@ fn push<R: Wait>(rt: &R, queue: &Queue, pass: &mut QueuePass, job: Job) -> Resul
     ensures back { IfErr result (λ back. (back ≡ job) × ((view pass.new).put ≡ (view pass.old).put)) }
     ensures full { OnErr result (WasFull (view pass.old).put) }
 {
-    queue.push_as::<Puts, R>(rt, pass, job)
+    queue.push_as::<PutsJob, R>(rt, pass, job)
 }
 
 // The oldest job of one queue.
@@ -267,5 +241,77 @@ fn pop<R: Wait>(rt: &R, queue: &Queue, pass: &mut QueuePass) -> Option<Job>
     ensures taken { MatchOption result ((view pass.new).taken ≡ (view pass.old).taken)
         (λ job. (view pass.new).taken ≡ (view pass.old).taken ++ job ∷ []) }
 {
-    queue.pop_as::<Takes, R>(rt, pass)
+    queue.pop_as::<TakesJob, R>(rt, pass)
+}
+
+/// How whoever takes from an empty queue waits: what is left before it sleeps, and how long it sleeps next.
+#[derive(Drop)]
+struct Patience {
+    spins: u32,
+    yields: u32,
+    micros: u64,
+    /// Nobody wakes it, so that a sleep lasts until its time is over.
+    alarm: Parker,
+}
+
+impl Patience {
+    fn new(is_workers: bool) -> Patience {
+        Patience {
+            spins: SPINS,
+            yields: if is_workers {
+                WORKERS_YIELDS
+            } else {
+                OTHERS_YIELDS
+            },
+            micros: 1,
+            alarm: Parker::new(),
+        }
+    }
+
+    /// Waits a little, the longer the more often it did.
+    fn wait<R: Wait>(&mut self, rt: &R) {
+        if self.spins > 0 {
+            self.spins -= 1;
+            hint::spin_loop();
+        } else if self.yields > 0 {
+            self.yields -= 1;
+            thread::yield_now();
+        } else {
+            self.alarm
+                .park_timeout(rt, Duration::from_micros(self.micros));
+            self.micros = (2 * self.micros.min(LONGEST_NAP_MICROS)).min(LONGEST_NAP_MICROS);
+        }
+    }
+}
+
+/// Where whoever puts sleeps while a queue is full. Whoever takes from that queue rings once there is room for some jobs.
+#[derive(Drop)]
+pub(crate) struct Bell {
+    /// The place of the queue that is full, or none.
+    awaited: AtomicUsize,
+    sleeper: Parker,
+}
+
+impl Bell {
+    fn new() -> Bell {
+        Bell {
+            awaited: AtomicUsize::new(NOWHERE),
+            sleeper: Parker::new(),
+        }
+    }
+
+    /// Sleeps until the bell rings for the queue at a place, or a while where nobody rings.
+    fn sleep<R: Wait>(&self, rt: &R, place: usize) {
+        self.awaited.store(place, Ordering::SeqCst);
+        self.sleeper
+            .park_timeout(rt, Duration::from_micros(LONGEST_SLEEP_MICROS));
+        self.awaited.store(NOWHERE, Ordering::SeqCst);
+    }
+
+    /// Wakes whoever waits for room in the queue at a place. Done only after every 16th question for a job: so a sleep is worth its price.
+    fn ring(&self, place: usize, questions: u8) {
+        if questions % RING_EVERY == 0 && self.awaited.load(Ordering::SeqCst) == place {
+            self.sleeper.unpark();
+        }
+    }
 }

@@ -48,32 +48,32 @@ impl Join<JobsKnown> for Roles {
 }
 
 /// A put puts the job at the end of what was put.
-pub struct Puts;
+pub struct PutsJob;
 
-impl Outcome<Job, JobsKnown> for Puts {
+impl Outcome<Job, JobsKnown> for PutsJob {
     ghost use Rattle.std.specs.Prelude.{◌≡◌, []};
     ghost use Rattle.rx_queues.specs.Fifo.{with_put};
 
     ghost then = { λ before job after. after ≡ with_put before job };
 }
 
-impl Lesson<Job, JobsKnown> for Puts {
+impl Lesson<Job, JobsKnown> for PutsJob {
     ghost use Rattle.rx_queues.specs.Fifo.{MayHold};
 
     ghost fact = { MayHold };
 }
 
 /// A take puts the job at the end of what was taken.
-pub struct Takes;
+pub struct TakesJob;
 
-impl Outcome<Job, JobsKnown> for Takes {
+impl Outcome<Job, JobsKnown> for TakesJob {
     ghost use Rattle.std.specs.Prelude.{◌≡◌};
     ghost use Rattle.rx_queues.specs.Fifo.{with_taken};
 
     ghost then = { λ before job after. after ≡ with_taken before job };
 }
 
-impl Lesson<Job, JobsKnown> for Takes {
+impl Lesson<Job, JobsKnown> for TakesJob {
     ghost use Rattle.rx_queues.specs.Fifo.{MayHold};
 
     ghost fact = { MayHold };

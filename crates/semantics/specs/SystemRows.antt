@@ -3,7 +3,7 @@
 use Rattle.std.specs.Prelude.{◌≡◌, ℕ, pos, negsuc, List, [], ◌∷◌, ◌++◌, reverse, replicate}
 use Rattle.isa.specs.declared.operation.Width.TheVariants.{Bits64}
 use Rattle.isa.specs.declared.operation.Size.TheVariants.{U8, U32, U64}
-use Rattle.isa.specs.declared.operation.Source.TheVariants.{Imm, Reg}
+use Rattle.isa.specs.declared.operation.SourceOperand.TheVariants.{Imm, Reg}
 use Rattle.isa.specs.declared.operation.AluOp.TheVariants.{Add, Mov}
 use Rattle.isa.specs.declared.operation.Test.TheVariants.{Eq, Gt}
 use Rattle.isa.specs.declared.operation.AtomicOp.TheVariants.{FetchAdd}

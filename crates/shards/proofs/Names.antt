@@ -13,7 +13,7 @@ use Rattle.atomic_table.specs.declared.owned.Table.{Table}
 use Rattle.shard_core.specs.JournaledShard.{JournaledShard, opened_shard}
 use Rattle.shards.specs.Seats.{no_plan}
 use Rattle.shards.specs.declared.deeds.Account.{Account}
-use Rattle.shards.specs.declared.deeds.Part.TheVariants.{ByCaller}
+use Rattle.shards.specs.declared.deeds.OrderPart.TheVariants.{ByCaller}
 use Rattle.shards.specs.declared.order_rule.OrderKey.{OrderKey}
 use Rattle.shards.specs.LockRule.{caller_at}
 use Rattle.shards.specs.OrderRule.{IsFresh, IsOrderOf, AreCallerPlaces, no_place, place_at}

@@ -10,8 +10,8 @@ use Rattle.semantics.specs.History.{shard_of_call, IsJournalFull}
 use Rattle.journals.specs.JournalsView.{JournalsView, entries_at}
 use Rattle.shards.specs.declared.deeds.Deed.{Deed}
 use Rattle.shards.specs.declared.deeds.Deed.TheVariants.{Wrote, MetFull}
-use Rattle.shards.specs.declared.deeds.Part.{Part}
-use Rattle.shards.specs.declared.deeds.Part.TheVariants.{OnShard}
+use Rattle.shards.specs.declared.deeds.OrderPart.{OrderPart}
+use Rattle.shards.specs.declared.deeds.OrderPart.TheVariants.{OnShard}
 use Rattle.shards.specs.declared.deeds.Account.{Account}
 use Rattle.shards.specs.Deeds.{entries_made, made_on, deeds_of, AreMet, AreWithin}
 use Rattle.shards.specs.ClosedOrders.{HasGathered, IsOneOrder, account_of}
@@ -50,7 +50,7 @@ gathered_more {S} number journals journal before after made more were k within =
     is = ap (λ (m : Me S (List Account)). m.0) more.more
 
 -- a seat has taken in another
-pub gathered : {S : Type 0} (before after other : Me S (List Account)) (part : Part) (deeds : List Deed) → after ≡ (with_first before.0 other.0, before.1) →
+pub gathered : {S : Type 0} (before after other : Me S (List Account)) (part : OrderPart) (deeds : List Deed) → after ≡ (with_first before.0 other.0, before.1) →
     other ≡ (account part (deeds_in other.0) ∷ [], []) → deeds_in other.0 ≡ deeds → after ≡ (account part deeds ∷ before.0, before.1)
 gathered {S} before after other part deeds both is same =
     both ∙ ap (λ (m : Me S (List Account)). (with_first before.0 m.0, before.1)) is ∙ ap (λ (l : List Deed). (account part l ∷ before.0, before.1)) same
@@ -63,7 +63,7 @@ callers_more passes number pass before after first is were place within = subst 
     (λ (apart : place ≢ number). inr (were place (omega (arith, within, apart)))) (same_or_other place number))
 
 -- the seat of a place
-pub seat_of_place : {S : Type 0} (place : Badge (List Account)) (me : Me S (List Account)) (part : Part) → place.views ≡ (account part (deeds_at place) ∷ []) ∷ [] → place.views ≡ me.0 ∷ [] → me.1 ≡ [] →
+pub seat_of_place : {S : Type 0} (place : Badge (List Account)) (me : Me S (List Account)) (part : OrderPart) → place.views ≡ (account part (deeds_at place) ∷ []) ∷ [] → place.views ≡ me.0 ∷ [] → me.1 ≡ [] →
     (me ≡ (account part (deeds_in me.0) ∷ [], [])) × (deeds_in me.0 ≡ deeds_at place)
 seat_of_place {S} place me part rests is empty =
     let there : me.0 ≡ account part (deeds_at place) ∷ [] = view_there place me.0 part is rests in sits_so me part (deeds_at place) (λ i. (there i, empty i))

@@ -7,7 +7,7 @@ use Rattle.atomic_table.specs.declared.shared.Seat.{Seat}
 use Rattle.semantics.specs.declared.call.Caller.{Caller}
 use Rattle.shards.specs.declared.deeds.Account.{Account}
 use Rattle.shards.specs.declared.deeds.Deed.{Deed}
-use Rattle.shards.specs.declared.deeds.Part.TheVariants.{ByCaller}
+use Rattle.shards.specs.declared.deeds.OrderPart.TheVariants.{ByCaller}
 use Rattle.shards.specs.LockRule.{caller_at, place_of}
 use Rattle.shards.specs.NewShards.{AreAtOrder, is_dealt_at}
 use Rattle.shards.specs.OrderRule.{account, deeds_in, deeds_at, deeds_viewed, no_place, IsFresh, IsSeatFor}

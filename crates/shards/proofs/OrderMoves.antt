@@ -14,8 +14,8 @@ use Rattle.semantics.specs.declared.plan.ShardPlan.{ShardPlan}
 use Rattle.semantics.specs.History.{shard_of_call}
 use Rattle.shards.specs.declared.deeds.Deed.{Deed}
 use Rattle.shards.specs.declared.deeds.Deed.TheVariants.{Wrote, MetFull}
-use Rattle.shards.specs.declared.deeds.Part.{Part}
-use Rattle.shards.specs.declared.deeds.Part.TheVariants.{OnShard, ByCaller}
+use Rattle.shards.specs.declared.deeds.OrderPart.{OrderPart}
+use Rattle.shards.specs.declared.deeds.OrderPart.TheVariants.{OnShard, ByCaller}
 use Rattle.shards.specs.declared.deeds.Account.{Account}
 use Rattle.shards.specs.LockRule.{caller_at}
 use Rattle.shards.specs.Deeds.{shard_of_deed, caller_of_deed, is_deed_of, deeds_of, entries_made, made_on, IsMetBehind}
@@ -60,7 +60,7 @@ joins_them owner all code id (one ∷ others) are = (record { own = here (code_o
 
 -- ---- the opening
 
-nothing_yet : (id : ℕ) (part : Part) → IsAccount (λ _. id) [] id (account part [])
+nothing_yet : (id : ℕ) (part : OrderPart) → IsAccount (λ _. id) [] id (account part [])
 nothing_yet id part = record { own = refl; kept = refl }
 
 callers_begin : (place left : ℕ) → AreAccounts (λ _. 0) [] 0 (caller_accounts place left)
@@ -131,7 +131,7 @@ takes_first plans id v other one s h at apart there =
 -- ---- a deed more
 
 -- it is no deed of another part
-no_deed_of : (deed : Deed) (part : Part) → code_of part ≢ code_of (OnShard (shard_of_deed deed)) → code_of part ≢ code_of (ByCaller (caller_of_deed deed)) → is_deed_of part deed ≡ false
+no_deed_of : (deed : Deed) (part : OrderPart) → code_of part ≢ code_of (OnShard (shard_of_deed deed)) → code_of part ≢ code_of (ByCaller (caller_of_deed deed)) → is_deed_of part deed ≡ false
 no_deed_of deed (OnShard number) not_there not_by = ne_eqb (shard_of_deed deed) number (λ same. not_there (ap (λ n. 2 * n) (sym same)))
 no_deed_of deed (ByCaller who) not_there not_by = is_other who (caller_of_deed deed) (λ same. not_by (ap (λ n. suc (2 * n)) (sym same)))
 
@@ -148,7 +148,7 @@ others_same owner all deed id (one ∷ others) not_there not_by are = (
 )
 
 -- and one to which it does
-belongs : (owner : ℕ → ℕ) (all : List Deed) (deed : Deed) (id : ℕ) (part : Part) (deeds : List Deed) → is_deed_of part deed ≡ true → IsAccount owner all id (account part deeds) →
+belongs : (owner : ℕ → ℕ) (all : List Deed) (deed : Deed) (id : ℕ) (part : OrderPart) (deeds : List Deed) → is_deed_of part deed ≡ true → IsAccount owner all id (account part deeds) →
     IsAccount owner (deed ∷ all) id (account part (deed ∷ deeds))
 belongs owner all deed id part deeds is one = record {
   own = one.own;
@@ -179,8 +179,8 @@ pub adds_deed : {S : Type 0} (plans : List ShardPlan) (slots id word : ℕ) (dee
     (noted deed (account (OnShard (shard_of_deed deed)) there ∷ account (ByCaller (caller_of_deed deed)) by ∷ [])) keeps)
 adds_deed plans slots id word deed there by below met s h at =
     let are = h.fits id _ at in
-    let shard : Part = OnShard (shard_of_deed deed) in
-    let caller : Part = ByCaller (caller_of_deed deed) in record {
+    let shard : OrderPart = OnShard (shard_of_deed deed) in
+    let caller : OrderPart = ByCaller (caller_of_deed deed) in record {
       all = deed ∷ h.all;
       owner = h.owner;
       within = (below, h.within);
@@ -225,7 +225,7 @@ pub two_parts : (number : ℕ) (who : Caller) (by : List Deed) → AreOther (cod
 two_parts number who by = (λ same. omega (arith, same), tt)
 
 -- a seat that rests in a place
-pub view_there : (place : Badge (List Account)) (accounts : List Account) (part : Part) → place.views ≡ accounts ∷ [] →
+pub view_there : (place : Badge (List Account)) (accounts : List Account) (part : OrderPart) → place.views ≡ accounts ∷ [] →
     place.views ≡ (account part (deeds_at place) ∷ []) ∷ [] → accounts ≡ account part (deeds_at place) ∷ []
 view_there place accounts part is rests = ap (λ (l : List (List Account)). first_view l) (sym is ∙ rests) where
   first_view : List (List Account) → List Account
@@ -236,11 +236,11 @@ pub both_are : {S : Type 0} (me : Me S (List Account)) (w : List Account) (one :
     ◌≡◌ {A = Me S (List Account)} (with_first me.0 w, me.1) (one ∷ two ∷ [], [])
 both_are {S} me w one two is w_is = ap (λ (x : Me S (List Account) × List Account). (with_first x.0.0 x.1, x.0.1)) (λ i. (is i, w_is i))
 
-pub rests_so : (views : List (List Account)) (part : Part) (deeds : List Deed) → views ≡ (account part deeds ∷ []) ∷ [] →
+pub rests_so : (views : List (List Account)) (part : OrderPart) (deeds : List Deed) → views ≡ (account part deeds ∷ []) ∷ [] →
     (views ≡ (account part (deeds_viewed views) ∷ []) ∷ []) × (deeds_viewed views ≡ deeds)
 rests_so views part deeds is = (is ∙ ap (λ (l : List Deed). (account part l ∷ []) ∷ []) (sym (ap deeds_viewed is)), ap deeds_viewed is)
 
-pub sits_so : {S : Type 0} (me : Me S (List Account)) (part : Part) (deeds : List Deed) → me ≡ (account part deeds ∷ [], []) →
+pub sits_so : {S : Type 0} (me : Me S (List Account)) (part : OrderPart) (deeds : List Deed) → me ≡ (account part deeds ∷ [], []) →
     (me ≡ (account part (deeds_in me.0) ∷ [], [])) × (deeds_in me.0 ≡ deeds)
 sits_so {S} me part deeds is =
     let same : deeds_in me.0 ≡ deeds = ap (λ (m : Me S (List Account)). deeds_in m.0) is in

@@ -3,7 +3,7 @@ use Rattle.std.proofs.Common.{◌≡◌, ℕ, zero, suc, ◌+◌, ◌*◌, ◌<�
 use Rattle.atomic_table.specs.Seated.{TableId}
 use Rattle.atomic_table.specs.declared.badge.Badge.{Badge}
 use Rattle.semantics.proofs.shared.EachLemmas.{within}
-use Rattle.shards.specs.declared.deeds.Part.TheVariants.{OnShard, ByCaller}
+use Rattle.shards.specs.declared.deeds.OrderPart.TheVariants.{OnShard, ByCaller}
 use Rattle.shards.specs.declared.deeds.Account.{Account}
 use Rattle.shards.specs.LockRule.{caller_at}
 use Rattle.shards.specs.OrderRule.{code_of, account, account_at, caller_accounts, first_accounts, AreOther, AreApart, IsPlaced, ArePlaces, AreShardPlaces, AreCallerPlaces}

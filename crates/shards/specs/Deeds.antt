@@ -1,5 +1,5 @@
 -- What all callers did on all shards, in one order: the newest deed first.
-use Rattle.std.specs.Prelude.{ℕ, ◌==◌, ◌<◌, Bool, true, false, List, [], ◌∷◌, filter, Result, Ok, Err}
+use Rattle.std.specs.Prelude.{ℕ, ◌==◌, ◌<◌, Bool, List, [], ◌∷◌, filter, Result, Ok, Err}
 use Rattle.std.specs.List.{AllByRecursion}
 use Rattle.semantics.specs.declared.call.Caller.{Caller}
 use Rattle.semantics.specs.declared.call.Call.{Call}
@@ -16,8 +16,8 @@ use Rattle.shards.specs.declared.stopped.Stopped.TheVariants.{AtEnter, AtCall}
 use Rattle.shards.specs.CallerView.{entry_of}
 use Rattle.shards.specs.declared.deeds.Deed.{Deed}
 use Rattle.shards.specs.declared.deeds.Deed.TheVariants.{Wrote, MetFull}
-use Rattle.shards.specs.declared.deeds.Part.{Part}
-use Rattle.shards.specs.declared.deeds.Part.TheVariants.{OnShard, ByCaller}
+use Rattle.shards.specs.declared.deeds.OrderPart.{OrderPart}
+use Rattle.shards.specs.declared.deeds.OrderPart.TheVariants.{OnShard, ByCaller}
 
 abbrev pub shard_of_deed : Deed → ℕ
 shard_of_deed (Wrote entry) = shard_of_call entry.call
@@ -27,12 +27,12 @@ abbrev pub caller_of_deed : Deed → Caller
 caller_of_deed (Wrote entry) = entry.who
 caller_of_deed (MetFull who call) = who
 
-abbrev pub is_deed_of : Part → Deed → Bool
+abbrev pub is_deed_of : OrderPart → Deed → Bool
 is_deed_of (OnShard number) deed = shard_of_deed deed == number
 is_deed_of (ByCaller who) deed = is_caller who (caller_of_deed deed)
 
 -- the deeds of one part, in their order
-abbrev pub deeds_of : Part → List Deed → List Deed
+abbrev pub deeds_of : OrderPart → List Deed → List Deed
 deeds_of part deeds = filter (is_deed_of part) deeds
 
 -- the entries of deeds, in their order, and those on the shard of a number
@@ -73,9 +73,3 @@ abbrev pub deeds_by_both : {A : Type 0} → ℕ → Caller → Call → (A → R
 deeds_by_both number who call replies (Ok answer) = Wrote (entry_of who call (replies answer)) ∷ Wrote (enter_entry number who) ∷ []
 deeds_by_both number who call replies (Err (AtEnter full)) = MetFull who (Enter number) ∷ []
 deeds_by_both number who call replies (Err (AtCall full)) = MetFull who call ∷ Wrote (enter_entry number who) ∷ []
-
--- the same of a call that was served or not, by the history that it left
-abbrev pub deed_after : Bool → List Entry → Caller → Call → Deed
-deed_after true (newest ∷ earlier) who call = Wrote newest
-deed_after true [] who call = MetFull who call
-deed_after false history who call = MetFull who call

@@ -11,7 +11,7 @@ use Rattle.shard_core.specs.JournaledShard.{JournaledShard, opened_shard}
 use Rattle.journals.specs.JournalsView.{AreImageMaps}
 use Rattle.shards.specs.declared.rule.Known.{Known}
 use Rattle.shards.specs.declared.deeds.Account.{Account}
-use Rattle.shards.specs.declared.deeds.Part.TheVariants.{ByCaller}
+use Rattle.shards.specs.declared.deeds.OrderPart.TheVariants.{ByCaller}
 use Rattle.shards.specs.Lodged.{KeyedPlan}
 use Rattle.shards.specs.LockRule.{lock_place, caller_at, pass_of, no_plan, no_table}
 use Rattle.shards.specs.OrderRule.{IsFresh, place_at}

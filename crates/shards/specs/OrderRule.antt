@@ -11,8 +11,8 @@ use Rattle.atomic_table.specs.declared.shared.Seat.{Seat}
 use Rattle.semantics.specs.declared.plan.ShardPlan.{ShardPlan}
 use Rattle.semantics.specs.Each.{Each}
 use Rattle.shards.specs.declared.deeds.Deed.{Deed}
-use Rattle.shards.specs.declared.deeds.Part.{Part}
-use Rattle.shards.specs.declared.deeds.Part.TheVariants.{OnShard, ByCaller}
+use Rattle.shards.specs.declared.deeds.OrderPart.{OrderPart}
+use Rattle.shards.specs.declared.deeds.OrderPart.TheVariants.{OnShard, ByCaller}
 use Rattle.shards.specs.declared.deeds.Account.{Account}
 use Rattle.shards.specs.declared.order_rule.OrderKey.{OrderKey}
 use Rattle.shards.specs.Deeds.{deeds_of, AreMet, AreWithin}
@@ -20,7 +20,7 @@ use Rattle.shards.specs.Lodged.{KeyedPlan}
 use Rattle.shards.specs.LockRule.{caller_at, place_of, no_plan, no_table}
 
 -- parts by number
-abbrev pub code_of : Part → ℕ
+abbrev pub code_of : OrderPart → ℕ
 code_of (OnShard number) = 2 * number
 code_of (ByCaller who) = suc (2 * place_of who)
 
@@ -30,7 +30,7 @@ plan_in plans number = slice_index_or plans number no_plan
 -- ---- the accounts
 
 -- of a part with no deeds, and of one with these deeds alone
-abbrev pub account : Part → List Deed → Account
+abbrev pub account : OrderPart → List Deed → Account
 account part deeds = record { part = part; deeds = deeds }
 
 abbrev pub caller_accounts : ℕ → ℕ → List Account
@@ -97,10 +97,10 @@ deeds_viewed (accounts ∷ others) = deeds_in accounts
 abbrev pub deeds_at : Badge (List Account) → List Deed
 deeds_at place = deeds_viewed place.views
 
-abbrev pub IsPlaceOf : TableId → Part → Badge (List Account) → Type 0
+abbrev pub IsPlaceOf : TableId → OrderPart → Badge (List Account) → Type 0
 IsPlaceOf table part place = (place.table_id ≡ table) × (place.views ≡ (account part (deeds_at place) ∷ []) ∷ [])
 
-abbrev pub IsSeatFor : {S : Type 0} → TableId → Part → Seat S (List Account) → Type 0
+abbrev pub IsSeatFor : {S : Type 0} → TableId → OrderPart → Seat S (List Account) → Type 0
 IsSeatFor table part seat = (seat.table_id ≡ table) × (seat.me ≡ (account part (deeds_in seat.me.0) ∷ [], []))
 
 -- a seat with this account rests in the place
@@ -109,7 +109,7 @@ pub record IsPlaced (table : TableId) (one : Account) (place : Badge (List Accou
   pub knows : place.views ≡ (one ∷ []) ∷ []
 
 -- that of a part of which nothing was done
-abbrev pub IsFresh : TableId → Part → Badge (List Account) → Type 0
+abbrev pub IsFresh : TableId → OrderPart → Badge (List Account) → Type 0
 IsFresh table part place = IsPlaced table (account part []) place
 
 abbrev pub no_place : Badge (List Account)

@@ -10,7 +10,7 @@ ghost use Rattle.shards.specs.declared.pass_fault.PassFault.TheVariants.{BadOpti
 
 use crate::held::{HeldCells, none_held};
 use crate::naming::Naming;
-use crate::order_rule::Place;
+use crate::order_rule::OrderPlace;
 use crate::pass::Pass;
 use crate::pass_fault::PassFault;
 use crate::shard_pass::ShardPass;
@@ -29,7 +29,7 @@ pub struct Dealer<B: Naming> {
     pub(crate) rows: Vec<Waiting>,
     pub(crate) dealt: Vec<bool>,
     /// The seats at the order.
-    pub(crate) places: Vec<Place>,
+    pub(crate) places: Vec<OrderPlace>,
     /// How many cells a worker can hold in each shard.
     pub(crate) rooms: Vec<usize>,
     pub(crate) names: PhantomData<B>,

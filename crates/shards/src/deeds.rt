@@ -12,7 +12,7 @@ pub enum Deed {
 }
 
 /// Whose deeds are kept together.
-pub enum Part {
+pub enum OrderPart {
     /// All that was done on the shard of this number.
     OnShard { number: u32 },
     /// All that the caller did, on every shard.
@@ -21,6 +21,6 @@ pub enum Part {
 
 /// All deeds of one part, the newest first.
 pub struct Account {
-    pub part: Part,
+    pub part: OrderPart,
     pub deeds: LinkedList<Deed>,
 }

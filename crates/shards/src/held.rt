@@ -28,7 +28,7 @@ impl Model for HeldCells {
 }
 
 impl HeldCells {
-    /// No cells, and room for so many. Fails only for lack of memory.
+    /// No cells, and room for `room` of them. Fails only for lack of memory.
     pub(crate) fn with_room(alloc: Global, room: usize) -> Result<Self, AllocError>
         ensures room { IfOk result (λ held. room ≤ held.room) }
         ensures none { IfOk result (λ held. held.ids ≡ []) }
@@ -76,7 +76,7 @@ impl HeldCells {
     }
 }
 
-/// How many cells the caller can hold in a shard, if a worker can hold so many.
+/// How many cells the caller can hold in a shard, if a worker can hold `room`.
 pub(crate) fn room_of(who: Caller, room: usize) -> usize
     ensures { result ≡ room_of who room }
 {

@@ -3,7 +3,6 @@
 #![tactic(auto)]
 
 mod asks;
-mod calls;
 mod closing;
 mod dealer;
 mod deeds;

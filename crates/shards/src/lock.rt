@@ -5,7 +5,7 @@ ghost use Rattle.semantics.specs.History.{Meets, meets, IsLegalHistory, IsJourna
 ghost use Rattle.semantics.specs.CallerLaws.{own_entries};
 ghost use Rattle.shard_core.specs.FewHeld.{FewAreHeld};
 ghost use Rattle.shards.specs.CallerView.{entry_of};
-ghost use Rattle.shards.specs.declared.deeds.Part.TheVariants.{ByCaller};
+ghost use Rattle.shards.specs.declared.deeds.OrderPart.TheVariants.{ByCaller};
 ghost use Rattle.shards.specs.Deeds.{deed_by};
 ghost use Rattle.shards.specs.OrderRule.{IsSeatFor, KnowsShard, deeds_in};
 ghost use Rattle.shards.specs.LockRule.{HasTaken, given, visitor_of};
@@ -154,7 +154,7 @@ fn mark(lock: &Lock, seat: &mut LockSeat, taken: u64) -> u64
         .compare_exchange::<Marks>(seat, WORD, taken, taken + 1)
 }
 
-/// Gives the shard back, whose journal has so many entries. Returns what the word was.
+/// Gives the shard back, whose journal has `entries` entries. Returns what the word was.
 fn give_to(lock: &Lock, seat: &mut LockSeat, entries: u64) -> u64
     requires lock { IsLock lock.now }
     requires seat { IsSeatOf lock.now.shared.table_id seat.old }

@@ -1,9 +1,9 @@
-//! What the table of a shard's word is told once.
+//! What the table of a shard's word is opened with.
 
 ghost use Rattle.std.specs.Prelude.{◌≡◌};
 ghost use Rattle.shards.specs.Lodged.{keyed};
 
-use crate::order_rule::{Order, Place};
+use crate::order_rule::{Order, OrderPlace};
 use semantics::ShardPlan;
 use std::marker::Model;
 
@@ -11,7 +11,7 @@ use std::marker::Model;
 #[derive(Drop)]
 pub struct LockKey {
     plan: ShardPlan,
-    seat: Place,
+    seat: OrderPlace,
 }
 
 impl Model for LockKey {
@@ -23,7 +23,7 @@ impl Model for LockKey {
 }
 
 impl LockKey {
-    pub(crate) fn new(plan: ShardPlan, seat: Place) -> Self
+    pub(crate) fn new(plan: ShardPlan, seat: OrderPlace) -> Self
         ensures { result ≡ keyed plan seat.table_id }
     {
         LockKey { plan, seat }

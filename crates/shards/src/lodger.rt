@@ -5,14 +5,14 @@ ghost use Rattle.semantics.specs.History.{Meets, meets, IsLegalHistory, IsLegalJ
 ghost use Rattle.semantics.specs.CallerLaws.{own_entries};
 ghost use Rattle.shard_core.specs.FewHeld.{FewAreHeld};
 ghost use Rattle.shards.specs.CallerView.{entry_of};
-ghost use Rattle.shards.specs.declared.deeds.Part.TheVariants.{OnShard, ByCaller};
+ghost use Rattle.shards.specs.declared.deeds.OrderPart.TheVariants.{OnShard, ByCaller};
 ghost use Rattle.shards.specs.Deeds.{deed_by, entries_made};
 ghost use Rattle.shards.specs.OrderRule.{IsPlaceOf, IsSeatFor, IsFresh, KnowsShard, deeds_at, deeds_in};
 ghost use Rattle.shards.specs.Lodged.{keyed};
 
 use crate::asks::Ask;
 use crate::order::note;
-use crate::order_rule::{Order, OrderSeat, Place};
+use crate::order_rule::{Order, OrderPlace, OrderSeat};
 use semantics::{Call, Caller, JournalFull, laws};
 use shard_core::{Shard, laws as shard_laws};
 use std::marker::{Brand, Model};
@@ -22,7 +22,7 @@ use std::marker::{Brand, Model};
 #[derive(Drop)]
 pub struct Lodger {
     shard: Shard,
-    place: Place,
+    place: OrderPlace,
 }
 
 impl Model for Lodger {
@@ -38,7 +38,7 @@ impl Model for Lodger {
 
 impl Lodger {
     /// A shard in which nothing has happened.
-    pub(crate) fn new(shard: Shard, place: Place) -> Self
+    pub(crate) fn new(shard: Shard, place: OrderPlace) -> Self
         requires unused { shard.journal ≡ [] }
         requires fresh { IsFresh place.table_id (OnShard shard.plan.number) place }
         ensures { result ≡ (record { key = keyed shard.plan place.table_id; journal = [] }) }
@@ -47,7 +47,7 @@ impl Lodger {
     }
 
     /// The shard and its seat.
-    pub(crate) fn into_parts(self) -> (Shard, Place)
+    pub(crate) fn into_parts(self) -> (Shard, OrderPlace)
         ensures shard { (result.0.plan ≡ self.key.plan) × (result.0.journal ≡ self.journal) }
         ensures place { IsPlaceOf self.key.order (OnShard self.key.plan.number) result.1 }
         ensures written { entries_made (deeds_at result.1) ≡ reverse self.journal }

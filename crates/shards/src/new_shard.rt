@@ -4,7 +4,7 @@ ghost use Rattle.std.specs.Prelude.{◌≡◌, ◌<◌, ◌≤◌, [], IfOk, len
 ghost use Rattle.shard_core.specs.JournaledShard.{opened_shard};
 ghost use Rattle.shards.specs.HeldCells.{most_held};
 ghost use Rattle.shards.specs.LockRule.{dealer_of};
-ghost use Rattle.shards.specs.declared.deeds.Part.TheVariants.{OnShard};
+ghost use Rattle.shards.specs.declared.deeds.OrderPart.TheVariants.{OnShard};
 ghost use Rattle.shards.specs.Lodged.{keyed};
 ghost use Rattle.shards.specs.OrderRule.{IsFresh};
 ghost use Rattle.shards.specs.NewShards.{AreNewSeats};
@@ -14,7 +14,7 @@ use crate::held::most_held;
 use crate::lock_key::LockKey;
 use crate::lodger::Lodger;
 use crate::order::visitor;
-use crate::order_rule::{Order, Place};
+use crate::order_rule::{Order, OrderPlace};
 use crate::rule::{Deals, Known, Lock, LockSeat};
 use atomic_table::Badge;
 use shard_core::Shard;
@@ -51,12 +51,12 @@ impl Model for NewShard {
 }
 
 impl NewShard {
-    /// The shard with seats for so many callers. Fails only for lack of memory.
+    /// The shard with seats for `callers` callers. Fails only for lack of memory.
     pub(crate) fn of(
         alloc: Global,
         order: &Order,
         shard: Shard,
-        place: Place,
+        place: OrderPlace,
         callers: usize,
     ) -> Result<Self, AllocError>
         requires unused { shard ≡ opened_shard shard.plan }
@@ -78,7 +78,7 @@ fn new_lock(
     alloc: Global,
     order: &Order,
     shard: Shard,
-    place: Place,
+    place: OrderPlace,
 ) -> Result<(Lock, LockSeat), AllocError>
     requires unused { shard ≡ opened_shard shard.plan }
     requires order { 0 < order.now.shared.table_id.words }
@@ -97,7 +97,7 @@ fn new_lock(
     }
 }
 
-/// A seat for each of so many callers, in the order of their places.
+/// A seat for each of `callers` callers, in the order of their places.
 fn new_seats(
     alloc: Global,
     lock: &Lock,

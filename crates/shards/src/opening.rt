@@ -16,7 +16,7 @@ use crate::dealer::Dealer;
 use crate::naming::Naming;
 use crate::new_shard::NewShard;
 use crate::order::open_order;
-use crate::order_rule::{Order, Place};
+use crate::order_rule::{Order, OrderPlace};
 use crate::plain_shards::{PlainShards, copied};
 use crate::rule::Lock;
 use crate::sharing::Shards;
@@ -37,7 +37,7 @@ pub struct Opened {
     pub(crate) options: Options,
     /// The order of all deeds, and the callers' seats at it by their places.
     pub(crate) order: Order,
-    pub(crate) places: Vec<Place>,
+    pub(crate) places: Vec<OrderPlace>,
 }
 
 impl Model for Opened {
@@ -136,12 +136,12 @@ fn plans_of(alloc: Global, shards: &[Shard]) -> Result<Vec<ShardPlan>, AllocErro
     Ok(plans)
 }
 
-/// Each shard with a word, with its seat at the order, and with seats for so many callers.
+/// Each shard with a word, with its seat at the order, and with seats for `callers` callers.
 fn new_shards(
     alloc: Global,
     order: &Order,
     mut shards: Vec<Shard>,
-    mut places: Vec<Place>,
+    mut places: Vec<OrderPlace>,
     callers: usize,
 ) -> Result<Vec<NewShard>, AllocError>
     requires unused { AreUnused shards.items }

@@ -1,15 +1,17 @@
 //! The steps on the order of all deeds. Each is a plain load of a word that is never written.
 
 ghost use Rattle.std.specs.Prelude.{◌≡◌, ◌<◌, ◌∷◌, ◌≤◌, [], drop, length, IfOk, OnOk};
-ghost use Rattle.shards.specs.declared.deeds.Part.{Part};
-ghost use Rattle.shards.specs.declared.deeds.Part.TheVariants.{OnShard, ByCaller};
+ghost use Rattle.shards.specs.declared.deeds.OrderPart.{OrderPart};
+ghost use Rattle.shards.specs.declared.deeds.OrderPart.TheVariants.{OnShard, ByCaller};
 ghost use Rattle.shards.specs.Deeds.{shard_of_deed, caller_of_deed, entries_made, IsMetBehind};
 ghost use Rattle.shards.specs.OrderRule.{IsPlaceOf, IsSeatFor, IsEnd, AreApart, ArePlaces, AreShardPlaces, AreCallerPlaces};
 ghost use Rattle.shards.specs.OrderRule.{deeds_at, deeds_in, plan_in, with_first};
 
 use crate::asks::Ask;
 use crate::item::Item;
-use crate::order_rule::{Adds, Comes, Deals, Order, OrderKey, OrderSeat, Place, Takes};
+use crate::order_rule::{
+    Adds, ComesToOrder, DealsAccount, Order, OrderKey, OrderPlace, OrderSeat, TakesIn,
+};
 use atomic_table::Badge;
 use semantics::{Caller, ShardPlan};
 use shard_core::Shard;
@@ -23,7 +25,7 @@ const LINE: [u64; 8] = [0; 8];
 /// and whether it was served are for the proof alone, which picks the deed by them.
 pub(crate) fn note<D: Item, C: Ask>(
     order: &Order,
-    place: &mut Place,
+    place: &mut OrderPlace,
     mine: &mut OrderSeat,
     shard: &Shard,
     who: Caller,
@@ -41,9 +43,9 @@ pub(crate) fn note<D: Item, C: Ask>(
     ensures did { deeds_in mine.new.me.0 ≡ D.item ∷ deeds_in mine.old.me.0 }
 {
     let seat = mem::replace(place, Badge::blank()).into_seat();
-    order.shared.join_seat::<Takes>(mine, seat);
+    order.shared.join_seat::<TakesIn>(mine, seat);
     order.shared.load::<Adds<D>>(mine, 0);
-    *place = order.shared.split_seat::<Deals>(mine).into_badge();
+    *place = order.shared.split_seat::<DealsAccount>(mine).into_badge();
 }
 
 /// An order in which nothing was done, with a seat for each shard, and for each caller by its place. Fails only for lack of memory.
@@ -51,7 +53,7 @@ pub(crate) fn open_order(
     alloc: Global,
     plans: Vec<ShardPlan>,
     callers: usize,
-) -> Result<(Order, Vec<Place>, Vec<Place>), AllocError>
+) -> Result<(Order, Vec<OrderPlace>, Vec<OrderPlace>), AllocError>
     ensures words { IfOk result (λ new. (0 < new.0.shared.table_id.words) × (new.0.shared.table_id.slots ≡ 0)) }
     ensures plans { IfOk result (λ new. new.0.shared.key.plans.items ≡ plans.items) }
     ensures shards { IfOk result (λ new. (length new.1.items ≡ length plans.items) × AreShardPlaces new.0.shared.table_id new.1.items) }
@@ -71,7 +73,7 @@ fn dealt(
     order: &Order,
     seat: &mut OrderSeat,
     count: usize,
-) -> Result<Vec<Place>, AllocError>
+) -> Result<Vec<OrderPlace>, AllocError>
     requires order { 0 < order.now.shared.table_id.words }
     requires seat { (seat.old.table_id ≡ order.now.shared.table_id) × (seat.old.me.1 ≡ []) }
     requires count { count ≤ length seat.old.me.0 }
@@ -83,7 +85,7 @@ fn dealt(
 {
     let mut places = Vec::with_capacity(alloc, count)?;
     'places: for _ in 0..count {
-        let one = order.shared.split_seat::<Deals>(seat);
+        let one = order.shared.split_seat::<DealsAccount>(seat);
         places.push_reserved(one.into_badge());
     }
     Ok(places)
@@ -94,18 +96,18 @@ pub(crate) fn visitor(order: &Order) -> OrderSeat
     requires { 0 < order.now.shared.table_id.words }
     ensures { (result.table_id ≡ order.now.shared.table_id) × (result.me ≡ ([], [])) }
 {
-    order.shared.load_new_seat::<Comes>(0).1
+    order.shared.load_new_seat::<ComesToOrder>(0).1
 }
 
 /// A seat takes in another with one account.
 pub(crate) fn gather(order: &Order, seat: &mut OrderSeat, other: OrderSeat)
     requires order { 0 < order.now.shared.table_id.words }
     requires seat { seat.old.table_id ≡ order.now.shared.table_id }
-    requires other { (part : Part) × IsSeatFor order.now.shared.table_id part other }
+    requires other { (part : OrderPart) × IsSeatFor order.now.shared.table_id part other }
     ensures table { seat.new.table_id ≡ order.now.shared.table_id }
     ensures both { seat.new.me ≡ (with_first seat.old.me.0 other.me.0, seat.old.me.1) }
 {
-    order.shared.join_seat::<Takes>(seat, other);
+    order.shared.join_seat::<TakesIn>(seat, other);
 }
 
 /// Ends the order, in which the seat's accounts are.

@@ -28,9 +28,9 @@ impl TableRule<u8, LinkedList<Account>, OrderKey> for OrderRule {
 }
 
 /// A seat with the first account alone.
-pub struct Deals;
+pub struct DealsAccount;
 
-impl Split<LinkedList<Account>> for Deals {
+impl Split<LinkedList<Account>> for DealsAccount {
     ghost use Rattle.shards.specs.OrderRule.{all_others, first_alone};
 
     ghost left = { all_others };
@@ -39,18 +39,18 @@ impl Split<LinkedList<Account>> for Deals {
 }
 
 /// A step that makes a seat without an account.
-pub struct Comes;
+pub struct ComesToOrder;
 
-impl Play<u8, LinkedList<Account>> for Comes {
+impl Play<u8, LinkedList<Account>> for ComesToOrder {
     ghost use Rattle.shards.specs.OrderRule.{Comes};
 
     ghost then = { λ s v found w. Comes w };
 }
 
 /// A seat takes in the first account of another.
-pub struct Takes;
+pub struct TakesIn;
 
-impl Join<LinkedList<Account>> for Takes {
+impl Join<LinkedList<Account>> for TakesIn {
     ghost use Rattle.std.specs.Prelude.{[]};
     ghost use Rattle.shards.specs.OrderRule.{with_first};
 
@@ -77,4 +77,4 @@ pub type Order = Table<u8, LinkedList<Account>, OrderKey, OrderRule, Global>;
 pub type OrderSeat = Seat<u8, LinkedList<Account>>;
 
 /// The same, as it lies in a place.
-pub type Place = Badge<LinkedList<Account>>;
+pub type OrderPlace = Badge<LinkedList<Account>>;

@@ -5,7 +5,7 @@ ghost use Rattle.semantics.specs.History.{meets, IsLegalHistory};
 ghost use Rattle.semantics.specs.declared.call.Call.TheVariants.{Enter};
 ghost use Rattle.shards.specs.CallerView.{BeginsWith, HasLooked};
 ghost use Rattle.semantics.specs.CallerLaws.{own_entries};
-ghost use Rattle.shards.specs.declared.deeds.Part.TheVariants.{ByCaller};
+ghost use Rattle.shards.specs.declared.deeds.OrderPart.TheVariants.{ByCaller};
 ghost use Rattle.shards.specs.Deeds.{deed_by, deeds_by_both};
 ghost use Rattle.shards.specs.Lodged.{keyed};
 ghost use Rattle.shards.specs.OrderRule.{IsSeatFor, KnowsShard, deeds_in};
@@ -37,7 +37,7 @@ pub struct Pass<B: Naming> {
 }
 
 impl<B: Naming> Model for Pass<B> {
-    ghost use Rattle.shards.specs.declared.deeds.Part.TheVariants.{ByCaller};
+    ghost use Rattle.shards.specs.declared.deeds.OrderPart.TheVariants.{ByCaller};
     ghost use Rattle.shards.specs.Lodged.{keys};
     ghost use Rattle.shards.specs.OrderRule.{IsSeatFor, deeds_in};
     ghost use Rattle.shards.specs.Passes.{PassView, pass_view, IsPass};

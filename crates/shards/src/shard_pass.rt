@@ -7,7 +7,7 @@ ghost use Rattle.semantics.specs.Reclamation.{held_change};
 ghost use Rattle.semantics.specs.declared.call.Call.TheVariants.{Enter};
 ghost use Rattle.journal.specs.Entries.{enter_entry};
 ghost use Rattle.shards.specs.CallerView.{entry_of, nothing_seen, BeginsWith, HasLooked, IsServed, IsRefused};
-ghost use Rattle.shards.specs.declared.deeds.Part.TheVariants.{ByCaller};
+ghost use Rattle.shards.specs.declared.deeds.OrderPart.TheVariants.{ByCaller};
 ghost use Rattle.shards.specs.Deeds.{deed_by, deeds_by_both};
 ghost use Rattle.shards.specs.OrderRule.{IsSeatFor, KnowsShard, deeds_in};
 ghost use Rattle.shards.specs.LockRule.{pass_of};

@@ -39,7 +39,7 @@
 //! # Visitors
 //!
 //! `hold`, `meet` and `close` make no call. They take the shard by a *visitor's* seat, which anyone gets (`Comes`), and which waits like every other. A
-//! visitor that has the shard can show a caller its history (`showing`): the two seats become one (`Both`), a load tells that the caller's own entries are
+//! visitor that has the shard can show a caller its history (`showing`): the two seats become one (`Both`), a load shows that the caller's own entries are
 //! all of its entries in that history (`Sees`), and they part again. `close` shows each shard to each pass that was handed in, puts the shard back for
 //! good (`Ends`, phase 3), and takes the table apart: the shard is in its slot then, with the history that the passes were shown.
 

@@ -10,7 +10,7 @@ use Rattle.std.proofs.lemmas.Fmt.{decimal_by_steps, decimal_nonempty, decimal_is
 use Rattle.std.proofs.lemmas.List.{append-nil}
 use Rattle.isa.specs.declared.operation.Register.{Register as RegisterName}
 use Rattle.isa.specs.declared.operation.Register.TheVariants.{R0, R1, R2, R3, R4, R5, R6, R7, R8, R9, R10}
-use Rattle.isa.specs.declared.operation.Source.TheVariants.{Imm, Reg}
+use Rattle.isa.specs.declared.operation.SourceOperand.TheVariants.{Imm, Reg}
 use Rattle.isa.specs.declared.operation.Width.TheVariants.{Bits32, Bits64}
 use Rattle.isa.specs.declared.operation.AluOp.TheVariants.{Add, Sub, Mul, Div, Sdiv, Or, And, Lsh, Rsh, Mod, Smod, Xor, Mov, Arsh}
 use Rattle.isa.specs.declared.operation.Extension.TheVariants.{I8, I16, I32}

@@ -7,13 +7,14 @@ use crate::images::image_note;
 use crate::lines::{parts_at, statements_of};
 use crate::meaning::line_text;
 use crate::numbers::number_text;
+use crate::slips::{foreign_mark, slip_in};
 use crate::words::{Form, after_first_word, first_word, form_of, is_heading, label_of, words_of};
 use disasm::is_first_word;
 use std::alloc::{AllocError, Global};
 
 /// What an operand may be.
 #[derive(Clone, Copy, Debug, PartialEq, Eq)]
-enum Kind {
+enum OperandKind {
     Register,
     /// A number that is stored.
     Immediate,
@@ -31,39 +32,39 @@ enum Kind {
 
 /// The kinds of operands behind the first word of an instruction.
 #[rattlefmt::skip]
-fn kinds_of(word: &str) -> &'static [Kind] {
+fn kinds_of(word: &str) -> &'static [OperandKind] {
     if word == "exit" { return &[]; }
-    if word == "call" { return &[Kind::Number]; }
-    if word == "ja" { return &[Kind::Target]; }
-    if word == "ja32" { return &[Kind::FarTarget]; }
-    if word.starts_with("j") { return &[Kind::Register, Kind::RegisterOrImmediate, Kind::Target]; }
-    if word == "lddw" { return &[Kind::Register, Kind::Wide]; }
-    if word == "ldmap" { return &[Kind::Register, Kind::Number]; }
-    if word == "ldval" { return &[Kind::Register, Kind::Number, Kind::Offset]; }
-    if word.starts_with("ldx") { return &[Kind::Register, Kind::Place]; }
-    if word.starts_with("stx") { return &[Kind::Place, Kind::Register]; }
-    if word.starts_with("st") { return &[Kind::Place, Kind::Immediate]; }
-    if word.starts_with("movsx") { return &[Kind::Register, Kind::Register]; }
-    if word.starts_with("neg") || word.starts_with("le") || word.starts_with("be") || word.starts_with("swap") { return &[Kind::Register]; }
+    if word == "call" { return &[OperandKind::Number]; }
+    if word == "ja" { return &[OperandKind::Target]; }
+    if word == "ja32" { return &[OperandKind::FarTarget]; }
+    if word.starts_with("j") { return &[OperandKind::Register, OperandKind::RegisterOrImmediate, OperandKind::Target]; }
+    if word == "lddw" { return &[OperandKind::Register, OperandKind::Wide]; }
+    if word == "ldmap" { return &[OperandKind::Register, OperandKind::Number]; }
+    if word == "ldval" { return &[OperandKind::Register, OperandKind::Number, OperandKind::Offset]; }
+    if word.starts_with("ldx") { return &[OperandKind::Register, OperandKind::Place]; }
+    if word.starts_with("stx") { return &[OperandKind::Place, OperandKind::Register]; }
+    if word.starts_with("st") { return &[OperandKind::Place, OperandKind::Immediate]; }
+    if word.starts_with("movsx") { return &[OperandKind::Register, OperandKind::Register]; }
+    if word.starts_with("neg") || word.starts_with("le") || word.starts_with("be") || word.starts_with("swap") { return &[OperandKind::Register]; }
     if word == "add" || word == "add32" || word == "and" || word == "and32" || word == "arsh" || word == "arsh32" {
-        return &[Kind::Register, Kind::RegisterOrImmediate];
+        return &[OperandKind::Register, OperandKind::RegisterOrImmediate];
     }
-    if word.starts_with("a") { return &[Kind::Place, Kind::Register]; }
-    &[Kind::Register, Kind::RegisterOrImmediate]
+    if word.starts_with("a") { return &[OperandKind::Place, OperandKind::Register]; }
+    &[OperandKind::Register, OperandKind::RegisterOrImmediate]
 }
 
 #[rattlefmt::skip]
-fn kind_text(kind: Kind) -> &'static str {
+fn kind_text(kind: OperandKind) -> &'static str {
     match kind {
-        Kind::Register => "a register, r0 to r10",
-        Kind::Immediate => "a number from -2147483648 to 4294967295",
-        Kind::RegisterOrImmediate => "a register, r0 to r10, or a number from -2147483648 to 4294967295",
-        Kind::Number => "a number from -2147483648 to 2147483647",
-        Kind::Offset => "a number from 0 to 4294967295",
-        Kind::Place => "a place as [r1+0] or [r10-8]",
-        Kind::Target => "a label, or a distance with its sign as +3, from -32768 to +32767",
-        Kind::FarTarget => "a label, or a distance with its sign as +3, from -2147483648 to +2147483647",
-        Kind::Wide => "a number of 64 bits",
+        OperandKind::Register => "a register, r0 to r10",
+        OperandKind::Immediate => "a number from -2147483648 to 4294967295",
+        OperandKind::RegisterOrImmediate => "a register, r0 to r10, or a number from -2147483648 to 4294967295",
+        OperandKind::Number => "a number from -2147483648 to 2147483647",
+        OperandKind::Offset => "a number from 0 to 4294967295",
+        OperandKind::Place => "a place as [r1+0] or [r10-8]",
+        OperandKind::Target => "a label, or a distance with its sign as +3, from -32768 to +32767",
+        OperandKind::FarTarget => "a label, or a distance with its sign as +3, from -2147483648 to +2147483647",
+        OperandKind::Wide => "a number of 64 bits",
     }
 }
 
@@ -137,16 +138,16 @@ fn is_far_place(token: &str) -> bool {
 }
 
 /// Whether an operand of the exact text may be of this kind.
-fn is_of_kind(kind: Kind, token: &str) -> bool {
+fn is_of_kind(kind: OperandKind, token: &str) -> bool {
     match kind {
-        Kind::Register => is_register(token),
-        Kind::Immediate | Kind::Number => is_number(token),
-        Kind::RegisterOrImmediate => is_register(token) || is_number(token),
-        Kind::Offset => !token.starts_with("+") && token.parse::<u32>().is_ok(),
-        Kind::Place => is_place(token),
-        Kind::Target => has_sign(token) && token.parse::<i16>().is_ok(),
-        Kind::FarTarget => has_sign(token) && token.parse::<i32>().is_ok(),
-        Kind::Wide => token.starts_with("0x"),
+        OperandKind::Register => is_register(token),
+        OperandKind::Immediate | OperandKind::Number => is_number(token),
+        OperandKind::RegisterOrImmediate => is_register(token) || is_number(token),
+        OperandKind::Offset => !token.starts_with("+") && token.parse::<u32>().is_ok(),
+        OperandKind::Place => is_place(token),
+        OperandKind::Target => has_sign(token) && token.parse::<i16>().is_ok(),
+        OperandKind::FarTarget => has_sign(token) && token.parse::<i32>().is_ok(),
+        OperandKind::Wide => token.starts_with("0x"),
     }
 }
 
@@ -182,20 +183,29 @@ fn no_number(alloc: Global, statement: &str) -> Result<&str, AllocError> {
 }
 
 /// What was expected in place of an operand of the exact text.
-fn expected_text(alloc: Global, word: &str, kind: Kind, token: &str) -> Result<String, AllocError> {
-    if kind == Kind::Place && is_far_place(token) {
+fn expected_text(
+    alloc: Global,
+    word: &str,
+    kind: OperandKind,
+    token: &str,
+) -> Result<String, AllocError> {
+    if kind == OperandKind::Place && is_far_place(token) {
         return String::from_str(alloc, "an offset from -32768 to +32767");
     }
-    if kind == Kind::Immediate && is_register(token) {
+    if kind == OperandKind::Immediate && is_register(token) {
         let size = word.strip_prefix("st").unwrap_or("");
         return format!(in alloc; "{}: stx{size} stores a register", kind_text(kind));
     }
-    if kind == Kind::Register && is_number(token) && word.starts_with("stx") {
+    if kind == OperandKind::Register && is_number(token) && word.starts_with("stx") {
         let size = word.strip_prefix("stx").unwrap_or("");
         return format!(in alloc; "{}: st{size} stores a number", kind_text(kind));
     }
     if has_idle_zero(token) {
         return String::from_str(alloc, "a number without a zero in front");
+    }
+    let lower = token.to_ascii_lowercase(alloc)?;
+    if is_of_kind(kind, lower.as_str()) {
+        return format!(in alloc; "{lower}, in lower case");
     }
     String::from_str(alloc, kind_text(kind))
 }
@@ -249,8 +259,30 @@ fn wrong_spelling(alloc: Global, statement: &str, exact: &str) -> Result<String,
     wrong_operand(alloc, word, &operands, &tokens)
 }
 
-/// What is wrong with the line, in words.
+/// What is wrong with the line, in words: a slip by its name, if it is one.
 fn problem_text(
+    alloc: Global,
+    statements: &[&str],
+    place: usize,
+    statement: &str,
+    problem: Problem,
+) -> Result<String, AllocError>
+    requires { place ≤ length statements.now }
+{
+    if let Some(mark) = foreign_mark(alloc, statement)? {
+        return Ok(mark);
+    }
+    if problem == Problem::LabelTwice || problem == Problem::NoLabelName {
+        return wrong_part(alloc, statements, place, statement, problem);
+    }
+    match slip_in(alloc, words_of(statement))? {
+        Some(slip) => Ok(slip),
+        None => wrong_part(alloc, statements, place, statement, problem),
+    }
+}
+
+/// Which part of the line is wrong, in words.
+fn wrong_part(
     alloc: Global,
     statements: &[&str],
     place: usize,

@@ -12,6 +12,7 @@ mod meaning;
 mod numbers;
 mod operands;
 mod printing;
+mod slips;
 mod slot_notes;
 mod words;
 

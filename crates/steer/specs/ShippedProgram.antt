@@ -4,7 +4,7 @@ use Rattle.std.specs.Prelude.{ℕ, ◌+◌, zero, suc, ℤ, pos, negsuc, List, [
 use Rattle.std.specs.List.{flat_map}
 use Rattle.isa.specs.declared.operation.Register.TheVariants.{R0, R1, R2, R3, R4, R6, R7, R8, R9, R10}
 use Rattle.isa.specs.declared.operation.Size.TheVariants.{U8, U16, U32, U64}
-use Rattle.isa.specs.declared.operation.Source.TheVariants.{Imm, Reg}
+use Rattle.isa.specs.declared.operation.SourceOperand.TheVariants.{Imm, Reg}
 use Rattle.isa.specs.declared.operation.Width.TheVariants.{Bits32, Bits64}
 use Rattle.isa.specs.declared.operation.AluOp.TheVariants.{Add, And, Lsh, Mod, Mov, Mul, Or, Rsh, Sub, Xor}
 use Rattle.isa.specs.declared.operation.AtomicOp.TheVariants.{AtomicAdd}

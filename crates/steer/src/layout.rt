@@ -5,7 +5,7 @@ ghost use Rattle.steer.specs.Layout.{line_slots, insn_of, laid_out};
 ghost use Rattle.steer.specs.ShippedProgram.{start_of};
 
 use ebpf_decode::Insn;
-use isa::{Register, Source, Test, Width};
+use isa::{Register, SourceOperand, Test, Width};
 use std::alloc::AllocError;
 
 /// A block of the program. The blocks follow one another in this order.
@@ -65,7 +65,7 @@ pub(crate) enum Line {
         width: Width,
         test: Test,
         dst: Register,
-        source: Source,
+        source: SourceOperand,
         to: Block,
     },
 }

@@ -6,26 +6,24 @@ ghost use Rattle.maglev.specs.RingSize.{IsRingSize};
 ghost use Rattle.semantics.specs.ShardPlan.{are_served_options};
 ghost use Rattle.steer.specs.ShippedProgram.{shipped_image};
 ghost use Rattle.replay.specs.Accounted.{IsAccounted};
+ghost use Rattle.replay.specs.ExactReplays.{IsInTurn};
 ghost use Rattle.replay.specs.Parts.{HasNoTable};
-ghost use Rattle.replay.specs.declared.fault.ReplayFault.TheVariants.{BadOptions};
+ghost use Rattle.replay.specs.declared.fault.ReplayFault.TheVariants.{BadOptions, NoThread};
 ghost use Rattle.steered_replays.specs.SteeredRuns.{IsSteeredReplay};
 ghost use Rattle.steered_replays.specs.Totals.{AreTotals};
 
 use crate::laws::{replays_are_steered, totals_are_exact};
 use crate::replays::all_are_of_capture;
 use control::Script;
-use replay::{Outcome, ReplayFault, exact_replay};
+use replay::{Outcome, ReplayFault, replay_in_turn};
 use semantics::Options;
 use shard_port::Gate;
 use std::alloc::Global;
-use std::sync::Wait;
-use std::thread::Threads;
 use verifier::Verified;
 use wire::Capture;
 
-/// What `shipped_replay` does, by `exact_replay`, in which each command takes effect between the frames before and after it.
-pub fn exact_shipped_replay<R: Threads + Wait + Sync, G: Gate + Sync>(
-    rt: &R,
+/// What `shipped_replay` does, by `replay_in_turn`: each command takes effect between the frames before and after it.
+pub fn exact_shipped_replay<G: Gate>(
     alloc: Global,
     verified: &Verified,
     size: u32,
@@ -39,13 +37,15 @@ pub fn exact_shipped_replay<R: Threads + Wait + Sync, G: Gate + Sync>(
     ensures accounted { IfOk result (IsAccounted (program_of verified.now options.shards) script.now options capture.now.records.items) }
     ensures steered { IfOk result (IsSteeredReplay size script.now options capture.now.records.items) }
     ensures totals { IfOk result (λ outcome. outcome.counts.stopped ≡ 0 → AreTotals outcome) }
+    ensures in_turn { IfOk result (IsInTurn (program_of verified.now options.shards) script.now options capture.now.records.items) }
     ensures bad_options { IsErrOf result BadOptions ↔
         (IsFalse (are_served_options verified.now.maps options) ⊎ HasNoTable verified.now.maps script.now) }
+    ensures no_thread { ¬ IsErrOf result NoThread }
 {
     replays_are_steered();
     totals_are_exact();
     all_are_of_capture(capture);
-    let outcome = exact_replay(rt, alloc, verified, capture, script, options, gate)?;
+    let outcome = replay_in_turn(alloc, verified, capture, script, options, gate)?;
     let _ = outcome.journals.options();
     let _ = size;
     Ok(outcome)

@@ -17,7 +17,7 @@ macro_rules! alu {
 #[macro_export]
 macro_rules! mov {
     ($dst:expr, $src:expr) => {
-        $crate::alu!(isa::AluOp::Mov, $dst, isa::Source::Reg($src))
+        $crate::alu!(isa::AluOp::Mov, $dst, isa::SourceOperand::Reg($src))
     };
 }
 
@@ -25,7 +25,7 @@ macro_rules! mov {
 #[macro_export]
 macro_rules! number {
     ($dst:expr, $immediate:expr) => {
-        $crate::alu!(isa::AluOp::Mov, $dst, isa::Source::Imm($immediate))
+        $crate::alu!(isa::AluOp::Mov, $dst, isa::SourceOperand::Imm($immediate))
     };
 }
 
@@ -44,7 +44,7 @@ macro_rules! lddw {
 #[macro_export]
 macro_rules! add {
     ($dst:expr, $immediate:expr) => {
-        $crate::alu!(isa::AluOp::Add, $dst, isa::Source::Imm($immediate))
+        $crate::alu!(isa::AluOp::Add, $dst, isa::SourceOperand::Imm($immediate))
     };
 }
 

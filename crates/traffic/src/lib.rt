@@ -10,8 +10,6 @@ mod printing;
 mod record_line;
 mod shares;
 mod tables;
-#[cfg(test)]
-mod tests;
 mod tunnels;
 mod written_maps;
 
@@ -22,5 +20,6 @@ pub use moves::{moved_places, moves_in};
 pub use not_sent::{NotSent, is_for, services};
 pub use printing::summary;
 pub use record_line::{LineVerdict, RecordLine, ReportForm, case_word};
+pub use shares::{least_moves, moved_slots, share_of};
 pub use tables::{Refused, Tables, tables_of};
 pub use tunnels::{Targets, target_of};

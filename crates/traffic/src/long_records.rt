@@ -6,15 +6,7 @@ ghost use Rattle.traffic.specs.LongRecords.{HasNoRecord, IsShortened, long_count
 
 use byteorder::{ByteOrder, LittleEndian};
 use std::alloc::{AllocError, Global};
-
-/// The bytes of a file's header.
-const HEADER_LEN: usize = 24;
-
-/// The bytes of a record's head.
-const HEAD_LEN: usize = 16;
-
-/// The most bytes that a record of a frame may keep.
-const MOST_KEPT: u32 = 2048;
+use wire::{CAPTURE_HEADER_LEN, MAX_FRAME, RECORD_HEAD_LEN};
 
 /// A capture file without its long records.
 #[derive(Debug, Drop)]
@@ -37,10 +29,10 @@ fn kept_in(record: &[u8]) -> u32
 fn record_len(rest: &[u8]) -> Option<usize>
     ensures { MatchOption result (HasNoRecord rest.now) (λ len. (len ≡ 16 + le32_at 8 rest.now) × (len ≤ length rest.now)) }
 {
-    if rest.len() < HEAD_LEN {
+    if rest.len() < RECORD_HEAD_LEN {
         return None;
     }
-    let len = HEAD_LEN + kept_in(rest) as usize;
+    let len = RECORD_HEAD_LEN + kept_in(rest) as usize;
     if rest.len() < len { None } else { Some(len) }
 }
 
@@ -50,7 +42,7 @@ fn put_unless_long(kept: &mut Vec<u8>, record: &[u8]) -> Result<u64, AllocError>
     ensures kept { OnOk result (kept.new.items ≡ kept.old.items ++ unless_long record.now) }
     ensures counted { IfOk result (λ count. count ≡ long_count (record.now ∷ [])) }
 {
-    if kept_in(record) > MOST_KEPT {
+    if kept_in(record) as usize > MAX_FRAME {
         return Ok(1);
     }
     kept.extend_from_slice(record)?;
@@ -62,7 +54,7 @@ fn header_and_rest(bytes: &[u8]) -> (&[u8], &[u8])
     ensures header { result.0.now ≡ take 24 bytes.now }
     ensures rest { result.1.now ≡ drop 24 bytes.now }
 {
-    bytes.split_at(HEADER_LEN.min(bytes.len()))
+    bytes.split_at(CAPTURE_HEADER_LEN.min(bytes.len()))
 }
 
 /// The bytes of a capture file without the records that keep more than 2048 bytes, and how many of these there were. A record is left out only if all its

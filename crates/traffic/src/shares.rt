@@ -8,7 +8,7 @@ ghost use Rattle.traffic.specs.Shares.{gain_of, gains_below, least_moves, moved_
 const WORDS: u32 = 257;
 
 /// How many slots have this word.
-pub(crate) fn share_of(word: u32, words: &[u32]) -> usize
+pub fn share_of(word: u32, words: &[u32]) -> usize
     ensures { result ≡ share_of word words.now }
 {
     words.iter().filter(|other| **other == word).count()
@@ -22,7 +22,7 @@ fn word_at(words: &[u32], place: u32) -> u32
 }
 
 /// How many of the first slots have another word in the second table than in the first.
-pub(crate) fn moved_slots(old: &[u32], new: &[u32], size: u32) -> u32
+pub fn moved_slots(old: &[u32], new: &[u32], size: u32) -> u32
     ensures { result ≡ moved_below old.now new.now size }
 {
     let mut moved = 0;
@@ -54,7 +54,7 @@ fn gains_below(old: &[u32], new: &[u32], words: u32) -> u128
 }
 
 /// The least number of slots that change hands from the first table to any in which each backend, and nobody, has the share of the second.
-pub(crate) fn least_moves(old: &[u32], new: &[u32]) -> u128
+pub fn least_moves(old: &[u32], new: &[u32]) -> u128
     ensures { result ≡ least_moves old.now new.now }
 {
     gains_below(old, new, WORDS)

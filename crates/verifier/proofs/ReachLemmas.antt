@@ -9,7 +9,7 @@ use Rattle.ebpf_decode.specs.InstructionEncoding.{total_slots}
 use Rattle.isa.specs.declared.operation.Width.{Width}
 use Rattle.isa.specs.declared.operation.Test.{Test}
 use Rattle.isa.specs.declared.operation.Register.{Register}
-use Rattle.isa.specs.declared.operation.Source.{Source}
+use Rattle.isa.specs.declared.operation.SourceOperand.{SourceOperand}
 use Rattle.semantics.specs.Program.{instruction_at}
 use Rattle.ebpf_decode.specs.Jumps.{jump_distance}
 use Rattle.verifier.proofs.Distances.{no_target}
@@ -113,7 +113,7 @@ splits_along slot insn target taken fallen flow e (inl fall) =
 splits_along slot insn target taken fallen flow e (inr jump) =
     record { there = taken; taken = subst (IsTaken slot insn target taken) e (by_test fallen (jumps_there slot insn target jump)) }
 
-test_splits : (state : State) (width : Width) (test : Test) (dst : Register) (source : Source) (flow : Flow) → test_flow state width test dst source ≡ Ok flow →
+test_splits : (state : State) (width : Width) (test : Test) (dst : Register) (source : SourceOperand) (flow : Flow) → test_flow state width test dst source ≡ Ok flow →
     Splits (refine_state state width test dst source true) (refine_state state width test dst source false) ≡ flow
 test_splits state width test dst source flow e =
     let read = ok_then (reads_both state dst source) (λ _. allowed_test width test (kind_of state dst) (source_kind state source) dst source >>=

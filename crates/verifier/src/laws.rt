@@ -13,7 +13,7 @@ pub fn first_reject_is_one()
     ensures { FirstRejectIsOne }
 {}
 
-/// A rule that is broken before the first jump is told, whatever memory there is: no memory is asked for before.
+/// A rule that is broken before the first jump is returned, whatever memory there is: no memory is asked for before.
 pub fn rule_before_jumps_is_told()
     ensures { RuleBeforeJumpsIsTold }
 {}

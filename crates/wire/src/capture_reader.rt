@@ -6,19 +6,17 @@ ghost use Rattle.wire.specs.Device.{IfKnown};
 
 use crate::capture_fault::CaptureFault;
 use crate::device::Source;
+use crate::frame_buffer::MAX_FRAME;
 use crate::records::{Capture, Sent};
 use crate::transfer::{ReadFault, read_all};
 use byteorder::{ByteOrder, LittleEndian};
 use std::alloc::Global;
 
-/// The bytes of a file's header.
-pub(crate) const HEADER_LEN: usize = 24;
+/// The bytes of a capture file's header.
+pub const CAPTURE_HEADER_LEN: usize = 24;
 
-/// The bytes of a record's head.
-pub(crate) const HEAD_LEN: usize = 16;
-
-/// The most bytes that a record may keep.
-const MAX_KEPT: usize = 2048;
+/// The bytes of the head of each record behind it.
+pub const RECORD_HEAD_LEN: usize = 16;
 
 /// The 16-bit number at an index, low byte first.
 fn le16_at(bytes: &[u8], at: usize) -> u16
@@ -41,7 +39,7 @@ fn check_header(bytes: &[u8]) -> Result<(), CaptureFault>
     ensures header { OnOk result (BeginsWithHeader bytes.now) }
     ensures fault { IfErr result (IsHeaderFault bytes.now) }
 {
-    if bytes.len() < HEADER_LEN {
+    if bytes.len() < CAPTURE_HEADER_LEN {
         return Err(CaptureFault::CutHead { record: 0 });
     }
     if le32_at(bytes, 0) != 0xa1b2c3d4 {
@@ -62,17 +60,17 @@ fn record_of(alloc: Global, rest: &[u8], number: u64) -> Result<Sent, CaptureFau
     ensures sent { IfOk result (BeginsWithRecord rest.now) }
     ensures fault { IfErr result (RefusesRecord rest.now number) }
 {
-    if rest.len() < HEAD_LEN {
+    if rest.len() < RECORD_HEAD_LEN {
         return Err(CaptureFault::CutHead { record: number });
     }
     let kept = le32_at(rest, 8) as usize;
-    if kept > MAX_KEPT {
+    if kept > MAX_FRAME {
         return Err(CaptureFault::FrameTooLong { record: number });
     }
-    if rest.len() < HEAD_LEN + kept {
+    if rest.len() < RECORD_HEAD_LEN + kept {
         return Err(CaptureFault::CutFrame { record: number });
     }
-    let bytes = Vec::from_slice(alloc, &rest[HEAD_LEN..HEAD_LEN + kept]).map_err(
+    let bytes = Vec::from_slice(alloc, &rest[RECORD_HEAD_LEN..RECORD_HEAD_LEN + kept]).map_err(
         |_| CaptureFault::Memory,
     )?;
     Ok(Sent {
@@ -89,11 +87,11 @@ fn capture_of(alloc: Global, bytes: &[u8]) -> Result<Capture, CaptureFault>
 {
     check_header(bytes)?;
     let mut records = Vec::new(alloc);
-    let mut rest = &bytes[HEADER_LEN..];
+    let mut rest = &bytes[CAPTURE_HEADER_LEN..];
     'records: while !rest.is_empty() {
         match record_of(alloc, rest, records.len() as u64 + 1) {
             Ok(sent) => {
-                let tail = &rest[HEAD_LEN + sent.bytes.len()..];
+                let tail = &rest[RECORD_HEAD_LEN + sent.bytes.len()..];
                 match records.push(sent) {
                     Ok(()) => rest = tail,
                     Err(_) => return Err(CaptureFault::Memory),

@@ -7,14 +7,14 @@ ghost use Rattle.wire.specs.CaptureFormat.{header_bytes, record_bytes, capture_b
 ghost use Rattle.wire.specs.Device.{AppendsFront};
 
 use crate::capture_fault::CaptureFault;
-use crate::capture_reader::{HEAD_LEN, HEADER_LEN};
+use crate::capture_reader::{CAPTURE_HEADER_LEN, RECORD_HEAD_LEN};
 use crate::device::{Failed, Sink};
 use crate::records::Sent;
 use crate::transfer::write_all;
 use byteorder::{ByteOrder, LittleEndian};
 
 /// A file's header: magic number, version 2.4, zone 0, accuracy 0, snap length 65535, link type 1.
-const HEADER: [u8; HEADER_LEN] = [
+const HEADER: [u8; CAPTURE_HEADER_LEN] = [
     0xd4, 0xc3, 0xb2, 0xa1, 2, 0, 4, 0, 0, 0, 0, 0, 0, 0, 0, 0, 0xff, 0xff, 0, 0, 1, 0, 0, 0,
 ];
 
@@ -37,7 +37,7 @@ fn write_record<K: Sink>(sink: &mut K, sent: &Sent) -> Result<(), Failed>
     ensures front { OnErr result (AppendsFront (K.held sink.old) (K.held sink.new) (record_bytes sent.now)) }
     ensures counted { OnErr result (K.failure_count sink.new ≡ K.failure_count sink.old + 1) }
 {
-    let mut head = [0; HEAD_LEN];
+    let mut head = [0; RECORD_HEAD_LEN];
     put_head(
         &mut head,
         sent.seconds,

@@ -11,7 +11,7 @@ use thiserror::Error;
 const HEADROOM: usize = 256;
 
 /// The most bytes that a new frame may have.
-const MAX_FRAME: usize = 2048;
+pub const MAX_FRAME: usize = 2048;
 
 /// The fewest bytes of a frame: an Ethernet header.
 pub const MIN_FRAME: usize = 14;

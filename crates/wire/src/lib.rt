@@ -19,13 +19,13 @@ mod transfer;
 
 pub use big_endian::{be_bytes, word_at};
 pub use capture_fault::CaptureFault;
-pub use capture_reader::read_capture;
+pub use capture_reader::{CAPTURE_HEADER_LEN, RECORD_HEAD_LEN, read_capture};
 pub use capture_writer::write_capture;
 pub use checksum::ones_sum;
 pub use device::{Failed, Sink, Source};
 pub use ethernet::{EthernetHeader, Ipv4Address, MacAddress};
 pub use flow::{FlowKey, Transport, flow_of};
-pub use frame_buffer::{Frame, FrameFault, MIN_FRAME};
+pub use frame_buffer::{Frame, FrameFault, MAX_FRAME, MIN_FRAME};
 pub use hash::fnv1a64;
 pub use ipv4::Ipv4Packet;
 pub use memory::{MemorySink, MemorySource};

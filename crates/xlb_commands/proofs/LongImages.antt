@@ -18,7 +18,7 @@ use Rattle.ebpf_decode.specs.ImageContents.{Contents}
 use Rattle.ebpf_decode.specs.ImageFormat.{has_head, map_count, version_at, maps_at, code_at, image_at, has_code_size, may_ask_memory, fault_of, first_decode_fault, IsImageEncoding}
 use Rattle.ebpf_decode.proofs.shared.SlotLaws.{both}
 use Rattle.ebpf_decode.proofs.shared.ImageLaws.{read_again}
-use Rattle.xlb_commands.specs.Refused.{IsDecodeRefusal}
+use Rattle.xlb_commands.specs.Refused.{IsDecodeRefusal, kept_of_image, beyond_images}
 
 false_is_not_true : false ≡ true → ⊥
 false_is_not_true is = absurd cc
@@ -168,7 +168,7 @@ same_body true version count front rest few long whole =
 same_body false version count front rest few long whole = refl
 
 -- bytes read as their front, if it is longer than any image and has as many bytes beyond whole slots
-image_front : (front rest : List ℕ) → 33040 ≤ length front → length (front ++ rest) % 8 ≡ length front % 8 → image_at (front ++ rest) ≡ image_at front
+image_front : (front rest : List ℕ) → beyond_images ≤ length front → length (front ++ rest) % 8 ≡ length front % 8 → image_at (front ++ rest) ≡ image_at front
 unfolding image_at
 image_front (a ∷ b ∷ c ∷ d ∷ e ∷ f ∷ g ∷ h ∷ front) rest long whole =
     let bytes = a ∷ b ∷ c ∷ d ∷ e ∷ f ∷ g ∷ h ∷ front in
@@ -199,7 +199,7 @@ none_in_body true version count bytes few long image is =
     none_after version size (maps_at version 0 count bytes) (maps_left version 0 count bytes size (omega arith)) (omega arith) image is
 none_in_body false version count bytes few long image is = absurd cc
 
-pub no_long_image : (bytes : List ℕ) → 33040 ≤ length bytes → (image : Contents) → image_at bytes ≡ Ok image → ⊥
+pub no_long_image : (bytes : List ℕ) → beyond_images ≤ length bytes → (image : Contents) → image_at bytes ≡ Ok image → ⊥
 unfolding image_at
 no_long_image (a ∷ b ∷ c ∷ d ∷ e ∷ f ∷ g ∷ h ∷ rest) long image is =
     let bytes = a ∷ b ∷ c ∷ d ∷ e ∷ f ∷ g ∷ h ∷ rest in
@@ -219,7 +219,7 @@ asks_alike true true size other none asked = refl
 asks_alike true false size other none asked = absurd (false_is_not_true (sym none ∙ asked))
 asks_alike false some size other none asked = absurd (false_is_not_true asked)
 
-asked_front : (front rest : List ℕ) → 33040 ≤ length front → IsTrue (may_ask_memory front) → IsTrue (may_ask_memory (front ++ rest))
+asked_front : (front rest : List ℕ) → beyond_images ≤ length front → IsTrue (may_ask_memory front) → IsTrue (may_ask_memory (front ++ rest))
 asked_front (a ∷ b ∷ c ∷ d ∷ e ∷ f ∷ g ∷ h ∷ front) rest long asked =
     let bytes = a ∷ b ∷ c ∷ d ∷ e ∷ f ∷ g ∷ h ∷ front in
     subst (λ (head : Bool). IsTrue (head && (nat_lt 0 f || has_code_size (front ++ rest)))) (sym (head_front bytes rest (omega arith)))
@@ -230,7 +230,7 @@ asked_front front rest long asked = absurd (omega arith)
 
 -- so many bytes of its front are longer than any image, and both have as many bytes beyond whole slots
 pub record IsFrontOfLong (bytes : List ℕ) (count : ℕ) : Type 0 where
-  pub long : 33040 ≤ count
+  pub long : beyond_images ≤ count
   pub within : count ≤ length bytes
   pub whole : length bytes % 8 ≡ count % 8
 
@@ -242,13 +242,13 @@ read_as_front bytes count front =
     ap image_at (sym parts) ∙ image_front (take count bytes) (drop count bytes) (omega (arith, size, front.long)) all
 
 -- what is kept of such a file has this front
-pub front_of_long : (bytes : List ℕ) (front : Front) (count : ℕ) → IsFrontOf bytes 33048 front → 33048 ≤ length front.bytes.items
-    → 33040 ≤ count → count ≤ 33048 → front.length % 8 ≡ count % 8 → IsFrontOfLong bytes count × (take count front.bytes.items ≡ take count bytes)
+pub front_of_long : (bytes : List ℕ) (front : Front) (count : ℕ) → IsFrontOf bytes kept_of_image front → kept_of_image ≤ length front.bytes.items
+    → beyond_images ≤ count → count ≤ kept_of_image → front.length % 8 ≡ count % 8 → IsFrontOfLong bytes count × (take count front.bytes.items ≡ take count bytes)
 front_of_long bytes front count is full least most whole =
-    let size : length front.bytes.items ≡ min 33048 (length bytes) = ap (λ (kept : List ℕ). length kept) is.kept ∙ length-take 33048 bytes in
-    let long : 33048 ≤ length bytes = omega (arith, size, full) in (
+    let size : length front.bytes.items ≡ min kept_of_image (length bytes) = ap (λ (kept : List ℕ). length kept) is.kept ∙ length-take kept_of_image bytes in
+    let long : kept_of_image ≤ length bytes = omega (arith, size, full) in (
       record { long = least; within = omega arith; whole = ap (λ (size : ℕ). size % 8) (sym is.whole) ∙ whole },
-      ap (λ (kept : List ℕ). take count kept) is.kept ∙ take-take count 33048 bytes most,
+      ap (λ (kept : List ℕ). take count kept) is.kept ∙ take-take count kept_of_image bytes most,
     )
 
 -- the first fault of the front is that of the whole file

@@ -1,5 +1,6 @@
 -- The report of a replay: a line for each record, in the capture's order, of what the replay says of it.
-use Rattle.std.specs.Prelude.{◌≡◌, ℕ, zero, suc, ◌+◌, ◌*◌, ◌++◌, ◌∷◌, ◌||◌, Bool, true, false, List, [], Option, Some, None, codes, fold, length}
+use Rattle.std.specs.Prelude.{◌≡◌, ℕ, zero, suc, ◌+◌, ◌*◌, ◌++◌, ◌∷◌, ◌||◌, Bool, true, false, List, [], Option, Some, None, codes, fold, length, map}
+use Rattle.std.specs.Char.{to_ascii_lowercase}
 use Rattle.std.specs.Prelude.{◌==◌, if◌then◌else◌, slice_get, slice_index_or}
 use Rattle.std.specs.List.{ends_with}
 use Rattle.wire.specs.declared.records.Sent.{Sent}
@@ -28,9 +29,13 @@ use Rattle.xlb_commands.specs.Files.{FileBytes}
 abbrev pub finishes : List ℕ → List ℕ → Bool
 finishes text end = ends_with (λ a b. a == b) text end
 
--- JSON if the file's name ends so, otherwise CSV
+-- JSON if the name ends so, otherwise CSV
+abbrev pub form_by : List ℕ → ReportForm
+form_by name = if finishes name (codes ".json") || finishes name (codes ".jsonl") then Json else Csv
+
+-- the form by the file's name, whose letters may be of either case
 abbrev pub form_of : List ℕ → ReportForm
-form_of name = if finishes name (codes ".json") || finishes name (codes ".jsonl") then Json else Csv
+form_of name = form_by (map to_ascii_lowercase name)
 
 -- ---- what became of a record
 

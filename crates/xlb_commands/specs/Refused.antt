@@ -156,16 +156,25 @@ pub data IsSourceRefusal (files after : FileBytes) (failed : Type 0) (name : Lis
 
 -- ---- programs that are judged
 
+-- how many of the first bytes of a file are kept, where an image is read: two slots of 8 bytes more than the longest image has, which is its head of 8 bytes,
+-- 16 maps of 16 bytes and 4096 slots
+abbrev pub kept_of_image : ℕ
+kept_of_image = 33048
+
+-- the same with one slot more
+abbrev pub beyond_images : ℕ
+beyond_images = 33040
+
 -- the first bytes of the file, as many as are read of an image, begin as a source does, or do not
 pub record BeginsAs (files : FileBytes) (name : List ℕ) (is_source : Bool) : Type 0 where
   pub bytes : List ℕ
   pub read : files name bytes
-  pub begins : begins_as_source (take 33048 bytes) ≡ is_source
+  pub begins : begins_as_source (take kept_of_image bytes) ≡ is_source
 
 -- what is to be judged was not read; or the file does not begin as a source, and is no image; or it does, and means none
 pub data IsNotJudged (files : FileBytes) (failed : Type 0) (name : List ℕ) (fault : Fault) : Type 0 where
   no_judged_bytes : IsUnserved failed fault → IsNotJudged files failed name fault
-  no_judged_image : (bytes : List ℕ) → files name bytes → begins_as_source (take 33048 bytes) ≡ false → IsNoImage bytes fault
+  no_judged_image : (bytes : List ℕ) → files name bytes → begins_as_source (take kept_of_image bytes) ≡ false → IsNoImage bytes fault
       → IsNotJudged files failed name fault
   no_judged_source : (bytes : List ℕ) → BeginsAs files name true → files name bytes → IsNoSource bytes fault → IsNotJudged files failed name fault
 
@@ -313,7 +322,8 @@ pub data IsScriptFileRefusal (files : FileBytes) (failed : Type 0) (name : List 
 pub data IsTableRefusal (files : FileBytes) (failed : Type 0) (name : List ℕ) (ring : ℕ) (fault : Fault) : Type 0 where
   no_table : (¬ IsRingSize ring) → fault ≡ faults.Script scripts.BadSize → IsTableRefusal files failed name ring fault
   no_table_script : IsRingSize ring → IsScriptFileRefusal files failed name fault → IsTableRefusal files failed name ring fault
-  no_table_lines : (script : List Command) → IsRingSize ring → IsScriptFile files name script → fault ≡ faults.Memory → IsTableRefusal files failed name ring fault
+  no_table_lines : (script : List Command) → IsRingSize ring → IsScriptFile files name script → fault ≡ faults.Memory
+      → IsTableRefusal files failed name ring fault
 
 -- no script: of the file, or where none is named memory was refused for that of no commands
 abbrev pub IsScriptRefusal : FileBytes → Type 0 → Option (List ℕ) → Fault → Type 0
@@ -343,9 +353,10 @@ pub record AreReplayInputs (files : FileBytes) (names : ReplayFiles) (ring : ℕ
   pub capture_is : IsCaptureOf files skip_long names.capture.now records
 
 -- why the replay was given up: for its options exactly where no shards are opened with them, or the script has commands and the maps are not those of
--- steering; else memory was refused, or a thread could not be started
-abbrev pub IsGivenUp : List MapDef → List Command → Options → ReplayFault → Type 0
-IsGivenUp maps script options why = (why ≡ replays.BadOptions) ↔ (IsFalse (are_served_options maps options) ⊎ HasNoTable maps script)
+-- steering; else memory was refused, or a thread could not be started, of which an exact replay has none
+pub record IsGivenUp (exact : Bool) (maps : List MapDef) (script : List Command) (options : Options) (why : ReplayFault) : Type 0 where
+  pub options_are_bad : (why ≡ replays.BadOptions) ↔ (IsFalse (are_served_options maps options) ⊎ HasNoTable maps script)
+  pub no_thread : exact ≡ true → ¬ (why ≡ replays.NoThread)
 
 -- The files of a replay were not written: that of the sent frames, and no other file changed; or that of the journals, and the sent frames are in theirs;
 -- or that of the report, and the sent frames and the journals are in theirs.
@@ -360,25 +371,25 @@ pub data AreUnfiled (before after : FileBytes) (failed : Type 0) (names : Replay
 
 -- xlb replay: no program that may run; no script; no capture; a replay that was given up; one that was made, and memory was refused for its sent frames,
 -- its journals, its report or what is printed; until then no file changed; or its files were not written
-pub data IsReplayRefusal (files after : FileBytes) (failed : Type 0) (names : ReplayFiles) (options : Options) (ring : ℕ) (skip_long : Bool)
-    (fault : Fault) : Type 0 where
+pub data IsReplayRefusal (files after : FileBytes) (failed : Type 0) (names : ReplayFiles) (options : Options) (ring : ℕ)
+    (exact skip_long : Bool) (fault : Fault) : Type 0 where
   no_replay_program : AreKept files after → IsReplayProgramRefusal files failed (text_of names.image) ring fault
-      → IsReplayRefusal files after failed names options ring skip_long fault
+      → IsReplayRefusal files after failed names options ring exact skip_long fault
   no_replay_script : (program : Contents) → AreKept files after → IsReplayProgram files (text_of names.image) ring program
-      → IsScriptRefusal files failed (text_of names.script) fault → IsReplayRefusal files after failed names options ring skip_long fault
+      → IsScriptRefusal files failed (text_of names.script) fault → IsReplayRefusal files after failed names options ring exact skip_long fault
   no_replay_capture : (program : Contents) (script : List Command) → AreKept files after → IsReplayProgram files (text_of names.image) ring program
       → IsScriptOf files (text_of names.script) script → IsCaptureRefusal files failed skip_long names.capture.now fault
-      → IsReplayRefusal files after failed names options ring skip_long fault
+      → IsReplayRefusal files after failed names options ring exact skip_long fault
   given_up : (program : Contents) (script : List Command) (records : List Sent) (why : ReplayFault) → AreKept files after
-      → AreReplayInputs files names ring skip_long program script records → IsGivenUp program.maps script options why → fault ≡ faults.Replay why
-      → IsReplayRefusal files after failed names options ring skip_long fault
+      → AreReplayInputs files names ring skip_long program script records → IsGivenUp exact program.maps script options why → fault ≡ faults.Replay why
+      → IsReplayRefusal files after failed names options ring exact skip_long fault
   not_reported : (program : Contents) (script : List Command) (records : List Sent) (outcome : Outcome) → AreKept files after
       → AreReplayInputs files names ring skip_long program script records → IsAccounted (program_of_replay program options) script options records outcome
-      → LacksRoom (text_of names.journals) fault → IsReplayRefusal files after failed names options ring skip_long fault
+      → LacksRoom (text_of names.journals) fault → IsReplayRefusal files after failed names options ring exact skip_long fault
   not_written_down : (program : Contents) (script : List Command) (records : List Sent) (outcome : Outcome)
       → AreReplayInputs files names ring skip_long program script records → IsAccounted (program_of_replay program options) script options records outcome
       → AreUnfiled files after failed names (capture_bytes outcome.sent.items) outcome.journals fault
-      → IsReplayRefusal files after failed names options ring skip_long fault
+      → IsReplayRefusal files after failed names options ring exact skip_long fault
 
 -- ---- commands
 
@@ -394,7 +405,8 @@ IsRefusedWith before after failed (Asm text out false) fault = IsAsmRefusal befo
 IsRefusedWith before after failed (Asm text out true) fault = IsSourceRefusal before after failed text.now fault
 IsRefusedWith before after failed (Shipped out ring) fault = IsShippedFileRefusal before after failed ring fault
 IsRefusedWith before after failed (Table script ring) fault = IsTableRefusal before failed script.now ring fault
-IsRefusedWith before after failed (Replay files options ring exact summary skip_long) fault = IsReplayRefusal before after failed files options ring skip_long fault
+IsRefusedWith before after failed (Replay files options ring exact summary skip_long) fault =
+    IsReplayRefusal before after failed files options ring exact skip_long fault
 
 -- the fault that is told: the command was refused with it; or it was done, and what it prints could not be printed
 pub data IsToldFault (before after : FileBytes) (failed unprinted : Type 0) (settings : Settings) (fault : Fault) : Type 0 where

@@ -26,6 +26,7 @@ use Rattle.replay.specs.declared.outcome.Outcome.{Outcome}
 use Rattle.replay.specs.Accounted.{IsAccounted}
 use Rattle.guarantees.specs.Headline.{Headline}
 use Rattle.guarantees.specs.ReaderReplays.{all_sent_at_opening}
+use Rattle.replay.specs.ExactReplays.{IsInTurn}
 use Rattle.steered_replays.specs.SteeredRuns.{IsSteeredReplay}
 use Rattle.steered_replays.specs.Totals.{AreTotals}
 use Rattle.traffic.specs.LongRecords.{IsShortened}
@@ -158,11 +159,11 @@ pub record KeepsHeadline (image : Contents) (script : List Command) (options : O
   pub image_is : record { version = verified.version; maps = verified.maps; code = verified.code } ≡ image
   pub kept : Headline verified script options records outcome
 
--- The program may run; script and capture are read from their files; the replay accounts for every record, every command and every entry
--- of the journals; the headline holds of it; the shipped program follows the steering rule; one that only reads sends the same for every number of
--- workers; the sent frames, the journals and the report are written to their files; and what is printed are the counts, and the commands that were
--- refused.
-pub record IsReplayed (before after : FileBytes) (files : ReplayFiles) (options : Options) (ring : ℕ) (skip_long : Bool) (printed : List ℕ)
+-- The program may run; script and capture are read from their files; the replay accounts for every record, every command and every entry of the
+-- journals; an exact one was made in turn; the headline holds of it; the shipped program follows the steering rule; one that only reads sends the same
+-- for every number of workers; the sent frames, the journals and the report are written to their files; and what is printed are the counts, and the
+-- commands that were refused.
+pub record IsReplayed (before after : FileBytes) (files : ReplayFiles) (options : Options) (ring : ℕ) (exact skip_long : Bool) (printed : List ℕ)
     (refused : List Applied) : Type 0 where
   pub program : Contents
   pub program_is : IsProgramOf before (text_of files.image) ring program
@@ -175,6 +176,7 @@ pub record IsReplayed (before after : FileBytes) (files : ReplayFiles) (options 
   pub capture : IsCaptureOf before skip_long files.capture.now records
   pub outcome : Outcome
   pub accounted : IsAccounted (program_of_replay program options) script options records outcome
+  pub in_turn : exact ≡ true → IsInTurn (program_of_replay program options) script options records outcome
   pub headline : KeepsHeadline program script options records outcome
   pub by_rule : FollowsRule (text_of files.image) ring script options records outcome
   pub readers : SendsAlike program states script options records outcome
@@ -187,12 +189,12 @@ pub record IsReplayed (before after : FileBytes) (files : ReplayFiles) (options 
   pub lines : printed ≡ counts_text outcome.counts ++ refusals_text refused
 
 -- and every command of the script was carried out
-abbrev pub IsReplayedWhole : FileBytes → FileBytes → ReplayFiles → Options → ℕ → Bool → List ℕ → Type 0
-IsReplayedWhole before after files options ring skip_long printed = IsReplayed before after files options ring skip_long printed []
+abbrev pub IsReplayedWhole : FileBytes → FileBytes → ReplayFiles → Options → ℕ → Bool → Bool → List ℕ → Type 0
+IsReplayedWhole before after files options ring exact skip_long printed = IsReplayed before after files options ring exact skip_long printed []
 
 -- but some command of the script was refused
-pub record IsReplayedInPart (before after : FileBytes) (files : ReplayFiles) (options : Options) (ring : ℕ) (skip_long : Bool) (printed : List ℕ) :
-    Type 0 where
+pub record IsReplayedInPart (before after : FileBytes) (files : ReplayFiles) (options : Options) (ring : ℕ) (exact skip_long : Bool)
+    (printed : List ℕ) : Type 0 where
   pub refused : List Applied
   pub some : refused ≢ []
-  pub replayed : IsReplayed before after files options ring skip_long printed refused
+  pub replayed : IsReplayed before after files options ring exact skip_long printed refused

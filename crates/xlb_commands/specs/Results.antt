@@ -127,7 +127,7 @@ pub record IsMisfitRun (before after : FileBytes) (files : RunFiles) (updates : 
 
 -- what a run comes to that is not refused
 abbrev pub IsRunAnswer : FileBytes → FileBytes → RunFiles → ℕ → ℕ → List MapUpdate → RunAnswer → Type 0
-IsRunAnswer before after files now worker updates (Printed text) = IsRun before after files now worker updates (string_bytes text)
+IsRunAnswer before after files now worker updates (Printed text notes) = IsRun before after files now worker updates (string_bytes text)
 IsRunAnswer before after files now worker updates (Mistaken place misfit) = IsMisfitRun before after files updates place misfit
 
 -- what is printed is the image's text
@@ -186,12 +186,12 @@ IsDone before after (Explain about) printed = printed ≡ explanation_text about
 IsDone before after (Asm text out false) printed = IsAssembled before after text.now out.now × (printed ≡ [])
 IsDone before after (Asm text out true) printed = IsSourceAssembled before after text.now out.now × (printed ≡ [])
 IsDone before after (Shipped out ring) printed = IsShippedFile after out.now ring × (printed ≡ [])
-IsDone before after (Replay files options ring exact summary skip_long) printed = IsReplayedWhole before after files options ring skip_long printed
+IsDone before after (Replay files options ring exact summary skip_long) printed = IsReplayedWhole before after files options ring exact skip_long printed
 IsDone before after (Table script ring) printed = IsTableShown before script.now ring printed false
 
 -- the command is done but for a part that was refused, as the report tells: commands of a script
 abbrev pub IsDoneInPart : FileBytes → FileBytes → Settings → List ℕ → Type 0
-IsDoneInPart before after (Replay files options ring exact summary skip_long) printed = IsReplayedInPart before after files options ring skip_long printed
+IsDoneInPart before after (Replay files options ring exact summary skip_long) printed = IsReplayedInPart before after files options ring exact skip_long printed
 IsDoneInPart before after (Table script ring) printed = IsTableShown before script.now ring printed true
 IsDoneInPart before after other printed = ⊥
 
@@ -205,7 +205,8 @@ KeepsFiles before after (Explain about) = AreKept before after
 KeepsFiles before after (Asm text out source) = AreOthersKept before after out.now
 KeepsFiles before after (Shipped out ring) = AreOthersKept before after out.now
 KeepsFiles before after (Table script ring) = AreKept before after
-KeepsFiles before after (Replay files options ring exact summary skip_long) = AreAllButKept before after files.sent.now (text_of files.journals) (text_of files.report)
+KeepsFiles before after (Replay files options ring exact summary skip_long) =
+    AreAllButKept before after files.sent.now (text_of files.journals) (text_of files.report)
 
 -- a stream: what it was given, where that is known, and how many of its calls failed
 pub record Stream : Type 0 where
@@ -221,10 +222,11 @@ pub record AreNotesPrinted (before after : Stream) : Type 0 where
   pub are_notes : AreNotes notes
   pub told : after.failures ≡ before.failures → after.held ≡ append_known before.held notes
 
--- what the error stream is given after a command's report: of a replay and of tables such lines, of another command nothing
+-- what the error stream is given after a command's report: of a run, of a replay and of tables such lines, of another command nothing
 abbrev pub IsNoted : Settings → Stream → Stream → Type 0
 IsNoted (Replay files options ring exact summary skip_long) before after = AreNotesPrinted before after
 IsNoted (Table script ring) before after = AreNotesPrinted before after
+IsNoted (Run files now worker updates) before after = AreNotesPrinted before after
 IsNoted other before after = after ≡ before
 
 -- the report was printed, and what follows it

@@ -18,7 +18,7 @@ pub(crate) struct Clash<'a> {
 }
 
 impl Clash<'_> {
-    /// What is told of it.
+    /// The line that is printed of it.
     pub(crate) fn text(&self, alloc: Global) -> Result<String, AllocError>
         ensures { IfOk result (λ text. string_bytes text ≡ clash_text self.now.written.now self.now.other.now) }
     {

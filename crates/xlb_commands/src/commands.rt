@@ -13,7 +13,7 @@ ghost use Rattle.xlb_commands.specs.Files.{AreKept, AreOthersKept, IsImageFile, 
 ghost use Rattle.xlb_commands.specs.Results.{IsChecked, IsExplained, IsDisassembled, IsSourceShown, IsAudited, IsAssembled, IsSourceAssembled};
 ghost use Rattle.xlb_commands.specs.Refused.{HasFailed, IsUnserved, IsUnwritten, IsDecodeRefusal, IsImageRefusal, IsProgramRefusal, IsFrameRefusal};
 ghost use Rattle.xlb_commands.specs.Refused.{IsNoImage, IsNoSource, IsNotJudged, IsCheckRefusal, IsExplainRefusal, IsTextRefusal, IsAuditRefusal};
-ghost use Rattle.xlb_commands.specs.Refused.{IsSpellingRefusal, IsAsmRefusal, IsSourceRefusal};
+ghost use Rattle.xlb_commands.specs.Refused.{IsSpellingRefusal, IsAsmRefusal, IsSourceRefusal, kept_of_image, beyond_images};
 ghost use Rattle.disasm.specs.declared.fault.AsmFault.TheVariants.{BadLine};
 
 use crate::fault::{Fault, Refusal};
@@ -21,6 +21,7 @@ use crate::hints;
 use crate::report::accepted;
 use audit::{AuditFault, audit};
 use disasm::{AsmFault, assemble, text};
+use ebpf_decode::image::{MAX_LEN, SLOT_LEN};
 use ebpf_decode::{DecodeFault, Image, decode, encode};
 use folders::{Folder, FolderFault, Front};
 use journals::{FileFault, Journals, journals_of};
@@ -30,16 +31,16 @@ use source_form::{SourceFault, assemble_source, begins_as_source, source};
 use std::alloc::{AllocError, Global};
 use text_lines::text_or_line;
 use verifier::{Reject, Verified, verify};
-use wire::{Frame, FrameFault};
+use wire::{Frame, FrameFault, MAX_FRAME};
 
 /// What is printed of legal journals.
 const LEGAL: &str = "legal\n";
 
-/// The most bytes that are kept of an image's file: more than the longest image has.
-const MOST_OF_IMAGE: usize = 33_048;
+/// The most bytes that are kept of an image's file: two slots more than the longest image has.
+const MOST_OF_IMAGE: usize = MAX_LEN + 2 * SLOT_LEN;
 
-/// The most bytes that are kept of a frame's file.
-const MOST_OF_FRAME: usize = 2049;
+/// The most bytes that are kept of a frame's file: one more than the longest frame has.
+const MOST_OF_FRAME: usize = MAX_FRAME + 1;
 
 /// Why a file was not read or written, with the system's word for it.
 pub(crate) fn unserved<D: Folder>(
@@ -97,22 +98,22 @@ fn front_of<D: Folder>(
 
 /// How many of the first bytes of a file that is longer than any image have as many beyond whole slots as all have.
 fn shown_of_long(length: u64) -> usize
-    ensures least { 33040 ≤ result }
-    ensures most { result ≤ 33048 }
+    ensures least { beyond_images ≤ result }
+    ensures most { result ≤ kept_of_image }
     ensures whole { length % 8 ≡ result % 8 }
 {
     let odd = (length % 8) as usize;
     if odd == 0 {
         MOST_OF_IMAGE
     } else {
-        MOST_OF_IMAGE - 8 + odd
+        MOST_OF_IMAGE - SLOT_LEN + odd
     }
 }
 
 /// The first fault of a file that is longer than any image: what counts of it besides its front is whether its slots are whole.
 fn fault_of_long(alloc: Global, front: &Front) -> DecodeFault
-    requires { 33048 ≤ length front.now.bytes.items }
-    ensures { (bytes : List ℕ) → IsFrontOf bytes 33048 front.now → IsDecodeRefusal bytes result }
+    requires { kept_of_image ≤ length front.now.bytes.items }
+    ensures { (bytes : List ℕ) → IsFrontOf bytes kept_of_image front.now → IsDecodeRefusal bytes result }
 {
     let shown = &front.bytes[..shown_of_long(front.length)];
     let Err(fault) = decode(alloc, shown) else {
@@ -123,9 +124,9 @@ fn fault_of_long(alloc: Global, front: &Front) -> DecodeFault
 
 /// The image of a file that has this front.
 fn image_of_front(alloc: Global, front: &Front) -> Result<Image, Refusal>
-    requires { (length front.now.bytes.items == front.now.length) ≡ false → 33048 ≤ length front.now.bytes.items }
-    ensures found { IfOk result (λ image. (bytes : List ℕ) → IsFrontOf bytes 33048 front.now → IsImageEncoding bytes image) }
-    ensures refused { IfErr result (λ refusal. (bytes : List ℕ) → IsFrontOf bytes 33048 front.now → IsNoImage bytes refusal.fault) }
+    requires { (length front.now.bytes.items == front.now.length) ≡ false → kept_of_image ≤ length front.now.bytes.items }
+    ensures found { IfOk result (λ image. (bytes : List ℕ) → IsFrontOf bytes kept_of_image front.now → IsImageEncoding bytes image) }
+    ensures refused { IfErr result (λ refusal. (bytes : List ℕ) → IsFrontOf bytes kept_of_image front.now → IsNoImage bytes refusal.fault) }
 {
     if !front.is_whole() {
         let fault = fault_of_long(alloc, front);
@@ -229,7 +230,7 @@ fn source_bytes<D: Folder>(
     front: Front,
 ) -> Result<Vec<u8>, Refusal>
     requires count { D.failure_count folder.old < 2 ^ 64 - 1 }
-    requires front { HasFront (D.holds folder.old name.now) 33048 front }
+    requires front { HasFront (D.holds folder.old name.now) kept_of_image front }
     ensures bytes { IfOk result (λ bytes. D.holds folder.old name.now bytes.items) }
     ensures kept { AreKept (D.holds folder.old) (D.holds folder.new) }
     ensures refused { IfErr result (λ refusal. IsUnserved (HasFailed (D.failure_count folder.old) (D.failure_count folder.new)) refusal.fault) }
@@ -242,9 +243,9 @@ fn source_bytes<D: Folder>(
 
 /// The image of a file that has this front, and no text, since it is no source.
 fn image_without_source(alloc: Global, front: &Front) -> Result<(Image, Vec<u8>), Refusal>
-    requires { (length front.now.bytes.items == front.now.length) ≡ false → 33048 ≤ length front.now.bytes.items }
-    ensures found { IfOk result (λ program. (bytes : List ℕ) → IsFrontOf bytes 33048 front.now → IsImageEncoding bytes program.0) }
-    ensures refused { IfErr result (λ refusal. (bytes : List ℕ) → IsFrontOf bytes 33048 front.now → IsNoImage bytes refusal.fault) }
+    requires { (length front.now.bytes.items == front.now.length) ≡ false → kept_of_image ≤ length front.now.bytes.items }
+    ensures found { IfOk result (λ program. (bytes : List ℕ) → IsFrontOf bytes kept_of_image front.now → IsImageEncoding bytes program.0) }
+    ensures refused { IfErr result (λ refusal. (bytes : List ℕ) → IsFrontOf bytes kept_of_image front.now → IsNoImage bytes refusal.fault) }
 {
     match image_of_front(alloc, front) {
         Ok(image) => Ok((image, Vec::new(alloc))),
@@ -434,7 +435,7 @@ fn refused_text(alloc: Global, bytes: &[u8], fault: AsmFault) -> Refusal
     Refusal::hinted(Fault::Text(fault), noted_text(alloc, bytes, fault))
 }
 
-/// What is told of a text that was refused.
+/// The note on a text that was refused.
 fn noted_text(alloc: Global, bytes: &[u8], fault: AsmFault) -> Result<Option<String>, AllocError> {
     match (fault, str::from_utf8(bytes)) {
         (AsmFault::Image(why), Ok(text)) => {

@@ -54,7 +54,7 @@ pub enum Fault {
     Memory,
 }
 
-/// A fault, and what more a person is told of it.
+/// A fault, with notes on it for people.
 #[derive(Drop)]
 pub struct Refusal {
     pub fault: Fault,

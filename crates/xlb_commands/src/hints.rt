@@ -2,27 +2,21 @@
 
 use audit::AuditFault;
 use control::ControlFault;
+use ebpf_decode::image::MAGIC;
 use ebpf_decode::{DecodeFault, MapDef};
 use faults::Fields;
 use journals::{FileFault, Journals};
+use maglev::is_ring_size;
 use mistakes::{
-    about_capture, about_entry, about_frame, about_image, about_journals, about_map,
-    about_map_line, about_options, about_script, about_worker,
+    about_entry, about_frame, about_image, about_journals, about_map, about_map_line,
+    about_options, about_ring, about_script, about_text_as_frame, about_worker,
 };
 use replay::ReplayFault;
 use semantics::Options;
 use source_form::{SourceFault, assemble_source, explain, slot_note};
 use std::alloc::{AllocError, Global};
 use verifier::Reject;
-use wire::{CaptureFault, FrameFault};
-
-/// The first bytes of images.
-const IMAGE_MAGIC: &[u8] = b"XLBP";
-
-/// The bytes of a capture's header, and of the head of a record.
-const HEADER_LEN: usize = 24;
-
-const HEAD_LEN: usize = 16;
+use wire::FrameFault;
 
 /// A note in words, or none.
 fn note(alloc: Global, words: &str) -> Result<Option<String>, AllocError> {
@@ -51,6 +45,20 @@ pub(crate) fn of_frame(
     match fault {
         FrameFault::Memory => Ok(None),
         _ => Ok(Some(about_frame(alloc, bytes)?)),
+    }
+}
+
+/// Of a frame's bytes that are a text.
+pub(crate) fn of_text_as_frame(alloc: Global, bytes: &[u8]) -> Option<String> {
+    about_text_as_frame(alloc, bytes).ok()
+}
+
+/// Of a lookup table of `ring` slots, if there is none of this size.
+pub(crate) fn of_ring(alloc: Global, ring: u32) -> Result<Option<String>, AllocError> {
+    if is_ring_size(ring) {
+        Ok(None)
+    } else {
+        Ok(Some(about_ring(alloc, ring)?))
     }
 }
 
@@ -88,7 +96,10 @@ pub(crate) fn of_audit(
     match fault {
         AuditFault::Illegal { shard, place } => {
             let line = line_of_entry(journals, shard, place);
-            Ok(Some(about_entry(alloc, bytes, line)?))
+            let map = shard
+                .checked_div(journals.options().shards as usize)
+                .unwrap_or(0);
+            Ok(Some(about_entry(alloc, bytes, line, map, journals.maps())?))
         }
         _ => Ok(None),
     }
@@ -129,7 +140,7 @@ pub(crate) fn of_text(
     bytes: &[u8],
     line: usize,
 ) -> Result<Option<String>, AllocError> {
-    if bytes.starts_with(IMAGE_MAGIC) {
+    if bytes.starts_with(&MAGIC) {
         return note(
             alloc,
             "TEXT begins as an image does: 'xlb disasm' makes a text of it",
@@ -141,13 +152,36 @@ pub(crate) fn of_text(
     }
 }
 
+/// Whether the line of a number, counted from 1, ends as lines end on Windows.
+fn has_carriage_return(text: &str, line: usize) -> bool {
+    let mut number = 0usize;
+    for found in text.split('\n') {
+        number = number.saturating_add(1);
+        if number == line {
+            return found.ends_with("\r");
+        }
+    }
+    false
+}
+
+/// Of a text that is right in the source form alone.
+fn of_source_form(alloc: Global, text: &str, exact: usize) -> Result<Option<String>, AllocError> {
+    if has_carriage_return(text, exact) {
+        return note(
+            alloc,
+            "a carriage return ends the line, as on Windows: 'xlb asm --source' reads such lines, and tr -d '\\r' < TEXT > NEW takes it away",
+        );
+    }
+    note(
+        alloc,
+        "TEXT is in the source form: 'xlb asm --source' makes an image of it",
+    )
+}
+
 /// Of a text that is right in the source form, or whose line is wrong there too.
 fn of_source(alloc: Global, text: &str, exact: usize) -> Result<Option<String>, AllocError> {
     match assemble_source(alloc, text) {
-        Ok(_) | Err(SourceFault::Image(_)) => note(
-            alloc,
-            "TEXT is in the source form: 'xlb asm --source' makes an image of it",
-        ),
+        Ok(_) | Err(SourceFault::Image(_)) => of_source_form(alloc, text, exact),
         Err(SourceFault::BadLine { line, problem }) if line == exact => {
             Ok(Some(explain(alloc, text, SourceFault::BadLine { line, problem })?))
         }
@@ -205,93 +239,4 @@ pub(crate) fn of_explained(
         }
         None => Ok(Some(reasons)),
     }
-}
-
-/// Of bytes that are no capture: what the file is, or at which byte it is wrong.
-pub(crate) fn of_capture(
-    alloc: Global,
-    bytes: &[u8],
-    fault: CaptureFault,
-) -> Result<Option<String>, AllocError> {
-    let offset = match fault {
-        CaptureFault::BadMagic | CaptureFault::BadVersion | CaptureFault::BadLink => {
-            return Ok(Some(about_capture(alloc, bytes)?));
-        }
-        CaptureFault::CutHead { record } => record_offset(bytes, record),
-        CaptureFault::CutFrame { record } => record_offset(bytes, record),
-        CaptureFault::FrameTooLong { record } => record_offset(bytes, record),
-        CaptureFault::Device => return Ok(None),
-        CaptureFault::Memory => return Ok(None),
-    };
-    let all = bytes.len();
-    Ok(Some(format!(in alloc; "at byte {offset} of {all}")?))
-}
-
-/// The same fault of a file that has so many records more before the one that it names.
-pub(crate) fn behind(fault: CaptureFault, skipped: u64) -> CaptureFault {
-    match fault {
-        CaptureFault::CutHead { record } => CaptureFault::CutHead {
-            record: record.saturating_add(skipped),
-        },
-        CaptureFault::CutFrame { record } => CaptureFault::CutFrame {
-            record: record.saturating_add(skipped),
-        },
-        CaptureFault::FrameTooLong { record } => CaptureFault::FrameTooLong {
-            record: record.saturating_add(skipped),
-        },
-        other => other,
-    }
-}
-
-/// Where the record of a number, counted from 1, begins; 0 for the header. The records before it are whole.
-fn record_offset(bytes: &[u8], record: u64) -> usize {
-    if record == 0 {
-        return 0;
-    }
-    let mut at = HEADER_LEN;
-    'records: for _ in 1..record {
-        match kept_at(bytes, at) {
-            Some(kept) => at = at.saturating_add(HEAD_LEN + kept as usize),
-            None => return at,
-        }
-    }
-    at
-}
-
-/// How many of the records of a capture, which has so many, keep fewer bytes than their frames had.
-pub(crate) fn cut_records(bytes: &[u8], records: usize) -> u64 {
-    let mut cut = 0u64;
-    let mut at = HEADER_LEN;
-    'records: for _ in 0..records {
-        let Some(kept) = kept_at(bytes, at) else {
-            return cut;
-        };
-        if had_at(bytes, at).unwrap_or(kept) > kept {
-            cut = cut.saturating_add(1);
-        }
-        at = at.saturating_add(HEAD_LEN + kept as usize);
-    }
-    cut
-}
-
-/// How many bytes the record at an offset keeps.
-fn kept_at(bytes: &[u8], at: usize) -> Option<u32> {
-    number_at(bytes, at.saturating_add(8))
-}
-
-/// How many bytes the frame of the record at an offset had when it was captured.
-fn had_at(bytes: &[u8], at: usize) -> Option<u32> {
-    number_at(bytes, at.saturating_add(12))
-}
-
-/// The number in the four bytes at an offset.
-fn number_at(bytes: &[u8], at: usize) -> Option<u32> {
-    let field = bytes.get(at..at.saturating_add(4))?;
-    let mut number = 0u32;
-    for (place, byte) in field.iter().enumerate() {
-        if place < 4 {
-            number |= (*byte as u32) << (8 * place as u32);
-        }
-    }
-    Some(number)
 }

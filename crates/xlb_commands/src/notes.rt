@@ -1,5 +1,6 @@
 //! Lines for people below the report of a replay.
 
+use crate::last_table::put_shares;
 use crate::record_report::{is_tx, verdict_in};
 use control::{ControlFault, Script};
 use journals::Journals;
@@ -34,6 +35,8 @@ pub(crate) struct Notes<'a> {
     pub image: Option<&'a str>,
     /// Whether the program is one of steering.
     pub is_steering: bool,
+    /// Whether commands take effect at exact moments.
+    pub exact: bool,
     /// Whether the summary of the traffic is printed.
     pub summary: bool,
 }
@@ -49,6 +52,7 @@ impl Notes<'_> {
     ) -> Result<String, AllocError> {
         let mut text = String::new(alloc);
         put_refused(alloc, &mut text, script, &outcome.refused)?;
+        self.put_moments(&mut text, script)?;
         self.put_ring(alloc, &mut text)?;
         self.put_long(alloc, &mut text)?;
         self.put_cut(alloc, &mut text)?;
@@ -75,8 +79,19 @@ impl Notes<'_> {
         if self.is_steering {
             let verdicts = verdicts_of(alloc, &outcome.ends)?;
             text.push_str(&services(alloc, &capture.records, script, &verdicts)?)?;
+            put_shares(alloc, text, &outcome.journals)?;
         }
         put_moved(alloc, text, outcome)
+    }
+
+    /// Commands behind the first frame, whose moments are not exact.
+    fn put_moments(&self, text: &mut String, script: &Script) -> Result<(), AllocError> {
+        if self.exact || !script.commands().iter().any(|command| command.frame > 0) {
+            return Ok(());
+        }
+        text.push_str(
+            "commands with a number above 0 may take effect up to some 64 frames for each worker too early, or later: --exact makes their moments exact\n",
+        )
     }
 
     /// A size of the lookup table that is not used.
@@ -191,7 +206,7 @@ fn why_refused(fault: ControlFault) -> &'static str {
         ControlFault::BackendTwice => "this number or this address is up",
         ControlFault::Refused { .. } => "the map refused it: it is full",
         ControlFault::JournalFull =>
-            "a journal is full: --journal N, at most 1048576, makes more room",
+            "a journal is full: --journal N, at most 1048576, and --shards N, at most 8, make more room",
         ControlFault::Memory => "there was no memory for it",
         _ => "it was refused",
     }

@@ -68,8 +68,8 @@ fn moment_for(alloc: Global, now: u64, worker: u32) -> Result<Moment, Refusal>
 /// What a run comes to.
 #[derive(Drop)]
 pub enum RunAnswer {
-    /// What is printed of it.
-    Printed(String),
+    /// What is printed of it, and the notes for people on it.
+    Printed { text: String, notes: Option<String> },
     /// The image's maps do not take the update at this place of the command line, from 0, and nothing was run.
     Mistaken { place: usize, misfit: Misfit },
 }
@@ -95,6 +95,7 @@ pub fn run_once<D: Folder>(
         return Ok(RunAnswer::Mistaken { place, misfit });
     }
     let mut frame = frame_of(alloc, folder, files.frame)?;
+    let notes = hints::of_text_as_frame(alloc, frame.bytes());
     let moment = moment_for(alloc, now, worker)?;
     let SingleRun { ended, journals } = run_over(alloc, &verified, &mut frame, &moment, updates)?;
     let exit = match ended {
@@ -104,7 +105,7 @@ pub fn run_once<D: Folder>(
     let file = journal_bytes(alloc, files.journals, &journals)?;
     let text = outcome(alloc, exit, &frame)?;
     write_journals_to(alloc, folder, files.journals, &file)?;
-    Ok(RunAnswer::Printed(text))
+    Ok(RunAnswer::Printed { text, notes })
 }
 
 /// The maps of an accepted image.

@@ -8,19 +8,19 @@ use std::time::Instant;
 use verifier::Verified;
 use wire::Capture;
 
-/// After so many rounds of the reclaimer it is told how far a replay is.
+/// After how many rounds of the reclaimer a replay reports its progress.
 const ROUNDS: u64 = 512;
 
-/// The reclaimer goes round after so many frames.
+/// After how many frames the reclaimer goes round.
 const FRAMES_A_ROUND: u64 = 64;
 
-/// What is told how far a replay is.
+/// What a replay reports its progress to.
 pub trait Progress {
-    /// So many frames of this number were handed to the workers.
+    /// `frames` of `all` frames were handed to the workers.
     fn handed(&self, frames: u64, all: u64);
 }
 
-/// Nobody is told.
+/// Reports to nobody.
 #[derive(Clone, Copy, Debug, PartialEq, Eq)]
 pub struct NoProgress;
 
@@ -28,11 +28,11 @@ impl Progress for NoProgress {
     fn handed(&self, _frames: u64, _all: u64) {}
 }
 
-/// A person at a terminal is told on the standard error: how many frames, and how many a second.
+/// Reports to a person at a terminal, on the standard error: how many frames, and how many a second.
 #[derive(Drop)]
 pub struct TerminalProgress<'a, R> {
     rt: &'a R,
-    /// When the program began, if the standard error is a terminal and the clock tells.
+    /// When the program began, if the standard error is a terminal and there is a clock.
     start: Option<Instant>,
 }
 
@@ -66,12 +66,12 @@ impl<R: Clock + Eprint> Progress for TerminalProgress<'_, R> {
     }
 }
 
-/// A gate that holds nobody, and tells by the reclaimer's rounds how far a replay is.
+/// A gate that holds nobody, and reports a replay's progress by the reclaimer's rounds.
 #[derive(Clone, Copy)]
 pub(crate) struct Rounds<'a, P> {
     pub progress: &'a P,
-    /// How many shards a round reclaims: those of maps that are no arrays.
-    pub shards: u64,
+    /// How many replies of the reclaimer are a round: one for each shard of a map that is no array, and one in an exact replay.
+    pub replies: u64,
     /// How many frames the replay has.
     pub frames: u64,
 }
@@ -82,13 +82,18 @@ impl<'a, P> Rounds<'a, P> {
         progress: &'a P,
         verified: &Verified,
         options: &Options,
+        exact: bool,
         capture: &Capture,
     ) -> Rounds<'a, P> {
         let maps = verified.image().maps();
         let keyed = maps.iter().filter(|map| map.kind != MapKind::Array).count() as u64;
         Rounds {
             progress,
-            shards: keyed.saturating_mul(options.shards as u64),
+            replies: if exact {
+                1
+            } else {
+                keyed.saturating_mul(options.shards as u64)
+            },
             frames: capture.records.len() as u64,
         }
     }
@@ -96,10 +101,10 @@ impl<'a, P> Rounds<'a, P> {
 
 impl<P: Progress> Gate for Rounds<'_, P> {
     fn replied(&self, who: Caller, nth: u64) {
-        if who != Caller::Reclaimer || self.shards == 0 || nth % self.shards != 0 {
+        if who != Caller::Reclaimer || self.replies == 0 || nth % self.replies != 0 {
             return;
         }
-        let rounds = nth / self.shards;
+        let rounds = nth / self.replies;
         if rounds % ROUNDS == 0 {
             self.progress
                 .handed(rounds.saturating_mul(FRAMES_A_ROUND), self.frames);

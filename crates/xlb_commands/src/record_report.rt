@@ -1,9 +1,10 @@
 //! The report of a replay: a line for each record.
 
-ghost use Rattle.std.specs.Prelude.{◌≡◌, ◌++◌, ◌-◌, ◌<◌, ◌^◌, ℕ, List, Some, IfOk, IfErr, OnOk, length, slice_get, string_bytes};
+ghost use Rattle.std.specs.Prelude.{◌≡◌, ◌++◌, ◌-◌, ◌<◌, ◌^◌, ℕ, List, Some, IfOk, IfErr, OnOk, length, map, slice_get, string_bytes};
+ghost use Rattle.std.specs.Char.{to_ascii_lowercase};
 ghost use Rattle.command_line.specs.Reading.{text_of};
 ghost use Rattle.traffic.specs.Counting.{address_at};
-ghost use Rattle.xlb_commands.specs.RecordReports.{address_in, backend_at, backends_in, case_in, finishes, form_of, is_tx, line_text};
+ghost use Rattle.xlb_commands.specs.RecordReports.{address_in, backend_at, backends_in, case_in, finishes, form_by, form_of, is_tx, line_text};
 ghost use Rattle.xlb_commands.specs.RecordReports.{lines_until, named_in, report_text, steps_in, verdict_in, word_of_verdict, worker_in, HasNamed};
 ghost use Rattle.xlb_commands.specs.declared.fault.Fault.TheVariants.{Memory};
 
@@ -22,15 +23,23 @@ fn finishes(text: &str, end: &str) -> bool
     text.ends_with(end)
 }
 
-/// The form of a report in a file of this name: JSON if the name ends in `.json` or `.jsonl`, otherwise CSV.
-fn form_of(name: &str) -> ReportForm
-    ensures { result ≡ form_of name.now }
+/// The form by a name in lower case.
+fn form_by(name: &str) -> ReportForm
+    ensures { result ≡ form_by name.now }
 {
     if finishes(name, ".json") || finishes(name, ".jsonl") {
         ReportForm::Json
     } else {
         ReportForm::Csv
     }
+}
+
+/// The form of a report in a file of this name: JSON if the name ends in `.json` or `.jsonl`, in either case, otherwise CSV.
+fn form_of(alloc: Global, name: &str) -> Result<ReportForm, AllocError>
+    ensures { IfOk result (λ form. form ≡ form_of name.now) }
+{
+    let lower = name.to_ascii_lowercase(alloc)?;
+    Ok(form_by(lower.as_str()))
 }
 
 /// The worker that ran a record.
@@ -263,7 +272,10 @@ pub(crate) fn report_for(
     ensures refused { IfErr result (λ refusal. refusal.fault ≡ Memory) }
 {
     match name {
-        Some(name) => Ok(report_text(alloc, form_of(name), is_steering, script, capture, outcome)?),
+        Some(name) => {
+            let form = form_of(alloc, name)?;
+            Ok(report_text(alloc, form, is_steering, script, capture, outcome)?)
+        }
         None => Ok(String::new(alloc)),
     }
 }

@@ -18,9 +18,10 @@ ghost use Rattle.control.specs.declared.command.Command.{Command};
 ghost use Rattle.control.specs.declared.fault.ControlFault.{ControlFault};
 ghost use Rattle.control.specs.declared.fault.ControlFault.TheVariants as scripts;
 ghost use Rattle.replay.specs.declared.outcome.Applied.{Applied as Noted};
-ghost use Rattle.replay.specs.declared.fault.ReplayFault.TheVariants.{BadOptions};
+ghost use Rattle.replay.specs.declared.fault.ReplayFault.TheVariants.{BadOptions, NoThread};
 ghost use Rattle.replay.specs.Accounted.{IsAccounted};
 ghost use Rattle.replay.specs.Accounts.{frames_in};
+ghost use Rattle.replay.specs.ExactReplays.{IsInTurn};
 ghost use Rattle.replay.specs.Parts.{HasNoTable};
 ghost use Rattle.steered_replays.specs.SteeredRuns.{IsSteeredReplay};
 ghost use Rattle.steered_replays.specs.Totals.{AreTotals};
@@ -35,13 +36,13 @@ ghost use Rattle.xlb_commands.specs.RecordReports.{form_of, report_text};
 
 use crate::commands::{bytes_of, judged_of};
 use crate::fault::{Fault, Refusal};
-use crate::hints;
 use crate::notes::{Notes, Passed};
 use crate::progress::{Progress, Rounds};
 use crate::record_report::report_for;
 use crate::report::{Report, replayed};
 use crate::shipping::shipped_program;
 use crate::written::{journal_bytes, write_journals_to, write_text_to, write_to};
+use crate::{hints, records};
 use command_line::ReplayFiles;
 use control::{Script, parse_script};
 use folders::Folder;
@@ -49,7 +50,7 @@ use guarantees::headline;
 use guarantees::readers::readers_send_as_at_opening;
 use guarantees::replays::all_are_captured;
 use journals::Journals;
-use replay::{Outcome, ReplayFault, exact_replay, replay};
+use replay::{Outcome, ReplayFault, replay, replay_in_turn};
 use semantics::Options;
 use shard_port::Gate;
 use std::alloc::{AllocError, Global};
@@ -158,19 +159,19 @@ fn records_of(alloc: Global, bytes: &[u8]) -> Result<Capture, Refusal>
         Ok(capture) => Ok(capture),
         Err(fault) => Err(Refusal::hinted(
             Fault::Capture(fault),
-            hints::of_capture(alloc, bytes, fault),
+            records::of_capture(alloc, bytes, fault),
         )),
     }
 }
 
-/// A refusal of a capture without its long records, of which so many were left out, with the byte of the whole file.
+/// A refusal of a capture without its long records, of which `skipped` were left out, with the byte of the whole file.
 fn in_whole_file(alloc: Global, bytes: &[u8], skipped: u64, refusal: Refusal) -> Refusal
     ensures { result.fault ≡ refusal.fault }
 {
     match refusal.fault {
         Fault::Capture(fault) => Refusal::hinted(
             refusal.fault,
-            hints::of_capture(alloc, bytes, hints::behind(fault, skipped)),
+            records::of_capture(alloc, bytes, records::behind(fault, skipped)),
         ),
         _ => refusal,
     }
@@ -184,7 +185,7 @@ fn short_records_of(alloc: Global, bytes: &[u8], passed: &mut Passed) -> Result<
     let shortened = without_long_records(alloc, bytes)?;
     match records_of(alloc, &shortened.bytes) {
         Ok(capture) => {
-            passed.cut = hints::cut_records(&shortened.bytes, capture.records.len());
+            passed.cut = records::cut_records(&shortened.bytes, capture.records.len());
             passed.long = shortened.skipped;
             Ok(capture)
         }
@@ -208,7 +209,7 @@ fn records_in(
     }
     match records_of(alloc, bytes) {
         Ok(capture) => {
-            passed.cut = hints::cut_records(bytes, capture.records.len());
+            passed.cut = records::cut_records(bytes, capture.records.len());
             Ok(capture)
         }
         Err(refusal) => Err(refusal),
@@ -246,7 +247,7 @@ fn bytes_of_frames(alloc: Global, frames: &[Sent]) -> Result<MemorySink, AllocEr
     }
 }
 
-/// `replay`, or `exact_replay`, in which each command takes effect between the frames before and after it.
+/// `replay`, or `replay_in_turn`, in which each command takes effect between the frames before and after it.
 fn replay_at<R: Threads + Wait + Sync, G: Gate + Sync>(
     rt: &R,
     alloc: Global,
@@ -258,11 +259,13 @@ fn replay_at<R: Threads + Wait + Sync, G: Gate + Sync>(
     gate: &G,
 ) -> Result<Outcome, ReplayFault>
     ensures accounted { IfOk result (IsAccounted (program_of verified.now options.shards) script.now options capture.now.records.items) }
+    ensures in_turn { exact ≡ true → IfOk result (IsInTurn (program_of verified.now options.shards) script.now options capture.now.records.items) }
     ensures bad_options { IsErrOf result BadOptions ↔
         (IsFalse (are_served_options verified.now.maps options) ⊎ HasNoTable verified.now.maps script.now) }
+    ensures no_thread { exact ≡ true → ¬ IsErrOf result NoThread }
 {
     if exact {
-        exact_replay(rt, alloc, verified, capture, script, options, gate)
+        replay_in_turn(alloc, verified, capture, script, options, gate)
     } else {
         replay(rt, alloc, verified, capture, script, options, gate)
     }
@@ -283,13 +286,15 @@ fn shipped_replay_at<R: Threads + Wait + Sync, G: Gate + Sync>(
     requires size { IsRingSize ring }
     requires image { record { version = verified.now.version; maps = verified.now.maps; code = verified.now.code } ≡ shipped_image ring }
     ensures accounted { IfOk result (IsAccounted (program_of verified.now options.shards) script.now options capture.now.records.items) }
+    ensures in_turn { exact ≡ true → IfOk result (IsInTurn (program_of verified.now options.shards) script.now options capture.now.records.items) }
     ensures steered { IfOk result (IsSteeredReplay ring script.now options capture.now.records.items) }
     ensures totals { IfOk result (λ outcome. outcome.counts.stopped ≡ 0 → AreTotals outcome) }
     ensures bad_options { IsErrOf result BadOptions ↔
         (IsFalse (are_served_options verified.now.maps options) ⊎ HasNoTable verified.now.maps script.now) }
+    ensures no_thread { exact ≡ true → ¬ IsErrOf result NoThread }
 {
     if exact {
-        exact_shipped_replay(rt, alloc, verified, ring, capture, script, options, gate)
+        exact_shipped_replay(alloc, verified, ring, capture, script, options, gate)
     } else {
         shipped_replay(rt, alloc, verified, ring, capture, script, options, gate)
     }
@@ -313,9 +318,11 @@ fn outcome_of<R: Threads + Wait + Sync, G: Gate + Sync>(
     requires shipped { text_of image ≡ None →
         record { version = verified.now.version; maps = verified.now.maps; code = verified.now.code } ≡ shipped_image ring }
     ensures accounted { IfOk result (IsAccounted (program_of verified.now options.shards) script.now options capture.now.records.items) }
+    ensures in_turn { exact ≡ true → IfOk result (IsInTurn (program_of verified.now options.shards) script.now options capture.now.records.items) }
     ensures steered { IfOk result (FollowsRule (text_of image.entry) ring script.now options capture.now.records.items) }
     ensures bad_options { IsErrOf result BadOptions ↔
         (IsFalse (are_served_options verified.now.maps options) ⊎ HasNoTable verified.now.maps script.now) }
+    ensures no_thread { exact ≡ true → ¬ IsErrOf result NoThread }
 {
     match image {
         Some(_) => replay_at(rt, alloc, exact, verified, capture, script, options, gate),
@@ -353,6 +360,7 @@ fn outcome_with<R: Threads + Wait + Sync, G: Gate + Sync>(
     requires shipped { text_of image ≡ None →
         record { version = verified.now.version; maps = verified.now.maps; code = verified.now.code } ≡ shipped_image ring }
     ensures accounted { IfOk result (IsAccounted (program_of verified.now options.shards) script.now options capture.now.records.items) }
+    ensures in_turn { exact ≡ true → IfOk result (IsInTurn (program_of verified.now options.shards) script.now options capture.now.records.items) }
     ensures accepted { Accepts verified.now.version verified.now.maps verified.now.code verified.now.states }
     ensures headline { IfOk result (Headline verified.now script.now options capture.now.records.items) }
     ensures readers { IfOk result (λ outcome. IsReader verified.now.code verified.now.states → script.now ≡ [] →
@@ -360,6 +368,7 @@ fn outcome_with<R: Threads + Wait + Sync, G: Gate + Sync>(
     ensures steered { IfOk result (FollowsRule (text_of image.entry) ring script.now options capture.now.records.items) }
     ensures bad_options { IsErrOf result BadOptions ↔
         (IsFalse (are_served_options verified.now.maps options) ⊎ HasNoTable verified.now.maps script.now) }
+    ensures no_thread { exact ≡ true → ¬ IsErrOf result NoThread }
 {
     headline(verified);
     readers_send_alike(verified);
@@ -457,8 +466,8 @@ fn write_files<D: Folder>(
 }
 
 /// Runs the frames of a capture, and writes those that are sent, and the journals and a line for each record where files are named for them. All
-/// input is read and checked before anything starts: the image, the script, the capture, then the options. No file is made where one is refused, nor where memory is
-/// refused for anything that is written or printed.
+/// input is read and checked before anything starts: the image, the script, the capture, then the options. No file is made where one is refused, nor
+/// where memory is refused for anything that is written or printed.
 pub fn replay_files<R: Threads + Wait + Sync, D: Folder, P: Progress + Sync>(
     rt: &R,
     alloc: Global,
@@ -473,17 +482,17 @@ pub fn replay_files<R: Threads + Wait + Sync, D: Folder, P: Progress + Sync>(
 ) -> Result<Report, Refusal>
     requires { D.failure_count folder.old < 2 ^ 64 - 1 }
     ensures done { IfOk result (λ report. (refused : List Noted)
-        × IsReplayed (D.holds folder.old) (D.holds folder.new) files.now options ring skip_long (string_bytes report.text) refused
+        × IsReplayed (D.holds folder.old) (D.holds folder.new) files.now options ring exact skip_long (string_bytes report.text) refused
         × ((refused ≡ []) ↔ (report.is_refused ≡ false))) }
     ensures kept { AreAllButKept (D.holds folder.old) (D.holds folder.new) files.now.sent.now (text_of files.now.journals) (text_of files.now.report) }
     ensures refused { IfErr result (λ refusal. IsReplayRefusal (D.holds folder.old) (D.holds folder.new)
-        (HasFailed (D.failure_count folder.old) (D.failure_count folder.new)) files.now options ring skip_long refusal.fault) }
+        (HasFailed (D.failure_count folder.old) (D.failure_count folder.new)) files.now options ring exact skip_long refusal.fault) }
 {
     let verified = program_of(alloc, folder, files.image, ring)?;
     let script = script_of(alloc, folder, files.script)?;
     let mut passed = Passed::default();
     let capture = capture_of(alloc, folder, files.capture, skip_long, &mut passed)?;
-    let rounds = Rounds::of(progress, &verified, &options, &capture);
+    let rounds = Rounds::of(progress, &verified, &options, exact, &capture);
     let outcome = match outcome_with(
         rt,
         alloc,
@@ -504,6 +513,7 @@ pub fn replay_files<R: Threads + Wait + Sync, D: Folder, P: Progress + Sync>(
         ring,
         image: files.image,
         is_steering: files.is_steering,
+        exact,
         summary,
     };
     let notes = notes.text(alloc, &capture, &script, &outcome).ok();

@@ -131,7 +131,7 @@ fn verdicts_lines(
     format!(in alloc; "aborted {aborted}\ndrop {drop}\npass {pass}\ntx {tx}\n")
 }
 
-/// The lines of the counts, which are of so many frames in all.
+/// The lines of the counts, which are of `frames` frames in all.
 fn counts_text(alloc: Global, frames: usize, counts: Counts) -> Result<String, AllocError>
     requires { frames ≡ frames_in counts }
     ensures { IfOk result (λ text. string_bytes text ≡ counts_text counts) }
@@ -171,7 +171,7 @@ fn put_refusals(alloc: Global, text: &mut String, refused: &[Applied]) -> Result
     Ok(())
 }
 
-/// What a replay came to: its counts, of so many frames in all, and the commands that were refused; with these notes.
+/// What a replay came to: its counts, of `frames` frames in all, and the commands that were refused; with these notes.
 pub fn replayed(
     alloc: Global,
     frames: usize,

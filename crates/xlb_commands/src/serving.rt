@@ -55,6 +55,17 @@ impl CommandAnswer {
     {
         CommandAnswer::Reported(Report::done(text))
     }
+
+    /// The same with notes.
+    fn noted(text: String, notes: Option<String>) -> CommandAnswer
+        ensures { (report : _) × (result ≡ CommandAnswer.Reported report) × (report.is_refused ≡ false) × (report.text ≡ text) }
+    {
+        CommandAnswer::Reported(Report {
+            text,
+            is_refused: false,
+            notes,
+        })
+    }
 }
 
 /// Does what the settings say, and gives what is to be printed.
@@ -85,7 +96,7 @@ fn answer<R: Threads + Wait + Sync, D: Folder, P: Progress + Sync>(
             worker,
             updates,
         } => match run_once(alloc, folder, files, *now, *worker, updates)? {
-            RunAnswer::Printed(text) => Ok(CommandAnswer::reported(text)),
+            RunAnswer::Printed { text, notes } => Ok(CommandAnswer::noted(text, notes)),
             RunAnswer::Mistaken { place, misfit } => Ok(CommandAnswer::Mistaken { place, misfit }),
         },
         Settings::Disasm { image, source } => {
@@ -185,7 +196,7 @@ fn print_notes<E: Sink>(alloc: Global, report: &Report, err: &mut E)
     }
 }
 
-/// Prints what a person is told of a replay that was made, or of tables. Nothing is printed of another command.
+/// Prints the notes for people on a run or a replay that was made, or on tables. Nothing is printed of another command.
 fn note<E: Sink>(alloc: Global, settings: &Settings<'_>, report: &Report, err: &mut E)
     requires { E.failure_count err.old < 2 ^ 64 - 1 }
     ensures { IsNoted settings.now (stream (E.held err.old) (E.failure_count err.old)) (stream (E.held err.new) (E.failure_count err.new)) }
@@ -193,8 +204,8 @@ fn note<E: Sink>(alloc: Global, settings: &Settings<'_>, report: &Report, err: &
     match settings {
         Settings::Replay { .. } => print_notes(alloc, report, err),
         Settings::Table { .. } => print_notes(alloc, report, err),
+        Settings::Run { .. } => print_notes(alloc, report, err),
         Settings::Check { .. }
-        | Settings::Run { .. }
         | Settings::Disasm { .. }
         | Settings::Audit { .. }
         | Settings::Explain { .. }
@@ -203,7 +214,7 @@ fn note<E: Sink>(alloc: Global, settings: &Settings<'_>, report: &Report, err: &
     }
 }
 
-/// What is told of a refusal: the fault's line, and notes below it.
+/// The text that is printed of a refusal: the fault's line, and notes below it.
 fn told(alloc: Global, refusal: &Refusal) -> Result<Vec<u8>, AllocError>
     ensures { IfOk result (λ text. IsRefusalText (fault_line refusal.now.fault) (notes_told refusal.now.notes) text.items) }
 {
@@ -247,10 +258,10 @@ fn status_of(is_refused: bool) -> u8
 
 /// Does what the settings say, over the files of a folder: prints what the command prints and gives 0; or prints the line of the first fault of what
 /// the command reads on `err`, with notes for people below it, and gives 1. The fault is 7 where what the command prints could not be printed; the line is
-/// that of fault 8 where there was no memory for it. Where commands of a replay's script were refused, the report is printed and tells them, and the
-/// status is 1. Where the image's maps do not take an update of a run, or a file that is to be written is another one of the command's, that is told on
-/// `err`, and the status is 2, as of other mistakes in the command's words. After the report of a replay, or of
-/// tables, lines for people may follow on `err`.
+/// that of fault 8 where there was no memory for it. Where commands of a replay's script were refused, the report is printed and names them, and the
+/// status is 1. Where the image's maps do not take an update of a run, or a file that is to be written is another one of the command's, that is printed on
+/// `err`, and the status is 2, as of other mistakes in the command's words. After the report of a run, of a
+/// replay, or of tables, lines for people may follow on `err`.
 pub fn serve<R: Threads + Wait + Sync, D: Folder, P: Progress + Sync, O: Sink, E: Sink>(
     rt: &R,
     alloc: Global,

@@ -10,6 +10,7 @@ ghost use Rattle.xlb_commands.specs.Results.{IsShippedFile};
 
 use crate::commands::write_image;
 use crate::fault::{Fault, Refusal};
+use crate::hints;
 use ebpf_decode::Image;
 use folders::Folder;
 use std::alloc::Global;
@@ -24,7 +25,7 @@ fn made(alloc: Global, ring: u32) -> Result<Image, Refusal>
 {
     match shipped(alloc, ring) {
         Ok(image) => Ok(image),
-        Err(fault) => Err(Refusal::from(Fault::Steering(fault))),
+        Err(fault) => Err(Refusal::hinted(Fault::Steering(fault), hints::of_ring(alloc, ring))),
     }
 }
 

@@ -8,6 +8,7 @@ ghost use Rattle.xlb_commands.specs.Refused.{HasFailed, IsTableRefusal};
 ghost use Rattle.xlb_commands.specs.Tables.{AreShownTables, IsTableShown};
 
 use crate::fault::{Fault, Refusal};
+use crate::hints;
 use crate::notes::about_refused;
 use crate::replays::script_file;
 use crate::report::Report;
@@ -18,14 +19,17 @@ use std::alloc::{AllocError, Global};
 use traffic::tables_of;
 
 /// Whether a lookup table has this size.
-fn sized(ring: u32) -> Result<(), Refusal>
+fn sized(alloc: Global, ring: u32) -> Result<(), Refusal>
     ensures size { OnOk result (IsRingSize ring) }
     ensures refused { IfErr result (λ refusal. (¬ IsRingSize ring) × (refusal.fault ≡ Fault.Script scripts.BadSize)) }
 {
     if is_ring_size(ring) {
         Ok(())
     } else {
-        Err(Refusal::from(Fault::Script(ControlFault::BadSize)))
+        Err(Refusal::hinted(
+            Fault::Script(ControlFault::BadSize),
+            hints::of_ring(alloc, ring),
+        ))
     }
 }
 
@@ -58,7 +62,7 @@ pub fn table_file<D: Folder>(
     ensures refused { IfErr result (λ refusal. IsTableRefusal (D.holds folder.old)
         (HasFailed (D.failure_count folder.old) (D.failure_count folder.new)) name.now ring refusal.fault) }
 {
-    sized(ring)?;
+    sized(alloc, ring)?;
     let script = script_file(alloc, folder, name)?;
     let report = shown(alloc, &script, ring)?;
     Ok(report)

@@ -9,8 +9,8 @@ use Rattle.isa.specs.declared.operation.Extension.{Extension}
 use Rattle.isa.specs.declared.operation.AluOp.{AluOp}
 use Rattle.isa.specs.declared.operation.AtomicOp.{AtomicOp}
 use Rattle.isa.specs.declared.operation.Test.{Test}
-use Rattle.isa.specs.declared.operation.Source.{Source}
-use Rattle.isa.specs.declared.operation.Source.TheVariants.{Imm, Reg}
+use Rattle.isa.specs.declared.operation.SourceOperand.{SourceOperand}
+use Rattle.isa.specs.declared.operation.SourceOperand.TheVariants.{Imm, Reg}
 use Rattle.isa.specs.declared.operation.Register.{Register}
 use Rattle.ebpf_decode.specs.declared.insn.Insn.{Insn}
 use Rattle.ebpf_decode.specs.declared.insn.Insn.TheVariants.{Alu, Neg, Movsx, Movsx32, End, Ja, Ja32, JumpIf, Ldx, Ldxs, St, Stx, AtomicUpdate, Lddw, Ldmap, Ldval, CallHelper, Exit}
@@ -35,12 +35,12 @@ pub immediate_fits : (immediate : ℤ) → FitsSigned w32 immediate → twos_com
 immediate_fits (pos n) fits = let l : n < 2 ^ 31 = fits.sfits in omega arith
 immediate_fits (negsuc n) fits = omega arith
 
-alu_source : (width : Width) (op : AluOp) (dst : Register) (source : Source) → FieldsFit (Alu width op dst source) → SourceFits source
+alu_source : (width : Width) (op : AluOp) (dst : Register) (source : SourceOperand) → FieldsFit (Alu width op dst source) → SourceFits source
 unfolding FieldsFit
 alu_source width op dst (Imm immediate) fits = immediate_fits immediate fits
 alu_source width op dst (Reg register) fits = tt
 
-pub jump_source : (width : Width) (test : Test) (dst : Register) (source : Source) (distance : ℤ) → FieldsFit (JumpIf width test dst source distance) → SourceFits source
+pub jump_source : (width : Width) (test : Test) (dst : Register) (source : SourceOperand) (distance : ℤ) → FieldsFit (JumpIf width test dst source distance) → SourceFits source
 unfolding FieldsFit
 jump_source width test dst (Imm immediate) distance fits = immediate_fits immediate fits.1
 jump_source width test dst (Reg register) distance fits = tt

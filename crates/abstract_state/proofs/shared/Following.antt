@@ -2,8 +2,8 @@
 use Rattle.std.proofs.Common.{◌≡◌, ℕ, ◌+◌, ◌*◌, ◌<◌, ◌≤◌, ◌^◌, List, Ok, Err, refl, sym, ◌∙◌, ap, subst, arith}
 use Rattle.isa.specs.declared.operation.Register.{Register}
 use Rattle.isa.specs.declared.operation.Register.TheVariants.{R0, R1, R2, R3, R4, R5, R6, R7, R8, R9, R10}
-use Rattle.isa.specs.declared.operation.Source.{Source}
-use Rattle.isa.specs.declared.operation.Source.TheVariants.{Imm, Reg}
+use Rattle.isa.specs.declared.operation.SourceOperand.{SourceOperand}
+use Rattle.isa.specs.declared.operation.SourceOperand.TheVariants.{Imm, Reg}
 use Rattle.isa.specs.Words.{twos_complement}
 use Rattle.ebpf_decode.specs.declared.insn.Insn.{Insn}
 use Rattle.ebpf_decode.specs.declared.map.MapDef.{MapDef}
@@ -121,11 +121,11 @@ moved_on maps held state machine slot steps a later =
 -- ---- operands
 
 -- an immediate that sign-extends to a number of 64 bits
-abbrev pub SourceFits : Source → Type 0
+abbrev pub SourceFits : SourceOperand → Type 0
 SourceFits (Imm immediate) = twos_complement 64 immediate < 2 ^ 64
 SourceFits (Reg register) = Unit {0}
 
-pub source_covers : (maps : List MapDef) (held : Held) (state : State) (machine : MachineState) (a : Abstracts maps held state machine) (source : Source) →
+pub source_covers : (maps : List MapDef) (held : Held) (state : State) (machine : MachineState) (a : Abstracts maps held state machine) (source : SourceOperand) →
     SourceFits source → KindCovers (setting_of maps held a.ids machine) (source_kind state source) (source_value machine source)
 source_covers maps held state machine a (Imm immediate) fits = record {
   number = twos_complement 64 immediate;

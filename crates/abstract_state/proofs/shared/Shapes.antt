@@ -9,8 +9,8 @@ use Rattle.isa.specs.declared.operation.Size.{Size}
 use Rattle.isa.specs.declared.operation.Size.TheVariants.{U8, U16, U32, U64}
 use Rattle.isa.specs.declared.operation.AtomicOp.{AtomicOp}
 use Rattle.isa.specs.declared.operation.Test.{Test}
-use Rattle.isa.specs.declared.operation.Source.{Source}
-use Rattle.isa.specs.declared.operation.Source.TheVariants.{Reg}
+use Rattle.isa.specs.declared.operation.SourceOperand.{SourceOperand}
+use Rattle.isa.specs.declared.operation.SourceOperand.TheVariants.{Reg}
 use Rattle.isa.specs.declared.operation.Register.{Register}
 use Rattle.isa.specs.declared.operation.Register.TheVariants.{R0}
 use Rattle.ebpf_decode.specs.declared.insn.Insn.{Insn}
@@ -281,7 +281,7 @@ refined_shaped : (cut : Option Kind) (fact : Fact) (state : State) (dst : Regist
 refined_shaped (Some kind) fact state dst s = kind_shaped state dst kind s
 refined_shaped None fact state dst s = told_shaped fact state s
 
-edge_shaped : (state : State) (width : Width) (test : Test) (dst : Register) (source : Source) (taken : Bool) → IsShaped state →
+edge_shaped : (state : State) (width : Width) (test : Test) (dst : Register) (source : SourceOperand) (taken : Bool) → IsShaped state →
     IsShaped (refine_state state width test dst source taken)
 edge_shaped state width test dst source taken s =
     refined_shaped (number_cut width test taken (kind_of state dst) (source_kind state source)) (fact_of test taken (kind_of state dst) (source_kind state source)) state dst s
@@ -299,7 +299,7 @@ load_kept : (state : State) (dst source : Register) (made : Checked State) → K
 load_kept state dst source made k =
     keeps_then (writable dst) (λ _. reads state source >>= (λ _. made)) (λ _ e. keeps_then (reads state source) (λ _. made) (λ _ f. k))
 
-splits_shaped : (state : State) (width : Width) (test : Test) (dst : Register) (source : Source) (flow : Flow) → IsShaped state →
+splits_shaped : (state : State) (width : Width) (test : Test) (dst : Register) (source : SourceOperand) (flow : Flow) → IsShaped state →
     test_flow state width test dst source ≡ Ok flow → FlowIsShaped flow
 splits_shaped state width test dst source flow s e =
     let read = ok_then (reads_both state dst source) (λ _. allowed_test width test (kind_of state dst) (source_kind state source) dst source >>=

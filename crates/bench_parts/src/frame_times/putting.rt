@@ -6,7 +6,7 @@ ghost use Rattle.shard_port.specs.PortView.{ServesMaps};
 ghost use Rattle.shard_port.specs.PlainPorts.{IsSamePort};
 ghost use Rattle.bench_parts.specs.FrameOptions.{bench_options};
 
-use super::rows::{FRAMES, Put, Row, SIZE, frame_bytes, tunnel_put};
+use super::rows::{FRAMES, FrameRow, Put, SIZE, frame_bytes, tunnel_put};
 use ebpf_decode::{Image, MapDef};
 use machine::MapPort;
 use semantics::{JournalFull, Key, Options, Value};
@@ -77,7 +77,7 @@ fn put_slots(port: &mut PlainPort, maps: &[MapDef]) -> Result<bool, JournalFull>
     ensures { IsSamePort port.old port.new }
 {
     'slots: for slot in 0..SIZE {
-        if !put_one(port, maps, &Row::slot_put(slot))? {
+        if !put_one(port, maps, &FrameRow::slot_put(slot))? {
             return Ok(false);
         }
     }
@@ -85,7 +85,7 @@ fn put_slots(port: &mut PlainPort, maps: &[MapDef]) -> Result<bool, JournalFull>
 }
 
 /// The service and the notes of the frames' flows.
-fn put_flows(port: &mut PlainPort, maps: &[MapDef], row: &Row) -> Result<bool, JournalFull>
+fn put_flows(port: &mut PlainPort, maps: &[MapDef], row: &FrameRow) -> Result<bool, JournalFull>
     requires { port.old.image.now.maps ≡ maps.now }
     ensures { IsSamePort port.old port.new }
 {
@@ -108,7 +108,7 @@ fn put_flows(port: &mut PlainPort, maps: &[MapDef], row: &Row) -> Result<bool, J
 }
 
 /// All of them.
-fn put_all(port: &mut PlainPort, maps: &[MapDef], row: &Row) -> Result<bool, JournalFull>
+fn put_all(port: &mut PlainPort, maps: &[MapDef], row: &FrameRow) -> Result<bool, JournalFull>
     requires { port.old.image.now.maps ≡ maps.now }
     ensures { IsSamePort port.old port.new }
 {
@@ -127,7 +127,7 @@ fn put_all(port: &mut PlainPort, maps: &[MapDef], row: &Row) -> Result<bool, Jou
 pub(crate) fn put_session(
     image: &Image,
     shards: &mut PlainShards,
-    row: &Row,
+    row: &FrameRow,
 ) -> Result<bool, JournalFull>
     requires options { AreOptions image.now.maps bench_options }
     requires shards { ServesMaps image.now.maps bench_options shards.old }

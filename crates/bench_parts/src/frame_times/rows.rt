@@ -13,7 +13,7 @@ pub(crate) const SIZE: u32 = 4093;
 
 /// A row.
 #[derive(Clone, Copy, Debug)]
-pub(crate) struct Row {
+pub(crate) struct FrameRow {
     pub(crate) name: &'static str,
     /// A byte of each frame that is another one.
     pub(crate) change: (usize, u8),
@@ -26,15 +26,15 @@ pub(crate) struct Row {
 }
 
 #[rattlefmt::skip]
-pub(crate) const ROWS: [Row; 8] = [
-    Row { name: "passed-no-flow",     change: (12, 0x86), vip: Some(false), noted: None,    is_up: [true, true] },
-    Row { name: "passed-no-service",  change: (0, 2),     vip: None,        noted: None,    is_up: [true, true] },
-    Row { name: "dropped-no-life",    change: (22, 0),    vip: Some(false), noted: None,    is_up: [true, true] },
-    Row { name: "dropped-no-backend", change: (0, 2),     vip: Some(false), noted: None,    is_up: [false, false] },
-    Row { name: "sent-tracked",       change: (0, 2),     vip: Some(false), noted: Some(1), is_up: [true, true] },
-    Row { name: "sent-untracked",     change: (0, 2),     vip: Some(true),  noted: None,    is_up: [true, true] },
-    Row { name: "sent-new-flow",      change: (0, 2),     vip: Some(false), noted: None,    is_up: [true, true] },
-    Row { name: "sent-dead-backend",  change: (0, 2),     vip: Some(false), noted: Some(1), is_up: [true, false] },
+pub(crate) const ROWS: [FrameRow; 8] = [
+    FrameRow { name: "passed-no-flow",     change: (12, 0x86), vip: Some(false), noted: None,    is_up: [true, true] },
+    FrameRow { name: "passed-no-service",  change: (0, 2),     vip: None,        noted: None,    is_up: [true, true] },
+    FrameRow { name: "dropped-no-life",    change: (22, 0),    vip: Some(false), noted: None,    is_up: [true, true] },
+    FrameRow { name: "dropped-no-backend", change: (0, 2),     vip: Some(false), noted: None,    is_up: [false, false] },
+    FrameRow { name: "sent-tracked",       change: (0, 2),     vip: Some(false), noted: Some(1), is_up: [true, true] },
+    FrameRow { name: "sent-untracked",     change: (0, 2),     vip: Some(true),  noted: None,    is_up: [true, true] },
+    FrameRow { name: "sent-new-flow",      change: (0, 2),     vip: Some(false), noted: None,    is_up: [true, true] },
+    FrameRow { name: "sent-dead-backend",  change: (0, 2),     vip: Some(false), noted: Some(1), is_up: [true, false] },
 ];
 
 // A TCP segment from 198.51.100.7 to 203.0.113.1, port 80.
@@ -78,7 +78,7 @@ fn put_of(map: SteeringMap, key: &[u8], value: &[u8]) -> Put {
 }
 
 /// The bytes of the frame of a number.
-pub(crate) fn frame_bytes(row: &Row, number: u32) -> [u8; 54] {
+pub(crate) fn frame_bytes(row: &FrameRow, number: u32) -> [u8; 54] {
     let mut bytes = SEGMENT;
     let (place, byte) = row.change;
     bytes[place % 54] = byte;
@@ -88,7 +88,7 @@ pub(crate) fn frame_bytes(row: &Row, number: u32) -> [u8; 54] {
     bytes
 }
 
-impl Row {
+impl FrameRow {
     /// The record of a slot, which the first backend owns.
     pub(crate) fn slot_put(slot: u32) -> Put {
         let record = RingRecord { owner: Some(0) };

@@ -37,7 +37,7 @@ pub const LOOKUPS: u32 = 100_000;
 
 /// A worker's pass, and the shard that it calls.
 #[derive(Drop)]
-pub struct Task<B: Naming> {
+pub struct CallTask<B: Naming> {
     pub pass: Pass<B>,
     pub shard: u32,
 }
@@ -61,7 +61,7 @@ pub fn task_of<B: Naming>(
     dealer: &mut Dealer<B>,
     number: u8,
     shard: u32,
-) -> Result<Task<B>, PassFault>
+) -> Result<CallTask<B>, PassFault>
     requires { number < 4 }
     ensures { IfOk result (λ task. IsReady B.count B.plan task.pass task.shard) }
 {
@@ -69,7 +69,7 @@ pub fn task_of<B: Naming>(
         return Err(PassFault::BadOptions);
     }
     let pass = dealer.pass(alloc, Caller::Worker { number })?;
-    Ok(Task { pass, shard })
+    Ok(CallTask { pass, shard })
 }
 
 /// Enters.
@@ -138,10 +138,10 @@ fn look_and_load<B: Naming>(
 }
 
 /// All lookups of a thread, up to a full journal, and the sum of what was loaded.
-pub fn work<B: Naming>(rt: &impl Wait, shards: &Shards<B>, task: Task<B>) -> u64
+pub fn work<B: Naming>(rt: &impl Wait, shards: &Shards<B>, task: CallTask<B>) -> u64
     requires { IsReady B.count B.plan task.pass task.shard }
 {
-    let Task { mut pass, shard } = task;
+    let CallTask { mut pass, shard } = task;
     if enter(rt, shards, &mut pass, shard).is_err() {
         return 0;
     }

@@ -13,7 +13,7 @@ use test_support::programs::FIRST_RUN;
 type Row = (&'static str, &'static [u8], &'static str);
 
 #[rattlefmt::skip]
-const ROWS: [Row; 14] = [
+const ROWS: [Row; 15] = [
     ("a leading zero", b"version 1\nmov r0, 02\nexit\n", "fault 21 BadLine line 2\n  \"02\": expected a number without a zero in front\n"),
     ("register 11",    b"version 1\nmov r11, 1\nexit\n", "fault 21 BadLine line 2\n  \"r11\": expected a register, r0 to r10\n"),
     ("minus zero",     b"version 1\nmov r0, -0\nexit\n", "fault 21 BadLine line 2\n  \"-0\": expected a number without a zero in front\n"),
@@ -23,6 +23,9 @@ const ROWS: [Row; 14] = [
         "fault 21 BadLine line 2\n  TEXT is in the source form: 'xlb asm --source' makes an image of it\n"),
     ("a short number", b"version 1\nlddw r1, 0x2\nexit\n",
         "fault 21 BadLine line 2\n  TEXT is in the source form: 'xlb asm --source' makes an image of it\n"),
+    ("lines that end as on Windows", b"version 1\r\nexit\r\n",
+        "fault 21 BadLine line 1\n  \
+         a carriage return ends the line, as on Windows: 'xlb asm --source' reads such lines, and tr -d '\\r' < TEXT > NEW takes it away\n"),
     ("no last line feed", b"version 1\nexit", "fault 21 BadLine line 2\n  TEXT is in the source form: 'xlb asm --source' makes an image of it\n"),
     ("no text", b"",
         "fault 21 BadLine line 1\n  expected version 1 or version 2 on the first line, then map KIND KEY-BYTES VALUE-BYTES ENTRIES (hash, array or \

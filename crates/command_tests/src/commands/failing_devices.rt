@@ -22,7 +22,7 @@ const NEVER: u64 = 1000;
 /// The most bytes that a weak stream takes at a time.
 const MOST: usize = 16;
 
-/// A stream that takes so many bytes at a time, and fails at the call of this number, counted from 0.
+/// A stream that takes at most `MOST` bytes at a time, and fails at the call `fails_at`, counted from 0.
 #[derive(Drop)]
 struct WeakStream {
     taken: Vec<u8>,
@@ -248,7 +248,7 @@ const SOUND: Failing = Failing {
     err: NEVER,
 };
 
-/// Ends the test where so many calls of a folder failed as no command here makes.
+/// Ends the test where more calls of a folder failed than any command here makes.
 fn has_few_failures(rt: &impl Abort, line: &str, folder: &MemoryFolder)
     ensures { folder.now.failures < NEVER }
 {
@@ -287,7 +287,7 @@ fn compare_files<R: Abort>(
     }
 }
 
-/// How many bytes a weak stream takes in so many calls.
+/// How many bytes a weak stream takes in `calls` calls.
 fn taken_in(calls: u64) -> usize {
     MOST.saturating_mul(calls as usize)
 }

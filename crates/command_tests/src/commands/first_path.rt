@@ -28,7 +28,7 @@ type Row = (
 );
 
 #[rattlefmt::skip]
-const ROWS: [Row; 19] = [
+const ROWS: [Row; 21] = [
     ("checked",                   "", "xlb check image", 0, "accepted slots 18 maps 1 reader yes\n", ""),
     ("printed",                   "", "xlb disasm image", 0, FIRST_RUN, ""),
     ("last byte 3 is tx", "0000000000000000000000000003", "xlb run image frame", 0,
@@ -39,6 +39,13 @@ const ROWS: [Row; 19] = [
         "verdict aborted\ninstructions 17\nframe 0000000000000000000000000000\n", ""),
     ("at a time, on a worker", "0000000000000000000000000003", "xlb run image frame --now 18446744073709551615 --worker 7", 0,
         "verdict tx\ninstructions 17\nframe 0000000000000000000000000003\n", ""),
+    ("a frame of letters", "61616161616161616161616161610a", "xlb run image frame", 0,
+        "verdict aborted\ninstructions 17\nframe 61616161616161616161616161610a\n",
+        "  FRAME: the file has hexadecimal digits in place of bytes\n  its 15 letters were run as the bytes of the frame\n  \
+         xxd -r -p FRAME NEW makes bytes of hexadecimal digits\n"),
+    ("a text", "7477656c766520776f7264730a0a", "xlb run image frame", 0,
+        "verdict aborted\ninstructions 17\nframe 7477656c766520776f7264730a0a\n",
+        "  FRAME: the file is a text\n  its 14 letters were run as the bytes of the frame\n"),
     ("13 bytes are no frame", "00000000000000000000000003", "xlb run image frame", 1, "",
         "fault 9 ShortFrame\n  the file has 13 bytes\n  expected the bytes of one Ethernet frame, 14 to 2048 of them\n"),
     ("an empty frame", "", "xlb run image frame", 1, "",

@@ -31,7 +31,7 @@ const TWO_ZEROS: &str = "\
     01000000020000000e0000000e000000\
     0000000000000000000000000000";
 
-/// A capture of a record of 14 zeros, one of 2049 zeros, and so many bytes of another one of 14 zeros.
+/// A capture of a record of 14 zeros, one of 2049 zeros, and the first `bytes_of_last` bytes of another one of 14 zeros.
 fn capture(alloc: Global, bytes_of_last: usize) -> Result<Vec<u8>, AllocError> {
     let mut bytes = Vec::from_slice(alloc, &HEADER)?;
     bytes.extend_from_slice(&RECORD)?;
@@ -59,9 +59,13 @@ const TWO_TX: &str = "frames 2\nshort 0\nstopped 0\naborted 0\ndrop 0\npass 0\nt
 
 #[rattlefmt::skip]
 const ROWS: [Row; 3] = [
-    ("a long record is refused", 30, "--workers 1", 1, "", "fault 6 FrameTooLong record 2\n  at byte 54 of 2149\n", ""),
+    ("a long record is refused", 30, "--workers 1", 1, "", 
+        "fault 6 FrameTooLong record 2\n  at byte 54 of 2149\n  \
+         the record keeps 2049 bytes, and a frame has at most 2048: --skip-long skips such records, and counts them\n", ""),
     ("a long record is skipped", 30, "--skip-long", 0, TWO_TX, "  long 1: records above 2048 bytes were skipped\n", TWO_ZEROS),
-    ("a cut record behind it",   29, "--skip-long", 1, "", "fault 5 CutFrame record 2\n  at byte 2119 of 2148\n", ""),
+    ("a cut record behind it",   29, "--skip-long", 1, "", 
+        "fault 5 CutFrame record 2\n  at byte 2119 of 2148\n  \
+         the record keeps 14 bytes by its head, and the file has 13 of them, 1 too few\n", ""),
 ];
 
 /// Holds what a replay comes to against a row.

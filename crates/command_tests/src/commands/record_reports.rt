@@ -98,7 +98,7 @@ type Row = (
 static ROWS: [Row; 17] = [
     ("13 bytes are short", SENDS, "", ZEROS_13, "--image image", "report.csv", &[("1,1.000002,,SHORT,,", ",,\n")]),
     ("the same for a program of steering", SENDS, "", ZEROS_13, "--program image", "report", &[("1,1.000002,,SHORT,,short,", ",\n")]),
-    ("the same in JSON", SENDS, "", ZEROS_13, "--image image", "report.json",
+    ("the same in JSON", SENDS, "", ZEROS_13, "--image image", "report.JSON",
         &[("{\"number\":1,\"moment\":\"1.000002\",\"worker\":null,\"verdict\":\"SHORT\",\"steps\":null,",
            "\"case\":null,\"backend\":null,\"address\":null}\n")]),
     ("a frame that is in no tunnel", SENDS, "", LAST_MOMENT, "--image image", "report.jsonx", &[("1,4294967295.999999,0,TX,2,", ",,\n")]),
@@ -184,7 +184,7 @@ fn compare_lines(rt: &impl Abort, name: &str, report: &[u8], head: &str, lines: 
 
 /// What a report of this name begins with.
 fn head_of(file: &str) -> &'static str {
-    if file.ends_with(".json") || file.ends_with(".jsonl") {
+    if file.ends_with(".JSON") || file.ends_with(".jsonl") {
         ""
     } else {
         HEAD

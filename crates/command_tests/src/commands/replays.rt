@@ -127,6 +127,7 @@ const MOVED: &str = "  2 frames of TCP or UDP that fit into a tunnel
   1 frame sent to 192.0.2.2
   1 frame sent to another address than the frame of their flow before
   2 frames for 203.0.113.1 port 80 udp
+  251 of 251 slots of the lookup table for backend 1, 192.0.2.2, at the end
   record 2 went to another address than the frame of its flow before
 ";
 
@@ -157,6 +158,9 @@ const CUT_TWO: &str =
 const RING_8: &str =
     "  --ring 8 has no effect: it is the size of the shipped program's lookup table\n";
 
+const NOT_EXACT: &str =
+    "  commands with a number above 0 may take effect up to some 64 frames for each worker too early, or later: --exact makes their moments exact\n";
+
 const FIVE: &str = "frames 5\nshort 0\nstopped 1\naborted 0\ndrop 0\npass 4\ntx 0\n";
 
 const UNTRACKED: &str =
@@ -168,6 +172,9 @@ const NO_BACKEND: &str =
 /// A second backend, and then the first one is down.
 const ANOTHER_BACKEND: &str =
     "0 gateway 10.0.0.9 02:00:00:00:00:0a 02:00:00:00:00:0b\n0 vip 203.0.113.1 80 udp\n0 up 0 192.0.2.1\n0 up 1 192.0.2.2\n0 down 0\n";
+
+/// Two of three backends stay up.
+const TWO_BACKENDS: &str = "0 up 2 192.0.2.3\n0 up 0 192.0.2.1\n0 up 6 192.0.2.4\n0 down 0\n";
 
 const NO_TUNNEL: &str = "0 vip 203.0.113.1 80 udp\n0 up 0 192.0.2.1\n";
 
@@ -210,22 +217,26 @@ const ROWS: [Row; 18] = [
         "  line 2 of the script, 0 up 0 10.0.0.1: this number or this address is up\n", HEAD),
     ("a down and a full journal", "", "0 up 0 10.0.0.1\n0 up 1 10.0.0.2\n0 down 0\n0 up 2 10.0.0.3\n", HEAD, "--script script --journal 400", 1,
         "frames 0\nshort 0\nstopped 0\naborted 0\ndrop 0\npass 0\ntx 0\ncommand 3 refused 94\ncommand 4 refused 94\n",
-        "  line 3 of the script, 0 down 0: a journal is full: --journal N, at most 1048576, makes more room\n  \
-         line 4 of the script, 0 up 2 10.0.0.3: a journal is full: --journal N, at most 1048576, makes more room\n", HEAD),
+        "  line 3 of the script, 0 down 0: a journal is full: --journal N, at most 1048576, and --shards N, at most 8, make more room\n  \
+         line 4 of the script, 0 up 2 10.0.0.3: a journal is full: --journal N, at most 1048576, and --shards N, at most 8, make more room\n", HEAD),
     ("an image before a script", UNSET, "0 up\n", "", "--image image", 1, "", "fault 35 UnsetRegister slot 0 register 0\n", ""),
-    ("a ring before a script",   "", "0 up\n", "", "--script script --ring 8", 1, "", "fault 73 BadSize\n", ""),
+    ("a ring before a script",   "", "0 up\n", "", "--script script --ring 8", 1, "",
+        "fault 73 BadSize\n  --ring 8\n  expected the number of slots of a lookup table: 7, 251, 4093 or 65537\n  the next larger one is 251\n", ""),
     ("a script before a capture", "", "0 vip 203.0.113.1 80 udp  notrack\n", "", "--script script", 1, "",
         "fault 90 BadLine line 1\n  line 1, column 25: \"  \": two spaces\n  expected one space between words\n  \
          for example: 0 vip 203.0.113.1 80 tcp, with notrack as its last word where flows are not tracked\n", ""),
-    ("an empty capture",         SENDS, "", "", "--image image --workers 9", 1, "", "fault 4 CutHead record 0\n  at byte 0 of 0\n", ""),
-    ("a cut third record",       SENDS, "", CUT_ZEROS, "--image image", 1, "", "fault 5 CutFrame record 3\n  at byte 84 of 101\n", ""),
+    ("an empty capture",         SENDS, "", "", "--image image --workers 9", 1, "", 
+        "fault 4 CutHead record 0\n  at byte 0 of 0\n  a header has 24 bytes, and the file ends after 0 of them\n", ""),
+    ("a cut third record",       SENDS, "", CUT_ZEROS, "--image image", 1, "", 
+        "fault 5 CutFrame record 3\n  at byte 84 of 101\n  \
+         the record keeps 14 bytes by its head, and the file has 1 of them, 13 too few\n", ""),
     ("nine workers",             SENDS, "", ZEROS_14, "--image image --workers 9", 1, "", "fault 51 BadOptions\n  --workers 9\n  expected 1 to 8\n", ""),
     ("a script without its maps", SENDS, "0 down 3\n", ZEROS_14, "--program image --script script", 1, "", NO_MAPS, ""),
 ];
 
 /// Frames that the shipped program steers.
 #[rattlefmt::skip]
-const STEERED: [Row; 11] = [
+const STEERED: [Row; 14] = [
     ("a service's backend",      "", SERVICE, DATAGRAM, "--script script", 0, ONE_TX, "", IN_A_TUNNEL),
     ("without tracking",         "", UNTRACKED, DATAGRAM, "--script script", 0, ONE_TX, "", IN_A_TUNNEL),
     ("no backend",               "", NO_BACKEND, DATAGRAM, "--script script --ring 7", 0, ONE_DROP, "", HEAD),
@@ -235,10 +246,17 @@ const STEERED: [Row; 11] = [
     ("no tunnel",                "", NO_TUNNEL, DATAGRAM, "--script script", 0, ONE_DROP, "", HEAD),
     ("no script",                "", "", DATAGRAM, "--script script", 0, ONE_PASS, "", HEAD),
     ("a summary of one frame", "", SERVICE, DATAGRAM, "--script script --summary", 0, ONE_TX,
-        "  1 frame of TCP or UDP that fit into a tunnel\n  1 frame sent to 192.0.2.1\n  1 frame for 203.0.113.1 port 80 udp\n", IN_A_TUNNEL),
+        "  1 frame of TCP or UDP that fit into a tunnel\n  1 frame sent to 192.0.2.1\n  1 frame for 203.0.113.1 port 80 udp\n  \
+         251 of 251 slots of the lookup table for backend 0, 192.0.2.1, at the end\n", IN_A_TUNNEL),
     ("a summary of a flow that moves", "", MOVES, TWO_DATAGRAMS, "--script script --exact --summary", 0, TWO_TX, MOVED, IN_BOTH_TUNNELS),
     ("a summary of one that has expired", "", SERVICE, NOT_TO_LIVE, "--script script --summary", 0, ONE_DROP,
-        "  1 frame of TCP or UDP with a time to live of 0\n  1 frame for 203.0.113.1 port 80 udp\n  1 frame dropped, with a time to live of 0\n", HEAD),
+        "  1 frame of TCP or UDP with a time to live of 0\n  1 frame for 203.0.113.1 port 80 udp\n  1 frame dropped, with a time to live of 0\n  \
+         251 of 251 slots of the lookup table for backend 0, 192.0.2.1, at the end\n", HEAD),
+    ("a summary of two shares in two shards", "", TWO_BACKENDS, HEAD, "--script script --ring 7 --shards 2 --summary", 0, NO_FRAME,
+        "  4 of 7 slots of the lookup table for backend 2, 192.0.2.3, at the end\n  \
+         3 of 7 slots of the lookup table for backend 6, 192.0.2.4, at the end\n", HEAD),
+    ("commands behind the first frame", "", "0 up 0 192.0.2.1\n1 down 0\n", HEAD, "--script script", 0, NO_FRAME, NOT_EXACT, HEAD),
+    ("the same at exact moments", "", "0 up 0 192.0.2.1\n1 down 0\n", HEAD, "--script script --exact", 0, NO_FRAME, "", HEAD),
 ];
 
 /// The files of a replay: a script, the bytes of a capture's digits, and the image of a text where there is one.

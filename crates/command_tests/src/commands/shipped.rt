@@ -20,8 +20,13 @@ const SIZES: [(&str, &str); 5] = [
     (" --ring 65537", "65544"),
 ];
 
-/// Sizes that no lookup table has.
-const NO_SIZES: [&str; 4] = ["0", "8", "65536", "4294967295"];
+/// Sizes that no lookup table has, and which one is said to be next.
+const NO_SIZES: [(&str, &str); 4] = [
+    ("0", "the next larger one is 7"),
+    ("8", "the next larger one is 251"),
+    ("65536", "the next larger one is 65537"),
+    ("4294967295", "the largest one is 65537"),
+];
 
 /// A folder of the image that the command writes, with these words behind its file.
 fn shipped<R: Abort + Threads + Wait + Sync>(rt: &R, alloc: Global, words: &str) -> MemoryFolder
@@ -60,24 +65,31 @@ fn writes_the_image_of_each_size(rt: HostRuntime) {
 }
 
 /// Holds that there is no image of this size.
-fn compare_no_size<R: Abort + Threads + Wait + Sync>(rt: &R, alloc: Global, size: &str) {
+fn compare_no_size<R: Abort + Threads + Wait + Sync>(
+    rt: &R,
+    alloc: Global,
+    size: &str,
+    next: &str,
+) {
     let line = format!(in alloc; "xlb shipped made --ring {size}").expect(rt, "a line");
-    let err = "fault 73 BadSize\n";
+    let err = format!(in alloc;
+        "fault 73 BadSize\n  --ring {size}\n  expected the number of slots of a lookup table: 7, 251, 4093 or 65537\n  {next}\n"
+    ).expect(rt, "lines");
     writes_nothing(
         rt,
         alloc,
         &line,
         MemoryFolder::new(alloc),
         &line,
-        err,
+        &err,
         "made",
     );
 }
 
 #[test]
 fn has_no_image_of_another_size(rt: HostRuntime) {
-    for size in &NO_SIZES {
-        compare_no_size(&rt, rt.alloc(), size);
+    for (size, next) in NO_SIZES {
+        compare_no_size(&rt, rt.alloc(), size, next);
     }
 }
 

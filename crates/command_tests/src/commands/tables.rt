@@ -95,6 +95,8 @@ fn no_table_has_eight_slots(rt: HostRuntime) {
         words,
         SCRIPT,
         words,
-        refused("fault 73 BadSize\n"),
+        refused(
+            "fault 73 BadSize\n  --ring 8\n  expected the number of slots of a lookup table: 7, 251, 4093 or 65537\n  the next larger one is 251\n",
+        ),
     );
 }

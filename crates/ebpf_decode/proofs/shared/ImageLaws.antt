@@ -6,7 +6,7 @@ use Rattle.std.proofs.lemmas.Bool.{eqb-true, eqb-false, ne_eqb, eq-eqb, leb-true
 use Rattle.std.proofs.lemmas.List.{length-append, length-drop}
 use Rattle.ebpf_decode.specs.declared.fault.DecodeFault.{DecodeFault}
 use Rattle.ebpf_decode.specs.declared.fault.DecodeFault.TheVariants.{BadHead, Empty, NotWhole, TooLong, Memory}
-use Rattle.ebpf_decode.specs.declared.slot.Slot.{Slot}
+use Rattle.ebpf_decode.specs.declared.slot.CodeSlot.{CodeSlot}
 use Rattle.ebpf_decode.specs.declared.insn.Insn.{Insn}
 use Rattle.ebpf_decode.specs.declared.insn.Insn.TheVariants.{Lddw, Ldmap, Ldval}
 use Rattle.ebpf_decode.specs.declared.map.MapDef.{MapDef}
@@ -65,17 +65,17 @@ code_takes version bytes code fits e =
     let long : length bytes ≡ 8 * (length bytes / 8) = omega arith in
     let few : length bytes / 8 ≤ 4096 = ltb-false 4096 (length bytes / 8) three.0 in
     let found = code_found version 0 None (slots_at (length bytes / 8) bytes) code (slots_fit (length bytes / 8) bytes fits) tt three.1 in
-    let total : total_slots code ≡ length bytes / 8 = sym (length_slots code) ∙ sym (ap (λ (s : List Slot). length s) found.0) ∙ length_slots_at (length bytes / 8) bytes in
+    let total : total_slots code ≡ length bytes / 8 = sym (length_slots code) ∙ sym (ap (λ (s : List CodeSlot). length s) found.0) ∙ length_slots_at (length bytes / 8) bytes in
     let nonempty : ¬ (length bytes ≡ 0) = eqb-false (length bytes) 0 one.0 in
     let positive : 1 ≤ length bytes / 8 = omega (arith, nonempty) in
     record {
-      parts = slots_take (length bytes / 8) bytes fits long ∙ ap (λ (s : List Slot). flat_map slot_bytes s) found.0 ∙ bytes_of_slots code;
+      parts = slots_take (length bytes / 8) bytes fits long ∙ ap (λ (s : List CodeSlot). flat_map slot_bytes s) found.0 ∙ bytes_of_slots code;
       some = some_code (length bytes / 8) code positive total;
       few = omega arith;
       allowed = found.1;
     }
 
-length_slot_bytes : (slots : List Slot) → length (flat_map slot_bytes slots) ≡ 8 * length slots
+length_slot_bytes : (slots : List CodeSlot) → length (flat_map slot_bytes slots) ≡ 8 * length slots
 length_slot_bytes [] = refl
 length_slot_bytes (s ∷ slots) = omega (arith, length-append (slot_bytes s) (flat_map slot_bytes slots), length_slot_bytes slots)
 
@@ -100,7 +100,7 @@ program_again version code some few allowed =
     let slots = slots_of code in
     let total : length (slots_of code) ≡ total_slots code = length_slots code in
     let bytes : flat_map slot_bytes (slots_of code) ≡ flat_map instruction_bytes code = bytes_of_slots code in
-    let read : code_from version 0 None (slots_at (length (slots_of code)) (flat_map slot_bytes (slots_of code))) ≡ Ok code = ap (λ (s : List Slot). code_from version 0 None s) (slots_again (slots_of code) (slots_of_fit code (allowed_fit version code allowed))) ∙ code_again version code allowed 0 in
+    let read : code_from version 0 None (slots_at (length (slots_of code)) (flat_map slot_bytes (slots_of code))) ≡ Ok code = ap (λ (s : List CodeSlot). code_from version 0 None s) (slots_again (slots_of code) (slots_of_fit code (allowed_fit version code allowed))) ∙ code_again version code allowed 0 in
     let whole : code_at version (flat_map slot_bytes (slots_of code)) ≡ Ok code = code_of_parts version (flat_map slot_bytes (slots_of code)) (length (slots_of code)) code (length_slot_bytes (slots_of code)) (positive_total code some) (omega (arith, total, few)) read in
     ap (code_at version) (sym bytes) ∙ whole
 

@@ -10,7 +10,7 @@ use Rattle.std.proofs.lemmas.Bool.{eqb-true, eq-eqb}
 use Rattle.std.proofs.lemmas.Bool.Decides.{Decides-int_eq}
 use Rattle.std.proofs.lemmas.Nat.{le_bytes_2, le_bytes_4, from_le_bytes-to_le_bytes_2, from_le_bytes-to_le_bytes_4}
 use Rattle.std.proofs.lemmas.List.{get_or-drop, length-drop}
-use Rattle.ebpf_decode.specs.declared.slot.Slot.{Slot}
+use Rattle.ebpf_decode.specs.declared.slot.CodeSlot.{CodeSlot}
 use Rattle.ebpf_decode.specs.SlotForm.{slot_bytes, slot_at, slots_at, same_slot}
 use Rattle.ebpf_decode.specs.InstructionEncoding.{slot}
 use Rattle.ebpf_decode.proofs.Slots.{SlotFits}
@@ -20,14 +20,14 @@ use Rattle.ebpf_decode.proofs.Slots.{SlotFits}
 same_parts : (o o' d d' s s' : ℕ) (f f' i i' : ℤ) → o ≡ o' → d ≡ d' → s ≡ s' → f ≡ f' → i ≡ i' → slot o d s f i ≡ slot o' d' s' f' i'
 same_parts o o' d d' s s' f f' i i' eo ed es ef ei = rw (eo, ed, es, ef, ei) refl
 
-pub equal_slots : (a b : Slot) → a.opcode ≡ b.opcode → a.dst ≡ b.dst → a.src ≡ b.src → a.offset ≡ b.offset → a.immediate ≡ b.immediate → a ≡ b
+pub equal_slots : (a b : CodeSlot) → a.opcode ≡ b.opcode → a.dst ≡ b.dst → a.src ≡ b.src → a.offset ≡ b.offset → a.immediate ≡ b.immediate → a ≡ b
 equal_slots a b eo ed es ef ei = same_parts a.opcode b.opcode a.dst b.dst a.src b.src a.offset b.offset a.immediate b.immediate eo ed es ef ei
 
 pub both : (a b : Bool) → (a && b) ≡ true → (a ≡ true) × (b ≡ true)
 both true b e = (refl, e)
 both false b e = absurd cc
 
-pub equal_from_same : (a b : Slot) → same_slot a b ≡ true → a ≡ b
+pub equal_from_same : (a b : CodeSlot) → same_slot a b ≡ true → a ≡ b
 equal_from_same a b e =
     let four = both (eqb a.opcode b.opcode && eqb a.dst b.dst && eqb a.src b.src && int_eq a.offset b.offset) (int_eq a.immediate b.immediate) e in
     let three = both (eqb a.opcode b.opcode && eqb a.dst b.dst && eqb a.src b.src) (int_eq a.offset b.offset) four.0 in
@@ -38,7 +38,7 @@ equal_from_same a b e =
 all_true : (a b c d e : Bool) → a ≡ true → b ≡ true → c ≡ true → d ≡ true → e ≡ true → (a && b && c && d && e) ≡ true
 all_true a b c d e pa pb pc pd pe = rw (pa, pb, pc, pd, pe) refl
 
-pub same_itself : (a : Slot) → same_slot a a ≡ true
+pub same_itself : (a : CodeSlot) → same_slot a a ≡ true
 same_itself a = all_true (eqb a.opcode a.opcode) (eqb a.dst a.dst) (eqb a.src a.src) (int_eq a.offset a.offset) (int_eq a.immediate a.immediate) (eq-eqb a.opcode a.opcode refl) (eq-eqb a.dst a.dst refl) (eq-eqb a.src a.src refl) ((Decides-int_eq a.offset a.offset).1 refl) ((Decides-int_eq a.immediate a.immediate).1 refl)
 
 -- ---- bytes
@@ -103,7 +103,7 @@ slot_fits bytes fits = record {
   immediate = sfits_to_z {w = w32} (record { fits = below_32 (get_or bytes 4 0 ∷ get_or bytes 5 0 ∷ get_or bytes 6 0 ∷ get_or bytes 7 0 ∷ []) (four_bytes _ _ _ _ (fits 4) (fits 5) (fits 6) (fits 7)) });
 }
 
-pub slot_again : (s : Slot) (rest : List ℕ) → SlotFits s → slot_at (slot_bytes s ++ rest) ≡ s
+pub slot_again : (s : CodeSlot) (rest : List ℕ) → SlotFits s → slot_at (slot_bytes s ++ rest) ≡ s
 slot_again s rest fits =
     let dst : (s.dst + 16 * s.src) % 16 ≡ s.dst = omega (arith, fits.dst) in
     let src : (s.dst + 16 * s.src) / 16 ≡ s.src = omega (arith, fits.dst) in
@@ -124,7 +124,7 @@ unfolding slots_at
 slots_fit zero bytes fits = tt
 slots_fit (suc n) bytes fits = (slot_fits bytes fits, slots_fit n (drop 8 bytes) (IsBytes-drop 8 bytes fits))
 
-pub slots_again : (slots : List Slot) → AllByRecursion SlotFits slots → slots_at (length slots) (flat_map slot_bytes slots) ≡ slots
+pub slots_again : (slots : List CodeSlot) → AllByRecursion SlotFits slots → slots_at (length slots) (flat_map slot_bytes slots) ≡ slots
 unfolding slots_at
 slots_again [] fits = refl
-slots_again (s ∷ slots) fits = rw (slot_again s (flat_map slot_bytes slots) fits.0) (ap (λ (x : List Slot). s ∷ x) (slots_again slots fits.1))
+slots_again (s ∷ slots) fits = rw (slot_again s (flat_map slot_bytes slots) fits.0) (ap (λ (x : List CodeSlot). s ∷ x) (slots_again slots fits.1))

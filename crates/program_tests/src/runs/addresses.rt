@@ -5,7 +5,7 @@ use super::listing::EXIT;
 use super::scripted::{Asked, Replies};
 use ebpf_decode::{Insn, MapDef, MapKind};
 use isa::Register::{R0, R1, R2, R3, R4, R5, R6, R10};
-use isa::{AluOp, Size, Source, Test};
+use isa::{AluOp, Size, SourceOperand, Test};
 use machine::Stop;
 use semantics::Verdict;
 use std::test::Fail;
@@ -72,12 +72,12 @@ const ADDRESS_AND_PACKET: [Insn; 7] = [
     mov!(R4, R2),
     add!(R4, 14),
     number!(R0, 2),
-    jump!(Test::Gt, R4, Source::Reg(R3), 4),
+    jump!(Test::Gt, R4, SourceOperand::Reg(R3), 4),
 ];
 
 const AS_FAR_AS_IT_SAYS: [Insn; 5] = [
     load!(Size::U8, R5, R2, 13),
-    alu!(AluOp::Add, R6, Source::Reg(R5)),
+    alu!(AluOp::Add, R6, SourceOperand::Reg(R5)),
     store!(Size::U8, R6, 0, 3),
     number!(R0, 3),
     EXIT,

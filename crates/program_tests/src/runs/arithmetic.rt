@@ -5,7 +5,9 @@ use super::programs::{MOMENT, accepted, has_number, ran};
 use crate::asserting::same;
 use ebpf_decode::Insn;
 use isa::Register::{R0, R2, R5, R6};
-use isa::{AluOp, ByteOrder, Extension, ShortExtension, Size, Source, SwapWidth, Test, Width};
+use isa::{
+    AluOp, ByteOrder, Extension, ShortExtension, Size, SourceOperand, SwapWidth, Test, Width,
+};
 use machine::Exit;
 use semantics::Verdict;
 use std::alloc::Global;
@@ -94,7 +96,7 @@ fn arithmetic_on_64_bits(rt: HostRuntime) -> Result<(), Fail> {
             width: Width::Bits64,
             op,
             dst: R5,
-            source: Source::Reg(R6),
+            source: SourceOperand::Reg(R6),
         };
         gives(&rt, rt.alloc(), insn, a, b, want, name)?;
     }
@@ -136,7 +138,7 @@ fn arithmetic_on_32_bits(rt: HostRuntime) -> Result<(), Fail> {
             width: Width::Bits32,
             op,
             dst: R5,
-            source: Source::Reg(R6),
+            source: SourceOperand::Reg(R6),
         };
         gives(&rt, rt.alloc(), insn, a, b, want, name)?;
     }
@@ -161,7 +163,7 @@ fn immediates(rt: HostRuntime) -> Result<(), Fail> {
             width,
             op,
             dst: R5,
-            source: Source::Imm(immediate),
+            source: SourceOperand::Imm(immediate),
         };
         gives(&rt, rt.alloc(), insn, a, 0, want, name)?;
     }
@@ -302,7 +304,7 @@ fn branches(
         width,
         test,
         dst: R5,
-        source: Source::Reg(R6),
+        source: SourceOperand::Reg(R6),
         distance: 1,
     };
     let head = [lddw!(R5, a), lddw!(R6, b), number!(R0, 2), jump];

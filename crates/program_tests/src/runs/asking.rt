@@ -6,7 +6,7 @@ use super::scripted::{Asked, Replies, ScriptedPort};
 use crate::asserting::{same, same_fact};
 use ebpf_decode::{Insn, MapDef, MapKind, Version};
 use isa::Register::{R0, R1, R2, R3, R4, R5, R6, R10};
-use isa::{AluOp, AtomicOp, Size, Source, Test, Width};
+use isa::{AluOp, AtomicOp, Size, SourceOperand, Test, Width};
 use machine::{Exit, Stop, run};
 use semantics::{Key, Value, Verdict};
 use std::alloc::Global;
@@ -90,7 +90,7 @@ const FOUND: [Insn; 8] = [
     add!(R2, -4),
     Insn::Ldmap { dst: R1, map: 0 },
     call!(1),
-    jump!(Test::Ne, R0, Source::Imm(0), 1),
+    jump!(Test::Ne, R0, SourceOperand::Imm(0), 1),
     EXIT,
     mov!(R6, R0),
 ];
@@ -305,18 +305,18 @@ static DELETIONS_BY_SPILLED: [(&str, [Insn; 8]); 2] = [
         Insn::Ldmap { dst: R1, map: 0 },
         Insn::Stx { size: Size::U64, dst: R10, src: R1, offset: -32 },
         Insn::St { size: Size::U32, dst: R10, offset: -4, immediate: 7 },
-        Insn::Alu { width: Width::Bits64, op: AluOp::Mov, dst: R2, source: Source::Reg(R10) },
-        Insn::Alu { width: Width::Bits64, op: AluOp::Add, dst: R2, source: Source::Imm(-4) },
-        Insn::Alu { width: Width::Bits64, op: AluOp::Mov, dst: R1, source: Source::Imm(0) },
+        Insn::Alu { width: Width::Bits64, op: AluOp::Mov, dst: R2, source: SourceOperand::Reg(R10) },
+        Insn::Alu { width: Width::Bits64, op: AluOp::Add, dst: R2, source: SourceOperand::Imm(-4) },
+        Insn::Alu { width: Width::Bits64, op: AluOp::Mov, dst: R1, source: SourceOperand::Imm(0) },
         Insn::Ldx { size: Size::U64, dst: R1, src: R10, offset: -32 },
         Insn::CallHelper { helper: 3 },
     ]),
     ("a spilled place of the stack", [
         Insn::St { size: Size::U32, dst: R10, offset: -4, immediate: 7 },
-        Insn::Alu { width: Width::Bits64, op: AluOp::Mov, dst: R2, source: Source::Reg(R10) },
-        Insn::Alu { width: Width::Bits64, op: AluOp::Add, dst: R2, source: Source::Imm(-4) },
+        Insn::Alu { width: Width::Bits64, op: AluOp::Mov, dst: R2, source: SourceOperand::Reg(R10) },
+        Insn::Alu { width: Width::Bits64, op: AluOp::Add, dst: R2, source: SourceOperand::Imm(-4) },
         Insn::Stx { size: Size::U64, dst: R10, src: R2, offset: -16 },
-        Insn::Alu { width: Width::Bits64, op: AluOp::Mov, dst: R2, source: Source::Imm(0) },
+        Insn::Alu { width: Width::Bits64, op: AluOp::Mov, dst: R2, source: SourceOperand::Imm(0) },
         Insn::Ldx { size: Size::U64, dst: R2, src: R10, offset: -16 },
         Insn::Ldmap { dst: R1, map: 0 },
         Insn::CallHelper { helper: 3 },
@@ -358,7 +358,7 @@ fn a_spilled_packet_end(rt: HostRuntime) -> Result<(), Fail> {
         mov!(R4, R2),
         add!(R4, 20),
         number!(R0, 2),
-        jump!(Test::Gt, R4, Source::Reg(R3), 2),
+        jump!(Test::Gt, R4, SourceOperand::Reg(R3), 2),
     ];
     let tail = [store!(Size::U8, R2, 19, 9), number!(R0, 3), EXIT];
     let mut bytes = [0xaa; 20];
@@ -471,7 +471,7 @@ fn a_moved_start(rt: HostRuntime) -> Result<(), Fail> {
         mov!(R4, R2),
         add!(R4, 16),
         number!(R0, 2),
-        jump!(Test::Gt, R4, Source::Reg(R3), 1),
+        jump!(Test::Gt, R4, SourceOperand::Reg(R3), 1),
         store!(Size::U8, R2, 0, 7),
         number!(R0, 3),
         EXIT,
@@ -531,7 +531,7 @@ fn a_refusal_in_the_middle(rt: HostRuntime) -> Result<(), Fail> {
         add!(R2, -4),
         Insn::Ldmap { dst: R1, map: 0 },
         call!(1),
-        jump!(Test::Ne, R0, Source::Imm(0), 1),
+        jump!(Test::Ne, R0, SourceOperand::Imm(0), 1),
         EXIT,
         mov!(R6, R0),
         store!(Size::U64, R6, 0, 6),

@@ -16,7 +16,7 @@ macro_rules! checked {
             test_support::jump!(
                 isa::Test::Gt,
                 isa::Register::R4,
-                isa::Source::Reg(isa::Register::R3),
+                isa::SourceOperand::Reg(isa::Register::R3),
                 $distance
             ),
         ]

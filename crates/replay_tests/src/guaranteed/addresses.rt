@@ -4,7 +4,7 @@ use super::programs::{EXIT, OPTIONS, Program};
 use super::worker_runs::{Run, enter, exit, found, leave, lookup, program_leaves};
 use ebpf_decode::{Insn, MapDef, Version};
 use isa::Register::{R0, R1, R2, R3, R4, R5, R6};
-use isa::{AluOp, AtomicOp, Register, Size, Source, Test, Width};
+use isa::{AluOp, AtomicOp, Register, Size, SourceOperand, Test, Width};
 use semantics::{Call, CellRef, Options, Reply, Verdict};
 use std::alloc::Global;
 use std::process::Abort;
@@ -130,7 +130,7 @@ fn measured(skip: i16) -> [Insn; 8] {
         mov!(R4, R2),
         add!(R4, 14),
         number!(R0, 2),
-        jump!(Test::Gt, R4, Source::Reg(R3), skip),
+        jump!(Test::Gt, R4, SourceOperand::Reg(R3), skip),
         load!(Size::U8, R5, R2, 13),
     ]
 }
@@ -180,11 +180,11 @@ fn writes(
 /// Byte 13 says where in the value a number is written, of one byte, or of two at an even place.
 #[test]
 fn a_place_in_a_value_that_the_packet_tells(rt: HostRuntime) -> Result<(), Fail> {
-    let further = alu!(AluOp::Add, R6, Source::Reg(R5));
+    let further = alu!(AluOp::Add, R6, SourceOperand::Reg(R5));
     let read = load!(Size::U8, R0, R6, 0);
     let byte = [further, store!(Size::U8, R6, 0, 3), read, EXIT];
     writes(&rt, rt.alloc(), "one byte", &measured(4), &byte, 12, 255, 1)?;
-    let even = alu!(AluOp::And, R5, Source::Imm(254));
+    let even = alu!(AluOp::And, R5, SourceOperand::Imm(254));
     let short = [even, further, store!(Size::U16, R6, 0, 3), read, EXIT];
     writes(
         &rt,

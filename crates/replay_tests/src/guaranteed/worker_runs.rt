@@ -8,7 +8,7 @@ use ebpf_decode::{Insn, MapDef, Version, decode};
 use guarantees::opened_shards_are_ready;
 use guarantees::running::worker_run;
 use isa::Register::{R0, R1, R2, R3, R6, R10};
-use isa::{Size, Source, Test};
+use isa::{Size, SourceOperand, Test};
 use machine::{Exit, Stop};
 use semantics::{Call, Caller, CellRef, Entry, Key, Options, Reply, Verdict};
 use shards::PlainShards;
@@ -159,7 +159,7 @@ fn looks(
 #[test]
 fn a_value_past_its_null_test(rt: HostRuntime) -> Result<(), Fail> {
     let tail = [
-        jump!(Test::Eq, R0, Source::Imm(0), 1),
+        jump!(Test::Eq, R0, SourceOperand::Imm(0), 1),
         load!(Size::U64, R3, R0, 0),
         number!(R0, 2),
         EXIT,
@@ -198,7 +198,7 @@ fn loads_a_part(
     offset: i16,
 ) -> Result<(), Fail> {
     let tail = [
-        jump!(Test::Eq, R0, Source::Imm(0), 2),
+        jump!(Test::Eq, R0, SourceOperand::Imm(0), 2),
         add!(R0, further),
         load!(Size::U16, R3, R0, offset),
         number!(R0, 2),
@@ -222,7 +222,7 @@ fn a_spilled_value_and_a_spilled_null(rt: HostRuntime) -> Result<(), Fail> {
     let tail = [
         put!(Size::U64, R10, -16, R0),
         load!(Size::U64, R6, R10, -16),
-        jump!(Test::Eq, R6, Source::Imm(0), 3),
+        jump!(Test::Eq, R6, SourceOperand::Imm(0), 3),
         load!(Size::U64, R0, R6, 0),
         add!(R0, 1),
         EXIT,
@@ -248,7 +248,7 @@ fn a_spilled_value_and_a_spilled_null(rt: HostRuntime) -> Result<(), Fail> {
 #[test]
 fn a_spilled_tested_value(rt: HostRuntime) -> Result<(), Fail> {
     let tail = [
-        jump!(Test::Eq, R0, Source::Imm(0), 4),
+        jump!(Test::Eq, R0, SourceOperand::Imm(0), 4),
         put!(Size::U64, R10, -16, R0),
         load!(Size::U64, R6, R10, -16),
         load!(Size::U64, R0, R6, 0),

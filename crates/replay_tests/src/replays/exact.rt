@@ -1,5 +1,4 @@
-//! Replays with exact moments: which backend each frame goes to, by any number of workers, and how many replies the workers have had when
-//! a command has its first.
+//! Replays with exact moments: which backend each frame goes to, by any number of workers.
 
 use super::schedules::{A_FULL_JOURNAL, are_the_last_two};
 use super::shipped_program::{
@@ -9,74 +8,18 @@ use super::shipped_program::{
 use super::{NONE, captured, journals_file, program};
 use crate::asserting::{holds_of, same_bytes_of, same_fact};
 use control::parse_script;
-use replay::{Applied, Counts, Gate, NoGate, Outcome, exact_replay, replay_in_turn};
+use replay::{Applied, Counts, Gate, NoGate, Outcome, replay_in_turn};
 use semantics::{Caller, Options};
 use std::alloc::Global;
-use std::hint::spin_loop;
 use std::process::Abort;
-use std::sync::Wait;
 use std::sync::atomic::{AtomicU64, Ordering};
 use std::test::Fail;
-use std::thread::Threads;
 use steer::shipped;
 use verifier::{Verified, verify};
 use wire::Capture;
 
-/// A reply of the controller, counted from 1, and how many replies the workers have had by then.
-type Moment = (u64, u64);
-
-/// A gate that slows the workers down, and looks how many replies they have had at some of the controller's.
-#[derive(Drop)]
-struct Watch {
-    moments: &'static [Moment],
-    turns: u32,
-    replies: AtomicU64,
-    /// At how many of these moments it was another number.
-    wrong: AtomicU64,
-}
-
-impl Watch {
-    fn new(moments: &'static [Moment], turns: u32) -> Watch {
-        Watch {
-            moments,
-            turns,
-            replies: AtomicU64::new(0),
-            wrong: AtomicU64::new(0),
-        }
-    }
-
-    fn dawdle(&self) {
-        for _ in 0..self.turns {
-            spin_loop();
-        }
-    }
-
-    fn look(&self, nth: u64) {
-        let replies = self.replies.load(Ordering::SeqCst);
-        for (reply, wanted) in self.moments {
-            if *reply == nth && *wanted != replies {
-                self.wrong.fetch_add(1, Ordering::SeqCst);
-            }
-        }
-    }
-}
-
-impl Gate for Watch {
-    fn replied(&self, who: Caller, nth: u64) {
-        match who {
-            Caller::Worker { .. } => {
-                self.dawdle();
-                self.replies.fetch_add(1, Ordering::SeqCst);
-            }
-            Caller::Controller => self.look(nth),
-            Caller::Reclaimer => {}
-        }
-    }
-}
-
 /// An exact replay over shards of one part.
-fn exactly<R: Threads + Abort + Wait + Sync, G: Gate + Sync>(
-    rt: &R,
+fn exactly<G: Gate>(
     alloc: Global,
     verified: &Verified,
     capture: &Capture,
@@ -91,7 +34,7 @@ fn exactly<R: Threads + Abort + Wait + Sync, G: Gate + Sync>(
         shards: 1,
         journal,
     };
-    Ok(exact_replay(rt, alloc, verified, capture, &script, options, gate)?)
+    Ok(replay_in_turn(alloc, verified, capture, &script, options, gate)?)
 }
 
 /// A script over a service and backend 0, and where each frame goes.
@@ -104,46 +47,43 @@ struct Row {
     frames: &'static [u16],
     /// Of each frame that is sent the port, and the last byte of the backend's address. They are the first frames.
     sent: &'static [(u16, u8)],
-    moments: &'static [Moment],
     /// Each refused command and its fault.
     refused: &'static [(usize, u8)],
 }
 
-/// The first three are the schedules that gates fix in `shipped_program`, without a gate: the controller's first reply at frames 2, 5, 7
-/// and 10 comes when as many frames were run to their end. In the others one flow has 14 replies for its first frame and 12 for each later
-/// one, and the controller has had ten before the first frame.
+/// The first three are the schedules that gates fix in `shipped_program`, without a gate.
 #[rattlefmt::skip]
 const EXACT: [Row; 8] = [
     Row {
         name: "a flow keeps its backend while that is up", service: TRACKED, later: LATER, frames: FRAMES, sent: KEPT,
-        moments: &[(11, 28), (16, 68), (22, 102), (28, 142)], refused: &[],
+        refused: &[],
     },
     Row {
         name: "without tracking it has the owner of its slot", service: UNTRACKED, later: LATER, frames: FRAMES, sent: OWNED,
-        moments: &[(11, 24), (16, 60), (22, 84), (28, 120)], refused: &[],
+        refused: &[],
     },
     Row {
         name: "flows of two workers", service: TRACKED, later: LATER, frames: FEW_FRAMES, sent: FEW_KEPT,
-        moments: &[(11, 28), (16, 66), (22, 100), (28, 100)], refused: &[],
+        refused: &[],
     },
     Row {
-        name: "before the first frame", service: TRACKED, later: "0 down 0\n", frames: &[40001, 40001], sent: &[], moments: &[], refused: &[],
+        name: "before the first frame", service: TRACKED, later: "0 down 0\n", frames: &[40001, 40001], sent: &[], refused: &[],
     },
     Row {
         name: "before the last frame", service: TRACKED, later: "3 down 0\n", frames: &[40001, 40001, 40001, 40001],
-        sent: &[(40001, 1), (40001, 1), (40001, 1)], moments: &[(11, 38)], refused: &[],
+        sent: &[(40001, 1), (40001, 1), (40001, 1)], refused: &[],
     },
     Row {
         name: "behind the last frame", service: TRACKED, later: "4 down 0\n9 up 1 192.0.2.2\n", frames: &[40001, 40001, 40001, 40001],
-        sent: &[(40001, 1), (40001, 1), (40001, 1), (40001, 1)], moments: &[(11, 50), (12, 50), (19, 50)], refused: &[],
+        sent: &[(40001, 1), (40001, 1), (40001, 1), (40001, 1)], refused: &[],
     },
     Row {
         name: "down and up before one frame", service: TRACKED, later: "1 down 0\n1 up 1 192.0.2.2\n", frames: &[40001, 40001, 40001],
-        sent: &[(40001, 1), (40001, 2), (40001, 2)], moments: &[(11, 14), (12, 14), (19, 14)], refused: &[],
+        sent: &[(40001, 1), (40001, 2), (40001, 2)], refused: &[],
     },
     Row {
         name: "a refused command", service: TRACKED, later: "1 down 7\n2 down 0\n", frames: &[40001, 40001, 40001],
-        sent: &[(40001, 1), (40001, 1)], moments: &[(11, 26)], refused: &[(3, 91)],
+        sent: &[(40001, 1), (40001, 1)], refused: &[(3, 91)],
     },
 ];
 
@@ -170,34 +110,18 @@ fn compare<R: Abort>(rt: &R, row: &Row, outcome: &Outcome) {
     holds_of(rt, row.name, "the refused commands", refused);
 }
 
-/// Replays a row by so many workers, and compares.
-fn is_exact<R: Threads + Abort + Wait + Sync>(
+/// Replays a row by `workers` workers, and compares.
+fn is_exact<R: Abort>(
     rt: &R,
     alloc: Global,
     verified: &Verified,
     row: &Row,
     workers: u32,
 ) -> Result<(), Fail> {
-    let gate = Watch::new(row.moments, 2000);
     let script = format!(in alloc; "{}{AT_FIRST}{}", row.service, row.later)?;
     let capture = segments(alloc, row.frames)?;
-    let outcome = exactly(rt, alloc, verified, &capture, &script, workers, 1024, &gate)?;
-    let wrong = gate.wrong.load(Ordering::SeqCst);
-    same_fact(rt, row.name, "the wrong moments", &wrong, &0);
+    let outcome = exactly(alloc, verified, &capture, &script, workers, 1024, &NoGate)?;
     compare(rt, row, &outcome);
-    Ok(())
-}
-
-/// The same by 1, 2, 4 and 8 workers.
-fn by_any_workers<R: Threads + Abort + Wait + Sync>(
-    rt: &R,
-    alloc: Global,
-    verified: &Verified,
-    row: &Row,
-) -> Result<(), Fail> {
-    for workers in [1, 2, 4, 8] {
-        is_exact(rt, alloc, verified, row, workers)?;
-    }
     Ok(())
 }
 
@@ -205,7 +129,9 @@ fn by_any_workers<R: Threads + Abort + Wait + Sync>(
 fn commands_act_between_two_frames(rt: HostRuntime) -> Result<(), Fail> {
     let verified = verify(rt.alloc(), shipped(rt.alloc(), 7)?)?;
     for row in &EXACT {
-        by_any_workers(&rt, rt.alloc(), &verified, row)?;
+        for workers in [1, 2, 4, 8] {
+            is_exact(&rt, rt.alloc(), &verified, row, workers)?;
+        }
     }
     Ok(())
 }
@@ -237,19 +163,18 @@ fn long_frames(alloc: Global) -> Result<(Vec<u16>, Vec<(u16, u8)>), Fail> {
     Ok((ports, sent))
 }
 
-/// A long replay by so many workers: where each frame goes, and the journals.
-fn long_replay<R: Threads + Abort + Wait + Sync>(
+/// A long replay by `workers` workers: where each frame goes, and the journals.
+fn long_replay<R: Abort, G: Gate>(
     rt: &R,
     alloc: Global,
     verified: &Verified,
     workers: u32,
+    gate: &G,
 ) -> Result<Outcome, Fail> {
     let (ports, want) = long_frames(alloc)?;
     let script = format!(in alloc; "{UNTRACKED}{AT_FIRST}{LONG}")?;
     let capture = segments(alloc, &ports)?;
-    let outcome = exactly(
-        rt, alloc, verified, &capture, &script, workers, 65536, &NoGate,
-    )?;
+    let outcome = exactly(alloc, verified, &capture, &script, workers, 65536, gate)?;
     let wrong = first_wrong(&outcome.sent, &want);
     same_fact(rt, "a long replay", "the first wrong frame", &wrong, &None);
     same_fact(
@@ -266,28 +191,38 @@ fn long_replay<R: Threads + Abort + Wait + Sync>(
 fn a_long_replay_is_exact(rt: HostRuntime) -> Result<(), Fail> {
     let verified = verify(rt.alloc(), shipped(rt.alloc(), 7)?)?;
     for workers in [1, 2, 4, 8] {
-        let _ = long_replay(&rt, rt.alloc(), &verified, workers)?;
+        let _ = long_replay(&rt, rt.alloc(), &verified, workers, &NoGate)?;
     }
     Ok(())
 }
 
-/// By one worker nothing is left to the schedule: the controller's and the reclaimer's entries are where they were too.
-#[test]
-fn by_one_worker_the_journals_are_the_same_again(rt: HostRuntime) -> Result<(), Fail> {
-    let verified = verify(rt.alloc(), shipped(rt.alloc(), 7)?)?;
-    let first = long_replay(&rt, rt.alloc(), &verified, 1)?;
-    let first = journals_file(rt.alloc(), &first)?;
-    for _ in 0..3 {
-        let again = long_replay(&rt, rt.alloc(), &verified, 1)?;
-        let again = journals_file(rt.alloc(), &again)?;
-        same_bytes_of(
-            &rt,
-            "a long replay",
-            "the journals",
-            again.bytes(),
-            first.bytes(),
+/// Keeps the numbers that the reclaimer is called with, as decimal digits.
+#[derive(Drop)]
+struct Rounds {
+    digits: AtomicU64,
+}
+
+impl Gate for Rounds {
+    fn replied(&self, who: Caller, nth: u64) {
+        let before = self.digits.load(Ordering::SeqCst);
+        let digit = if who == Caller::Reclaimer { nth } else { 9 };
+        self.digits.store(
+            before.wrapping_mul(10).wrapping_add(digit),
+            Ordering::SeqCst,
         );
     }
+}
+
+/// The gate is called after each 64 records, and for nobody but the reclaimer.
+#[test]
+fn the_gate_counts_the_rounds(rt: HostRuntime) -> Result<(), Fail> {
+    let verified = verify(rt.alloc(), shipped(rt.alloc(), 7)?)?;
+    let rounds = Rounds {
+        digits: AtomicU64::new(0),
+    };
+    let _ = long_replay(&rt, rt.alloc(), &verified, 2, &rounds)?;
+    let digits = rounds.digits.load(Ordering::SeqCst);
+    same_fact(&rt, "300 records", "the rounds", &digits, &1234);
     Ok(())
 }
 
@@ -298,7 +233,6 @@ fn an_exact_down_meets_a_full_journal(rt: HostRuntime) -> Result<(), Fail> {
     let verified = program(rt.alloc(), row.program)?;
     let capture = captured(rt.alloc(), row.frames)?;
     let outcome = exactly(
-        &rt,
         rt.alloc(),
         &verified,
         &capture,
@@ -311,66 +245,6 @@ fn an_exact_down_meets_a_full_journal(rt: HostRuntime) -> Result<(), Fail> {
     holds_of(&rt, row.name, "the refused commands", refused);
     same_fact(&rt, row.name, "the counts", &outcome.counts, &row.counts);
     Ok(())
-}
-
-/// A replay on one thread, over shards of one part.
-fn in_turn(
-    alloc: Global,
-    verified: &Verified,
-    capture: &Capture,
-    script: &str,
-    workers: u32,
-    journal: u32,
-) -> Result<Outcome, Fail> {
-    let script = parse_script(alloc, script.as_bytes())?;
-    let options = Options {
-        workers,
-        shards: 1,
-        journal,
-    };
-    Ok(replay_in_turn(alloc, verified, capture, &script, options)?)
-}
-
-/// A row on one thread.
-fn is_in_turn<R: Abort>(
-    rt: &R,
-    alloc: Global,
-    verified: &Verified,
-    row: &Row,
-    workers: u32,
-) -> Result<(), Fail> {
-    let script = format!(in alloc; "{}{AT_FIRST}{}", row.service, row.later)?;
-    let capture = segments(alloc, row.frames)?;
-    let outcome = in_turn(alloc, verified, &capture, &script, workers, 1024)?;
-    compare(rt, row, &outcome);
-    Ok(())
-}
-
-#[test]
-fn on_one_thread_commands_act_between_two_frames(rt: HostRuntime) -> Result<(), Fail> {
-    let verified = verify(rt.alloc(), shipped(rt.alloc(), 7)?)?;
-    for row in &EXACT {
-        for workers in [1, 2, 4, 8] {
-            is_in_turn(&rt, rt.alloc(), &verified, row, workers)?;
-        }
-    }
-    Ok(())
-}
-
-/// The long replay on one thread.
-fn long_in_turn<R: Abort>(
-    rt: &R,
-    alloc: Global,
-    verified: &Verified,
-    workers: u32,
-) -> Result<Outcome, Fail> {
-    let (ports, want) = long_frames(alloc)?;
-    let script = format!(in alloc; "{UNTRACKED}{AT_FIRST}{LONG}")?;
-    let capture = segments(alloc, &ports)?;
-    let outcome = in_turn(alloc, verified, &capture, &script, workers, 65536)?;
-    let wrong = first_wrong(&outcome.sent, &want);
-    same_fact(rt, "on one thread", "the first wrong frame", &wrong, &None);
-    Ok(outcome)
 }
 
 /// In how many places of the journals one has an entry of the controller, and the other none.
@@ -398,23 +272,23 @@ fn controls(outcome: &Outcome, number: usize, place: usize) -> bool {
     place < journal.len() && journal.entry(place).who == Caller::Controller
 }
 
-/// By one worker the journals are those of a replay with threads; by four workers each update stands where it stood by one.
+/// The same journals again, and by four workers each update stands where it stood by one.
 #[test]
-fn on_one_thread_the_journals_are_the_same(rt: HostRuntime) -> Result<(), Fail> {
+fn updates_stand_at_the_same_places(rt: HostRuntime) -> Result<(), Fail> {
     let verified = verify(rt.alloc(), shipped(rt.alloc(), 7)?)?;
-    let threads = long_replay(&rt, rt.alloc(), &verified, 1)?;
-    let alone = long_in_turn(&rt, rt.alloc(), &verified, 1)?;
-    let first = journals_file(rt.alloc(), &threads)?;
-    let second = journals_file(rt.alloc(), &alone)?;
+    let once = long_replay(&rt, rt.alloc(), &verified, 1, &NoGate)?;
+    let again = long_replay(&rt, rt.alloc(), &verified, 1, &NoGate)?;
+    let first = journals_file(rt.alloc(), &once)?;
+    let second = journals_file(rt.alloc(), &again)?;
     same_bytes_of(
         &rt,
-        "on one thread",
+        "a long replay",
         "the journals",
         second.bytes(),
         first.bytes(),
     );
-    let four = long_in_turn(&rt, rt.alloc(), &verified, 4)?;
-    let apart = controllers_apart(&alone, &four);
-    same_fact(&rt, "on one thread", "updates at other places", &apart, &0);
+    let four = long_replay(&rt, rt.alloc(), &verified, 4, &NoGate)?;
+    let apart = controllers_apart(&once, &four);
+    same_fact(&rt, "four workers", "updates at other places", &apart, &0);
     Ok(())
 }

@@ -1,4 +1,4 @@
-//! What a replay tells of each record: its worker, the verdict and the steps.
+//! What a replay reports of each record: its worker, the verdict and the steps.
 
 use super::{COUNTS_TO_THREE, READS_BYTE_13, capture, gated, one_record, program, segment};
 use crate::asserting::same_fact;
@@ -43,7 +43,7 @@ fn eight_flows(alloc: Global) -> Result<Capture, Fail> {
     capture(alloc, &records)
 }
 
-/// Compares what is told of the records of a replay.
+/// Compares the reports on the records of a replay.
 fn ends_are<R: Threads + Abort + Wait + Sync>(
     rt: &R,
     alloc: Global,
@@ -60,7 +60,7 @@ fn ends_are<R: Threads + Abort + Wait + Sync>(
     Ok(())
 }
 
-/// A run in so many steps.
+/// A run in `steps` steps.
 fn exited(worker: u8, verdict: Verdict, steps: u64) -> RecordEnd {
     RecordEnd::Exited {
         worker,

@@ -6,9 +6,9 @@ use ebpf_decode::Insn::{Alu, Ja, Lddw, Ldmap, Ldx, Stx};
 use isa::AluOp::{Add, Mod, Mov};
 use isa::Register::{R0, R1, R2, R3, R4, R6, R7, R8, R9, R10};
 use isa::Size::{U8, U32, U64};
-use isa::Source::{Imm, Reg};
+use isa::SourceOperand::{Imm, Reg};
 use isa::Width::Bits64;
-use isa::{Register, Source, Test, Width};
+use isa::{Register, SourceOperand, Test, Width};
 
 // Where the frame's fields begin.
 /// The type of service.
@@ -92,7 +92,7 @@ pub(super) enum Line {
         width: Width,
         test: Test,
         dst: Register,
-        source: Source,
+        source: SourceOperand,
         to: Block,
     },
 }

@@ -14,7 +14,7 @@ use isa::AluOp::{Add, Mov, Mul, Or, Rsh, Sub, Xor};
 use isa::AtomicOp::AtomicAdd;
 use isa::Register::{R0, R1, R2, R3, R4, R8, R9, R10};
 use isa::Size::{U32, U64};
-use isa::Source::{Imm, Reg};
+use isa::SourceOperand::{Imm, Reg};
 use isa::Test::{Eq, Gt, Lt, Ne, Set};
 use isa::Width::{Bits32, Bits64};
 use std::alloc::Global;

@@ -4,7 +4,7 @@ use Rattle.std.proofs.lemmas.Option.{IfSome_then}
 use Rattle.isa.specs.declared.operation.Width.TheVariants.{Bits32}
 use Rattle.isa.specs.declared.operation.AluOp.TheVariants.{Add}
 use Rattle.isa.specs.declared.operation.Register.TheVariants.{R0}
-use Rattle.isa.specs.declared.operation.Source.TheVariants.{Imm}
+use Rattle.isa.specs.declared.operation.SourceOperand.TheVariants.{Imm}
 use Rattle.ebpf_decode.specs.declared.insn.Insn.TheVariants.{Alu}
 use Rattle.image_shape.proofs.shared.SlotLemmas.{slot_within}
 use Rattle.reasons.proofs.OriginLemmas.{brings_at, nothing_at}

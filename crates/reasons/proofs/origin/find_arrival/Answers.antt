@@ -2,7 +2,7 @@ use Rattle.std.proofs.Common.{◌≡◌, ◌+◌, ◌<◌, ◌≤◌, length, ge
 use Rattle.isa.specs.declared.operation.Width.TheVariants.{Bits32}
 use Rattle.isa.specs.declared.operation.AluOp.TheVariants.{Add}
 use Rattle.isa.specs.declared.operation.Register.TheVariants.{R0}
-use Rattle.isa.specs.declared.operation.Source.TheVariants.{Imm}
+use Rattle.isa.specs.declared.operation.SourceOperand.TheVariants.{Imm}
 use Rattle.std.specs.Prelude.{pos}
 use Rattle.ebpf_decode.specs.declared.insn.Insn.TheVariants.{Alu}
 use Rattle.ebpf_decode.specs.InstructionEncoding.{slot_count}

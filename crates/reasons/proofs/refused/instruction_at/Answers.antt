@@ -3,7 +3,7 @@ use Rattle.std.specs.Prelude.{pos}
 use Rattle.isa.specs.declared.operation.Width.TheVariants.{Bits32}
 use Rattle.isa.specs.declared.operation.AluOp.TheVariants.{Add}
 use Rattle.isa.specs.declared.operation.Register.TheVariants.{R0}
-use Rattle.isa.specs.declared.operation.Source.TheVariants.{Imm}
+use Rattle.isa.specs.declared.operation.SourceOperand.TheVariants.{Imm}
 use Rattle.ebpf_decode.specs.declared.insn.Insn.TheVariants.{Alu}
 use Rattle.image_shape.proofs.shared.SlotLemmas.{whole_at, instruction_here, none_inside, past_end}
 use Rattle.reasons.proofs.refused.instruction_at.Goals as goal

@@ -1,12 +1,11 @@
 use Rattle.std.proofs.Common.{◌+◌, arith}
 use Rattle.std.proofs.lemmas.Bool.Decides.{nat_tests}
-use Rattle.rx_queues.specs.declared.job.Job.TheVariants.{Note}
 use Rattle.rx_queues.specs.Passes.{jobs_put, workers_of}
-use Rattle.replay.proofs.HandLemmas.{one_put, round_due}
+use Rattle.replay.proofs.HandLemmas.{round_due}
 use Rattle.replay.proofs.dispatch.ask_due_round.Goals as goal
 
 pub returns-then-number-eq0-clause-put : goal.returns-then-number-eq0-clause-put
 returns-then-number-eq0-clause-put g c =
-    round_due (workers_of c.args.queues.now + 1) c.args.number (jobs_put c.args.put.now) (jobs_put c.hand_alone.new.put)
+    round_due (workers_of c.args.queues.now + 1) c.args.number (jobs_put c.args.put.now) (jobs_put c.ask_round.new.put)
     (let is = c.if-number-eq0.true in grind (arith, nat_tests, is))
-    (one_put (workers_of c.args.queues.now + 1) Note (jobs_put c.args.put.now) (jobs_put c.hand_alone.new.put) c.hand_alone.ensures.put)
+    c.ask_round.ensures.put

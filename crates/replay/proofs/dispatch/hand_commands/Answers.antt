@@ -2,11 +2,10 @@ use Rattle.replay.proofs.HandLemmas.{none_handed, one_handed}
 use Rattle.replay.proofs.dispatch.hand_commands.Goals as goal
 
 pub commands-init : goal.commands-init
-commands-init g c = (c.requires.pass, none_handed _ _ _, c.requires.actors)
+commands-init g c = (c.requires.pass, none_handed _ _ _)
 
 pub commands-preserved : goal.commands-preserved
 commands-preserved g c = (
-  c.hand_alone.ensures.pass,
-  one_handed _ _ _ _ _ _ c.commands.invariant.1 c.hand_alone.ensures.put,
-  c.hand_alone.ensures.actors,
+  c.put_waiting.ensures.pass,
+  one_handed _ _ _ _ _ _ c.commands.invariant.1 c.put_waiting.ensures.put,
 )

@@ -8,7 +8,7 @@ use Rattle.replay.specs.Accounted.{IsAccounted}
 use Rattle.replay.proofs.single_thread.replay_in_turn.Goals as goal
 
 pub returns-in_ok-turned-in-Ok-clause-accounted : goal.returns-in_ok-turned-in-Ok-clause-accounted
-returns-in_ok-turned-in-Ok-clause-accounted c =
+returns-in_ok-turned-in-Ok-clause-accounted g c =
     let verified = c.args.verified.now in
     let options = c.args.options in
     let fit : AreOptions verified.maps options =

@@ -11,7 +11,7 @@ use Rattle.replay.specs.Turns.{all_turns}
 use Rattle.replay.proofs.single_thread.turned.Goals as goal
 
 pub returns : goal.returns
-returns c =
+returns g c =
     let verified = c.args.verified.now in
     let script = c.args.script.now in
     let records = c.args.capture.now.records.items in

@@ -3,7 +3,7 @@ use Rattle.atomic_table.specs.Table.{Me}
 use Rattle.semantics.specs.Each.{Each}
 use Rattle.semantics.proofs.shared.EachLemmas.{each_first, each_rest, each_start, at_or}
 use Rattle.shards.specs.declared.deeds.Account.{Account}
-use Rattle.shards.specs.declared.deeds.Part.TheVariants.{ByCaller}
+use Rattle.shards.specs.declared.deeds.OrderPart.TheVariants.{ByCaller}
 use Rattle.shards.specs.ClosedOrders.{account_of}
 use Rattle.shards.specs.OrderRule.{HasAccount}
 use Rattle.shards.specs.Passes.{PassView, pass_at, no_pass}

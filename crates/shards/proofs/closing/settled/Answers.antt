@@ -3,7 +3,7 @@ use Rattle.std.specs.Prelude.{reverse}
 use Rattle.atomic_table.specs.Table.{Me}
 use Rattle.semantics.specs.declared.call.Entry.{Entry}
 use Rattle.semantics.specs.History.{IsLegalHistory}
-use Rattle.shards.specs.declared.deeds.Part.TheVariants.{OnShard}
+use Rattle.shards.specs.declared.deeds.OrderPart.TheVariants.{OnShard}
 use Rattle.shards.specs.Lodged.{KeyedPlan, Lodged, keyed}
 use Rattle.shards.specs.OrderRule.{account, deeds_at, deeds_in}
 use Rattle.shards.proofs.OrderClosing.{gathered, seat_of_place}

@@ -4,7 +4,7 @@ use Rattle.shard_core.specs.JournaledShard.{JournaledShard}
 use Rattle.semantics.specs.Each.{Each}
 use Rattle.atomic_table.specs.declared.badge.Badge.{Badge}
 use Rattle.shards.specs.declared.deeds.Account.{Account}
-use Rattle.shards.specs.declared.deeds.Part.TheVariants.{OnShard}
+use Rattle.shards.specs.declared.deeds.OrderPart.TheVariants.{OnShard}
 use Rattle.shards.specs.OrderRule.{IsFresh}
 use Rattle.shards.specs.NewShards.{shard_at, IsUnused, IsMadeOf}
 use Rattle.shards.proofs.opening.new_shards.Given as goal

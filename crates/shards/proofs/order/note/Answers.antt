@@ -2,7 +2,7 @@ use Rattle.std.proofs.Common.{◌≡◌, ℕ, List, ◌∷◌, [], sym, ap, ◌�
 use Rattle.atomic_table.specs.Table.{Me}
 use Rattle.atomic_table.specs.declared.badge.Badge.{Badge}
 use Rattle.shards.specs.declared.deeds.Account.{Account}
-use Rattle.shards.specs.declared.deeds.Part.TheVariants.{OnShard, ByCaller}
+use Rattle.shards.specs.declared.deeds.OrderPart.TheVariants.{OnShard, ByCaller}
 use Rattle.shards.specs.Deeds.{shard_of_deed, caller_of_deed}
 use Rattle.shards.specs.OrderRule.{account, deeds_at, deeds_in, noted, all_others, first_alone}
 use Rattle.shards.proofs.OrderMoves.{takes_one, deals_one, adds_one, the_two, two_parts, view_there, both_are, rests_so, sits_so}

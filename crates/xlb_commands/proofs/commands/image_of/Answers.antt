@@ -1,11 +1,11 @@
-use Rattle.xlb_commands.specs.Refused.{no_image}
+use Rattle.xlb_commands.specs.Refused.{no_image, kept_of_image}
 use Rattle.xlb_commands.proofs.LongImages.{full_front}
 use Rattle.xlb_commands.proofs.commands.image_of.Goals as goal
 
 pub image_of_front-requires : goal.image_of_front-requires
 image_of_front-requires g c = λ cut.
     let front = c.in_ok-front.ensures.front in
-    full_front front.bytes 33048 c.in_ok-front.front front.is_front cut
+    full_front front.bytes kept_of_image c.in_ok-front.front front.is_front cut
 
 pub returns-in-Ok-clause-file : goal.returns-in-Ok-clause-file
 returns-in-Ok-clause-file g c =

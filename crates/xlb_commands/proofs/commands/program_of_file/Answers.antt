@@ -5,14 +5,14 @@ use Rattle.folders.specs.declared.folder.Front.{Front}
 use Rattle.source_form.specs.SourceImage.{IsSource}
 use Rattle.source_form.specs.SourceBeginning.{begins_as_source}
 use Rattle.xlb_commands.specs.Files.{an_image, a_source}
-use Rattle.xlb_commands.specs.Refused.{IsNoSource, no_judged_bytes, no_judged_image, no_judged_source}
+use Rattle.xlb_commands.specs.Refused.{IsNoSource, no_judged_bytes, no_judged_image, no_judged_source, kept_of_image}
 use Rattle.xlb_commands.proofs.LongImages.{full_front}
 use Rattle.xlb_commands.proofs.Refusals.{unserved_since, failed_since}
 use Rattle.xlb_commands.proofs.commands.program_of_file.Goals as goal
 
 -- how the front begins, the file does
-begins_alike : (bytes shown : List ℕ) (front : Front) (is : Bool) (so : Bool) → IsFrontOf bytes 33048 front → shown ≡ front.bytes.items → is ≡ begins_as_source shown
-    → is ≡ so → begins_as_source (take 33048 bytes) ≡ so
+begins_alike : (bytes shown : List ℕ) (front : Front) (is : Bool) (so : Bool) → IsFrontOf bytes kept_of_image front → shown ≡ front.bytes.items → is ≡ begins_as_source shown
+    → is ≡ so → begins_as_source (take kept_of_image bytes) ≡ so
 begins_alike bytes shown front is so is_front same told so_is = ap begins_as_source (sym is_front.kept) ∙ (ap begins_as_source (sym same) ∙ (sym told ∙ so_is))
 
 pub returns-in_err-front-clause-refused : goal.returns-in_err-front-clause-refused
@@ -32,7 +32,7 @@ err_weaker (Err e) more h = more e h
 pub image_without_source-requires : goal.image_without_source-requires
 image_without_source-requires g c = λ cut.
     let front = c.in_ok-front.ensures.front in
-    full_front front.bytes 33048 c.in_ok-front.front front.is_front cut
+    full_front front.bytes kept_of_image c.in_ok-front.front front.is_front cut
 
 pub returns-then-not-begins_as_source-clause-file : goal.returns-then-not-begins_as_source-clause-file
 returns-then-not-begins_as_source-clause-file g c =

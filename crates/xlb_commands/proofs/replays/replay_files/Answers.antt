@@ -108,6 +108,7 @@ returns-clause-done g c = (
     capture = capture_before _ _ _ c.program_of.ensures.kept c.script_of.ensures.kept _ _ _ c.in_ok-capture.ensures.capture;
     outcome = c.in-Ok.outcome;
     accounted = c.in-Ok.ensures.accounted;
+    in_turn = c.in-Ok.ensures.in_turn;
     headline = record { verified = c.in_ok-verified.verified; image_is = refl; kept = c.in-Ok.ensures.headline };
     by_rule = c.in-Ok.ensures.steered;
     readers = c.in-Ok.ensures.readers;
@@ -182,7 +183,10 @@ returns-in-Err-clause-refused g c =
     (kept_twice _ _ _ (kept_twice _ _ _ c.program_of.ensures.kept c.script_of.ensures.kept) c.capture_of.ensures.kept)
     (inputs _ _ _ c.args.files.now c.args.ring c.args.skip_long program _ _ c.program_of.ensures.kept c.script_of.ensures.kept
     (record { is = c.in_ok-verified.ensures.program; safe = c.in_ok-verified.ensures.safe }) c.in_ok-script.ensures.script c.in_ok-capture.ensures.capture)
-    ((λ e. why.0 (ap (λ (fault : ReplayFault). Err fault) e)), (λ broken. same_fault _ _ (why.1 broken)))
+    (record {
+      options_are_bad = ((λ e. why.0 (ap (λ (fault : ReplayFault). Err fault) e)), (λ broken. same_fault _ _ (why.1 broken)));
+      no_thread = λ exact e. c.in-Err.ensures.no_thread exact (ap (λ (fault : ReplayFault). Err fault) e);
+    })
     c.given_up.ensures
 
 pub returns-in_err-left-clause-refused : goal.returns-in_err-left-clause-refused

@@ -18,7 +18,7 @@ returns-in-Err-clause-refused c =
     record {
       why = c.in-Err.fault;
       size = ((λ e. why.0 (ap (λ (fault : SteerFault). Err fault) e)), (λ broken. same_fault _ _ (why.1 broken)));
-      told = c.from.ensures;
+      told = c.hinted.ensures;
     }
 
 -- whether a table may have a size is decided, so a size of which the contrary is wrong is one

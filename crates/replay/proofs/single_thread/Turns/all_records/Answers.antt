@@ -8,7 +8,7 @@ use Rattle.replay.proofs.TurnLemmas.{setting_stays, setting_more, still_serves}
 use Rattle.replay.proofs.single_thread.Turns.all_records.Goals as goal
 
 pub records-init : goal.records-init
-records-init c = record {
+records-init g c = record {
   next_is = refl;
   within = omega arith;
   same = setting_stays (state_in c.args.self.now);
@@ -17,7 +17,7 @@ records-init c = record {
 }
 
 pub records-preserved : goal.records-preserved
-records-preserved c =
+records-preserved g c =
     let i = c.records.invariant in
     let records = c.args.capture.now.records.items in
     let told = c.in_ok-next.ensures in
@@ -37,7 +37,7 @@ records-preserved c =
     }
 
 pub record_turns-requires-clause-maps : goal.record_turns-requires-clause-maps
-record_turns-requires-clause-maps c = c.records.invariant.same.maps ∙ c.requires.maps
+record_turns-requires-clause-maps g c = c.records.invariant.same.maps ∙ c.requires.maps
 
 pub record_turns-requires-clause-serves : goal.record_turns-requires-clause-serves
-record_turns-requires-clause-serves c = still_serves c.args.script.now (state_in c.args.self.now) (state_in c.records.self) c.records.invariant.same c.requires.serves
+record_turns-requires-clause-serves g c = still_serves c.args.script.now (state_in c.args.self.now) (state_in c.records.self) c.records.invariant.same c.requires.serves

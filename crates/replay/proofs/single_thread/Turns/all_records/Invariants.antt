@@ -6,7 +6,7 @@ use Rattle.replay.specs.TurnStates.{state_in}
 use Rattle.replay.specs.Turns.{due_before, turns_to}
 use Rattle.replay.proofs.single_thread.Turns.all_records.Given as goal
 
-pub record Taken (l : goal.Live-records) : Type 0 where
+pub record Taken (g : goal.Over) (l : goal.Live-records g) : Type 0 where
   pub next_is : l.next ≡ due_before l.starts l.number
   pub within : l.next ≤ length l.starts
   pub same : IsSameSetting (state_in l.fn.self) (state_in l.self)
@@ -15,4 +15,4 @@ pub record Taken (l : goal.Live-records) : Type 0 where
   pub counted : frames_in l.self.counts ≡ l.number
 
 abbrev pub invariant-records : goal.invariant-records
-invariant-records l = Taken l
+invariant-records g l = Taken g l

@@ -7,23 +7,23 @@ use Rattle.replay.proofs.TurnLemmas.{setting_more, still_serves}
 use Rattle.replay.proofs.single_thread.Turns.take_all.Goals as goal
 
 pub last_turns-requires-clause-next : goal.last_turns-requires-clause-next
-last_turns-requires-clause-next c =
+last_turns-requires-clause-next g c =
     let is = c.len.ensures in
     let ok = c.args.capture.now.records.ok.0 in
     let count_is : c.len.result ≡ length c.args.capture.now.records.items = omega (arith, is, ok) in
     (subst (λ (n : ℕ). c.in_ok-next.next ≡ due_before c.args.starts.now n) (sym count_is) c.in_ok-next.ensures.next.0, c.in_ok-next.ensures.next.1)
 
 pub last_turns-requires-clause-serves : goal.last_turns-requires-clause-serves
-last_turns-requires-clause-serves c =
+last_turns-requires-clause-serves g c =
     still_serves c.args.script.now (state_in c.args.self.now) (state_in c.all_records.new.self) c.in_ok-next.ensures.same c.requires.serves
 
 pub returns-clause-same : goal.returns-clause-same
-returns-clause-same c =
+returns-clause-same g c =
     setting_more (state_in c.args.self.now) (state_in c.all_records.new.self) (state_in c.last_turns.new.self) c.in_ok-next.ensures.same
     c.in_ok-last_turns.ensures.same
 
 pub returns-clause-turns : goal.returns-clause-turns
-returns-clause-turns c =
+returns-clause-turns g c =
     let options = c.args.self.now.all.options in
     let program = program_of c.args.verified.now options.shards in
     let records = c.args.capture.now.records.items in

@@ -10,20 +10,19 @@ queues-preserved c =
       search rules,
       search rules,
       search rules,
-      search rules,
-      rw (c.in_ok-push.ensures.items, c.in_ok-push-2.ensures.items) (put_passes_push _ _ _ c.in_ok-line.put queues_as_puts i.4 c.in_ok-line.ensures.put.0),
-      rw c.in_ok-push-2.ensures.items (nothing_put_push _ c.in_ok-line.put i.5 c.in_ok-line.ensures.put.1),
+      rw (c.in_ok-push.ensures.items, c.in_ok-push-2.ensures.items) (put_passes_push _ _ _ c.in_ok-line.put queues_as_puts i.3 c.in_ok-line.ensures.put.0),
+      rw c.in_ok-push-2.ensures.items (nothing_put_push _ c.in_ok-line.put i.4 c.in_ok-line.ensures.put.1),
       rw (c.in_ok-push.ensures.items, c.in_ok-push-3.ensures.items)
-          (take_passes_push _ _ _ (record { queue = c.queues.queue; pass = c.in_ok-line.take; taken = 0; questions = 0 }) queues_as_takes i.6 (sym i.2) c.in_ok-line.ensures.take.0 c.in_ok-line.ensures.take.1),
+          (take_passes_push _ _ _ (record { queue = c.queues.queue; pass = c.in_ok-line.take; questions = 0 }) queues_as_takes i.5 (sym i.2) c.in_ok-line.ensures.take.0 c.in_ok-line.ensures.take.1),
     )
 
 pub returns-clause-put : goal.returns-clause-put
 returns-clause-put c =
     let i = c.queues.invariant in
     let as_many : length c.queues.puts.items ≡ c.args.workers + 2 = search rules in
-    ((i.1 ∙ sym i.0, i.4), empty_lists c.queues.puts.items i.5 ∙ ap (λ n. replicate n []) as_many)
+    ((i.1 ∙ sym i.0, i.3), empty_lists c.queues.puts.items i.4 ∙ ap (λ n. replicate n []) as_many)
 
 pub returns-clause-take : goal.returns-clause-take
 returns-clause-take c =
     let i = c.queues.invariant in
-    (search rules, all_take_at_their_places (record { queues = c.queues.queues; workers = c.args.workers; bell = c.new-bell.result; done = c.queues.done; sized = search rules; counted = search rules }) c.queues.takes.items (i.2 ∙ sym i.0) i.6)
+    (search rules, all_take_at_their_places (record { queues = c.queues.queues; workers = c.args.workers; bell = c.new-bell.result; sized = search rules }) c.queues.takes.items (i.2 ∙ sym i.0) i.5)

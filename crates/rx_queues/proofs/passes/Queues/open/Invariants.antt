@@ -4,5 +4,5 @@ use Rattle.rx_queues.proofs.OpeningLemmas.{HavePutNothing, TakeFromTheirs}
 use Rattle.rx_queues.proofs.passes.Queues.open.Given as goal
 
 abbrev pub invariant-queues : goal.invariant-queues
-invariant-queues l = (length l.queues.items ≡ l.queue) × (length l.puts.items ≡ l.queue) × (length l.takes.items ≡ l.queue) × (length l.done.items ≡ l.queue)
+invariant-queues l = (length l.queues.items ≡ l.queue) × (length l.puts.items ≡ l.queue) × (length l.takes.items ≡ l.queue)
     × ArePutPasses l.queues.items l.puts.items × HavePutNothing l.puts.items × TakeFromTheirs l.queues.items l.takes.items

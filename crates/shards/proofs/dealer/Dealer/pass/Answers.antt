@@ -3,7 +3,7 @@ use Rattle.shards.specs.NewShards.{is_dealt_at}
 use Rattle.semantics.proofs.shared.EachLemmas.{or_within}
 use Rattle.shards.specs.HeldCells.{held_at, room_at, room_of}
 use Rattle.shards.specs.Lodged.{keys}
-use Rattle.shards.specs.declared.deeds.Part.TheVariants.{ByCaller}
+use Rattle.shards.specs.declared.deeds.OrderPart.TheVariants.{ByCaller}
 use Rattle.shards.specs.OrderRule.{account, deeds_in}
 use Rattle.shards.proofs.OrderDealing.{place_there, fresh_there, seat_there, others_there}
 use Rattle.shards.proofs.Dealing.{place_within, new_seat, new_pass, nothing_at, rest_of_rows}

@@ -10,7 +10,7 @@ use Rattle.shards.specs.OrderRule.{IsSeatFor, KnowsShard, deeds_in}
 use Rattle.shards.specs.Deeds.{deed_by}
 use Rattle.shards.specs.Passes.{PassView}
 use Rattle.shards.specs.declared.deeds.Deed.{Deed}
-use Rattle.shards.specs.declared.deeds.Part.TheVariants.{ByCaller}
+use Rattle.shards.specs.declared.deeds.OrderPart.TheVariants.{ByCaller}
 use Rattle.shards.proofs.pass.Pass.ask.Goals as goal
 
 pub call-requires-clause-lock : goal.call-requires-clause-lock

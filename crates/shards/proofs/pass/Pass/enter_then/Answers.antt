@@ -14,7 +14,7 @@ use Rattle.shards.specs.OrderRule.{IsSeatFor, KnowsShard, deeds_in}
 use Rattle.shards.specs.Deeds.{deeds_by_both}
 use Rattle.shards.specs.Passes.{PassView}
 use Rattle.shards.specs.declared.deeds.Deed.{Deed}
-use Rattle.shards.specs.declared.deeds.Part.TheVariants.{ByCaller}
+use Rattle.shards.specs.declared.deeds.OrderPart.TheVariants.{ByCaller}
 use Rattle.shards.proofs.pass.Pass.enter_then.Goals as goal
 
 pub enter_then-requires-clause-lock : goal.enter_then-requires-clause-lock

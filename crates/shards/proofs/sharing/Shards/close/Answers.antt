@@ -11,7 +11,7 @@ use Rattle.shards.specs.Seats.{IsLockOf}
 use Rattle.semantics.proofs.shared.EachLemmas.{each_first, each_rest}
 use Rattle.shards.proofs.Settling.{legal_more, settled_more, untouched_less}
 use Rattle.shards.specs.declared.deeds.Account.{Account}
-use Rattle.shards.specs.declared.deeds.Part.TheVariants.{ByCaller}
+use Rattle.shards.specs.declared.deeds.OrderPart.TheVariants.{ByCaller}
 use Rattle.shards.specs.OrderRule.{account, HasAccount}
 use Rattle.shards.proofs.OrderShards.{numbered}
 use Rattle.shards.proofs.OrderClosing.{HasShard, gathered_more, one_order}

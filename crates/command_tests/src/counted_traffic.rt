@@ -2,14 +2,14 @@
 
 mod long_records;
 
-use crate::shares::{least_moves, moved_slots, share_of};
-use crate::{
-    Backends, FrameKind, LineVerdict, RecordLine, ReportForm, case_word, moved_places, services,
-    summary, tables_of,
-};
+use crate::asserting::{holds_of, same_text};
 use control::parse_script;
 use std::alloc::{AllocError, Global};
 use std::process::Abort;
+use traffic::{
+    Backends, FrameKind, LineVerdict, RecordLine, ReportForm, case_word, least_moves, moved_places,
+    moved_slots, services, share_of, summary, tables_of,
+};
 use wire::Sent;
 
 /// A UDP datagram without data from port 40000 of 198.51.100.7 to port 80 of 203.0.113.1.
@@ -58,7 +58,7 @@ fn compare(rt: &impl Abort, row: &Row) {
         frame[other] = value;
     }
     let found = FrameKind::of(frame.get(..length).expect(rt, "a length"));
-    assert!(rt; found == kind, "{name}");
+    holds_of(rt, name, "the kind", found == kind);
 }
 
 #[test]
@@ -125,13 +125,13 @@ fn a_summary_counts_kinds_addresses_and_moves(rt: HostRuntime) {
     sent.push(datagram(alloc, 28).expect(&rt, "a frame"))
         .expect(&rt, "room");
     let text = summary(alloc, &captured, &sent).expect(&rt, "a summary");
-    assert!(&rt; text.as_str() == SUMMARY, "{text}");
+    same_text(&rt, "a summary", text.as_str(), SUMMARY);
 }
 
 #[test]
 fn nothing_has_no_summary(rt: HostRuntime) {
     let text = summary(rt.alloc(), &[], &[]).expect(&rt, "a summary");
-    assert!(&rt; text.is_empty(), "{text}");
+    same_text(&rt, "no frames", text.as_str(), "");
 }
 
 /// The fourth record: at 5.000012 s, by worker 2, sent in 131 steps to the backend of number 7 at 192.0.2.1.
@@ -183,7 +183,7 @@ const LINES: [Line; 4] = [
 /// Compares the text of a line.
 fn compare_line(rt: &impl Abort, alloc: Global, line: &Line) {
     let text = line.0.line(alloc, &line.1).expect(rt, "a line");
-    assert!(rt; text.as_str() == line.2, "{text}");
+    same_text(rt, "a line", text.as_str(), line.2);
 }
 
 #[test]
@@ -215,7 +215,7 @@ const CASES: [Case; 12] = [
 /// Compares a case.
 fn compare_case(rt: &impl Abort, case: &Case) {
     let word = case_word(case.0, case.1);
-    assert!(rt; word == case.2, "{word}");
+    same_text(rt, "a case", word, case.2);
 }
 
 #[test]
@@ -225,19 +225,28 @@ fn cases_follow_from_kind_and_verdict(rt: HostRuntime) {
     }
 }
 
+/// What a row shows, an address, and its number.
+const NUMBERS: [(&str, u32, Option<u32>); 4] = [
+    ("named twice", 10, Some(3)),
+    ("three numbers", 11, None),
+    ("a number with two addresses", 12, Some(5)),
+    ("not named", 13, None),
+];
+
 #[test]
 fn a_backend_has_a_number_where_only_one_has_its_address(rt: HostRuntime) {
     let mut table = Backends::none(rt.alloc());
     for (number, address) in [(3, 10), (4, 11), (3, 10), (5, 11), (5, 12), (6, 11)] {
         table.name(number, address).expect(&rt, "room");
     }
-    assert!(&rt; table.number_of(10) == Some(3), "named twice");
-    assert!(&rt; table.number_of(11).is_none(), "three numbers");
-    assert!(&rt;
-        table.number_of(12) == Some(5),
-        "a number with two addresses"
-    );
-    assert!(&rt; table.number_of(13).is_none(), "not named");
+    for (name, address, number) in &NUMBERS {
+        holds_of(
+            &rt,
+            *name,
+            "its number",
+            table.number_of(*address) == *number,
+        );
+    }
 }
 
 /// Three backends come up and go down; one number comes up twice.
@@ -270,10 +279,9 @@ fn tables_have_shares_and_moves(rt: HostRuntime) {
     let alloc = rt.alloc();
     let script = parse_script(alloc, SCRIPT.as_bytes()).expect(&rt, "a script");
     let tables = tables_of(alloc, &script, 7).expect(&rt, "tables");
-    let text = tables.text.as_str();
-    assert!(&rt; text == TABLES, "{text}");
-    assert!(&rt; tables.is_refused(), "refused");
-    assert!(&rt; tables.refused.len() == 1, "one");
+    same_text(&rt, "the tables", tables.text.as_str(), TABLES);
+    holds_of(&rt, "the tables", "refused", tables.is_refused());
+    holds_of(&rt, "the tables", "one", tables.refused.len() == 1);
 }
 
 /// What a row shows; two tables; how many slots change hands, and the fewest that have to.
@@ -290,10 +298,10 @@ const MOVES: [(&str, [u32; 4], [u32; 4], u32, u128); 5] = [
 fn least_moves_are_what_shares_gain(rt: HostRuntime) {
     for row in &MOVES {
         let (name, old, new, moved, least) = row;
-        assert!(&rt; moved_slots(old, new, 4) == *moved, "{name}");
-        assert!(&rt; least_moves(old, new) == *least, "{name}");
+        holds_of(&rt, *name, "moved", moved_slots(old, new, 4) == *moved);
+        holds_of(&rt, *name, "least", least_moves(old, new) == *least);
     }
-    assert!(&rt; share_of(2, &[2, 1, 2, 0]) == 2, "share");
+    holds_of(&rt, "a share", "two", share_of(2, &[2, 1, 2, 0]) == 2);
 }
 
 /// Two services; a frame is for the first one.
@@ -323,8 +331,7 @@ fn frames_of_services_and_why_they_were_not_sent(rt: HostRuntime) {
         LineVerdict::Pass,
     ];
     let text = services(alloc, &frames, &script, &verdicts).expect(&rt, "text");
-    let text = text.as_str();
-    assert!(&rt; text == REASONS, "{text}");
+    same_text(&rt, "the reasons", text.as_str(), REASONS);
 }
 
 #[test]
@@ -336,7 +343,7 @@ fn frames_that_moved_have_their_places(rt: HostRuntime) {
             .expect(&rt, "room");
     }
     let places = moved_places(alloc, &sent).expect(&rt, "places");
-    assert!(&rt; places.len() == 2, "how many");
-    assert!(&rt; places[0] == 2, "the first one");
-    assert!(&rt; places[1] == 3, "the second one");
+    holds_of(&rt, "moved", "how many", places.len() == 2);
+    holds_of(&rt, "moved", "the first one", places[0] == 2);
+    holds_of(&rt, "moved", "the second one", places[1] == 3);
 }

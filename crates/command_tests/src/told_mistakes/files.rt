@@ -1,7 +1,7 @@
 //! Files of another kind than the one that was wanted.
 
-use super::asserting::same_text;
-use crate::{about_capture, about_frame, about_image, about_map};
+use crate::asserting::same_text;
+use mistakes::{about_capture, about_frame, about_image, about_map, about_text_as_frame};
 use std::alloc::Global;
 use std::process::Abort;
 use std::test::Fail;
@@ -10,7 +10,7 @@ use std::test::Fail;
 type Row = (&'static str, &'static [u8], &'static str);
 
 #[rattlefmt::skip]
-const IMAGES: [Row; 16] = [
+const IMAGES: [Row; 17] = [
     ("no bytes", b"", "  the file is empty\n  expected an image, which begins with 58 4c 42 50 (XLBP)\n"),
     ("an object of a compiler", b"\x7fELF\x02\x01\x01\x00",
         "  the file is an ELF object, as compilers write it\n  expected an image, which begins with 58 4c 42 50 (XLBP)\n  \
@@ -41,6 +41,9 @@ const IMAGES: [Row; 16] = [
         "  the file is compressed with gzip\n  expected an image, which begins with 58 4c 42 50 (XLBP)\n  unpack it first: gzip -d FILE\n"),
     ("anything", b"\x00\x01\x02\xff\x10\x11\x12\x13\x14",
         "  the file begins with the bytes 00 01 02 ff 10 11 12 13\n  expected an image, which begins with 58 4c 42 50 (XLBP)\n"),
+    ("a source behind a byte order mark", b"\xef\xbb\xbfversion 1\n",
+        "  the file begins with the bytes ef bb bf 76 65 72 73 69\n  expected an image, which begins with 58 4c 42 50 (XLBP)\n  \
+         the bytes ef bb bf are a byte order mark: tail -c +4 FILE > NEW takes it away from a source\n"),
     ("a cut head", b"XLBP\x01", "  the file ends after 5 bytes, within its head of 8 bytes\n"),
     ("version 3", b"XLBP\x03\x00\x00\x00", "  byte 4, the version, is 3: expected 1 or 2\n"),
     ("17 maps", b"XLBP\x01\x11\x00\x00", "  byte 5, the number of maps, is 17: expected 0 to 16\n"),
@@ -112,6 +115,22 @@ const FRAMES: [Row; 5] = [
     ("no bytes", b"", "  the file has 0 bytes\n  expected the bytes of one Ethernet frame, 14 to 2048 of them\n"),
 ];
 
+/// Files of 14 bytes and more that are run as frames.
+#[rattlefmt::skip]
+const RUN_FRAMES: [Row; 6] = [
+    ("digits", b"020000000001020000000002080045\n",
+        "  FRAME: the file has hexadecimal digits in place of bytes\n  its 31 letters were run as the bytes of the frame\n  \
+         xxd -r -p FRAME NEW makes bytes of hexadecimal digits\n"),
+    ("a text", b"just a few words\n",
+        "  FRAME: the file is a text\n  its 17 letters were run as the bytes of the frame\n"),
+    ("a script", b"0 down 3\n0 down 4\n",
+        "  FRAME: the file is a script of commands\n  its 18 letters were run as the bytes of the frame\n  \
+         the frame comes after the image on the command line: are two names swapped?\n"),
+    ("a frame", b"\x02\x00\x00\x00\x00\x01\x02\x00\x00\x00\x00\x02\x08\x00\x45\x00", ""),
+    ("zeros", b"\x00\x00\x00\x00\x00\x00\x00\x00\x00\x00\x00\x00\x00\x00", ""),
+    ("letters around the type of a frame", b"abcdefabcdef\x08\x00E123", ""),
+];
+
 /// What a row shows, an image whose one map has a wrong number, and what is said.
 #[rattlefmt::skip]
 const MAPS: [Row; 8] = [
@@ -161,6 +180,14 @@ fn frames_are_said(rt: &impl Abort, alloc: Global, rows: &[Row]) -> Result<(), F
     Ok(())
 }
 
+fn run_frames_are_said(rt: &impl Abort, alloc: Global, rows: &[Row]) -> Result<(), Fail> {
+    for (name, bytes, wanted) in rows {
+        let said = about_text_as_frame(alloc, *bytes)?;
+        same_text(rt, *name, said.as_str(), *wanted);
+    }
+    Ok(())
+}
+
 fn maps_are_said(rt: &impl Abort, alloc: Global, rows: &[Row]) -> Result<(), Fail> {
     for (name, bytes, wanted) in rows {
         let said = about_map(alloc, *bytes, 0)?;
@@ -182,6 +209,11 @@ fn no_captures(rt: HostRuntime) -> Result<(), Fail> {
 #[test]
 fn no_frames(rt: HostRuntime) -> Result<(), Fail> {
     frames_are_said(&rt, rt.alloc(), &FRAMES)
+}
+
+#[test]
+fn frames_of_letters(rt: HostRuntime) -> Result<(), Fail> {
+    run_frames_are_said(&rt, rt.alloc(), &RUN_FRAMES)
 }
 
 #[test]

@@ -1,8 +1,9 @@
 //! Captures with records of more than 2048 bytes, and what is left of them.
 
-use crate::without_long_records;
+use crate::asserting::{holds_of, same_bytes_of};
 use std::alloc::{AllocError, Global};
 use std::process::Abort;
+use traffic::without_long_records;
 use wire::{Capture, CaptureFault, MemorySource, read_capture};
 
 /// The header of a capture: pcap 2.4, low byte first, with a snap length of 262144 bytes.
@@ -64,8 +65,14 @@ fn compare(rt: &impl Abort, alloc: Global, row: &Row) {
     let file = file_of(alloc, row, true).expect(rt, "memory");
     let wanted = file_of(alloc, row, false).expect(rt, "memory");
     let shortened = without_long_records(alloc, &file).expect(rt, "memory");
-    assert!(rt; shortened.bytes.as_slice() == wanted.as_slice(), "{name}");
-    assert!(rt; shortened.skipped == skipped, "{name}");
+    same_bytes_of(
+        rt,
+        name,
+        "bytes",
+        shortened.bytes.as_slice(),
+        wanted.as_slice(),
+    );
+    holds_of(rt, name, "left out", shortened.skipped == skipped);
 }
 
 #[test]
@@ -78,8 +85,14 @@ fn long_records_are_left_out(rt: HostRuntime) {
 /// Compares what is left of bytes that have no whole record.
 fn stays(rt: &impl Abort, alloc: Global, bytes: &[u8]) {
     let shortened = without_long_records(alloc, bytes).expect(rt, "memory");
-    assert!(rt; shortened.bytes.as_slice() == bytes, "bytes");
-    assert!(rt; shortened.skipped == 0, "none");
+    same_bytes_of(
+        rt,
+        "no whole record",
+        "bytes",
+        shortened.bytes.as_slice(),
+        bytes,
+    );
+    holds_of(rt, "no whole record", "left out", shortened.skipped == 0);
 }
 
 #[test]
@@ -108,9 +121,11 @@ fn read(alloc: Global, bytes: &mut Vec<u8>) -> Result<Capture, CaptureFault> {
 fn what_is_left_is_read(rt: HostRuntime) {
     let alloc = rt.alloc();
     let mut file = file_of(alloc, &ROWS[1], true).expect(&rt, "memory");
-    assert!(&rt; read(alloc, &mut file).is_err(), "a long record");
+    let before = read(alloc, &mut file);
+    holds_of(&rt, "before", "refused", before.is_err());
     let mut shortened = without_long_records(alloc, &file).expect(&rt, "memory");
     let capture = read(alloc, &mut shortened.bytes).expect(&rt, "a capture");
-    assert!(&rt; capture.records.len() == 2, "two");
-    assert!(&rt; capture.records[1].bytes.len() == 60, "the third");
+    holds_of(&rt, "after", "two records", capture.records.len() == 2);
+    let third = capture.records[1].bytes.len();
+    holds_of(&rt, "after", "the third", third == 60);
 }

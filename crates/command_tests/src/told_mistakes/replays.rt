@@ -1,8 +1,8 @@
 //! Options, and files of journals.
 
-use super::asserting::same_text;
-use crate::{about_entry, about_journals, about_options, about_worker};
+use crate::asserting::same_text;
 use ebpf_decode::{MapDef, MapKind};
+use mistakes::{about_entry, about_journals, about_options, about_ring, about_worker};
 use semantics::Options;
 use std::alloc::Global;
 use std::process::Abort;
@@ -74,11 +74,30 @@ fn no_such_worker(rt: HostRuntime) -> Result<(), Fail> {
     Ok(())
 }
 
+/// What a row shows, a number of slots, and what is said.
+#[rattlefmt::skip]
+const RINGS: [(&str, u32, &str); 5] = [
+    ("no slot", 0, "  --ring 0\n  expected the number of slots of a lookup table: 7, 251, 4093 or 65537\n  the next larger one is 7\n"),
+    ("between two sizes", 8, "  --ring 8\n  expected the number of slots of a lookup table: 7, 251, 4093 or 65537\n  the next larger one is 251\n"),
+    ("one more than a size", 252, "  --ring 252\n  expected the number of slots of a lookup table: 7, 251, 4093 or 65537\n  the next larger one is 4093\n"),
+    ("2^16", 65536, "  --ring 65536\n  expected the number of slots of a lookup table: 7, 251, 4093 or 65537\n  the next larger one is 65537\n"),
+    ("above all", u32::MAX, "  --ring 4294967295\n  expected the number of slots of a lookup table: 7, 251, 4093 or 65537\n  the largest one is 65537\n"),
+];
+
+#[test]
+fn no_such_ring(rt: HostRuntime) -> Result<(), Fail> {
+    for (name, ring, wanted) in RINGS {
+        let said = about_ring(rt.alloc(), ring)?;
+        same_text(&rt, name, said.as_str(), wanted);
+    }
+    Ok(())
+}
+
 /// What a row shows, the file, the line at which it is refused, and what is said.
 type Row = (&'static str, &'static [u8], usize, &'static str);
 
 #[rattlefmt::skip]
-const JOURNALS: [Row; 10] = [
+const JOURNALS: [Row; 18] = [
     ("no bytes", b"", 1,
         "  the file is empty\n  expected journals, which xlb run and xlb replay write with --journals\n  \
          the journals come after the image on the command line: are two names swapped?\n"),
@@ -101,6 +120,24 @@ const JOURNALS: [Row; 10] = [
     ("no line feed at the end", b"XLBJ 1 1 1 16\n0 w0 enter ok", 2,
         "  line 2: \"0 w0 enter ok\"\n  expected a line feed after each line, the last one too\n"),
     ("a byte that is no text", b"XLBJ 1 1 1 16\n0 w0 \xff\n", 2, "  line 2 has a byte that is not UTF-8\n  expected plain ASCII text\n"),
+    ("a byte order mark", b"\xef\xbb\xbfXLBJ 1 1 1 16\n", 1,
+        "  line 1, column 1: the file begins with a byte order mark, the bytes ef bb bf\n  \
+         expected plain ASCII text: tail -c +4 JOURNALS > NEW takes the mark away\n"),
+    ("another text", b"Some  text\n", 1,
+        "  line 1: \"Some  text\"\n  expected XLBJ 1 <workers> <shards> <journal>, options that open the image's maps\n  for example: XLBJ 1 8 1 65536\n"),
+    ("two spaces", b"XLBJ 1 1 1 16\n0 w0  enter ok\n", 2,
+        "  line 2, column 5: \"  \": two spaces\n  expected one space between words\n"),
+    ("a line that ends as on Windows", b"XLBJ 1 1 1 16\r\n0 w0 enter ok\r\n", 1,
+        "  line 1, column 14: \"\\r\": a carriage return, as lines end on Windows\n  \
+         expected a line feed alone: tr -d '\\r' < JOURNALS > NEW takes carriage returns away\n"),
+    ("digits in upper case", b"XLBJ 1 1 1 16\n0 w0 lookup 0A000000 null\n", 2,
+        "  line 2, column 14: \"A000000\": in upper case\n  expected lower case, in words and in hexadecimal digits\n"),
+    ("a caller in upper case", b"XLBJ 1 1 1 16\n0 W0 enter ok\n", 2,
+        "  line 2, column 3: \"W0\": in upper case\n  expected lower case, in words and in hexadecimal digits\n"),
+    ("a space at the end", b"XLBJ 1 1 1 16 \n", 1,
+        "  line 1, column 14: \" \": a space at the line's end\n  expected a line feed right after the last word\n"),
+    ("a tab", b"XLBJ 1 1 1 16\n0\tw0 enter ok\n", 2,
+        "  line 2, column 2: \"\\t\": a tab\n  expected one space between words\n"),
     ("a line that is not there", b"XLBJ 1 1 1 16\n", 2, ""),
 ];
 
@@ -117,17 +154,43 @@ fn no_journals(rt: HostRuntime) -> Result<(), Fail> {
     journals_are_said(&rt, rt.alloc(), &JOURNALS)
 }
 
+/// What a row shows, the file, the line of its entry, the number of its map, and what is said.
+type EntryRow = (&'static str, &'static [u8], usize, usize, &'static str);
+
 #[rattlefmt::skip]
-const ENTRIES: [Row; 3] = [
-    ("the second entry", b"XLBJ 1 1 1 16\n0 w0 enter ok\n0 w0 load 0 0 8 word 1\n", 3,
+const ENTRIES: [EntryRow; 10] = [
+    ("the second entry", b"XLBJ 1 1 1 16\n0 w0 enter ok\n0 w0 load 0 0 8 word 1\n", 3, 1,
         "  line 3: \"0 w0 load 0 0 8 word 1\"\n  after the entries above it a map on one thread gives another reply, or this caller may not make this call\n"),
-    ("a line that is not there", b"XLBJ 1 1 1 16\n", 2, ""),
-    ("no text", b"\xff\n", 1, ""),
+    ("a line that is not there", b"XLBJ 1 1 1 16\n", 2, 1, ""),
+    ("no text", b"\xff\n", 1, 1, ""),
+    ("the element behind the last one", b"1 c update 06000000 0100000000000000 0 answer 0\n", 1, 1,
+        "  line 1: \"1 c update 06000000 0100000000000000 0 a...\"\n  \
+         the entry is of element 6, and map 1 of this image has 6 elements: the journals are not those of its maps\n  \
+         expected the image that was run: xlb shipped --ring N OUT writes the shipped program for a lookup table of N slots\n"),
+    ("an element of four bytes", b"1 w0 lookup fedcba98 cell 1\n", 1, 1,
+        "  line 1: \"1 w0 lookup fedcba98 cell 1\"\n  \
+         the entry is of element 2562383102, and map 1 of this image has 6 elements: the journals are not those of its maps\n  \
+         expected the image that was run: xlb shipped --ring N OUT writes the shipped program for a lookup table of N slots\n"),
+    ("the last element", b"1 w0 lookup 05000000 null\n", 1, 1,
+        "  line 1: \"1 w0 lookup 05000000 null\"\n  \
+         after the entries above it a map on one thread gives another reply, or this caller may not make this call\n"),
+    ("a key of a hash map", b"0 w0 lookup ffffffff cell 1\n", 1, 0,
+        "  line 1: \"0 w0 lookup ffffffff cell 1\"\n  \
+         after the entries above it a map on one thread gives another reply, or this caller may not make this call\n"),
+    ("a map that is not there", b"2 w0 lookup ffffffff cell 1\n", 1, 2,
+        "  line 1: \"2 w0 lookup ffffffff cell 1\"\n  \
+         after the entries above it a map on one thread gives another reply, or this caller may not make this call\n"),
+    ("a key of eight bytes", b"1 w0 lookup ffffffffffffffff cell 1\n", 1, 1,
+        "  line 1: \"1 w0 lookup ffffffffffffffff cell 1\"\n  \
+         after the entries above it a map on one thread gives another reply, or this caller may not make this call\n"),
+    ("a store of many cells", b"1 w0 store ffffffff 0 8 1 ok\n", 1, 1,
+        "  line 1: \"1 w0 store ffffffff 0 8 1 ok\"\n  \
+         after the entries above it a map on one thread gives another reply, or this caller may not make this call\n"),
 ];
 
-fn entries_are_said(rt: &impl Abort, alloc: Global, rows: &[Row]) -> Result<(), Fail> {
-    for (name, bytes, line, wanted) in rows {
-        let said = about_entry(alloc, *bytes, *line)?;
+fn entries_are_said(rt: &impl Abort, alloc: Global, rows: &[EntryRow]) -> Result<(), Fail> {
+    for (name, bytes, line, map, wanted) in rows {
+        let said = about_entry(alloc, *bytes, *line, *map, &MAPS)?;
         same_text(rt, *name, said.as_str(), *wanted);
     }
     Ok(())

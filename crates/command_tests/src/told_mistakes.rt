@@ -1,6 +1,5 @@
 //! What is said of each mistake.
 
-mod asserting;
 mod files;
 mod replays;
 mod scripts;

@@ -1,7 +1,7 @@
 //! Scripts: each way in which a line can be no command.
 
-use super::asserting::same_text;
-use crate::about_script;
+use crate::asserting::same_text;
+use mistakes::about_script;
 use std::alloc::Global;
 use std::process::Abort;
 use std::test::Fail;
@@ -10,7 +10,7 @@ use std::test::Fail;
 type Row = (&'static str, &'static [u8], usize, &'static str);
 
 #[rattlefmt::skip]
-const SPACES: [Row; 12] = [
+const SPACES: [Row; 14] = [
     ("a line that ends as on Windows", b"500 down 3\r\n", 1,
         "  line 1, column 11: \"\\r\": a carriage return, as lines end on Windows\n  \
          expected a line feed alone: tr -d '\\r' < SCRIPT > NEW takes carriage returns away\n  for example: 500 down 3\n"),
@@ -35,6 +35,11 @@ const SPACES: [Row; 12] = [
         "  line 2 has a byte that is not UTF-8\n  expected plain ASCII text\n"),
     ("sixteen bits a letter", b"\xff\xfe0\x00 \x00", 1,
         "  the file is a text in UTF-16\n  expected plain ASCII text: iconv -f UTF-16 -t ASCII SCRIPT > NEW makes it\n"),
+    ("a byte order mark", b"\xef\xbb\xbf0 down 3\n", 1,
+        "  line 1, column 1: the file begins with a byte order mark, the bytes ef bb bf\n  \
+         expected plain ASCII text: tail -c +4 SCRIPT > NEW takes the mark away\n"),
+    ("its bytes elsewhere", b"0 down 3\n\xef\xbb\xbf0 down 3\n", 2,
+        "  line 2, column 1: \"\\xef\\xbb\\xbf0 down 3\": a letter outside ASCII\n  expected plain ASCII text\n  for example: 500 down 3\n"),
     ("no line feed at the end", b"0 down 3\n0 down 4", 2,
         "  line 2, the last one, has no line feed at its end\n  expected a line feed after each line, the last one too\n  echo >> SCRIPT adds it\n"),
 ];
