@@ -2,6 +2,7 @@
 
 ghost use Rattle.std.specs.Prelude.{◌≡◌, ◌↔◌, ◌<◌, ◌*◌, true, false, IfOk, IfErr, OnOk, length, reverse};
 ghost use Rattle.std.specs.Option.{MatchOption};
+ghost use Rattle.semantics.specs.ShardPlan.{KeepsRows};
 ghost use Rattle.semantics.specs.PlanLimits.{IsPlan};
 ghost use Rattle.semantics.specs.History.{IsLegalStep, IsLegalJournal};
 ghost use Rattle.shard_core.specs.JournaledShard.{with_entry};
@@ -40,7 +41,7 @@ fn is_made_again(shard: &mut Shard, held: &HeldSoFar, entry: &Entry) -> bool
 fn first_illegal(
     alloc: Global,
     plan: ShardPlan,
-    journal: &ShardJournal,
+    journal: &ShardJournal<'_>,
 ) -> Result<Option<usize>, AllocError>
     requires { IsPlan plan }
     ensures { IfOk result (λ found. MatchOption found (IsLegalJournal plan journal.now) (λ place. IsFirstIllegal plan journal.now place)) }
@@ -58,12 +59,13 @@ fn first_illegal(
     Ok(None)
 }
 
-/// Whether each journal is legal: whether each entry is one step of the one-thread map, by a caller that may make the call, with the reply that
+/// Whether each journal, whose rows are kept, is legal: whether each entry is one step of the one-thread map, by a caller that may make the call, with the reply that
 /// the map returns, and none came past a full journal.
 ///
 /// Refused with 53 and the first shard and the least place, counted from 0, such that the beginning of this shard's journal that ends with this
 /// entry is not legal; with 52 where memory is. It takes the memory of one shard at a time.
 pub fn audit(alloc: Global, journals: &Journals) -> Result<(), AuditFault>
+    requires { KeepsRows journals.now.options.journal }
     ensures legal { OnOk result (AreLegal journals.now) }
     ensures refused { IfErr result (λ fault. Explains journals.now fault) }
     ensures accepts { AreLegal journals.now → IfErr result (λ fault. fault ≡ Memory) }
@@ -72,7 +74,7 @@ pub fn audit(alloc: Global, journals: &Journals) -> Result<(), AuditFault>
     let maps = journals.maps();
     'shards: for number in 0..journals.count() {
         let plan = plan_at(maps, &options, number);
-        match first_illegal(alloc, plan, journals.journal(number))? {
+        match first_illegal(alloc, plan, &journals.journal(number))? {
             Some(place) => return Err(AuditFault::Illegal {
                 shard: number,
                 place,

@@ -90,9 +90,9 @@ replay_files =
     (option_rule (codes "script")))
     (option_rule (codes "journals"))
 
--- and that of a line for each record
+-- and that of a line for each record, and updates
 abbrev pub replay_reported : App
-replay_reported = with_rule replay_files (option_rule (codes "report"))
+replay_reported = with_rule (with_rule replay_files (option_rule (codes "report"))) (three_words_rule (codes "update"))
 
 -- how its shards are opened
 abbrev pub replay_opened : App
@@ -101,14 +101,16 @@ replay_opened =
     (with_rule (with_rule replay_reported (number_rule (codes "workers") 4294967295 (codes "1"))) (number_rule (codes "shards") 4294967295 (codes "1")))
     (number_rule (codes "journal") 4294967295 (codes "65536"))
 
--- and the size of the lookup table, whether commands take effect at exact moments, whether a summary is printed, and whether records that are too
--- long for a frame are skipped
-abbrev pub replay_command : App
-replay_command =
+-- and the size of the lookup table, whether commands take effect at exact moments, and whether a summary is printed
+abbrev pub replay_noted : App
+replay_noted =
     with_rule
-    (with_rule (with_rule (with_rule replay_opened (number_rule (codes "ring") 4294967295 (codes "251"))) (switch_rule (codes "exact")))
-    (switch_rule (codes "summary")))
-    (switch_rule (codes "skip-long"))
+    (with_rule (with_rule replay_opened (number_rule (codes "ring") 4294967295 (codes "251"))) (switch_rule (codes "exact")))
+    (switch_rule (codes "summary"))
+
+-- and whether records that are too long for a frame are skipped, and whether no rows of journals are kept
+abbrev pub replay_command : App
+replay_command = with_rule (with_rule replay_noted (switch_rule (codes "skip-long"))) (switch_rule (codes "no-journals"))
 
 -- the name, with `--version`; a command has to be given, and `help` describes the commands
 abbrev pub program_name : App

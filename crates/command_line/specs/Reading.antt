@@ -14,8 +14,9 @@ use Rattle.command_line.specs.declared.commands.RunFiles.{RunFiles}
 use Rattle.command_line.specs.declared.commands.Settings.{Settings}
 use Rattle.command_line.specs.declared.commands.Settings.TheVariants.{Check, Run, Disasm, Audit, Explain, Asm, Shipped, Replay, Table}
 use Rattle.command_line.specs.declared.words.WordsFault.{WordsFault}
-use Rattle.command_line.specs.declared.words.WordsFault.TheVariants.{Parser, UnknownFault, Both, TwoImages, Update}
+use Rattle.command_line.specs.declared.words.WordsFault.TheVariants.{Parser, UnknownFault, Both, TwoImages, UpdatesAlone, JournalsOfNone, Update}
 use Rattle.command_line.specs.declared.words.Asked.{Asked}
+use Rattle.command_line.specs.declared.words.Asked.TheVariants as asks
 use Rattle.command_line.specs.declared.words.Asked.TheVariants.{Command, NoSuchFault, ImageAndScript, ImageAndProgram, NoUpdate}
 use Rattle.faults.specs.Explanations.{is_fault}
 use Rattle.faults.specs.FaultTable.{IsRowOf, row_of}
@@ -61,6 +62,18 @@ IsCommand name = IsTrue
 -- both of two options are given
 abbrev pub are_both_given : Text → Text → List Row → Bool
 are_both_given one other rows = is_some (first_of one rows) && is_some (first_of other rows)
+
+-- there are updates
+abbrev pub has_updates : List Row → Bool
+has_updates rows = is_some (all_of (codes "update") rows)
+
+-- there are updates, and no image
+abbrev pub are_updates_alone : List Row → Bool
+are_updates_alone rows = has_updates rows && is_none (first_of (codes "image") rows)
+
+-- a file is named for the journals
+abbrev pub has_journals : List Row → Bool
+has_journals rows = is_some (first_of (codes "journals") rows)
 
 -- the first of two options that is given, if one is
 abbrev pub either : Option Text → Option Text → Option Text
@@ -164,17 +177,22 @@ IsReadFrom name rows (Shipped out ring) = is_named name (codes "shipped")
 IsReadFrom name rows (Table script ring) = is_named name (codes "table")
     × (script.now ≡ word_of (codes "SCRIPT") rows)
     × IsNumberOf 32 (codes "ring") rows ring
-IsReadFrom name rows (Replay files options ring exact summary skip_long) = is_named name (codes "replay")
+IsReadFrom name rows (Replay files options ring exact summary skip_long no_journals updates) = is_named name (codes "replay")
     × AreReplayFiles rows files
     × AreReplayOptions rows options
     × IsNumberOf 32 (codes "ring") rows ring
     × IsSwitchOf (codes "exact") rows exact
     × IsSwitchOf (codes "summary") rows summary
     × IsSwitchOf (codes "skip-long") rows skip_long
+    × IsSwitchOf (codes "no-journals") rows no_journals
     × IsFalse (are_both_given (codes "image") (codes "script") rows)
     × IsFalse (are_both_given (codes "image") (codes "program") rows)
+    × IsFalse (are_updates_alone rows)
+    × IsFalse (no_journals && has_journals rows)
+    × AreUpdates (words_of (codes "update") rows) updates.items
 
--- what was asked for: a command, what a word means that is no fault, a replay of both an image and a script or of two images, or a malformed update
+-- what was asked for: a command, what a word means that is no fault, a replay of both an image and a script or of two images, one with updates and
+-- without an image, one with a file for journals whose rows are not kept, or a malformed update
 abbrev pub IsAsked : Text → List Row → Asked → Type 0
 IsAsked name rows (Command settings) = IsReadFrom name rows settings
 IsAsked name rows (NoSuchFault word) = is_named name (codes "explain")
@@ -184,15 +202,24 @@ IsAsked name rows ImageAndScript = is_named name (codes "replay") × IsTrue (are
 IsAsked name rows ImageAndProgram = is_named name (codes "replay")
     × IsFalse (are_both_given (codes "image") (codes "script") rows)
     × IsTrue (are_both_given (codes "image") (codes "program") rows)
-IsAsked name rows (NoUpdate place mistake) = is_named name (codes "run")
+IsAsked name rows asks.UpdatesAlone = is_named name (codes "replay")
+    × IsFalse (are_both_given (codes "image") (codes "script") rows)
+    × IsFalse (are_both_given (codes "image") (codes "program") rows)
+    × IsTrue (are_updates_alone rows)
+IsAsked name rows asks.JournalsOfNone = is_named name (codes "replay")
+    × IsSwitchOf (codes "no-journals") rows true
+    × IsTrue (has_journals rows)
+IsAsked name rows (NoUpdate place mistake) = (is_named name (codes "run") ⊎ is_named name (codes "replay"))
     × IsBadUpdate (words_of (codes "update") rows) place mistake
 
--- the words ask for what there is not: what a word means that is no fault, a replay of both an image and a script or of two images, or a malformed
--- update
+-- the words ask for what there is not: what a word means that is no fault, a replay of both an image and a script or of two images, one with updates and
+-- without an image, one with a file for journals whose rows are not kept, or a malformed update
 abbrev pub AsksInVain : Text → List Row → WordsFault → Type 0
 AsksInVain name rows (UnknownFault word) = IsAsked name rows (NoSuchFault word)
 AsksInVain name rows Both = IsAsked name rows ImageAndScript
 AsksInVain name rows TwoImages = IsAsked name rows ImageAndProgram
+AsksInVain name rows UpdatesAlone = IsAsked name rows asks.UpdatesAlone
+AsksInVain name rows JournalsOfNone = IsAsked name rows asks.JournalsOfNone
 AsksInVain name rows (Update place mistake) = IsAsked name rows (NoUpdate place mistake)
 AsksInVain name rows (Parser error) = ⊥
 
@@ -206,4 +233,6 @@ kind_in (Parser error) = kind_of error
 kind_in (UnknownFault word) = ValueValidation
 kind_in Both = ArgumentConflict
 kind_in TwoImages = ArgumentConflict
+kind_in UpdatesAlone = ArgumentConflict
+kind_in JournalsOfNone = ArgumentConflict
 kind_in (Update place mistake) = kind_of_mistake mistake

@@ -63,6 +63,10 @@ pub enum Settings<'a> {
         summary: bool,
         /// Whether records of more than 2048 bytes are skipped, in place of refusing the capture.
         skip_long: bool,
+        /// Whether no rows of journals are kept, which then have room for 134,217,728 calls each; then no file is named for them.
+        no_journals: bool,
+        /// What is set in the image's maps before the first frame.
+        updates: Vec<MapUpdate>,
     },
 }
 

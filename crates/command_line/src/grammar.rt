@@ -60,6 +60,9 @@ pub const SUMMARY: &str = "summary";
 /// Whether a replay skips the records of a capture that are too long for a frame.
 pub const SKIP_LONG: &str = "skip-long";
 
+/// The switch with which no rows of journals are kept.
+pub const NO_JOURNALS: &str = "no-journals";
+
 /// The file to which a replay writes a line for each record.
 pub const REPORT: &str = "report";
 
@@ -81,7 +84,7 @@ pub const JOURNAL: &str = "journal";
 /// The size of the ring.
 pub const RING: &str = "ring";
 
-/// A value that is set before a run.
+/// A value that is set before a run, or before the first frame of a replay.
 pub const UPDATE: &str = "update";
 
 /// The file of journals that a run or a replay writes.
@@ -186,8 +189,9 @@ and for each command of the script that was refused
   command <its number, from 1> refused <fault number>
 in which case the status is 1. A frame is handled by the worker of its flow,
 so that a flow's frames stay in order. --image replays any program, without a
-script; --program one over the maps of the shipped program, with any size of
-the lookup table, and with a script. The controller works beside the workers: a
+script; --update, as of run, sets a value in its maps before the first frame.
+--program replays one over the maps of the shipped program, with any size of the
+lookup table, and with a script. The controller works beside the workers: a
 command may take effect up to some 64 frames for each worker too early, because
 a worker's queue holds 64 frames, or later. With --exact it takes effect when
 all frames before it are done, and before a later one is begun. With --summary
@@ -204,7 +208,9 @@ as CSV, or as a JSON object if the file's name ends in .json or .jsonl, in upper
 or lower case. The case is that of the steering rule; backend and address are
 where the frame was sent.
 A capture with a record of more than 2048 bytes is refused; with --skip-long
-such records are skipped, and a line on the standard error gives their number.";
+such records are skipped, and a line on the standard error gives their number.
+With --no-journals no rows of journals are kept: a frame costs less time and no
+memory, and each shard may have 134217728 calls, whatever --journal is.";
 
 /// A file, or another word, that has to be given.
 fn file<'a>(alloc: Global, id: &'a str, help: &'a str) -> Arg<'a>
@@ -239,6 +245,14 @@ fn three_words<'a>(alloc: Global, id: &'a str, names: &'a [&'a str; 3], help: &'
         .action(ArgAction::Append)
         .value_names(names)
         .help(help)
+}
+
+/// A value that is set in a map, by three words.
+fn update<'a>(alloc: Global, help: &'a str) -> Arg<'a>
+    ensures rule { rule_of result ≡ line.three_words_rule (codes "update") }
+    ensures local { result.global ≡ false }
+{
+    three_words(alloc, UPDATE, &["MAP", "KEY", "VALUE"], help)
 }
 
 /// A number that may be given, at most `most`.
@@ -297,12 +311,7 @@ fn run_named<'a>(alloc: Global) -> Result<Command<'a>, AllocError>
         "The file of the frame's bytes, 14 to 2048 of them",
     );
     let journals = option(alloc, JOURNALS_OUT, "The file to write the journals to");
-    let updates = three_words(
-        alloc,
-        UPDATE,
-        &["MAP", "KEY", "VALUE"],
-        "Sets a value before the run",
-    );
+    let updates = update(alloc, "Sets a value before the run");
     command(alloc, "run", "Runs an image on one frame", AFTER_RUN)
         .arg(image)?
         .arg(frame)?
@@ -465,7 +474,7 @@ fn replay_files<'a>(alloc: Global) -> Result<Command<'a>, AllocError>
         .arg(journals)
 }
 
-/// The same with the file of a line for each record.
+/// The same with the file of a line for each record, and with updates.
 fn replay_reported<'a>(alloc: Global) -> Result<Command<'a>, AllocError>
     ensures app { IfOk result (λ command. app_of command ≡ line.replay_reported) }
     ensures local { IfOk result (λ command. (out-Command command).has_globals ≡ false) }
@@ -475,7 +484,11 @@ fn replay_reported<'a>(alloc: Global) -> Result<Command<'a>, AllocError>
         REPORT,
         "The file to write a line for each record to; JSON if named .json or .jsonl",
     );
-    replay_files(alloc)?.arg(report)
+    let updates = update(
+        alloc,
+        "Sets a value before the first frame; with --image only",
+    );
+    replay_files(alloc)?.arg(report)?.arg(updates)
 }
 
 /// The same with the numbers by which its shards are opened.
@@ -502,8 +515,9 @@ fn replay_opened<'a>(alloc: Global) -> Result<Command<'a>, AllocError>
         .arg(journal)
 }
 
-fn replay<'a>(alloc: Global) -> Result<Command<'a>, AllocError>
-    ensures app { IfOk result (λ command. app_of command ≡ line.replay_command) }
+/// The same with the size of the lookup table, the moments of commands and the summary.
+fn replay_noted<'a>(alloc: Global) -> Result<Command<'a>, AllocError>
+    ensures app { IfOk result (λ command. app_of command ≡ line.replay_noted) }
     ensures local { IfOk result (λ command. (out-Command command).has_globals ≡ false) }
 {
     let exact = switch(
@@ -516,16 +530,27 @@ fn replay<'a>(alloc: Global) -> Result<Command<'a>, AllocError>
         SUMMARY,
         "Prints the kinds of frames and where frames were sent, on the standard error",
     );
+    replay_opened(alloc)?
+        .arg(ring(alloc))?
+        .arg(exact)?
+        .arg(summary)
+}
+
+fn replay<'a>(alloc: Global) -> Result<Command<'a>, AllocError>
+    ensures app { IfOk result (λ command. app_of command ≡ line.replay_command) }
+    ensures local { IfOk result (λ command. (out-Command command).has_globals ≡ false) }
+{
     let skip_long = switch(
         alloc,
         SKIP_LONG,
         "Skips records of more than 2048 bytes in place of refusing the capture",
     );
-    replay_opened(alloc)?
-        .arg(ring(alloc))?
-        .arg(exact)?
-        .arg(summary)?
-        .arg(skip_long)
+    let no_journals = switch(
+        alloc,
+        NO_JOURNALS,
+        "Keeps no rows of journals, so that each shard may have 134217728 calls",
+    );
+    replay_noted(alloc)?.arg(skip_long)?.arg(no_journals)
 }
 
 /// The program's commands.

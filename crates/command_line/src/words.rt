@@ -1,6 +1,6 @@
 //! The command line, read.
 
-ghost use Rattle.std.specs.Prelude.{ℕ, ◌≡◌, ◌≢◌, ◌⊎◌, true, MatchOption, ◌<◌, ◌+◌, ◌*◌, ◌/◌, List, [], Some, IfOk, IfErr, IsFalse, length, map, codes};
+ghost use Rattle.std.specs.Prelude.{◌&&◌, ℕ, ◌≡◌, ◌≢◌, ◌⊎◌, true, MatchOption, ◌<◌, ◌+◌, ◌*◌, ◌/◌, List, [], Some, IfOk, IfErr, IsFalse, length, map, codes};
 ghost use Rattle.std.specs.Str.{bytes_eq};
 ghost use Rattle.faults.specs.Explanations.{is_fault};
 ghost use Rattle.faults.specs.FaultTable.{IsRowOf};
@@ -11,15 +11,15 @@ ghost use Rattle.clap.specs.Words.{Row, Text, fault_of, found_of, rows_of, subco
 ghost use Rattle.command_line.specs.CommandLine.{program};
 ghost use Rattle.command_line.specs.Reading.{IsReadFrom, IsAsked, IsBadUpdate, IsCommand, IsSwitchOf, AreRunFiles, AreUpdates};
 ghost use Rattle.command_line.specs.Reading.{IsFirstName, IsName, Says, SaysNone, Writes};
-ghost use Rattle.command_line.specs.Reading.{AreReplayFiles, AreReplayOptions, AsksInVain, IsNumberOf, are_both_given, either, kind_in, text_of, word_at};
+ghost use Rattle.command_line.specs.Reading.{AreReplayFiles, AreReplayOptions, AsksInVain, IsNumberOf, are_both_given, are_updates_alone, either, has_journals, has_updates, kind_in, text_of, word_at};
 ghost use Rattle.command_line.specs.Reading.{word_of, words_of};
 ghost use Rattle.clap.specs.declared.error.kind.ErrorKind.TheVariants.{DisplayHelp, DisplayVersion, OutOfMemory};
 
 use crate::commands::{ReplayFiles, RunFiles, Settings};
 use crate::grammar::{
-    CAPTURE, EXACT, EXPLAIN, FAULT, FRAME, IMAGE, JOURNAL, JOURNALS, JOURNALS_OUT, NOW, OUT,
-    PROGRAM, REPLAY_IMAGE, REPORT, RING, SCRIPT, SENT, SHARDS, SKIP_LONG, SOURCE, SUMMARY,
-    TABLE_SCRIPT, TEXT, UPDATE, WORKER, WORKERS, program,
+    CAPTURE, EXACT, EXPLAIN, FAULT, FRAME, IMAGE, JOURNAL, JOURNALS, JOURNALS_OUT, NO_JOURNALS,
+    NOW, OUT, PROGRAM, REPLAY_IMAGE, REPORT, RING, SCRIPT, SENT, SHARDS, SKIP_LONG, SOURCE,
+    SUMMARY, TABLE_SCRIPT, TEXT, UPDATE, WORKER, WORKERS, program,
 };
 use clap::{ArgMatches, Error};
 use faults::Explanation;
@@ -35,6 +35,12 @@ const TOGETHER: &str = "error: the options --image and --script cannot be used t
 /// What is printed for a replay of two images.
 const TWO_IMAGES: &str = "error: the options --image and --program cannot be used together";
 
+/// What is printed for a replay with a file for journals of which no rows are kept.
+const NO_ROWS: &str = "error: the options --journals and --no-journals cannot be used together";
+
+/// What is printed for a replay with updates that has no `--image`.
+const NO_IMAGE: &str = "error: the option --update cannot be used without --image";
+
 /// Why words are no command, or which text they ask for: help or the version.
 #[derive(Debug, Drop)]
 pub enum WordsFault<'a> {
@@ -46,7 +52,11 @@ pub enum WordsFault<'a> {
     Both,
     /// A replay has two images, of `--image` and of `--program`.
     TwoImages,
-    /// An update of a run, at this place among its updates, from 0, is malformed; or memory was refused for it.
+    /// A replay has updates and no `--image`.
+    UpdatesAlone,
+    /// A replay has a file for journals of which no rows are kept.
+    JournalsOfNone,
+    /// An update of a run or a replay, at this place among its updates, from 0, is malformed; or memory was refused for it.
     Update { place: usize, mistake: Mistake },
 }
 
@@ -61,7 +71,11 @@ enum Asked<'a> {
     ImageAndScript,
     /// A replay of both `--image` and `--program`.
     ImageAndProgram,
-    /// A run with a malformed update.
+    /// A replay with updates and without `--image`.
+    UpdatesAlone,
+    /// A replay of both `--journals` and `--no-journals`.
+    JournalsOfNone,
+    /// A run or a replay with a malformed update.
     NoUpdate { place: usize, mistake: Mistake },
 }
 
@@ -76,6 +90,8 @@ impl WordsFault<'_> {
             WordsFault::UnknownFault(_) => 2,
             WordsFault::Both => 2,
             WordsFault::TwoImages => 2,
+            WordsFault::UpdatesAlone => 2,
+            WordsFault::JournalsOfNone => 2,
             WordsFault::Update { .. } => 2,
         }
     }
@@ -87,6 +103,8 @@ impl WordsFault<'_> {
             WordsFault::UnknownFault(word) => eprintln!(rt; "error: there is no fault {word}"),
             WordsFault::Both => eprintln!(rt; "{TOGETHER}"),
             WordsFault::TwoImages => eprintln!(rt; "{TWO_IMAGES}"),
+            WordsFault::UpdatesAlone => eprintln!(rt; "{NO_IMAGE}"),
+            WordsFault::JournalsOfNone => eprintln!(rt; "{NO_ROWS}"),
             WordsFault::Update { place, mistake } => {
                 let number = place.saturating_add(1);
                 eprintln!(rt; "error: update {number}: {mistake}")
@@ -102,6 +120,8 @@ impl fmt::Display for WordsFault<'_> {
             WordsFault::UnknownFault(word) => write!(f, "error: there is no fault {word}"),
             WordsFault::Both => write!(f, "{TOGETHER}"),
             WordsFault::TwoImages => write!(f, "{TWO_IMAGES}"),
+            WordsFault::UpdatesAlone => write!(f, "{NO_IMAGE}"),
+            WordsFault::JournalsOfNone => write!(f, "{NO_ROWS}"),
             WordsFault::Update { place, mistake } => {
                 let number = place.saturating_add(1);
                 write!(f, "error: update {number}: {mistake}")
@@ -113,8 +133,8 @@ impl fmt::Display for WordsFault<'_> {
 /// The command that the words say; the first word is the program's name.
 ///
 /// There is one exactly where the parser finds no fault in the words, and they don't ask what a word means that is no fault, for a
-/// replay of both an image and a script or of two images, or for a run with a malformed update. A fault is of the first kind that the
-/// parser finds, or one of these, or memory was refused.
+/// replay of both an image and a script or of two images, for one with updates and without `--image`, for one with a file for journals of which
+/// no rows are kept, or for a run or a replay with a malformed update. A fault is of the first kind that the parser finds, or one of these, or memory was refused.
 pub fn settings<'a, S: AsStr>(alloc: Global, words: &'a [S]) -> Result<Settings<'a>, WordsFault<'a>>
     ensures found { IfOk result (λ settings. (name : Text) × (rows : List Row)
         × (subcommand_of program (map S.text words.entry.now) ≡ Some (name, rows)) × IsReadFrom name rows settings) }
@@ -128,6 +148,8 @@ pub fn settings<'a, S: AsStr>(alloc: Global, words: &'a [S]) -> Result<Settings<
         Ok(Asked::NoSuchFault(word)) => Err(WordsFault::UnknownFault(word)),
         Ok(Asked::ImageAndScript) => Err(WordsFault::Both),
         Ok(Asked::ImageAndProgram) => Err(WordsFault::TwoImages),
+        Ok(Asked::UpdatesAlone) => Err(WordsFault::UpdatesAlone),
+        Ok(Asked::JournalsOfNone) => Err(WordsFault::JournalsOfNone),
         Ok(Asked::NoUpdate { place, mistake }) => Err(WordsFault::Update { place, mistake }),
         Err(error) => Err(WordsFault::Parser(error)),
     }
@@ -159,7 +181,7 @@ fn asked_of<'a>(alloc: Global, name: &str, found: &ArgMatches<'a>) -> Asked<'a>
         return explain_of(found);
     }
     if name == "replay" {
-        return replay_of(found);
+        return replay_of(alloc, found);
     }
     if name == "shipped" {
         return Asked::Command(shipped_of(found));
@@ -232,7 +254,7 @@ fn fault_if_named(number: u32, word: &str) -> Option<Explanation>
 }
 
 /// What is asked of a replay.
-fn replay_of<'a>(found: &ArgMatches<'a>) -> Asked<'a>
+fn replay_of<'a>(alloc: Global, found: &ArgMatches<'a>) -> Asked<'a>
     ensures { IsAsked (codes "replay") (rows_of (found_of found.now)) result }
 {
     if are_both_given(found, REPLAY_IMAGE, SCRIPT) {
@@ -241,14 +263,67 @@ fn replay_of<'a>(found: &ArgMatches<'a>) -> Asked<'a>
     if are_both_given(found, REPLAY_IMAGE, PROGRAM) {
         return Asked::ImageAndProgram;
     }
-    Asked::Command(Settings::Replay {
+    if are_updates_alone(found) {
+        return Asked::UpdatesAlone;
+    }
+    let no_journals = switch(found, NO_JOURNALS);
+    if no_journals && has_journals(found) {
+        return Asked::JournalsOfNone;
+    }
+    match updates_found(alloc, found) {
+        Ok(updates) => Asked::Command(replay_with(found, no_journals, updates)),
+        Err((place, mistake)) => Asked::NoUpdate { place, mistake },
+    }
+}
+
+/// The settings of a replay with these updates, with rows of journals or without.
+fn replay_with<'a>(
+    found: &ArgMatches<'a>,
+    no_journals: bool,
+    updates: Vec<MapUpdate>,
+) -> Settings<'a>
+    requires script { IsFalse (are_both_given (codes "image") (codes "script") (rows_of (found_of found.now))) }
+    requires program { IsFalse (are_both_given (codes "image") (codes "program") (rows_of (found_of found.now))) }
+    requires alone { IsFalse (are_updates_alone (rows_of (found_of found.now))) }
+    requires journals { IsSwitchOf (codes "no-journals") (rows_of (found_of found.now)) no_journals }
+    requires rows { IsFalse (no_journals && has_journals (rows_of (found_of found.now))) }
+    requires updates { AreUpdates (words_of (codes "update") (rows_of (found_of found.now))) updates.items }
+    ensures { IsReadFrom (codes "replay") (rows_of (found_of found.now)) result }
+{
+    Settings::Replay {
         files: replay_files_of(found),
         options: options_of(found),
         ring: number_of(found, RING, 251),
         exact: switch(found, EXACT),
         summary: switch(found, SUMMARY),
         skip_long: switch(found, SKIP_LONG),
-    })
+        no_journals,
+        updates,
+    }
+}
+
+/// Whether a file is named for the journals.
+fn has_journals(found: &ArgMatches<'_>) -> bool
+    ensures { result ≡ has_journals (rows_of (found_of found.now)) }
+{
+    option(found, JOURNALS_OUT).is_some()
+}
+
+/// Whether there are updates, and no image.
+fn are_updates_alone(found: &ArgMatches<'_>) -> bool
+    ensures { result ≡ are_updates_alone (rows_of (found_of found.now)) }
+{
+    has_updates(found) && option(found, REPLAY_IMAGE).is_none()
+}
+
+/// Whether there are updates.
+fn has_updates(found: &ArgMatches<'_>) -> bool
+    ensures { result ≡ has_updates (rows_of (found_of found.now)) }
+{
+    match found.get_raw(UPDATE) {
+        Some(_words) => true,
+        None => false,
+    }
 }
 
 /// Whether both of two options are given.
@@ -393,7 +468,7 @@ fn run_with<'a>(found: &ArgMatches<'a>, updates: Vec<MapUpdate>) -> Settings<'a>
     }
 }
 
-/// The updates of a run; or the place of the first malformed one, with its first mistake.
+/// The updates of a run or a replay; or the place of the first malformed one, with its first mistake.
 fn updates_found(alloc: Global, found: &ArgMatches<'_>) -> Result<Vec<MapUpdate>, (usize, Mistake)>
     ensures read { IfOk result (λ updates. AreUpdates (words_of (codes "update") (rows_of (found_of found.now))) updates.items) }
     ensures mistaken { IfErr result (λ bad. IsBadUpdate (words_of (codes "update") (rows_of (found_of found.now))) bad.0 bad.1) }

@@ -21,7 +21,8 @@ use Rattle.journals.specs.JournalsView.{JournalsView, entries_at}
 use Rattle.shards.specs.CallerView.{CallerView}
 use Rattle.shards.specs.Passes.{PassView, own_at}
 use Rattle.replay.specs.declared.outcome.Applied.{Applied}
-use Rattle.replay.specs.Commands.{CommandDone, AreNotedOf, made_in, with_updates}
+use Rattle.replay.specs.Commands.{all_set, CommandDone, AreNotedOf, made_in, with_updates}
+use Rattle.map_updates.specs.declared.update.MapUpdate.{MapUpdate}
 use Rattle.replay.specs.Rounds.{IsReclaim, IsReclaimedBy}
 use Rattle.replay.specs.declared.runner.Ran.{Ran}
 use Rattle.replay.specs.declared.runner.RunEnd.{RunEnd}
@@ -152,7 +153,7 @@ flow_below false hash workers some = some
 
 module _ (maps : List MapDef) (code : List Insn) (options : Options) (some : 0 < options.workers) (records : List Sent) (captured : AllByRecursion IsCaptured records)
     (outcome : Outcome) (accounted : IsAccounted (program_at maps code options) [] options records outcome)
-    (reading : IsReading maps code options accounted.count accounted.plan) (none : outcome.counts.stopped ≡ 0) where
+    (reading : IsReading maps code options accounted.count accounted.plan) (none_set : outcome.updates.items ≡ []) (none : outcome.counts.stopped ≡ 0) where
   abbrev replayed : Program
   replayed = program_at maps code options
 
@@ -184,7 +185,8 @@ module _ (maps : List MapDef) (code : List Insn) (options : Options) (some : 0 <
   quiet_controller number within =
       let commands = accounted.commands in
       let made : made_in commands.done ≡ [] = none_noted commands.noted commands.done commands.each_once commands.are_noted in
-      subst AreQuiet (sym (commands.own number within ∙ ap (λ made. with_updates maps options number made []) made)) tt
+      let none_first = ap (λ (updates : List MapUpdate). with_updates maps options number (all_set updates ++ made_in commands.done) []) none_set in
+      subst AreQuiet (sym (commands.own number within ∙ none_first ∙ ap (λ made. with_updates maps options number made []) made)) tt
 
   quiet_reclaimer : (number : ℕ) → number < accounted.count → AreQuiet (own_entries Reclaimer (history number))
   quiet_reclaimer number within =

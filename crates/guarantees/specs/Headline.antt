@@ -142,7 +142,7 @@ pub record Headline (verified : Verified) (script : List Command) (options : Opt
   pub ordered : IsOrderOf plan count outcome.journals order
   -- the controller's deeds in it are the updates of the script's commands, in the script's order over all shards, each with its answer, and
   -- behind those of a command that a full journal stopped the look at that journal
-  pub commands : IsScriptAccounted plan verified.maps options count script outcome.journals order outcome.refused.items
+  pub commands : IsScriptAccounted plan verified.maps options count outcome.updates.items script outcome.journals order outcome.refused.items
   -- and the reclaimer's are its rounds, one behind the other: in each a Reclaim of each hash and LRU shard, the lowest number first
   pub rounds : AreRoundsAccounted plan count (rounds_of (length records)) outcome.journals order
   -- each worker ran its records, one after the other; in each journal its entries are those of its runs, and its deeds in the order are

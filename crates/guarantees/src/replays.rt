@@ -1,10 +1,11 @@
 //! The replay of which the headline speaks, and the law on programs that only read, made.
 
-ghost use Rattle.std.specs.Prelude.{◌≡◌, ◌⊎◌, ◌<◌, ◌≤◌, ◌↔◌, [], length, IfOk, IsErrOf, IsFalse};
+ghost use Rattle.std.specs.Prelude.{◌≡◌, ◌⊎◌, ◌<◌, ◌≤◌, ◌↔◌, [], length, IfOk, OnOk, IsErrOf, IsFalse};
 ghost use Rattle.std.specs.List.{AllByRecursion};
 ghost use Rattle.verifier.specs.Readers.{IsReader};
 ghost use Rattle.machine.specs.Running.{program_of};
-ghost use Rattle.semantics.specs.ShardPlan.{are_served_options};
+ghost use Rattle.map_updates.specs.Misfits.{AreFitting};
+ghost use Rattle.semantics.specs.ShardPlan.{KeepsRows, are_served_options, recorded};
 ghost use Rattle.replay.specs.Accounts.{sent_frames};
 ghost use Rattle.replay.specs.declared.fault.ReplayFault.TheVariants.{BadOptions};
 ghost use Rattle.replay.specs.Accounted.{IsAccounted};
@@ -15,9 +16,10 @@ ghost use Rattle.guarantees.specs.ReaderReplays.{IsCaptured, all_sent_at_opening
 use crate::headline;
 use crate::readers::readers_send_as_at_opening;
 use control::Script;
+use map_updates::MapUpdate;
 use replay::{Outcome, ReplayFault, replay};
-use semantics::Options;
 use semantics::facts::bytes_have_8_bits;
+use semantics::{Options, Recording};
 use shard_port::Gate;
 use std::alloc::Global;
 use std::sync::Wait;
@@ -48,18 +50,25 @@ pub fn headline_replay<R: Threads + Wait + Sync, G: Gate + Sync>(
     alloc: Global,
     verified: &Verified,
     capture: &Capture,
+    updates: &[MapUpdate],
     script: &Script,
     options: Options,
+    recording: Recording,
     gate: &G,
 ) -> Result<Outcome, ReplayFault>
-    ensures accounted { IfOk result (IsAccounted (program_of verified.now options.shards) script.now options capture.now.records.items) }
-    ensures headline { IfOk result (Headline verified.now script.now options capture.now.records.items) }
+    requires fit { AreFitting verified.now.maps updates.now }
+    ensures accounted { IfOk result (IsAccounted (program_of verified.now options.shards) script.now (recorded recording options) capture.now.records.items) }
+    ensures updates { IfOk result (λ outcome. outcome.updates.items ≡ updates.now) }
+    ensures headline { IfOk result (Headline verified.now script.now (recorded recording options) capture.now.records.items) }
+    ensures served { OnOk result (KeepsRows options.journal) }
     ensures bad_options { IsErrOf result BadOptions ↔
         (IsFalse (are_served_options verified.now.maps options) ⊎ HasNoTable verified.now.maps script.now) }
 {
     headline(verified);
     all_are_captured(capture);
-    let replayed = replay(rt, alloc, verified, capture, script, options, gate)?;
+    let replayed = replay(
+        rt, alloc, verified, capture, updates, script, options, recording, gate,
+    )?;
     let _ = replayed.journals.options();
     Ok(replayed)
 }
@@ -74,19 +83,32 @@ pub fn reader_replay<R: Threads + Wait + Sync, G: Gate + Sync>(
     capture: &Capture,
     script: &Script,
     options: Options,
+    recording: Recording,
     gate: &G,
 ) -> Result<Outcome, ReplayFault>
     requires reads { IsReader verified.now.code verified.now.states }
     requires no_commands { script.now ≡ [] }
-    ensures accounted { IfOk result (IsAccounted (program_of verified.now options.shards) script.now options capture.now.records.items) }
+    ensures accounted { IfOk result (IsAccounted (program_of verified.now options.shards) script.now (recorded recording options) capture.now.records.items) }
+    ensures updates { IfOk result (λ outcome. outcome.updates.items ≡ []) }
     ensures sent { IfOk result (λ outcome. outcome.counts.stopped ≡ 0 →
         sent_frames outcome.sent.items ≡ all_sent_at_opening (program_of verified.now options.shards) capture.now.records.items
         (length capture.now.records.items)) }
+    ensures served { OnOk result (KeepsRows options.journal) }
     ensures bad_options { IsErrOf result BadOptions ↔ IsFalse (are_served_options verified.now.maps options) }
 {
     readers_send_as_at_opening(verified);
     all_are_captured(capture);
-    let outcome = replay(rt, alloc, verified, capture, script, options, gate)?;
+    let outcome = replay(
+        rt,
+        alloc,
+        verified,
+        capture,
+        &[],
+        script,
+        options,
+        recording,
+        gate,
+    )?;
     let _ = outcome.journals.options();
     Ok(outcome)
 }

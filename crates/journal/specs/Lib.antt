@@ -3,3 +3,4 @@ pub mod Journaled
 pub mod Ranges
 pub mod Entries
 pub mod Rows
+pub mod Kept

@@ -1,5 +1,5 @@
 -- How rows, bytes and words make the entries of a journal.
-use Rattle.std.specs.Prelude.{ℕ, ◌+◌, ◌*◌, ◌<◌, ◌≤◌, ◌^◌, List, length, take, drop, map, slice_index_or}
+use Rattle.std.specs.Prelude.{ℕ, ◌+◌, ◌*◌, ◌<◌, ◌≤◌, List, length, take, drop, map, slice_index_or}
 use Rattle.std.specs.List.{AllByRecursion}
 use Rattle.semantics.specs.declared.call.Caller.{Caller}
 use Rattle.semantics.specs.declared.call.Call.{Call}
@@ -11,6 +11,7 @@ use Rattle.journal.specs.declared.row.Row.{Row}
 use Rattle.journal.specs.declared.row.Row.TheVariants.{Entered, Left, Found, Missed, Loaded, Stored, Changed, Updated, Deleted, Reclaimed}
 use Rattle.journal.specs.Journaled.{Journaled}
 use Rattle.semantics.specs.Memory.{cell_ref}
+use Rattle.semantics.specs.ShardPlan.{KeepsRows}
 
 -- this many bytes from a place on
 abbrev pub part : ℕ → ℕ → List ℕ → List ℕ
@@ -124,7 +125,7 @@ journaled shard reserve key_size value_size rows bytes words = record {
 -- the rows read within the bytes and the words, and the rooms last for the reserve
 pub record IsKept (reserve key_size value_size : ℕ) (rows : List Row) (row_room : ℕ) (bytes : List ℕ) (byte_room : ℕ) (words : List ℕ) (word_room : ℕ)
     : Type 0 where
-  pub few : reserve ≤ 2 ^ 20
+  pub few : KeepsRows reserve
   pub key : key_size ≤ 32
   pub value : value_size ≤ 256
   pub within : AllByRecursion (IsWithin key_size value_size (length bytes) words) rows

@@ -1,47 +1,52 @@
 //! The journal.
 
-ghost use Rattle.std.specs.Prelude.{◌≡◌, ◌+◌, ◌*◌, ◌<◌, ◌≤◌, ◌^◌, ◌∷◌, ◌++◌, [], IfOk, length, vec_len, vec_capacity, slice_get, Some};
+ghost use Rattle.std.specs.Prelude.{◌≡◌, ◌<◌, ◌≤◌, true, IfOk, length, slice_get, Some};
+ghost use Rattle.semantics.specs.ShardPlan.{KeepsRows, keeps_rows};
 ghost use Rattle.journal.specs.Journaled.{opened_journal, with_entry};
 ghost use Rattle.journal.specs.Entries.{enter_entry, leave_entry, lookup_entry, load_entry, store_entry, atomic_entry, update_entry};
 ghost use Rattle.journal.specs.Entries.{delete_entry, reclaim_entry};
-ghost use Rattle.journal.specs.Rows.{IsBare, entry_of};
 ghost use Rattle.journal.specs.Ranges.{IsShortRange};
 
 use crate::append::{AtomicChange, CellRange};
-use crate::row::{Row, Shape};
+use crate::counted::Counted;
+use crate::written::Written;
 use semantics::{Caller, Entry};
 use std::alloc::{AllocError, Global};
 use std::marker::Model;
 
-/// The entries of a shard, the oldest first. Contracts see the list of them, and what the journal was opened with.
+/// The most entries of a journal that keeps its rows: so places among their bytes and words fit into 32 bits.
+pub const MOST_ROWS: u32 = 1_048_576;
+
+/// How a journal has its entries.
+#[derive(Drop)]
+pub(crate) enum Kept {
+    /// As rows.
+    Rows { written: Written },
+    /// Not at all: they are counted.
+    Count { counted: Counted },
+}
+
+/// The entries of a shard, the oldest first. Contracts see the list of them, and what the journal was opened with. A journal with room for at most
+/// 1,048,576 entries keeps them as rows, and they can be read; a larger one counts them, and the list of them is known to proofs alone.
 #[derive(Drop)]
 pub struct Journal {
-    shape: Shape,
-    /// How many entries there is room for.
-    reserve: u32,
-    rows: Vec<Row>,
-    /// The keys and values of the rows, one after another.
-    bytes: Vec<u8>,
-    /// The numbers of the rows, one after another.
-    words: Vec<u64>,
+    kept: Kept,
 }
 
 impl Model for Journal {
-    ghost use Rattle.std.specs.Prelude.{vec_capacity};
     ghost use Rattle.journal.specs.Journaled.{Journaled};
-    ghost use Rattle.journal.specs.Rows.{journaled, IsKept};
+    ghost use Rattle.journal.specs.Kept.{kept_journal, IsKeptBySize};
 
     ghost Value = { Journaled };
 
-    ghost view = { λ j. journaled j.shape.shard j.reserve j.shape.key_size j.shape.value_size j.rows.items j.bytes.items j.words.items };
+    ghost view = { λ j. kept_journal j.kept };
 
-    ghost invariant = { λ j. IsKept j.reserve j.shape.key_size j.shape.value_size j.rows.items (vec_capacity j.rows)
-        j.bytes.items (vec_capacity j.bytes) j.words.items (vec_capacity j.words) };
+    ghost invariant = { λ j. IsKeptBySize j.kept };
 }
 
 impl Journal {
-    /// An empty journal of a shard, with room for `reserve` entries, at most 1,048,576, with keys and values of these sizes in bytes. Fails only for lack of
-    /// memory.
+    /// An empty journal of a shard, with room for `reserve` entries, with keys and values of these sizes in bytes. Takes memory for the rows of all of them
+    /// where there are at most 1,048,576, and else next to none. Fails only for lack of memory.
     pub fn open(
         alloc: Global,
         shard: u32,
@@ -49,52 +54,54 @@ impl Journal {
         key_size: u32,
         value_size: u32,
     ) -> Result<Self, AllocError>
-        requires reserve { reserve ≤ 2 ^ 20 }
         requires key { key_size ≤ 32 }
         requires value { value_size ≤ 256 }
         ensures { IfOk result (λ journal. journal ≡ opened_journal shard reserve key_size value_size) }
     {
-        let room = reserve as usize * (key_size as usize + value_size as usize);
-        let rows = Vec::with_capacity(alloc, reserve as usize)?;
-        let bytes = Vec::with_capacity(alloc, room)?;
-        let words = Vec::with_capacity(alloc, reserve as usize * 4)?;
-        let shape = Shape {
-            shard,
-            key_size,
-            value_size,
+        let kept = if reserve <= MOST_ROWS {
+            Kept::Rows {
+                written: Written::open(alloc, shard, reserve, key_size, value_size)?,
+            }
+        } else {
+            Kept::Count {
+                counted: Counted::open(alloc, shard, reserve, key_size, value_size)?,
+            }
         };
-        Ok(Journal {
-            shape,
-            reserve,
-            rows,
-            bytes,
-            words,
-        })
+        Ok(Journal { kept })
     }
 
     /// How many entries there are.
     pub fn len(&self) -> usize
         ensures { result ≡ length self.now.entries }
     {
-        self.rows.len()
+        match &self.kept {
+            Kept::Rows { written } => written.len(),
+            Kept::Count { counted } => counted.len(),
+        }
+    }
+
+    /// Whether the entries can be read: where there is room for at most 1,048,576.
+    pub fn keeps_rows(&self) -> bool
+        ensures test { result ≡ keeps_rows self.now.reserve }
+        ensures rows { result ≡ true → KeepsRows self.now.reserve }
+        ensures kept { KeepsRows self.now.reserve → result ≡ true }
+    {
+        match &self.kept {
+            Kept::Rows { .. } => true,
+            Kept::Count { .. } => false,
+        }
     }
 
     /// The entry at a place, counted from 0.
     pub fn entry(&self, place: usize) -> Entry
-        requires { place < length self.now.entries }
+        requires rows { KeepsRows self.now.reserve }
+        requires place { place < length self.now.entries }
         ensures { slice_get self.now.entries place ≡ Some result }
     {
-        let row = &self.rows[place];
-        row.entry(&self.shape, self.bytes.as_slice(), self.words.as_slice())
-    }
-
-    // A row without key and number behind the others.
-    fn put(&mut self, row: Row)
-        requires room { length self.old.entries < self.old.reserve }
-        requires bare { IsBare row }
-        ensures { self.new ≡ with_entry self.old (entry_of self.old.shard self.old.key_size self.old.value_size [] [] row) }
-    {
-        put_row(&mut self.rows, row);
+        match &self.kept {
+            Kept::Rows { written } => written.entry(place),
+            Kept::Count { .. } => unreachable!(),
+        }
     }
 
     /// An Enter.
@@ -102,7 +109,10 @@ impl Journal {
         requires { length self.old.entries < self.old.reserve }
         ensures { self.new ≡ with_entry self.old (enter_entry self.old.shard who) }
     {
-        self.put(Row::Entered { who });
+        match &mut self.kept {
+            Kept::Rows { written } => written.append_enter(who),
+            Kept::Count { counted } => counted.append_enter(who),
+        }
     }
 
     /// A Leave.
@@ -110,7 +120,10 @@ impl Journal {
         requires { length self.old.entries < self.old.reserve }
         ensures { self.new ≡ with_entry self.old (leave_entry self.old.shard who) }
     {
-        self.put(Row::Left { who });
+        match &mut self.kept {
+            Kept::Rows { written } => written.append_leave(who),
+            Kept::Count { counted } => counted.append_leave(who),
+        }
     }
 
     /// A Lookup that found this cell, or nothing.
@@ -119,15 +132,9 @@ impl Journal {
         requires key { length key.now ≡ self.old.key_size }
         ensures { self.new ≡ with_entry self.old (lookup_entry self.old.shard who key.now found) }
     {
-        let at = self.bytes.len() as u32;
-        put_bytes(&mut self.bytes, key);
-        match found {
-            Some(cell) => {
-                let start = self.words.len() as u32;
-                put_word(&mut self.words, cell);
-                put_row(&mut self.rows, Row::Found { who, at, start });
-            }
-            None => put_row(&mut self.rows, Row::Missed { who, at }),
+        match &mut self.kept {
+            Kept::Rows { written } => written.append_lookup(who, key, found),
+            Kept::Count { counted } => counted.append_lookup(who, key, found),
         }
     }
 
@@ -137,15 +144,10 @@ impl Journal {
         requires range { IsShortRange range.now }
         ensures { self.new ≡ with_entry self.old (load_entry self.old.shard who range.now value) }
     {
-        let start = self.words.len() as u32;
-        put_two_words(&mut self.words, range.cell, value);
-        let row = Row::Loaded {
-            who,
-            size: range.size as u8,
-            offset: range.offset as u16,
-            start,
-        };
-        put_row(&mut self.rows, row);
+        match &mut self.kept {
+            Kept::Rows { written } => written.append_load(who, range, value),
+            Kept::Count { counted } => counted.append_load(who, range, value),
+        }
     }
 
     /// A Store of a number.
@@ -154,15 +156,10 @@ impl Journal {
         requires range { IsShortRange range.now }
         ensures { self.new ≡ with_entry self.old (store_entry self.old.shard who range.now value) }
     {
-        let start = self.words.len() as u32;
-        put_two_words(&mut self.words, range.cell, value);
-        let row = Row::Stored {
-            who,
-            size: range.size as u8,
-            offset: range.offset as u16,
-            start,
-        };
-        put_row(&mut self.rows, row);
+        match &mut self.kept {
+            Kept::Rows { written } => written.append_store(who, range, value),
+            Kept::Count { counted } => counted.append_store(who, range, value),
+        }
     }
 
     /// An Atomic, with what was there before.
@@ -172,22 +169,10 @@ impl Journal {
         requires op { change.now.op < 256 }
         ensures { self.new ≡ with_entry self.old (atomic_entry self.old.shard who range.now change.now old) }
     {
-        let start = self.words.len() as u32;
-        put_four_words(
-            &mut self.words,
-            range.cell,
-            change.value,
-            change.expected,
-            old,
-        );
-        let row = Row::Changed {
-            who,
-            size: range.size as u8,
-            op: change.op as u8,
-            offset: range.offset as u16,
-            start,
-        };
-        put_row(&mut self.rows, row);
+        match &mut self.kept {
+            Kept::Rows { written } => written.append_atomic(who, range, change, old),
+            Kept::Count { counted } => counted.append_atomic(who, range, change, old),
+        }
     }
 
     /// An Update, with its answer.
@@ -197,12 +182,10 @@ impl Journal {
         requires value { length value.now ≡ self.old.value_size }
         ensures { self.new ≡ with_entry self.old (update_entry self.old.shard who key.now value.now flags code) }
     {
-        let at = self.bytes.len() as u64;
-        put_bytes(&mut self.bytes, key);
-        put_bytes(&mut self.bytes, value);
-        let start = self.words.len() as u32;
-        put_two_words(&mut self.words, at, flags);
-        put_row(&mut self.rows, Row::Updated { who, code, start });
+        match &mut self.kept {
+            Kept::Rows { written } => written.append_update(who, key, value, flags, code),
+            Kept::Count { counted } => counted.append_update(who, key, value, flags, code),
+        }
     }
 
     /// A Delete, with its answer.
@@ -211,9 +194,10 @@ impl Journal {
         requires key { length key.now ≡ self.old.key_size }
         ensures { self.new ≡ with_entry self.old (delete_entry self.old.shard who key.now code) }
     {
-        let at = self.bytes.len() as u32;
-        put_bytes(&mut self.bytes, key);
-        put_row(&mut self.rows, Row::Deleted { who, code, at });
+        match &mut self.kept {
+            Kept::Rows { written } => written.append_delete(who, key, code),
+            Kept::Count { counted } => counted.append_delete(who, key, code),
+        }
     }
 
     /// A Reclaim, with how many cells it freed.
@@ -221,58 +205,9 @@ impl Journal {
         requires { length self.old.entries < self.old.reserve }
         ensures { self.new ≡ with_entry self.old (reclaim_entry self.old.shard who count) }
     {
-        let start = self.words.len() as u32;
-        put_word(&mut self.words, count);
-        put_row(&mut self.rows, Row::Reclaimed { who, start });
+        match &mut self.kept {
+            Kept::Rows { written } => written.append_reclaim(who, count),
+            Kept::Count { counted } => counted.append_reclaim(who, count),
+        }
     }
-}
-
-// Puts a row behind the others, for which there is room.
-fn put_row(rows: &mut Vec<Row>, row: Row)
-    requires { vec_len rows.old < vec_capacity rows.old }
-    ensures items { rows.new.items ≡ rows.old.items ++ row ∷ [] }
-    ensures room { vec_capacity rows.old ≤ vec_capacity rows.new }
-{
-    rows.push_reserved(row);
-}
-
-/// Puts bytes behind the others, for which there is room.
-pub fn put_bytes(bytes: &mut Vec<u8>, more: &[u8])
-    requires { vec_len bytes.old + length more.now ≤ vec_capacity bytes.old }
-    ensures items { bytes.new.items ≡ bytes.old.items ++ more.now }
-    ensures room { vec_capacity bytes.old ≤ vec_capacity bytes.new }
-{
-    if bytes.extend_from_slice(more).is_err() {
-        unreachable!()
-    }
-}
-
-/// Puts a number behind the others, for which there is room.
-pub(crate) fn put_word(words: &mut Vec<u64>, first: u64)
-    requires { vec_len words.old < vec_capacity words.old }
-    ensures items { words.new.items ≡ words.old.items ++ first ∷ [] }
-    ensures room { vec_capacity words.old ≤ vec_capacity words.new }
-{
-    words.push_reserved(first);
-}
-
-/// Puts two numbers behind the others. They are written one by one: written together they would be copied by one wide load right after two
-/// narrow stores, for which an older processor waits.
-pub(crate) fn put_two_words(words: &mut Vec<u64>, first: u64, second: u64)
-    requires { vec_len words.old + 2 ≤ vec_capacity words.old }
-    ensures items { words.new.items ≡ words.old.items ++ first ∷ second ∷ [] }
-    ensures room { vec_capacity words.old ≤ vec_capacity words.new }
-{
-    put_word(words, first);
-    put_word(words, second);
-}
-
-/// Puts four numbers behind the others, in the same way.
-pub(crate) fn put_four_words(words: &mut Vec<u64>, first: u64, second: u64, third: u64, fourth: u64)
-    requires { vec_len words.old + 4 ≤ vec_capacity words.old }
-    ensures items { words.new.items ≡ words.old.items ++ first ∷ second ∷ third ∷ fourth ∷ [] }
-    ensures room { vec_capacity words.old ≤ vec_capacity words.new }
-{
-    put_two_words(words, first, second);
-    put_two_words(words, third, fourth);
 }

@@ -7,10 +7,14 @@
 #![tactic(auto)]
 
 mod append;
+mod counted;
 mod journal_of_shard;
+mod log;
 mod row;
+mod written;
 
 pub use append::{AtomicChange, CellRange};
-pub use journal_of_shard::{Journal, put_bytes};
+pub use journal_of_shard::{Journal, MOST_ROWS};
 pub use row::{key_at, value_at};
 pub use semantics::{Caller, Entry};
+pub use written::put_bytes;

@@ -10,7 +10,7 @@ use Rattle.ebpf_decode.specs.declared.version.Version.TheVariants.{V2}
 use Rattle.semantics.specs.declared.call.Entry.{Entry}
 use Rattle.semantics.specs.declared.options.Options.{Options}
 use Rattle.semantics.specs.declared.plan.ShardPlan.{ShardPlan}
-use Rattle.semantics.specs.ShardPlan.{plan_for_map, plan_at}
+use Rattle.semantics.specs.ShardPlan.{plan_for_map, plan_at, KeepsRows}
 use Rattle.semantics.specs.PlanLimits.{IsPlan}
 use Rattle.semantics.specs.History.{shard_of_call, meets_part, IsLegalStep, IsLegalHistory, IsLegalJournal}
 use Rattle.semantics.proofs.shared.ConditionLemmas.{first_true, second_true}
@@ -163,12 +163,14 @@ lists_are journals are legal = λ place within.
     let same : place ≡ 0 + place = omega arith in
     subst (λ n. AllByRecursion (IsListed journals.maps journals.options n) (entries_at journals place)) same (list_at journals are legal place within)
 
-pub read_back : (journals : JournalsView) → AreJournals journals.maps journals.options (length journals.shards) → ReadBackWhereLegal journals
-read_back journals are legal =
+pub read_back : (journals : JournalsView) → AreJournals journals.maps journals.options (length journals.shards) → KeepsRows journals.options.journal →
+    ReadBackWhereLegal journals
+read_back journals are rows legal =
     let lists = lists_are journals are legal in
     record {
       of_maps = refl;
       journals_are = are;
+      rows = rows;
       fit = all_fit journals.maps journals.options 0 journals.shards lists;
       listed = listed_from journals.maps journals.options 0 journals.shards lists;
       spelled = refl;

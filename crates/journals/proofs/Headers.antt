@@ -7,7 +7,7 @@ use Rattle.std.proofs.lemmas.Grind.{flat_map-append}
 use Rattle.ebpf_decode.specs.declared.map.MapDef.{MapDef}
 use Rattle.semantics.specs.declared.call.Entry.{Entry}
 use Rattle.semantics.specs.declared.options.Options.{Options}
-use Rattle.semantics.specs.ShardPlan.{AreOptions}
+use Rattle.semantics.specs.ShardPlan.{AreOptions, AreServedOptions}
 use Rattle.semantics.proofs.shared.PlanLemmas.{few_parts}
 use Rattle.text_lines.specs.Lines.{Lacks, ended}
 use Rattle.text_lines.proofs.shared.LineLemmas.{lacks_mid, one_line, same_front}
@@ -45,24 +45,24 @@ header_found maps line result other reads fits is =
 pub no_header_line : (maps : List MapDef) (text : List ℕ) → Lacks 10 text → BeginsWithNoHeader maps text
 no_header_line maps text lacks = λ options line more is. λ e. lacks_mid 10 text line more lacks e
 
-pub headed : (maps : List MapDef) (text line rest again : List ℕ) (options : Options) → text ≡ line ++ 10 ∷ rest → again ≡ header_text options → again ≡ line → AreOptions maps options
+pub headed : (maps : List MapDef) (text line rest again : List ℕ) (options : Options) → text ≡ line ++ 10 ∷ rest → again ≡ header_text options → again ≡ line → AreServedOptions maps options
     → ReadsHeader line options → IsHeadedBy maps text options rest
 headed maps text line rest again options is printed_is same fits reads =
     let line_is : line ≡ header_text options = sym same ∙ printed_is in
     record {
       fits = fits;
       text_is = is ∙ ap (λ (xs : List ℕ). xs ++ 10 ∷ rest) line_is ∙ sym (one_line (header_text options) rest);
-      only = λ other other_is. sym (header_found maps line options other reads other_is.fits (line_is ∙ other_is.spelled));
+      only = λ other other_is. sym (header_found maps line options other reads other_is.fits.fit (line_is ∙ other_is.spelled));
     }
 
 -- a line that is none: no options have it that these maps can have
 pub not_headed : (maps : List MapDef) (text line rest again : List ℕ) (result : Options) → text ≡ line ++ 10 ∷ rest → Lacks 10 line → again ≡ header_text result → ReadsHeader line result
-    → (again ≡ line → AreOptions maps result → ⊥) → BeginsWithNoHeader maps text
+    → (again ≡ line → AreServedOptions maps result → ⊥) → BeginsWithNoHeader maps text
 not_headed maps text line rest again result is lacks printed_is reads fails = λ options other more other_is. λ e.
-    let lacks_other : Lacks 10 other = rw other_is.spelled (header_lacks_feed maps options other_is.fits) in
+    let lacks_other : Lacks 10 other = rw other_is.spelled (header_lacks_feed maps options other_is.fits.fit) in
     let parts = same_front 10 line rest other more lacks lacks_other (sym is ∙ e) in
-    let same : result ≡ options = header_found maps line result options reads other_is.fits (parts.0 ∙ other_is.spelled) in
-    let P : Options → Type 0 = λ o. AreOptions maps o in
+    let same : result ≡ options = header_found maps line result options reads other_is.fits.fit (parts.0 ∙ other_is.spelled) in
+    let P : Options → Type 0 = λ o. AreServedOptions maps o in
     fails (printed_is ∙ ap header_text same ∙ sym other_is.spelled ∙ sym parts.0) (subst P (sym same) other_is.fits)
 
 -- ---- what is written

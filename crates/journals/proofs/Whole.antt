@@ -116,7 +116,7 @@ pub file_read : (maps : List MapDef) (text rest after : List ℕ) (options : Opt
 file_read maps text rest after options done present count journals headed read empty maps_are options_are are_journals finish =
     let file = known_fit maps options read.entries read.known in
     let finished = finish read.entries read.divided in
-    let none : finished.0 ≡ [] = none_left maps options read.entries journals.shards finished.0 headed.fits file finished.1 are_journals.one_each in
+    let none : finished.0 ≡ [] = none_left maps options read.entries journals.shards finished.0 headed.fits.fit file finished.1 are_journals.one_each in
     let all : read.entries ≡ all_entries journals.shards = finished.1.all ∙ ap (λ (xs : List Entry). all_entries journals.shards ++ xs) none ∙ append-nil (all_entries journals.shards) in
     let rest_is : rest ≡ entries_text (all_entries journals.shards) =
     read.text_is ∙ ap (λ (xs : List ℕ). entries_text read.entries ++ xs) empty ∙ append-nil (entries_text read.entries) ∙ ap entries_text all in
@@ -124,6 +124,7 @@ file_read maps text rest after options done present count journals headed read e
     record {
       of_maps = maps_are;
       journals_are = rw options_are are_journals;
+      rows = rw options_are headed.fits.rows;
       fit = rw options_are (rw all at file);
       listed = finished.1.listed;
       spelled = rw options_are spelled;
@@ -133,9 +134,9 @@ file_read maps text rest after options done present count journals headed read e
 pub same_file : (maps : List MapDef) (text rest after : List ℕ) (options : Options) (done : List (List Entry)) (present : List Entry) (count : ℕ) (others : JournalsView) → IsHeadedBy maps text options rest
     → (read : AreRead maps options rest done present count after) → IsJournalsFile maps text others → (others.options ≡ options) × (all_entries others.shards ≡ read.entries) × (after ≡ [])
 same_file maps text rest after options done present count others headed read file =
-    let parts = same_front 10 (header_text options) rest (header_text others.options) (entries_text (all_entries others.shards)) (header_lacks_feed maps options headed.fits) (header_lacks_feed maps others.options file.journals_are.options_fit)
+    let parts = same_front 10 (header_text options) rest (header_text others.options) (entries_text (all_entries others.shards)) (header_lacks_feed maps options headed.fits.fit) (header_lacks_feed maps others.options file.journals_are.options_fit)
     (sym (one_line (header_text options) rest) ∙ sym headed.text_is ∙ file.spelled ∙ one_line (header_text others.options) (entries_text (all_entries others.shards))) in
-    let same : others.options ≡ options = headed.only others.options (record { fits = file.journals_are.options_fit; spelled = parts.0 }) in
+    let same : others.options ≡ options = headed.only others.options (record { fits = record { fit = file.journals_are.options_fit; rows = file.rows }; spelled = parts.0 }) in
     let fit : AllByRecursion (IsFileEntry maps options) (all_entries others.shards) = rw same at file.fit in
     let falls : NeverFalls 0 (all_entries others.shards) = listed_falls 0 others.shards file.listed 0 (omega arith) in
     let one = one_reading maps options 0 read.entries (all_entries others.shards) after read.known falls fit read.stops (sym read.text_is ∙ parts.1) in
@@ -160,7 +161,7 @@ same_journals maps text journals others options entries file other a b c d =
 
 pub no_header_no_file : (maps : List MapDef) (text : List ℕ) → BeginsWithNoHeader maps text → IsNoFile maps text
 no_header_no_file maps text stops = λ journals file.
-    stops journals.options (header_text journals.options) (entries_text (all_entries journals.shards)) (record { fits = file.journals_are.options_fit; spelled = refl })
+    stops journals.options (header_text journals.options) (entries_text (all_entries journals.shards)) (record { fits = record { fit = file.journals_are.options_fit; rows = file.rows }; spelled = refl })
     (file.spelled ∙ one_line (header_text journals.options) (entries_text (all_entries journals.shards)))
 
 pub bad_after : (maps : List MapDef) (text rest after : List ℕ) (options : Options) (done : List (List Entry)) (present : List Entry) (count : ℕ) → IsHeadedBy maps text options rest

@@ -6,7 +6,7 @@ use Rattle.text_lines.specs.NoText.{IsNoText}
 use Rattle.ebpf_decode.specs.declared.map.MapDef.{MapDef}
 use Rattle.semantics.specs.declared.call.Entry.{Entry}
 use Rattle.semantics.specs.declared.options.Options.{Options}
-use Rattle.semantics.specs.ShardPlan.{AreOptions}
+use Rattle.semantics.specs.ShardPlan.{AreServedOptions, KeepsRows}
 use Rattle.semantics.specs.History.{shard_of_call}
 use Rattle.journals.specs.JournalsView.{JournalsView, AreJournals}
 use Rattle.journals.specs.declared.fault.FileFault.{FileFault}
@@ -30,6 +30,7 @@ AreListedFrom number (entries ∷ shards) = AllByRecursion (IsOfShard number) en
 pub record IsJournalsFile (maps : List MapDef) (bytes : List ℕ) (journals : JournalsView) : Type 0 where
   pub of_maps : journals.maps ≡ maps
   pub journals_are : AreJournals maps journals.options (length journals.shards)
+  pub rows : KeepsRows journals.options.journal
   pub fit : AllByRecursion (IsFileEntry maps journals.options) (all_entries journals.shards)
   pub listed : AreListedFrom 0 journals.shards
   pub spelled : bytes ≡ journals_text journals
@@ -74,7 +75,7 @@ last_shard least (entry ∷ entries) = last_shard (shard_of_call entry.call) ent
 
 -- the first line, without its line feed, is one of options that these maps can have
 pub record IsHeaderLine (maps : List MapDef) (options : Options) (line : List ℕ) : Type 0 where
-  pub fits : AreOptions maps options
+  pub fits : AreServedOptions maps options
   pub spelled : line ≡ header_text options
 
 -- the entries, shard by shard: the lists of the shards that are done, and the list of the next one
@@ -97,7 +98,7 @@ pub record AreRead (maps : List MapDef) (options : Options) (text : List ℕ) (d
 
 -- the options of the header, what comes after its line, and that no other options have this header
 pub record IsHeadedBy (maps : List MapDef) (text : List ℕ) (options : Options) (rest : List ℕ) : Type 0 where
-  pub fits : AreOptions maps options
+  pub fits : AreServedOptions maps options
   pub text_is : text ≡ ended (header_text options) ++ rest
   pub only : (other : Options) → IsHeaderLine maps other (header_text options) → other ≡ options
 
@@ -112,7 +113,7 @@ pub record IsBadAfter (maps : List MapDef) (text : List ℕ) (line : ℕ) : Type
   pub options : Options
   pub entries : List Entry
   pub rest : List ℕ
-  pub header : AreOptions maps options
+  pub header : AreServedOptions maps options
   pub fit : AllByRecursion (IsFileEntry maps options) entries
   pub never_falls : NeverFalls 0 entries
   pub line_is : line ≡ 2 + length entries

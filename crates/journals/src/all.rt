@@ -1,44 +1,72 @@
 //! The journals of all shards.
 
-ghost use Rattle.std.specs.Prelude.{◌≡◌, ◌<◌, ◌*◌, length};
-ghost use Rattle.semantics.specs.ShardPlan.{AreOptions};
+ghost use Rattle.std.specs.Prelude.{◌≡◌, ◌<◌, ◌*◌, true, length};
+ghost use Rattle.semantics.specs.ShardPlan.{AreOptions, KeepsRows};
+ghost use Rattle.journals.specs.KeptEntries.{written_entries, HaveRoom};
 ghost use Rattle.journals.specs.JournalsView.{AreImageMaps, AreJournals, entries_at};
 
-use crate::shard_journal::ShardJournal;
+use crate::entry_list::EntryList;
+use crate::shard_journal::{Kept, ShardJournal};
 use ebpf_decode::MapDef;
+use journal::{Journal, MOST_ROWS};
 use semantics::Options;
 use std::marker::Model;
 
+/// How the journals of all shards are kept.
+#[derive(Drop)]
+pub(crate) enum AllKept {
+    /// As the shards wrote them.
+    Written { journals: Vec<Journal> },
+    /// As lists, that may have entries of calls that no map serves.
+    Listed { lists: Vec<EntryList> },
+}
+
 /// The journals of all shards of an image's maps, by the shards' numbers: map after map. The maps are ones that an image may have, the
-/// options are ones that shards of these maps are opened with, and there is one journal for each shard.
+/// options are ones that shards of these maps are opened with, and there is one journal for each shard. Where the options are those of shards that keep
+/// no rows, the entries are known to proofs alone, and no call returns them.
 #[derive(Drop)]
 pub struct Journals {
     maps: Vec<MapDef>,
     options: Options,
-    shards: Vec<ShardJournal>,
+    kept: AllKept,
 }
 
 impl Model for Journals {
     ghost use Rattle.std.specs.Prelude.{length};
+    ghost use Rattle.journals.specs.KeptEntries.{all_kept, AreKeptFor};
     ghost use Rattle.journals.specs.JournalsView.{JournalsView, AreJournals};
 
     ghost Value = { JournalsView };
 
-    ghost view = { λ journals. record { maps = journals.maps.items; options = journals.options; shards = journals.shards.items } };
+    ghost view = { λ journals. record { maps = journals.maps.items; options = journals.options; shards = all_kept journals.kept } };
 
-    ghost invariant = { λ journals. AreJournals journals.maps.items journals.options (length journals.shards.items) };
+    ghost invariant = { λ journals. AreJournals journals.maps.items journals.options (length (all_kept journals.kept))
+        × AreKeptFor journals.options journals.kept };
 }
 
 impl Journals {
-    /// The journals of the shards of these maps, opened with these options.
-    pub fn of(maps: Vec<MapDef>, options: Options, shards: Vec<ShardJournal>) -> Self
-        requires { AreJournals maps.items options (length shards.items) }
-        ensures { result ≡ record { maps = maps.items; options = options; shards = shards.items } }
+    /// The journals of the shards of these maps, opened with these options, as the shards wrote them.
+    pub fn written(maps: Vec<MapDef>, options: Options, journals: Vec<Journal>) -> Self
+        requires are { AreJournals maps.items options (length journals.items) }
+        requires room { HaveRoom options.journal journals.items }
+        ensures { result ≡ record { maps = maps.items; options = options; shards = written_entries journals.items } }
     {
         Journals {
             maps,
             options,
-            shards,
+            kept: AllKept::Written { journals },
+        }
+    }
+
+    /// The journals of the shards of these maps, opened with these options, as lists of entries.
+    pub fn listed(maps: Vec<MapDef>, options: Options, lists: Vec<EntryList>) -> Self
+        requires { AreJournals maps.items options (length lists.items) }
+        ensures { result ≡ record { maps = maps.items; options = options; shards = lists.items } }
+    {
+        Journals {
+            maps,
+            options,
+            kept: AllKept::Listed { lists },
         }
     }
 
@@ -63,14 +91,44 @@ impl Journals {
         ensures count { result ≡ length self.now.shards }
         ensures one_each { result ≡ length self.now.maps * self.now.options.shards }
     {
-        self.shards.len()
+        match &self.kept {
+            AllKept::Written { journals } => journals.len(),
+            AllKept::Listed { lists } => lists.len(),
+        }
     }
 
-    /// The journal of the shard of this number.
-    pub fn journal(&self, number: usize) -> &ShardJournal
-        requires { number < length self.now.shards }
-        ensures { result.now ≡ entries_at self.now number }
+    /// Whether the entries can be read: whether the shards kept the rows of their journals.
+    pub fn keeps_rows(&self) -> bool
+        ensures rows { result ≡ true → KeepsRows self.now.options.journal }
+        ensures kept { KeepsRows self.now.options.journal → result ≡ true }
     {
-        &self.shards[number]
+        self.options.journal <= MOST_ROWS
+    }
+
+    /// How many entries the journal of the shard of this number has, whether they can be read or not.
+    pub fn len(&self, number: usize) -> usize
+        requires { number < length self.now.shards }
+        ensures { result ≡ length (entries_at self.now number) }
+    {
+        match &self.kept {
+            AllKept::Written { journals } => journals[number].len(),
+            AllKept::Listed { lists } => lists[number].len(),
+        }
+    }
+
+    /// The journal of the shard of this number, for reading.
+    pub fn journal(&self, number: usize) -> ShardJournal<'_>
+        requires rows { KeepsRows self.now.options.journal }
+        requires number { number < length self.now.shards }
+        ensures { result ≡ entries_at self.now number }
+    {
+        match &self.kept {
+            AllKept::Written { journals } => ShardJournal::of(Kept::Written {
+                journal: &journals[number],
+            }),
+            AllKept::Listed { lists } => ShardJournal::of(Kept::Listed {
+                entries: &lists[number],
+            }),
+        }
     }
 }

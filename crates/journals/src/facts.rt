@@ -1,6 +1,7 @@
 //! What types say of their values. The functions do nothing: each brings the fact that it is named after.
 
 ghost use Rattle.std.specs.Prelude.{length};
+ghost use Rattle.semantics.specs.ShardPlan.{KeepsRows};
 ghost use Rattle.journals.specs.JournalsView.{AreImageMaps, AreJournals};
 ghost use Rattle.journals.specs.FileJournals.{ReadBackWhereLegal};
 
@@ -23,8 +24,9 @@ pub(crate) fn journals_are(journals: &Journals)
     let _ = journals.count();
 }
 
-/// Where every journal is legal, the text of the journals is their file.
+/// Where every journal is legal, and its rows are kept, the text of the journals is their file.
 pub(crate) fn legal_journals_read_back(journals: &Journals)
+    requires { KeepsRows journals.now.options.journal }
     ensures { ReadBackWhereLegal journals.now }
 {
     journals_are(journals);

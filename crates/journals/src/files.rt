@@ -5,6 +5,7 @@ ghost use Rattle.std.specs.Io.KnownBytes.{append_known};
 ghost use Rattle.wire.specs.Device.{AppendsFront, IfKnown};
 ghost use Rattle.journals.specs.JournalsView.{JournalsView as Lists};
 ghost use Rattle.journals.specs.declared.fault.FileFault.TheVariants.{Device, Memory};
+ghost use Rattle.semantics.specs.ShardPlan.{KeepsRows};
 ghost use Rattle.journals.specs.JournalText.{journals_text};
 ghost use Rattle.journals.specs.JournalReading.{IsJournalsFile, ReadsBack, Refuses};
 ghost use Rattle.journals.specs.FileJournals.{ReadBackWhereLegal};
@@ -18,7 +19,7 @@ use ebpf_decode::Image;
 use std::alloc::Global;
 use wire::{ReadFault, Sink, Source, read_all, write_all};
 
-/// Writes the file of these journals: a header, and a line for each entry.
+/// Writes the file of these journals, whose rows are kept: a header, and a line for each entry.
 ///
 /// Where every journal is legal, as those of shards that ran are, what was written is a file that reads back as these journals.
 ///
@@ -29,7 +30,8 @@ pub fn write_journals<K: Sink>(
     sink: &mut K,
     journals: &Journals,
 ) -> Result<(), FileFault>
-    requires { K.failure_count sink.old < 2 ^ 64 - 1 }
+    requires failures { K.failure_count sink.old < 2 ^ 64 - 1 }
+    requires rows { KeepsRows journals.now.options.journal }
     ensures written { OnOk result (K.held sink.new ≡ append_known (K.held sink.old) (journals_text journals.now)) }
     ensures front { IfErr result (λ fault. fault ≡ Device → AppendsFront (K.held sink.old) (K.held sink.new) (journals_text journals.now)) }
     ensures nothing { IfErr result (λ fault. fault ≡ Memory → K.held sink.new ≡ K.held sink.old) }

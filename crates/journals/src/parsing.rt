@@ -18,7 +18,6 @@ use crate::entry_list::EntryList;
 use crate::fault::FileFault;
 use crate::printing::{put_header, put_line};
 use crate::reading::{entry_read, header_read};
-use crate::shard_journal::ShardJournal;
 use ebpf_decode::MapDef;
 use semantics::{Call, Entry, Options};
 use std::alloc::{AllocError, Global};
@@ -90,21 +89,21 @@ fn entry_of(
 /// Puts the present list behind those of the shards that are done, and begins an empty one.
 fn finish(
     alloc: Global,
-    done: &mut Vec<ShardJournal>,
+    done: &mut Vec<EntryList>,
     present: &mut EntryList,
 ) -> Result<(), AllocError>
     ensures done { OnOk result (done.new.items ≡ done.old.items ++ present.old ∷ []) }
     ensures present { OnOk result (present.new ≡ []) }
 {
     let entries = mem::replace(present, EntryList::new(alloc));
-    done.push(ShardJournal::listed(entries))?;
+    done.push(entries)?;
     Ok(())
 }
 
 /// Puts the present list behind those of the shards that are done, and empty ones behind it, until the next shard is the one of this number.
 fn finish_before(
     alloc: Global,
-    done: &mut Vec<ShardJournal>,
+    done: &mut Vec<EntryList>,
     present: &mut EntryList,
     number: usize,
 ) -> Result<(), AllocError>
@@ -125,7 +124,7 @@ fn lines_of<'a>(
     maps: &[MapDef],
     options: &Options,
     text: &'a str,
-) -> Result<(Vec<ShardJournal>, EntryList, usize, &'a str), AllocError>
+) -> Result<(Vec<EntryList>, EntryList, usize, &'a str), AllocError>
     requires { AreOptions maps.now options.now }
     ensures { IfOk result (λ read. AreRead maps.now options.now text.now read.0.items read.1 read.2 read.3.now) }
 {
@@ -182,7 +181,7 @@ fn journals_from(
     alloc: Global,
     maps: &[MapDef],
     options: Options,
-    mut done: Vec<ShardJournal>,
+    mut done: Vec<EntryList>,
     mut present: EntryList,
 ) -> Result<Journals, AllocError>
     requires maps { AreImageMaps maps.now }
@@ -196,7 +195,7 @@ fn journals_from(
     let count = maps.len() * options.shards as usize;
     finish_before(alloc, &mut done, &mut present, count)?;
     let maps = Vec::from_slice(alloc, maps)?;
-    Ok(Journals::of(maps, options, done))
+    Ok(Journals::listed(maps, options, done))
 }
 
 /// The journals of a text.

@@ -3,6 +3,7 @@
 ghost use Rattle.std.specs.Prelude.{◌≡◌, ◌++◌, ◌∷◌, ◌≤◌, [], length, OnOk, IfOk};
 ghost use Rattle.std.specs.Fmt.{decimal, signed_decimal};
 ghost use Rattle.hex.specs.Hex.{encode_lower};
+ghost use Rattle.semantics.specs.ShardPlan.{KeepsRows};
 ghost use Rattle.journals.specs.JournalText.{who_text, reply_text, told_text, line_of, header_text, entries_text, journals_text};
 
 use crate::all::Journals;
@@ -194,7 +195,7 @@ pub(crate) fn put_header(out: &mut Vec<u8>, options: &Options) -> Result<(), All
 }
 
 /// Writes a line for each entry from a place on.
-fn put_entries(out: &mut Vec<u8>, journal: &ShardJournal) -> Result<(), AllocError>
+fn put_entries(out: &mut Vec<u8>, journal: &ShardJournal<'_>) -> Result<(), AllocError>
     ensures { OnOk result (out.new.items ≡ out.old.items ++ entries_text journal.now) }
 {
     'entries: for place in 0..journal.len() {
@@ -206,13 +207,14 @@ fn put_entries(out: &mut Vec<u8>, journal: &ShardJournal) -> Result<(), AllocErr
 
 /// The file of journals.
 pub(crate) fn text_of_journals(alloc: Global, journals: &Journals) -> Result<Vec<u8>, AllocError>
+    requires { KeepsRows journals.now.options.journal }
     ensures { IfOk result (λ text. text.items ≡ journals_text journals.now) }
 {
     let mut out = Vec::new(alloc);
     put_header(&mut out, &journals.options())?;
     put_word(&mut out, "\n")?;
     'shards: for number in 0..journals.count() {
-        put_entries(&mut out, journals.journal(number))?;
+        put_entries(&mut out, &journals.journal(number))?;
     }
     Ok(out)
 }

@@ -1,55 +1,48 @@
-//! The journal of one shard.
+//! The journal of one shard, as it is read.
 
 ghost use Rattle.std.specs.Prelude.{◌≡◌, ◌<◌, Some, length, slice_get};
+ghost use Rattle.journals.specs.KeptEntries.{kept_entries, IsReadable};
 
 use crate::entry_list::EntryList;
 use journal::Journal;
 use semantics::Entry;
 use std::marker::Model;
 
-/// How a journal's entries are kept.
+/// Where a journal's entries are.
 #[derive(Drop)]
-pub enum Kept {
+pub(crate) enum Kept<'a> {
     /// As the shard wrote them.
-    Written { journal: Journal },
-    /// As a list, that may have entries of calls that no map serves.
-    Listed { entries: EntryList },
+    Written { journal: &'a Journal },
+    /// In a list, that may have entries of calls that no map serves.
+    Listed { entries: &'a EntryList },
 }
 
-/// The journal of one shard: as the shard wrote it, or a list of entries from elsewhere. Contracts see the list of entries, the oldest
-/// first.
+/// The journal of one shard, whose entries can be read: as the shard wrote it, or a list of entries from elsewhere. Contracts see the list of entries,
+/// the oldest first.
 #[derive(Drop)]
-pub struct ShardJournal {
-    kept: Kept,
+pub struct ShardJournal<'a> {
+    kept: Kept<'a>,
 }
 
-impl Model for ShardJournal {
+impl<'a> Model for ShardJournal<'a> {
     ghost use Rattle.std.specs.Prelude.{List};
     ghost use Rattle.semantics.specs.declared.call.Entry.{Entry};
-    ghost use Rattle.journals.specs.KeptEntries.{kept_entries};
+    ghost use Rattle.journals.specs.KeptEntries.{kept_entries, IsReadable};
 
     ghost Value = { List Entry };
 
     ghost view = { λ journal. kept_entries journal.kept };
+
+    ghost invariant = { λ journal. IsReadable journal.kept };
 }
 
-impl ShardJournal {
-    /// A journal as its shard wrote it.
-    pub fn written(journal: Journal) -> Self
-        ensures { result ≡ journal.entries }
+impl<'a> ShardJournal<'a> {
+    /// The journal that is kept so.
+    pub(crate) fn of(kept: Kept<'a>) -> Self
+        requires { IsReadable kept }
+        ensures { result ≡ kept_entries kept.entry }
     {
-        ShardJournal {
-            kept: Kept::Written { journal },
-        }
-    }
-
-    /// A journal of these entries.
-    pub fn listed(entries: EntryList) -> Self
-        ensures { result ≡ entries }
-    {
-        ShardJournal {
-            kept: Kept::Listed { entries },
-        }
+        ShardJournal { kept }
     }
 
     /// How many entries there are.

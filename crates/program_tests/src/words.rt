@@ -38,11 +38,14 @@ fn shown(alloc: Global, settings: Settings<'_>) -> Result<String, AllocError> {
             exact,
             summary,
             skip_long,
+            no_journals,
+            updates,
         } => {
             let mut text = replay_shown(alloc, files, options, ring)?;
             text.push_str(if exact { " exact" } else { "" })?;
             text.push_str(if summary { " summary" } else { "" })?;
             text.push_str(if skip_long { " skip-long" } else { "" })?;
+            text.push_str(if no_journals { " no-journals" } else { "" })?;
             text.push_str(if files.is_steering {
                 ""
             } else {
@@ -54,6 +57,7 @@ fn shown(alloc: Global, settings: Settings<'_>) -> Result<String, AllocError> {
                 ""
             })?;
             text.push_str(files.report.unwrap_or(""))?;
+            put_updates(alloc, &mut text, &updates)?;
             Ok(text)
         }
     }
@@ -117,7 +121,7 @@ fn replay_shown(
 }
 
 #[rattlefmt::skip]
-const READ: [(&str, &str); 41] = [
+const READ: [(&str, &str); 43] = [
     ("xlb check a",                             "check a false"),
     ("xlb check --explain a",                   "check a true"),
     ("xlb check a --explain",                   "check a true"),
@@ -157,7 +161,9 @@ const READ: [(&str, &str); 41] = [
     ("xlb replay --exact a b --script s",       "replay a b - s 1 1 65536 251 - exact"),
     ("xlb replay a b --summary",                "replay a b - - 1 1 65536 251 - summary"),
     ("xlb replay a b --skip-long",              "replay a b - - 1 1 65536 251 - skip-long"),
+    ("xlb replay a b --no-journals --workers 4", "replay a b - - 4 1 65536 251 - no-journals"),
     ("xlb replay a b --report r.json",          "replay a b - - 1 1 65536 251 - report r.json"),
+    ("xlb replay a b --update 0 07 02 --image i --update +1 0A ff", "replay a b i - 1 1 65536 251 - no-steering 0=07:02 1=0a:ff"),
     ("xlb replay --report r a --exact --skip-long b --journals j", "replay a b - - 1 1 65536 251 j exact skip-long report r"),
 ];
 
@@ -184,13 +190,19 @@ fn reads_commands(rt: HostRuntime) -> Result<(), Fail> {
 
 /// A command line, the status, and what its text begins with.
 #[rattlefmt::skip]
-const REFUSED: [(&str, u8, &str); 54] = [
+const REFUSED: [(&str, u8, &str); 60] = [
     ("xlb",                                     2, "error: 'xlb' requires a subcommand but one was not provided"),
     ("xlb play a b",                            2, "error: unrecognized subcommand 'play'"),
     ("xlb replay a",                            2, "error: the following required arguments were not provided:\n  <SENT>"),
     ("xlb replay a b --image i --script s",     2, "error: the options --image and --script cannot be used together"),
     ("xlb replay a b --image i --program p",    2, "error: the options --image and --program cannot be used together"),
     ("xlb replay a b --program p --image i --script s", 2, "error: the options --image and --script cannot be used together"),
+    ("xlb replay a b --no-journals --journals j", 2, "error: the options --journals and --no-journals cannot be used together"),
+    ("xlb replay a b --update 0 07 02",        2, "error: the option --update cannot be used without --image"),
+    ("xlb replay a b --update x 0 0 --program p --script s", 2, "error: the option --update cannot be used without --image"),
+    ("xlb replay a b --update 0 07 02 --script s", 2, "error: the option --update cannot be used without --image"),
+    ("xlb replay a b --image i --update 0 07 02 --update 0 7 02", 2, "error: update 2: its key has not two hexadecimal digits for each of at most 32 bytes"),
+    ("xlb replay a b --image i --update 0 07",  2, "error: 3 values required for '--update <MAP> <KEY> <VALUE>' but 2 were provided"),
     ("xlb replay a b --exact --exact",          2, "error: the argument '--exact' cannot be used multiple times"),
     ("xlb replay a b --skip-long=yes",          2, "error: unexpected value 'yes' for '--skip-long' found; no more were expected"),
     ("xlb replay a b --report",                 2, "error: a value is required for '--report <FILE>' but none was supplied"),

@@ -49,9 +49,9 @@ use Rattle.replay.specs.Accounted.{IsWorkOf}
 
 pub outcome_is : (outcome : Outcome) (counts : Counts) (sent : Vec Sent Global) (ends : Vec RecordEnd Global) (journals : JournalsView) → outcome.counts ≡ counts
     → outcome.sent ≡ sent → outcome.ends ≡ ends → outcome.journals ≡ journals
-    → outcome ≡ record { counts = counts; refused = outcome.refused; sent = sent; ends = ends; journals = journals }
+    → outcome ≡ record { counts = counts; updates = outcome.updates; refused = outcome.refused; sent = sent; ends = ends; journals = journals }
 outcome_is outcome counts sent ends journals of_counts of_sent of_ends of_journals =
-    λ i. record { counts = of_counts i; refused = outcome.refused; sent = of_sent i; ends = of_ends i; journals = of_journals i }
+    λ i. record { counts = of_counts i; updates = outcome.updates; refused = outcome.refused; sent = of_sent i; ends = of_ends i; journals = of_journals i }
 
 -- ---- histories that begin with others
 

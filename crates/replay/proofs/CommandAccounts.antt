@@ -8,16 +8,15 @@ use Rattle.semantics.specs.declared.call.Caller.TheVariants.{Controller}
 use Rattle.semantics.specs.declared.options.Options.{Options}
 use Rattle.semantics.specs.declared.plan.ShardPlan.{ShardPlan}
 use Rattle.semantics.specs.History.{IsJournalFull}
-use Rattle.shards.specs.CallerView.{CallerView}
 use Rattle.shards.specs.declared.deeds.Deed.{Deed}
 use Rattle.shards.specs.Passes.{PassView, own_at, seen_at}
+use Rattle.map_updates.specs.declared.update.MapUpdate.{MapUpdate}
 use Rattle.control.specs.declared.command.Command.{Command}
 use Rattle.control.specs.MapUpdates.{UpdateBytes}
 use Rattle.control.specs.Controlling.{ControllerState}
 use Rattle.replay.specs.declared.outcome.Applied.{Applied}
 use Rattle.replay.specs.SharedUpdates.{UpdatesView, shard_of, update_call}
-use Rattle.replay.specs.Actors.{IsUnused}
-use Rattle.replay.specs.Commands.{CommandDone, IsDone, AreDone, IsNotedOf, AreNotedOf, made_in, with_updates, command_deeds, commands_deeds, IsFullFor, IsMoved, HasEffect, IsAccount, IsCommander, ServesScript, opened_controller}
+use Rattle.replay.specs.Commands.{CommandDone, IsDone, AreDone, IsNotedOf, AreNotedOf, all_set, made_in, with_updates, made_deeds, command_deeds, commands_deeds, IsFullFor, IsMoved, HasEffect, HasSet, IsAccount, IsCommander, ServesScript, opened_controller}
 use Rattle.replay.proofs.Moving.{with_updates_more}
 use Rattle.replay.proofs.shared.FullStays.{full_stays}
 
@@ -67,16 +66,17 @@ last_full plan before after one moved (Some update) full =
     subst (λ options. IsFullFor plan after.maps options after.pass update) (sym moved.options)
     (subst (λ maps. IsFullFor plan maps before.options after.pass update) (sym moved.maps) full)
 
-own_more : (maps : List MapDef) (options : Options) (before after : UpdatesView) (done : List CommandDone) (one : CommandDone) →
+own_more : (maps : List MapDef) (options : Options) (before after : UpdatesView) (updates : List MapUpdate) (done : List CommandDone) (one : CommandDone) →
     before.maps ≡ maps → before.options ≡ options → IsMoved before after one.made →
-    ((number : ℕ) → own_at before.pass number ≡ with_updates maps options number (made_in done) []) → (number : ℕ) →
-    own_at after.pass number ≡ with_updates maps options number (made_in (done ++ one ∷ [])) []
-own_more maps options before after done one same_maps same_options moved own number =
+    ((number : ℕ) → own_at before.pass number ≡ with_updates maps options number (all_set updates ++ made_in done) []) → (number : ℕ) →
+    own_at after.pass number ≡ with_updates maps options number (all_set updates ++ made_in (done ++ one ∷ [])) []
+own_more maps options before after updates done one same_maps same_options moved own number =
     moved.own number ∙ ap (λ m. with_updates m before.options number one.made (own_at before.pass number)) same_maps
     ∙ ap (λ o. with_updates maps o number one.made (own_at before.pass number)) same_options
     ∙ ap (λ history. with_updates maps options number one.made history) (own number)
-    ∙ sym (with_updates_more maps options number (made_in done) one.made [])
-    ∙ ap (λ made. with_updates maps options number made []) (sym (made_more done one))
+    ∙ sym (with_updates_more maps options number (all_set updates ++ made_in done) one.made [])
+    ∙ ap (λ made. with_updates maps options number made [])
+    (append_assoc (all_set updates) (made_in done) one.made ∙ ap (λ rest. all_set updates ++ rest) (sym (made_more done one)))
 
 commands_more : (maps : List MapDef) (options : Options) (done : List CommandDone) (one : CommandDone) →
     commands_deeds maps options (done ++ one ∷ []) ≡ commands_deeds maps options done ++ command_deeds maps options one
@@ -85,72 +85,72 @@ commands_more maps options (first ∷ done) one =
     ap (λ rest. command_deeds maps options first ++ rest) (commands_more maps options done one)
     ∙ sym (append_assoc (command_deeds maps options first) (commands_deeds maps options done) (command_deeds maps options one))
 
-account_did : (maps : List MapDef) (options : Options) (before after : List Deed) (done : List CommandDone) (one : CommandDone) →
-    before ≡ reverse (commands_deeds maps options done) → after ≡ reverse (command_deeds maps options one) ++ before →
-    after ≡ reverse (commands_deeds maps options (done ++ one ∷ []))
-account_did maps options before after done one were did =
+account_did : (maps : List MapDef) (options : Options) (before after first : List Deed) (done : List CommandDone) (one : CommandDone) →
+    before ≡ reverse (first ++ commands_deeds maps options done) → after ≡ reverse (command_deeds maps options one) ++ before →
+    after ≡ reverse (first ++ commands_deeds maps options (done ++ one ∷ []))
+account_did maps options before after first done one were did =
     did ∙ ap (λ deeds. reverse (command_deeds maps options one) ++ deeds) were
-    ∙ sym (reverse-append (commands_deeds maps options done) (command_deeds maps options one))
-    ∙ ap reverse (sym (commands_more maps options done one))
+    ∙ sym (reverse-append (first ++ commands_deeds maps options done) (command_deeds maps options one))
+    ∙ ap reverse (append_assoc first (commands_deeds maps options done) (command_deeds maps options one)
+    ∙ ap (λ rest. first ++ rest) (sym (commands_more maps options done one)))
 
-pub account_more : (plan : ℕ → ShardPlan) (script : List Command) (size : ℕ) (noted : List Applied) (state state' : ControllerState)
+pub account_more : (plan : ℕ → ShardPlan) (updates : List MapUpdate) (script : List Command) (size : ℕ) (noted : List Applied) (state state' : ControllerState)
     (before after : UpdatesView) (command : Command) (last : Applied) →
-    IsAccount plan before.maps before.options script size noted state before.pass → slice_get script last.command ≡ Some command →
+    IsAccount plan before.maps before.options updates script size noted state before.pass → slice_get script last.command ≡ Some command →
     HasEffect plan state command.action last.fault state' before after →
-    IsAccount plan after.maps after.options script size (noted ++ last ∷ []) state' after.pass
-account_more plan script size noted state state' before after command last account known effect =
+    IsAccount plan after.maps after.options updates script size (noted ++ last ∷ []) state' after.pass
+account_more plan updates script size noted state state' before after command last account known effect =
     let one : CommandDone = effect.one in
     record {
       done = account.done ++ one ∷ [];
       are_noted = noted_more script noted account.done one last account.are_noted
           (record { command = command; known = known; action = effect.action_is; fault = effect.fault_is });
       are_done = done_more account.done one (opened_controller size) state state' account.are_done effect.done;
-      own = own_more after.maps after.options before after account.done one (sym effect.moved.maps) (sym effect.moved.options) effect.moved
-          (λ number. account.own number ∙ ap (λ m. with_updates m before.options number (made_in account.done) []) (sym effect.moved.maps)
-          ∙ ap (λ o. with_updates after.maps o number (made_in account.done) []) (sym effect.moved.options));
+      own = own_more after.maps after.options before after updates account.done one (sym effect.moved.maps) (sym effect.moved.options) effect.moved
+          (λ number. account.own number ∙ ap (λ m. with_updates m before.options number (all_set updates ++ made_in account.done) []) (sym effect.moved.maps)
+          ∙ ap (λ o. with_updates after.maps o number (all_set updates ++ made_in account.done) []) (sym effect.moved.options));
       full = all_full_later plan before after one account.done effect.moved account.full (last_full plan before after one effect.moved one.stopped effect.full);
-      did = account_did before.maps before.options before.pass.deeds after.pass.deeds account.done one account.did effect.did
-          ∙ ap (λ m. reverse (commands_deeds m before.options (account.done ++ one ∷ []))) (sym effect.moved.maps)
-          ∙ ap (λ o. reverse (commands_deeds after.maps o (account.done ++ one ∷ []))) (sym effect.moved.options);
+      did = account_did before.maps before.options before.pass.deeds after.pass.deeds (made_deeds before.maps before.options (all_set updates)) account.done one
+          account.did effect.did
+          ∙ ap (λ m. reverse (made_deeds m before.options (all_set updates) ++ commands_deeds m before.options (account.done ++ one ∷ []))) (sym effect.moved.maps)
+          ∙ ap (λ o. reverse (made_deeds after.maps o (all_set updates) ++ commands_deeds after.maps o (account.done ++ one ∷ []))) (sym effect.moved.options);
     }
 
-account_of_nothing : (plan : ℕ → ShardPlan) (maps : List MapDef) (options : Options) (script : List Command) (size : ℕ) (pass : PassView) →
-    IsUnused pass → IsAccount plan maps options script size [] (opened_controller size) pass
-account_of_nothing plan maps options script size pass unused = record {
+pub account_of_nothing : (plan : ℕ → ShardPlan) (maps : List MapDef) (options : Options) (updates : List MapUpdate) (script : List Command) (size : ℕ)
+    (pass : PassView) → HasSet maps options updates pass → IsAccount plan maps options updates script size [] (opened_controller size) pass
+account_of_nothing plan maps options updates script size pass set = record {
   done = [];
   are_noted = tt;
   are_done = refl;
-  own = λ number. ap (λ (view : CallerView). view.own) (unused.0 number);
+  own = λ number. set.own number ∙ ap (λ made. with_updates maps options number made []) (sym (append-nil (all_set updates)));
   full = tt;
-  did = unused.1;
+  did = set.did ∙ ap reverse (sym (append-nil (made_deeds maps options (all_set updates))));
 }
 
 -- ---- the actor
 
 -- before its first command
-pub commander_of_nothing : (plan : ℕ → ShardPlan) (script : List Command) (noted : List Applied) (size : ℕ) (state : ControllerState) (maps : List MapDef)
-    (options : Options) (pass : PassView) (port : UpdatesView) → IsUnused pass → pass.who ≡ Controller → ServesScript maps size script → noted ≡ [] →
-    state ≡ opened_controller size → port ≡ record { maps = maps; options = options; pass = pass } → IsCommander plan script noted state port
-commander_of_nothing plan script noted size state maps options pass port unused who serves none opened is =
-    let start : UpdatesView = record { maps = maps; options = options; pass = pass } in
-    subst (λ (one : UpdatesView). IsCommander plan script noted state one) (sym is)
-    (subst (λ (one : ControllerState). IsCommander plan script noted one start) (sym opened)
-    (subst (λ (all : List Applied). IsCommander plan script all (opened_controller size) start) (sym none) (record {
-      account = account_of_nothing plan maps options script size pass unused;
+pub commander_of_nothing : (plan : ℕ → ShardPlan) (updates : List MapUpdate) (script : List Command) (noted : List Applied) (size : ℕ)
+    (state : ControllerState) (port : UpdatesView) → HasSet port.maps port.options updates port.pass → port.pass.who ≡ Controller →
+    ServesScript port.maps size script → noted ≡ [] → state ≡ opened_controller size → IsCommander plan updates script noted state port
+commander_of_nothing plan updates script noted size state port set who serves none opened =
+    subst (λ (one : ControllerState). IsCommander plan updates script noted one port) (sym opened)
+    (subst (λ (all : List Applied). IsCommander plan updates script all (opened_controller size) port) (sym none) (record {
+      account = account_of_nothing plan port.maps port.options updates script size port.pass set;
       serves = serves;
       who = who;
-    })))
+    }))
 
-pub commander_more : (plan : ℕ → ShardPlan) (script : List Command) (noted noted' : List Applied) (state state' : ControllerState)
-    (before after : UpdatesView) (command : Command) (last : Applied) → IsCommander plan script noted state before → noted' ≡ noted ++ last ∷ [] →
+pub commander_more : (plan : ℕ → ShardPlan) (updates : List MapUpdate) (script : List Command) (noted noted' : List Applied) (state state' : ControllerState)
+    (before after : UpdatesView) (command : Command) (last : Applied) → IsCommander plan updates script noted state before → noted' ≡ noted ++ last ∷ [] →
     slice_get script last.command ≡ Some command → HasEffect plan state command.action last.fault state' before after → state'.size ≡ state.size →
-    IsCommander plan script noted' state' after
-commander_more plan script noted noted' state state' before after command last was is known effect size =
-    let account : IsAccount plan after.maps after.options script state.size (noted ++ last ∷ []) state' after.pass =
-    account_more plan script state.size noted state state' before after command last was.account known effect in
+    IsCommander plan updates script noted' state' after
+commander_more plan updates script noted noted' state state' before after command last was is known effect size =
+    let account : IsAccount plan after.maps after.options updates script state.size (noted ++ last ∷ []) state' after.pass =
+    account_more plan updates script state.size noted state state' before after command last was.account known effect in
     record {
-      account = subst (λ n. IsAccount plan after.maps after.options script n noted' state' after.pass) (sym size)
-          (subst (λ all. IsAccount plan after.maps after.options script state.size all state' after.pass) (sym is) account);
+      account = subst (λ n. IsAccount plan after.maps after.options updates script n noted' state' after.pass) (sym size)
+          (subst (λ all. IsAccount plan after.maps after.options updates script state.size all state' after.pass) (sym is) account);
       serves = subst (λ maps. ServesScript maps state'.size script) (sym effect.moved.maps)
           (subst (λ n. ServesScript before.maps n script) (sym size) was.serves);
       who = effect.moved.who;

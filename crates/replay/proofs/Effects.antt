@@ -150,7 +150,7 @@ abbrev pub RefusesUncounted : {P : Type 0} → (ℕ → ShardPlan) → (P → Up
 RefusesUncounted plan within who count before update after =
     IsUncounted (IsTurnedAway plan (within before) update (within after)) (who before) (who after) (count before) (count after)
 
-counted_within : {P : Type 0} (plan : ℕ → ShardPlan) (within : P → UpdatesView) (who : P → Caller) (count : P → ℕ) →
+pub counted_within : {P : Type 0} (plan : ℕ → ShardPlan) (within : P → UpdatesView) (who : P → Caller) (count : P → ℕ) →
     HasWithin plan within (GivesCounted plan within who count) (RefusesUncounted plan within who count)
 counted_within plan within who count = record {
   given = λ before after update answer given. given.given_within;

@@ -10,7 +10,9 @@ pub mod EndLemmas
 pub mod TakingOut
 pub mod TakeLemmas
 pub mod Moving
+pub mod SetLemmas
 pub mod Effects
+pub mod PortUpdates
 pub mod CommandAccounts
 pub mod RoundLemmas
 pub mod Asking
@@ -18,6 +20,7 @@ pub mod JobLemmas
 pub mod Accounts
 pub mod PartLemmas
 pub mod TurnLemmas
+pub mod TurnBeginnings
 pub mod TurnUpdates
 pub mod TurnDeeds
 pub mod TurnRuns

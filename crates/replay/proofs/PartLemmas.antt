@@ -33,6 +33,7 @@ use Rattle.replay.specs.ActorJobs.{command_jobs}
 use Rattle.replay.specs.Rounds.{AreReclaimed, AreRoundsDone, IsReclaimedBy}
 use Rattle.replay.specs.Actors.{numbers_from, commands_from}
 use Rattle.maglev.specs.RingSize.{IsRingSize}
+use Rattle.map_updates.specs.declared.update.MapUpdate.{MapUpdate}
 use Rattle.semantics.proofs.shared.HoldingLemmas.{each_weaker}
 use Rattle.semantics.proofs.shared.PlanLemmas.{some_shards, below_count}
 use Rattle.replay.specs.Parts.{HasCommanded, HasReclaimed, IsScriptRun, IsFullInJournal, IsScriptAccounted, AreRoundsAccounted, numbers_of, refused_of}
@@ -129,25 +130,26 @@ numbers_next before after one first were is noted =
 
 -- ---- the script
 
-pub script_run : (plan : ℕ → ShardPlan) (maps : List MapDef) (options : Options) (script : List Command) (size : ℕ) (start : CommanderView)
-    (noted : List Applied) (pass : PassView) (first count : ℕ) → start.script ≡ script → start.port.maps ≡ maps → start.port.options ≡ options
+pub script_run : (plan : ℕ → ShardPlan) (maps : List MapDef) (options : Options) (updates : List MapUpdate) (script : List Command) (size : ℕ)
+    (start : CommanderView) (noted : List Applied) (pass : PassView) (first count : ℕ) → start.updates ≡ updates → start.script ≡ script → start.port.maps ≡ maps → start.port.options ≡ options
     → start.controller.size ≡ size → numbers_of start.noted ≡ numbers_from 0 first → first + count ≡ length script
-    → HasCommanded plan start (commands_from first count ++ End ∷ []) noted pass → IsScriptRun plan maps options script size noted pass
-script_run plan maps options script size start noted pass first count is_script is_maps is_options is_size were all has =
+    → HasCommanded plan start (commands_from first count ++ End ∷ []) noted pass → IsScriptRun plan maps options updates script size noted pass
+script_run plan maps options updates script size start noted pass first count is_updates is_script is_maps is_options is_size were all has =
     let later = has.taken.later in
     let rest : numbers_of later ≡ numbers_from first count =
     sym (numbers_noted later) ∙ ap job_numbers (sym has.taken.each_once) ∙ numbers_handed (numbers_from first count) in
     let here : first ≡ 0 + first = omega arith in
     let state = has.account.state in
-    let one = subst (λ m. IsAccount plan m start.port.options start.script start.controller.size noted state pass) is_maps has.account.account in
-    let two = subst (λ o. IsAccount plan maps o start.script start.controller.size noted state pass) is_options one in
-    let three = subst (λ s. IsAccount plan maps options s start.controller.size noted state pass) is_script two in
+    let one = subst (λ m. IsAccount plan m start.port.options start.updates start.script start.controller.size noted state pass) is_maps has.account.account in
+    let two = subst (λ o. IsAccount plan maps o start.updates start.script start.controller.size noted state pass) is_options one in
+    let set = subst (λ u. IsAccount plan maps options u start.script start.controller.size noted state pass) is_updates two in
+    let three = subst (λ s. IsAccount plan maps options updates s start.controller.size noted state pass) is_script set in
     record {
       each_once = ap numbers_of has.taken.noted ∙ numbers_both start.noted later ∙ ap (λ (l : List ℕ). l ++ numbers_of later) were
           ∙ ap (λ (l : List ℕ). numbers_from 0 first ++ l) (rest ∙ ap (λ (n : ℕ). numbers_from n count) here) ∙ numbers_more 0 first count
           ∙ ap (λ (n : ℕ). numbers_from 0 n) all;
       state = state;
-      account = subst (λ n. IsAccount plan maps options script n noted state pass) is_size three;
+      account = subst (λ n. IsAccount plan maps options updates script n noted state pass) is_size three;
       who = has.who;
     }
 
@@ -173,11 +175,11 @@ full_stands plan maps options count journals pass plans are settled (Some update
           full.full;
     }
 
-pub script_stands : (plan : ℕ → ShardPlan) (maps : List MapDef) (options : Options) (count : ℕ) (script : List Command) (size : ℕ) (noted : List Applied)
-    (pass : PassView) (journals : JournalsView) (order : List Deed) (refused : List Applied) → ArePlans maps options count plan → AreOptions maps options →
-    IsRingSize size → ServesScript maps size script → IsScriptRun plan maps options script size noted pass → AreSettled count journals pass →
-    IsOwnIn order pass → refused ≡ refused_of noted → IsScriptAccounted plan maps options count script journals order refused
-script_stands plan maps options count script size noted pass journals order refused plans are served serves run settled owned refused_are = record {
+pub script_stands : (plan : ℕ → ShardPlan) (maps : List MapDef) (options : Options) (count : ℕ) (updates : List MapUpdate) (script : List Command)
+    (size : ℕ) (noted : List Applied) (pass : PassView) (journals : JournalsView) (order : List Deed) (refused : List Applied) → ArePlans maps options count plan → AreOptions maps options →
+    IsRingSize size → ServesScript maps size script → IsScriptRun plan maps options updates script size noted pass → AreSettled count journals pass →
+    IsOwnIn order pass → refused ≡ refused_of noted → IsScriptAccounted plan maps options count updates script journals order refused
+script_stands plan maps options count updates script size noted pass journals order refused plans are served serves run settled owned refused_are = record {
   size = size;
   size_is_served = served;
   serves = serves;

@@ -1,5 +1,5 @@
 -- The account of a replay on one thread.
-use Rattle.std.proofs.Common.{◌≡◌, ℕ, zero, suc, ◌/◌, ◌<◌, List, [], ◌∷◌, length, replicate, reverse, get_or, refl, sym, ap, ◌∙◌, subst, arith}
+use Rattle.std.proofs.Common.{◌≡◌, ℕ, zero, suc, false, ◌/◌, ◌<◌, List, [], ◌∷◌, length, replicate, reverse, get_or, refl, sym, ap, ◌∙◌, subst, arith}
 use Rattle.std.specs.Prelude.{Option, Some, None, slice_get, option_map}
 use Rattle.std.proofs.lemmas.List.{length-map, length-replicate, reverse-reverse}
 use Rattle.wire.specs.declared.records.Sent.{Sent}
@@ -8,7 +8,7 @@ use Rattle.semantics.specs.declared.call.Caller.TheVariants.{Worker, Controller,
 use Rattle.semantics.specs.declared.call.Entry.{Entry}
 use Rattle.semantics.specs.declared.options.Options.{Options}
 use Rattle.semantics.specs.declared.plan.ShardPlan.{ShardPlan}
-use Rattle.semantics.specs.CallerLaws.{own_entries}
+use Rattle.semantics.specs.CallerLaws.{is_caller, own_entries}
 use Rattle.semantics.specs.History.{IsLegalJournal}
 use Rattle.semantics.specs.Program.{Program}
 use Rattle.semantics.specs.Reclamation.{is_inside}
@@ -24,24 +24,28 @@ use Rattle.shards.specs.Passes.{PassView, view_at, seen_at, AreSettled}
 use Rattle.shard_port.specs.PassSessions.{WritesOwnSessions, WritesRefusedOwnSessions}
 use Rattle.shard_port.proofs.shared.ReadyLemmas.{plan_number}
 use Rattle.control.specs.declared.command.Command.{Command}
+use Rattle.map_updates.specs.declared.update.MapUpdate.{MapUpdate}
 use Rattle.replay.specs.declared.outcome.Outcome.{Outcome}
 use Rattle.replay.specs.declared.runner.Ran.{Ran}
 use Rattle.replay.specs.Accounts.{runs_at, sent_frames}
 use Rattle.replay.specs.Accounted.{IsWorkOf, IsAccounted}
 use Rattle.replay.specs.Actors.{IsUnused, numbers_from}
-use Rattle.replay.specs.Commands.{opened_controller}
+use Rattle.replay.specs.Commands.{all_set, IsMoved}
 use Rattle.replay.specs.Parts.{IsScriptRun, rounds_of}
 use Rattle.replay.specs.RunJobs.{records_of}
 use Rattle.replay.specs.RunsInOrder.{IsRunAt, IsChainOfRuns}
 use Rattle.replay.specs.RunsOverShards.{IsRunOf, IsRunIn}
 use Rattle.replay.specs.Shares.{frames_of, share}
-use Rattle.replay.specs.ExactReplays.{IsInTurn, starts_in, first_state}
+use Rattle.replay.specs.ExactReplays.{IsInTurn, starts_in, first_maps, first_state}
+use Rattle.replay.specs.InTurn.{TurnMaps}
 use Rattle.replay.specs.TurnsAccounted.{TurnsAreAccounted}
 use Rattle.replay.proofs.Accounts.{IsOwnIn, chain_stands}
-use Rattle.replay.proofs.CommandAccounts.{commander_of_nothing}
+use Rattle.replay.proofs.CommandAccounts.{account_of_nothing}
 use Rattle.replay.proofs.PartLemmas.{script_stands, rounds_stand}
 use Rattle.replay.proofs.RoundLemmas.{no_round}
-use Rattle.replay.proofs.TurnDeeds.{IsPassOf}
+use Rattle.replay.proofs.SetLemmas.{moved_by_set, has_set}
+use Rattle.replay.proofs.TurnCommands.{by_pass, AreSetByPass, set_steps}
+use Rattle.replay.proofs.TurnDeeds.{IsPassOf, Stands, others_stay}
 use Rattle.replay.proofs.TurnSimulation.{IsSimulated, all_turned}
 
 -- ---- shards that were opened
@@ -88,19 +92,19 @@ unused_mine count who = record {
 module _ (program : Program) (script : List Command) (options : Options) (records : List Sent) (outcome : Outcome) (are : AreOptions program.maps options)
     (turns : IsInTurn program script options records outcome) (writes : WritesOwnSessions) (writes_refused : WritesRefusedOwnSessions) where
   abbrev count : ℕ
-  count = length turns.opened
+  count = length turns.first.opened
 
   abbrev plan : ℕ → ShardPlan
-  plan number = (shard_at turns.opened number).plan
+  plan number = (shard_at turns.first.opened number).plan
 
   opened_at : (number : ℕ) → number < count →
-      (plan_at program.maps options number ≡ Some (plan number)) × (shard_at turns.opened number ≡ opened_shard (plan number))
+      (plan_at program.maps options number ≡ Some (plan number)) × (shard_at turns.first.opened number ≡ opened_shard (plan number))
   opened_at number within =
-      one_opened (plan_at program.maps options number) (shard_at turns.opened number)
-      (sym (there_at turns.opened number _ within) ∙ turns.opened_are.each number within)
+      one_opened (plan_at program.maps options number) (shard_at turns.first.opened number)
+      (sym (there_at turns.first.opened number _ within) ∙ turns.first.opened_are.each number within)
 
   plans : ArePlans program.maps options count plan
-  plans = record { count_is = turns.opened_are.count; each = λ number within. (opened_at number within).0 }
+  plans = record { count_is = turns.first.opened_are.count; each = λ number within. (opened_at number within).0 }
 
   numbered : (number : ℕ) → number < count → (plan number).number ≡ number
   numbered number within = (plan_number options number (slice_get program.maps (number / options.shards)) (plan number) (opened_at number within).0).0
@@ -113,22 +117,46 @@ module _ (program : Program) (script : List Command) (options : Options) (record
   no_runs : (worker : ℕ) → runs_at (replicate options.workers []) worker ≡ []
   no_runs worker = same_each options.workers worker []
 
-  -- before the first turn
-  first : IsSimulated program script options records turns.size plan count 0 0 0 (first_state program options turns.opened turns.size)
-  first = record {
-    order = [];
+  -- ---- the updates before the first turn
+
+  abbrev opened_maps : TurnMaps
+  opened_maps = first_maps program.maps options turns.first.opened
+
+  abbrev updates : List MapUpdate
+  updates = outcome.updates.items
+
+  opening : Stands plan count Controller [] turns.first.opened (unused count Controller)
+  opening = record {
     sound = record { within = tt; met = tt; legal = λ number within. tt };
     left = record {
       sized = refl;
       planned = λ number within. refl;
       written = λ number within. ap (λ (one : JournaledShard). reverse one.journal) (opened_at number within).1;
     };
-    maps = refl;
-    options_are = refl;
+    mine = unused_mine count Controller;
+  }
+
+  set : AreSetByPass plan count numbered [] (unused count Controller) opened_maps updates turns.begun
+  set = set_steps plan count numbered [] (unused count Controller) opened_maps updates turns.begun opening turns.first.updated
+
+  moved : IsMoved (by_pass opened_maps (unused count Controller)) (by_pass turns.begun set.pass') (all_set updates)
+  moved = moved_by_set plan updates (by_pass opened_maps (unused count Controller)) (by_pass turns.begun set.pass') refl set.set
+
+  other_unused : (who : Caller) → is_caller who Controller ≡ false → IsPassOf count who set.order' (unused count who)
+  other_unused who apart = others_stay count Controller who [] set.order' (unused count who) set.more apart (unused_mine count who)
+
+  -- before the first turn
+  first : IsSimulated program updates script options records turns.size plan count 0 0 0 (first_state turns.begun turns.size)
+  first = record {
+    order = set.order';
+    sound = set.stands.sound;
+    left = set.stands.left;
+    maps = moved.maps;
+    options_are = moved.options;
     runs = replicate options.workers [];
     lists = length-replicate options.workers [];
     passes = λ worker. unused count (Worker worker);
-    mine = λ worker below. unused_mine count (Worker worker);
+    mine = λ worker below. other_unused (Worker worker) refl;
     outside = λ worker below number within. ap (λ (view : CallerView). is_inside worker view.own) (unused_at count (Worker worker) number);
     handled = λ worker below. record {
       records_are = ap records_of (no_runs worker);
@@ -140,20 +168,20 @@ module _ (program : Program) (script : List Command) (options : Options) (record
     counts = refl;
     sent = refl;
     ends = refl;
-    controller = unused count Controller;
-    controls = unused_mine count Controller;
+    controller = set.pass';
+    controls = set.stands.mine;
     each_once = refl;
-    account = (commander_of_nothing plan script [] turns.size (opened_controller turns.size) program.maps options (unused count Controller)
-        (record { maps = program.maps; options = options; pass = unused count Controller }) (is_unused count Controller) refl turns.serves refl refl refl).account;
+    account = account_of_nothing plan program.maps options updates script turns.size set.pass'
+        (has_set plan program.maps options updates (unused count Controller) (by_pass turns.begun set.pass') (is_unused count Controller) refl set.set);
     reclaimer = unused count Reclaimer;
-    reclaims = unused_mine count Reclaimer;
+    reclaims = other_unused Reclaimer refl;
     reclaimed = no_round plan count (unused count Reclaimer) (is_unused count Reclaimer);
   }
 
   -- behind the last one
-  ended : IsSimulated program script options records turns.size plan count (length records) (length (starts_in script)) (rounds_of (length records)) turns.last
-  ended = all_turned program script options records turns.size plan count writes writes_refused are.some_worker numbered staffed (starts_in script)
-      (length records) (first_state program options turns.opened turns.size) turns.last first turns.in_order
+  ended : IsSimulated program updates script options records turns.size plan count (length records) (length (starts_in script)) (rounds_of (length records)) turns.last
+  ended = all_turned program updates script options records turns.size plan count writes writes_refused are.some_worker numbered staffed (starts_in script)
+      (length records) (first_state turns.begun turns.size) turns.last first turns.in_order
 
   in_last : (number : ℕ) → number < count → number < length turns.last.all.shards
   in_last number within = subst (λ (n : ℕ). number < n) (sym ended.left.sized) within
@@ -189,7 +217,7 @@ module _ (program : Program) (script : List Command) (options : Options) (record
         did = mine.did;
       }
 
-  script_run : IsScriptRun plan program.maps options script turns.size turns.last.noted ended.controller
+  script_run : IsScriptRun plan program.maps options updates script turns.size turns.last.noted ended.controller
   script_run = record {
     each_once = ended.each_once ∙ ap (λ (n : ℕ). numbers_from 0 n) (length-map script (λ line. line.frame));
     state = turns.last.controller;
@@ -220,7 +248,7 @@ module _ (program : Program) (script : List Command) (options : Options) (record
     each_once = turns.each_once;
     sent = ap sent_frames turns.sent ∙ ended.sent;
     ends = turns.ends ∙ ended.ends;
-    commands = script_stands plan program.maps options count script turns.size turns.last.noted ended.controller outcome.journals ended.order
+    commands = script_stands plan program.maps options count updates script turns.size turns.last.noted ended.controller outcome.journals ended.order
         outcome.refused.items plans are turns.size_is_served turns.serves script_run (settled Controller ended.controller ended.controls)
         (owned Controller ended.controller ended.controls) turns.refused;
     rounds = rounds_stand plan count (rounds_of (length records)) outcome.journals ended.order ended.reclaimer ended.reclaims.caller

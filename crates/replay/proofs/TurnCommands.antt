@@ -33,7 +33,9 @@ use Rattle.control.specs.declared.update.Update.{Update as Change}
 use Rattle.control.specs.MapUpdates.{UpdateBytes, map_update, AreMade}
 use Rattle.control.specs.Controlling.{ControllerState, IsStopped, IsLeft, refusal_of, first_updates, up_after, updates_of}
 use Rattle.replay.specs.SharedUpdates.{UpdatesView, shard_of, update_call, IsUpdated, IsTurnedAway}
+use Rattle.map_updates.specs.declared.update.MapUpdate.{MapUpdate}
 use Rattle.replay.specs.Commands.{HasEffect}
+use Rattle.replay.specs.FirstUpdates.{update_bytes, AreSet}
 use Rattle.replay.specs.InTurn.{TurnMaps, IsUpdatedInTurn, IsTurnedAwayInTurn, IsAppliedInTurn}
 use Rattle.replay.proofs.Moving.{HasWithin}
 use Rattle.replay.proofs.Effects.{carried_out, refused}
@@ -214,6 +216,35 @@ module _ (plan : ℕ → ShardPlan) (count : ℕ) (numbered : (number : ℕ) →
         more = more_on Controller order one.order' rest.order' one.more rest.more;
         stands = rest.stands;
         made = (by_pass made.0 one.pass', one.updated, rest.made);
+      }
+
+  -- ---- the updates before the first turn
+
+  pub record AreSetByPass (order : List Deed) (pass : PassView) (before : TurnMaps) (updates : List MapUpdate) (after : TurnMaps) : Type 0 where
+    pub order' : List Deed
+    pub pass' : PassView
+    pub more : IsMoreBy Controller order order'
+    pub stands : Stands plan count Controller order' after.shards pass'
+    pub set : AreSet (IsUpdated plan) (by_pass before pass) updates (by_pass after pass')
+
+  pub set_steps : (order : List Deed) (pass : PassView) (before : TurnMaps) (updates : List MapUpdate) (after : TurnMaps) →
+      Stands plan count Controller order before.shards pass → AreSet IsUpdatedInTurn before updates after → AreSetByPass order pass before updates after
+  set_steps order pass before [] after stands set = record {
+    order' = order;
+    pass' = pass;
+    more = no_more Controller order;
+    stands = subst (λ (all : TurnMaps). Stands plan count Controller order all.shards pass) set stands;
+    set = ap (λ (all : TurnMaps). by_pass all pass) set;
+  }
+  set_steps order pass before (update ∷ updates) after stands set =
+      let one = update_step order pass before (update_bytes update) _ set.0 stands set.1 in
+      let rest = set_steps one.order' one.pass' set.0 updates after one.stands set.2 in
+      record {
+        order' = rest.order';
+        pass' = rest.pass';
+        more = more_on Controller order one.order' rest.order' one.more rest.more;
+        stands = rest.stands;
+        set = (by_pass set.0 one.pass', one.updated, rest.set);
       }
 
   -- ---- a command

@@ -20,6 +20,7 @@ use Rattle.shards.specs.Passes.{PassView}
 use Rattle.shard_port.specs.PassSessions.{WritesOwnSessions, WritesRefusedOwnSessions, IsOutsideAt}
 use Rattle.runs.specs.FrameRuns.{HasStopped}
 use Rattle.control.specs.declared.command.Command.{Command}
+use Rattle.map_updates.specs.declared.update.MapUpdate.{MapUpdate}
 use Rattle.control.specs.Controlling.{ControllerState}
 use Rattle.replay.specs.declared.account.Counts.{Counts}
 use Rattle.replay.specs.declared.outcome.Applied.{Applied}
@@ -56,7 +57,7 @@ record_there (first ∷ later) (suc number) captured known = record_there later 
 
 -- ---- where a replay stands
 
-module _ (program : Program) (script : List Command) (options : Options) (records : List Sent) (size : ℕ) (plan : ℕ → ShardPlan) (count : ℕ) where
+module _ (program : Program) (updates : List MapUpdate) (script : List Command) (options : Options) (records : List Sent) (size : ℕ) (plan : ℕ → ShardPlan) (count : ℕ) where
   pub record IsSimulated (number next rounds : ℕ) (state : TurnState) : Type 0 where
     pub order : List Deed
     pub sound : IsSound plan count order
@@ -79,18 +80,18 @@ module _ (program : Program) (script : List Command) (options : Options) (record
     pub controller : PassView
     pub controls : IsPassOf count Controller order controller
     pub each_once : numbers_of state.noted ≡ numbers_from 0 next
-    pub account : IsAccount plan program.maps options script size state.noted state.controller controller
+    pub account : IsAccount plan program.maps options updates script size state.noted state.controller controller
     -- the reclaimer
     pub reclaimer : PassView
     pub reclaims : IsPassOf count Reclaimer order reclaimer
     pub reclaimed : AreReclaimed plan count rounds reclaimer
 
-module _ (program : Program) (script : List Command) (options : Options) (records : List Sent) (size : ℕ) (plan : ℕ → ShardPlan) (count : ℕ)
+module _ (program : Program) (updates : List MapUpdate) (script : List Command) (options : Options) (records : List Sent) (size : ℕ) (plan : ℕ → ShardPlan) (count : ℕ)
     (writes : WritesOwnSessions) (writes_refused : WritesRefusedOwnSessions) (some_worker : 0 < options.workers)
     (numbered : (number : ℕ) → number < count → (plan number).number ≡ number)
     (staffed : (worker : ℕ) → worker < options.workers → (number : ℕ) → number < count → worker < (plan number).workers) where
   abbrev Simulated : ℕ → ℕ → ℕ → TurnState → Type 0
-  Simulated = IsSimulated program script options records size plan count
+  Simulated = IsSimulated program updates script options records size plan count
 
   abbrev frames : List (List ℕ)
   frames = frames_of records
@@ -126,8 +127,8 @@ module _ (program : Program) (script : List Command) (options : Options) (record
         controller = was.controller;
         controls = others_stay count Reclaimer Controller was.order done.order' was.controller done.more refl was.controls;
         each_once = ap numbers_of turn.noted ∙ was.each_once;
-        account = subst (λ (state : ControllerState). IsAccount plan program.maps options script size after.noted state was.controller) (sym turn.controller)
-            (subst (λ (noted : List Applied). IsAccount plan program.maps options script size noted before.controller was.controller) (sym turn.noted) was.account);
+        account = subst (λ (state : ControllerState). IsAccount plan program.maps options updates script size after.noted state was.controller) (sym turn.controller)
+            (subst (λ (noted : List Applied). IsAccount plan program.maps options updates script size noted before.controller was.controller) (sym turn.noted) was.account);
         reclaimer = done.pass';
         reclaims = done.stands.mine;
         reclaimed = done.reclaimed;
@@ -143,15 +144,15 @@ module _ (program : Program) (script : List Command) (options : Options) (record
       let last : Applied = record { command = next; fault = turn.fault } in
       let maps : after.all.maps ≡ program.maps = done.effect.moved.maps ∙ was.maps in
       let options_are : after.all.options ≡ options = done.effect.moved.options ∙ was.options_are in
-      let there : IsAccount plan before.all.maps before.all.options script size before.noted before.controller was.controller =
-      subst (λ (o : Options). IsAccount plan before.all.maps o script size before.noted before.controller was.controller) (sym was.options_are)
-      (subst (λ (m : List MapDef). IsAccount plan m options script size before.noted before.controller was.controller) (sym was.maps) was.account) in
-      let more : IsAccount plan after.all.maps after.all.options script size (before.noted ++ last ∷ []) after.controller done.pass' =
-      account_more plan script size before.noted before.controller after.controller (by_pass before.all was.controller) (by_pass after.all done.pass')
+      let there : IsAccount plan before.all.maps before.all.options updates script size before.noted before.controller was.controller =
+      subst (λ (o : Options). IsAccount plan before.all.maps o updates script size before.noted before.controller was.controller) (sym was.options_are)
+      (subst (λ (m : List MapDef). IsAccount plan m options updates script size before.noted before.controller was.controller) (sym was.maps) was.account) in
+      let more : IsAccount plan after.all.maps after.all.options updates script size (before.noted ++ last ∷ []) after.controller done.pass' =
+      account_more plan updates script size before.noted before.controller after.controller (by_pass before.all was.controller) (by_pass after.all done.pass')
       turn.command last there turn.known done.effect in
-      let moved : IsAccount plan program.maps options script size (before.noted ++ last ∷ []) after.controller done.pass' =
-      subst (λ (o : Options). IsAccount plan program.maps o script size (before.noted ++ last ∷ []) after.controller done.pass') options_are
-      (subst (λ (m : List MapDef). IsAccount plan m after.all.options script size (before.noted ++ last ∷ []) after.controller done.pass') maps more) in
+      let moved : IsAccount plan program.maps options updates script size (before.noted ++ last ∷ []) after.controller done.pass' =
+      subst (λ (o : Options). IsAccount plan program.maps o updates script size (before.noted ++ last ∷ []) after.controller done.pass') options_are
+      (subst (λ (m : List MapDef). IsAccount plan m after.all.options updates script size (before.noted ++ last ∷ []) after.controller done.pass') maps more) in
       record {
         order = done.order';
         sound = done.stands.sound;
@@ -170,7 +171,7 @@ module _ (program : Program) (script : List Command) (options : Options) (record
         controller = done.pass';
         controls = done.stands.mine;
         each_once = numbers_next before.noted after.noted last next was.each_once refl turn.noted;
-        account = subst (λ (noted : List Applied). IsAccount plan program.maps options script size noted after.controller done.pass') (sym turn.noted) moved;
+        account = subst (λ (noted : List Applied). IsAccount plan program.maps options updates script size noted after.controller done.pass') (sym turn.noted) moved;
         reclaimer = was.reclaimer;
         reclaims = others_stay count Controller Reclaimer was.order done.order' was.reclaimer done.more refl was.reclaims;
         reclaimed = was.reclaimed;
@@ -252,8 +253,8 @@ module _ (program : Program) (script : List Command) (options : Options) (record
         controller = was.controller;
         controls = was.controls;
         each_once = ap numbers_of noted ∙ was.each_once;
-        account = subst (λ (state : ControllerState). IsAccount plan program.maps options script size after.noted state was.controller) (sym controller)
-            (subst (λ (list : List Applied). IsAccount plan program.maps options script size list before.controller was.controller) (sym noted) was.account);
+        account = subst (λ (state : ControllerState). IsAccount plan program.maps options updates script size after.noted state was.controller) (sym controller)
+            (subst (λ (list : List Applied). IsAccount plan program.maps options updates script size list before.controller was.controller) (sym noted) was.account);
         reclaimer = was.reclaimer;
         reclaims = was.reclaims;
         reclaimed = was.reclaimed;
@@ -377,8 +378,8 @@ module _ (program : Program) (script : List Command) (options : Options) (record
       controller = was.controller;
       controls = others_stay count (Worker own) Controller was.order done.order' was.controller done.more refl was.controls;
       each_once = ap numbers_of noted ∙ was.each_once;
-      account = subst (λ (state : ControllerState). IsAccount plan program.maps options script size after.noted state was.controller) (sym controller)
-          (subst (λ (list : List Applied). IsAccount plan program.maps options script size list before.controller was.controller) (sym noted) was.account);
+      account = subst (λ (state : ControllerState). IsAccount plan program.maps options updates script size after.noted state was.controller) (sym controller)
+          (subst (λ (list : List Applied). IsAccount plan program.maps options updates script size list before.controller was.controller) (sym noted) was.account);
       reclaimer = was.reclaimer;
       reclaims = others_stay count (Worker own) Reclaimer was.order done.order' was.reclaimer done.more refl was.reclaims;
       reclaimed = was.reclaimed;

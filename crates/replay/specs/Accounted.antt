@@ -62,7 +62,7 @@ pub record IsAccounted (program : Program) (script : List Command) (options : Op
   pub sent : sent_frames outcome.sent.items ≡ sent_of (frames_of records) options.workers runs (length records)
   -- what is told of each record, in the capture's order
   pub ends : outcome.ends.items ≡ ends_of (frames_of records) options.workers runs (length records)
-  -- the commands of the script, and those that were refused
-  pub commands : IsScriptAccounted plan program.maps options count script outcome.journals order outcome.refused.items
+  -- the updates before the first record, the commands of the script, and those that were refused
+  pub commands : IsScriptAccounted plan program.maps options count outcome.updates.items script outcome.journals order outcome.refused.items
   -- the reclaimer's rounds
   pub rounds : AreRoundsAccounted plan count (rounds_of (length records)) outcome.journals order

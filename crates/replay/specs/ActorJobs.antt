@@ -22,7 +22,7 @@ pub record AreCommandsTaken (before after : List Applied) (jobs : List Job) : Ty
 -- what was noted since the controller began, with its own entries, is an account of its script
 pub record IsAccounted (plan : ℕ → ShardPlan) (start : CommanderView) (noted : List Applied) (pass : PassView) : Type 0 where
   pub state : ControllerState
-  pub account : IsAccount plan start.port.maps start.port.options start.script start.controller.size noted state pass
+  pub account : IsAccount plan start.port.maps start.port.options start.updates start.script start.controller.size noted state pass
 
 -- a note, or the end
 abbrev pub round_job : Bool → Job

@@ -15,6 +15,7 @@ use Rattle.shards.specs.declared.deeds.Deed.{Deed}
 use Rattle.shards.specs.declared.deeds.Deed.TheVariants.{Wrote, MetFull}
 use Rattle.shards.specs.Passes.{PassView, own_at, seen_at}
 use Rattle.conntrack.specs.SteeringMaps.{steering_maps}
+use Rattle.map_updates.specs.declared.update.MapUpdate.{MapUpdate}
 use Rattle.control.specs.declared.command.Action.{Action}
 use Rattle.control.specs.declared.command.Command.{Command}
 use Rattle.control.specs.declared.fault.ControlFault.{ControlFault}
@@ -23,6 +24,7 @@ use Rattle.control.specs.declared.update.Update.{Update as Change}
 use Rattle.control.specs.MapUpdates.{UpdateBytes, map_update}
 use Rattle.control.specs.Controlling.{ControllerState, IsTable, refusal_of, first_updates, up_after, updates_of}
 use Rattle.replay.specs.declared.outcome.Applied.{Applied}
+use Rattle.replay.specs.FirstUpdates.{update_bytes}
 use Rattle.replay.specs.SharedUpdates.{UpdatesView, shard_of, update_call}
 
 -- ---- updates with their answers
@@ -37,6 +39,10 @@ done_update change = record { update = map_update change; answer = success }
 
 abbrev pub all_done : List Change → List AnsweredUpdate
 all_done changes = map done_update changes
+
+-- updates before the first command, each answered 0
+abbrev pub all_set : List MapUpdate → List AnsweredUpdate
+all_set updates = map (λ (update : MapUpdate). record { update = update_bytes update; answer = success }) updates
 
 -- the entry that an update makes in its shard's history
 abbrev pub update_entry : ℕ → AnsweredUpdate → Entry
@@ -195,21 +201,28 @@ pub record HasEffect (plan : ℕ → ShardPlan) (state : ControllerState) (actio
 abbrev pub opened_controller : ℕ → ControllerState
 opened_controller size = record { size = size; up = []; owners = []; is_full = false }
 
+-- the controller's pass has made these updates, in order, and nothing else
+pub record HasSet (maps : List MapDef) (options : Options) (updates : List MapUpdate) (pass : PassView) : Type 0 where
+  pub own : (number : ℕ) → own_at pass number ≡ with_updates maps options number (all_set updates) []
+  pub did : pass.deeds ≡ reverse (made_deeds maps options (all_set updates))
+
 -- The commands noted are those of the script, each did what it says in the state that the one before it left; the controller's own entries in the
--- history of each shard are their updates to it, in order; where one met a full journal, that journal is full for it; and over all shards its
--- deeds are those of the commands, in order.
-pub record IsAccount (plan : ℕ → ShardPlan) (maps : List MapDef) (options : Options) (script : List Command) (size : ℕ) (noted : List Applied)
-    (state : ControllerState) (pass : PassView) : Type 0 where
+-- history of each shard are its first updates and behind them those of the commands to it, in order; where one met a full journal, that journal is
+-- full for it; and over all shards its deeds are the first updates and then those of the commands, in order.
+pub record IsAccount (plan : ℕ → ShardPlan) (maps : List MapDef) (options : Options) (updates : List MapUpdate) (script : List Command) (size : ℕ)
+    (noted : List Applied) (state : ControllerState) (pass : PassView) : Type 0 where
   pub done : List CommandDone
   pub are_noted : AreNotedOf script noted done
   pub are_done : AreDone (opened_controller size) done state
-  pub own : (number : ℕ) → own_at pass number ≡ with_updates maps options number (made_in done) []
+  pub own : (number : ℕ) → own_at pass number ≡ with_updates maps options number (all_set updates ++ made_in done) []
   pub full : AllByRecursion (λ (one : CommandDone). IfSome one.stopped (IsFullFor plan maps options pass)) done
-  pub did : pass.deeds ≡ reverse (commands_deeds maps options done)
+  pub did : pass.deeds ≡ reverse (made_deeds maps options (all_set updates) ++ commands_deeds maps options done)
 
 -- ---- the actor
 
 pub record CommanderView : Type 0 where
+  -- what was made before the first command
+  pub updates : List MapUpdate
   pub script : List Command
   -- what came of the commands that were applied, in order
   pub noted : List Applied
@@ -220,18 +233,19 @@ pub record CommanderView : Type 0 where
 abbrev pub StaysOf : CommanderView → CommanderView → Type 0
 StaysOf before after =
     (after.script ≡ before.script) × (after.port.maps ≡ before.port.maps) × (after.port.options ≡ before.port.options) ×
-    (after.controller.size ≡ before.controller.size)
+    (after.controller.size ≡ before.controller.size) × (after.updates ≡ before.updates)
 
 -- what was noted is an account of the script
 abbrev pub HasAccount : (ℕ → ShardPlan) → CommanderView → Type 0
 HasAccount plan view =
-    IsAccount plan view.port.maps view.port.options view.script view.controller.size view.noted view.controller view.port.pass
+    IsAccount plan view.port.maps view.port.options view.updates view.script view.controller.size view.noted view.controller view.port.pass
 
 -- the maps are those of steering for the controller's table, or there is no command
 abbrev pub ServesScript : List MapDef → ℕ → List Command → Type 0
 ServesScript maps size script = (script ≡ []) ⊎ (maps ≡ steering_maps size)
 
-pub record IsCommander (plan : ℕ → ShardPlan) (script : List Command) (noted : List Applied) (state : ControllerState) (port : UpdatesView) : Type 0 where
-  pub account : IsAccount plan port.maps port.options script state.size noted state port.pass
+pub record IsCommander (plan : ℕ → ShardPlan) (updates : List MapUpdate) (script : List Command) (noted : List Applied) (state : ControllerState)
+    (port : UpdatesView) : Type 0 where
+  pub account : IsAccount plan port.maps port.options updates script state.size noted state port.pass
   pub serves : ServesScript port.maps state.size script
   pub who : port.pass.who ≡ Controller

@@ -7,6 +7,7 @@ pub mod Accounts
 pub mod Crews
 pub mod Actors
 pub mod Settings
+pub mod FirstUpdates
 pub mod SharedUpdates
 pub mod SharedLaws
 pub mod Commands
@@ -19,6 +20,7 @@ pub mod Accounted
 pub mod Turns
 pub mod InTurn
 pub mod TurnLaws
+pub mod UpdateFaults
 pub mod TurnStates
 pub mod ExactReplays
 pub mod TurnsAccounted

@@ -1,5 +1,5 @@
 -- What the controller and the reclaimer of a replay hand back.
-use Rattle.std.specs.Prelude.{◌≡◌, ◌⊎◌, IsFalse, ◌<◌, ◌≤◌, ◌+◌, ◌/◌, ℕ, List, [], length, map, reverse, IfSome, is_some}
+use Rattle.std.specs.Prelude.{◌≡◌, ◌⊎◌, IsFalse, ◌<◌, ◌≤◌, ◌+◌, ◌/◌, ◌++◌, ℕ, List, [], length, map, reverse, IfSome, is_some}
 use Rattle.std.specs.List.{AllByRecursion, filter}
 use Rattle.ebpf_decode.specs.declared.map.MapDef.{MapDef}
 use Rattle.semantics.specs.declared.call.Caller.TheVariants.{Controller, Reclaimer}
@@ -15,6 +15,7 @@ use Rattle.shards.specs.Deeds.{deeds_of}
 use Rattle.shards.specs.Passes.{PassView}
 use Rattle.rx_queues.specs.declared.job.Job.{Job}
 use Rattle.maglev.specs.RingSize.{IsRingSize}
+use Rattle.map_updates.specs.declared.update.MapUpdate.{MapUpdate}
 use Rattle.conntrack.specs.SteeringMaps.{steering_maps}
 use Rattle.control.specs.declared.command.Command.{Command}
 use Rattle.control.specs.Controlling.{ControllerState}
@@ -22,7 +23,7 @@ use Rattle.control.specs.MapUpdates.{UpdateBytes}
 use Rattle.replay.specs.declared.outcome.Applied.{Applied}
 use Rattle.replay.specs.SharedUpdates.{shard_of, update_call}
 use Rattle.replay.specs.Commands.{CommanderView, CommandDone, AreNotedOf, AreDone, IsAccount, ServesScript}
-use Rattle.replay.specs.Commands.{opened_controller, made_in, with_updates, commands_deeds}
+use Rattle.replay.specs.Commands.{opened_controller, all_set, made_in, with_updates, made_deeds, commands_deeds}
 use Rattle.replay.specs.ActorJobs.{AreCommandsTaken, AreRoundsMade, IsAccounted as IsControllersAccount}
 use Rattle.replay.specs.Rounds.{IsReclaimedBy, AreRoundsDone}
 use Rattle.replay.specs.Actors.{numbers_from}
@@ -55,8 +56,10 @@ AreBadOptions maps options script = IsFalse (are_served_options maps options) �
 abbrev pub numbers_of : List Applied → List ℕ
 numbers_of noted = map (λ (one : Applied). one.command) noted
 
--- a controller of these shards and this script that has applied its first commands, so many
-pub record IsStarted (maps : List MapDef) (options : Options) (script : List Command) (size : ℕ) (start : CommanderView) (first : ℕ) : Type 0 where
+-- a controller of these shards and this script that has made these updates and then applied its first commands, so many
+pub record IsStarted (maps : List MapDef) (options : Options) (updates : List MapUpdate) (script : List Command) (size : ℕ) (start : CommanderView)
+    (first : ℕ) : Type 0 where
+  pub updates_are : start.updates ≡ updates
   pub script_is : start.script ≡ script
   pub maps_are : start.port.maps ≡ maps
   pub options_are : start.port.options ≡ options
@@ -64,12 +67,12 @@ pub record IsStarted (maps : List MapDef) (options : Options) (script : List Com
   pub applied : numbers_of start.noted ≡ numbers_from 0 first
   pub within : first ≤ length script
 
--- each command of the script was applied once, in its order, and the pass has their updates
-pub record IsScriptRun (plan : ℕ → ShardPlan) (maps : List MapDef) (options : Options) (script : List Command) (size : ℕ) (noted : List Applied)
-    (pass : PassView) : Type 0 where
+-- each command of the script was applied once, in its order, and the pass has the first updates and behind them theirs
+pub record IsScriptRun (plan : ℕ → ShardPlan) (maps : List MapDef) (options : Options) (updates : List MapUpdate) (script : List Command) (size : ℕ)
+    (noted : List Applied) (pass : PassView) : Type 0 where
   pub each_once : numbers_of noted ≡ numbers_from 0 (length script)
   pub state : ControllerState
-  pub account : IsAccount plan maps options script size noted state pass
+  pub account : IsAccount plan maps options updates script size noted state pass
   pub who : pass.who ≡ Controller
 
 -- ---- compared with the journals
@@ -88,11 +91,11 @@ pub record IsFullInJournal (plan : ℕ → ShardPlan) (maps : List MapDef) (opti
 
 -- Each command of the script was applied once, in the script's order, and did what it says in the state that the one before it left, for a lookup
 -- table of a size that is served, the one that the maps have (without commands any served size does); the controller's entries in each journal
--- are their updates to that shard, in order; where one met a full journal, that journal is full for it at its end. In the one order of all deeds those
--- of the controller are the updates of all commands, in order over all shards, each with its answer, and behind those of a command that a full journal
--- stopped the look at that journal.
-pub record IsScriptAccounted (plan : ℕ → ShardPlan) (maps : List MapDef) (options : Options) (count : ℕ) (script : List Command) (journals : JournalsView)
-    (order : List Deed) (refused : List Applied) : Type 0 where
+-- are the first updates to that shard, each answered 0, and behind them those of the commands, in order; where one met a full journal, that journal is
+-- full for it at its end. In the one order of all deeds those of the controller are the first updates, then the updates of all commands, in order over
+-- all shards, each with its answer, and behind those of a command that a full journal stopped the look at that journal.
+pub record IsScriptAccounted (plan : ℕ → ShardPlan) (maps : List MapDef) (options : Options) (count : ℕ) (updates : List MapUpdate) (script : List Command)
+    (journals : JournalsView) (order : List Deed) (refused : List Applied) : Type 0 where
   pub size : ℕ
   pub size_is_served : IsRingSize size
   pub serves : ServesScript maps size script
@@ -103,9 +106,9 @@ pub record IsScriptAccounted (plan : ℕ → ShardPlan) (maps : List MapDef) (op
   pub state : ControllerState
   pub are_done : AreDone (opened_controller size) done state
   pub own : (number : ℕ) → number < count →
-      own_entries Controller (reverse (entries_at journals number)) ≡ with_updates maps options number (made_in done) []
+      own_entries Controller (reverse (entries_at journals number)) ≡ with_updates maps options number (all_set updates ++ made_in done) []
   pub full : AllByRecursion (λ (one : CommandDone). IfSome one.stopped (IsFullInJournal plan maps options count journals)) done
-  pub did : deeds_of (ByCaller Controller) order ≡ reverse (commands_deeds maps options done)
+  pub did : deeds_of (ByCaller Controller) order ≡ reverse (made_deeds maps options (all_set updates) ++ commands_deeds maps options done)
   pub refused_are : refused ≡ refused_of noted
 
 -- the rounds of a replay: one after every 64 records, and one after the last

@@ -14,10 +14,12 @@ ghost use Rattle.replay.specs.RunsOverShards.{IsNewAt, IsRunBy, pass_in};
 use crate::account::{Counts, account};
 use crate::controller::Commanded;
 use crate::crew::{Handled, parted};
+use crate::first_updates::copied;
 use crate::outcome::{Applied, Outcome, RecordEnd};
 use crate::shard_runner::Working;
 use control::Script;
 use journals::Journals;
+use map_updates::MapUpdate;
 use shards::{Naming, Pass, Shards};
 use std::alloc::{AllocError, Global};
 use std::sync::Wait;
@@ -66,12 +68,14 @@ pub(crate) fn all_passes<B: Naming>(
 /// What a replay returns: of the commands those that were refused.
 fn outcome_of(
     counts: Counts,
+    updates: Vec<MapUpdate>,
     noted: Vec<Applied>,
     sent: Vec<Sent>,
     ends: Vec<RecordEnd>,
     journals: Journals,
 ) -> Outcome
     ensures counts { result.counts ≡ counts }
+    ensures updates { result.updates ≡ updates }
     ensures refused { result.refused.items ≡ refused_of noted.items }
     ensures sent { result.sent ≡ sent }
     ensures ends { result.ends ≡ ends }
@@ -79,6 +83,7 @@ fn outcome_of(
 {
     Outcome {
         counts,
+        updates,
         refused: refused(noted),
         sent,
         ends,
@@ -92,6 +97,7 @@ pub(crate) fn closed<B: Naming, R: Wait>(
     alloc: Global,
     verified: &Verified,
     capture: &Capture,
+    updates: &[MapUpdate],
     script: &Script,
     size: u32,
     shards: Shards<B>,
@@ -106,10 +112,11 @@ pub(crate) fn closed<B: Naming, R: Wait>(
         shards.options.workers handled.items }
     requires size { IsRingSize size }
     requires serves { ServesScript shards.maps size script.now }
-    requires script { IsScriptRun B.plan shards.maps shards.options script.now size commanded.noted.items commanded.pass }
+    requires script { IsScriptRun B.plan shards.maps shards.options updates.now script.now size commanded.noted.items commanded.pass }
     requires rounds { AreReclaimed B.plan B.count (rounds_of (length capture.now.records.items)) reclaimed × (reclaimed.who ≡ Reclaimer) }
     ensures accounted { IfOk result (IsAccounted (program_of verified.now shards.options.shards) script.now shards.options
         capture.now.records.items) }
+    ensures updates { IfOk result (λ outcome. outcome.updates.items ≡ updates.now) }
 {
     let _ = verified;
     let _ = script;
@@ -119,6 +126,7 @@ pub(crate) fn closed<B: Naming, R: Wait>(
     let (counts, sent, ends) = account(alloc, capture, runs)?;
     let Commanded { pass, noted } = commanded;
     let passes = all_passes(alloc, working, pass, reclaimed)?;
+    let made = copied(alloc, updates)?;
     let journals = shards.close(rt, passes);
-    Ok(outcome_of(counts, noted, sent, ends, journals))
+    Ok(outcome_of(counts, made, noted, sent, ends, journals))
 }

@@ -1,32 +1,37 @@
 //! The controller of a replay: it applies the commands of the script, those of its queue until the end.
 
-ghost use Rattle.std.specs.Prelude.{◌≡◌, ◌<◌, ◌∷◌, ◌++◌, [], length, Option, Some, slice_get, OnOk, OnErr, false, MatchOption};
+ghost use Rattle.std.specs.Prelude.{◌≡◌, ◌<◌, ◌∷◌, ◌++◌, [], length, Option, Some, slice_get, IfOk, IfErr, OnOk, OnErr, false, MatchOption};
 ghost use Rattle.rx_queues.specs.Passes.{IsTakePassOf, jobs_taken, place_taken_from};
 ghost use Rattle.rx_queues.specs.declared.job.Job.TheVariants.{Command as CommandJob, End};
 ghost use Rattle.replay.specs.ActorJobs.{AreCommandsTaken, IsAccounted};
 ghost use Rattle.replay.specs.Actors.{HasEnded, IsUnused};
 ghost use Rattle.maglev.specs.RingSize.{IsRingSize};
+ghost use Rattle.map_updates.specs.Misfits.{AreFitting};
+ghost use Rattle.replay.specs.UpdateFaults.{IsWhyByPass};
 ghost use Rattle.semantics.specs.declared.call.Caller.TheVariants.{Controller as TheController};
 ghost use Rattle.control.specs.declared.fault.ControlFault.{ControlFault as Fault};
 ghost use Rattle.conntrack.specs.SteeringMaps.{steering_maps};
 ghost use Rattle.replay.specs.Commands.{CommanderView, HasEffect, IsAccount, HasAccount, StaysOf, ServesScript, opened_controller};
 
 use crate::actor::{Actor, ActorEnded, wait_unless};
+use crate::fault::ReplayFault;
+use crate::first_updates::updated_port;
 use crate::outcome::Applied;
 use crate::updates::{GatedUpdates, SharedUpdates};
 use control::{Command, ControlFault, Controller};
+use map_updates::MapUpdate;
 use rx_queues::{Job, Queues, TakePass};
-use semantics::Caller;
-use shard_port::{Gate, Tally};
+use shard_port::Gate;
 use shards::{Naming, Pass, Shards};
 use std::alloc::{AllocError, Global};
 use std::marker::Model;
 use std::sync::Wait;
 
 /// The controller of a replay: it applies commands of a script to shards that it shares with others, and notes what came of each.
-/// Contracts see the script, what was noted, the controller and its port; what the type keeps is `has_account`.
+/// Contracts see what was made before the script, the script, what was noted, the controller and its port; what the type keeps is `has_account`.
 #[derive(Drop)]
 pub struct Commander<'a, B: Naming, W: Wait, G: Gate> {
+    updates: &'a [MapUpdate],
     script: &'a [Command],
     controller: Controller,
     port: GatedUpdates<'a, SharedUpdates<'a, B, W>, G>,
@@ -38,46 +43,51 @@ impl<'a, B: Naming, W: Wait, G: Gate> Model for Commander<'a, B, W, G> {
 
     ghost Value = { CommanderView };
 
-    ghost view = { λ c. record { script = c.script.now; noted = c.noted.items; controller = c.controller; port = c.port.port } };
+    ghost view = { λ c. record { updates = c.updates.now; script = c.script.now; noted = c.noted.items; controller = c.controller; port = c.port.port } };
 
-    ghost invariant = { λ c. IsCommander B.plan c.script.now c.noted.items c.controller c.port.port };
+    ghost invariant = { λ c. IsCommander B.plan c.updates.now c.script.now c.noted.items c.controller c.port.port };
 }
 
 impl<'a, B: Naming, W: Wait, G: Gate> Commander<'a, B, W, G> {
-    /// The controller of a script that has applied nothing, with a pass that has seen nothing: for a lookup table of `size` slots,
-    /// which the shards' maps have, or for an empty script. Each answer goes through the gate.
+    /// The controller of a script that has applied nothing, with a pass that had seen nothing and has made these updates, one after the other: for
+    /// a lookup table of `size` slots, which the shards' maps have, or for an empty script. Each answer goes through the gate.
+    ///
+    /// Refused with 93 for the first update that a map refused, and with 94 for the first for which a journal was full. Those before it are made.
     pub fn over(
         alloc: Global,
         rt: &'a W,
         shards: &'a Shards<B>,
         pass: Pass<B>,
         gate: &'a G,
+        updates: &'a [MapUpdate],
         script: &'a [Command],
         size: u32,
-    ) -> Commander<'a, B, W, G>
+    ) -> Result<Commander<'a, B, W, G>, ReplayFault>
         requires who { pass.who ≡ TheController }
         requires unused { IsUnused pass }
         requires size { IsRingSize size }
         requires serves { ServesScript shards.now.maps size script.now }
-        ensures script { result.script ≡ script.now }
-        ensures noted { result.noted ≡ [] }
-        ensures controller { result.controller ≡ opened_controller size }
-        ensures port { result.port ≡ record { maps = shards.now.maps; options = shards.now.options; pass = pass } }
+        requires fit { AreFitting shards.now.maps updates.now }
+        ensures updates { IfOk result (λ commander. commander.updates ≡ updates.now) }
+        ensures script { IfOk result (λ commander. commander.script ≡ script.now) }
+        ensures noted { IfOk result (λ commander. commander.noted ≡ []) }
+        ensures controller { IfOk result (λ commander. commander.controller ≡ opened_controller size) }
+        ensures maps { IfOk result (λ commander. commander.port.maps ≡ shards.now.maps) }
+        ensures options { IfOk result (λ commander. commander.port.options ≡ shards.now.options) }
+        ensures refused { IfErr result (IsWhyByPass shards.now.maps shards.now.options updates.now) }
     {
         let controller = match Controller::open(alloc, size) {
             Ok(controller) => controller,
             Err(_) => unreachable!(),
         };
-        let port = GatedUpdates {
-            port: SharedUpdates::over(rt, shards, pass),
-            tally: Tally::new(gate, Caller::Controller, 0),
-        };
-        Commander {
+        let port = updated_port(rt, shards, pass, gate, updates)?;
+        Ok(Commander {
+            updates,
             script,
             controller,
             port,
             noted: Vec::new(alloc),
-        }
+        })
     }
 
     /// The account of the commands applied so far. The function does nothing: it brings this fact into a proof.
@@ -123,8 +133,8 @@ impl<'a, B: Naming, W: Wait, G: Gate> Commander<'a, B, W, G> {
         ensures pass { result.0 ≡ self.entry.port.pass }
         ensures who { result.0.who ≡ TheController }
         ensures noted { result.1.items ≡ self.entry.noted }
-        ensures account { IsAccount B.plan self.entry.port.maps self.entry.port.options self.entry.script self.entry.controller.size
-            result.1.items self.entry.controller result.0 }
+        ensures account { IsAccount B.plan self.entry.port.maps self.entry.port.options self.entry.updates self.entry.script
+            self.entry.controller.size result.1.items self.entry.controller result.0 }
     {
         let Commander { port, noted, .. } = self;
         let GatedUpdates { port, .. } = port;

@@ -1,5 +1,6 @@
 //! Why a replay was given up.
 
+use faults::Fields;
 use std::alloc::AllocError;
 use thiserror::Error;
 
@@ -15,12 +16,18 @@ pub enum ReplayFault {
     /// 56: a thread could not be started.
     #[error("fault 56 NoThread")]
     NoThread,
+    /// 93: the map of the update at this place of the list, counted from 0, refused it with this answer.
+    #[error("fault 93 Refused answer {answer}")]
+    Refused { place: usize, answer: i32 },
+    /// 94: the journal was full for the update at this place.
+    #[error("fault 94 JournalFull")]
+    Full { place: usize },
 }
 
 impl ReplayFault {
     ghost use Rattle.std.specs.Prelude.{◌≡◌, true};
     ghost use Rattle.faults.specs.Explanations.{is_fault};
-    ghost use Rattle.replay.specs.FaultNumber.{replay_fault_number};
+    ghost use Rattle.replay.specs.FaultNumber.{replay_fault_number, replay_fault_fields};
 
     /// The number that the fault's text prints.
     pub fn number(self) -> u8
@@ -31,6 +38,18 @@ impl ReplayFault {
             ReplayFault::BadOptions => 51,
             ReplayFault::Memory => 52,
             ReplayFault::NoThread => 56,
+            ReplayFault::Refused { .. } => 93,
+            ReplayFault::Full { .. } => 94,
+        }
+    }
+
+    /// The numbers of the fields that the fault's text prints.
+    pub fn fields(self) -> Fields
+        ensures { result ≡ replay_fault_fields self }
+    {
+        match self {
+            ReplayFault::Refused { answer, .. } => Fields::Signed(answer),
+            _ => Fields::Empty,
         }
     }
 }

@@ -55,6 +55,7 @@ mod controller;
 mod crew;
 mod dispatch;
 mod fault;
+mod first_updates;
 pub mod laws;
 mod outcome;
 mod reclaimer;

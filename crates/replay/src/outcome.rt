@@ -3,6 +3,7 @@
 use crate::account::Counts;
 use control::ControlFault;
 use journals::Journals;
+use map_updates::MapUpdate;
 use semantics::Verdict;
 use wire::Sent;
 
@@ -10,6 +11,8 @@ use wire::Sent;
 #[derive(Drop)]
 pub struct Outcome {
     pub counts: Counts,
+    /// The updates that the controller made before the first record, in their order.
+    pub updates: Vec<MapUpdate>,
     /// The commands that were refused, in the script's order, each with its fault.
     pub refused: Vec<Applied>,
     /// The frames that were sent, in the capture's order, each with the moment of its record.

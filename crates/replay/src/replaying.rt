@@ -1,12 +1,15 @@
 //! A whole replay.
 
-ghost use Rattle.std.specs.Prelude.{◌≡◌, ◌<◌, ◌≤◌, ◌↔◌, IfOk, IsErrOf};
+ghost use Rattle.std.specs.Prelude.{◌≡◌, ◌<◌, ◌≤◌, ◌↔◌, IfOk, OnOk, IfErr, IsErrOf};
 ghost use Rattle.machine.specs.Running.{program_of};
+ghost use Rattle.semantics.specs.ShardPlan.{KeepsRows, recorded};
 ghost use Rattle.maglev.specs.RingSize.{IsRingSize};
 ghost use Rattle.replay.specs.Commands.{ServesScript};
 ghost use Rattle.shards.specs.NewShards.{IsNamed};
 ghost use Rattle.replay.specs.Accounted.{IsAccounted};
 ghost use Rattle.replay.specs.Parts.{AreBadOptions};
+ghost use Rattle.replay.specs.UpdateFaults.{OfUpdate, IsOfNoUpdate, IsWhyByPass};
+ghost use Rattle.map_updates.specs.Misfits.{AreFitting};
 ghost use Rattle.replay.specs.declared.fault.ReplayFault.TheVariants.{BadOptions};
 
 use crate::closing::closed;
@@ -18,8 +21,9 @@ use crate::setting::{
 use crate::shard_runner::ShardRunner;
 use crate::threads::{AllEnded, Setting};
 use control::Script;
+use map_updates::MapUpdate;
 use rx_queues::Queues;
-use semantics::Options;
+use semantics::{Options, Recording};
 use shard_port::Gate;
 use shards::{Naming, OpenFault, Opened};
 use std::alloc::Global;
@@ -33,6 +37,7 @@ use wire::Capture;
 pub(crate) fn fault_of(fault: OpenFault) -> ReplayFault
     ensures options { (result ≡ BadOptions) ↔ (fault ≡ OpenFault.BadOptions) }
     ensures memory { (result ≡ ReplayFault.Memory) ↔ (fault ≡ OpenFault.Memory) }
+    ensures no_update { IsOfNoUpdate result }
 {
     match fault {
         OpenFault::BadOptions => ReplayFault::BadOptions,
@@ -46,6 +51,7 @@ fn replay_over<'x, B: Naming + Send + Sync, R: Threads + Wait + Sync, G: Gate + 
     alloc: Global,
     verified: &'x Verified,
     capture: &'x Capture,
+    updates: &'x [MapUpdate],
     script: &'x Script,
     size: u32,
     opened: Opened,
@@ -58,7 +64,10 @@ fn replay_over<'x, B: Naming + Send + Sync, R: Threads + Wait + Sync, G: Gate + 
     requires workers { (0 < options.workers) × (options.workers ≤ 8) }
     requires size { IsRingSize size }
     requires script { ServesScript verified.now.maps size script.now }
+    requires fit { AreFitting verified.now.maps updates.now }
     ensures accounted { IfOk result (IsAccounted (program_of verified.now options.shards) script.now options capture.now.records.items) }
+    ensures updates { IfOk result (λ outcome. outcome.updates.items ≡ updates.now) }
+    ensures refused { IfErr result (OfUpdate (IsWhyByPass verified.now.maps options updates.now)) }
     ensures served { ¬ IsErrOf result BadOptions }
 {
     let workers = options.workers as usize;
@@ -82,6 +91,7 @@ fn replay_over<'x, B: Naming + Send + Sync, R: Threads + Wait + Sync, G: Gate + 
         &shards,
         &mut dealer,
         gate,
+        updates,
         script,
         starts,
         size,
@@ -97,7 +107,7 @@ fn replay_over<'x, B: Naming + Send + Sync, R: Threads + Wait + Sync, G: Gate + 
         runner: &runner,
     };
     match run_threads(
-        setting, script, size, controller, reclaimer, put, takes, states,
+        setting, updates, script, size, controller, reclaimer, put, takes, states,
     ) {
         Ok(
             AllEnded {
@@ -106,51 +116,71 @@ fn replay_over<'x, B: Naming + Send + Sync, R: Threads + Wait + Sync, G: Gate + 
                 reclaimer,
             },
         ) => Ok(closed(
-            rt, alloc, verified, capture, script, size, shards, handled, controller, reclaimer,
+            rt, alloc, verified, capture, updates, script, size, shards, handled, controller,
+            reclaimer,
         )?),
         Err(fault) => Err(fault),
     }
 }
 
 /// Runs the program of an accepted image on the frames of a capture, by as many workers on threads as the options say, over shared maps
-/// in which nothing has happened. A controller on a thread of its own applies the commands of a script: those at frame 0 before the
-/// first record, and each other one when as many records as its frame number were dispatched, no later than after the last; and a
-/// reclaimer frees what no run can hold, in a round after every 64 records and one after the workers' end.
+/// in which nothing has happened. Before the first record a controller makes these updates, one after the other, each whether or not its key is there.
+/// On a thread of its own it applies the commands of a script: those at frame 0 before the first record, behind the updates, and each other one when as
+/// many records as its frame number were dispatched, no later than after the last; and a reclaimer frees what no run can hold, in a round after every
+/// 64 records and one after the workers' end.
 ///
 /// Each record is counted once: as short where it has fewer than 14 bytes, and else by its run, which the worker of its flow makes, in
 /// the capture's order. Verdict and frame of a run are the program's own on the replies that stand among its worker's entries; these
 /// are, run after run, Enter, its calls with their replies, and Leave, on each shard that it called; and every journal is legal. A run
-/// is stopped only where the journal of the shard of its next call is full for good. The controller's entries are the updates of the
-/// script's commands, and the reclaimer's are those of its rounds. What is sent stands in the capture's order.
+/// is stopped only where the journal of the shard of its next call is full for good. The controller's entries are the first updates, each
+/// answered 0, and those of the script's commands, and the reclaimer's are those of its rounds. What is sent stands in the capture's order.
 ///
 /// What all callers did on all shards is one order: shard by shard it is the journal, and of each caller it has what the caller did, looks
-/// at full journals among it: of a worker its runs, of the controller the commands' updates in the script's order, of the reclaimer a round
+/// at full journals among it: of a worker its runs, of the controller the first updates and the commands' in the script's order, of the reclaimer a round
 /// after the other, each from the lowest shard up.
 ///
 /// Each reply to a run, to the controller and to the reclaimer goes through the gate: the actor that has it calls the gate, and holds no lock then.
 ///
+/// Where no rows of journals are kept, no journal is full before 134,217,728 calls, and all of this holds of journals that proofs alone know.
+///
 /// Refused with 51 where no shards of the image's maps can be opened with the options, or where there are commands and the image's maps
-/// are not those of steering; with 52 for lack of memory; with 56 where a thread could not be started. Then nothing is left, and every
-/// thread that was started has ended.
+/// are not those of steering; with 52 for lack of memory; with 93 for the first update that a map refused, and with 94 for the first for which a
+/// journal was full, before any thread is started; with 56 where a thread could not be started. Then nothing is left, and every thread that was
+/// started has ended.
 pub fn replay<R: Threads + Wait + Sync, G: Gate + Sync>(
     rt: &R,
     alloc: Global,
     verified: &Verified,
     capture: &Capture,
+    updates: &[MapUpdate],
     script: &Script,
     options: Options,
+    recording: Recording,
     gate: &G,
 ) -> Result<Outcome, ReplayFault>
-    ensures accounted { IfOk result (IsAccounted (program_of verified.now options.shards) script.now options capture.now.records.items) }
+    requires fit { AreFitting verified.now.maps updates.now }
+    ensures accounted { IfOk result (IsAccounted (program_of verified.now options.shards) script.now (recorded recording options) capture.now.records.items) }
+    ensures updates { IfOk result (λ outcome. outcome.updates.items ≡ updates.now) }
+    ensures refused { IfErr result (OfUpdate (IsWhyByPass verified.now.maps (recorded recording options) updates.now)) }
+    ensures served { OnOk result (KeepsRows options.journal) }
     ensures bad_options { IsErrOf result BadOptions ↔ AreBadOptions verified.now.maps options script.now }
 {
     let image = verified.image();
     let Some(size) = table_for(image.maps(), script.commands()) else {
         return Err(ReplayFault::BadOptions);
     };
-    match Opened::open(alloc, image, options) {
+    match Opened::open_with(alloc, image, options, recording) {
         Ok(opened) => replay_over::<Brand, R, G>(
-            rt, alloc, verified, capture, script, size, opened, options, gate,
+            rt,
+            alloc,
+            verified,
+            capture,
+            updates,
+            script,
+            size,
+            opened,
+            options.recorded(recording),
+            gate,
         ),
         Err(fault) => Err(fault_of(fault)),
     }

@@ -1,7 +1,7 @@
 //! What a replay begins with: the table and the numbers of its script, the passes, the controller and the reclaimer, and all of it
 //! together.
 
-ghost use Rattle.std.specs.Prelude.{◌≡◌, ◌<◌, ◌≤◌, ◌+◌, [], length, map, IfOk, IsErrOf, IfSome, IsNone};
+ghost use Rattle.std.specs.Prelude.{◌≡◌, ◌<◌, ◌≤◌, ◌+◌, [], length, map, IfErr, IfOk, IsErrOf, IfSome, IsNone};
 ghost use Rattle.machine.specs.Running.{program_of};
 ghost use Rattle.maglev.specs.RingSize.{IsRingSize};
 ghost use Rattle.control.specs.declared.command.Command.{Command as Line};
@@ -14,6 +14,8 @@ ghost use Rattle.replay.specs.Parts.{HasNoTable, IsStarted, IsScriptRun, numbers
 ghost use Rattle.replay.specs.Rounds.{AreReclaimed};
 ghost use Rattle.replay.specs.Settings.{AreFreshPasses};
 ghost use Rattle.replay.specs.RunsOverShards.{IsNewAt, IsRunBy};
+ghost use Rattle.replay.specs.UpdateFaults.{OfUpdate, IsOfNoUpdate, IsWhyByPass};
+ghost use Rattle.map_updates.specs.Misfits.{AreFitting};
 ghost use Rattle.replay.specs.declared.fault.ReplayFault.TheVariants.{BadOptions};
 
 use crate::controller::{Commanded, Commander};
@@ -25,6 +27,7 @@ use crate::threads::{AllEnded, Setting, run_all};
 use conntrack::table_size;
 use control::{Command, Script};
 use ebpf_decode::MapDef;
+use map_updates::MapUpdate;
 use rx_queues::{PutPass, TakePass};
 use semantics::Caller;
 use shard_port::Gate;
@@ -112,25 +115,30 @@ pub(crate) fn new_pass<B: Naming>(
     }
 }
 
-/// The controller, which has applied the commands before the first frame, and how many they are.
+/// The controller, which has made the updates and applied the commands before the first frame, and how many these are.
 pub(crate) fn new_controller<'x, B: Naming, R: Wait, G: Gate>(
     alloc: Global,
     rt: &'x R,
     shards: &'x Shards<B>,
     dealer: &mut Dealer<B>,
     gate: &'x G,
+    updates: &'x [MapUpdate],
     script: &'x Script,
     starts: &[u32],
     size: u32,
-) -> Result<(Commander<'x, B, R, G>, usize), AllocError>
+) -> Result<(Commander<'x, B, R, G>, usize), ReplayFault>
     requires size { IsRingSize size }
     requires script { ServesScript shards.now.maps size script.now }
     requires each { length starts.now ≡ length script.now }
+    requires fit { AreFitting shards.now.maps updates.now }
     ensures due { IfOk result (λ made. AreDue starts.now 0 0 made.1) }
-    ensures started { IfOk result (λ made. IsStarted shards.now.maps shards.now.options script.now size made.0 made.1) }
+    ensures started { IfOk result (λ made. IsStarted shards.now.maps shards.now.options updates.now script.now size made.0 made.1) }
+    ensures refused { IfErr result (OfUpdate (IsWhyByPass shards.now.maps shards.now.options updates.now)) }
+    ensures served { ¬ IsErrOf result BadOptions }
 {
     let pass = new_pass(alloc, dealer, Caller::Controller)?;
-    let mut commander = Commander::over(alloc, rt, shards, pass, gate, script.commands(), size);
+    let commands = script.commands();
+    let mut commander = Commander::over(alloc, rt, shards, pass, gate, updates, commands, size)?;
     let first = apply_first(alloc, &mut commander, starts)?;
     Ok((commander, first))
 }
@@ -152,6 +160,7 @@ pub(crate) fn new_reclaimer<'x, B: Naming, R: Wait, G: Gate>(
 /// Runs all threads, from their start to their end.
 pub(crate) fn run_threads<'x, B: Naming + Send + Sync, R: Threads + Wait + Sync, G: Gate + Sync>(
     setting: Setting<'x, ShardRunner<'x, B, R, G>, R>,
+    updates: &'x [MapUpdate],
     script: &'x Script,
     size: u32,
     controller: Commander<'x, B, R, G>,
@@ -165,19 +174,21 @@ pub(crate) fn run_threads<'x, B: Naming + Send + Sync, R: Threads + Wait + Sync,
     requires states { Each IsNewAt 0 states.items }
     requires starts { length setting.starts.now ≡ length script.now }
     requires begun { AreDue setting.starts.now 0 0 setting.first }
-    requires started { IsStarted setting.runner.now.shards.now.maps setting.runner.now.shards.now.options script.now size controller
-        setting.first }
+    requires started { IsStarted setting.runner.now.shards.now.maps setting.runner.now.shards.now.options updates.now script.now size
+        controller setting.first }
     requires unused { IsUnused reclaimer }
     ensures count { IfOk result (λ it. length it.workers.items ≡ setting.entry.runner.now.shards.now.options.workers) }
     ensures handled { IfOk result (λ it. AreHandled IsNewAt (IsRunBy B.count B.plan
         (program_of setting.entry.runner.now.verified.now setting.entry.runner.now.shards.now.options.shards))
         setting.entry.capture.now.records.items setting.entry.runner.now.shards.now.options.workers it.workers.items) }
     ensures script { IfOk result (λ it. IsScriptRun B.plan setting.entry.runner.now.shards.now.maps
-        setting.entry.runner.now.shards.now.options script.now size it.controller.noted.items it.controller.pass) }
+        setting.entry.runner.now.shards.now.options updates.now script.now size it.controller.noted.items it.controller.pass) }
     ensures served { ¬ IsErrOf result BadOptions }
+    ensures no_update { IfErr result IsOfNoUpdate }
     ensures rounds { IfOk result (λ it. AreReclaimed B.plan B.count (rounds_of (length setting.entry.capture.now.records.items))
         it.reclaimer × (it.reclaimer.who ≡ Reclaimer)) }
 {
+    let _ = updates;
     let _ = script;
     let _ = size;
     run_all(setting, controller, reclaimer, put, takes, states)

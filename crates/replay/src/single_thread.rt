@@ -1,11 +1,12 @@
 //! A replay on one thread: commands, records and rounds, one after the other.
 
 ghost use Rattle.std.specs.Prelude.{◌≡◌, ◌<◌, ◌≤◌, ◌+◌, ◌%◌, ◌==◌, ◌^◌, ◌↔◌, [], ℕ, List, length, Some};
-ghost use Rattle.std.specs.Prelude.{OnOk, IfOk, IfSome, IsErrOf};
+ghost use Rattle.std.specs.Prelude.{OnOk, IfOk, IfErr, IfSome, IsErrOf, IsFalse};
 ghost use Rattle.machine.specs.Running.{program_of};
 ghost use Rattle.maglev.specs.RingSize.{IsRingSize};
 ghost use Rattle.semantics.specs.History.{IsLegalJournal};
 ghost use Rattle.semantics.specs.Program.{Program};
+ghost use Rattle.semantics.specs.ShardPlan.{KeepsRows, are_served_options, recorded};
 ghost use Rattle.wire.specs.declared.records.Sent.{Sent as Record};
 ghost use Rattle.conntrack.specs.SteeringMaps.{steering_maps};
 ghost use Rattle.control.specs.declared.command.Command.{Command as Line};
@@ -13,12 +14,13 @@ ghost use Rattle.control.specs.declared.fault.ControlFault.{ControlFault as Faul
 ghost use Rattle.control.specs.Controlling.{refusal_of};
 ghost use Rattle.journals.specs.JournalsView.{entries_at};
 ghost use Rattle.shards.specs.NewShards.{shard_at};
-ghost use Rattle.shards.specs.Opening.{AreOpened};
 ghost use Rattle.replay.specs.declared.fault.ReplayFault.TheVariants.{BadOptions, NoThread};
 ghost use Rattle.replay.specs.Accounted.{IsAccounted};
 ghost use Rattle.replay.specs.Accounts.{frames_in, no_counts, counted};
 ghost use Rattle.replay.specs.Commands.{ServesScript, opened_controller};
-ghost use Rattle.replay.specs.ExactReplays.{IsInTurn, starts_in};
+ghost use Rattle.replay.specs.ExactReplays.{IsInTurn, HasBegun, starts_in};
+ghost use Rattle.replay.specs.UpdateFaults.{OfUpdate, IsWhyInTurn};
+ghost use Rattle.map_updates.specs.Misfits.{AreFitting};
 ghost use Rattle.replay.specs.InTurn.{TurnState as State, IsRunInTurn, IsHandled, IsAppliedInTurn, IsSameSetting};
 ghost use Rattle.replay.specs.InTurn.{IsRecordTurn, IsCommandTurn, IsRoundTurn, AreTurns};
 ghost use Rattle.replay.specs.Parts.{AreBadOptions, refused_of};
@@ -30,6 +32,7 @@ use crate::closing::refused;
 use crate::controller::command_at;
 use crate::dispatch::{ROUND_EVERY, due, is_short, worker_of};
 use crate::fault::ReplayFault;
+use crate::first_updates::{copied, set_all};
 use crate::laws::turns_are_accounted;
 use crate::outcome::{Applied, Outcome, RecordEnd};
 use crate::replaying::fault_of;
@@ -38,8 +41,9 @@ use crate::setting::{starts_of, table_for};
 use crate::shard_runner::{end_of, moment_of};
 use crate::turn_shards::TurnShards;
 use control::{Command, ControlFault, Controller, Script};
+use map_updates::MapUpdate;
 use runs::closing::journals_of;
-use semantics::{Caller, Options};
+use semantics::{Caller, Options, Recording};
 use shard_port::Gate;
 use std::alloc::{AllocError, Global};
 use verifier::Verified;
@@ -354,9 +358,10 @@ impl Turns {
     }
 
     /// What is returned after the last turn.
-    fn finish(self, alloc: Global) -> Result<Outcome, AllocError>
+    fn finish(self, alloc: Global, updates: &[MapUpdate]) -> Result<Outcome, AllocError>
         ensures maps { IfOk result (λ outcome. outcome.journals.maps ≡ self.all.maps) }
         ensures options { IfOk result (λ outcome. outcome.journals.options ≡ self.all.options) }
+        ensures updates { IfOk result (λ outcome. outcome.updates.items ≡ updates.now) }
         ensures counts { IfOk result (λ outcome. outcome.counts ≡ self.counts) }
         ensures sent { IfOk result (λ outcome. outcome.sent.items ≡ self.sent.items) }
         ensures ends { IfOk result (λ outcome. outcome.ends.items ≡ self.ends.items) }
@@ -376,10 +381,12 @@ impl Turns {
             ..
         } = self;
         let (shards, maps, options) = all.into_parts();
+        let made = copied(alloc, updates)?;
         let room = Vec::with_capacity(alloc, shards.count())?;
         let journals = journals_of(shards, maps, options, room);
         Ok(Outcome {
             counts,
+            updates: made,
             refused: refused(noted),
             sent,
             ends,
@@ -395,55 +402,89 @@ fn show<G: Gate>(gate: &G, number: usize) {
     }
 }
 
-/// The replay over shards that were opened for the image's maps.
+/// The replay over shards of the image's maps, in which nothing has happened but these updates.
 fn turned<G: Gate>(
     alloc: Global,
     verified: &Verified,
     capture: &Capture,
+    updates: &[MapUpdate],
     script: &[Command],
     size: u32,
     all: TurnShards,
-    options: Options,
     gate: &G,
 ) -> Result<Outcome, AllocError>
-    requires opened { AreOpened verified.now.maps options all.shards }
+    requires begun { HasBegun verified.now.maps all.options updates.now all }
     requires maps { all.maps ≡ verified.now.maps }
-    requires options { all.options ≡ options }
     requires size { IsRingSize size }
     requires script { ServesScript verified.now.maps size script.now }
-    ensures { IfOk result (IsInTurn (program_of verified.now options.shards) script.now options capture.now.records.items) }
+    ensures in_turn { IfOk result (IsInTurn (program_of verified.now all.options.shards) script.now all.options capture.now.records.items) }
+    ensures updates { IfOk result (λ outcome. outcome.updates.items ≡ updates.now) }
 {
-    let _ = options;
     let list = starts_of(alloc, script)?;
     let starts: &[u32] = &list;
     let mut turns = Turns::over(alloc, all, size);
     turns.take_all(alloc, verified, capture, script, starts, gate)?;
-    let outcome = turns.finish(alloc)?;
+    let outcome = turns.finish(alloc, updates)?;
     Ok(outcome)
 }
 
+/// The shards of an accepted image's maps, on which nothing was done but these updates. Refused with 51 where none are opened with these options, with 52
+/// for lack of memory, with 93 for the first update that a map refused, and with 94 for the first for which a journal was full.
+fn begun(
+    alloc: Global,
+    verified: &Verified,
+    updates: &[MapUpdate],
+    options: Options,
+    recording: Recording,
+) -> Result<TurnShards, ReplayFault>
+    requires fit { AreFitting verified.now.maps updates.now }
+    ensures begun { IfOk result (λ all. HasBegun verified.now.maps all.options updates.now all) }
+    ensures maps { IfOk result (λ all. all.maps ≡ verified.now.maps) }
+    ensures options { IfOk result (λ all. all.options ≡ recorded recording options) }
+    ensures refused { IfErr result (OfUpdate (IsWhyInTurn verified.now.maps (recorded recording options) updates.now)) }
+    ensures served { OnOk result (KeepsRows options.journal) }
+    ensures bad_options { IsErrOf result BadOptions ↔ IsFalse (are_served_options verified.now.maps options) }
+    ensures no_thread { ¬ IsErrOf result NoThread }
+{
+    match TurnShards::open(alloc, verified, options, recording) {
+        Ok(mut all) => match set_all(&mut all, updates) {
+            Ok(()) => Ok(all),
+            Err(fault) => Err(fault),
+        },
+        Err(fault) => Err(fault_of(fault)),
+    }
+}
+
 /// Runs the program of an accepted image on the frames of a capture, on the calling thread: one turn after the other, each over the maps as the one
-/// before it left them. Before each record come the commands that are due then, in the script's order; then the record is run, by the worker
+/// before it left them. First come these updates, one after the other, as the controller, each whether or not its key is there. Before each record
+/// come the commands that are due then, in the script's order; then the record is run, by the worker
 /// of its flow, if it has 14 bytes; and after every 64 records the reclaimer makes a round. Behind the last record come the commands that are
 /// left, and one more round. So a command finds what the runs of all frames before it left, and what it sets is found by every later
 /// one. Two such replays of the same input give the same outcome, unless memory was refused to a command (no law says so). What is returned is
-/// accounted for as what a replay on threads returns.
+/// accounted for as what a replay on threads returns, also where no rows of journals are kept.
 ///
 /// The gate is called after each round that follows a record, as for a reply of the reclaimer, with the number of such rounds: it shows how
 /// far the replay is.
 ///
 /// Refused with 51 where no shards of the image's maps can be opened with the options, or where there are commands and the image's maps
-/// are not those of steering; with 52 for lack of memory. Then nothing is left.
+/// are not those of steering; with 52 for lack of memory; with 93 for the first update that a map refused, and with 94 for the first for which a
+/// journal was full. Then nothing was run, and nothing is left.
 pub fn replay_in_turn<G: Gate>(
     alloc: Global,
     verified: &Verified,
     capture: &Capture,
+    updates: &[MapUpdate],
     script: &Script,
     options: Options,
+    recording: Recording,
     gate: &G,
 ) -> Result<Outcome, ReplayFault>
-    ensures accounted { IfOk result (IsAccounted (program_of verified.now options.shards) script.now options capture.now.records.items) }
-    ensures in_turn { IfOk result (IsInTurn (program_of verified.now options.shards) script.now options capture.now.records.items) }
+    requires fit { AreFitting verified.now.maps updates.now }
+    ensures accounted { IfOk result (IsAccounted (program_of verified.now options.shards) script.now (recorded recording options) capture.now.records.items) }
+    ensures in_turn { IfOk result (IsInTurn (program_of verified.now options.shards) script.now (recorded recording options) capture.now.records.items) }
+    ensures updates { IfOk result (λ outcome. outcome.updates.items ≡ updates.now) }
+    ensures refused { IfErr result (OfUpdate (IsWhyInTurn verified.now.maps (recorded recording options) updates.now)) }
+    ensures served { OnOk result (KeepsRows options.journal) }
     ensures bad_options { IsErrOf result BadOptions ↔ AreBadOptions verified.now.maps options script.now }
     ensures no_thread { ¬ IsErrOf result NoThread }
 {
@@ -452,20 +493,20 @@ pub fn replay_in_turn<G: Gate>(
     let Some(size) = table_for(image.maps(), script.commands()) else {
         return Err(ReplayFault::BadOptions);
     };
-    match TurnShards::open(alloc, verified, options) {
+    match begun(alloc, verified, updates, options, recording) {
         Ok(all) => {
             let _ = all.options();
             Ok(turned(
                 alloc,
                 verified,
                 capture,
+                updates,
                 script.commands(),
                 size,
                 all,
-                options,
                 gate,
             )?)
         }
-        Err(fault) => Err(fault_of(fault)),
+        Err(fault) => Err(fault),
     }
 }

@@ -1,7 +1,7 @@
 //! All threads from their start to their end.
 
 ghost use Rattle.std.specs.Prelude.{◌≡◌, ◌<◌, ◌≤◌, ◌+◌, ◌/◌, ◌∷◌, ◌++◌, [], ℕ, length, replicate, vec_capacity};
-ghost use Rattle.std.specs.Prelude.{IfOk, IsErrOf, IfSome, IsNone};
+ghost use Rattle.std.specs.Prelude.{IfOk, IfErr, IsErrOf, IfSome, IsNone};
 ghost use Rattle.rx_queues.specs.declared.job.Job.TheVariants.{Note, End};
 ghost use Rattle.rx_queues.specs.Passes.{IsPutPassOf, IsTakePassOf, TakeAtTheirPlaces, AreTakePasses};
 ghost use Rattle.rx_queues.specs.Passes.{place_taken_from, jobs_taken, workers_of, jobs_put};
@@ -11,6 +11,7 @@ ghost use Rattle.replay.specs.Crews.{IsReadyAt, AreHandled};
 ghost use Rattle.replay.specs.Settings.{IsReadyToRun, AreAllDone};
 ghost use Rattle.replay.specs.Puts.{put_at, AreNonePut, AreAllPut};
 ghost use Rattle.replay.specs.Shares.{frames_of};
+ghost use Rattle.replay.specs.UpdateFaults.{IsOfNoUpdate};
 ghost use Rattle.replay.specs.declared.fault.ReplayFault.TheVariants.{BadOptions, NoThread};
 
 use crate::actor::{Actor, ActorThread, settled_actor, start_actor};
@@ -207,6 +208,7 @@ fn work_all<'s, X, S: Drop + Send + 's, W: Runner<S> + Sync + 's, R: Threads + W
     ensures notes { IfOk result (λ all. put_at (jobs_put put.new) (workers_of setting.entry.queues.now + 1) ≡
         replicate (length setting.entry.capture.now.records.items / 64) Note) }
     ensures served { ¬ IsErrOf result BadOptions }
+    ensures no_update { IfErr result IsOfNoUpdate }
     ensures no_thread { IsErrOf result NoThread → AreNonePut (length states.items) (jobs_put put.new) }
     ensures handed { ¬ IsErrOf result NoThread → AreAllPut (frames_of setting.entry.capture.now.records.items) (length states.items)
         (length setting.entry.capture.now.records.items) (jobs_put put.new) }
@@ -282,6 +284,7 @@ fn run_all_in<
     requires room { (lanes.items ≡ []) × (length states.items ≤ vec_capacity lanes) }
     ensures done { IfOk result (AreAllDone W.is_new W.runs (C.gives controller) (D.gives reclaimer) setting.entry (length states.items)) }
     ensures served { ¬ IsErrOf result BadOptions }
+    ensures no_update { IfErr result IsOfNoUpdate }
     ensures no_thread { IsErrOf result NoThread → AreNonePut (length states.items) (jobs_put put.new) }
     ensures ended { AreAllEnded (length states.items + 2) (jobs_put put.new) }
 {
@@ -345,6 +348,7 @@ pub fn run_all<
     requires actors { C.is_ready controller × D.is_ready reclaimer }
     ensures done { IfOk result (AreAllDone W.is_new W.runs (C.gives controller) (D.gives reclaimer) setting.entry (length states.items)) }
     ensures served { ¬ IsErrOf result BadOptions }
+    ensures no_update { IfErr result IsOfNoUpdate }
 {
     thread::scope(
         thread::scope_env(),
@@ -355,6 +359,7 @@ pub fn run_all<
             ensures done { IfOk result (AreAllDone W.is_new W.runs (C.gives controller) (D.gives reclaimer) setting.entry
                 (length states.items)) }
             ensures served { ¬ IsErrOf result BadOptions }
+            ensures no_update { IfErr result IsOfNoUpdate }
         {
             let mut put = put;
             let lanes = Vec::with_capacity(setting.alloc, states.len())?;

@@ -1,10 +1,10 @@
 //! The shards of an exact replay, which one thread calls: a run, an update of the controller, a round of the reclaimer, each after the
 //! other.
 
-ghost use Rattle.std.specs.Prelude.{◌≡◌, ◌<◌, ◌≤◌, ◌↔◌, IsTrue, IfOk, OnErr, IfErr, IsErrOf, IsFalse, length, slice_get};
+ghost use Rattle.std.specs.Prelude.{◌≡◌, ◌<◌, ◌≤◌, ◌↔◌, ℕ, IsTrue, IfOk, OnOk, OnErr, IfErr, IsErrOf, IsFalse, length, slice_get};
 ghost use Rattle.map_rules.specs.declared.open_fault.OpenFault.TheVariants.{BadOptions};
 ghost use Rattle.semantics.specs.MachineState.{initial_state};
-ghost use Rattle.semantics.specs.ShardPlan.{AreOptions, are_served_options};
+ghost use Rattle.semantics.specs.ShardPlan.{AreOptions, KeepsRows, are_served_options, recorded};
 ghost use Rattle.journals.specs.JournalsView.{AreJournals};
 ghost use Rattle.machine.specs.Running.{program_of};
 ghost use Rattle.shards.specs.NewShards.{shard_at};
@@ -21,7 +21,7 @@ use machine::{Exit, Moment, Stop};
 use map_rules::conditions::shard_of_map;
 use runs::plain_run::run_at;
 use semantics::facts::bytes_have_8_bits;
-use semantics::{Caller, JournalFull, Key, Options, UpdateFlags, Value};
+use semantics::{Caller, JournalFull, Key, Options, Recording, UpdateFlags, Value};
 use shard_core::Shard;
 use shard_port::PlainPort;
 use shard_port::laws::{calls_keep_serving, opened_serve};
@@ -136,21 +136,23 @@ impl TurnShards {
         alloc: Global,
         verified: &Verified,
         options: Options,
+        recording: Recording,
     ) -> Result<TurnShards, OpenFault>
-        ensures opened { IfOk result (λ all. AreOpened verified.now.maps options all.shards) }
+        ensures opened { IfOk result (λ all. AreOpened verified.now.maps (recorded recording options) all.shards) }
         ensures maps { IfOk result (λ all. all.maps ≡ verified.now.maps) }
-        ensures options { IfOk result (λ all. all.options ≡ options) }
+        ensures options { IfOk result (λ all. all.options ≡ recorded recording options) }
+        ensures served { OnOk result (KeepsRows options.journal) }
         ensures bad_options { IsErrOf result BadOptions ↔ IsFalse (are_served_options verified.now.maps options) }
     {
         verified.encodable();
         opened_serve();
         let image = verified.image();
-        let shards = PlainShards::open(alloc, image, options)?;
+        let shards = PlainShards::open_with(alloc, image, options, recording)?;
         let maps = copied(alloc, maps_of(image))?;
         Ok(TurnShards {
             shards,
             maps,
-            options,
+            options: options.recorded(recording),
         })
     }
 
@@ -217,6 +219,7 @@ impl TurnShards {
         ensures maps { result.1.items ≡ self.maps }
         ensures options { result.2 ≡ self.options }
         ensures are { AreJournals result.1.items result.2 (length result.0) }
+        ensures reserved { (number : ℕ) → number < length result.0 → (shard_at result.0 number).plan.reserve ≡ result.2.journal }
     {
         let TurnShards {
             shards,

@@ -97,7 +97,7 @@ fn faults_are(noted: &[Applied], want: &[u8]) -> bool {
 
 fn length_of(journals: &Journals, number: usize) -> usize {
     if number < journals.count() {
-        journals.journal(number).len()
+        journals.len(number)
     } else {
         0
     }
@@ -151,7 +151,16 @@ fn applied<B: Naming, R: Abort + Wait>(
     let Some(size) = size else {
         return Ok(());
     };
-    let mut commander = Commander::over(alloc, rt, &shards, pass, &gate, script.commands(), size);
+    let mut commander = Commander::over(
+        alloc,
+        rt,
+        &shards,
+        pass,
+        &gate,
+        &[],
+        script.commands(),
+        size,
+    )?;
     for number in 0..script.commands().len() {
         if number < commander.script().len() {
             commander.apply(alloc, number)?;
@@ -311,15 +320,15 @@ fn taken_to_the_end<'a, B: Naming, R: Abort + Wait>(
     pass: Pass<B>,
     commands: &'a [Command],
     size: u32,
-) -> ActorEnded<Commanded<B>>
+) -> Result<ActorEnded<Commanded<B>>, Fail>
     requires take { IsTakePassOf queues.now take × (jobs_taken take ≡ []) }
     requires who { pass.who ≡ TheController }
     requires unused { IsUnused pass }
     requires size { IsRingSize size }
     requires serves { ServesScript shards.now.maps size commands.now }
 {
-    let commander = Commander::over(alloc, rt, shards, pass, &NoGate, commands, size);
-    commander.until_end(rt, alloc, queues, take)
+    let commander = Commander::over(alloc, rt, shards, pass, &NoGate, &[], commands, size)?;
+    Ok(commander.until_end(rt, alloc, queues, take))
 }
 
 /// Hands the commands of the row's script over to the controller, lets it take them to the end, and compares.
@@ -350,7 +359,7 @@ fn commanded<B: Naming, R: Abort + Wait>(
         pass,
         script.commands(),
         size,
-    );
+    )?;
     let ActorEnded {
         given,
         is_refused,

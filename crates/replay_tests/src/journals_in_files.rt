@@ -156,7 +156,7 @@ fn deleted() -> [Line; 8] {
 }
 
 /// Compares a journal with what its file says, line by line.
-fn are_lines(rt: &impl Abort, journal: &ShardJournal, wanted: &[Line]) {
+fn are_lines(rt: &impl Abort, journal: &ShardJournal<'_>, wanted: &[Line]) {
     same(rt, "entries", &journal.len(), &wanted.len());
     for (place, (who, call, reply)) in wanted.iter().enumerate() {
         let entry = Entry {
@@ -177,6 +177,7 @@ fn makes_the_file(
     text: &str,
 ) -> Result<(), Fail> {
     let mut sink = MemorySink::new(alloc);
+    assert!(rt; journals.keeps_rows());
     write_journals(alloc, &mut sink, journals)?;
     same_bytes(rt, "what is written", sink.bytes(), text.as_bytes());
     Ok(())
@@ -188,7 +189,8 @@ fn compare(rt: &impl Abort, alloc: Global, text: &str, wanted: &[Line]) -> Resul
     holds(rt, "one journal", journals.count() == 1);
     same(rt, "workers", &journals.options().workers, &1);
     same(rt, "size of journals", &journals.options().journal, &16);
-    are_lines(rt, journals.journal(0), wanted);
+    assert!(rt; journals.keeps_rows());
+    are_lines(rt, &journals.journal(0), wanted);
     makes_the_file(rt, alloc, &journals, text)
 }
 
@@ -363,6 +365,7 @@ fn failing_source(rt: HostRuntime) -> Result<(), Fail> {
 /// Writes journals to a sink that takes this many bytes one by one and then fails, and compares what it has then.
 fn write_slowly(rt: &impl Abort, alloc: Global, journals: &Journals, taken: u8) {
     let mut sink = SlowSink::new(alloc, u64::from(taken) + 1);
+    assert!(rt; journals.keeps_rows());
     let got = write_journals(alloc, &mut sink, journals);
     let (want, front, failures) = if taken < 28 {
         (Err(FileFault::Device), &ENTERED[..taken as usize], 1)

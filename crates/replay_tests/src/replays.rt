@@ -5,6 +5,7 @@ mod moments;
 mod record_ends;
 mod schedules;
 mod shipped_program;
+mod without_rows;
 
 ghost use Rattle.std.specs.Prelude.{◌≡◌, ◌≤◌, ◌<◌, ◌^◌, length};
 
@@ -13,7 +14,7 @@ use control::parse_script;
 use disasm::assemble;
 use journals::write_journals;
 use replay::{Counts, Gate, NoGate, Outcome, replay};
-use semantics::Options;
+use semantics::{Options, Recording};
 use std::alloc::Global;
 use std::process::Abort;
 use std::sync::Wait;
@@ -175,7 +176,17 @@ fn gated<R: Threads + Abort + Wait + Sync, G: Gate + Sync>(
         shards: 1,
         journal,
     };
-    Ok(replay(rt, alloc, verified, capture, &script, options, gate)?)
+    Ok(replay(
+        rt,
+        alloc,
+        verified,
+        capture,
+        &[],
+        &script,
+        options,
+        Recording::Rows,
+        gate,
+    )?)
 }
 
 /// The replay of a row's program on a capture.
@@ -220,7 +231,9 @@ fn sent_file(alloc: Global, outcome: &Outcome) -> Result<MemorySink, Fail> {
 /// The journals as a file.
 fn journals_file(alloc: Global, outcome: &Outcome) -> Result<MemorySink, Fail> {
     let mut file = MemorySink::new(alloc);
-    write_journals(alloc, &mut file, &outcome.journals)?;
+    if outcome.journals.keeps_rows() {
+        write_journals(alloc, &mut file, &outcome.journals)?;
+    }
     Ok(file)
 }
 

@@ -328,6 +328,7 @@ fn leaves<R: Abort>(rt: &R, alloc: Global, row: &Row, journals: &Journals) -> Re
         return Ok(());
     };
     let mut file = MemorySink::new(alloc);
+    assert!(rt; journals.keeps_rows());
     write_journals(alloc, &mut file, journals)?;
     same_bytes_of(
         rt,

@@ -1,6 +1,7 @@
 -- A fact of each member of a list before a place, where one member more is put at the end.
 use Rattle.std.proofs.Common.{◌≡◌, ⊎_elim, ℕ, ◌+◌, ◌<◌, List, [], ◌∷◌, ◌++◌, length, sym, subst, arith}
 use Rattle.std.specs.Prelude.{slice_index_or}
+use Rattle.std.specs.List.{AllByRecursion}
 use Rattle.std.proofs.lemmas.Bool.{cases_eq}
 use Rattle.semantics.proofs.shared.EachLemmas.{or_push_here, or_push_else}
 
@@ -14,3 +15,8 @@ pushed_at P xs x d number long were is k below =
     let there : k < length xs = omega (arith, less, long) in
     subst (P k) (sym (or_push_else xs x d k there)) (were k less))
     (cases_eq k number)
+
+-- a fact of each member of a list that has none
+pub none_yet : {A : Type 0} (P : A → Type 0) (xs : List A) → length xs ≡ 0 → AllByRecursion P xs
+none_yet P [] is = tt
+none_yet P (x ∷ xs) is = absurd (omega (arith, is))

@@ -6,7 +6,8 @@ ghost use Rattle.journals.specs.JournalsView.{AreJournals, entries_at};
 ghost use Rattle.shards.specs.NewShards.{shard_at};
 
 use ebpf_decode::MapDef;
-use journals::{Journals, ShardJournal};
+use journal::Journal;
+use journals::Journals;
 use semantics::Options;
 use shards::PlainShards;
 
@@ -15,9 +16,10 @@ pub fn journals_of(
     shards: PlainShards,
     maps: Vec<MapDef>,
     options: Options,
-    mut room: Vec<ShardJournal>,
+    mut room: Vec<Journal>,
 ) -> Journals
     requires are { AreJournals maps.items options (length shards) }
+    requires reserved { (number : ℕ) → number < length shards → (shard_at shards number).plan.reserve ≡ options.journal }
     requires empty { length room.items ≡ 0 }
     requires room { length shards ≤ vec_capacity room }
     ensures maps { result.maps ≡ maps.items }
@@ -29,8 +31,7 @@ pub fn journals_of(
     let mut shards = shards.into_list();
     let count = shards.len();
     'shards: for number in 0..count {
-        let journal = shards.remove(0).into_journal();
-        room.push_reserved(ShardJournal::written(journal));
+        room.push_reserved(shards.remove(0).into_journal());
     }
-    Journals::of(maps, options, room)
+    Journals::written(maps, options, room)
 }

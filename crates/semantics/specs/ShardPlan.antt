@@ -3,6 +3,8 @@ use Rattle.std.specs.Prelude.{ℕ, ◌/◌, ◌%◌, ◌≤◌, ◌≡◌, ◌==
 use Rattle.std.specs.List.{list_all}
 use Rattle.ebpf_decode.specs.declared.map.MapDef.{MapDef}
 use Rattle.semantics.specs.declared.options.Options.{Options}
+use Rattle.semantics.specs.declared.options.Recording.{Recording}
+use Rattle.semantics.specs.declared.options.Recording.TheVariants.{Rows, NoRows}
 pub use Rattle.semantics.specs.declared.plan.ShardPlan.{ShardPlan}
 
 -- how many keys the shard may have
@@ -24,14 +26,35 @@ plan_for_map options number None = None
 abbrev pub plan_at : List MapDef → Options → ℕ → Option ShardPlan
 plan_at maps options number = plan_for_map options number (slice_get maps (number / options.shards))
 
--- the options with which the shards of these maps can be opened
+-- a shard keeps the rows of a journal of at most so many entries; of a longer one it keeps none, and its entries are known to proofs alone
+abbrev pub keeps_rows : ℕ → Bool
+keeps_rows reserve = nat_le reserve 1048576
+
+abbrev pub KeepsRows : ℕ → Type 0
+KeepsRows reserve = reserve ≤ 1048576
+
+-- the options with which the shards of these maps can be opened, with journals whose rows are kept or not
 pub record AreOptions (maps : List MapDef) (options : Options) : Type 0 where
   pub some_worker : 1 ≤ options.workers
   pub at_most_eight : options.workers ≤ 8
   pub power_of_two : (options.shards ≡ 1) ⊎ (options.shards ≡ 2) ⊎ (options.shards ≡ 4) ⊎ (options.shards ≡ 8)
   pub in_equal_parts : All (λ (definition : MapDef). definition.max_entries % options.shards ≡ 0) maps
   pub least_journal : 16 ≤ options.journal
-  pub greatest_journal : options.journal ≤ 1048576
+  pub greatest_journal : options.journal ≤ 134217728
+
+-- with journals whose rows are kept
+pub record AreServedOptions (maps : List MapDef) (options : Options) : Type 0 where
+  pub fit : AreOptions maps options
+  pub rows : KeepsRows options.journal
+
+-- how many entries a journal has room for: without rows 2^27
+abbrev pub room_for : Recording → ℕ → ℕ
+room_for Rows journal = journal
+room_for NoRows journal = 134217728
+
+-- the options of shards that are opened so
+abbrev pub recorded : Recording → Options → Options
+recorded recording options = record { workers = options.workers; shards = options.shards; journal = room_for recording options.journal }
 
 -- and the same as a test: how many shards each map may have
 abbrev pub is_shard_count : ℕ → Bool

@@ -1,10 +1,22 @@
 //! How shards are opened.
 
-ghost use Rattle.std.specs.Prelude.{◌≡◌, ◌↔◌, ◌⊎◌, ◌%◌, ◌<◌, ◌≤◌, true, All};
+ghost use Rattle.std.specs.Prelude.{◌≡◌, ◌↔◌, ◌⊎◌, ◌%◌, ◌<◌, ◌≤◌, true, All, List};
 ghost use Rattle.ebpf_decode.specs.declared.map.MapDef.{MapDef};
-ghost use Rattle.semantics.specs.ShardPlan.{AreOptions, is_shard_count, are_equal_parts, are_served_options};
+ghost use Rattle.semantics.specs.ShardPlan.{AreOptions, AreServedOptions, recorded, is_shard_count, are_equal_parts, are_served_options};
 
 use ebpf_decode::MapDef;
+
+/// The room of a journal without rows: 2^27 entries.
+const UNRECORDED: u32 = 134_217_728;
+
+/// Whether shards keep the rows of their journals.
+#[derive(Clone, Copy, Debug, PartialEq, Eq)]
+pub enum Recording {
+    /// They do, so a journal has room for as many entries as the options say, and can be read.
+    Rows,
+    /// They do not: a journal has room for 134,217,728 entries, which are counted and cannot be read.
+    NoRows,
+}
 
 /// How shards are opened: as many for each map, with a journal for each.
 #[derive(Clone, Copy, Debug, PartialEq, Eq)]
@@ -13,14 +25,14 @@ pub struct Options {
     pub workers: u32,
     /// How many shards each map has: 1, 2, 4 or 8.
     pub shards: u32,
-    /// How many entries each shard's journal has room for: 16 to 1,048,576.
+    /// How many entries each shard's journal has room for: 16 to 1,048,576 where its rows are kept.
     pub journal: u32,
 }
 
 impl Options {
     /// Whether the shards of these maps can be opened so.
     pub fn fit(&self, maps: &[MapDef]) -> bool
-        ensures allowed { (result ≡ true) ↔ AreOptions maps.now self.now }
+        ensures allowed { (result ≡ true) ↔ AreServedOptions maps.now self.now }
         ensures served { result ≡ are_served_options maps.now self.now }
         ensures shards { result ≡ true → (0 < self.now.shards) × (self.now.shards ≤ 8) }
     {
@@ -30,6 +42,21 @@ impl Options {
             && self.journal <= 1_048_576
             && is_shard_count(self.shards)
             && are_equal_parts(maps, self.shards)
+    }
+
+    /// The options of shards that are opened so.
+    pub fn recorded(self, recording: Recording) -> Self
+        ensures options { result ≡ recorded recording self }
+        ensures fit { (maps : List MapDef) → AreServedOptions maps self → AreOptions maps result }
+    {
+        match recording {
+            Recording::Rows => self,
+            Recording::NoRows => Options {
+                workers: self.workers,
+                shards: self.shards,
+                journal: UNRECORDED,
+            },
+        }
     }
 }
 

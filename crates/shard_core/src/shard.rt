@@ -85,6 +85,7 @@ impl Shard {
     /// The entries of all calls that were served, the oldest first.
     pub fn journal(&self) -> &Journal
         ensures entries { result.now.entries ≡ self.now.journal }
+        ensures reserve { result.now.reserve ≡ self.now.plan.reserve }
         ensures legal { IsLegalJournal self.now.plan self.now.journal }
     {
         &self.journal

@@ -1,9 +1,12 @@
 //! Short journals that are legal, and others with one entry that is not.
 
+ghost use Rattle.std.specs.Prelude.{IfOk};
+ghost use Rattle.semantics.specs.ShardPlan.{KeepsRows};
+
 use crate::asserting::same;
 use audit::{AuditFault, audit};
 use ebpf_decode::{MapDef, MapKind};
-use journals::{EntryList, Journals, ShardJournal};
+use journals::{EntryList, Journals};
 use semantics::{Call, Caller, CellRef, Entry, Options, Reply};
 use std::alloc::Global;
 use std::test::Fail;
@@ -14,7 +17,9 @@ fn entry(worker: u8, call: Call, reply: Reply) -> Entry {
 }
 
 /// The journals of one array of one value: two workers enter, and one may load from a cell that it did not look up.
-fn journals(alloc: Global, is_loaded: bool) -> Result<Journals, Fail> {
+fn journals(alloc: Global, is_loaded: bool) -> Result<Journals, Fail>
+    ensures { IfOk result (λ journals. KeepsRows journals.options.journal) }
+{
     let shard = 0;
     let mut entries = EntryList::new(alloc);
     entries.push(&entry(1, Call::Enter { shard }, Reply::Entered))?;
@@ -39,9 +44,9 @@ fn journals(alloc: Global, is_loaded: bool) -> Result<Journals, Fail> {
         shards: 1,
         journal: 16,
     };
-    let mut shards = Vec::new(alloc);
-    shards.push(ShardJournal::listed(entries))?;
-    Ok(Journals::of(maps, options, shards))
+    let mut lists = Vec::new(alloc);
+    lists.push(entries)?;
+    Ok(Journals::listed(maps, options, lists))
 }
 
 /// What the audit says of these journals.

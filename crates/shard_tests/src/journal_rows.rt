@@ -154,6 +154,29 @@ fn wrong_entries(alloc: Global, tens: usize) -> Result<usize, AllocError>
     Ok(wrong)
 }
 
+/// The room of a journal that keeps no rows.
+const LARGE: u32 = 1_048_577;
+
+/// Fills a journal that keeps no rows, and says how many entries it has.
+fn counted(alloc: Global) -> Result<(bool, usize), AllocError> {
+    let who = Caller::Worker { number: 0 };
+    let mut journal = Journal::open(alloc, 5, LARGE, 4, 8)?;
+    'entries: for _ in 0..LARGE {
+        if journal.len() < LARGE as usize {
+            journal.append_enter(who);
+        }
+    }
+    Ok((journal.keeps_rows(), journal.len()))
+}
+
+#[test]
+fn a_large_journal_counts_its_entries(rt: HostRuntime) -> Result<(), AllocError> {
+    let (keeps_rows, entries) = counted(rt.alloc())?;
+    same(&rt, "no rows are kept", &keeps_rows, &false);
+    same(&rt, "1,048,577 entries", &entries, &1_048_577);
+    Ok(())
+}
+
 #[test]
 fn entries_come_back(rt: HostRuntime) -> Result<(), AllocError> {
     same(&rt, "no entry", &wrong_entries(rt.alloc(), 0)?, &0);

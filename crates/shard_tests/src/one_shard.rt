@@ -1,5 +1,6 @@
 //! Rows that run a shard.
 
+ghost use Rattle.std.specs.Prelude.{◌<◌};
 ghost use Rattle.semantics.specs.PlanLimits.{IsPlan};
 
 use crate::asserting::{holds, same};
@@ -154,7 +155,7 @@ fn make(
 fn newest(shard: &Shard) -> Option<(Caller, Call, Reply)> {
     let journal = shard.journal();
     let count = journal.len();
-    if count == 0 {
+    if count == 0 || !journal.keeps_rows() {
         return None;
     }
     let entry = journal.entry(count - 1);
@@ -422,10 +423,21 @@ fn standings(shard: &Shard) -> [bool; 5] {
     [
         shard.is_inside(1),
         shard.is_inside(0),
-        shard.holds(1, 0),
-        shard.holds(1, 1),
-        shard.holds(0, 0),
+        has_found(shard, 1, 0),
+        has_found(shard, 1, 1),
+        has_found(shard, 0, 0),
     ]
+}
+
+/// Whether the worker holds the cell, as the rows of the journal say.
+fn has_found(shard: &Shard, worker: u8, id: u64) -> bool
+    requires { worker < 8 }
+{
+    if shard.keeps_rows() {
+        shard.holds(worker, id)
+    } else {
+        false
+    }
 }
 
 /// What a caller can ask of a shard before it calls.

@@ -301,7 +301,7 @@ fn entry_at(shards: &mut PlainShards, number: u32, place: usize) -> Option<Entry
         return None;
     }
     let journal = shards.shard(number).journal();
-    if place < journal.len() {
+    if place < journal.len() && journal.keeps_rows() {
         Some(journal.entry(place))
     } else {
         None

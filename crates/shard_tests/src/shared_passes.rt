@@ -110,7 +110,7 @@ const IN_TURN: [(&str, bool, Step, Option<Reply>, bool); 13] = [
 /// How many entries the shard's journal has.
 fn length_of(journals: &Journals, number: usize) -> usize {
     if number < journals.count() {
-        journals.journal(number).len()
+        journals.len(number)
     } else {
         0
     }

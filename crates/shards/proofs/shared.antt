@@ -2,3 +2,4 @@
 pub mod Keys
 pub mod Names
 pub mod ImageMaps
+pub mod Reserves

@@ -1,9 +1,8 @@
 -- The shards of an image's maps, as many callers share them.
-use Rattle.std.specs.Prelude.{◌≡◌, ℕ, ◌*◌, ◌<◌, ◌≤◌, List, [], length, Some}
+use Rattle.std.specs.Prelude.{◌≡◌, ℕ, ◌*◌, ◌<◌, List, length, Some}
 use Rattle.atomic_table.specs.Seated.{TableId}
 use Rattle.atomic_table.specs.declared.owned.Table.{Table}
 use Rattle.ebpf_decode.specs.declared.map.MapDef.{MapDef}
-use Rattle.semantics.specs.declared.call.Entry.{Entry}
 use Rattle.semantics.specs.declared.options.Options.{Options}
 use Rattle.semantics.specs.declared.plan.ShardPlan.{ShardPlan}
 use Rattle.semantics.specs.ShardPlan.{plan_at, AreOptions}
@@ -29,12 +28,9 @@ pub record ArePlans (maps : List MapDef) (options : Options) (count : ℕ) (plan
 
 pub record AreShared {S V P A : Type 0} (table : ℕ → TableId) (plan : ℕ → ShardPlan) (order : TableId) (count : ℕ)
     (locks : List (Table S V KeyedPlan P A))
-    (maps : List MapDef) (options : Options) (journals : List (List Entry)) (room : ℕ) : Type 0 where
+    (maps : List MapDef) (options : Options) : Type 0 where
   pub locks_are : AreLocks table (keys plan order) locks
   pub sized : length locks ≡ count
   pub plans : ArePlans maps options count plan
   pub options_fit : AreOptions maps options
   pub maps_are : AreImageMaps maps
-  -- the list that is handed out when the shards are closed
-  pub no_journals : journals ≡ []
-  pub room_for_all : count ≤ room

@@ -19,7 +19,8 @@ use crate::pass::Pass;
 use crate::rule::Lock;
 use crate::sharing::Shards;
 use crate::showing::close;
-use journals::{Journals, ShardJournal};
+use journal::Journal;
+use journals::Journals;
 use std::sync::Wait;
 
 impl<B: Naming> Shards<B> {
@@ -38,9 +39,10 @@ impl<B: Naming> Shards<B> {
             order,
             maps,
             options,
-            mut journals,
+            room,
             ..
         } = self;
+        let mut journals = room.into_inner().into_list();
         let count = locks.len();
         let mut seat = visitor(&order);
         'shards: for number in 0..count {
@@ -56,7 +58,7 @@ impl<B: Naming> Shards<B> {
         }
         gather_all(&order, &mut seat, passes);
         end(order, seat);
-        Journals::of(maps, options, journals)
+        Journals::written(maps, options, journals)
     }
 }
 
@@ -68,20 +70,21 @@ fn settled<B: Naming>(
     order: &Order,
     seat: &mut OrderSeat,
     passes: &mut Vec<Pass<B>>,
-) -> ShardJournal
+) -> Journal
     requires number { number < B.count }
     requires lock { IsLockOf (B.table number) (keyed (B.plan number) B.order) lock }
     requires numbered { (B.plan number).number ≡ number }
     requires order { (order.now.shared.table_id ≡ B.order) × (0 < B.order.words) }
     requires seat { seat.old.table_id ≡ B.order }
-    ensures legal { IsLegalJournal (B.plan number) result }
+    ensures legal { IsLegalJournal (B.plan number) result.entries }
+    ensures room { result.reserve ≡ (B.plan number).reserve }
     ensures settled { (place : ℕ) → place < length passes.old.items →
-        IsSettled (pass_at passes.old.items place).who (view_at (pass_at passes.old.items place) number) result }
+        IsSettled (pass_at passes.old.items place).who (view_at (pass_at passes.old.items place) number) result.entries }
     ensures count { length passes.new.items ≡ length passes.old.items }
     ensures callers { (place : ℕ) → (pass_at passes.new.items place).who ≡ (pass_at passes.old.items place).who }
     ensures deeds { (place : ℕ) → (pass_at passes.new.items place).deeds ≡ (pass_at passes.old.items place).deeds }
     ensures seat { seat.new.table_id ≡ B.order }
-    ensures taken { HasGathered number result seat.old.me seat.new.me }
+    ensures taken { HasGathered number result.entries seat.old.me seat.new.me }
     ensures others { (place other : ℕ) → other ≢ number →
         view_at (pass_at passes.new.items place) other ≡ view_at (pass_at passes.old.items place) other }
 {
@@ -91,7 +94,7 @@ fn settled<B: Naming>(
     }
     let (shard, place) = close(lock, guest).into_parts();
     gather(order, seat, place.into_seat());
-    ShardJournal::written(shard.into_journal())
+    shard.into_journal()
 }
 
 /// The seat takes in those of the passes.

@@ -8,6 +8,7 @@ mod dealer;
 mod deeds;
 mod held;
 mod item;
+mod journal_room;
 pub mod laws;
 mod lock;
 mod lock_key;

@@ -1,6 +1,7 @@
 //! The steps on a shard's word: take, mark, give, and what is done with the shard in between.
 
 ghost use Rattle.std.specs.Prelude.{◌≡◌, ◌≢◌, ◌<◌, ◌+◌, ◌*◌, ◌%◌, ◌==◌, ◌∷◌, ◌^◌, ℕ, true, false, MatchBool, [], length, IfOk, IfErr, OnErr};
+ghost use Rattle.semantics.specs.ShardPlan.{KeepsRows};
 ghost use Rattle.semantics.specs.History.{Meets, meets, IsLegalHistory, IsJournalFull};
 ghost use Rattle.semantics.specs.CallerLaws.{own_entries};
 ghost use Rattle.shard_core.specs.FewHeld.{FewAreHeld};
@@ -215,13 +216,15 @@ pub(crate) fn add<C: Ask>(
     seat.slot_mut(&lock.shared, 0).add(order, mine, who, ask)
 }
 
-/// Whether a caller may make a call now, by the whole journal of the shard that the seat has.
+/// Whether a caller may make a call now, by the whole journal of the shard that the seat has; no where no rows are kept.
 pub(crate) fn meets_now(lock: &Lock, seat: &mut LockSeat, who: Caller, call: &Call) -> bool
     requires lock { IsLock lock.now }
     requires seat { IsSeatOf lock.now.shared.table_id seat.old }
     requires taken { has_shard seat.old.me ≡ true }
     ensures same { seat.new ≡ seat.old }
-    ensures meets { result ≡ meets seat.old.me.0.key.plan (own_entries who (view_of seat.old.me).seen) who call.now }
+    ensures may { result ≡ true → Meets seat.old.me.0.key.plan (own_entries who (view_of seat.old.me).seen) who call.now }
+    ensures exact { KeepsRows seat.old.me.0.key.plan.reserve →
+        result ≡ meets seat.old.me.0.key.plan (own_entries who (view_of seat.old.me).seen) who call.now }
 {
     seat.slot_mut(&lock.shared, 0).meets(who, call)
 }

@@ -1,6 +1,7 @@
 //! A shard in the slot of its word, with its seat at the order of all deeds.
 
-ghost use Rattle.std.specs.Prelude.{◌≡◌, ◌∷◌, ◌<◌, ◌^◌, [], reverse, length, IfOk, IfErr, OnErr};
+ghost use Rattle.std.specs.Prelude.{◌≡◌, ◌∷◌, ◌<◌, ◌^◌, [], true, reverse, length, IfOk, IfErr, OnErr};
+ghost use Rattle.semantics.specs.ShardPlan.{KeepsRows};
 ghost use Rattle.semantics.specs.History.{Meets, meets, IsLegalHistory, IsLegalJournal, IsJournalFull};
 ghost use Rattle.semantics.specs.CallerLaws.{own_entries};
 ghost use Rattle.shard_core.specs.FewHeld.{FewAreHeld};
@@ -101,9 +102,11 @@ impl Lodger {
         answer
     }
 
-    /// Whether a caller may make a call now, which is a matter of its own entries.
+    /// Whether a caller may make a call now, which is a matter of its own entries; no where no rows are kept.
     pub(crate) fn meets(&self, who: Caller, call: &Call) -> bool
-        ensures { result ≡ meets self.now.key.plan (own_entries who (reverse self.now.journal)) who call.now }
+        ensures may { result ≡ true → Meets self.now.key.plan (own_entries who (reverse self.now.journal)) who call.now }
+        ensures exact { KeepsRows self.now.key.plan.reserve →
+            result ≡ meets self.now.key.plan (own_entries who (reverse self.now.journal)) who call.now }
     {
         laws::condition_is_own();
         self.shard.meets(&who, call)

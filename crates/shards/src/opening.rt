@@ -1,8 +1,8 @@
 //! Shards as they were opened, before they have names and callers.
 
-ghost use Rattle.std.specs.Prelude.{◌≡◌, ◌≤◌, ◌<◌, ◌+◌, ◌↔◌, false, IfOk, IsErrOf, IsFalse, length, replicate};
+ghost use Rattle.std.specs.Prelude.{◌≡◌, ◌≤◌, ◌<◌, ◌+◌, ◌↔◌, false, IfOk, OnOk, IsErrOf, IsFalse, length, replicate};
 ghost use Rattle.semantics.specs.declared.options.Options.{Options};
-ghost use Rattle.semantics.specs.ShardPlan.{AreOptions, are_served_options};
+ghost use Rattle.semantics.specs.ShardPlan.{AreOptions, AreServedOptions, are_served_options, recorded};
 ghost use Rattle.shards.specs.Opening.{AreOpened};
 ghost use Rattle.map_rules.specs.declared.open_fault.OpenFault.TheVariants.{BadOptions};
 ghost use Rattle.semantics.specs.Each.{Each};
@@ -13,6 +13,7 @@ ghost use Rattle.shards.specs.OrderRule.{AreShardPlaces};
 ghost use Rattle.shards.specs.SharedMaps.{AreLocks};
 
 use crate::dealer::Dealer;
+use crate::journal_room::JournalRoom;
 use crate::naming::Naming;
 use crate::new_shard::NewShard;
 use crate::order::open_order;
@@ -23,10 +24,11 @@ use crate::sharing::Shards;
 use crate::waiting::Waiting;
 use ebpf_decode::{Image, MapDef};
 use map_rules::OpenFault;
-use semantics::{Options, ShardPlan};
+use semantics::{Options, Recording, ShardPlan};
 use shard_core::Shard;
 use std::alloc::{AllocError, Global};
 use std::marker::{Model, PhantomData};
+use std::sync::Mutex;
 
 /// The shards of an image's maps, in which nothing has happened. Contracts see the maps, the options, and of each shard its plan and the
 /// name of its word.
@@ -59,14 +61,31 @@ impl Model for Opened {
 }
 
 impl Opened {
-    /// Opens the shards of the image's maps. Takes all memory that they will ever need, but what `share` and `pass` say. Refused with 51
-    /// where the options are none that are served, and with 52 for lack of memory; then nothing is left.
+    /// Opens the shards of the image's maps, with journals whose rows are kept. Takes all memory that they will ever need, but what `share` and `pass`
+    /// say. Refused with 51 where the options are none that are served, and with 52 for lack of memory; then nothing is left.
     pub fn open(alloc: Global, image: &Image, options: Options) -> Result<Self, OpenFault>
         ensures maps { IfOk result (λ opened. opened.maps ≡ image.now.maps) }
         ensures options { IfOk result (λ opened. opened.options ≡ options) }
         ensures bad_options { IsErrOf result BadOptions ↔ IsFalse (are_served_options image.now.maps options) }
     {
-        let shards = PlainShards::open(alloc, image, options)?.into_list();
+        Opened::open_with(alloc, image, options, Recording::Rows)
+    }
+
+    /// The same, with journals whose rows are kept or not. Without rows the room of a journal does not depend on the options, which are refused all the
+    /// same.
+    pub fn open_with(
+        alloc: Global,
+        image: &Image,
+        options: Options,
+        recording: Recording,
+    ) -> Result<Self, OpenFault>
+        ensures maps { IfOk result (λ opened. opened.maps ≡ image.now.maps) }
+        ensures options { IfOk result (λ opened. opened.options ≡ recorded recording options) }
+        ensures served { OnOk result (AreServedOptions image.now.maps options) }
+        ensures bad_options { IsErrOf result BadOptions ↔ IsFalse (are_served_options image.now.maps options) }
+    {
+        let shards = PlainShards::open_with(alloc, image, options, recording)?.into_list();
+        let options = options.recorded(recording);
         let maps = copied(alloc, image.maps())?;
         let callers = options.workers as usize + 2;
         let plans = plans_of(alloc, &shards)?;
@@ -96,14 +115,14 @@ impl Opened {
             places,
         } = self;
         let dealt = vec![in alloc; false; options.workers as usize + 2]?;
-        let journals = Vec::with_capacity(alloc, shards.len())?;
+        let room = JournalRoom::of(alloc, shards.len())?;
         let (locks, rows, rooms) = parted::<B>(alloc, shards)?;
         let shards = Shards {
             locks,
             order,
             maps,
             options,
-            journals,
+            room: Mutex::new(room),
             names: PhantomData,
         };
         let dealer = Dealer {

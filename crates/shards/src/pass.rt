@@ -1,7 +1,8 @@
 //! What a caller has for its calls.
 
-ghost use Rattle.std.specs.Prelude.{◌≡◌, ◌<◌, ◌∷◌, ◌++◌, IfOk, IfErr, OnErr};
-ghost use Rattle.semantics.specs.History.{meets, IsLegalHistory};
+ghost use Rattle.std.specs.Prelude.{◌≡◌, ◌<◌, ◌∷◌, ◌++◌, true, IfOk, IfErr, OnErr};
+ghost use Rattle.semantics.specs.ShardPlan.{KeepsRows};
+ghost use Rattle.semantics.specs.History.{Meets, meets, IsLegalHistory};
 ghost use Rattle.semantics.specs.declared.call.Call.TheVariants.{Enter};
 ghost use Rattle.shards.specs.CallerView.{BeginsWith, HasLooked};
 ghost use Rattle.semantics.specs.CallerLaws.{own_entries};
@@ -133,7 +134,8 @@ impl<B: Naming> Pass<B> {
         requires lock { IsLockOf (B.table number) (keyed (B.plan number) B.order) lock.now }
         ensures elsewhere { IsElsewhereSame number self.old self.new }
         ensures looked { HasLooked (B.plan number) (view_at self.old number) (view_at self.new number) }
-        ensures meets { result ≡ meets (B.plan number) (own_at self.new number) self.new.who call.now }
+        ensures may { result ≡ true → Meets (B.plan number) (own_at self.new number) self.new.who call.now }
+        ensures exact { KeepsRows (B.plan number).reserve → result ≡ meets (B.plan number) (own_at self.new number) self.new.who call.now }
         ensures did { self.new.deeds ≡ self.old.deeds }
     {
         self.parts[number as usize].may_call(rt, lock, self.who, call)

@@ -4,14 +4,15 @@ ghost use Rattle.std.specs.Prelude.{◌≡◌, ◌<◌, ◌≤◌, ◌↔◌, So
 ghost use Rattle.std.specs.Borrow.{sem};
 ghost use Rattle.std.specs.List.{AllByRecursion};
 ghost use Rattle.semantics.specs.PlanLimits.{HasImageSizes};
-ghost use Rattle.semantics.specs.ShardPlan.{AreOptions, are_served_options};
+ghost use Rattle.semantics.specs.ShardPlan.{AreOptions, AreServedOptions, are_served_options, recorded};
 ghost use Rattle.shards.specs.Opening.{AreOpened};
 ghost use Rattle.map_rules.specs.declared.open_fault.OpenFault.TheVariants.{BadOptions};
 
 use crate::plain_opening::open_each;
 use ebpf_decode::{Image, MapDef};
 use map_rules::OpenFault;
-use shard_core::{Options, Shard};
+use semantics::{Options, Recording};
+use shard_core::Shard;
 use std::alloc::{AllocError, Global};
 use std::marker::Model;
 
@@ -33,18 +34,34 @@ impl Model for PlainShards {
 impl PlainShards {
     ghost use Rattle.shards.specs.Lending.{LendsShard};
 
-    /// The shards of the image's maps, in which nothing has happened. Takes all memory that they will ever need. Refused with
-    /// 51 where the maps can't be opened with these options, and with 52 without memory.
+    /// The shards of the image's maps, in which nothing has happened, with journals whose rows are kept. Takes all memory that they will ever need.
+    /// Refused with 51 where the maps can't be opened with these options, and with 52 without memory.
     pub fn open(alloc: Global, image: &Image, options: Options) -> Result<Self, OpenFault>
         ensures opened { IfOk result (λ shards. AreOpened image.now.maps options shards) }
-        ensures options { OnOk result (AreOptions image.now.maps options) }
+        ensures options { OnOk result (AreServedOptions image.now.maps options) }
+        ensures bad_options { IsErrOf result BadOptions ↔ IsFalse (are_served_options image.now.maps options) }
+    {
+        PlainShards::open_with(alloc, image, options, Recording::Rows)
+    }
+
+    /// The same, with journals whose rows are kept or not. Without rows the room of a journal does not depend on the options, which are refused all the
+    /// same.
+    pub fn open_with(
+        alloc: Global,
+        image: &Image,
+        options: Options,
+        recording: Recording,
+    ) -> Result<Self, OpenFault>
+        ensures opened { IfOk result (λ shards. AreOpened image.now.maps (recorded recording options) shards) }
+        ensures options { OnOk result (AreServedOptions image.now.maps options) }
+        ensures fit { OnOk result (AreOptions image.now.maps (recorded recording options)) }
         ensures bad_options { IsErrOf result BadOptions ↔ IsFalse (are_served_options image.now.maps options) }
     {
         let maps = maps_of(image);
         if !options.fit(maps) {
             return Err(OpenFault::BadOptions);
         }
-        let shards = open_each(alloc, maps, &options)?;
+        let shards = open_each(alloc, maps, &options.recorded(recording))?;
         Ok(PlainShards { shards })
     }
 

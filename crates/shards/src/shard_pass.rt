@@ -2,6 +2,7 @@
 
 ghost use Rattle.std.specs.Prelude.{◌≡◌, ◌≤◌, ◌∷◌, ◌++◌, ℕ, [], true, false, IfOk, IfErr, OnErr};
 ghost use Rattle.semantics.specs.CallerLaws.{own_entries};
+ghost use Rattle.semantics.specs.ShardPlan.{KeepsRows};
 ghost use Rattle.semantics.specs.History.{Meets, meets, IsLegalHistory};
 ghost use Rattle.semantics.specs.Reclamation.{held_change};
 ghost use Rattle.semantics.specs.declared.call.Call.TheVariants.{Enter};
@@ -159,7 +160,7 @@ impl ShardPass {
         answer
     }
 
-    /// Whether the caller may make the call now.
+    /// Whether the caller may make the call now; no where no rows are kept.
     pub(crate) fn may_call(&mut self, rt: &impl Wait, lock: &Lock, who: Caller, call: &Call) -> bool
         requires lock { IsLockOf self.old.table self.old.key lock.now }
         requires who { self.old.who ≡ who }
@@ -167,7 +168,8 @@ impl ShardPass {
         ensures same { IsSameShard self.old self.new }
         ensures alone { self.new.has_it ≡ false }
         ensures looked { HasLooked self.old.key.plan self.old.view self.new.view }
-        ensures meets { result ≡ meets self.old.key.plan self.new.view.own who call.now }
+        ensures may { result ≡ true → Meets self.old.key.plan self.new.view.own who call.now }
+        ensures exact { KeepsRows self.old.key.plan.reserve → result ≡ meets self.old.key.plan self.new.view.own who call.now }
     {
         self.take(rt, lock);
         let answer = self.meets(lock, who, call);
@@ -296,7 +298,8 @@ impl ShardPass {
         requires who { self.old.who ≡ who }
         requires taken { self.old.has_it ≡ true }
         ensures same { self.new ≡ self.old }
-        ensures meets { result ≡ meets self.old.key.plan self.old.view.own who call.now }
+        ensures may { result ≡ true → Meets self.old.key.plan self.old.view.own who call.now }
+        ensures exact { KeepsRows self.old.key.plan.reserve → result ≡ meets self.old.key.plan self.old.view.own who call.now }
     {
         meets_now(lock, &mut self.seat, who, call)
     }

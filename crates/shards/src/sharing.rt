@@ -43,10 +43,10 @@
 //! all of its entries in that history (`Sees`), and they part again. `close` shows each shard to each pass that was handed in, puts the shard back for
 //! good (`Ends`, phase 3), and takes the table apart: the shard is in its slot then, with the history that the passes were shown.
 
-ghost use Rattle.std.specs.Prelude.{◌≡◌, ◌<◌, ◌∷◌, ◌++◌, IfOk, IfErr, OnErr};
+ghost use Rattle.std.specs.Prelude.{◌≡◌, ◌<◌, ◌∷◌, ◌++◌, true, IfOk, IfErr, OnErr};
 ghost use Rattle.semantics.specs.declared.call.Call.TheVariants.{Enter};
-ghost use Rattle.semantics.specs.History.{meets, shard_of_call};
-ghost use Rattle.semantics.specs.ShardPlan.{AreOptions};
+ghost use Rattle.semantics.specs.History.{Meets, meets, shard_of_call};
+ghost use Rattle.semantics.specs.ShardPlan.{AreOptions, KeepsRows};
 ghost use Rattle.journals.specs.JournalsView.{AreImageMaps};
 ghost use Rattle.shards.specs.CallerView.{HasLooked};
 ghost use Rattle.shards.specs.Deeds.{deed_by, deeds_by_both};
@@ -58,6 +58,7 @@ ghost use Rattle.shards.specs.SharedMaps.{ArePlans};
 ghost use Rattle.shards.specs.Asked.{MayAsk, MayAskInside, IsAnswered, IsTurnedAway, EnteredAndAnswered, IsStopped};
 
 use crate::asks::{Ask, Calls};
+use crate::journal_room::JournalRoom;
 use crate::lock::visit;
 use crate::naming::Naming;
 use crate::order_rule::Order;
@@ -66,10 +67,9 @@ use crate::rule::Lock;
 use crate::showing::leave;
 use crate::stopped::Stopped;
 use ebpf_decode::MapDef;
-use journals::ShardJournal;
 use semantics::{Call, JournalFull, Options, Reply};
 use std::marker::{Model, PhantomData};
-use std::sync::Wait;
+use std::sync::{Mutex, Wait};
 
 /// The shards of an image's maps, map after map, behind a lock each. Threads share them by reference. Contracts see the maps and the options
 /// that they were opened with.
@@ -80,12 +80,11 @@ pub struct Shards<B: Naming> {
     pub(crate) maps: Vec<MapDef>,
     pub(crate) options: Options,
     /// Room for the journals, which `close` hands out.
-    pub(crate) journals: Vec<ShardJournal>,
+    pub(crate) room: Mutex<JournalRoom<B>>,
     pub(crate) names: PhantomData<B>,
 }
 
 impl<B: Naming> Model for Shards<B> {
-    ghost use Rattle.std.specs.Prelude.{vec_capacity};
     ghost use Rattle.shards.specs.OrderRule.{IsOrderOf};
     ghost use Rattle.shards.specs.SharedMaps.{SharedMaps, AreShared};
 
@@ -94,7 +93,7 @@ impl<B: Naming> Model for Shards<B> {
     ghost view = { λ shards. record { maps = shards.maps.items; options = shards.options } };
 
     ghost invariant = { λ shards. AreShared B.table B.plan B.order B.count shards.locks.items
-        shards.maps.items shards.options shards.journals.items (vec_capacity shards.journals)
+        shards.maps.items shards.options
         × IsOrderOf B.order B.plan B.count shards.order };
 }
 
@@ -202,13 +201,17 @@ impl<B: Naming> Shards<B> {
     }
 
     /// Whether the pass's caller may make the call now; the pass has then seen the shard's history. Waits for the shard's lock, takes no
-    /// memory, and may read the whole journal: it is for callers that cannot tell by what they did.
+    /// memory, and may read the whole journal: it is for callers that cannot tell by what they did. Where no rows are kept it cannot say, and returns
+    /// false.
     pub fn may_call(&self, rt: &impl Wait, pass: &mut Pass<B>, call: &Call) -> bool
         requires shard { shard_of_call call.now < B.count }
         ensures elsewhere { IsElsewhereSame (shard_of_call call.now) pass.old pass.new }
         ensures looked { HasLooked (B.plan (shard_of_call call.now)) (view_at pass.old (shard_of_call call.now))
             (view_at pass.new (shard_of_call call.now)) }
-        ensures meets { result ≡ meets (B.plan (shard_of_call call.now)) (own_at pass.new (shard_of_call call.now)) pass.new.who call.now }
+        ensures may { result ≡ true →
+            Meets (B.plan (shard_of_call call.now)) (own_at pass.new (shard_of_call call.now)) pass.new.who call.now }
+        ensures exact { KeepsRows (B.plan (shard_of_call call.now)).reserve →
+            result ≡ meets (B.plan (shard_of_call call.now)) (own_at pass.new (shard_of_call call.now)) pass.new.who call.now }
         ensures did { pass.new.deeds ≡ pass.old.deeds }
     {
         pass.may_call(rt, self.lock(call.shard()), call.shard(), call)

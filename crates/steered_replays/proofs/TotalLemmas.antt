@@ -1,5 +1,5 @@
 -- The counts in the maps are those of the report.
-use Rattle.std.proofs.Common.{◌≡◌, ◌⊎◌, inl, inr, ℕ, ◌+◌, ◌*◌, ◌%◌, ◌/◌, ◌^◌, ◌<◌, ◌≤◌, ◌==◌, Bool, List, [], ◌∷◌, length, refl, sym, ◌∙◌, ap, subst, arith}
+use Rattle.std.proofs.Common.{◌≡◌, ◌⊎◌, inl, inr, ℕ, ◌+◌, ◌*◌, ◌%◌, ◌/◌, ◌^◌, ◌<◌, ◌≤◌, ◌==◌, ◌++◌, Bool, List, [], ◌∷◌, length, refl, sym, ◌∙◌, ap, subst, arith}
 use Rattle.std.specs.Prelude.{Option, Some, None, reverse, slice_get, if◌then◌else◌}
 use Rattle.std.specs.List.{AllByRecursion}
 use Rattle.std.proofs.Math.Nat.{mod-lt}
@@ -39,7 +39,8 @@ use Rattle.replay.specs.declared.runner.RunEnd.TheVariants.{Stopped, Exited}
 use Rattle.replay.specs.Accounts.{runs_at}
 use Rattle.replay.specs.Parts.{rounds_of}
 use Rattle.replay.specs.RunJobs.{records_of}
-use Rattle.replay.specs.Commands.{opened_controller}
+use Rattle.replay.specs.Commands.{opened_controller, all_set, made_in, with_updates}
+use Rattle.map_updates.specs.declared.update.MapUpdate.{MapUpdate}
 use Rattle.replay.specs.Rounds.{IsReclaimedBy}
 use Rattle.replay.specs.RunsInOrder.{IsRunAt, IsChainOfRuns}
 use Rattle.replay.specs.Shares.{frames_of, share}
@@ -230,7 +231,8 @@ rounds_none : (kind : MapKind) → kind ≡ Array → (plan : ShardPlan) (number
 rounds_none kind array plan number rounds own seen made = subst (λ (k : MapKind). IsReclaimedBy k plan number rounds own seen) array made
 
 module _ (exact : CountsAreExact) (finds : LookupsOfArraysFind) (size : ℕ) (script : List Command) (options : Options) (records : List Sent) (outcome : Outcome)
-    (fit : AreOptions (steering_maps size) options) (replayed : IsSteeredReplay size script options records outcome) (none : outcome.counts.stopped ≡ 0) where
+    (fit : AreOptions (steering_maps size) options) (replayed : IsSteeredReplay size script options records outcome) (none_set : outcome.updates.items ≡ [])
+    (none : outcome.counts.stopped ≡ 0) where
   abbrev setting : Setting
   setting = of_size options.shards size
 
@@ -318,7 +320,8 @@ module _ (exact : CountsAreExact) (finds : LookupsOfArraysFind) (size : ℕ) (sc
     controller_none : own_entries Controller (history number) ≡ []
     controller_none =
         let commands = replayed.accounted.commands in
-        commands.own number within ∙ none_from_commands size options some number past (opened_controller commands.size) commands.done commands.state commands.are_done
+        let none_first = ap (λ (updates : List MapUpdate). with_updates (steering_maps size) options number (all_set updates ++ made_in commands.done) []) none_set in
+        commands.own number within ∙ none_first ∙ none_from_commands size options some number past (opened_controller commands.size) commands.done commands.state commands.are_done
 
     reclaimer_none : own_entries Reclaimer (history number) ≡ []
     reclaimer_none =

@@ -1,5 +1,5 @@
 -- The counts in the maps of the shipped program, after a replay.
-use Rattle.std.specs.Prelude.{◌≡◌, ℕ, List, Some, reverse}
+use Rattle.std.specs.Prelude.{◌≡◌, ℕ, List, [], Some, reverse}
 use Rattle.std.specs.List.{AllByRecursion}
 use Rattle.wire.specs.declared.records.Sent.{Sent}
 use Rattle.semantics.specs.declared.options.Options.{Options}
@@ -43,10 +43,10 @@ pub record AreTotals (outcome : Outcome) : Type 0 where
   pub pass : HasCount outcome.journals Pass outcome.counts.pass
   pub tx : HasCount outcome.journals Tx outcome.counts.tx
 
--- a replay of the shipped program that stopped no run leaves them so
+-- a replay of the shipped program, without updates before its first record, that stopped no run leaves them so
 abbrev pub TotalsAreExact : Type 0
 TotalsAreExact =
     (size : ℕ) → IsRingSize size → (script : List Command) (options : Options) (records : List Sent) (outcome : Outcome) →
     AreOptions (steering_maps size) options → AllByRecursion IsOfCapture records →
     IsAccounted (shipped_program (of_size options.shards size)) script options records outcome →
-    outcome.counts.stopped ≡ 0 → AreTotals outcome
+    outcome.updates.items ≡ [] → outcome.counts.stopped ≡ 0 → AreTotals outcome

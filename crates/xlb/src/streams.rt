@@ -110,6 +110,8 @@ pub(crate) fn with_streams<'a>(settings: Settings<'a>) -> Settings<'a> {
             exact,
             summary,
             skip_long,
+            no_journals,
+            updates,
         } => Settings::Replay {
             files: replay_files(files),
             options,
@@ -117,6 +119,8 @@ pub(crate) fn with_streams<'a>(settings: Settings<'a>) -> Settings<'a> {
             exact,
             summary,
             skip_long,
+            no_journals,
+            updates,
         },
     }
 }

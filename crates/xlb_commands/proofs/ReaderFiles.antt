@@ -25,9 +25,10 @@ program_over maps code shards = record { code = code; maps = maps; shards = shar
 -- a replay without commands, in which no run was stopped
 pub reader_file_is : (maps : List MapDef) (code : List Insn) (script : List Command) (options : Options) (records : List Sent) (outcome : Outcome)
     → SendsAsAtOpening maps code → AreOptions outcome.journals.maps outcome.journals.options → AllByRecursion IsCaptured records
-    → IsAccounted (program_over maps code options.shards) script options records outcome → script ≡ [] → outcome.counts.stopped ≡ 0
+    → IsAccounted (program_over maps code options.shards) script options records outcome → outcome.updates.items ≡ [] → script ≡ []
+    → outcome.counts.stopped ≡ 0
     → capture_bytes outcome.sent.items ≡ reader_file (program_over maps code options.shards) records
-reader_file_is maps code script options records outcome alike fit captured accounted none unstopped =
+reader_file_is maps code script options records outcome alike fit captured accounted none_set none unstopped =
     let fits : AreOptions maps options =
     subst (λ (o : Options). AreOptions maps o) accounted.options_are
     (subst (λ (m : List MapDef). AreOptions m outcome.journals.options) accounted.maps fit) in
@@ -35,4 +36,4 @@ reader_file_is maps code script options records outcome alike fit captured accou
     subst (λ (commands : List Command). IsAccounted (program_over maps code options.shards) commands options records outcome) none accounted in
     ap (λ (rest : List ℕ). header_bytes ++ rest)
     (records_are outcome.sent.items
-    ∙ ap (λ (frames : List SentFrame). frame_records frames) (alike options records outcome fits captured without unstopped))
+    ∙ ap (λ (frames : List SentFrame). frame_records frames) (alike options records outcome fits captured without none_set unstopped))

@@ -21,7 +21,7 @@ abbrev pub IsOver : Settings → List ℕ → List ℕ → Type 0
 IsOver (Asm text out source) written other = (written ≡ out.now) × (other ≡ text.now)
 IsOver (Run files now worker updates) written other =
     (text_of files.journals ≡ Some written) × ((other ≡ files.image.now) ⊎ (other ≡ files.frame.now))
-IsOver (Replay files options ring exact summary skip_long) written other = IsOverInReplay files written other
+IsOver (Replay files options ring exact summary skip_long no_journals updates) written other = IsOverInReplay files written other
 IsOver settings written other = ⊥
 
 -- the names of what the command writes are no others that it has

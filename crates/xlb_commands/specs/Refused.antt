@@ -37,7 +37,8 @@ use Rattle.wire.specs.declared.capture_fault.CaptureFault.{CaptureFault}
 use Rattle.wire.specs.CaptureFormat.{Refuses as RefusesCapture, capture_bytes}
 use Rattle.semantics.specs.declared.options.Options.{Options}
 use Rattle.semantics.specs.declared.verdict.Verdict.{Verdict}
-use Rattle.semantics.specs.ShardPlan.{are_served_options}
+use Rattle.semantics.specs.declared.options.Recording.{Recording}
+use Rattle.semantics.specs.ShardPlan.{are_served_options, recorded}
 use Rattle.map_rules.specs.declared.open_fault.OpenFault.TheVariants as opens
 use Rattle.machine.specs.declared.exit.Stop.{Stop}
 use Rattle.map_updates.specs.Misfits.{AreFitting}
@@ -55,6 +56,7 @@ use Rattle.control.specs.declared.fault.ControlFault.TheVariants as scripts
 use Rattle.control.specs.ScriptReading.{Explains as ExplainsScript}
 use Rattle.replay.specs.declared.fault.ReplayFault.{ReplayFault}
 use Rattle.replay.specs.declared.fault.ReplayFault.TheVariants as replays
+use Rattle.replay.specs.UpdateFaults.{OfUpdate, IsWhyByPass, IsWhyInTurn}
 use Rattle.replay.specs.declared.outcome.Outcome.{Outcome}
 use Rattle.replay.specs.Parts.{HasNoTable}
 use Rattle.replay.specs.Accounted.{IsAccounted}
@@ -68,7 +70,7 @@ use Rattle.xlb_commands.specs.declared.fault.Fault.TheVariants as faults
 use Rattle.xlb_commands.specs.Files.{FileBytes, AreKept, AreOthersKept, IsImageFile, IsJudged}
 use Rattle.xlb_commands.specs.Clashes.{IsOver, clash_text}
 use Rattle.xlb_commands.specs.FaultLines.{fault_line, mistake_text}
-use Rattle.xlb_commands.specs.Replays.{AreWritten, IsProgramOf, IsScriptFile, IsScriptOf, IsCaptureOf, AreCaptureBytes, program_of_replay}
+use Rattle.xlb_commands.specs.Replays.{AreWritten, IsProgramOf, IsScriptFile, IsScriptOf, IsCaptureOf, AreCaptureBytes, program_of_replay, recording_of}
 use Rattle.xlb_commands.specs.Results.{IsDone, IsDoneInPart, IsReported, IsMistake, Stream, run_options, program_of_run, start_of_run}
 
 -- ---- files
@@ -345,18 +347,22 @@ pub data IsCaptureRefusal (files : FileBytes) (failed : Type 0) (skip_long : Boo
   no_capture_bytes : IsUnserved failed fault → IsCaptureRefusal files failed skip_long name fault
   no_capture : (bytes : List ℕ) → files name bytes → IsNoCaptureIn skip_long bytes fault → IsCaptureRefusal files failed skip_long name fault
 
--- what a replay reads: a program that may run, a script and a capture
-pub record AreReplayInputs (files : FileBytes) (names : ReplayFiles) (ring : ℕ) (skip_long : Bool) (program : Contents) (script : List Command)
-    (records : List Sent) : Type 0 where
+-- what a replay reads: a program that may run and whose maps take the updates, a script and a capture
+pub record AreReplayInputs (files : FileBytes) (names : ReplayFiles) (ring : ℕ) (skip_long : Bool) (updates : List MapUpdate) (program : Contents)
+    (script : List Command) (records : List Sent) : Type 0 where
+  pub fits : AreFitting program.maps updates
   pub program_is : IsReplayProgram files (text_of names.image) ring program
   pub script_is : IsScriptOf files (text_of names.script) script
   pub capture_is : IsCaptureOf files skip_long names.capture.now records
 
 -- why the replay was given up: for its options exactly where no shards are opened with them, or the script has commands and the maps are not those of
--- steering; else memory was refused, or a thread could not be started, of which an exact replay has none
-pub record IsGivenUp (exact : Bool) (maps : List MapDef) (script : List Command) (options : Options) (why : ReplayFault) : Type 0 where
+-- steering; else memory was refused, an update was refused or met a full journal, or a thread could not be started, of which an exact replay has none
+pub record IsGivenUp (exact : Bool) (maps : List MapDef) (updates : List MapUpdate) (script : List Command) (options : Options) (recording : Recording) (why : ReplayFault) :
+    Type 0 where
   pub options_are_bad : (why ≡ replays.BadOptions) ↔ (IsFalse (are_served_options maps options) ⊎ HasNoTable maps script)
   pub no_thread : exact ≡ true → ¬ (why ≡ replays.NoThread)
+  pub by_pass : exact ≡ false → OfUpdate (IsWhyByPass maps (recorded recording options) updates) why
+  pub in_turn : exact ≡ true → OfUpdate (IsWhyInTurn maps (recorded recording options) updates) why
 
 -- The files of a replay were not written: that of the sent frames, and no other file changed; or that of the journals, and the sent frames are in theirs;
 -- or that of the report, and the sent frames and the journals are in theirs.
@@ -371,25 +377,28 @@ pub data AreUnfiled (before after : FileBytes) (failed : Type 0) (names : Replay
 
 -- xlb replay: no program that may run; no script; no capture; a replay that was given up; one that was made, and memory was refused for its sent frames,
 -- its journals, its report or what is printed; until then no file changed; or its files were not written
-pub data IsReplayRefusal (files after : FileBytes) (failed : Type 0) (names : ReplayFiles) (options : Options) (ring : ℕ)
-    (exact skip_long : Bool) (fault : Fault) : Type 0 where
+pub data IsReplayRefusal (files after : FileBytes) (failed : Type 0) (names : ReplayFiles) (options : Options) (recording : Recording) (ring : ℕ)
+    (exact skip_long : Bool) (updates : List MapUpdate) (fault : Fault) : Type 0 where
   no_replay_program : AreKept files after → IsReplayProgramRefusal files failed (text_of names.image) ring fault
-      → IsReplayRefusal files after failed names options ring exact skip_long fault
+      → IsReplayRefusal files after failed names options recording ring exact skip_long updates fault
   no_replay_script : (program : Contents) → AreKept files after → IsReplayProgram files (text_of names.image) ring program
-      → IsScriptRefusal files failed (text_of names.script) fault → IsReplayRefusal files after failed names options ring exact skip_long fault
+      → IsScriptRefusal files failed (text_of names.script) fault → IsReplayRefusal files after failed names options recording ring exact skip_long updates fault
   no_replay_capture : (program : Contents) (script : List Command) → AreKept files after → IsReplayProgram files (text_of names.image) ring program
       → IsScriptOf files (text_of names.script) script → IsCaptureRefusal files failed skip_long names.capture.now fault
-      → IsReplayRefusal files after failed names options ring exact skip_long fault
+      → IsReplayRefusal files after failed names options recording ring exact skip_long updates fault
   given_up : (program : Contents) (script : List Command) (records : List Sent) (why : ReplayFault) → AreKept files after
-      → AreReplayInputs files names ring skip_long program script records → IsGivenUp exact program.maps script options why → fault ≡ faults.Replay why
-      → IsReplayRefusal files after failed names options ring exact skip_long fault
+      → AreReplayInputs files names ring skip_long updates program script records → IsGivenUp exact program.maps updates script options recording why
+      → fault ≡ faults.Replay why
+      → IsReplayRefusal files after failed names options recording ring exact skip_long updates fault
   not_reported : (program : Contents) (script : List Command) (records : List Sent) (outcome : Outcome) → AreKept files after
-      → AreReplayInputs files names ring skip_long program script records → IsAccounted (program_of_replay program options) script options records outcome
-      → LacksRoom (text_of names.journals) fault → IsReplayRefusal files after failed names options ring exact skip_long fault
+      → AreReplayInputs files names ring skip_long updates program script records
+      → IsAccounted (program_of_replay program options) script (recorded recording options) records outcome → outcome.updates.items ≡ updates
+      → LacksRoom (text_of names.journals) fault → IsReplayRefusal files after failed names options recording ring exact skip_long updates fault
   not_written_down : (program : Contents) (script : List Command) (records : List Sent) (outcome : Outcome)
-      → AreReplayInputs files names ring skip_long program script records → IsAccounted (program_of_replay program options) script options records outcome
+      → AreReplayInputs files names ring skip_long updates program script records
+      → IsAccounted (program_of_replay program options) script (recorded recording options) records outcome → outcome.updates.items ≡ updates
       → AreUnfiled files after failed names (capture_bytes outcome.sent.items) outcome.journals fault
-      → IsReplayRefusal files after failed names options ring exact skip_long fault
+      → IsReplayRefusal files after failed names options recording ring exact skip_long updates fault
 
 -- ---- commands
 
@@ -405,8 +414,8 @@ IsRefusedWith before after failed (Asm text out false) fault = IsAsmRefusal befo
 IsRefusedWith before after failed (Asm text out true) fault = IsSourceRefusal before after failed text.now fault
 IsRefusedWith before after failed (Shipped out ring) fault = IsShippedFileRefusal before after failed ring fault
 IsRefusedWith before after failed (Table script ring) fault = IsTableRefusal before failed script.now ring fault
-IsRefusedWith before after failed (Replay files options ring exact summary skip_long) fault =
-    IsReplayRefusal before after failed files options ring exact skip_long fault
+IsRefusedWith before after failed (Replay files options ring exact summary skip_long without updates) fault =
+    IsReplayRefusal before after failed files options (recording_of without (text_of files.journals)) ring exact skip_long updates.items fault
 
 -- the fault that is told: the command was refused with it; or it was done, and what it prints could not be printed
 pub data IsToldFault (before after : FileBytes) (failed unprinted : Type 0) (settings : Settings) (fault : Fault) : Type 0 where

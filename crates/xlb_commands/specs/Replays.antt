@@ -4,6 +4,9 @@ use Rattle.std.specs.List.{flat_map}
 use Rattle.ebpf_decode.specs.ImageContents.{Contents}
 use Rattle.semantics.specs.Safety.{IsSafeImage}
 use Rattle.semantics.specs.declared.options.Options.{Options}
+use Rattle.semantics.specs.declared.options.Recording.{Recording}
+use Rattle.semantics.specs.declared.options.Recording.TheVariants.{Rows, NoRows}
+use Rattle.semantics.specs.ShardPlan.{recorded}
 use Rattle.semantics.specs.Program.{Program}
 use Rattle.abstract_state.specs.declared.state.State.{State}
 use Rattle.verifier.specs.Dataflow.{Accepts}
@@ -17,6 +20,7 @@ use Rattle.control.specs.declared.command.Command.{Command}
 use Rattle.control.specs.declared.fault.ControlFault.{ControlFault}
 use Rattle.control.specs.FaultNumber.{control_fault_number}
 use Rattle.control.specs.ScriptText.{IsScriptText}
+use Rattle.map_updates.specs.declared.update.MapUpdate.{MapUpdate}
 use Rattle.journals.specs.JournalsView.{JournalsView}
 use Rattle.journals.specs.JournalText.{journals_text}
 use Rattle.replay.specs.declared.account.Counts.{Counts}
@@ -119,6 +123,12 @@ refusals_text refused = flat_map (λ (one : Applied). refusal_of one.command one
 
 -- ---- a replay
 
+-- whether rows of journals are kept: where they are not wanted, and no file is named for them, they are not
+abbrev pub recording_of : Bool → Option (List ℕ) → Recording
+recording_of true None = NoRows
+recording_of true (Some name) = Rows
+recording_of false name = Rows
+
 -- the image's program over maps of so many shards each
 abbrev pub program_of_replay : Contents → Options → Program
 program_of_replay image options = record { code = image.code; maps = image.maps; shards = options.shards }
@@ -159,12 +169,12 @@ pub record KeepsHeadline (image : Contents) (script : List Command) (options : O
   pub image_is : record { version = verified.version; maps = verified.maps; code = verified.code } ≡ image
   pub kept : Headline verified script options records outcome
 
--- The program may run; script and capture are read from their files; the replay accounts for every record, every command and every entry of the
--- journals; an exact one was made in turn; the headline holds of it; the shipped program follows the steering rule; one that only reads sends the same
--- for every number of workers; the sent frames, the journals and the report are written to their files; and what is printed are the counts, and the
--- commands that were refused.
-pub record IsReplayed (before after : FileBytes) (files : ReplayFiles) (options : Options) (ring : ℕ) (exact skip_long : Bool) (printed : List ℕ)
-    (refused : List Applied) : Type 0 where
+-- The program may run; script and capture are read from their files; the replay made these updates before the first frame, and accounts for every
+-- record, every command and every entry of the journals; an exact one was made in turn; the headline holds of it; without updates the shipped program
+-- follows the steering rule, and one that only reads sends the same for every number of workers; the sent frames, the journals and the report are
+-- written to their files; and what is printed are the counts, and the commands that were refused. Where no rows of journals are kept, the journals are known to proofs alone.
+pub record IsReplayed (before after : FileBytes) (files : ReplayFiles) (options : Options) (recording : Recording) (ring : ℕ)
+    (exact skip_long : Bool) (updates : List MapUpdate) (printed : List ℕ) (refused : List Applied) : Type 0 where
   pub program : Contents
   pub program_is : IsProgramOf before (text_of files.image) ring program
   pub states : List (Option State)
@@ -175,11 +185,12 @@ pub record IsReplayed (before after : FileBytes) (files : ReplayFiles) (options 
   pub records : List Sent
   pub capture : IsCaptureOf before skip_long files.capture.now records
   pub outcome : Outcome
-  pub accounted : IsAccounted (program_of_replay program options) script options records outcome
-  pub in_turn : exact ≡ true → IsInTurn (program_of_replay program options) script options records outcome
-  pub headline : KeepsHeadline program script options records outcome
-  pub by_rule : FollowsRule (text_of files.image) ring script options records outcome
-  pub readers : SendsAlike program states script options records outcome
+  pub updates_are : outcome.updates.items ≡ updates
+  pub accounted : IsAccounted (program_of_replay program options) script (recorded recording options) records outcome
+  pub in_turn : exact ≡ true → IsInTurn (program_of_replay program options) script (recorded recording options) records outcome
+  pub headline : KeepsHeadline program script (recorded recording options) records outcome
+  pub by_rule : updates ≡ [] → FollowsRule (text_of files.image) ring script (recorded recording options) records outcome
+  pub readers : updates ≡ [] → SendsAlike program states script (recorded recording options) records outcome
   pub refused_are : outcome.refused.items ≡ refused
   -- the journals are written after the sent frames, and the report after both; two of them have one name in no command that is done (Clashes)
   pub sent :
@@ -189,12 +200,13 @@ pub record IsReplayed (before after : FileBytes) (files : ReplayFiles) (options 
   pub lines : printed ≡ counts_text outcome.counts ++ refusals_text refused
 
 -- and every command of the script was carried out
-abbrev pub IsReplayedWhole : FileBytes → FileBytes → ReplayFiles → Options → ℕ → Bool → Bool → List ℕ → Type 0
-IsReplayedWhole before after files options ring exact skip_long printed = IsReplayed before after files options ring exact skip_long printed []
+abbrev pub IsReplayedWhole : FileBytes → FileBytes → ReplayFiles → Options → Recording → ℕ → Bool → Bool → List MapUpdate → List ℕ → Type 0
+IsReplayedWhole before after files options recording ring exact skip_long updates printed =
+    IsReplayed before after files options recording ring exact skip_long updates printed []
 
 -- but some command of the script was refused
-pub record IsReplayedInPart (before after : FileBytes) (files : ReplayFiles) (options : Options) (ring : ℕ) (exact skip_long : Bool)
-    (printed : List ℕ) : Type 0 where
+pub record IsReplayedInPart (before after : FileBytes) (files : ReplayFiles) (options : Options) (recording : Recording) (ring : ℕ)
+    (exact skip_long : Bool) (updates : List MapUpdate) (printed : List ℕ) : Type 0 where
   pub refused : List Applied
   pub some : refused ≢ []
-  pub replayed : IsReplayed before after files options ring exact skip_long printed refused
+  pub replayed : IsReplayed before after files options recording ring exact skip_long updates printed refused

@@ -12,6 +12,7 @@ use Rattle.verifier.specs.Readers.{IsReader}
 use Rattle.hex.specs.Hex.{encode_lower}
 use Rattle.wire.specs.FrameView.{FrameView}
 use Rattle.semantics.specs.declared.options.Options.{Options}
+use Rattle.semantics.specs.declared.options.Recording.{Recording}
 use Rattle.semantics.specs.declared.verdict.Verdict.{Verdict}
 use Rattle.semantics.specs.declared.verdict.Verdict.TheVariants.{Aborted, Drop, Pass, Tx}
 use Rattle.semantics.specs.MachineState.{MachineState, initial_state}
@@ -35,8 +36,12 @@ use Rattle.xlb_commands.specs.declared.one_run.RunAnswer.TheVariants.{Printed, M
 use Rattle.xlb_commands.specs.declared.serving.CommandAnswer.{CommandAnswer}
 use Rattle.xlb_commands.specs.declared.serving.CommandAnswer.TheVariants as answers
 use Rattle.xlb_commands.specs.Files.{FileBytes, AreKept, AreOthersKept, AreAllButKept, AreAllKeptBut, IsImageFile, IsJudged}
-use Rattle.xlb_commands.specs.Replays.{AreWritten, IsReplayedWhole, IsReplayedInPart}
+use Rattle.replay.specs.declared.outcome.Applied.{Applied}
+use Rattle.xlb_commands.specs.declared.replays.ReplayAnswer.{ReplayAnswer}
+use Rattle.xlb_commands.specs.declared.replays.ReplayAnswer.TheVariants as replayed
+use Rattle.xlb_commands.specs.Replays.{AreWritten, IsProgramOf, IsReplayed, IsReplayedWhole, IsReplayedInPart, recording_of}
 use Rattle.xlb_commands.specs.Tables.{IsTableShown}
+use Rattle.command_line.specs.declared.commands.ReplayFiles.{ReplayFiles}
 use Rattle.command_line.specs.declared.commands.RunFiles.{RunFiles}
 use Rattle.command_line.specs.declared.commands.Settings.{Settings}
 use Rattle.command_line.specs.declared.commands.Settings.TheVariants.{Check, Run, Disasm, Audit, Explain, Asm, Shipped, Replay, Table}
@@ -130,6 +135,22 @@ abbrev pub IsRunAnswer : FileBytes → FileBytes → RunFiles → ℕ → ℕ �
 IsRunAnswer before after files now worker updates (Printed text notes) = IsRun before after files now worker updates (string_bytes text)
 IsRunAnswer before after files now worker updates (Mistaken place misfit) = IsMisfitRun before after files updates place misfit
 
+-- the same of a replay
+pub record IsMisfitReplay (before after : FileBytes) (files : ReplayFiles) (ring : ℕ) (updates : List MapUpdate) (place : ℕ) (misfit : Misfit) : Type 0 where
+  pub program : Contents
+  pub program_is : IsProgramOf before (text_of files.image) ring program
+  pub safe : IsSafeImage program.maps program.code
+  pub first : IsFirstMisfit program.maps updates place misfit
+  pub kept : AreKept before after
+
+-- what a replay comes to that is not refused
+abbrev pub IsReplayAnswer : FileBytes → FileBytes → ReplayFiles → Options → Recording → ℕ → Bool → Bool → List MapUpdate → ReplayAnswer → Type 0
+IsReplayAnswer before after files options recording ring exact skip_long updates (replayed.Made report) = (refused : List Applied)
+    × IsReplayed before after files options recording ring exact skip_long updates (string_bytes report.text) refused
+    × ((refused ≡ []) ↔ (report.is_refused ≡ false))
+IsReplayAnswer before after files options recording ring exact skip_long updates (replayed.Mistaken place misfit) =
+    IsMisfitReplay before after files ring updates place misfit
+
 -- what is printed is the image's text
 pub record IsDisassembled (files : FileBytes) (name : List ℕ) (printed : List ℕ) : Type 0 where
   pub image : Contents
@@ -186,12 +207,14 @@ IsDone before after (Explain about) printed = printed ≡ explanation_text about
 IsDone before after (Asm text out false) printed = IsAssembled before after text.now out.now × (printed ≡ [])
 IsDone before after (Asm text out true) printed = IsSourceAssembled before after text.now out.now × (printed ≡ [])
 IsDone before after (Shipped out ring) printed = IsShippedFile after out.now ring × (printed ≡ [])
-IsDone before after (Replay files options ring exact summary skip_long) printed = IsReplayedWhole before after files options ring exact skip_long printed
+IsDone before after (Replay files options ring exact summary skip_long no_journals updates) printed =
+    IsReplayedWhole before after files options (recording_of no_journals (text_of files.journals)) ring exact skip_long updates.items printed
 IsDone before after (Table script ring) printed = IsTableShown before script.now ring printed false
 
 -- the command is done but for a part that was refused, as the report tells: commands of a script
 abbrev pub IsDoneInPart : FileBytes → FileBytes → Settings → List ℕ → Type 0
-IsDoneInPart before after (Replay files options ring exact summary skip_long) printed = IsReplayedInPart before after files options ring exact skip_long printed
+IsDoneInPart before after (Replay files options ring exact summary skip_long no_journals updates) printed =
+    IsReplayedInPart before after files options (recording_of no_journals (text_of files.journals)) ring exact skip_long updates.items printed
 IsDoneInPart before after (Table script ring) printed = IsTableShown before script.now ring printed true
 IsDoneInPart before after other printed = ⊥
 
@@ -205,7 +228,7 @@ KeepsFiles before after (Explain about) = AreKept before after
 KeepsFiles before after (Asm text out source) = AreOthersKept before after out.now
 KeepsFiles before after (Shipped out ring) = AreOthersKept before after out.now
 KeepsFiles before after (Table script ring) = AreKept before after
-KeepsFiles before after (Replay files options ring exact summary skip_long) =
+KeepsFiles before after (Replay files options ring exact summary skip_long no_journals updates) =
     AreAllButKept before after files.sent.now (text_of files.journals) (text_of files.report)
 
 -- a stream: what it was given, where that is known, and how many of its calls failed
@@ -224,7 +247,7 @@ pub record AreNotesPrinted (before after : Stream) : Type 0 where
 
 -- what the error stream is given after a command's report: of a run, of a replay and of tables such lines, of another command nothing
 abbrev pub IsNoted : Settings → Stream → Stream → Type 0
-IsNoted (Replay files options ring exact summary skip_long) before after = AreNotesPrinted before after
+IsNoted (Replay files options ring exact summary skip_long no_journals updates) before after = AreNotesPrinted before after
 IsNoted (Table script ring) before after = AreNotesPrinted before after
 IsNoted (Run files now worker updates) before after = AreNotesPrinted before after
 IsNoted other before after = after ≡ before
@@ -236,9 +259,11 @@ pub record IsReported (before after : FileBytes) (settings : Settings) (out out'
   pub printed : out' ≡ append_known out text
   pub noted : IsNoted settings err err'
 
--- a mistake of the command line that shows in the image: its maps do not take an update of a run
+-- a mistake of the command line that shows in the image: its maps do not take an update of a run or a replay
 abbrev pub IsMistake : FileBytes → FileBytes → Settings → ℕ → Misfit → Type 0
 IsMistake before after (Run files now worker updates) place misfit = IsMisfitRun before after files updates.items place misfit
+IsMistake before after (Replay files options ring exact summary skip_long no_journals updates) place misfit =
+    IsMisfitReplay before after files ring updates.items place misfit
 IsMistake before after other place misfit = ⊥
 
 -- what a command comes to that is not refused: it was done, whole or in part, or its words are mistaken

@@ -47,6 +47,7 @@ fn fields_of(fault: Fault) -> Fields
         Fault::Audit(fault) => fault.fields(),
         Fault::Script(fault) => fault.fields(),
         Fault::Capture(fault) => fault.fields(),
+        Fault::Replay(fault) => fault.fields(),
         _ => Fields::Empty,
     }
 }

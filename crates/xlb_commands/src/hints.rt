@@ -110,7 +110,7 @@ fn line_of_entry(journals: &Journals, shard: usize, place: usize) -> usize {
     let mut line = place.saturating_add(2);
     'shards: for number in 0..journals.count() {
         if number < shard {
-            line = line.saturating_add(journals.journal(number).len());
+            line = line.saturating_add(journals.len(number));
         }
     }
     line
@@ -125,8 +125,16 @@ pub(crate) fn of_replay(
 ) -> Result<Option<String>, AllocError> {
     match fault {
         ReplayFault::BadOptions => Ok(Some(about_options(alloc, options, maps)?)),
+        ReplayFault::Refused { place, .. } => Ok(Some(update_note(alloc, place)?)),
+        ReplayFault::Full { place } => Ok(Some(update_note(alloc, place)?)),
         _ => Ok(None),
     }
+}
+
+/// Which update of the command line it was, counted from 1.
+pub(crate) fn update_note(alloc: Global, place: usize) -> Result<String, AllocError> {
+    let number = place as u128 + 1;
+    format!(in alloc; "update {number} of the command line")
 }
 
 /// Of a worker that there is not.

@@ -1,5 +1,7 @@
 //! The share of each backend in the lookup table at the end of a replay, for people.
 
+ghost use Rattle.semantics.specs.ShardPlan.{KeepsRows};
+
 use conntrack::{SteeringMap, table_size};
 use journals::Journals;
 use semantics::{Call, Entry, Reply};
@@ -42,7 +44,9 @@ fn elements_of(
     journals: &Journals,
     map: SteeringMap,
     count: u32,
-) -> Result<Vec<u32>, AllocError> {
+) -> Result<Vec<u32>, AllocError>
+    requires { KeepsRows journals.now.options.journal }
+{
     let mut elements = vec![in alloc; 0; count as usize]?;
     let shards = journals.options().shards;
     let first = map.place().saturating_mul(shards) as usize;
@@ -62,7 +66,7 @@ fn share_of(words: &[u32], word: u32) -> usize {
     words.iter().filter(|other| **other == word).count()
 }
 
-/// The line of each backend that has slots of the lookup table at the end, if the maps are those of steering.
+/// The line of each backend that has slots of the lookup table at the end, if the maps are those of steering and the rows of the journals are kept.
 pub(crate) fn put_shares(
     alloc: Global,
     text: &mut String,
@@ -71,6 +75,9 @@ pub(crate) fn put_shares(
     let Some(size) = table_size(journals.maps()) else {
         return Ok(());
     };
+    if !journals.keeps_rows() {
+        return Ok(());
+    }
     let words = elements_of(alloc, journals, SteeringMap::Ring, size)?;
     let records = elements_of(alloc, journals, SteeringMap::Backends, BACKENDS)?;
     for number in 0..BACKENDS {

@@ -206,7 +206,7 @@ fn why_refused(fault: ControlFault) -> &'static str {
         ControlFault::BackendTwice => "this number or this address is up",
         ControlFault::Refused { .. } => "the map refused it: it is full",
         ControlFault::JournalFull =>
-            "a journal is full: --journal N, at most 1048576, and --shards N, at most 8, make more room",
+            "a journal is full: --journal N, at most 1048576, --shards N, at most 8, and --no-journals make more room",
         ControlFault::Memory => "there was no memory for it",
         _ => "it was refused",
     }
@@ -228,13 +228,14 @@ fn put_stopped(alloc: Global, text: &mut String, ends: &[RecordEnd]) -> Result<(
 /// Which journals are full, and what makes more room.
 fn put_full(alloc: Global, text: &mut String, journals: &Journals) -> Result<(), AllocError> {
     'shards: for number in 0..journals.count() {
-        let held = journals.journal(number).len() as u64;
+        let held = journals.len(number) as u64;
         if held.saturating_add(LAST) >= journals.options().journal as u64 {
             put_shard(alloc, text, number, journals.options().shards as usize)?;
         }
     }
     text.push_str(
-        "frames whose run needs a full journal are not run to their end: --journal N, at most 1048576, and --shards N, at most 8, make more room\n",
+        "frames whose run needs a full journal are not run to their end: --journal N, at most 1048576, --shards N, at most 8, and --no-journals \
+         make more room\n",
     )
 }
 

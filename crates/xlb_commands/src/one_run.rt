@@ -109,7 +109,7 @@ pub fn run_once<D: Folder>(
 }
 
 /// The maps of an accepted image.
-fn maps_of(verified: &Verified) -> &[MapDef]
+pub(crate) fn maps_of(verified: &Verified) -> &[MapDef]
     ensures { result.now ≡ verified.now.maps }
 {
     verified.image().maps()
@@ -138,17 +138,11 @@ fn run_over(
         Err(RunFault::Open(fault)) => Err(Refusal::from(Fault::Options(fault))),
         Err(RunFault::Refused { place, answer }) => Err(Refusal::noted(
             Fault::Script(ControlFault::Refused { answer }),
-            update_note(alloc, place),
+            hints::update_note(alloc, place),
         )),
         Err(RunFault::Full { place }) => Err(Refusal::noted(
             Fault::Script(ControlFault::JournalFull),
-            update_note(alloc, place),
+            hints::update_note(alloc, place),
         )),
     }
-}
-
-/// Which update of the command line it was, counted from 1.
-fn update_note(alloc: Global, place: usize) -> Result<String, AllocError> {
-    let number = place as u128 + 1;
-    format!(in alloc; "update {number} of the command line")
 }

@@ -3,7 +3,8 @@
 ghost use Rattle.std.specs.Prelude.{◌≡◌, ◌≢◌, ◌==◌, ◌↔◌, ◌+◌, ◌++◌, ◌-◌, ◌<◌, ◌≤◌, ◌^◌, ◌⊎◌, ℕ, [], true, false};
 ghost use Rattle.std.specs.Prelude.{List, Some, None, IfErr, IfOk, IsErrOf, IsFalse, OnOk, length, string_bytes};
 ghost use Rattle.semantics.specs.Safety.{IsSafeImage};
-ghost use Rattle.semantics.specs.ShardPlan.{are_served_options};
+ghost use Rattle.semantics.specs.ShardPlan.{KeepsRows, are_served_options, recorded};
+ghost use Rattle.semantics.specs.declared.options.Recording.TheVariants.{Rows};
 ghost use Rattle.verifier.specs.Dataflow.{Accepts};
 ghost use Rattle.verifier.specs.Readers.{IsReader};
 ghost use Rattle.machine.specs.Running.{program_of};
@@ -17,12 +18,14 @@ ghost use Rattle.control.specs.ScriptReading.{Explains};
 ghost use Rattle.control.specs.declared.command.Command.{Command};
 ghost use Rattle.control.specs.declared.fault.ControlFault.{ControlFault};
 ghost use Rattle.control.specs.declared.fault.ControlFault.TheVariants as scripts;
-ghost use Rattle.replay.specs.declared.outcome.Applied.{Applied as Noted};
 ghost use Rattle.replay.specs.declared.fault.ReplayFault.TheVariants.{BadOptions, NoThread};
 ghost use Rattle.replay.specs.Accounted.{IsAccounted};
 ghost use Rattle.replay.specs.Accounts.{frames_in};
 ghost use Rattle.replay.specs.ExactReplays.{IsInTurn};
 ghost use Rattle.replay.specs.Parts.{HasNoTable};
+ghost use Rattle.replay.specs.UpdateFaults.{OfUpdate, IsWhyByPass, IsWhyInTurn};
+ghost use Rattle.map_updates.specs.Misfits.{AreFitting};
+ghost use Rattle.xlb_commands.specs.Results.{IsReplayAnswer};
 ghost use Rattle.steered_replays.specs.SteeredRuns.{IsSteeredReplay};
 ghost use Rattle.steered_replays.specs.Totals.{AreTotals};
 ghost use Rattle.journals.specs.JournalText.{journals_text};
@@ -30,13 +33,14 @@ ghost use Rattle.command_line.specs.Reading.{text_of};
 ghost use Rattle.xlb_commands.specs.Files.{AreKept, AreAllButKept};
 ghost use Rattle.xlb_commands.specs.Refused.{HasFailed, LacksRoom, AreUnfiled, IsReplayProgramRefusal, IsScriptFileRefusal, IsScriptRefusal};
 ghost use Rattle.xlb_commands.specs.Refused.{IsNoCapture, IsNoCaptureIn, IsCaptureRefusal, IsReplayRefusal};
-ghost use Rattle.xlb_commands.specs.Replays.{IsProgramOf, IsScriptOf, IsScriptFile, IsCaptureIn, IsCaptureOf, IsReplayed, HasBytes, FollowsRule, reader_file};
+ghost use Rattle.xlb_commands.specs.Replays.{IsProgramOf, IsScriptOf, IsScriptFile, IsCaptureIn, IsCaptureOf, HasBytes, FollowsRule, IsByRule, reader_file, recording_of};
 ghost use Rattle.xlb_commands.specs.Replays.{counts_text, refusals_text, AreWritten};
 ghost use Rattle.xlb_commands.specs.RecordReports.{form_of, report_text};
 
 use crate::commands::{bytes_of, judged_of};
 use crate::fault::{Fault, Refusal};
 use crate::notes::{Notes, Passed};
+use crate::one_run::maps_of;
 use crate::progress::{Progress, Rounds};
 use crate::record_report::report_for;
 use crate::report::{Report, replayed};
@@ -50,8 +54,9 @@ use guarantees::headline;
 use guarantees::readers::readers_send_as_at_opening;
 use guarantees::replays::all_are_captured;
 use journals::Journals;
+use map_updates::{MapUpdate, Misfit, first_misfit};
 use replay::{Outcome, ReplayFault, replay, replay_in_turn};
-use semantics::Options;
+use semantics::{Options, Recording};
 use shard_port::Gate;
 use std::alloc::{AllocError, Global};
 use std::sync::Wait;
@@ -247,6 +252,20 @@ fn bytes_of_frames(alloc: Global, frames: &[Sent]) -> Result<MemorySink, AllocEr
     }
 }
 
+/// Whether rows of journals are kept: where they are not wanted, and no file is named for them, they are not.
+pub(crate) fn recording_of(no_journals: bool, journals: Option<&str>) -> Recording
+    ensures { result ≡ recording_of no_journals (text_of journals.entry) }
+{
+    match journals {
+        Some(_name) => Recording::Rows,
+        None => if no_journals {
+            Recording::NoRows
+        } else {
+            Recording::Rows
+        },
+    }
+}
+
 /// `replay`, or `replay_in_turn`, in which each command takes effect between the frames before and after it.
 fn replay_at<R: Threads + Wait + Sync, G: Gate + Sync>(
     rt: &R,
@@ -254,20 +273,31 @@ fn replay_at<R: Threads + Wait + Sync, G: Gate + Sync>(
     exact: bool,
     verified: &Verified,
     capture: &Capture,
+    updates: &[MapUpdate],
     script: &Script,
     options: Options,
+    recording: Recording,
     gate: &G,
 ) -> Result<Outcome, ReplayFault>
-    ensures accounted { IfOk result (IsAccounted (program_of verified.now options.shards) script.now options capture.now.records.items) }
-    ensures in_turn { exact ≡ true → IfOk result (IsInTurn (program_of verified.now options.shards) script.now options capture.now.records.items) }
+    requires fit { AreFitting verified.now.maps updates.now }
+    ensures accounted { IfOk result (IsAccounted (program_of verified.now options.shards) script.now (recorded recording options) capture.now.records.items) }
+    ensures in_turn { exact ≡ true → IfOk result (IsInTurn (program_of verified.now options.shards) script.now (recorded recording options) capture.now.records.items) }
+    ensures updates { IfOk result (λ outcome. outcome.updates.items ≡ updates.now) }
+    ensures refused { exact ≡ false → IfErr result (OfUpdate (IsWhyByPass verified.now.maps (recorded recording options) updates.now)) }
+    ensures refused_exact { exact ≡ true → IfErr result (OfUpdate (IsWhyInTurn verified.now.maps (recorded recording options) updates.now)) }
+    ensures served { OnOk result (KeepsRows options.journal) }
     ensures bad_options { IsErrOf result BadOptions ↔
         (IsFalse (are_served_options verified.now.maps options) ⊎ HasNoTable verified.now.maps script.now) }
     ensures no_thread { exact ≡ true → ¬ IsErrOf result NoThread }
 {
     if exact {
-        replay_in_turn(alloc, verified, capture, script, options, gate)
+        replay_in_turn(
+            alloc, verified, capture, updates, script, options, recording, gate,
+        )
     } else {
-        replay(rt, alloc, verified, capture, script, options, gate)
+        replay(
+            rt, alloc, verified, capture, updates, script, options, recording, gate,
+        )
     }
 }
 
@@ -281,27 +311,74 @@ fn shipped_replay_at<R: Threads + Wait + Sync, G: Gate + Sync>(
     capture: &Capture,
     script: &Script,
     options: Options,
+    recording: Recording,
     gate: &G,
 ) -> Result<Outcome, ReplayFault>
     requires size { IsRingSize ring }
     requires image { record { version = verified.now.version; maps = verified.now.maps; code = verified.now.code } ≡ shipped_image ring }
-    ensures accounted { IfOk result (IsAccounted (program_of verified.now options.shards) script.now options capture.now.records.items) }
-    ensures in_turn { exact ≡ true → IfOk result (IsInTurn (program_of verified.now options.shards) script.now options capture.now.records.items) }
-    ensures steered { IfOk result (IsSteeredReplay ring script.now options capture.now.records.items) }
+    ensures accounted { IfOk result (IsAccounted (program_of verified.now options.shards) script.now (recorded recording options) capture.now.records.items) }
+    ensures in_turn { exact ≡ true → IfOk result (IsInTurn (program_of verified.now options.shards) script.now (recorded recording options) capture.now.records.items) }
+    ensures steered { IfOk result (IsSteeredReplay ring script.now (recorded recording options) capture.now.records.items) }
     ensures totals { IfOk result (λ outcome. outcome.counts.stopped ≡ 0 → AreTotals outcome) }
+    ensures updates { IfOk result (λ outcome. outcome.updates.items ≡ []) }
+    ensures refused { exact ≡ false → IfErr result (OfUpdate (IsWhyByPass verified.now.maps (recorded recording options) [])) }
+    ensures refused_exact { exact ≡ true → IfErr result (OfUpdate (IsWhyInTurn verified.now.maps (recorded recording options) [])) }
+    ensures served { OnOk result (KeepsRows options.journal) }
     ensures bad_options { IsErrOf result BadOptions ↔
         (IsFalse (are_served_options verified.now.maps options) ⊎ HasNoTable verified.now.maps script.now) }
     ensures no_thread { exact ≡ true → ¬ IsErrOf result NoThread }
 {
     if exact {
-        exact_shipped_replay(alloc, verified, ring, capture, script, options, gate)
+        exact_shipped_replay(
+            alloc, verified, ring, capture, script, options, recording, gate,
+        )
     } else {
-        shipped_replay(rt, alloc, verified, ring, capture, script, options, gate)
+        shipped_replay(
+            rt, alloc, verified, ring, capture, script, options, recording, gate,
+        )
     }
 }
 
+/// The same behind updates of its maps, of which nothing is said of the steering rule.
+fn shipped_outcome<R: Threads + Wait + Sync, G: Gate + Sync>(
+    rt: &R,
+    alloc: Global,
+    exact: bool,
+    verified: &Verified,
+    ring: u32,
+    capture: &Capture,
+    updates: &[MapUpdate],
+    script: &Script,
+    options: Options,
+    recording: Recording,
+    gate: &G,
+) -> Result<Outcome, ReplayFault>
+    requires size { IsRingSize ring }
+    requires image { record { version = verified.now.version; maps = verified.now.maps; code = verified.now.code } ≡ shipped_image ring }
+    requires fit { AreFitting verified.now.maps updates.now }
+    ensures accounted { IfOk result (IsAccounted (program_of verified.now options.shards) script.now (recorded recording options) capture.now.records.items) }
+    ensures in_turn { exact ≡ true → IfOk result (IsInTurn (program_of verified.now options.shards) script.now (recorded recording options) capture.now.records.items) }
+    ensures steered { updates.now ≡ [] → IfOk result (IsByRule ring script.now (recorded recording options) capture.now.records.items) }
+    ensures updates { IfOk result (λ outcome. outcome.updates.items ≡ updates.now) }
+    ensures refused { exact ≡ false → IfErr result (OfUpdate (IsWhyByPass verified.now.maps (recorded recording options) updates.now)) }
+    ensures refused_exact { exact ≡ true → IfErr result (OfUpdate (IsWhyInTurn verified.now.maps (recorded recording options) updates.now)) }
+    ensures served { OnOk result (KeepsRows options.journal) }
+    ensures bad_options { IsErrOf result BadOptions ↔
+        (IsFalse (are_served_options verified.now.maps options) ⊎ HasNoTable verified.now.maps script.now) }
+    ensures no_thread { exact ≡ true → ¬ IsErrOf result NoThread }
+{
+    if updates.is_empty() {
+        return shipped_replay_at(
+            rt, alloc, exact, verified, ring, capture, script, options, recording, gate,
+        );
+    }
+    replay_at(
+        rt, alloc, exact, verified, capture, updates, script, options, recording, gate,
+    )
+}
+
 /// Runs the frames of a capture: by the shipped program for a lookup table of `ring` slots, whose runs follow the steering rule, or by that
-/// of an image. `exact`: each command takes effect between the frames before and after it.
+/// of an image. Before the first frame the controller makes these updates. `exact`: each command takes effect between the frames before and after it.
 fn outcome_of<R: Threads + Wait + Sync, G: Gate + Sync>(
     rt: &R,
     alloc: Global,
@@ -310,24 +387,33 @@ fn outcome_of<R: Threads + Wait + Sync, G: Gate + Sync>(
     image: Option<&str>,
     ring: u32,
     capture: &Capture,
+    updates: &[MapUpdate],
     script: &Script,
     options: Options,
+    recording: Recording,
     gate: &G,
 ) -> Result<Outcome, ReplayFault>
     requires size { text_of image ≡ None → IsRingSize ring }
     requires shipped { text_of image ≡ None →
         record { version = verified.now.version; maps = verified.now.maps; code = verified.now.code } ≡ shipped_image ring }
-    ensures accounted { IfOk result (IsAccounted (program_of verified.now options.shards) script.now options capture.now.records.items) }
-    ensures in_turn { exact ≡ true → IfOk result (IsInTurn (program_of verified.now options.shards) script.now options capture.now.records.items) }
-    ensures steered { IfOk result (FollowsRule (text_of image.entry) ring script.now options capture.now.records.items) }
+    requires fit { AreFitting verified.now.maps updates.now }
+    ensures accounted { IfOk result (IsAccounted (program_of verified.now options.shards) script.now (recorded recording options) capture.now.records.items) }
+    ensures in_turn { exact ≡ true → IfOk result (IsInTurn (program_of verified.now options.shards) script.now (recorded recording options) capture.now.records.items) }
+    ensures steered { updates.now ≡ [] → IfOk result (FollowsRule (text_of image.entry) ring script.now (recorded recording options) capture.now.records.items) }
+    ensures updates { IfOk result (λ outcome. outcome.updates.items ≡ updates.now) }
+    ensures refused { exact ≡ false → IfErr result (OfUpdate (IsWhyByPass verified.now.maps (recorded recording options) updates.now)) }
+    ensures refused_exact { exact ≡ true → IfErr result (OfUpdate (IsWhyInTurn verified.now.maps (recorded recording options) updates.now)) }
+    ensures served { OnOk result (KeepsRows options.journal) }
     ensures bad_options { IsErrOf result BadOptions ↔
         (IsFalse (are_served_options verified.now.maps options) ⊎ HasNoTable verified.now.maps script.now) }
     ensures no_thread { exact ≡ true → ¬ IsErrOf result NoThread }
 {
     match image {
-        Some(_) => replay_at(rt, alloc, exact, verified, capture, script, options, gate),
-        None => shipped_replay_at(
-            rt, alloc, exact, verified, ring, capture, script, options, gate,
+        Some(_) => replay_at(
+            rt, alloc, exact, verified, capture, updates, script, options, recording, gate,
+        ),
+        None => shipped_outcome(
+            rt, alloc, exact, verified, ring, capture, updates, script, options, recording, gate,
         ),
     }
 }
@@ -352,20 +438,27 @@ fn outcome_with<R: Threads + Wait + Sync, G: Gate + Sync>(
     image: Option<&str>,
     ring: u32,
     capture: &Capture,
+    updates: &[MapUpdate],
     script: &Script,
     options: Options,
+    recording: Recording,
     gate: &G,
 ) -> Result<Outcome, ReplayFault>
     requires size { text_of image ≡ None → IsRingSize ring }
     requires shipped { text_of image ≡ None →
         record { version = verified.now.version; maps = verified.now.maps; code = verified.now.code } ≡ shipped_image ring }
-    ensures accounted { IfOk result (IsAccounted (program_of verified.now options.shards) script.now options capture.now.records.items) }
-    ensures in_turn { exact ≡ true → IfOk result (IsInTurn (program_of verified.now options.shards) script.now options capture.now.records.items) }
+    requires fit { AreFitting verified.now.maps updates.now }
+    ensures accounted { IfOk result (IsAccounted (program_of verified.now options.shards) script.now (recorded recording options) capture.now.records.items) }
+    ensures in_turn { exact ≡ true → IfOk result (IsInTurn (program_of verified.now options.shards) script.now (recorded recording options) capture.now.records.items) }
     ensures accepted { Accepts verified.now.version verified.now.maps verified.now.code verified.now.states }
-    ensures headline { IfOk result (Headline verified.now script.now options capture.now.records.items) }
-    ensures readers { IfOk result (λ outcome. IsReader verified.now.code verified.now.states → script.now ≡ [] →
+    ensures headline { IfOk result (Headline verified.now script.now (recorded recording options) capture.now.records.items) }
+    ensures readers { updates.now ≡ [] → IfOk result (λ outcome. IsReader verified.now.code verified.now.states → script.now ≡ [] →
         outcome.counts.stopped ≡ 0 → capture_bytes outcome.sent.items ≡ reader_file (program_of verified.now options.shards) capture.now.records.items) }
-    ensures steered { IfOk result (FollowsRule (text_of image.entry) ring script.now options capture.now.records.items) }
+    ensures steered { updates.now ≡ [] → IfOk result (FollowsRule (text_of image.entry) ring script.now (recorded recording options) capture.now.records.items) }
+    ensures updates { IfOk result (λ outcome. outcome.updates.items ≡ updates.now) }
+    ensures refused { exact ≡ false → IfErr result (OfUpdate (IsWhyByPass verified.now.maps (recorded recording options) updates.now)) }
+    ensures refused_exact { exact ≡ true → IfErr result (OfUpdate (IsWhyInTurn verified.now.maps (recorded recording options) updates.now)) }
+    ensures served { OnOk result (KeepsRows options.journal) }
     ensures bad_options { IsErrOf result BadOptions ↔
         (IsFalse (are_served_options verified.now.maps options) ⊎ HasNoTable verified.now.maps script.now) }
     ensures no_thread { exact ≡ true → ¬ IsErrOf result NoThread }
@@ -374,7 +467,7 @@ fn outcome_with<R: Threads + Wait + Sync, G: Gate + Sync>(
     readers_send_alike(verified);
     all_are_captured(capture);
     let outcome = outcome_of(
-        rt, alloc, exact, verified, image, ring, capture, script, options, gate,
+        rt, alloc, exact, verified, image, ring, capture, updates, script, options, recording, gate,
     )?;
     let _ = outcome.journals.options();
     Ok(outcome)
@@ -410,6 +503,7 @@ fn left_of(
 ) -> Result<Leavings, Refusal>
     requires frames { length capture.now.records.items ≡ frames_in outcome.now.counts }
     requires ends { length outcome.now.ends.items ≡ length capture.now.records.items }
+    requires rows { (file : List ℕ) → text_of files.now.journals ≡ Some file → KeepsRows outcome.now.journals.options.journal }
     ensures sent { IfOk result (λ left. left.sent.bytes ≡ capture_bytes outcome.now.sent.items) }
     ensures journals { IfOk result (λ left. (file : List ℕ) → text_of files.now.journals ≡ Some file →
         left.journals.bytes ≡ journals_text outcome.now.journals) }
@@ -465,30 +559,44 @@ fn write_files<D: Folder>(
     Ok(())
 }
 
+/// What a replay comes to.
+#[derive(Drop)]
+pub enum ReplayAnswer {
+    /// It was made, and its files are written.
+    Made(Report),
+    /// The image's maps do not take the update at this place of the command line, from 0, and nothing was run.
+    Mistaken { place: usize, misfit: Misfit },
+}
+
 /// Runs the frames of a capture, and writes those that are sent, and the journals and a line for each record where files are named for them. All
-/// input is read and checked before anything starts: the image, the script, the capture, then the options. No file is made where one is refused, nor
-/// where memory is refused for anything that is written or printed.
+/// input is read and checked before anything starts: the image, the script, the capture, then the options. Before the first frame the controller makes the
+/// updates; ones that the image's maps do not take are a mistake of the command line, and then neither script nor capture is read. No file is made where
+/// one is refused, nor where memory is refused for anything that is written or printed.
 pub fn replay_files<R: Threads + Wait + Sync, D: Folder, P: Progress + Sync>(
     rt: &R,
     alloc: Global,
     folder: &mut D,
     files: &ReplayFiles<'_>,
     options: Options,
+    recording: Recording,
     ring: u32,
     exact: bool,
     summary: bool,
     skip_long: bool,
+    updates: &[MapUpdate],
     progress: &P,
-) -> Result<Report, Refusal>
-    requires { D.failure_count folder.old < 2 ^ 64 - 1 }
-    ensures done { IfOk result (λ report. (refused : List Noted)
-        × IsReplayed (D.holds folder.old) (D.holds folder.new) files.now options ring exact skip_long (string_bytes report.text) refused
-        × ((refused ≡ []) ↔ (report.is_refused ≡ false))) }
+) -> Result<ReplayAnswer, Refusal>
+    requires failures { D.failure_count folder.old < 2 ^ 64 - 1 }
+    requires rows { (file : List ℕ) → text_of files.now.journals ≡ Some file → recording ≡ Rows }
+    ensures done { IfOk result (IsReplayAnswer (D.holds folder.old) (D.holds folder.new) files.now options recording ring exact skip_long updates.now) }
     ensures kept { AreAllButKept (D.holds folder.old) (D.holds folder.new) files.now.sent.now (text_of files.now.journals) (text_of files.now.report) }
     ensures refused { IfErr result (λ refusal. IsReplayRefusal (D.holds folder.old) (D.holds folder.new)
-        (HasFailed (D.failure_count folder.old) (D.failure_count folder.new)) files.now options ring exact skip_long refusal.fault) }
+        (HasFailed (D.failure_count folder.old) (D.failure_count folder.new)) files.now options recording ring exact skip_long updates.now refusal.fault) }
 {
     let verified = program_of(alloc, folder, files.image, ring)?;
+    if let Some((place, misfit)) = first_misfit(maps_of(&verified), updates) {
+        return Ok(ReplayAnswer::Mistaken { place, misfit });
+    }
     let script = script_of(alloc, folder, files.script)?;
     let mut passed = Passed::default();
     let capture = capture_of(alloc, folder, files.capture, skip_long, &mut passed)?;
@@ -501,8 +609,10 @@ pub fn replay_files<R: Threads + Wait + Sync, D: Folder, P: Progress + Sync>(
         files.image,
         ring,
         &capture,
+        updates,
         &script,
         options,
+        recording,
         &rounds,
     ) {
         Ok(outcome) => outcome,
@@ -519,5 +629,5 @@ pub fn replay_files<R: Threads + Wait + Sync, D: Folder, P: Progress + Sync>(
     let notes = notes.text(alloc, &capture, &script, &outcome).ok();
     let left = left_of(alloc, files, &script, &capture, &outcome, notes)?;
     write_files(alloc, folder, files, &left, &outcome.journals)?;
-    Ok(left.report)
+    Ok(ReplayAnswer::Made(left.report))
 }

@@ -17,7 +17,7 @@ use crate::fault::{Fault, Refusal};
 use crate::fault_lines::fault_line;
 use crate::one_run::{RunAnswer, run_once};
 use crate::progress::Progress;
-use crate::replays::replay_files;
+use crate::replays::{ReplayAnswer, recording_of, replay_files};
 use crate::report::Report;
 use crate::shipping::write_shipped;
 use crate::tables::table_file;
@@ -130,9 +130,28 @@ fn answer<R: Threads + Wait + Sync, D: Folder, P: Progress + Sync>(
             exact,
             summary,
             skip_long,
-        } => Ok(CommandAnswer::Reported(replay_files(
-            rt, alloc, folder, files, *options, *ring, *exact, *summary, *skip_long, progress,
-        )?)),
+            no_journals,
+            updates,
+        } => match replay_files(
+            rt,
+            alloc,
+            folder,
+            files,
+            *options,
+            recording_of(*no_journals, files.journals),
+            *ring,
+            *exact,
+            *summary,
+            *skip_long,
+            updates,
+            progress,
+        )? {
+            ReplayAnswer::Made(report) => Ok(CommandAnswer::Reported(report)),
+            ReplayAnswer::Mistaken { place, misfit } => Ok(CommandAnswer::Mistaken {
+                place,
+                misfit,
+            }),
+        },
     }
 }
 
@@ -259,7 +278,7 @@ fn status_of(is_refused: bool) -> u8
 /// Does what the settings say, over the files of a folder: prints what the command prints and gives 0; or prints the line of the first fault of what
 /// the command reads on `err`, with notes for people below it, and gives 1. The fault is 7 where what the command prints could not be printed; the line is
 /// that of fault 8 where there was no memory for it. Where commands of a replay's script were refused, the report is printed and names them, and the
-/// status is 1. Where the image's maps do not take an update of a run, or a file that is to be written is another one of the command's, that is printed on
+/// status is 1. Where the image's maps do not take an update of a run or a replay, or a file that is to be written is another one of the command's, that is printed on
 /// `err`, and the status is 2, as of other mistakes in the command's words. After the report of a run, of a
 /// replay, or of tables, lines for people may follow on `err`.
 pub fn serve<R: Threads + Wait + Sync, D: Folder, P: Progress + Sync, O: Sink, E: Sink>(

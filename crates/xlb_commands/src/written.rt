@@ -1,6 +1,7 @@
 //! Journals and reports, written to files.
 
 ghost use Rattle.std.specs.Prelude.{◌≡◌, ◌-◌, ◌<◌, ◌^◌, List, ℕ, Some, IfErr, IfOk, OnOk};
+ghost use Rattle.semantics.specs.ShardPlan.{KeepsRows};
 ghost use Rattle.journals.specs.JournalText.{journals_text};
 ghost use Rattle.command_line.specs.Reading.{text_of};
 ghost use Rattle.xlb_commands.specs.Files.{AreAllKeptBut, AreOthersKept};
@@ -16,6 +17,7 @@ use wire::MemorySink;
 
 /// The bytes of the file of this name, of these journals; else 52, since writing to memory fails for lack of memory alone.
 fn bytes_of_journals(alloc: Global, name: &str, journals: &Journals) -> Result<MemorySink, Refusal>
+    requires { KeepsRows journals.now.options.journal }
     ensures bytes { IfOk result (λ sink. sink.bytes ≡ journals_text journals.now) }
     ensures refused { IfErr result (λ refusal. LacksRoom (Some name.now) refusal.fault) }
 {
@@ -32,6 +34,7 @@ pub(crate) fn journal_bytes(
     name: Option<&str>,
     journals: &Journals,
 ) -> Result<MemorySink, Refusal>
+    requires { (file : List ℕ) → text_of name ≡ Some file → KeepsRows journals.now.options.journal }
     ensures bytes { IfOk result (λ sink. (file : List ℕ) → text_of name.entry ≡ Some file → sink.bytes ≡ journals_text journals.now) }
     ensures refused { IfErr result (λ refusal. LacksRoom (text_of name.entry) refusal.fault) }
 {

@@ -31,7 +31,7 @@ use xlb_commands::{Fault, fault_line};
 
 /// The faults that commands print.
 #[rattlefmt::skip]
-const FAULTS: [Fault; 72] = [
+const FAULTS: [Fault; 74] = [
     Fault::Folder(FolderFault::Device),
     Fault::Folder(FolderFault::Memory),
     Fault::Output,
@@ -104,6 +104,8 @@ const FAULTS: [Fault; 72] = [
     Fault::Replay(ReplayFault::BadOptions),
     Fault::Replay(ReplayFault::Memory),
     Fault::Replay(ReplayFault::NoThread),
+    Fault::Replay(ReplayFault::Refused { place: 1, answer: -7 }),
+    Fault::Replay(ReplayFault::Full { place: 1 }),
 ];
 
 /// The number behind the word `fault` of a fault's text.

@@ -1,6 +1,12 @@
 //! Runs after updates of their maps.
 
-use super::{Wanted, ZEROS, assembled, compare_begins, compare_file, done, over_text};
+ghost use Rattle.std.specs.Prelude.{◌≡◌};
+
+use super::{
+    Wanted, ZEROS, assembled, compare_begins, compare_file, done, lacks, left_by, over_text,
+    put_digits, with_image,
+};
+use folders::MemoryFolder;
 use std::alloc::{AllocError, Global};
 use std::process::Abort;
 use std::sync::Wait;
@@ -110,4 +116,121 @@ fn a_hundred_updates_are_made(rt: HostRuntime) {
         err: "",
     };
     compare_begins(&rt, alloc, "a hundred updates", folder, &line, wanted);
+}
+
+/// A capture of two frames of 14 zeros.
+const TWO_ZEROS: &str = "\
+    d4c3b2a1020004000000000000000000ffff000001000000\
+    01000000020000000e0000000e000000\
+    0000000000000000000000000000\
+    01000000020000000e0000000e000000\
+    0000000000000000000000000000";
+
+const TWO_SENT: &str = "frames 2\nshort 0\nstopped 0\naborted 0\ndrop 0\npass 0\ntx 2\n";
+
+const TWO_DROPPED: &str = "frames 2\nshort 0\nstopped 0\naborted 0\ndrop 2\npass 0\ntx 0\n";
+
+/// As of a run. Sixteen entries are the least room of a journal.
+#[rattlefmt::skip]
+const REPLAYS: [Row; 9] = [
+    ("one worker", " --update 0 07000000 0300000000000000", 0, TWO_SENT, ""),
+    ("four workers", " --workers 4 --update 0 07000000 0300000000000000", 0, TWO_SENT, ""),
+    ("exact", " --exact --update 0 07000000 0300000000000000", 0, TWO_SENT, ""),
+    ("the last one stands", " --update 0 07000000 0300000000000000 --exact --update 0 07000000 0100000000000000", 0, TWO_DROPPED, ""),
+    ("no such index", " --update 0 07000000 0300000000000000 --update 1 02000000 0300000000000000", 1, "",
+        "fault 93 Refused answer -7\n  update 2 of the command line\n"),
+    ("no such index, exact", " --exact --update 1 02000000 0300000000000000", 1, "", "fault 93 Refused answer -7\n  update 1 of the command line\n"),
+    ("a short key", " --update 0 01 00", 2, "", "error: update 1: a key of map 0 has 4 bytes, not 1\n"),
+    ("no map 2", " --exact --update 0 07000000 0300000000000000 --update 2 00 00", 2, "", "error: update 2: the image has no map 2\n"),
+    ("a misfit before the options", " --update 1 00000000 03 --workers 9", 2, "", "error: update 1: a value of map 1 has 8 bytes, not 1\n"),
+];
+
+/// A folder of the image of the text above, and of the capture.
+fn with_capture<R: Abort + Threads + Wait + Sync>(rt: &R, alloc: Global) -> MemoryFolder
+    ensures { result.failures ≡ 0 }
+{
+    let folder = put_digits(rt, alloc, MemoryFolder::new(alloc), "capture", TWO_ZEROS);
+    with_image(rt, alloc, "updates of a replay", folder, ANSWERS_KEY_7)
+}
+
+/// A row's replay, which writes no file where it is refused.
+fn compare_replay<R: Abort + Threads + Wait + Sync>(rt: &R, alloc: Global, row: &Row) {
+    let (name, words, status, out, err) = *row;
+    let line = format!(in alloc; "xlb replay capture sent --image image{words}").expect(
+        rt, "a line",
+    );
+    let folder = with_capture(rt, alloc);
+    let folder = left_by(rt, alloc, name, folder, &line, Wanted { status, out, err });
+    if status != 0 {
+        lacks(rt, alloc, name, folder, "sent");
+    }
+}
+
+/// Each row's replay.
+fn compare_replays<R: Abort + Threads + Wait + Sync>(rt: &R, alloc: Global, rows: &[Row]) {
+    for row in rows {
+        compare_replay(rt, alloc, row);
+    }
+}
+
+#[test]
+fn updates_come_before_a_replay(rt: HostRuntime) {
+    compare_replays(&rt, rt.alloc(), &REPLAYS);
+}
+
+/// What the controller made before the first frame, in its order, and then the runs.
+const REPLAYED: &str = "XLBJ 1 1 1 65536
+0 c update 07000000 0100000000000000 0 answer 0
+0 c update 07000000 0300000000000000 0 answer 0
+0 w0 enter ok
+0 w0 lookup 07000000 cell 0
+0 w0 load 0 0 8 word 3
+0 w0 leave ok
+0 w0 enter ok
+0 w0 lookup 07000000 cell 0
+0 w0 load 0 0 8 word 3
+0 w0 leave ok
+0 r reclaim freed 0
+1 c update 01000000 ff00000000000000 0 answer 0
+";
+
+const REPLAYED_BY: &str =
+    "xlb replay capture sent --image image --exact --journals j --update 0 07000000 0100000000000000 \
+    --update 1 01000000 ff00000000000000 --update 0 07000000 0300000000000000";
+
+#[test]
+fn a_replay_begins_with_its_updates(rt: HostRuntime) {
+    let alloc = rt.alloc();
+    let folder = with_capture(&rt, alloc);
+    let folder = done(&rt, alloc, "updates", folder, REPLAYED_BY);
+    compare_file(&rt, alloc, "updates", folder, "j", REPLAYED.as_bytes());
+}
+
+/// A replay of journals of 16 entries after this many updates of key 7.
+fn many_before(alloc: Global, words: &str, count: u32) -> Result<String, AllocError> {
+    let mut line = format!(in alloc; "xlb replay capture sent --image image --journal 16{words}")?;
+    for _ in 0..count {
+        line.push_str(" --update 0 07000000 0300000000000000")?;
+    }
+    Ok(line)
+}
+
+/// The first update that a journal of 16 entries has no room for.
+const FULL: &str = "fault 94 JournalFull\n  update 17 of the command line\n";
+
+fn compare_full<R: Abort + Threads + Wait + Sync>(rt: &R, alloc: Global, words: &str) {
+    let line = many_before(alloc, words, 17).expect(rt, "a line");
+    let wanted = Wanted {
+        status: 1,
+        out: "",
+        err: FULL,
+    };
+    let folder = left_by(rt, alloc, words, with_capture(rt, alloc), &line, wanted);
+    lacks(rt, alloc, words, folder, "sent");
+}
+
+#[test]
+fn updates_of_a_full_journal(rt: HostRuntime) {
+    compare_full(&rt, rt.alloc(), "");
+    compare_full(&rt, rt.alloc(), " --exact");
 }

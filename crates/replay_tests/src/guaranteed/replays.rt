@@ -10,7 +10,7 @@ use ebpf_decode::Version;
 use guarantees::replays::reader_replay;
 use isa::Register::R0;
 use replay::Outcome;
-use semantics::Options;
+use semantics::{Options, Recording};
 use shard_port::NoGate;
 use std::alloc::Global;
 use std::process::Abort;
@@ -60,7 +60,16 @@ fn replayed<R: Threads + Abort + Wait + Sync>(
         shards: 1,
         journal: 4096,
     };
-    Ok(reader_replay(rt, alloc, verified, capture, &script, options, &NoGate)?)
+    Ok(reader_replay(
+        rt,
+        alloc,
+        verified,
+        capture,
+        &script,
+        options,
+        Recording::Rows,
+        &NoGate,
+    )?)
 }
 
 /// The program sends all of a capture of these records.

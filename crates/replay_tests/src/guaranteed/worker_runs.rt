@@ -46,6 +46,7 @@ fn says(rt: &impl Abort, shards: &mut PlainShards, run: &Run<'_>) {
         &journal.len(),
         &run.entries.len(),
     );
+    assert!(rt; journal.keeps_rows());
     for (place, (call, reply)) in run.entries.iter().enumerate() {
         if place < journal.len() {
             let wanted = Entry {

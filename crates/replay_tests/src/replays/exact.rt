@@ -9,7 +9,7 @@ use super::{NONE, captured, journals_file, program};
 use crate::asserting::{holds_of, same_bytes_of, same_fact};
 use control::parse_script;
 use replay::{Applied, Counts, Gate, NoGate, Outcome, replay_in_turn};
-use semantics::{Caller, Options};
+use semantics::{Caller, Options, Recording};
 use std::alloc::Global;
 use std::process::Abort;
 use std::sync::atomic::{AtomicU64, Ordering};
@@ -34,7 +34,16 @@ fn exactly<G: Gate>(
         shards: 1,
         journal,
     };
-    Ok(replay_in_turn(alloc, verified, capture, &script, options, gate)?)
+    Ok(replay_in_turn(
+        alloc,
+        verified,
+        capture,
+        &[],
+        &script,
+        options,
+        Recording::Rows,
+        gate,
+    )?)
 }
 
 /// A script over a service and backend 0, and where each frame goes.
@@ -250,6 +259,9 @@ fn an_exact_down_meets_a_full_journal(rt: HostRuntime) -> Result<(), Fail> {
 /// In how many places of the journals one has an entry of the controller, and the other none.
 fn controllers_apart(one: &Outcome, other: &Outcome) -> usize {
     let mut apart: usize = 0;
+    if !one.journals.keeps_rows() {
+        return usize::MAX;
+    }
     for number in 0..one.journals.count() {
         let journal = one.journals.journal(number);
         for place in 0..journal.len() {
@@ -265,7 +277,7 @@ fn controllers_apart(one: &Outcome, other: &Outcome) -> usize {
 
 /// Whether the entry at a place is one of the controller.
 fn controls(outcome: &Outcome, number: usize, place: usize) -> bool {
-    if number >= outcome.journals.count() {
+    if number >= outcome.journals.count() || !outcome.journals.keeps_rows() {
         return false;
     }
     let journal = outcome.journals.journal(number);

@@ -51,6 +51,9 @@ impl Asked {
     /// What the journal says of the run whose records were put by the entries from a place on, and where the next run's begin.
     fn next(journal: &Journal, from: usize) -> (Asked, usize) {
         let mut asked = Asked::nothing();
+        if !journal.keeps_rows() {
+            return (asked, from);
+        }
         'entries: for place in from..journal.len() {
             let entry = journal.entry(place);
             if entry.who == (Caller::Worker { number: RUNNER }) {

@@ -54,7 +54,7 @@ fn run<B: Naming, R: Abort + Wait>(
 
 /// An entry of a shard's journal; None past its end.
 fn entry_at(journals: &Journals, number: u32, place: usize) -> Option<Entry> {
-    if number as usize >= journals.count() {
+    if number as usize >= journals.count() || !journals.keeps_rows() {
         return None;
     }
     let journal = journals.journal(number as usize);

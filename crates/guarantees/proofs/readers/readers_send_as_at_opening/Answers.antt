@@ -2,7 +2,7 @@ use Rattle.guarantees.proofs.OpenedReplays.{sends_as_at_opening}
 use Rattle.guarantees.proofs.readers.readers_send_as_at_opening.Goals as goal
 
 pub returns : goal.returns
-returns c = λ options records outcome fit captured accounted none.
+returns c = λ options records outcome fit captured accounted none_set none.
     let verified = c.args.verified.now in
     sends_as_at_opening verified.maps verified.code options fit.some_worker records captured outcome accounted
     (record {
@@ -11,4 +11,4 @@ returns c = λ options records outcome fit captured accounted none.
       few = fit.at_most_eight;
       plans = accounted.plans.each;
     })
-    none
+    none_set none

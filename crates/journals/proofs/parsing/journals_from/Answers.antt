@@ -2,7 +2,7 @@ use Rattle.std.proofs.Common.{refl, rules}
 use Rattle.journals.proofs.parsing.journals_from.Goals as goal
 
 pub returns : goal.returns
-returns c = rw c.of.ensures (
+returns c = rw c.listed.ensures (
   c.in_ok-maps.ensures.items,
   refl,
   record {

@@ -20,7 +20,7 @@ returns-then-not-is_empty-clause-refused c =
 pub journals_from-requires-clause-few : goal.journals_from-requires-clause-few
 journals_from-requires-clause-few c =
     let headed = rw c.in-Some.is at c.in_ok-headed.ensures in
-    done_within _ _ _ _ _ _ _ headed.fits c.in_ok-done.ensures
+    done_within _ _ _ _ _ _ _ headed.fits.fit c.in_ok-done.ensures
 
 pub returns-clause-found : goal.returns-clause-found
 returns-clause-found c =

@@ -1,11 +1,13 @@
-use Rattle.std.proofs.Common.{◌≡◌, length, refl, sym, ◌∙◌, subst, arith}
+use Rattle.std.proofs.Common.{◌≡◌, List, length, refl, sym, ap, ◌∙◌, subst, arith}
 use Rattle.std.proofs.lemmas.List.{length-map}
-use Rattle.std.specs.Prelude.{map}
+use Rattle.std.specs.Prelude.{map, Vec}
+use Rattle.std.specs.declared.alloc.Global.{Global}
+use Rattle.map_updates.specs.declared.update.MapUpdate.{MapUpdate}
 use Rattle.machine.specs.Running.{program_of}
 use Rattle.shards.specs.SharedMaps.{ArePlans}
 use Rattle.replay.specs.Accounts.{lists_of, AreRunsOfShares, counts_of, sent_of, sent_frames, ends_of}
 use Rattle.replay.specs.Shares.{frames_of}
-use Rattle.replay.specs.Parts.{IsScriptAccounted, rounds_of}
+use Rattle.replay.specs.Parts.{IsScriptAccounted, IsScriptRun, rounds_of}
 use Rattle.replay.specs.RunsOverShards.{pass_in}
 use Rattle.replay.specs.Accounted.{IsAccounted}
 use Rattle.replay.specs.declared.outcome.Outcome.{Outcome}
@@ -23,8 +25,8 @@ account-requires-clause-runs g c =
     (shares g.B.Naming.count g.B.Naming.plan (program_of c.args.verified.now c.args.shards.options.shards) records workers c.args.handled.items
     (lists_of lists) c.in_ok-runs.working.items c.requires.count c.requires.handled c.in_ok-runs.ensures.parts)
 
-pub returns : goal.returns
-returns g c =
+pub returns-clause-accounted : goal.returns-clause-accounted
+returns-clause-accounted g c =
     let records = c.args.capture.now.records.items in
     let frames = frames_of records in
     let workers = c.args.shards.options.workers in
@@ -40,34 +42,37 @@ returns g c =
     let one = c.close-journals.ensures.did in
     let owned = all_of (IsOwnIn one.deeds) passes (map pass_in working) c.args.commanded.pass c.args.reclaimed c.in_ok-passes.ensures one.own in
     let told = c.outcome_of.ensures in
+    let updates_are : c.outcome_of.result.updates.items ≡ c.args.updates.now =
+    ap (λ (list : Vec MapUpdate Global). list.items) told.updates ∙ c.in_ok-made.ensures in
     let is = outcome_is c.outcome_of.result c.in_ok-counts.counts c.in_ok-counts.sent c.in_ok-counts.ends journals told.counts told.sent told.ends told.journals in
-    record {
-      accounted = subst (λ (outcome : Outcome). IsAccounted program c.args.script.now c.args.shards.options records outcome) (sym is) (record {
-        maps = c.close-journals.ensures.maps ∙ c.requires.maps;
-        options_are = c.close-journals.ensures.options;
-        count = g.B.Naming.count;
-        count_is = c.close-journals.ensures.count;
-        plan = g.B.Naming.plan;
-        plans = subst (λ maps. ArePlans maps c.args.shards.options g.B.Naming.count g.B.Naming.plan) c.requires.maps c.planned.ensures.plans;
-        legal = c.close-journals.ensures.legal;
-        order = one.deeds;
-        ordered = record { within = one.within; journals_are = one.journals_are; met = one.met };
-        runs = lists_of lists;
-        workers = length-map lists (λ list. list.items) ∙ as_many;
-        work = work g.B.Naming.count g.B.Naming.plan program records workers c.args.handled.items (lists_of lists) working (map pass_in working) journals
-            one.deeds c.requires.count c.requires.handled c.in_ok-runs.ensures.parts (λ worker below. refl)
-            (λ worker below. settled.first worker (omega (arith, below, workers_passes)))
-            (λ worker below. owned.first worker (omega (arith, below, workers_passes)));
-        counts = subst (λ n. c.in_ok-counts.counts ≡ counts_of frames n (lists_of lists) (length records)) as_many c.in_ok-counts.ensures.counts;
-        each_once = c.in_ok-counts.ensures.frames;
-        sent = subst (λ n. sent_frames c.in_ok-counts.sent.items ≡ sent_of frames n (lists_of lists) (length records)) as_many c.in_ok-counts.ensures.sent;
-        ends = subst (λ n. c.in_ok-counts.ends.items ≡ ends_of frames n (lists_of lists) (length records)) as_many c.in_ok-counts.ensures.ends;
-        commands = subst (λ maps. IsScriptAccounted g.B.Naming.plan maps c.args.shards.options g.B.Naming.count c.args.script.now journals one.deeds c.outcome_of.result.refused.items)
-            c.requires.maps
-            (script_stands g.B.Naming.plan c.args.shards.maps c.args.shards.options g.B.Naming.count c.args.script.now c.args.size c.args.commanded.noted.items
-            c.args.commanded.pass journals one.deeds c.outcome_of.result.refused.items c.planned.ensures.plans c.planned.ensures.options c.requires.size c.requires.serves c.requires.script
-            settled.next owned.next told.refused);
-        rounds = rounds_stand g.B.Naming.plan g.B.Naming.count (rounds_of (length records)) journals one.deeds c.args.reclaimed c.requires.rounds.1
-            settled.last owned.last c.requires.rounds.0;
-      });
-    }
+    subst (λ (outcome : Outcome). IsAccounted program c.args.script.now c.args.shards.options records outcome) (sym is) (record {
+      maps = c.close-journals.ensures.maps ∙ c.requires.maps;
+      options_are = c.close-journals.ensures.options;
+      count = g.B.Naming.count;
+      count_is = c.close-journals.ensures.count;
+      plan = g.B.Naming.plan;
+      plans = subst (λ maps. ArePlans maps c.args.shards.options g.B.Naming.count g.B.Naming.plan) c.requires.maps c.planned.ensures.plans;
+      legal = c.close-journals.ensures.legal;
+      order = one.deeds;
+      ordered = record { within = one.within; journals_are = one.journals_are; met = one.met };
+      runs = lists_of lists;
+      workers = length-map lists (λ list. list.items) ∙ as_many;
+      work = work g.B.Naming.count g.B.Naming.plan program records workers c.args.handled.items (lists_of lists) working (map pass_in working) journals
+          one.deeds c.requires.count c.requires.handled c.in_ok-runs.ensures.parts (λ worker below. refl)
+          (λ worker below. settled.first worker (omega (arith, below, workers_passes)))
+          (λ worker below. owned.first worker (omega (arith, below, workers_passes)));
+      counts = subst (λ n. c.in_ok-counts.counts ≡ counts_of frames n (lists_of lists) (length records)) as_many c.in_ok-counts.ensures.counts;
+      each_once = c.in_ok-counts.ensures.frames;
+      sent = subst (λ n. sent_frames c.in_ok-counts.sent.items ≡ sent_of frames n (lists_of lists) (length records)) as_many c.in_ok-counts.ensures.sent;
+      ends = subst (λ n. c.in_ok-counts.ends.items ≡ ends_of frames n (lists_of lists) (length records)) as_many c.in_ok-counts.ensures.ends;
+      commands = subst (λ maps. IsScriptAccounted g.B.Naming.plan maps c.args.shards.options g.B.Naming.count c.outcome_of.result.updates.items c.args.script.now journals one.deeds
+          c.outcome_of.result.refused.items)
+          c.requires.maps
+          (script_stands g.B.Naming.plan c.args.shards.maps c.args.shards.options g.B.Naming.count c.outcome_of.result.updates.items c.args.script.now c.args.size
+          c.args.commanded.noted.items c.args.commanded.pass journals one.deeds c.outcome_of.result.refused.items c.planned.ensures.plans c.planned.ensures.options c.requires.size c.requires.serves
+          (subst (λ (updates : List MapUpdate). IsScriptRun g.B.Naming.plan c.args.shards.maps c.args.shards.options updates c.args.script.now c.args.size
+          c.args.commanded.noted.items c.args.commanded.pass) (sym updates_are) c.requires.script)
+          settled.next owned.next told.refused);
+      rounds = rounds_stand g.B.Naming.plan g.B.Naming.count (rounds_of (length records)) journals one.deeds c.args.reclaimed c.requires.rounds.1
+          settled.last owned.last c.requires.rounds.0;
+    })

@@ -10,6 +10,7 @@ pub record Taken (g : goal.Over) (l : goal.Live-jobs g) : Type 0 where
   pub maps : l.commander.port.maps ≡ l.fn.commander.port.maps
   pub options : l.commander.port.options ≡ l.fn.commander.port.options
   pub size : l.commander.controller.size ≡ l.fn.commander.controller.size
+  pub updates : l.commander.updates ≡ l.fn.commander.updates
   pub noted : l.is_refused ≡ false → AreNotedSince l.fn.commander.noted l.commander.noted (jobs_taken l.take)
 
 abbrev pub invariant-jobs : goal.invariant-jobs

@@ -14,4 +14,5 @@ commands-preserved g c =
       maps = same.1 ∙ i.maps;
       options = same.2 ∙ i.options;
       size = same.3 ∙ i.size;
+      updates = same.4 ∙ i.updates;
     }

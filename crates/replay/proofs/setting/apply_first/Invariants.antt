@@ -9,6 +9,7 @@ pub record Begun (g : goal.Over) (l : goal.Live-commands g) : Type 0 where
   pub maps : l.commander.port.maps ≡ l.fn.commander.port.maps
   pub options : l.commander.port.options ≡ l.fn.commander.port.options
   pub size : l.commander.controller.size ≡ l.fn.commander.controller.size
+  pub updates : l.commander.updates ≡ l.fn.commander.updates
 
 abbrev pub invariant-commands : goal.invariant-commands
 invariant-commands g l = Begun g l

@@ -47,8 +47,8 @@ returns-clause-script g c =
     let many = c.requires.starts in
     let all : first + count ≡ length script = omega (arith, below) in
     IfOk-weaker c.run_all.result _ _
-    (λ it done. script_run g.B.Naming.plan c.args.setting.runner.now.shards.now.maps c.args.setting.runner.now.shards.now.options script c.args.size start
-    it.controller.noted.items it.controller.pass first count started.script_is started.maps_are started.options_are started.size_is started.applied all
+    (λ it done. script_run g.B.Naming.plan c.args.setting.runner.now.shards.now.maps c.args.setting.runner.now.shards.now.options c.args.updates.now script c.args.size start
+    it.controller.noted.items it.controller.pass first count started.updates_are started.script_is started.maps_are started.options_are started.size_is started.applied all
     (done.commands count (all ∙ sym many)))
     c.run_all.ensures.done
 

@@ -8,7 +8,7 @@ use Rattle.machine.specs.Running.{program_of}
 use Rattle.shards.proofs.shared.ImageMaps.{image_maps}
 use Rattle.runs.specs.Updates.{AreUpdated}
 use Rattle.runs.proofs.OpeningLemmas.{outside_updated}
-use Rattle.runs.proofs.AloneLemmas.{run_alone_by, stop_alone_by, count_kept}
+use Rattle.runs.proofs.AloneLemmas.{run_alone_by, stop_alone_by, count_kept, reserves_kept}
 use Rattle.runs.proofs.alone.run_alone.Goals as goal
 
 pub worker_run-ended-requires-clause-outside : goal.worker_run-ended-requires-clause-outside
@@ -26,9 +26,16 @@ journals_of-journals-requires-clause-are c =
     c.worker_run-ended.new.shards c.worker_run-ended.new.frame c.worker_run-ended.result c.worker_run-ended.ensures.exit c.worker_run-ended.ensures.stop in
     record {
       maps_are = subst AreImageMaps (sym of_verified) (image_maps verified.version verified.maps verified.code c.encodable.ensures);
-      options_fit = subst (λ (maps : List MapDef). AreOptions maps c.args.options) (sym of_image) c.in_ok-shards.ensures.options;
+      options_fit = subst (λ (maps : List MapDef). AreOptions maps c.args.options) (sym of_image) c.in_ok-shards.ensures.options.fit;
       one_each = kept ∙ c.in_ok-make_all.ensures.made.count ∙ ap (λ (maps : List MapDef). length maps * c.args.options.shards) (sym of_image);
     }
+
+pub journals_of-journals-requires-clause-reserved : goal.journals_of-journals-requires-clause-reserved
+journals_of-journals-requires-clause-reserved c =
+    reserves_kept (program_of c.args.verified.now c.args.options.shards)
+    (initial_state c.args.frame.now c.args.moment.now.worker c.args.moment.now.now_ns) c.args.options c.args.moment.now.worker c.args.updates.now
+    c.image-image.result.now.maps c.make_all.new.shards c.worker_run-ended.new.shards c.worker_run-ended.new.frame c.worker_run-ended.result
+    c.in_ok-make_all.ensures.made c.worker_run-ended.ensures.exit c.worker_run-ended.ensures.stop
 
 pub returns-clause-exit : goal.returns-clause-exit
 returns-clause-exit c =

@@ -393,6 +393,9 @@ fn first_other(journals: &Journals) -> Option<usize> {
     if journals.count() == 0 {
         return None;
     }
+    if !journals.keeps_rows() {
+        return Some(0);
+    }
     let journal = journals.journal(0);
     for place in 0..journal.len() {
         let entry = journal.entry(place);

@@ -1,4 +1,4 @@
-use Rattle.std.proofs.Common.{◌≡◌, ◌≢◌, ◌∙◌, ℕ, List, Bool, Some, rules, ap, subst, sym}
+use Rattle.std.proofs.Common.{◌≡◌, ◌≢◌, ℕ, List, Bool, Some, rules, ap, subst, sym}
 use Rattle.std.specs.Borrow.{Bor}
 use Rattle.command_line.specs.declared.commands.Settings.{Settings}
 use Rattle.command_line.specs.declared.commands.Settings.TheVariants.{Asm, Run, Replay}
@@ -24,6 +24,7 @@ returns-in-Run-clause-none g c = λ none.
 
 pub returns-in-Replay-clause-none : goal.returns-in-Replay-clause-none
 returns-in-Replay-clause-none g c = λ none.
-    let is : c.args.settings.now ≡ Replay c.in-Replay.files c.in-Replay.options c.in-Replay.ring c.in-Replay.exact c.in-Replay.summary c.in-Replay.skip_long =
+    let is : c.args.settings.now ≡ Replay c.in-Replay.files c.in-Replay.options c.in-Replay.ring c.in-Replay.exact c.in-Replay.summary c.in-Replay.skip_long
+    c.in-Replay.no_journals c.in-Replay.updates =
     search rules in
     subst (λ (it : Settings). AreApart it) (sym is) (λ written other over. c.over_in_replay.ensures.none none written other over)

@@ -40,3 +40,6 @@ returns-clause-refused g c =
     not_legal c.in-Ok.journals c.in-Err-audit.fault
     (record { image = c.in_ok-image.image; file = c.in_ok-image.ensures.file; bytes = c.in_ok-bytes.bytes.items; read = read; spelled = spelled })
     c.in-Err-audit.ensures.refused c.illegal.ensures
+
+pub audit-requires : goal.audit-requires
+audit-requires g c = c.in-Ok.ensures.found.rows

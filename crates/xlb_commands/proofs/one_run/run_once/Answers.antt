@@ -1,4 +1,4 @@
-use Rattle.std.proofs.Common.{◌≡◌, ◌∙◌, ◌<◌, ℕ, List, Option, arith, rules, subst}
+use Rattle.std.proofs.Common.{◌≡◌, ◌<◌, ℕ, List, Option, ap, arith, rules, subst}
 use Rattle.std.proofs.lemmas.Result.{err_from_is_err_and}
 use Rattle.ebpf_decode.specs.ImageContents.{Contents}
 use Rattle.journals.specs.JournalsView.{JournalsView}
@@ -6,6 +6,8 @@ use Rattle.machine.specs.declared.exit.Stop.{Stop}
 use Rattle.map_updates.specs.Misfits.{AreFitting}
 use Rattle.map_updates.specs.declared.update.MapUpdate.{MapUpdate}
 use Rattle.semantics.specs.Program.{Program}
+use Rattle.semantics.specs.declared.options.Options.{Options}
+use Rattle.semantics.specs.ShardPlan.{KeepsRows}
 use Rattle.semantics.specs.Safety.{IsSafeImage}
 use Rattle.semantics.specs.System.{IsInputFrame}
 use Rattle.semantics.specs.declared.verdict.Verdict.{Verdict}
@@ -209,3 +211,18 @@ returns-in_err-text-clause-refused g c =
     let p = err_from_is_err_and c.from_residual-in_err-text.result c.from_residual-in_err-text.ensures.1 in
     rw p.1 (not_told program c.in_ok-frame.frame.bytes (kept_twice _ _ _ c.judged_of.ensures.kept c.frame_of.ensures.kept) read below ended
     (no_report_room p.2))
+
+-- the journals of a run are kept in rows
+rows_of_run : (program : Program) (bytes : List ℕ) (updates : List MapUpdate) (verdict : Verdict) (steps : ℕ) (frame : FrameView) (journals : JournalsView)
+    (worker now : ℕ) → HasRunAlone program (start_of_run bytes worker now) run_options worker updates verdict steps frame journals
+    → KeepsRows journals.options.journal
+rows_of_run program bytes updates verdict steps frame journals worker now ran =
+    let same = ap (λ (o : Options). o.journal) ran.journals_are.options_are in omega (arith, same)
+
+pub journal_bytes-requires : goal.journal_bytes-requires
+journal_bytes-requires g c = λ file is.
+    let program : Contents =
+    record { version = c.in_ok-verified.verified.version; maps = c.in_ok-verified.verified.maps; code = c.in_ok-verified.verified.code } in
+    let at : HasRunAlone (program_of_run program) (start_of_run c.in_ok-frame.frame.bytes c.in_ok-moment.moment.worker c.in_ok-moment.moment.now_ns) run_options
+    c.in_ok-moment.moment.worker c.args.updates.now c.in-Ok.exit.verdict c.in-Ok.exit.steps c.run_over.new.frame c.in_ok-ended.field-0.journals = search rules in
+    rows_of_run _ _ _ _ _ _ _ _ _ at

@@ -1,6 +1,11 @@
-use Rattle.std.proofs.Common.{◌≡◌, ◌∙◌, ◌+◌, ℕ, zero, suc, Bool, List, Option, Some, None, Result, Err, ap, refl, subst, length, length-append, add-one}
+use Rattle.std.proofs.Common.{rules, ◌≡◌, ◌∙◌, ◌+◌, ℕ, zero, suc, Bool, List, Option, Some, None, Result, Err, ap, refl, subst, sym, length, length-append, add-one}
 use Rattle.std.proofs.lemmas.Result.{err_from_is_err_and}
 use Rattle.ebpf_decode.specs.ImageContents.{Contents}
+use Rattle.semantics.specs.declared.options.Options.{Options}
+use Rattle.semantics.specs.declared.options.Recording.{Recording}
+use Rattle.semantics.specs.ShardPlan.{KeepsRows, room_for}
+use Rattle.map_updates.specs.Misfits.{AreFitting}
+use Rattle.map_updates.specs.declared.update.MapUpdate.{MapUpdate}
 use Rattle.wire.specs.declared.records.Sent.{Sent}
 use Rattle.control.specs.declared.command.Command.{Command}
 use Rattle.journals.specs.JournalsView.{JournalsView}
@@ -107,6 +112,7 @@ returns-clause-done g c = (
     records = c.in_ok-capture.capture.records.items;
     capture = capture_before _ _ _ c.program_of.ensures.kept c.script_of.ensures.kept _ _ _ c.in_ok-capture.ensures.capture;
     outcome = c.in-Ok.outcome;
+    updates_are = c.in-Ok.ensures.updates;
     accounted = c.in-Ok.ensures.accounted;
     in_turn = c.in-Ok.ensures.in_turn;
     headline = record { verified = c.in_ok-verified.verified; image_is = refl; kept = c.in-Ok.ensures.headline };
@@ -125,15 +131,22 @@ returns-clause-done g c = (
   c.in_ok-left.ensures.whole,
 )
 
+pub left_of-requires-clause-rows : goal.left_of-requires-clause-rows
+left_of-requires-clause-rows g c = λ file is.
+    subst (λ (o : Options). KeepsRows o.journal) (sym c.in-Ok.ensures.accounted.options_are)
+    (subst (λ (r : Recording). KeepsRows (room_for r c.args.options.journal)) (sym (c.requires.rows file is)) c.in-Ok.ensures.served)
+
 pub returns-clause-kept : goal.returns-clause-kept
 returns-clause-kept g c =
     all_but_kept _ _ _ _ _ _ _ _ c.program_of.ensures.kept c.script_of.ensures.kept c.capture_of.ensures.kept c.write_files.ensures.others
 
 -- what was read: the program, and after it the script and the capture
-inputs : (a b c : FileBytes) (names : ReplayFiles) (ring : ℕ) (skip_long : Bool) (program : Contents) (script : List Command) (records : List Sent) → AreKept a b → AreKept b c
+inputs : (a b c : FileBytes) (names : ReplayFiles) (ring : ℕ) (skip_long : Bool) (updates : List MapUpdate) (program : Contents) (script : List Command)
+    (records : List Sent) → AreKept a b → AreKept b c → AreFitting program.maps updates
     → IsReplayProgram a (text_of names.image) ring program → IsScriptOf b (text_of names.script) script → IsCaptureOf c skip_long names.capture.now records
-    → AreReplayInputs a names ring skip_long program script records
-inputs a b c names ring skip_long program script records first second is spelled captured = record {
+    → AreReplayInputs a names ring skip_long updates program script records
+inputs a b c names ring skip_long updates program script records first second fits is spelled captured = record {
+  fits = fits;
   program_is = is;
   script_is = script_before a b first (text_of names.script) script spelled;
   capture_is = capture_before a b c first second skip_long names.capture.now records captured;
@@ -176,41 +189,46 @@ returns-in_err-capture-clause-refused g c =
 
 pub returns-in-Err-clause-refused : goal.returns-in-Err-clause-refused
 returns-in-Err-clause-refused g c =
+    let fits : AreFitting c.in_ok-verified.verified.maps c.args.updates.now = search rules in
     let program : Contents =
     record { version = c.in_ok-verified.verified.version; maps = c.in_ok-verified.verified.maps; code = c.in_ok-verified.verified.code } in
     let why = c.in-Err.ensures.bad_options in
     given_up program c.in_ok-script.script c.in_ok-capture.capture.records.items c.in-Err.fault
     (kept_twice _ _ _ (kept_twice _ _ _ c.program_of.ensures.kept c.script_of.ensures.kept) c.capture_of.ensures.kept)
-    (inputs _ _ _ c.args.files.now c.args.ring c.args.skip_long program _ _ c.program_of.ensures.kept c.script_of.ensures.kept
+    (inputs _ _ _ c.args.files.now c.args.ring c.args.skip_long c.args.updates.now program _ _ c.program_of.ensures.kept c.script_of.ensures.kept fits
     (record { is = c.in_ok-verified.ensures.program; safe = c.in_ok-verified.ensures.safe }) c.in_ok-script.ensures.script c.in_ok-capture.ensures.capture)
     (record {
       options_are_bad = ((λ e. why.0 (ap (λ (fault : ReplayFault). Err fault) e)), (λ broken. same_fault _ _ (why.1 broken)));
+      by_pass = c.in-Err.ensures.refused;
+      in_turn = c.in-Err.ensures.refused_exact;
       no_thread = λ exact e. c.in-Err.ensures.no_thread exact (ap (λ (fault : ReplayFault). Err fault) e);
     })
     c.given_up.ensures
 
 pub returns-in_err-left-clause-refused : goal.returns-in_err-left-clause-refused
 returns-in_err-left-clause-refused g c =
+    let fits : AreFitting c.in_ok-verified.verified.maps c.args.updates.now = search rules in
     let program : Contents =
     record { version = c.in_ok-verified.verified.version; maps = c.in_ok-verified.verified.maps; code = c.in_ok-verified.verified.code } in
     let p = err_from_is_err_and c.from_residual-in_err-left.result c.from_residual-in_err-left.ensures.1 in
     rw (p.1, p.2)
     (not_reported program c.in_ok-script.script c.in_ok-capture.capture.records.items c.in-Ok.outcome
     (kept_twice _ _ _ (kept_twice _ _ _ c.program_of.ensures.kept c.script_of.ensures.kept) c.capture_of.ensures.kept)
-    (inputs _ _ _ c.args.files.now c.args.ring c.args.skip_long program _ _ c.program_of.ensures.kept c.script_of.ensures.kept
+    (inputs _ _ _ c.args.files.now c.args.ring c.args.skip_long c.args.updates.now program _ _ c.program_of.ensures.kept c.script_of.ensures.kept fits
     (record { is = c.in_ok-verified.ensures.program; safe = c.in_ok-verified.ensures.safe }) c.in_ok-script.ensures.script c.in_ok-capture.ensures.capture)
-    c.in-Ok.ensures.accounted c.in_err-left.ensures.refused)
+    c.in-Ok.ensures.accounted c.in-Ok.ensures.updates c.in_err-left.ensures.refused)
 
 pub returns-in_err-write_files-clause-refused : goal.returns-in_err-write_files-clause-refused
 returns-in_err-write_files-clause-refused g c =
+    let fits : AreFitting c.in_ok-verified.verified.maps c.args.updates.now = search rules in
     let program : Contents =
     record { version = c.in_ok-verified.verified.version; maps = c.in_ok-verified.verified.maps; code = c.in_ok-verified.verified.code } in
     let p = err_from_is_err_and c.from_residual-in_err-write_files.result c.from_residual-in_err-write_files.ensures.1 in
     rw (p.1, p.2)
     (not_written_down program c.in_ok-script.script c.in_ok-capture.capture.records.items c.in-Ok.outcome
-    (inputs _ _ _ c.args.files.now c.args.ring c.args.skip_long program _ _ c.program_of.ensures.kept c.script_of.ensures.kept
+    (inputs _ _ _ c.args.files.now c.args.ring c.args.skip_long c.args.updates.now program _ _ c.program_of.ensures.kept c.script_of.ensures.kept fits
     (record { is = c.in_ok-verified.ensures.program; safe = c.in_ok-verified.ensures.safe }) c.in_ok-script.ensures.script c.in_ok-capture.ensures.capture)
-    c.in-Ok.ensures.accounted
+    c.in-Ok.ensures.accounted c.in-Ok.ensures.updates
     (unfiled_before _ _ _ _ _ _ _ _ _ _ _ _ c.program_of.ensures.kept c.script_of.ensures.kept c.capture_of.ensures.kept
     (λ failed. failed_since _ _ _ c.in_ok-verified.ensures.steady
     (failed_since _ _ _ c.in_ok-script.ensures.steady (failed_since _ _ _ c.in_ok-capture.ensures.steady failed)))

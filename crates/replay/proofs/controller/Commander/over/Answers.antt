@@ -1,8 +1,12 @@
+use Rattle.std.proofs.Common.{List, sym, subst}
+use Rattle.ebpf_decode.specs.declared.map.MapDef.{MapDef}
+use Rattle.replay.specs.Commands.{ServesScript}
 use Rattle.replay.proofs.CommandAccounts.{commander_of_nothing}
 use Rattle.replay.proofs.controller.Commander.over.Goals as goal
 
 pub invariant_of-result : goal.invariant_of-result
 invariant_of-result g c =
-    commander_of_nothing g.B.Naming.plan c.args.script.now c.new-2.result.items c.args.size c.in-Ok.controller c.args.shards.now.maps
-    c.args.shards.now.options c.args.pass c.over.result c.requires.unused c.requires.who c.requires.serves c.new-2.ensures.items c.in-Ok.ensures.opened
-    c.over.ensures
+    commander_of_nothing g.B.Naming.plan c.args.updates.now c.args.script.now c.new.result.items c.args.size c.in-Ok.controller c.in_ok-port.port.port
+    c.in_ok-port.ensures.set c.in_ok-port.ensures.who
+    (subst (λ (maps : List MapDef). ServesScript maps c.args.size c.args.script.now) (sym c.in_ok-port.ensures.maps) c.requires.serves)
+    c.new.ensures.items c.in-Ok.ensures.opened

@@ -2,6 +2,8 @@ use Rattle.std.proofs.Common.{sym, ap, ◌∙◌, subst}
 use Rattle.shards.specs.CallerView.{CallerView}
 use Rattle.shards.specs.Seats.{IsLockOf}
 use Rattle.shards.proofs.PartLemmas.{part_is, after_is, elsewhere, pass_after, looked_at}
+use Rattle.std.specs.Prelude.{IsTrue}
+use Rattle.semantics.specs.ShardPlan.{KeepsRows}
 use Rattle.semantics.specs.History.{meets}
 use Rattle.shards.specs.Passes.{PassView}
 use Rattle.shards.specs.Lodged.{KeyedPlan, keys}
@@ -31,10 +33,17 @@ returns-clause-elsewhere g c = elsewhere g.B.Naming.table (keys g.B.Naming.plan 
 pub returns-clause-looked : goal.returns-clause-looked
 returns-clause-looked g c = looked_at g.B.Naming.table (keys g.B.Naming.plan g.B.Naming.order) g.B.Naming.count c.self.inside.who c.self.inside.parts.items (deeds_in c.self.inside.seat.me.0) (deeds_in c.self.inside.seat.me.0) c.args.self.now c.args.number c.index_mut.result.now c.may_call.new.self c.self.invariant.0 c.self.view_is c.requires.number c.index_mut.ensures.value c.may_call.ensures.looked
 
-pub returns-clause-meets : goal.returns-clause-meets
-returns-clause-meets g c =
+pub returns-clause-may : goal.returns-clause-may
+returns-clause-may g c =
     let part = part_is g.B.Naming.table (keys g.B.Naming.plan g.B.Naming.order) g.B.Naming.count c.self.inside.who c.self.inside.parts.items (deeds_in c.self.inside.seat.me.0) (deeds_in c.self.inside.seat.me.0) c.args.self.now c.args.number c.index_mut.result.now c.index_mut.result.now c.self.invariant.0 c.self.view_is c.requires.number c.index_mut.ensures.value in
-    c.may_call.ensures.meets ∙ ap (λ (p : KeyedPlan). meets p.plan c.may_call.new.self.view.own c.self.inside.who c.args.call.now) part.key_is
+    λ yes. subst IsTrue (ap (λ (p : KeyedPlan). meets p.plan c.may_call.new.self.view.own c.self.inside.who c.args.call.now) part.key_is
+    ∙ ap (λ (v : CallerView). meets (g.B.Naming.plan c.args.number) v.own c.self.inside.who c.args.call.now) (after_is g.B.Naming.table (keys g.B.Naming.plan g.B.Naming.order) g.B.Naming.count c.self.inside.who c.self.inside.parts.items (deeds_in c.self.inside.seat.me.0) (deeds_in c.self.inside.seat.me.0) c.args.self.now c.args.number c.index_mut.result.now c.may_call.new.self c.self.invariant.0 c.self.view_is c.requires.number c.index_mut.ensures.value))
+    (c.may_call.ensures.may yes)
+
+pub returns-clause-exact : goal.returns-clause-exact
+returns-clause-exact g c =
+    let part = part_is g.B.Naming.table (keys g.B.Naming.plan g.B.Naming.order) g.B.Naming.count c.self.inside.who c.self.inside.parts.items (deeds_in c.self.inside.seat.me.0) (deeds_in c.self.inside.seat.me.0) c.args.self.now c.args.number c.index_mut.result.now c.index_mut.result.now c.self.invariant.0 c.self.view_is c.requires.number c.index_mut.ensures.value in
+    λ rows. c.may_call.ensures.exact (subst (λ (p : KeyedPlan). KeepsRows p.plan.reserve) (sym part.key_is) rows) ∙ ap (λ (p : KeyedPlan). meets p.plan c.may_call.new.self.view.own c.self.inside.who c.args.call.now) part.key_is
     ∙ ap (λ (v : CallerView). meets (g.B.Naming.plan c.args.number) v.own c.self.inside.who c.args.call.now) (after_is g.B.Naming.table (keys g.B.Naming.plan g.B.Naming.order) g.B.Naming.count c.self.inside.who c.self.inside.parts.items (deeds_in c.self.inside.seat.me.0) (deeds_in c.self.inside.seat.me.0) c.args.self.now c.args.number c.index_mut.result.now c.may_call.new.self c.self.invariant.0 c.self.view_is c.requires.number c.index_mut.ensures.value)
 
 pub returns-clause-did : goal.returns-clause-did

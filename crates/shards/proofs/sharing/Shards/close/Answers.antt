@@ -1,6 +1,10 @@
-use Rattle.std.proofs.Common.{◌<◌, ◌+◌, ℕ, List, [], ◌∷◌, length, sym, ap, ◌∙◌, subst, arith, length-append}
+use Rattle.std.proofs.Common.{◌≡◌, ◌<◌, ◌+◌, ℕ, List, [], ◌∷◌, length, sym, ap, ◌∙◌, subst, arith, length-append}
 use Rattle.std.specs.Prelude.{slice_index_or}
+use Rattle.std.proofs.lemmas.List.{length-map, map-append}
 use Rattle.semantics.specs.declared.call.Entry.{Entry}
+use Rattle.journal.specs.Journaled.{Journaled}
+use Rattle.journals.specs.KeptEntries.{written_entries, HaveRoom}
+use Rattle.semantics.proofs.shared.CellBytes.{each_append}
 use Rattle.semantics.specs.History.{IsLegalJournal}
 use Rattle.journals.specs.JournalsView.{JournalsView, entries_at}
 use Rattle.shards.specs.CallerView.{IsSettled}
@@ -13,7 +17,7 @@ use Rattle.shards.proofs.Settling.{legal_more, settled_more, untouched_less}
 use Rattle.shards.specs.declared.deeds.Account.{Account}
 use Rattle.shards.specs.declared.deeds.OrderPart.TheVariants.{ByCaller}
 use Rattle.shards.specs.OrderRule.{account, HasAccount}
-use Rattle.shards.proofs.OrderShards.{numbered}
+use Rattle.shards.proofs.OrderShards.{numbered, reserved}
 use Rattle.shards.proofs.OrderClosing.{HasShard, gathered_more, one_order}
 use Rattle.shards.proofs.sharing.Shards.close.Goals as goal
 
@@ -30,10 +34,12 @@ shards-preserved g c =
     let now = c.shards.passes.items in
     let after = c.settled-journal.new.passes.items in
     let number = c.shards.number in
-    let journals : List (List Entry) = c.shards.journals.items in
-    let journal : List Entry = c.settled-journal.result in
+    let written : List Journaled = c.shards.journals.items in
+    let journals : List (List Entry) = written_entries written in
+    let journal : List Entry = c.settled-journal.result.entries in
+    let many : length journals ≡ number = length-map written (λ (j : Journaled). j.entries) ∙ i.made in
     let s = c.settled-journal.ensures in
-    let items = c.push_reserved.ensures.items in
+    let items = ap written_entries c.push_reserved.ensures.items ∙ map-append (λ (j : Journaled). j.entries) written (c.settled-journal.result ∷ []) in
     record {
       count_is = i.count_is;
       together = (let t = i.together in let shorter = c.remove.ensures.len in let a = c.shards.locks.ok.0 in let b = c.remove.new.self.ok.0 in let e = c.shards-test.true in omega (arith, t, shorter, a, b, e));
@@ -45,28 +51,31 @@ shards-preserved g c =
       maps_are = i.maps_are;
       options_fit = i.options_fit;
       one_each = i.one_each;
-      made = ap (λ xs. length xs) items ∙ length-append journals (journal ∷ []) ∙ ap (λ n. n + 1) i.made;
+      made = ap (λ xs. length xs) c.push_reserved.ensures.items ∙ length-append written (c.settled-journal.result ∷ []) ∙ ap (λ n. n + 1) i.made;
       room = (let r = i.room in let grown = c.push_reserved.ensures.capacity in omega (arith, r, grown));
+      reserved = subst (HaveRoom c.self.inside.options.journal) (sym c.push_reserved.ensures.items)
+          (each_append (λ (j : Journaled). j.reserve ≡ c.self.inside.options.journal) written (c.settled-journal.result ∷ []) i.reserved
+          (s.room ∙ reserved _ _ _ _ number i.plans (let e = i.count_is in let t = c.shards-test.true in omega (arith, e, t)), tt));
       passes = s.count ∙ i.passes;
       legal = subst (λ (js : List (List Entry)). (k : ℕ) → k < number + 1 → IsLegalJournal (g.B.Naming.plan k) (slice_index_or js k [])) (sym items)
-          (legal_more old now after journals number journal i.made g.B.Naming.plan s.legal i.legal);
+          (legal_more old now after journals number journal many g.B.Naming.plan s.legal i.legal);
       callers = λ k. s.callers k ∙ i.callers k;
       deeds = λ k. s.deeds k ∙ i.deeds k;
       order_is = i.order_is;
       plans = i.plans;
       seat_is = s.seat;
       gathered = subst (λ (js : List (List Entry)). (k : ℕ) → k < number + 1 → HasShard k (slice_index_or js k []) c.settled-journal.new.seat.me.0) (sym items)
-          (gathered_more number journals journal c.shards.seat.me c.settled-journal.new.seat.me i.made s.taken i.gathered);
-      untouched = untouched_less old now after journals number journal i.made i.callers i.untouched i.passes s.others;
+          (gathered_more number journals journal c.shards.seat.me c.settled-journal.new.seat.me many s.taken i.gathered);
+      untouched = untouched_less old now after journals number journal many i.callers i.untouched i.passes s.others;
       settled = subst (λ (js : List (List Entry)). (k m : ℕ) → k < length old → m < number + 1 → IsSettled (pass_at old k).who (view_at (pass_at old k) m) (slice_index_or js m [])) (sym items)
-          (settled_more old now after journals number journal i.made i.callers i.untouched i.passes s.settled i.settled);
+          (settled_more old now after journals number journal many i.callers i.untouched i.passes s.settled i.settled);
     }
 
 pub returns-clause-settled : goal.returns-clause-settled
 returns-clause-settled g c =
     let i = c.shards.invariant in
     λ place below number less.
-    subst (λ (js : JournalsView). IsSettled (pass_at c.args.passes.items place).who (view_at (pass_at c.args.passes.items place) number) (entries_at js number)) (sym c.of.ensures)
+    subst (λ (js : JournalsView). IsSettled (pass_at c.args.passes.items place).who (view_at (pass_at c.args.passes.items place) number) (entries_at js number)) (sym c.written.ensures)
     (i.settled place number below (let t = i.together in let e = c.shards-test.false in let n = i.count_is in omega (arith, t, e, n, less)))
 
 pub settled-journal-requires-clause-numbered : goal.settled-journal-requires-clause-numbered
@@ -78,9 +87,9 @@ pub returns-clause-did : goal.returns-clause-did
 returns-clause-did g c =
     let i = c.shards.invariant in
     let end = c.gather_all.ensures in
-    one_order g.B.Naming.plan g.B.Naming.count _ c.of.result c.args.passes.items c.gather_all.new.seat.me.0 c.end.ensures i.order_is.sized i.order_is.plans
+    one_order g.B.Naming.plan g.B.Naming.count _ c.written.result c.args.passes.items c.gather_all.new.seat.me.0 c.end.ensures i.order_is.sized i.order_is.plans
     (λ number below. let was = i.gathered number (let t = i.together in let e = c.shards-test.false in let n = i.count_is in omega (arith, t, e, n, below)) in
-    subst (λ (js : JournalsView). HasShard number (entries_at js number) c.gather_all.new.seat.me.0) (sym c.of.ensures)
+    subst (λ (js : JournalsView). HasShard number (entries_at js number) c.gather_all.new.seat.me.0) (sym c.written.ensures)
     (record { deeds = was.deeds; written = was.written; has = end.kept _ was.has }))
     (λ place below. subst (λ (one : Account). HasAccount one c.gather_all.new.seat.me.0) (λ k. account (ByCaller (i.callers place k)) (i.deeds place k))
     (end.all place (let e = i.passes in omega (arith, e, below))))

@@ -1,0 +1,5 @@
+use Rattle.journal.specs.Entries.{load_entry}
+use Rattle.journal.proofs.counted.Counted.append_load.Given as goal
+
+abbrev pub ghosts-count : goal.ghosts-count
+ghosts-count a = record { item = load_entry a.self.now.shard a.about.0 a.about.1.now a.about.2 }
